@@ -1,0 +1,84 @@
+// Entity types and entity ids.
+ghost use Rattle.std.specs.Prelude.{◌≡◌, ◌⊎◌};
+ghost use Rattle.cedar_types.specs.Names.{type_of, placed_type, placed_uid, is_action_path};
+
+use crate::base::location::Loc;
+use crate::base::names::Name;
+use std::alloc::AllocError;
+use std::fmt;
+use std::rc::RcStr;
+
+/// The type of an entity: a name, and where it stands. The place counts in no comparison.
+#[derive(Drop)]
+#[derive_where(PartialEq, Eq, PartialOrd, Ord, Hash, Debug)]
+pub struct EntityType {
+    pub name: Name,
+    #[derive_where(skip(EqHashOrd))]
+    pub loc: Option<Loc>,
+}
+
+impl EntityType {
+    /// Whether entities of this type are actions: whether the name's last part is `Action`.
+    pub fn is_action(&self) -> bool
+        ensures { result ≡ is_action_path (type_of self.now) }
+    {
+        self.name.basename.as_str() == "Action"
+    }
+}
+
+impl Clone for EntityType {
+    ghost is_clone = { λ s t. placed_type t ≡ placed_type s };
+
+    fn clone(&self) -> Result<EntityType, AllocError> {
+        let name = self.name.clone()?;
+        Ok(EntityType {
+            name,
+            loc: self.loc,
+        })
+    }
+}
+
+impl fmt::Display for EntityType {
+    fn fmt<W: fmt::Write>(&self, f: &mut fmt::Formatter<W>) -> fmt::Result {
+        write!(f, "{}", self.name)
+    }
+}
+
+/// The id of an entity, and where it stands. The place counts in no comparison.
+///
+/// It is shown as `Type::"eid"`, where `"` and `\` in the eid take a backslash before them.
+#[derive(Drop)]
+#[derive_where(PartialEq, Eq, PartialOrd, Ord, Hash, Debug)]
+pub struct EntityUID {
+    pub entity_type: EntityType,
+    pub eid: RcStr,
+    #[derive_where(skip(EqHashOrd))]
+    pub loc: Option<Loc>,
+}
+
+impl Clone for EntityUID {
+    ghost is_clone = { λ u v. placed_uid v ≡ placed_uid u };
+
+    fn clone(&self) -> Result<EntityUID, AllocError> {
+        let entity_type = self.entity_type.clone()?;
+        let eid = self.eid.clone()?;
+        Ok(EntityUID {
+            entity_type,
+            eid,
+            loc: self.loc,
+        })
+    }
+}
+
+impl fmt::Display for EntityUID {
+    fn fmt<W: fmt::Write>(&self, f: &mut fmt::Formatter<W>) -> fmt::Result {
+        write!(f, "{}::\"", self.entity_type)?;
+        for c in self.eid.as_str().chars() {
+            match c {
+                '"' | '\\' => write!(f, "\\{c}")?,
+                _ => write!(f, "{c}")?,
+            }
+        }
+        write!(f, "\"")
+    }
+}

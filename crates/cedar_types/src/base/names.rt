@@ -1,0 +1,44 @@
+// Names.
+ghost use Rattle.std.specs.Prelude.{◌≡◌, IfOk, map};
+ghost use Rattle.cedar_types.specs.Names.{text_of, path_of};
+
+use std::alloc::AllocError;
+use std::fmt;
+use std::rc::RcStr;
+
+/// A name: the parts of its path and its last part, any texts. It is shown with `::` between the parts.
+#[derive(PartialEq, Eq, PartialOrd, Ord, Hash, Debug, Drop)]
+pub struct Name {
+    pub path: Vec<RcStr>,
+    pub basename: RcStr,
+}
+
+impl Clone for Name {
+    ghost is_clone = { λ n m. path_of m ≡ path_of n };
+
+    fn clone(&self) -> Result<Name, AllocError> {
+        let path = copy_texts(&self.path)?;
+        let basename = self.basename.clone()?;
+        Ok(Name { path, basename })
+    }
+}
+
+impl fmt::Display for Name {
+    fn fmt<W: fmt::Write>(&self, f: &mut fmt::Formatter<W>) -> fmt::Result {
+        for part in &self.path {
+            write!(f, "{part}::")?;
+        }
+        write!(f, "{}", self.basename)
+    }
+}
+
+/// A copy of some texts, made by the list's own allocator.
+pub(crate) fn copy_texts(texts: &Vec<RcStr>) -> Result<Vec<RcStr>, AllocError>
+    ensures { IfOk result (λ v. map text_of v.items ≡ map text_of texts.now.items) }
+{
+    let mut copies = Vec::with_capacity(*texts.allocator(), texts.len())?;
+    for text in texts {
+        copies.push(text.clone()?)?;
+    }
+    Ok(copies)
+}

@@ -1,0 +1,13 @@
+// Slots of templates, and what they are bound to.
+use crate::base::entities::EntityUID;
+use std::collections::BTreeMap;
+
+/// A place in a template's scope that a link fills with an entity.
+#[derive(Clone, Copy, PartialEq, Eq, PartialOrd, Ord, Hash, Debug)]
+pub enum SlotId {
+    Principal,
+    Resource,
+}
+
+/// What the slots of a template are bound to.
+pub type SlotEnv = BTreeMap<SlotId, EntityUID>;
