@@ -1,1 +1,11 @@
 pub mod Names
+pub mod Equality
+pub mod Tree
+pub mod View
+pub mod Layers
+pub mod Marks
+pub mod TreeEq
+pub mod TreeSame
+pub mod Same
+pub mod ShapeOnly
+pub mod Templates
