@@ -1,5 +1,5 @@
 pub mod Names
-pub mod Equality
+pub mod Comparisons
 pub mod Tree
 pub mod View
 pub mod Layers

@@ -5,6 +5,7 @@ mod constraints;
 mod copies;
 mod entities;
 mod expressions;
+pub mod laws;
 mod literals;
 mod location;
 mod names;

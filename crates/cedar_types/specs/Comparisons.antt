@@ -1,18 +1,23 @@
--- Tests of equality of names, ids and literals, and that they decide it.
+-- Equality and order of names and ids as tests of their texts, and that the derived ones are these.
 use Rattle.std.specs.Prelude.{nat_eq}
-use Rattle.std.proofs.Common.{◌≡◌, Bool, true, false, ◌&&◌, List, [], ◌∷◌, true≢false, refl, sym}
-use Rattle.std.specs.Cmp.Lexicographic.{pointwise}
-use Rattle.std.specs.Ordering.{int_eq}
+use Rattle.std.specs.Bool.{Decides}
+use Rattle.std.proofs.Common.{◌≡◌, subst, Bool, true, false, ◌&&◌, List, [], ◌∷◌, true≢false, refl, sym}
+use Rattle.std.specs.Cmp.Lexicographic.{pointwise, slice_cmp}
+use Rattle.std.specs.Ordering.{int_eq, nat_cmp, ordering_then}
+use Rattle.std.specs.declared.cmp.Ordering.{Ordering}
 use Rattle.std.specs.Cmp.{signed_Decides}
-use Rattle.std.below.core.specs.Cmp.Derive.Mapped.{pointwise-map}
+use Rattle.std.below.core.specs.Cmp.Derive.Mapped.{pointwise-map, lex_map}
 use borrow.Author.Tests.{eqb-true, eq-eqb}
 use mathlib.Core.Bool.{beq}
 use Rattle.cedar_types.specs.declared.base.names.Name.{Name}
 use Rattle.cedar_types.specs.declared.base.entities.EntityType.{EntityType}
 use Rattle.cedar_types.specs.declared.base.entities.EntityUID.{EntityUID}
-use Rattle.cedar_types.specs.contracts.base.names.NamePartialEq.TheImpl as name_impl
-use Rattle.cedar_types.specs.contracts.base.entities.EntityTypePartialEq.TheImpl as entity_type_impl
-use Rattle.cedar_types.specs.contracts.base.entities.EntityUIDPartialEq.TheImpl as uid_impl
+use Rattle.cedar_types.specs.contracts.base.names.NamePartialEq.TheImpl as name_eq_impl
+use Rattle.cedar_types.specs.contracts.base.names.NameOrd.TheImpl as name_ord_impl
+use Rattle.cedar_types.specs.contracts.base.entities.EntityTypePartialEq.TheImpl as entity_type_eq_impl
+use Rattle.cedar_types.specs.contracts.base.entities.EntityTypeOrd.TheImpl as entity_type_ord_impl
+use Rattle.cedar_types.specs.contracts.base.entities.EntityUIDPartialEq.TheImpl as uid_eq_impl
+use Rattle.cedar_types.specs.contracts.base.entities.EntityUIDOrd.TheImpl as uid_ord_impl
 use Rattle.cedar_types.specs.Names.{Text, Path, Uid, text_of, path_of, type_of, uid_of}
 
 abbrev pub text_eq : Text → Text → Bool
@@ -26,6 +31,18 @@ path_eq p q = texts_eq p.path q.path && text_eq p.basename q.basename
 
 abbrev pub uid_eq : Uid → Uid → Bool
 uid_eq u v = path_eq u.entity_type v.entity_type && text_eq u.eid v.eid
+
+-- byte by byte
+abbrev pub text_cmp : Text → Text → Ordering
+text_cmp = slice_cmp nat_cmp
+
+-- the parts of the path first, then the last part
+abbrev pub path_cmp : Path → Path → Ordering
+path_cmp p q = ordering_then (slice_cmp text_cmp p.path q.path) (text_cmp p.basename q.basename)
+
+-- the type first, then the eid
+abbrev pub uid_cmp : Uid → Uid → Ordering
+uid_cmp u v = ordering_then (path_cmp u.entity_type v.entity_type) (text_cmp u.eid v.eid)
 
 abbrev pub bool_eq : Bool → Bool → Bool
 bool_eq = beq
@@ -101,12 +118,46 @@ bool_same = record { to = bool_to; itself = bool_itself }
 pub int_same : Same int_eq
 int_same = record { to = λ x y. (signed_Decides x y).0; itself = λ x. (signed_Decides x x).1 refl }
 
--- `==` of names, types and ids is equality of their texts, wherever they stand
-pub name_is : (x y : Name) → name_impl.ghosts.eq x y ≡ path_eq (path_of x) (path_of y)
+-- the derived `==` and the derived order
+abbrev pub name_eq : Name → Name → Bool
+name_eq = name_eq_impl.ghosts.eq
+
+abbrev pub entity_type_eq : EntityType → EntityType → Bool
+entity_type_eq = entity_type_eq_impl.ghosts.eq
+
+abbrev pub entity_uid_eq : EntityUID → EntityUID → Bool
+entity_uid_eq = uid_eq_impl.ghosts.eq
+
+abbrev pub name_cmp : Name → Name → Ordering
+name_cmp = name_ord_impl.ghosts.cmp
+
+abbrev pub entity_type_cmp : EntityType → EntityType → Ordering
+entity_type_cmp = entity_type_ord_impl.ghosts.cmp
+
+abbrev pub entity_uid_cmp : EntityUID → EntityUID → Ordering
+entity_uid_cmp = uid_ord_impl.ghosts.cmp
+
+-- are those of the texts, wherever the names stand
+pub name_is : (x y : Name) → name_eq x y ≡ path_eq (path_of x) (path_of y)
 name_is x y = λ i. sym (pointwise-map text_of text_eq x.path.items y.path.items) i && text_eq (text_of x.basename) (text_of y.basename)
 
-pub entity_type_is : (x y : EntityType) → entity_type_impl.ghosts.eq x y ≡ path_eq (type_of x) (type_of y)
+pub entity_type_is : (x y : EntityType) → entity_type_eq x y ≡ path_eq (type_of x) (type_of y)
 entity_type_is x y = name_is x.name y.name
 
-pub uid_is : (x y : EntityUID) → uid_impl.ghosts.eq x y ≡ uid_eq (uid_of x) (uid_of y)
+pub uid_is : (x y : EntityUID) → entity_uid_eq x y ≡ uid_eq (uid_of x) (uid_of y)
 uid_is x y = λ i. name_is x.entity_type.name y.entity_type.name i && text_eq (text_of x.eid) (text_of y.eid)
+
+pub name_cmp_is : (x y : Name) → name_cmp x y ≡ path_cmp (path_of x) (path_of y)
+name_cmp_is x y = λ i. ordering_then (sym (lex_map text_of text_cmp x.path.items y.path.items) i) (text_cmp (text_of x.basename) (text_of y.basename))
+
+pub entity_type_cmp_is : (x y : EntityType) → entity_type_cmp x y ≡ path_cmp (type_of x) (type_of y)
+entity_type_cmp_is x y = name_cmp_is x.name y.name
+
+pub uid_cmp_is : (x y : EntityUID) → entity_uid_cmp x y ≡ uid_cmp (uid_of x) (uid_of y)
+uid_cmp_is x y = λ i. ordering_then (name_cmp_is x.entity_type.name y.entity_type.name i) (text_cmp (text_of x.eid) (text_of y.eid))
+
+pub path_eq-Decides : (p q : Path) → Decides (path_eq p q) (p ≡ q)
+path_eq-Decides p q = (path_same.to p q, λ e. subst (λ r. path_eq p r ≡ true) e (path_same.itself p))
+
+pub uid_eq-Decides : (u v : Uid) → Decides (uid_eq u v) (u ≡ v)
+uid_eq-Decides u v = (uid_same.to u v, λ e. subst (λ r. uid_eq u r ≡ true) e (uid_same.itself u))
