@@ -1,0 +1,78 @@
+#!/usr/bin/env python3
+"""Compiles each piece of examples/borrows, as a crate of its own above the crate that it names, without any proof.
+
+A piece begins with two lines: `// crate: NAME`, and what has to come of it: `// accepted`, or `// refused: CODE`, the
+borrow checker's one error. The last line counts the pieces that went so and those that did not.
+"""
+import re
+import shutil
+import subprocess
+import sys
+import tempfile
+from pathlib import Path
+
+TOP = Path(__file__).resolve().parent.parent
+ROOT_FILE = "//! A piece.\n#![tactic(auto)]\n\npub mod piece;\n\n#[cfg(test)]\nmod tests {\n    #[test]\n    fn compiles() {}\n}\n"
+HEAD = re.compile(r"// crate: (\w+)\n// (accepted|refused: ([\w-]+))\n")
+ERROR = re.compile(r"^(\S+?):\d+:\d+: error(?:\[([^]]+)\])?", re.M)
+SECONDS = 570
+
+
+def crates():
+    """The line of each crate of crates.txt, in order."""
+    for line in TOP.joinpath("crates.txt").read_text(encoding="utf8").splitlines():
+        name = line.partition("#")[0].partition(":")[0].split()
+        if name:
+            yield name[0], line
+
+
+def lay_out(room):
+    """Copies what a piece stands on: the sources and specifications of each library, and no proofs."""
+    lines = []
+    for name, line in crates():
+        if TOP.joinpath("crates", name, "src", "lib.rt").is_file():
+            lines.append(line)
+            for part in ("src", "specs"):
+                if TOP.joinpath("crates", name, part).is_dir():
+                    shutil.copytree(TOP.joinpath("crates", name, part), Path(room, "crates", name, part))
+    shutil.copyfile(TOP / "HANDLES", Path(room, "HANDLES"))
+    Path(room, "crates", "piece", "src").mkdir(parents=True)
+    Path(room, "crates", "piece", "src", "lib.rt").write_text(ROOT_FILE, encoding="utf8")
+    return lines
+
+
+def fault_of(piece, room, lines):
+    """What went otherwise than the piece says, if anything did."""
+    text = piece.read_text(encoding="utf8")
+    head = HEAD.match(text)
+    if not head:
+        return "it does not begin with its crate and with what has to come of it"
+    crate, wanted, code = head.groups()
+    Path(room, "crates.txt").write_text("\n".join([*lines, f"piece: {crate}", ""]), encoding="utf8")
+    folder = Path(room, "crates", "piece")
+    folder.joinpath("src", "piece.rt").write_text(text, encoding="utf8")
+    try:
+        ran = subprocess.run(["rt", "try", "--test"], cwd=folder, stdin=subprocess.DEVNULL, capture_output=True, text=True, timeout=SECONDS)
+    except subprocess.TimeoutExpired:
+        return f"no answer within {SECONDS} seconds"
+    said = ran.stdout + ran.stderr
+    errors = ERROR.findall(said)
+    well = ran.returncode == 0 and not errors if wanted == "accepted" else errors == [("src/piece.rt", code)]
+    return None if well else f"it should be {wanted}\n{said[-1500:]}"
+
+
+def main():
+    pieces = sorted(TOP.joinpath("examples", "borrows").glob("*.txt"))
+    passed = 0
+    with tempfile.TemporaryDirectory() as room:
+        lines = lay_out(room) if pieces else []
+        for piece in pieces:
+            fault = fault_of(piece, room, lines)
+            print(f"{piece.name}: {fault or 'ok'}", flush=True)
+            passed += fault is None
+    print(f"{passed} passed, {len(pieces) - passed} failed")
+    return 0 if passed == len(pieces) else 1
+
+
+if __name__ == "__main__":
+    sys.exit(main())

@@ -1,0 +1,145 @@
+#!/usr/bin/env python3
+"""The self-test of check_text: repositories with one fault each, which it has to refuse for that fault, and a good one.
+
+The last line counts the samples that went as they should.
+"""
+import subprocess
+import sys
+import tempfile
+from pathlib import Path
+
+CHECK = Path(__file__).resolve().parent / "check_text"
+WHY = {
+    "citation": "reads like a citation by number",
+    "path": "is a path of one machine",
+    "handles": "which never changes",
+    "crates": "every crate is built in the same way",
+    "tactic": "a crate's root file has the line",
+    "hole": "is a hole",
+    "out": "is never committed",
+}
+# What would be a fault in this file stands in pieces.
+PAPERS = "pap" + "ers"
+PARAMETER = "T" + "1"
+CRATE = f"//! A crate.\n#![tactic(auto)]\n\npub fn same<{PARAMETER}>(it: {PARAMETER}) -> {PARAMETER} {{\n    it\n}}\n"
+GOOD = {
+    "HANDLES": "Handles allowed: none.\n",
+    "LICENSE": f"Section 4 of these {PAPERS}.\n",
+    "README.md": "Row 10 prints `row 10: ok`, as in RFC 76.\nTake crates/tmp/ out of it; 0xD4, T15 and R2D2 are no citations.\n",
+    "crates.txt": "demo:\n",
+    "crates/demo/src/lib.rt": CRATE,
+    "crates/demo/specs/Lib.antt": "-- is it there?\nuse lib.ListN.{get_elem?}\n",
+}
+
+
+def note(text, line=2):
+    """A note whose second line is the text, and where the fault is to be found."""
+    return {"docs/NOTE.md": f"A plain line.\n{text}\n"}, f"docs/NOTE.md:{line}:"
+
+
+def changed(name, text, line=1):
+    return {name: text}, f"{name}:{line}:"
+
+
+FILES = [
+    ("a promise", "citation", *note("as T" + "4 says")),
+    ("a promise's part", "citation", *note("as T" + "4b says")),
+    ("a definition", "citation", *note("(D" + "6)")),
+    ("the last definition", "citation", *note("D" + "20: the required level")),
+    ("a wrong body", "citation", *note("the body W" + "22")),
+    ("a wrong body in a name", "citation", *note("the test W" + "2_union")),
+    ("a request", "citation", *note("comes with R" + "16.")),
+    ("a document", "citation", *note("see document 0" + "4")),
+    ("the whole", "citation", *note(f"as the {PAPERS} say")),
+    ("the whole across lines", "citation", *changed("crates/demo/src/lib.rt", f"{CRATE}// as the\n// {PAPERS} say\n", 7)),
+    ("a section of a document", "citation", *note("section 3 of 0" + "1")),
+    ("a document's section", "citation", *note("0" + "4 section 3")),
+    ("a document's number alone", "citation", *note("the tables of 0" + "4")),
+    ("a promise in words", "citation", *note("by promise " + "3")),
+    ("a rule", "citation", *note("by rule " + "12")),
+    ("a mark", "citation", *note("the call is [m" + "0]")),
+    ("a folder", "citation", *note(f"in {PAPERS}/scope")),
+    ("a comment beside a type parameter", "citation", *changed("crates/demo/src/lib.rt", f"{CRATE}// by {PARAMETER}\n", 7)),
+    ("a file's name", "citation", *changed("crates/demo/must-fail/w" + "5.edit", "file: src/lib.rt\n")),
+    *((f"a path below {top}", "path", *note(f"in `/{top}/x`")) for top in ("work", "tmp", "opt", "root", "home", "farm")),
+    ("a path's address", "path", *note("file:///" + "home/x")),
+    ("more handles", "handles", *changed("HANDLES", "Handles allowed: Threads.\n")),
+    ("a longer HANDLES", "handles", *changed("HANDLES", "Handles allowed: none.\n\n")),
+    ("no HANDLES", "handles", *changed("HANDLES", None)),
+    ("a compiler's choice", "crates", *changed("crates.txt", "demo backend=rattle:\n")),
+    ("an optimizer's choice", "crates", *changed("crates.txt", "# all\ndemo opt_level=1:\n", 2)),
+    ("a library without its tactics", "tactic", *changed("crates/demo/src/lib.rt", "//! A crate.\n")),
+    ("a program with its tactics in a comment", "tactic", *changed("crates/app/src/main.rt", "// #![tactic(auto)]\n")),
+    ("a hole", "hole", *changed("crates/demo/proofs/Lib.antt", "-- why?\nit = ?\n", 2)),
+    ("a hole as an argument", "hole", *changed("crates/demo/specs/Lib.antt", "it = ap f (?)\n")),
+    ("what was built", "out", *changed("crates/demo/out/demo.rlib", "x\n")),
+]
+MESSAGES = [
+    ("a message's title", "citation", "Prove T" + "3", 1),
+    ("a message's body", "citation", f"Prove it\n\nas in the {PAPERS}", 3),
+    ("a message's path", "path", "Prove it in /" + "tmp/x", 1),
+]
+
+
+def git(folder, *words):
+    who = ["-c", "user.name=sample", "-c", "user.email=sample@localhost"]
+    ran = subprocess.run(["git", "-C", folder, *who, *words], stdin=subprocess.DEVNULL, capture_output=True, text=True, check=True)
+    return ran.stdout.strip()
+
+
+def repository(folder, files, message="Begin"):
+    """Makes a repository of one commit."""
+    git(folder, "init", "-q")
+    for name, text in files.items():
+        if text is not None:
+            path = Path(folder, name)
+            path.parent.mkdir(parents=True, exist_ok=True)
+            path.write_text(text, encoding="utf8")
+    git(folder, "add", "--force", "--all")
+    git(folder, "commit", "-q", "-m", message)
+
+
+def said_of(folder):
+    ran = subprocess.run([sys.executable, CHECK, folder], stdin=subprocess.DEVNULL, capture_output=True, text=True)
+    return ran.returncode, (ran.stdout + ran.stderr).splitlines()
+
+
+def is_refused(folder, where, why):
+    """Whether the check refuses the repository with one line, which says where and why."""
+    status, lines = said_of(folder)
+    well = status == 1 and len(lines) == 2 and lines[0].startswith(where) and WHY[why] in lines[0] and lines[1] == "6 passed, 1 failed"
+    return well, lines
+
+
+def outcomes():
+    """Each sample's name, whether it went well, and what the check said."""
+    with tempfile.TemporaryDirectory() as folder:
+        repository(folder, GOOD)
+        status, lines = said_of(folder)
+        yield "a good repository", status == 0 and lines == ["7 passed, 0 failed"], lines
+    for name, why, files, where in FILES:
+        with tempfile.TemporaryDirectory() as folder:
+            repository(folder, GOOD | files)
+            yield name, *is_refused(folder, where, why)
+    for name, why, message, line in MESSAGES:
+        with tempfile.TemporaryDirectory() as folder:
+            repository(folder, GOOD, message)
+            first = git(folder, "rev-parse", "--short", "HEAD")
+            git(folder, "commit", "-q", "--allow-empty", "-m", "Go on")
+            yield name, *is_refused(folder, f"commit {first}:{line}:", why)
+
+
+def main():
+    passed = failed = 0
+    for name, well, lines in outcomes():
+        if well:
+            passed += 1
+            continue
+        failed += 1
+        print(f"{name}: not as it should be:", *lines, sep="\n    ")
+    print(f"{passed} passed, {failed} failed")
+    return 1 if failed else 0
+
+
+if __name__ == "__main__":
+    sys.exit(main())
