@@ -2,8 +2,8 @@
 use Rattle.std.specs.Prelude.{nat_eq}
 use Rattle.std.specs.Bool.{Decides}
 use Rattle.std.proofs.Common.{◌≡◌, subst, Bool, true, false, ◌&&◌, List, [], ◌∷◌, true≢false, refl, sym}
-use Rattle.std.specs.Cmp.Lexicographic.{pointwise, slice_cmp}
-use Rattle.std.specs.Ordering.{int_eq, nat_cmp, ordering_then}
+use Rattle.std.specs.Cmp.Lexicographic.{pointwise}
+use Rattle.std.specs.Ordering.{int_eq, ordering_then}
 use Rattle.std.specs.declared.cmp.Ordering.{Ordering}
 use Rattle.std.specs.Cmp.{signed_Decides}
 use Rattle.std.below.core.specs.Cmp.Derive.Mapped.{pointwise-map, lex_map}
@@ -18,31 +18,7 @@ use Rattle.cedar_types.specs.contracts.base.entities.EntityTypePartialEq.TheImpl
 use Rattle.cedar_types.specs.contracts.base.entities.EntityTypeOrd.TheImpl as entity_type_ord_impl
 use Rattle.cedar_types.specs.contracts.base.entities.EntityUIDPartialEq.TheImpl as uid_eq_impl
 use Rattle.cedar_types.specs.contracts.base.entities.EntityUIDOrd.TheImpl as uid_ord_impl
-use Rattle.cedar_types.specs.Names.{Text, Path, Uid, text_of, path_of, type_of, uid_of}
-
-abbrev pub text_eq : Text → Text → Bool
-text_eq = pointwise nat_eq
-
-abbrev pub texts_eq : List Text → List Text → Bool
-texts_eq = pointwise text_eq
-
-abbrev pub path_eq : Path → Path → Bool
-path_eq p q = texts_eq p.path q.path && text_eq p.basename q.basename
-
-abbrev pub uid_eq : Uid → Uid → Bool
-uid_eq u v = path_eq u.entity_type v.entity_type && text_eq u.eid v.eid
-
--- byte by byte
-abbrev pub text_cmp : Text → Text → Ordering
-text_cmp = slice_cmp nat_cmp
-
--- the parts of the path first, then the last part
-abbrev pub path_cmp : Path → Path → Ordering
-path_cmp p q = ordering_then (slice_cmp text_cmp p.path q.path) (text_cmp p.basename q.basename)
-
--- the type first, then the eid
-abbrev pub uid_cmp : Uid → Uid → Ordering
-uid_cmp u v = ordering_then (path_cmp u.entity_type v.entity_type) (text_cmp u.eid v.eid)
+use Rattle.cedar_types.specs.Names.{Path, Uid, text_of, path_of, type_of, uid_of, text_eq, texts_eq, path_eq, uid_eq, text_cmp, path_cmp, uid_cmp}
 
 abbrev pub bool_eq : Bool → Bool → Bool
 bool_eq = beq

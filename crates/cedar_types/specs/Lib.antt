@@ -9,3 +9,9 @@ pub mod TreeSame
 pub mod Same
 pub mod ShapeOnly
 pub mod Templates
+pub mod Ascending
+pub mod Types
+pub mod Bounds
+pub mod ArgumentChecks
+pub mod Extensions
+pub mod Capability

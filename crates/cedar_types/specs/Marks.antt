@@ -83,3 +83,7 @@ located-written {T} e = tree_with-map T Written (Option Loc) (λ _ l p. record {
 
 pub shape-written : {T : Type 0} (e : Expr T) → shape e ≡ map_tree (λ (_ : Written). tt) (written e)
 shape-written {T} e = tree_with-map T Written (Unit {0}) (λ _ l p. record { place = l; names = p }) (λ _. tt) e
+
+-- what was written alike has one shape
+pub one_shape : {T : Type 0} (a b : Expr T) → written a ≡ written b → shape a ≡ shape b
+one_shape a b h = shape-written a ∙ ap (map_tree (λ (_ : Written). tt)) h ∙ sym (shape-written b)

@@ -1,6 +1,8 @@
 -- Names, entity types and ids of entities as plain data.
-use Rattle.std.specs.Prelude.{ℕ, Bool, List, Option, map, codes, nat_eq}
-use Rattle.std.specs.Cmp.Lexicographic.{pointwise}
+use Rattle.std.specs.Prelude.{ℕ, Bool, ◌&&◌, List, Option, map, codes, nat_eq}
+use Rattle.std.specs.Cmp.Lexicographic.{pointwise, slice_cmp}
+use Rattle.std.specs.Ordering.{nat_cmp, ordering_then}
+use Rattle.std.specs.declared.cmp.Ordering.{Ordering}
 use Rattle.std.specs.Rc.{rc_str_bytes}
 use Rattle.std.specs.declared.alloc.Global.{Global}
 use Rattle.std.specs.declared.rc.RcStr.{RcStr}
@@ -55,3 +57,28 @@ placed_uid u = record { uid = uid_of u; place = u.loc; type_place = u.entity_typ
 -- the type of an action: its last part is `Action`
 abbrev pub is_action_path : Path → Bool
 is_action_path p = pointwise nat_eq p.basename (codes "Action")
+
+-- equality, as a test
+abbrev pub text_eq : Text → Text → Bool
+text_eq = pointwise nat_eq
+
+abbrev pub texts_eq : List Text → List Text → Bool
+texts_eq = pointwise text_eq
+
+abbrev pub path_eq : Path → Path → Bool
+path_eq p q = texts_eq p.path q.path && text_eq p.basename q.basename
+
+abbrev pub uid_eq : Uid → Uid → Bool
+uid_eq u v = path_eq u.entity_type v.entity_type && text_eq u.eid v.eid
+
+-- order: texts byte by byte
+abbrev pub text_cmp : Text → Text → Ordering
+text_cmp = slice_cmp nat_cmp
+
+-- the parts of the path first, then the last part
+abbrev pub path_cmp : Path → Path → Ordering
+path_cmp p q = ordering_then (slice_cmp text_cmp p.path q.path) (text_cmp p.basename q.basename)
+
+-- the type first, then the eid
+abbrev pub uid_cmp : Uid → Uid → Ordering
+uid_cmp u v = ordering_then (path_cmp u.entity_type v.entity_type) (text_cmp u.eid v.eid)

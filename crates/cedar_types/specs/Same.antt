@@ -18,8 +18,8 @@ use Rattle.cedar_types.specs.contracts.base.literals.LiteralPartialEq.TheImpl as
 use Rattle.cedar_types.specs.contracts.base.expressions.ExprPartialEq.TheImpl as expr_eq
 use Rattle.cedar_types.specs.contracts.base.expressions.ExprPartialEq.TheImpl.Laws as expr_laws
 use Rattle.cedar_types.specs.contracts.base.expressions.ExprKindPartialEq.TheImpl.Laws as kind_laws
-use Rattle.cedar_types.specs.Names.{text_of}
-use Rattle.cedar_types.specs.Comparisons.{text_eq, name_is, entity_type_is, uid_is}
+use Rattle.cedar_types.specs.Names.{text_of, text_eq}
+use Rattle.cedar_types.specs.Comparisons.{name_is, entity_type_is, uid_is}
 use Rattle.cedar_types.specs.Tree.{Tree}
 use Rattle.cedar_types.specs.TreeEq.{lit_eq, var_eq, slot_eq, unary_eq, binary_eq, pattern_eq, tree_eq, trees_eq, fields_eq}
 use Rattle.cedar_types.specs.View.{lit_of, shape, trees_of, fields_of}

@@ -12,7 +12,8 @@ use Rattle.cedar_types.specs.contracts.base.operators.UnaryOpPartialEq.TheImpl a
 use Rattle.cedar_types.specs.contracts.base.operators.BinaryOpPartialEq.TheImpl as binary_impl
 use Rattle.cedar_types.specs.contracts.base.patterns.PatternElemPartialEq.TheImpl as pattern_impl
 use Rattle.cedar_types.specs.contracts.base.slots.SlotIdPartialEq.TheImpl as slot_impl
-use Rattle.cedar_types.specs.Comparisons.{text_eq, texts_eq, path_eq, uid_eq, bool_eq}
+use Rattle.cedar_types.specs.Comparisons.{bool_eq}
+use Rattle.cedar_types.specs.Names.{text_eq, texts_eq, path_eq, uid_eq}
 use Rattle.cedar_types.specs.Tree.{Lit, bool, long, string, entity, Tree, lit, var, slot, unknown, if_then_else, and, or, unary, binary, call, get_attr, has_attr, ext_has_attr, like, is_type, set_of, record_of, Trees, no_trees, tree, Fields, no_fields, field}
 
 abbrev pub lit_eq : Lit → Lit → Bool

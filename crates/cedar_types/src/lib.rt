@@ -2,3 +2,4 @@
 #![tactic(auto)]
 
 pub mod base;
+pub mod types;

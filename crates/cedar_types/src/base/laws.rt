@@ -1,7 +1,7 @@
 // Laws of the data, each on a function that does nothing.
 ghost use Rattle.std.specs.Prelude.{◌≡◌, IsTrue, ◌↔◌};
-ghost use Rattle.cedar_types.specs.Names.{path_of, type_of, uid_of};
-ghost use Rattle.cedar_types.specs.Comparisons.{path_cmp, uid_cmp, name_eq, entity_type_eq, entity_uid_eq, name_cmp, entity_type_cmp, entity_uid_cmp};
+ghost use Rattle.cedar_types.specs.Names.{path_of, type_of, uid_of, path_cmp, uid_cmp};
+ghost use Rattle.cedar_types.specs.Comparisons.{name_eq, entity_type_eq, entity_uid_eq, name_cmp, entity_type_cmp, entity_uid_cmp};
 ghost use Rattle.cedar_types.specs.declared.base.names.Name.{Name};
 ghost use Rattle.cedar_types.specs.declared.base.entities.EntityType.{EntityType};
 ghost use Rattle.cedar_types.specs.declared.base.entities.EntityUID.{EntityUID};
@@ -11,8 +11,7 @@ pub fn equality_of_names()
     ensures names { (x y : Name) → IsTrue (name_eq x y) ↔ (path_of x ≡ path_of y) }
     ensures types { (x y : EntityType) → IsTrue (entity_type_eq x y) ↔ (type_of x ≡ type_of y) }
     ensures ids { (x y : EntityUID) → IsTrue (entity_uid_eq x y) ↔ (uid_of x ≡ uid_of y) }
-{
-}
+{}
 
 /// Names are ordered by the parts of their path and then by the last part, ids by their type and then by the eid,
 /// wherever they stand.
@@ -20,5 +19,4 @@ pub fn order_of_names()
     ensures names { (x y : Name) → name_cmp x y ≡ path_cmp (path_of x) (path_of y) }
     ensures types { (x y : EntityType) → entity_type_cmp x y ≡ path_cmp (type_of x) (type_of y) }
     ensures ids { (x y : EntityUID) → entity_uid_cmp x y ≡ uid_cmp (uid_of x) (uid_of y) }
-{
-}
+{}

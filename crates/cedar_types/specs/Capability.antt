@@ -1,0 +1,63 @@
+-- What a capability, and a set of them, stands for.
+use Rattle.std.specs.Prelude.{◌≡◌, Bool, false, ◌&&◌, ◌||◌, List}
+use Rattle.std.specs.List.{list_any}
+use Rattle.std.specs.declared.cmp.Ordering.{Ordering}
+use Rattle.cedar_types.specs.declared.types.capability.Capability.{Capability}
+use Rattle.cedar_types.specs.declared.types.capability.CapabilitySet.{CapabilitySet}
+use Rattle.cedar_types.specs.declared.types.capability.Known.{Known}
+use Rattle.cedar_types.specs.contracts.types.capability.CapabilityPartialEq.TheImpl as eq_impl
+use Rattle.cedar_types.specs.contracts.types.capability.CapabilityOrd.TheImpl as ord_impl
+use Rattle.cedar_types.specs.Names.{Text, text_of, text_eq}
+use Rattle.cedar_types.specs.Tree.{Shape}
+use Rattle.cedar_types.specs.TreeEq.{tree_eq}
+use Rattle.cedar_types.specs.ShapeOnly.{shape_of}
+
+-- that an expression has an attribute of that name, or a tag of the name that an expression gives
+pub data Cap : Type 0 where
+  attribute : Shape → Text → Cap
+  tag : Shape → Shape → Cap
+
+abbrev pub cap_eq : Cap → Cap → Bool
+cap_eq (attribute s x) (attribute t y) = tree_eq s t && text_eq x y
+cap_eq (tag s x) (tag t y) = tree_eq s t && tree_eq x y
+cap_eq _ _ = false
+
+abbrev pub known_of : Shape → Known → Cap
+known_of s (Known.Attribute x) = attribute s (text_of x)
+known_of s (Known.Tag x) = tag s (shape_of x)
+
+abbrev pub cap_of : Capability → Cap
+cap_of c = known_of (shape_of c.on_expr) c.known
+
+-- the derived `==` and the derived order
+abbrev pub capability_eq : Capability → Capability → Bool
+capability_eq = eq_impl.ghosts.eq
+
+abbrev pub capability_cmp : Capability → Capability → Ordering
+capability_cmp = ord_impl.ghosts.cmp
+
+-- whether a capability is among those of a list
+abbrev pub among : List Capability → Cap → Bool
+among cs q = list_any (λ c. cap_eq q (cap_of c)) cs
+
+-- the set, as the test of what it has
+unfoldable pub caps : CapabilitySet → Cap → Bool
+caps s = among s.set.keys
+
+-- the set has nothing
+abbrev pub IsNone : (Cap → Bool) → Type 0
+IsNone f = (q : Cap) → f q ≡ false
+
+-- it has c alone
+abbrev pub IsJust : Cap → (Cap → Bool) → Type 0
+IsJust c f = (q : Cap) → f q ≡ cap_eq q c
+
+-- h has what either has, or what both have, or what f has
+abbrev pub IsUnionOf : (Cap → Bool) → (Cap → Bool) → (Cap → Bool) → Type 0
+IsUnionOf f g h = (q : Cap) → h q ≡ (f q || g q)
+
+abbrev pub IsIntersectionOf : (Cap → Bool) → (Cap → Bool) → (Cap → Bool) → Type 0
+IsIntersectionOf f g h = (q : Cap) → h q ≡ (f q && g q)
+
+abbrev pub IsSame : (Cap → Bool) → (Cap → Bool) → Type 0
+IsSame f h = (q : Cap) → h q ≡ f q

@@ -1,0 +1,155 @@
+// The types that expressions, attributes and tags have.
+ghost use Rattle.std.specs.Prelude.{◌≡◌};
+
+use crate::base::entities::{EntityType, EntityUID};
+use crate::base::entity_sets::EntityLUB;
+use crate::base::names::Name;
+use std::alloc::AllocError;
+use std::collections::BTreeMap;
+use std::rc::{Rc, RcStr};
+
+/// How a policy is typed.
+#[derive(Clone, Copy, PartialEq, Eq, PartialOrd, Ord, Hash, Debug)]
+pub enum ValidationMode {
+    Strict,
+    Permissive,
+    Partial,
+}
+
+/// Which truth values a Boolean may have.
+#[derive(Clone, Copy, PartialEq, Eq, PartialOrd, Ord, Hash, Debug)]
+pub enum BoolType {
+    AnyBool,
+    True,
+    False,
+}
+
+/// Which entities a value may be.
+#[derive(PartialEq, Eq, PartialOrd, Ord, Hash, Debug, Drop)]
+pub enum EntityKind {
+    Entity(EntityLUB),
+    AnyEntity,
+}
+
+/// Whether a record may have attributes that its type does not name.
+#[derive(Clone, Copy, PartialEq, Eq, PartialOrd, Ord, Hash, Debug)]
+pub enum OpenTag {
+    OpenAttributes,
+    ClosedAttributes,
+}
+
+/// An attribute's type, and whether the attribute is always there.
+#[cycle(types)]
+#[derive(PartialEq, Eq, PartialOrd, Ord, Hash, Debug, Drop)]
+pub struct AttributeType {
+    pub attr_type: CedarType,
+    pub is_required: bool,
+}
+
+/// The attributes that a record's type names.
+#[cycle(types)]
+#[derive(PartialEq, Eq, PartialOrd, Ord, Hash, Debug, Drop)]
+pub struct Attributes {
+    pub attrs: Rc<BTreeMap<RcStr, AttributeType>>,
+}
+
+/// A type. The order of types is the order of their kinds here, and within a kind that of its parts.
+#[cycle(types)]
+#[derive(PartialEq, Eq, PartialOrd, Ord, Hash, Debug, Drop)]
+pub enum CedarType {
+    Never,
+    Bool(BoolType),
+    Long,
+    String,
+    Set(Rc<CedarType>),
+    AnySet,
+    Record {
+        attributes: Attributes,
+        is_open: OpenTag,
+    },
+    Entity(EntityKind),
+    Extension(Rc<Name>),
+}
+
+/// The short name of a type.
+pub type Type = CedarType;
+
+/// What a request is about, without its values.
+#[derive(PartialEq, Eq, PartialOrd, Ord, Hash, Debug, Drop)]
+pub struct RequestType {
+    pub principal: EntityType,
+    pub action: EntityUID,
+    pub resource: EntityType,
+}
+
+impl Clone for EntityKind {
+    ghost use Rattle.std.specs.Prelude.{◌≡◌};
+    ghost use Rattle.cedar_types.specs.Types.{kind_of};
+
+    ghost is_clone = { λ j k. kind_of k ≡ kind_of j };
+
+    fn clone(&self) -> Result<EntityKind, AllocError> {
+        match self {
+            EntityKind::Entity(lub) => Ok(EntityKind::Entity(lub.clone()?)),
+            EntityKind::AnyEntity => Ok(EntityKind::AnyEntity),
+        }
+    }
+}
+
+impl Clone for Attributes {
+    ghost use Rattle.std.specs.Prelude.{◌≡◌};
+    ghost use Rattle.cedar_types.specs.Types.{attributes_of};
+
+    ghost is_clone = { λ a b. attributes_of b ≡ attributes_of a };
+
+    fn clone(&self) -> Result<Attributes, AllocError> {
+        Ok(Attributes {
+            attrs: self.attrs.clone()?,
+        })
+    }
+}
+
+impl Clone for CedarType {
+    ghost use Rattle.std.specs.Prelude.{◌≡◌};
+    ghost use Rattle.cedar_types.specs.Types.{ty_of};
+
+    ghost is_clone = { λ s t. ty_of t ≡ ty_of s };
+
+    ghost is_infallible = { λ t. ⊥ };
+
+    fn clone(&self) -> Result<CedarType, AllocError> {
+        match self {
+            CedarType::Never => Ok(CedarType::Never),
+            CedarType::Bool(k) => Ok(CedarType::Bool(*k)),
+            CedarType::Long => Ok(CedarType::Long),
+            CedarType::String => Ok(CedarType::String),
+            CedarType::Set(t) => Ok(CedarType::Set(t.clone()?)),
+            CedarType::AnySet => Ok(CedarType::AnySet),
+            CedarType::Record {
+                attributes,
+                is_open,
+            } => Ok(CedarType::Record {
+                attributes: attributes.clone()?,
+                is_open: *is_open,
+            }),
+            CedarType::Entity(k) => Ok(CedarType::Entity(k.clone()?)),
+            CedarType::Extension(n) => Ok(CedarType::Extension(n.clone()?)),
+        }
+    }
+}
+
+impl Clone for AttributeType {
+    ghost use Rattle.std.specs.Prelude.{◌≡◌};
+    ghost use Rattle.cedar_types.specs.Types.{attribute_of};
+
+    ghost is_clone = { λ a b. attribute_of b ≡ attribute_of a };
+
+    ghost is_infallible = { λ a. ⊥ };
+
+    fn clone(&self) -> Result<AttributeType, AllocError> {
+        Ok(AttributeType {
+            attr_type: self.attr_type.clone()?,
+            is_required: self.is_required,
+        })
+    }
+}

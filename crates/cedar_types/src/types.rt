@@ -1,0 +1,3 @@
+//! What typing knows of a request and of what is there.
+pub mod capability;
+pub mod laws;
