@@ -6,3 +6,10 @@ pub mod Paths
 pub mod Records
 pub mod SameTypes
 pub mod Unions
+pub mod BoundSteps
+pub mod BoundSymmetric
+pub mod BoundTransitive
+pub mod BoundUpper
+pub mod BoundWellFormed
+pub mod FindAttrs
+pub mod Laws

@@ -1,12 +1,12 @@
 -- Attributes in the entries of a map, and the loops that make new ones.
-use Rattle.std.proofs.Common.{◌≡◌, refl, sym, ap, ◌∙◌, ℕ, Bool, true, false, ◌&&◌, ◌||◌, not, subst, List, [], ◌∷◌, ◌++◌, map, nat_eq, Option, Some, None, option_map, if◌then◌else◌, length, suc, append_assoc}
+use Rattle.std.proofs.Common.{◌≡◌, refl, sym, ap, ◌∙◌, ℕ, Bool, true, false, ◌&&◌, ◌||◌, not, subst, List, [], ◌∷◌, ◌++◌, map, nat_eq, rules, arith, Option, Some, None, option_map, if◌then◌else◌, length, suc, append_assoc}
 use Rattle.std.specs.declared.cmp.Ordering.{Ordering}
-use Rattle.std.specs.declared.cmp.Ordering.TheVariants.{Less}
+use Rattle.std.specs.declared.cmp.Ordering.TheVariants.{Less, Equal, Greater}
 use Rattle.std.specs.declared.rc.RcStr.{RcStr}
 use Rattle.std.specs.declared.alloc.Global.{Global}
-use Rattle.std.specs.Ordering.{match_ordering, is_eq, ordering_reverse}
+use Rattle.std.specs.Ordering.{match_ordering, is_eq, is_lt, ordering_reverse}
 use Rattle.std.specs.Cmp.Lexicographic.{nat_list_cmp_total, texts_ties}
-use Rattle.std.specs.List.{AllByRecursion}
+use Rattle.std.specs.List.{AllByRecursion, list_all}
 use Rattle.std.specs.List.Sorted.{IsStrictlySortedBy}
 use Rattle.std.specs.BTreeMap.{BTreeMap, insert_entry, is_at}
 use Rattle.std.specs.Map.{lookup, keys_of}
@@ -17,7 +17,8 @@ use Rattle.cedar_types.specs.declared.base.types.ValidationMode.{ValidationMode}
 use Rattle.cedar_types.specs.declared.base.types.Attributes.{Attributes, out-Attributes}
 use Rattle.cedar_types.proofs.Attributes.{attributes_are}
 use Rattle.cedar_types.specs.Names.{Text, text_of, text_cmp, text_eq}
-use Rattle.cedar_types.specs.Types.{Ty, TRecord, Attrs, attr, no_attrs, ty_of, attributes_of, texts_of, entries_of, join_attrs}
+use Rattle.cedar_types.specs.Ascending.{texts_ascending}
+use Rattle.cedar_types.specs.Types.{Ty, TRecord, Attrs, attr, no_attrs, attr_names, ty_of, attributes_of, texts_of, entries_of, join_attrs}
 use Rattle.cedar_types.specs.Bounds.{attr_count, mark_eq, find_attr, both_attrs, common_attrs, with_both, with_common, with_bound, lub, record_lub, wide_lub, closed_lub, is_strict}
 
 abbrev pub key_cmp : RcStr Global → RcStr Global → Ordering
@@ -195,3 +196,22 @@ wide_here m xs ys zs o p b both s n k l hn hk hl e c =
 
 pub count_is : (a : Attributes) (m : BTreeMap (RcStr Global) AttributeType) → m ≡ (out-Attributes a).attrs.value → length m.entries ≡ attr_count (attributes_of a)
 count_is a m e = ap (λ m. length m.entries) e ∙ sym (ap attr_count (attributes_are a) ∙ size_is (out-Attributes a).attrs.value.entries)
+
+-- the same as a test
+ascending_from : (ks : List Text) → Ascends ks → texts_ascending ks ≡ true
+ascending_from [] h = refl
+ascending_from (k ∷ ks) h = λ i. above ks h.0 i && ascending_from ks h.1 i
+  where
+    above : (ls : List Text) → AllByRecursion (λ l. text_cmp k l ≡ Less) ls → list_all (λ l. is_lt (text_cmp k l)) ls ≡ true
+    above [] g = refl
+    above (l ∷ ls) g = λ i. is_lt (g.0 i) && above ls g.1 i
+
+names_are : (es : List (RcStr Global × AttributeType)) → attr_names (entries_of es) ≡ texts_of es
+names_are [] = refl
+names_are (e ∷ es) = ap (λ ts. text_of e.0 ∷ ts) (names_are es)
+
+pub attributes_ascend : (a : Attributes) (m : BTreeMap (RcStr Global) AttributeType) → m ≡ (out-Attributes a).attrs.value → IsStrictlySortedBy key_cmp (keys_of m.entries) → texts_ascending (attr_names (attributes_of a)) ≡ true
+attributes_ascend a m e s =
+    ap (λ xs. texts_ascending (attr_names xs)) (attributes_are a ∙ ap (λ m. entries_of m.entries) (sym e))
+    ∙ ap texts_ascending (names_are m.entries)
+    ∙ ascending_from (texts_of m.entries) (ascends m.entries s)

@@ -15,3 +15,4 @@ pub mod Bounds
 pub mod ArgumentChecks
 pub mod Extensions
 pub mod Capability
+pub mod BoundLaws

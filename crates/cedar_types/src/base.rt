@@ -20,6 +20,7 @@ mod shapes;
 mod slots;
 mod subtypes;
 mod templates;
+pub mod type_laws;
 mod type_texts;
 mod types;
 

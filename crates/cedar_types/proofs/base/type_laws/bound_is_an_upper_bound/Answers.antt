@@ -1,0 +1,5 @@
+use Rattle.cedar_types.proofs.Laws.{bound_upper}
+use Rattle.cedar_types.proofs.base.type_laws.bound_is_an_upper_bound.Goals as goal
+
+pub returns : goal.returns
+returns c = bound_upper

@@ -1,0 +1,5 @@
+use Rattle.cedar_types.proofs.Laws.{idempotent}
+use Rattle.cedar_types.proofs.base.type_laws.bound_is_idempotent.Goals as goal
+
+pub returns : goal.returns
+returns c = idempotent

@@ -1,0 +1,5 @@
+use Rattle.cedar_types.proofs.Laws.{bound_symmetric}
+use Rattle.cedar_types.proofs.base.type_laws.bound_is_symmetric.Goals as goal
+
+pub returns : goal.returns
+returns c = bound_symmetric

@@ -1,0 +1,5 @@
+use Rattle.cedar_types.proofs.Laws.{reflexive}
+use Rattle.cedar_types.proofs.base.type_laws.subtyping_is_reflexive.Goals as goal
+
+pub returns : goal.returns
+returns c = reflexive
