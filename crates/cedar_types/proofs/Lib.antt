@@ -13,3 +13,7 @@ pub mod BoundUpper
 pub mod BoundWellFormed
 pub mod FindAttrs
 pub mod Laws
+pub mod TypeOrder
+pub mod ErrorEquality
+pub mod FindingsDecided
+pub mod TypesDecided

@@ -16,3 +16,5 @@ pub mod ArgumentChecks
 pub mod Extensions
 pub mod Capability
 pub mod BoundLaws
+pub mod TypeOrder
+pub mod Errors

@@ -29,6 +29,8 @@ impl Clone for EntityLUB {
 }
 
 impl EntityLUB {
+    ghost use Rattle.std.specs.Map.Iter.{ShowsInOrder, deref};
+    ghost use Rattle.cedar_types.specs.declared.base.entities.EntityType.{EntityType};
     ghost use Rattle.std.specs.Prelude.{◌≡◌, [], ◌∷◌, IfOk, option_map, not};
     ghost use Rattle.std.specs.List.{list_any};
     ghost use Rattle.cedar_types.specs.Names.{type_of, path_eq};
@@ -67,7 +69,8 @@ impl EntityLUB {
 
     /// The types, in ascending order.
     pub fn iter(&self) -> btree_set::Iter<'_, EntityType>
-        ensures { result ≡ self.now.lub_elements.value.keys }
+        ensures rest { result ≡ self.now.lub_elements.value.keys }
+        ensures runs { ShowsInOrder (deref {X = EntityType}) }
     {
         self.lub_elements.iter()
     }

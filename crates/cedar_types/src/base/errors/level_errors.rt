@@ -1,0 +1,80 @@
+// Dereferences beyond a level, and what should not happen.
+use crate::base::errors::validation_errors::ValidationError;
+use crate::base::levels::EntityDerefLevel;
+use crate::base::location::Loc;
+use crate::base::policy_ids::PolicyID;
+use thiserror::Error;
+
+/// A policy dereferences entities at a level above the allowed one.
+#[derive(PartialEq, Eq, Hash, Debug, Drop, Error)]
+#[error("for policy `{policy_id}`, this policy requires level {actual_level}, which exceeds the maximum allowed level ({allowed_level})")]
+pub struct MaximumLevelExceeded {
+    pub source_loc: Option<Loc>,
+    pub policy_id: PolicyID,
+    pub allowed_level: EntityDerefLevel,
+    pub actual_level: EntityDerefLevel,
+}
+
+/// A policy dereferences an entity literal or a slot.
+#[derive(PartialEq, Eq, Hash, Debug, Drop, Error)]
+#[error("for policy `{policy_id}`, entity literals cannot be dereferenced at any level")]
+pub struct LiteralDereferenceTarget {
+    pub source_loc: Option<Loc>,
+    pub policy_id: PolicyID,
+}
+
+/// A form was met that a policy which was typed in Strict or in Permissive does not have.
+#[derive(PartialEq, Eq, Hash, Debug, Drop, Error)]
+#[error("for policy `{policy_id}`, internal invariant violated")]
+pub struct InternalInvariantViolation {
+    pub source_loc: Option<Loc>,
+    pub policy_id: PolicyID,
+}
+
+impl ValidationError {
+    ghost use Rattle.std.specs.Prelude.{◌≡◌};
+    ghost use Rattle.cedar_types.specs.Errors.{finding_of, found, maximum_level_exceeded, literal_dereference_target, internal_invariant_violation};
+
+    /// The error on a dereference above the allowed level.
+    pub fn maximum_level_exceeded(
+        source_loc: Option<Loc>,
+        policy_id: PolicyID,
+        allowed_level: EntityDerefLevel,
+        actual_level: EntityDerefLevel,
+    ) -> ValidationError
+        ensures { finding_of result ≡ found source_loc policy_id (maximum_level_exceeded allowed_level.level actual_level.level) }
+    {
+        ValidationError::MaximumLevelExceeded(MaximumLevelExceeded {
+            source_loc,
+            policy_id,
+            allowed_level,
+            actual_level,
+        })
+    }
+
+    /// The error on a dereference of a literal or of a slot.
+    pub fn literal_dereference_target(
+        source_loc: Option<Loc>,
+        policy_id: PolicyID,
+    ) -> ValidationError
+        ensures { finding_of result ≡ found source_loc policy_id literal_dereference_target }
+    {
+        ValidationError::LiteralDereferenceTarget(LiteralDereferenceTarget {
+            source_loc,
+            policy_id,
+        })
+    }
+
+    /// The error on a form that should not be met.
+    pub fn internal_invariant_violation(
+        source_loc: Option<Loc>,
+        policy_id: PolicyID,
+    ) -> ValidationError
+        ensures { finding_of result ≡ found source_loc policy_id internal_invariant_violation }
+    {
+        ValidationError::InternalInvariantViolation(InternalInvariantViolation {
+            source_loc,
+            policy_id,
+        })
+    }
+}

@@ -1,0 +1,82 @@
+// Warnings of validation.
+use crate::base::location::Loc;
+use crate::base::policy_ids::PolicyID;
+use thiserror::Error;
+
+/// A policy is false in every environment.
+#[derive(PartialEq, Eq, Hash, Debug, Drop, Error)]
+#[error("for policy `{policy_id}`, policy is impossible: it evaluates to false for every valid request")]
+pub struct ImpossiblePolicy {
+    pub source_loc: Option<Loc>,
+    pub policy_id: PolicyID,
+}
+
+/// No action fits the scope of a policy.
+#[derive(PartialEq, Eq, Hash, Debug, Drop, Error)]
+#[error("for policy `{policy_id}`, unable to find an applicable action given the policy scope constraints")]
+pub struct InvalidActionApplication {
+    pub source_loc: Option<Loc>,
+    pub policy_id: PolicyID,
+    /// Whether `in` in place of `==` might help for the principal.
+    pub would_in_fix_principal: bool,
+    /// The same for the resource.
+    pub would_in_fix_resource: bool,
+}
+
+/// What is likely a slip in a policy, with the policy's id and place.
+#[derive(PartialEq, Eq, Hash, Debug, Drop, Error)]
+pub enum ValidationWarning {
+    #[error(transparent)]
+    ImpossiblePolicy(ImpossiblePolicy),
+    #[error(transparent)]
+    InvalidActionApplication(InvalidActionApplication),
+}
+
+impl ValidationWarning {
+    ghost use Rattle.std.specs.Prelude.{◌≡◌, IsTrue, ◌↔◌};
+    ghost use Rattle.cedar_types.specs.Errors.{caution_of, noted, impossible_policy, invalid_action_application};
+
+    /// The warning on a policy that is false in every environment.
+    pub fn impossible_policy(source_loc: Option<Loc>, policy_id: PolicyID) -> ValidationWarning
+        ensures { caution_of result ≡ noted source_loc policy_id impossible_policy }
+    {
+        ValidationWarning::ImpossiblePolicy(ImpossiblePolicy {
+            source_loc,
+            policy_id,
+        })
+    }
+
+    /// The warning on a scope that no action fits.
+    pub fn invalid_action_application(
+        source_loc: Option<Loc>,
+        policy_id: PolicyID,
+        would_in_fix_principal: bool,
+        would_in_fix_resource: bool,
+    ) -> ValidationWarning
+        ensures { caution_of result ≡ noted source_loc policy_id (invalid_action_application would_in_fix_principal would_in_fix_resource) }
+    {
+        ValidationWarning::InvalidActionApplication(InvalidActionApplication {
+            source_loc,
+            policy_id,
+            would_in_fix_principal,
+            would_in_fix_resource,
+        })
+    }
+
+    /// Whether two warnings are one: the same at the same place of the same policy. It is what `==` says.
+    pub fn is_same_caution(&self, other: &ValidationWarning) -> bool
+        ensures { IsTrue result ↔ (caution_of self.now ≡ caution_of other.now) }
+    {
+        self == other
+    }
+
+    /// The place that the warning is about.
+    pub fn source_loc(&self) -> Option<Loc>
+        ensures { result ≡ (caution_of self.now).place }
+    {
+        match self {
+            ValidationWarning::ImpossiblePolicy(w) => w.source_loc,
+            ValidationWarning::InvalidActionApplication(w) => w.source_loc,
+        }
+    }
+}
