@@ -86,7 +86,7 @@ mark_is false true = refl
 mark_is false false = refl
 
 -- a type, one level deep
-abbrev tview : CedarType → Ty
+abbrev pub tview : CedarType → Ty
 tview T.Never = TNever
 tview (T.Bool k) = TBool k
 tview T.Long = TLong

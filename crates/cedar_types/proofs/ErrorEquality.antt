@@ -14,9 +14,9 @@ use Rattle.cedar_types.specs.contracts.base.entity_sets.EntityLUBPartialEq.TheIm
 use Rattle.cedar_types.specs.contracts.base.types.CedarTypePartialEq.TheImpl as type_impl
 use Rattle.cedar_types.specs.contracts.base.errors.validation_errors.ValidationErrorPartialEq.TheImpl as error_impl
 use Rattle.cedar_types.specs.contracts.base.errors.validation_warnings.ValidationWarningPartialEq.TheImpl as warning_impl
-use Rattle.cedar_types.specs.Names.{text_of, type_of}
+use Rattle.cedar_types.specs.Names.{text_of, type_of, text_eq, path_eq}
 use Rattle.cedar_types.specs.Types.{ty_of, lub_of}
-use Rattle.cedar_types.specs.Comparisons.{text_eq, path_eq, bool_eq, name_is, entity_type_is, uid_is}
+use Rattle.cedar_types.specs.Comparisons.{bool_eq, name_is, entity_type_is, uid_is}
 use Rattle.cedar_types.specs.Errors.{finding_of, caution_of}
 use Rattle.cedar_types.proofs.Equality.{types_same}
 use Rattle.cedar_types.proofs.FindingsDecided.{loc_eq, context_eq, tys_eq, paths_eq, finding_eq, caution_eq}
