@@ -17,3 +17,10 @@ pub mod TypeOrder
 pub mod ErrorEquality
 pub mod FindingsDecided
 pub mod TypesDecided
+pub mod Tests
+pub mod Ids
+pub mod Listings
+pub mod Faultless
+pub mod Memberships
+pub mod Places
+pub mod SchemaFaults

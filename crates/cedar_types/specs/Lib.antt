@@ -18,3 +18,13 @@ pub mod Capability
 pub mod BoundLaws
 pub mod TypeOrder
 pub mod Errors
+pub mod Stores
+pub mod Listings
+pub mod Tables
+pub mod Places
+pub mod SchemaContents
+pub mod Environments
+pub mod Values
+pub mod Declarations
+pub mod Schemas
+pub mod Lookups

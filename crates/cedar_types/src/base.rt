@@ -8,21 +8,37 @@ mod copies;
 mod entities;
 mod entity_sets;
 mod entity_unions;
+mod environments;
 mod errors;
 mod expressions;
 mod extensions;
+mod flat_bounds;
 pub mod laws;
 mod levels;
 mod literals;
 mod location;
+mod lookups;
+mod memberships;
 mod names;
 mod operators;
 mod patterns;
 mod policy_ids;
+mod record_parts;
+mod schema_action_tables;
+mod schema_actions;
+mod schema_closures;
+mod schema_entity_types;
+mod schema_environments;
+mod schema_errors;
+mod schema_faults;
+mod schema_queries;
+mod schema_type_tables;
+mod schemas;
 mod shapes;
 mod slots;
 mod subtypes;
 mod templates;
+mod type_faults;
 pub mod type_laws;
 mod type_sets;
 mod type_texts;
@@ -35,6 +51,7 @@ pub use constraints::{
 };
 pub use entities::{EntityType, EntityUID};
 pub use entity_sets::EntityLUB;
+pub use environments::UnlinkedRequestEnv;
 pub use errors::{
     EmptySetForbidden, FunctionArgumentValidation, ImpossiblePolicy, IncompatibleTypes,
     InternalInvariantViolation, InvalidActionApplication, InvalidEnumEntity,
@@ -50,10 +67,17 @@ pub use extensions::{
 pub use levels::EntityDerefLevel;
 pub use literals::Literal;
 pub use location::Loc;
+pub use memberships::memberships_are_allowed;
 pub use names::Name;
 pub use operators::{BinaryOp, UnaryOp, Var};
 pub use patterns::PatternElem;
 pub use policy_ids::PolicyID;
+pub use schema_actions::{ValidatorActionId, ValidatorActionKind, ValidatorApplySpec};
+pub use schema_entity_types::{
+    StandardValidatorEntityType, ValidatorEntityType, ValidatorEntityTypeKind,
+};
+pub use schema_errors::SchemaError;
+pub use schemas::ValidatorSchema;
 pub use shapes::ExprShapeOnly;
 pub use slots::{SlotEnv, SlotId};
 pub use templates::{Policy, Template};

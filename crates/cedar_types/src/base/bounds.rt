@@ -1,18 +1,19 @@
-// Least upper bounds of types, and what rests on them.
-ghost use Rattle.std.specs.Prelude.{◌≡◌, ◌++◌, ◌∷◌, [], ◌&&◌, ◌||◌, not, nat_eq, IfOk, OnOk, option_map, map};
-ghost use Rattle.std.specs.declared.cmp.Ordering.TheVariants.{Less};
-ghost use Rattle.std.specs.List.{AllByRecursion};
-ghost use Rattle.cedar_types.specs.Names.{text_of, text_cmp, text_eq};
-ghost use Rattle.cedar_types.specs.Types.{ty_of, lub_of, attributes_of, entries_of, texts_of, join_attrs, attr, no_attrs, TRecord, is_open_tag};
-ghost use Rattle.cedar_types.specs.Bounds.{lub, apart_lub, ty_eq, is_never as is_never_type, bool_lub, entity_lub, union, mark_eq, both_attrs, common_attrs, record_lub, is_strict as is_strict_mode, fold_lub, list_lub, is_subtype, are_disjoint, share_member};
+// Least upper bounds of types.
+ghost use Rattle.std.specs.Prelude.{◌≡◌, IfOk, option_map};
+ghost use Rattle.cedar_types.specs.Types.{ty_of, attributes_of, entries_of, TRecord, is_open_tag};
+ghost use Rattle.cedar_types.specs.Bounds.{lub, lub_by, apart_lub, set_lub, both_attrs, common_attrs, record_lub};
 
-use crate::base::entities::EntityType;
-use crate::base::entity_sets::EntityLUB;
+use crate::base::flat_bounds::{
+    any_entity_bound, any_set_bound, bool_bound, entity_bound, is_never, is_same, is_strict,
+};
+use crate::base::record_parts::{
+    both, is_open, is_same_attribute, push_attribute, record_type, wide_tag,
+};
 use crate::base::types::{
-    AttributeType, Attributes, BoolType, CedarType, EntityKind, OpenTag, ValidationMode,
+    AttributeType, Attributes, CedarType, EntityKind, OpenTag, ValidationMode,
 };
 use std::alloc::{AllocError, Global};
-use std::collections::{BTreeMap, BTreeSet};
+use std::collections::BTreeMap;
 use std::rc::{Rc, RcStr};
 
 impl CedarType {
@@ -29,6 +30,7 @@ impl CedarType {
     }
 }
 
+/// The bound of two types.
 #[cycle(bound)]
 fn bound(
     alloc: Global,
@@ -44,22 +46,6 @@ fn bound(
     bound_apart(alloc, ty0, ty1, mode)
 }
 
-/// Whether two types are equal.
-pub(crate) fn is_same(ty0: &CedarType, ty1: &CedarType) -> bool
-    ensures { result ≡ ty_eq (ty_of ty0.now) (ty_of ty1.now) }
-{
-    *ty0 == *ty1
-}
-
-fn is_never(ty: &CedarType) -> bool
-    ensures { result ≡ is_never_type (ty_of ty.now) }
-{
-    match ty {
-        CedarType::Never => true,
-        _ => false,
-    }
-}
-
 /// The bound of a type with one that differs from it and is not Never.
 #[cycle(bound)]
 fn bound_apart(
@@ -72,140 +58,75 @@ fn bound_apart(
 {
     match ty0 {
         CedarType::Never => Ok(Some(ty1.clone()?)),
-        CedarType::Bool(_) => match ty1 {
-            CedarType::Bool(_) => Ok(Some(CedarType::Bool(BoolType::AnyBool))),
-            CedarType::Never
-            | CedarType::Long
-            | CedarType::String
-            | CedarType::Set(_)
-            | CedarType::AnySet
-            | CedarType::Record { .. }
-            | CedarType::Entity(_)
-            | CedarType::Extension(_) => Ok(None),
-        },
-        CedarType::Set(s) => match ty1 {
-            CedarType::Set(t) => match bound(alloc, s, t, mode)? {
-                Some(u) => Ok(Some(CedarType::Set(Rc::new(alloc, u)?))),
-                None => Ok(None),
-            },
-            CedarType::AnySet => Ok(Some(CedarType::AnySet)),
-            CedarType::Never
-            | CedarType::Bool(_)
-            | CedarType::Long
-            | CedarType::String
-            | CedarType::Record { .. }
-            | CedarType::Entity(_)
-            | CedarType::Extension(_) => Ok(None),
-        },
-        CedarType::AnySet => match ty1 {
-            CedarType::Set(_) => Ok(Some(CedarType::AnySet)),
-            CedarType::Never
-            | CedarType::Bool(_)
-            | CedarType::Long
-            | CedarType::String
-            | CedarType::AnySet
-            | CedarType::Record { .. }
-            | CedarType::Entity(_)
-            | CedarType::Extension(_) => Ok(None),
-        },
+        CedarType::Bool(_) => Ok(bool_bound(ty1)),
+        CedarType::Set(element) => set_bound(alloc, element, ty1, mode),
+        CedarType::AnySet => Ok(any_set_bound(ty1)),
         CedarType::Record {
-            attributes: xs,
-            is_open: o,
-        } => match ty1 {
-            CedarType::Record {
-                attributes: ys,
-                is_open: p,
-            } => record_bound(alloc, xs, *o, ys, *p, mode),
-            CedarType::Never
-            | CedarType::Bool(_)
-            | CedarType::Long
-            | CedarType::String
-            | CedarType::Set(_)
-            | CedarType::AnySet
-            | CedarType::Entity(_)
-            | CedarType::Extension(_) => Ok(None),
-        },
-        CedarType::Entity(EntityKind::Entity(xs)) => entity_bound(alloc, xs, ty1, mode),
-        CedarType::Entity(EntityKind::AnyEntity) => match ty1 {
-            CedarType::Entity(EntityKind::Entity(_)) => {
-                Ok(Some(CedarType::Entity(EntityKind::AnyEntity)))
-            }
-            CedarType::Entity(EntityKind::AnyEntity)
-            | CedarType::Never
-            | CedarType::Bool(_)
-            | CedarType::Long
-            | CedarType::String
-            | CedarType::Set(_)
-            | CedarType::AnySet
-            | CedarType::Record { .. }
-            | CedarType::Extension(_) => Ok(None),
-        },
+            attributes,
+            is_open,
+        } => record_bound(alloc, attributes, *is_open, ty1, mode),
+        CedarType::Entity(EntityKind::Entity(types)) => entity_bound(alloc, types, ty1, mode),
+        CedarType::Entity(EntityKind::AnyEntity) => Ok(any_entity_bound(ty1)),
         CedarType::Long | CedarType::String | CedarType::Extension(_) => Ok(None),
     }
 }
 
-/// The bound of some entity types with a type that differs from them and is not Never.
-fn entity_bound(
+/// The bound of a set with a type that differs from it and is not Never.
+#[cycle(bound)]
+fn set_bound(
     alloc: Global,
-    xs: &EntityLUB,
+    element: &CedarType,
     ty: &CedarType,
     mode: ValidationMode,
 ) -> Result<Option<CedarType>, AllocError>
-    ensures { IfOk result (λ o. option_map ty_of o ≡ entity_lub mode (lub_of xs.now) (ty_of ty.now)) }
+    ensures { IfOk result (λ o. option_map ty_of o ≡ set_lub (lub_by (apart_lub mode (ty_of element.now)) (ty_of element.now)) (ty_of ty.now)) }
 {
     match ty {
-        CedarType::Entity(EntityKind::AnyEntity) => {
-            Ok(Some(CedarType::Entity(EntityKind::AnyEntity)))
-        }
-        CedarType::Entity(EntityKind::Entity(ys)) => {
-            if is_strict(mode) {
-                return Ok(None);
-            }
-            let all = xs.least_upper_bound(alloc, ys)?;
-            Ok(Some(CedarType::Entity(EntityKind::Entity(all))))
-        }
+        CedarType::Set(other) => match bound(alloc, element, other, mode)? {
+            Some(u) => Ok(Some(CedarType::Set(Rc::new(alloc, u)?))),
+            None => Ok(None),
+        },
+        CedarType::AnySet => Ok(Some(CedarType::AnySet)),
+        CedarType::Never
+        | CedarType::Bool(_)
+        | CedarType::Long
+        | CedarType::String
+        | CedarType::Record { .. }
+        | CedarType::Entity(_)
+        | CedarType::Extension(_) => Ok(None),
+    }
+}
+
+/// The bound of a record with a type that differs from it and is not Never.
+#[cycle(bound)]
+fn record_bound(
+    alloc: Global,
+    xs: &Attributes,
+    o: OpenTag,
+    ty: &CedarType,
+    mode: ValidationMode,
+) -> Result<Option<CedarType>, AllocError>
+    ensures { IfOk result (λ r. option_map ty_of r ≡ record_lub mode (attributes_of xs.now) (is_open_tag o) (both_attrs mode (attributes_of xs.now)) (common_attrs mode (attributes_of xs.now)) (ty_of ty.now)) }
+{
+    match ty {
+        CedarType::Record {
+            attributes: ys,
+            is_open: p,
+        } => records_bound(alloc, xs, o, ys, *p, mode),
         CedarType::Never
         | CedarType::Bool(_)
         | CedarType::Long
         | CedarType::String
         | CedarType::Set(_)
         | CedarType::AnySet
-        | CedarType::Record { .. }
+        | CedarType::Entity(_)
         | CedarType::Extension(_) => Ok(None),
-    }
-}
-
-fn is_strict(mode: ValidationMode) -> bool
-    ensures { result ≡ is_strict_mode mode }
-{
-    match mode {
-        ValidationMode::Strict => true,
-        ValidationMode::Permissive | ValidationMode::Partial => false,
-    }
-}
-
-fn is_open(tag: OpenTag) -> bool
-    ensures { result ≡ is_open_tag tag }
-{
-    match tag {
-        OpenTag::OpenAttributes => true,
-        OpenTag::ClosedAttributes => false,
-    }
-}
-
-fn open_tag(is_open: bool) -> OpenTag
-    ensures { is_open_tag result ≡ is_open }
-{
-    if is_open {
-        OpenTag::OpenAttributes
-    } else {
-        OpenTag::ClosedAttributes
     }
 }
 
 /// The bound of two different records.
 #[cycle(bound)]
-fn record_bound(
+fn records_bound(
     alloc: Global,
     xs: &Attributes,
     o: OpenTag,
@@ -228,41 +149,6 @@ fn record_bound(
         let tag = wide_tag(o, p, xs.attrs.len(), ys.attrs.len(), all.len());
         Ok(Some(record_type(alloc, all, tag)?))
     }
-}
-
-/// Whether a record is open that has so many attributes of two others.
-fn wide_tag(o: OpenTag, p: OpenTag, xs: usize, ys: usize, all: usize) -> OpenTag
-    ensures { is_open_tag result ≡ (is_open_tag o || is_open_tag p || not (nat_eq all xs && nat_eq all ys)) }
-{
-    open_tag(is_open(o) || is_open(p) || !(all == xs && all == ys))
-}
-
-fn is_same_attribute(k: &RcStr, r: bool, l: &RcStr, q: bool) -> bool
-    ensures { result ≡ (text_eq (text_of k.now) (text_of l.now) && mark_eq r q) }
-{
-    *k == *l && r == q
-}
-
-fn both(a: bool, b: bool) -> bool
-    ensures { result ≡ (a && b) }
-{
-    a && b
-}
-
-fn record_type(
-    alloc: Global,
-    all: BTreeMap<RcStr, AttributeType>,
-    is_open: OpenTag,
-) -> Result<CedarType, AllocError>
-    ensures { IfOk result (λ t. ty_of t ≡ TRecord (entries_of all.entries) (is_open_tag is_open)) }
-{
-    let attributes = Attributes {
-        attrs: Rc::new(alloc, all)?,
-    };
-    Ok(CedarType::Record {
-        attributes,
-        is_open,
-    })
 }
 
 /// The attributes of the bound of two closed records in Strict, if each has a bound.
@@ -314,25 +200,4 @@ fn common_attributes(
         }
     }
     Ok(all)
-}
-
-/// Adds an attribute whose name is above those that are there.
-fn push_attribute(
-    all: &mut BTreeMap<RcStr, AttributeType>,
-    key: &RcStr,
-    attr_type: CedarType,
-    is_required: bool,
-) -> Result<(), AllocError>
-    requires { AllByRecursion (λ k. text_cmp k (text_of key.now) ≡ Less) (texts_of all.old.entries) }
-    ensures attributes { OnOk result (entries_of all.new.entries ≡ join_attrs (entries_of all.old.entries) (attr (text_of key.now) (ty_of attr_type) is_required no_attrs)) }
-    ensures names { OnOk result (texts_of all.new.entries ≡ texts_of all.old.entries ++ text_of key.now ∷ []) }
-{
-    all.insert(
-        key.clone()?,
-        AttributeType {
-            attr_type,
-            is_required,
-        },
-    )?;
-    Ok(())
 }

@@ -3,7 +3,7 @@ ghost use Rattle.std.specs.Prelude.{◌≡◌, IfOk, option_map, map};
 ghost use Rattle.cedar_types.specs.Types.{ty_of, lub_of};
 ghost use Rattle.cedar_types.specs.Bounds.{fold_lub, list_lub, is_subtype, are_disjoint};
 
-use crate::base::bounds::is_same;
+use crate::base::flat_bounds::is_same;
 use crate::base::types::{CedarType, EntityKind, ValidationMode};
 use std::alloc::{AllocError, Global};
 

@@ -79,8 +79,8 @@ common_attributes-loop-key-preserved-in-Continue-branch-3 t c = record {
   ascends = ascends_on (texts_of c.loop-key.all.entries) _ (text_of c.in-Some.key.now) (texts_of c.next.new.self) c.in_ok-push_attribute.ensures.names (subst (λ es. Ascends (texts_of c.loop-key.all.entries ++ texts_of es)) c.in-Some.ensures.steps c.loop-key.invariant.ascends);
 }
 
-pub record_bound-returns-in_ok-record_type : goal.record_bound-returns-in_ok-record_type
-record_bound-returns-in_ok-record_type t c =
+pub records_bound-returns-in_ok-record_type : goal.records_bound-returns-in_ok-record_type
+records_bound-returns-in_ok-record_type t c =
     ap Some c.in_ok-record_type.ensures
     ∙ wide_here c.args.mode (attributes_of c.args.xs.now) (attributes_of c.args.ys.now) (entries_of c.in_ok-all-2.all.entries) (is_open_tag c.args.o) (is_open_tag c.args.p) _ (both_attrs c.args.mode (attributes_of c.args.xs.now))
     (sym c.is_strict.ensures ∙ c.if-is_strict.false) _ _ _

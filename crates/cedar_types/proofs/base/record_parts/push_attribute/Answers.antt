@@ -1,7 +1,7 @@
 use Rattle.std.proofs.Common.{ap, ◌∙◌}
 use Rattle.cedar_types.specs.Types.{texts_of, entries_of}
 use Rattle.cedar_types.proofs.Records.{pushed_attrs, pushed_texts}
-use Rattle.cedar_types.proofs.base.bounds.push_attribute.Goals as goal
+use Rattle.cedar_types.proofs.base.record_parts.push_attribute.Goals as goal
 
 pub returns-clause-attributes : goal.returns-clause-attributes
 returns-clause-attributes c = ap entries_of c.in_ok-insert.ensures.entries ∙ pushed_attrs c.args.all.now.entries c.in_ok-clone.field-0 _ _ c.in_ok-clone.ensures.cases c.requires
