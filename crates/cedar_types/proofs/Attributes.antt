@@ -11,7 +11,7 @@ use Rattle.cedar_types.specs.declared.base.types.CedarType.{fold-roll-CedarType}
 use Rattle.cedar_types.specs.declared.base.types.CedarType.TheOpen as layer
 use Rattle.cedar_types.specs.declared.base.types.CedarType.TheVariants.{Record, rolls-Record}
 use Rattle.cedar_types.specs.Names.{text_of}
-use Rattle.cedar_types.specs.Types.{TRecord, is_open_tag, Ty, Attrs, attr, no_attrs, ty_step, attribute_step, attributes_step, ty_of, attribute_of, attributes_of, attrs_of, entries_of}
+use Rattle.cedar_types.specs.Types.{TRecord, is_open_tag, Ty, Attrs, attr, ty_step, attribute_step, attributes_step, ty_of, attribute_of, attributes_of, attrs_of, entries_of}
 
 on_values : (es : List (RcStr Global × AttributeType)) → attrs_of (map (λ e. (e.0, attribute_of e.1)) es) ≡ entries_of es
 on_values [] = refl

@@ -1,5 +1,5 @@
 -- The bound of well-formed types is an upper bound, and well-formed.
-use Rattle.std.proofs.Common.{◌≡◌, refl, sym, ap, ◌∙◌, subst, ℕ, Bool, true, false, ◌&&◌, ◌||◌, not, nat_eq, List, [], ◌∷◌, true≢false, Option, Some, None, option_map, if◌then◌else◌}
+use Rattle.std.proofs.Common.{◌≡◌, refl, sym, ap, ◌∙◌, subst, Bool, true, false, ◌&&◌, ◌||◌, not, nat_eq, List, Option, Some, None, option_map, if◌then◌else◌}
 use Rattle.std.specs.Cmp.Lexicographic.{pointwise}
 use borrow.Author.Tests.{eq-eqb}
 use Rattle.cedar_types.specs.declared.base.types.BoolType.{BoolType}
@@ -8,10 +8,10 @@ use Rattle.cedar_types.specs.declared.base.types.ValidationMode.{ValidationMode}
 use Rattle.cedar_types.specs.Names.{Text, Path, text_eq, path_eq}
 use Rattle.cedar_types.specs.Ascending.{has_members, paths_ascending}
 use Rattle.cedar_types.specs.Types.{Ty, TNever, TBool, TLong, TString, TSet, TAnySet, TRecord, TEntity, TAnyEntity, TExtension, Attrs, no_attrs, attr, is_well_formed, are_well_formed}
-use Rattle.cedar_types.specs.Bounds.{attr_count, mark_eq, ty_eq, attrs_eq, find_attr, union, is_strict, lub, closed_lub, wide_lub, with_both, both_attrs, common_attrs}
-use Rattle.cedar_types.proofs.SameTypes.{and_left, and_right, and_both, ty_to, paths_decide, text_itself, mark_itself, path_itself}
-use Rattle.cedar_types.proofs.Unions.{union_absorbs, union_ascends, has_union, has, has_first}
-use Rattle.cedar_types.proofs.FindAttrs.{names_ascend, same_look_ups, AllTypes, found_type, all_well_formed}
+use Rattle.cedar_types.specs.Bounds.{attr_count, mark_eq, ty_eq, find_attr, union, is_strict, lub, closed_lub, wide_lub, with_both, both_attrs, common_attrs}
+use Rattle.cedar_types.proofs.SameTypes.{and_left, and_right, and_both, text_itself, mark_itself}
+use Rattle.cedar_types.proofs.Unions.{union_absorbs}
+use Rattle.cedar_types.proofs.FindAttrs.{names_ascend, same_look_ups, AllTypes, found_type}
 use Rattle.cedar_types.proofs.BoundSteps.{lub_same, lub_equal, never_left, never_right, set_is, entity_wide, entity_strict, both_found, find_common, common_ascends, record_wide, record_strict}
 
 -- what bounds of s with well-formed types are: bounds of s with themselves

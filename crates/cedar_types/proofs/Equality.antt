@@ -1,7 +1,6 @@
 -- Equality of types in the program is equality of plain types.
-use Rattle.std.proofs.Common.{◌≡◌, refl, sym, ap, ◌∙◌, subst, Bool, true, false, ◌&&◌, List, [], ◌∷◌, map}
+use Rattle.std.proofs.Common.{◌≡◌, refl, sym, ◌∙◌, subst, Bool, true, false, ◌&&◌, List, [], ◌∷◌, map}
 use Rattle.std.specs.Cmp.Lexicographic.{pointwise}
-use Rattle.std.specs.Cmp.Derive.Mapped.{pointwise-map}
 use Rattle.std.specs.Map.{values_of}
 use Rattle.std.specs.declared.alloc.Global.{Global}
 use Rattle.std.specs.declared.rc.RcStr.{RcStr}
@@ -33,7 +32,7 @@ use Rattle.cedar_types.specs.declared.base.types.EntityKind.{EntityKind}
 use Rattle.cedar_types.specs.declared.base.types.EntityKind.TheVariants as kind
 use mathlib.Core.Bool.{beq}
 use Rattle.cedar_types.specs.Names.{path_of, type_of, text_of, text_eq, path_eq}
-use Rattle.cedar_types.specs.Types.{Ty, TNever, TBool, TLong, TString, TSet, TAnySet, TRecord, TEntity, TAnyEntity, TExtension, Attrs, is_open_tag, kind_of, ty_step, attribute_step, attributes_step, ty_of, attribute_of, attributes_of, entries_of}
+use Rattle.cedar_types.specs.Types.{Ty, TNever, TBool, TLong, TString, TSet, TAnySet, TRecord, TExtension, Attrs, is_open_tag, kind_of, ty_step, attribute_step, attributes_step, ty_of, attribute_of, attributes_of, entries_of}
 use Rattle.cedar_types.specs.Bounds.{kind_eq, mark_eq, ty_eq, attrs_eq}
 use Rattle.cedar_types.proofs.Paths.{names_eq}
 use Rattle.cedar_types.proofs.Attributes.{attributes_are}

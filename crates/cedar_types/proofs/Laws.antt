@@ -1,8 +1,7 @@
 -- The laws of bounds and subtypes.
-use Rattle.std.proofs.Common.{◌≡◌, refl, sym, ap, ◌∙◌, subst, Bool, true, false, true≢false, Option, Some, None}
-use Rattle.cedar_types.specs.declared.base.types.ValidationMode.{ValidationMode}
-use Rattle.cedar_types.specs.Types.{Ty, is_well_formed}
-use Rattle.cedar_types.specs.Bounds.{ty_eq, lub, is_just, is_subtype}
+use Rattle.std.proofs.Common.{◌≡◌, sym, ap, ◌∙◌, true, true≢false, Option, Some, None}
+use Rattle.cedar_types.specs.Types.{Ty}
+use Rattle.cedar_types.specs.Bounds.{lub, is_just}
 use Rattle.cedar_types.specs.BoundLaws.{BoundIsIdempotent, BoundIsSymmetric, BoundIsUpper, BoundKeepsForm, SubtypingIsReflexive, SubtypingIsTransitive, SubtypeIsByBound}
 use Rattle.cedar_types.proofs.SameTypes.{ty_to, ty_itself}
 use Rattle.cedar_types.proofs.BoundSteps.{lub_same}

@@ -1,9 +1,8 @@
 -- Names: their order and their equality.
-use Rattle.std.proofs.Common.{◌≡◌, refl, sym, ap, ◌∙◌, Bool, true, false, ℕ, length, arith, ◌&&◌, ◌||◌, List, [], ◌∷◌, map}
+use Rattle.std.proofs.Common.{◌≡◌, refl, sym, ap, ◌∙◌, Bool, true, ℕ, length, ◌&&◌, ◌||◌, List, [], ◌∷◌, map}
 use Rattle.std.specs.declared.cmp.Ordering.{Ordering}
 use Rattle.std.specs.declared.cmp.Ordering.TheVariants.{Less, Equal, Greater}
 use Rattle.std.specs.Ordering.{ordering_then, is_eq, is_lt, match_ordering}
-use Rattle.std.specs.Cmp.{both_tied}
 use Rattle.std.specs.Cmp.Lexicographic.{slice_cmp, pointwise, texts_ties, lists_ties}
 use Rattle.std.specs.Cmp.Derive.Mapped.{pointwise-map, lex_map}
 use Rattle.std.specs.BTreeSet.{insert_key}
@@ -12,7 +11,7 @@ use Rattle.std.specs.List.Sorted.{IsStrictlySortedBy}
 use Rattle.cedar_types.specs.declared.base.names.Name.{Name}
 use Rattle.cedar_types.specs.declared.base.entities.EntityType.{EntityType}
 use Rattle.cedar_types.specs.Names.{Path, text_of, path_of, type_of, placed_type, text_cmp, path_cmp, text_eq, path_eq}
-use Rattle.cedar_types.specs.Ascending.{has_members, types_ascend, paths_ascending}
+use Rattle.cedar_types.specs.Ascending.{has_members, types_ascend}
 use Rattle.cedar_types.specs.Bounds.{insert_path}
 
 pub names_eq : (a b : Name) → (pointwise (λ x y. text_eq (text_of x) (text_of y)) a.path.items b.path.items && text_eq (text_of a.basename) (text_of b.basename)) ≡ path_eq (path_of a) (path_of b)

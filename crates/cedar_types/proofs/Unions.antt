@@ -1,13 +1,13 @@
 -- Ascending names, and their unions.
-use Rattle.std.proofs.Common.{◌≡◌, ◌⊎◌, inl, inr, refl, sym, ap, ◌∙◌, subst, Bool, true, false, ◌&&◌, ◌||◌, List, [], ◌∷◌, true≢false}
+use Rattle.std.proofs.Common.{◌≡◌, ◌⊎◌, inl, inr, refl, sym, ap, ◌∙◌, subst, Bool, true, false, ◌||◌, List, [], ◌∷◌, true≢false}
 use Rattle.std.specs.declared.cmp.Ordering.{Ordering}
 use Rattle.std.specs.declared.cmp.Ordering.TheVariants.{Less, Equal, Greater}
 use Rattle.std.specs.Ordering.{is_lt, is_eq, ordering_reverse, match_ordering}
-use Rattle.std.specs.Cmp.{IsTotalOrder, on_total, then_total, tied_itself, Equal-is}
+use Rattle.std.specs.Cmp.{IsTotalOrder, on_total, then_total, tied_itself}
 use Rattle.std.specs.Cmp.Lexicographic.{nat_list_cmp_total, lists_total}
 use Rattle.std.specs.List.{list_all, list_any}
-use Rattle.cedar_types.specs.Names.{Text, Path, text_cmp, path_cmp, path_eq}
-use Rattle.cedar_types.specs.Ascending.{is_ascending, paths_ascending}
+use Rattle.cedar_types.specs.Names.{Path, path_cmp, path_eq}
+use Rattle.cedar_types.specs.Ascending.{paths_ascending}
 use Rattle.cedar_types.specs.Bounds.{insert_path, union}
 use Rattle.cedar_types.proofs.Paths.{path_ties}
 use Rattle.cedar_types.proofs.SameTypes.{and_left, and_right, and_both, path_to, path_itself}

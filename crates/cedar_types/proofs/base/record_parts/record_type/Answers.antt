@@ -1,4 +1,4 @@
-use Rattle.std.proofs.Common.{ap, ◌∙◌, sym, rules}
+use Rattle.std.proofs.Common.{ap, ◌∙◌}
 use Rattle.cedar_types.specs.Types.{TRecord, entries_of, is_open_tag}
 use Rattle.cedar_types.proofs.Attributes.{attributes_made, record_is}
 use Rattle.cedar_types.proofs.base.record_parts.record_type.Goals as goal

@@ -1,4 +1,4 @@
-use Rattle.std.proofs.Common.{◌≡◌, true, ◌&&◌}
+use Rattle.std.proofs.Common.{◌≡◌}
 use Rattle.cedar_types.specs.Types.{attributes_of, entries_of, are_well_formed}
 use Rattle.cedar_types.proofs.base.type_laws.+form.Given as goal
 

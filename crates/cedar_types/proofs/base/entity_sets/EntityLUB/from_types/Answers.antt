@@ -1,4 +1,4 @@
-use Rattle.std.proofs.Common.{◌≡◌, ◌∙◌, ap, true}
+use Rattle.std.proofs.Common.{◌∙◌, ap}
 use Rattle.cedar_types.specs.Ascending.{has_members, types_ascend}
 use Rattle.cedar_types.proofs.Paths.{ascend, has_one, names_cmp}
 use Rattle.cedar_types.proofs.base.entity_sets.EntityLUB.from_types.Goals as goal
