@@ -16,19 +16,9 @@ mod extensions;
 #[cfg(test)]
 mod levels;
 #[cfg(test)]
-mod lookups;
-#[cfg(test)]
 mod make;
 #[cfg(test)]
-mod memberships;
-#[cfg(test)]
 mod names;
-#[cfg(test)]
-mod schema_faults;
-#[cfg(test)]
-mod schema_fixtures;
-#[cfg(test)]
-mod schema_queries;
 #[cfg(test)]
 mod shapes;
 #[cfg(test)]
