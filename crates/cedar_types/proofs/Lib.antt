@@ -24,3 +24,6 @@ pub mod Faultless
 pub mod Memberships
 pub mod Places
 pub mod SchemaFaults
+pub mod Slots
+pub mod KeptEnvironments
+pub mod Members

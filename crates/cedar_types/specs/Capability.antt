@@ -45,12 +45,12 @@ unfoldable pub caps : CapabilitySet → Cap → Bool
 caps s = among s.set.keys
 
 -- the set has nothing
-abbrev pub IsNone : (Cap → Bool) → Type 0
-IsNone f = (q : Cap) → f q ≡ false
+abbrev pub HasNone : (Cap → Bool) → Type 0
+HasNone f = (q : Cap) → f q ≡ false
 
 -- it has c alone
-abbrev pub IsJust : Cap → (Cap → Bool) → Type 0
-IsJust c f = (q : Cap) → f q ≡ cap_eq q c
+abbrev pub HasJust : Cap → (Cap → Bool) → Type 0
+HasJust c f = (q : Cap) → f q ≡ cap_eq q c
 
 -- h has what either has, or what both have, or what f has
 abbrev pub IsUnionOf : (Cap → Bool) → (Cap → Bool) → (Cap → Bool) → Type 0

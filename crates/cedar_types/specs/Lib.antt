@@ -28,3 +28,4 @@ pub mod Values
 pub mod Declarations
 pub mod Schemas
 pub mod Lookups
+pub mod RequestEnvs

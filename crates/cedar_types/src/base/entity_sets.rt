@@ -46,10 +46,7 @@ impl EntityLUB {
     {
         let mut types = BTreeSet::new(alloc);
         types.insert(entity_type_name)?;
-        match EntityLUB::from_types(alloc, types)? {
-            Some(lub) => Ok(lub),
-            None => Err(AllocError),
-        }
+        EntityLUB::of_members(alloc, types)
     }
 
     /// The set of these types, if there is one.
@@ -62,9 +59,17 @@ impl EntityLUB {
         if types.len() == 0 {
             return Ok(None);
         }
-        Ok(Some(EntityLUB {
+        Ok(Some(EntityLUB::of_members(alloc, types)?))
+    }
+
+    fn of_members(alloc: Global, types: BTreeSet<EntityType>) -> Result<EntityLUB, AllocError>
+        requires { has_members types.keys ≡ true }
+        ensures { IfOk result (λ s. lub_of s ≡ types_of types) }
+    {
+        prove!(types.len() > 0);
+        Ok(EntityLUB {
             lub_elements: Rc::new(alloc, types)?,
-        }))
+        })
     }
 
     /// The types, in ascending order.
@@ -103,10 +108,7 @@ impl EntityLUB {
         ensures { IfOk result (λ s. lub_of s ≡ union (lub_of self.now) (lub_of other.now)) }
     {
         let all = union_of(&self.lub_elements, &other.lub_elements)?;
-        match EntityLUB::from_types(alloc, all)? {
-            Some(lub) => Ok(lub),
-            None => Err(AllocError),
-        }
+        EntityLUB::of_members(alloc, all)
     }
 
     /// Whether no type is in both.

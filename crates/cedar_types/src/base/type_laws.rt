@@ -3,6 +3,7 @@ ghost use Rattle.std.specs.Prelude.{◌≡◌, IsTrue, ◌↔◌, true};
 ghost use Rattle.std.specs.declared.cmp.Ordering.TheVariants.{Equal};
 ghost use Rattle.cedar_types.specs.Types.{ty_of, attributes_of, attr_names, is_well_formed, are_well_formed};
 ghost use Rattle.cedar_types.specs.Ascending.{texts_ascending};
+ghost use Rattle.cedar_types.specs.TypeOrder.{ty_cmp};
 ghost use Rattle.cedar_types.specs.BoundLaws.{BoundIsIdempotent, BoundIsSymmetric, BoundIsUpper, BoundKeepsForm, SubtypingIsReflexive, SubtypingIsTransitive, SubtypeIsByBound};
 
 use crate::base::types::{Attributes, CedarType};
@@ -50,9 +51,11 @@ pub fn equal_types(ty0: &CedarType, ty1: &CedarType) -> bool
     *ty0 == *ty1
 }
 
-/// The order does not tell two types apart exactly where they are the same plain type.
+/// Types are ordered by their kind and then by their parts, and two are equal in that order exactly where they are the
+/// same plain type.
 pub fn compare_types(ty0: &CedarType, ty1: &CedarType) -> Ordering
-    ensures { (result ≡ Equal) ↔ (ty_of ty0.now ≡ ty_of ty1.now) }
+    ensures order { result ≡ ty_cmp (ty_of ty0.now) (ty_of ty1.now) }
+    ensures equality { (result ≡ Equal) ↔ (ty_of ty0.now ≡ ty_of ty1.now) }
 {
     ty0.cmp(ty1)
 }

@@ -2,7 +2,7 @@
 ghost use Rattle.std.specs.Prelude.{◌≡◌, IfOk, OnOk};
 ghost use Rattle.cedar_types.specs.Names.{text_of};
 ghost use Rattle.cedar_types.specs.View.{shape};
-ghost use Rattle.cedar_types.specs.Capability.{attribute, tag, cap_of, known_of, caps, IsNone, IsJust, IsUnionOf, IsIntersectionOf, IsSame};
+ghost use Rattle.cedar_types.specs.Capability.{attribute, tag, cap_of, known_of, caps, HasNone, HasJust, IsUnionOf, IsIntersectionOf, IsSame};
 
 use crate::base::{Expr, ExprShapeOnly};
 use std::alloc::{AllocError, Global};
@@ -93,7 +93,7 @@ pub struct CapabilitySet<'a> {
 impl<'a> CapabilitySet<'a> {
     /// The empty set. It takes no memory.
     pub fn new(alloc: Global) -> CapabilitySet<'a>
-        ensures { IsNone (caps result) }
+        ensures { HasNone (caps result) }
     {
         CapabilitySet {
             set: BTreeSet::new(alloc),
@@ -102,7 +102,7 @@ impl<'a> CapabilitySet<'a> {
 
     /// The set of this one.
     pub fn singleton(alloc: Global, c: Capability<'a>) -> Result<CapabilitySet<'a>, AllocError>
-        ensures { IfOk result (λ r. IsJust (cap_of c.entry) (caps r)) }
+        ensures { IfOk result (λ r. HasJust (cap_of c.entry) (caps r)) }
     {
         let mut set = BTreeSet::new(alloc);
         set.insert(c)?;

@@ -1,11 +1,24 @@
-// Laws of capabilities, each on a function that does nothing.
+// Laws of capabilities and of environments, each on a function that does nothing.
 ghost use Rattle.std.specs.Prelude.{◌≡◌, ◌↔◌, IsTrue};
 ghost use Rattle.std.specs.Ordering.{is_eq};
 ghost use Rattle.cedar_types.specs.Capability.{cap_of, capability_eq, capability_cmp};
+ghost use Rattle.cedar_types.specs.RequestEnvs.{linked, request_in};
+ghost use Rattle.std.specs.Prelude.{Option};
+ghost use Rattle.cedar_types.specs.declared.base.entities.EntityType.{EntityType};
 ghost use Rattle.cedar_types.specs.declared.types.capability.Capability.{Capability};
+ghost use Rattle.cedar_types.specs.declared.types.request_env.RequestEnv.{RequestEnv};
+ghost use Rattle.cedar_types.specs.declared.types.request_env.RequestEnv.TheVariants.{UndeclaredAction};
 
 /// Capabilities are equal exactly where they say the same of the same shape, and their order calls equal exactly those.
 pub fn comparisons_of_capabilities()
     ensures equality { (c d : Capability) → IsTrue (capability_eq c d) ↔ (cap_of c ≡ cap_of d) }
     ensures order { (c d : Capability) → is_eq (capability_cmp c d) ≡ capability_eq c d }
+{}
+
+/// Linking twice is the last linking, what requests are about does not depend on slots, and the environment of undeclared
+/// actions stays as it is.
+pub fn linking_of_slots()
+    ensures twice { (e : RequestEnv) (p q r s : Option EntityType) → linked (linked e p q) r s ≡ linked e r s }
+    ensures requests { (e : RequestEnv) (p q : Option EntityType) → request_in (linked e p q) ≡ request_in e }
+    ensures undeclared { (p q : Option EntityType) → linked UndeclaredAction p q ≡ UndeclaredAction }
 {}

@@ -6,10 +6,14 @@ use Rattle.cedar_types.specs.contracts.base.types.CedarTypeOrd.TheImpl.Laws as o
 use Rattle.cedar_types.specs.Types.{ty_of}
 use Rattle.cedar_types.proofs.Equality.{types_same}
 use Rattle.cedar_types.proofs.SameTypes.{ty_decides}
+use Rattle.cedar_types.proofs.TypeOrder.{types_order}
 use Rattle.cedar_types.proofs.base.type_laws.compare_types.Goals as goal
 
-pub returns : goal.returns
-returns c =
+pub returns-clause-order : goal.returns-clause-order
+returns-clause-order c = c.cmp.ensures ∙ types_order c.args.ty0.now c.args.ty1.now
+
+pub returns-clause-equality : goal.returns-clause-equality
+returns-clause-equality c =
     let x = c.args.ty0.now in
     let y = c.args.ty1.now in
     let e = sym (types_same x y) ∙ ord_laws.matches_eq-law x y in
