@@ -1,0 +1,4 @@
+//! How policies are typed.
+#![tactic(auto)]
+
+pub mod typecheck;

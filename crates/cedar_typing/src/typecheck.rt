@@ -1,0 +1,3 @@
+//! Typing, and what it answers.
+pub mod answer;
+mod sequence;

@@ -1,0 +1,81 @@
+// Many answers, followed up at once.
+ghost use Rattle.std.specs.Prelude.{◌≡◌, IfOk};
+ghost use Rattle.std.specs.Iterator.{IsFinite, IsFiniteIterable};
+ghost use Rattle.cedar_typing.specs.Answer.{OnAllHanded, SequencesAll, Gathers, answer_where};
+
+use crate::typecheck::answer::TypecheckAnswer;
+use cedar_types::base::{CedarType, Expr};
+use cedar_types::types::capability::CapabilitySet;
+use std::alloc::{AllocError, Global};
+
+impl<'a> TypecheckAnswer<'a> {
+    /// What `f` answers for the expressions and capabilities of all answers, in order, where a failure has no
+    /// capabilities: made a failure if an answer was one. After the limit no more are taken, and the answer is the
+    /// limit, though `f` is called still. The first refused memory among those taken is the answer, without a call.
+    pub fn sequence_all_then_typecheck<I, F>(
+        alloc: Global,
+        answers: I,
+        f: F,
+    ) -> Result<TypecheckAnswer<'a>, AllocError>
+    where
+        I: IntoIterator<Item = Result<TypecheckAnswer<'a>, AllocError>>,
+        F: FnOnce(
+            Vec<(Expr<Option<CedarType>>, CapabilitySet<'a>)>,
+        ) -> Result<TypecheckAnswer<'a>, AllocError>,
+        requires ends { IsFiniteIterable I.into_iter_gives I.IntoIter.can_next I.IntoIter.remaining answers }
+        requires callable { (it : I.IntoIter) → I.into_iter_gives answers it → OnAllHanded I.IntoIter.next_gives it (F.pre f) }
+        ensures { IfOk result (λ a. (it : I.IntoIter) × I.into_iter_gives answers it × SequencesAll I.IntoIter.next_gives it (F.post f) a) }
+    {
+        let Gathered {
+            handed,
+            is_limit,
+            is_good,
+        } = gather(alloc, answers.into_iter())?;
+        let answer = f(handed)?;
+        Ok(answer.adjusted(is_limit, is_good))
+    }
+
+    /// The answer after others: the limit after a limit, else a failure after a failure.
+    fn adjusted(self, is_limit: bool, is_good: bool) -> TypecheckAnswer<'a>
+        ensures { result ≡ answer_where is_limit is_good self.entry }
+    {
+        if is_limit {
+            TypecheckAnswer::RecursionLimit
+        } else {
+            self.fail_unless(is_good)
+        }
+    }
+}
+
+/// What was taken of some answers: all of them, or those before the first limit.
+#[derive(Drop)]
+struct Gathered<'a> {
+    handed: Vec<(Expr<Option<CedarType>>, CapabilitySet<'a>)>,
+    is_limit: bool,
+    is_good: bool,
+}
+
+fn gather<'a, I>(alloc: Global, answers: I) -> Result<Gathered<'a>, AllocError>
+where
+    I: Iterator<Item = Result<TypecheckAnswer<'a>, AllocError>>,
+    requires can { I.can_next answers }
+    requires ends { IsFinite (I.remaining answers) }
+    ensures { IfOk result (Gathers I.next_gives answers) }
+{
+    let mut handed = Vec::new(alloc);
+    let mut is_good = true;
+    let mut is_limit = false;
+    for answer in answers {
+        let Some(part) = answer?.into_part(alloc) else {
+            is_limit = true;
+            break;
+        };
+        is_good &= part.is_good;
+        handed.push((part.typed, part.capabilities))?;
+    }
+    Ok(Gathered {
+        handed,
+        is_limit,
+        is_good,
+    })
+}
