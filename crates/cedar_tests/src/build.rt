@@ -85,3 +85,11 @@ pub fn record(alloc: Global, loc: Option<Loc>, key: &str, value: Expr) -> Result
     drop(fields.insert(RcStr::from_str(alloc, key)?, value)?);
     Ok(node(loc, ExprKind::Record(fields)))
 }
+
+/// The places of a literal id and of its type.
+pub fn places_of_id(e: &Expr) -> [Option<Loc>; 2] {
+    match &e.kind {
+        ExprKind::Lit(Literal::EntityUID(id)) => [id.loc, id.entity_type.loc],
+        _ => [None, None],
+    }
+}

@@ -1,9 +1,11 @@
 // The table of extension functions, and checks of arguments.
+use crate::build::{boolean, name};
+use crate::texts::shows;
 use cedar_types::base::{
-    ArgumentCheck, ArgumentError, CedarType, Expr, ExprKind, ExtensionFunctionType,
-    ExtensionSchemas, ExtensionTableError, Literal, Name,
+    ArgumentCheck, ArgumentError, CedarType, Expr, ExtensionFunctionType, ExtensionSchemas,
+    ExtensionTableError,
 };
-use std::alloc::AllocError;
+use std::alloc::{AllocError, Global};
 use std::rc::RcStr;
 use std::test::Fail;
 
@@ -28,38 +30,25 @@ impl ArgumentCheck for WantsArguments {
     }
 }
 
-fn yes() -> Expr {
-    Expr {
-        annotation: (),
-        loc: None,
-        kind: ExprKind::Lit(Literal::Bool(true)),
-    }
+fn wants(alloc: Global) -> Result<WantsArguments, AllocError> {
+    let msg = RcStr::from_str(alloc, "no arguments")?;
+    Ok(WantsArguments { msg })
 }
 
 #[test]
-fn checks_are_asked_through_their_table(rt: HostRuntime) -> Result<(), Fail> {
+fn arguments_are_refused_through_their_table(rt: HostRuntime) -> Result<(), Fail> {
     let alloc = rt.alloc();
-    let wants = WantsArguments {
-        msg: RcStr::from_str(alloc, "no arguments")?,
-    };
     let function = ExtensionFunctionType {
-        name: Name {
-            path: Vec::new(alloc),
-            basename: RcStr::from_str(alloc, "ip")?,
-        },
+        name: name(alloc, "", "ip")?,
         argument_types: vec![in alloc; CedarType::String]?,
         is_variadic: false,
         return_type: CedarType::Long,
-        check_arguments: Some(Box::new(alloc, wants)?),
+        check_arguments: Some(Box::new(alloc, wants(alloc)?)?),
     };
     let check = function.check_arguments.as_ref().ok_or("no check")?;
-    let refused = check.check(&[])?;
-    let msg = match refused {
-        Ok(()) => return Err("not refused".into()),
-        Err(e) => e.to_string(alloc)?,
-    };
-    assert_eq!(rt; msg.as_str(), "no arguments");
-    assert!(rt; check.check(&[yes()])?.is_ok());
+    let refused = check.check(&[])?.err().ok_or("not refused")?;
+    shows(&rt, alloc, refused, "no arguments")?;
+    assert!(rt; check.check(&[boolean(None, true)])?.is_ok());
     Ok(())
 }
 
@@ -72,23 +61,21 @@ fn a_table_is_empty_by_default(rt: HostRuntime) -> Result<(), Fail> {
 #[test]
 fn refusals_are_shown(rt: HostRuntime) -> Result<(), Fail> {
     let alloc = rt.alloc();
-    assert_eq!(rt;
-        ExtensionTableError::BadReturnType
-            .to_string(alloc)?
-            .as_str(),
-        "an extension function has a return type that is not allowed"
-    );
-    assert_eq!(rt;
-        ExtensionTableError::VariadicWithoutArguments
-            .to_string(alloc)?
-            .as_str(),
-        "a variadic extension function has no argument types"
-    );
-    assert_eq!(rt;
-        ExtensionTableError::DuplicateFunction
-            .to_string(alloc)?
-            .as_str(),
-        "two extension functions have the same name"
-    );
+    for (refusal, want) in [
+        (
+            ExtensionTableError::BadReturnType,
+            "an extension function has a return type that is not allowed",
+        ),
+        (
+            ExtensionTableError::VariadicWithoutArguments,
+            "a variadic extension function has no argument types",
+        ),
+        (
+            ExtensionTableError::DuplicateFunction,
+            "two extension functions have the same name",
+        ),
+    ] {
+        shows(&rt, alloc, refusal, want)?;
+    }
     Ok(())
 }

@@ -85,3 +85,9 @@ pub fn field(
         is_open,
     )
 }
+
+/// Adds a type to a list.
+pub fn add(types: &mut Vec<CedarType>, ty: CedarType) -> Result<(), AllocError> {
+    types.push(ty)?;
+    Ok(())
+}

@@ -1,84 +1,88 @@
 // Types in their order.
-use cedar_types::base::{
-    Attributes, BoolType, CedarType, EntityKind, EntityLUB, EntityType, Name, OpenTag,
-    types_in_order,
-};
+use crate::make::{ANY_ENTITY, BOOL, FALSE, TRUE, add, entity, extension, none, record, set};
+use cedar_types::base::{CedarType, OpenTag, types_in_order};
 use std::alloc::{AllocError, Global};
-use std::collections::BTreeMap;
-use std::rc::{Rc, RcStr};
 use std::test::Fail;
 
-fn name(alloc: Global, text: &str) -> Result<Name, AllocError> {
-    let basename = RcStr::from_str(alloc, text)?;
-    Ok(Name {
-        path: Vec::new(alloc),
-        basename,
-    })
+fn add_entities(alloc: Global, types: &mut Vec<CedarType>) -> Result<(), AllocError> {
+    add(types, extension(alloc, "ip")?)?;
+    add(types, ANY_ENTITY)?;
+    add(types, entity(alloc, "User", "")?)?;
+    add(types, entity(alloc, "Admin", "")?)
 }
 
-fn record(alloc: Global, is_open: OpenTag) -> Result<CedarType, AllocError> {
-    let attrs = Rc::new(alloc, BTreeMap::new(alloc))?;
-    Ok(CedarType::Record {
-        attributes: Attributes { attrs },
-        is_open,
-    })
+fn add_records(alloc: Global, types: &mut Vec<CedarType>) -> Result<(), AllocError> {
+    add(
+        types,
+        record(alloc, none(alloc), OpenTag::ClosedAttributes)?,
+    )?;
+    add(types, record(alloc, none(alloc), OpenTag::OpenAttributes)?)
 }
 
-fn entity(alloc: Global, text: &str) -> Result<CedarType, AllocError> {
-    let name = name(alloc, text)?;
-    let lub = EntityLUB::single_entity(alloc, EntityType { name, loc: None })?;
-    Ok(CedarType::Entity(EntityKind::Entity(lub)))
+fn add_sets(alloc: Global, types: &mut Vec<CedarType>) -> Result<(), AllocError> {
+    add(types, CedarType::AnySet)?;
+    add(types, set(alloc, CedarType::String)?)?;
+    add(types, set(alloc, CedarType::Long)?)
+}
+
+fn add_plain_kinds(types: &mut Vec<CedarType>) -> Result<(), AllocError> {
+    for ty in [
+        CedarType::String,
+        CedarType::Long,
+        CedarType::Long,
+        FALSE,
+        TRUE,
+        BOOL,
+        CedarType::Never,
+    ] {
+        types.push(ty)?;
+    }
+    Ok(())
 }
 
 /// A type of each kind, the last ones first, and one twice.
 fn of_each_kind(alloc: Global) -> Result<Vec<CedarType>, AllocError> {
     let mut types = Vec::new(alloc);
-    types.push(CedarType::Extension(Rc::new(alloc, name(alloc, "ip")?)?))?;
-    types.push(CedarType::Entity(EntityKind::AnyEntity))?;
-    types.push(entity(alloc, "User")?)?;
-    types.push(entity(alloc, "Admin")?)?;
-    types.push(record(alloc, OpenTag::ClosedAttributes)?)?;
-    types.push(record(alloc, OpenTag::OpenAttributes)?)?;
-    types.push(CedarType::AnySet)?;
-    types.push(CedarType::Set(Rc::new(alloc, CedarType::String)?))?;
-    types.push(CedarType::Set(Rc::new(alloc, CedarType::Long)?))?;
-    types.push(CedarType::String)?;
-    types.push(CedarType::Long)?;
-    types.push(CedarType::Long)?;
-    types.push(CedarType::Bool(BoolType::False))?;
-    types.push(CedarType::Bool(BoolType::True))?;
-    types.push(CedarType::Bool(BoolType::AnyBool))?;
-    types.push(CedarType::Never)?;
+    add_entities(alloc, &mut types)?;
+    add_records(alloc, &mut types)?;
+    add_sets(alloc, &mut types)?;
+    add_plain_kinds(&mut types)?;
     Ok(types)
 }
 
-#[test]
-fn kinds_are_in_order(rt: HostRuntime) -> Result<(), Fail> {
-    let alloc = rt.alloc();
+/// The texts of the types in their order.
+fn shown_in_order(alloc: Global) -> Result<Vec<String>, AllocError> {
     let types = types_in_order(alloc, of_each_kind(alloc)?)?;
     let mut shown = Vec::new(alloc);
-    for t in types.iter() {
-        shown.push(t.to_string(alloc)?)?;
+    for ty in types.iter() {
+        shown.push(ty.to_string(alloc)?)?;
     }
-    let expected = [
-        "Never",
-        "Bool",
-        "True",
-        "False",
-        "Long",
-        "String",
-        "Set<Long>",
-        "Set<String>",
-        "Set",
-        "{..}",
-        "{}",
-        "Admin",
-        "User",
-        "entity",
-        "ip",
-    ];
-    assert_eq!(rt; shown.len(), expected.len());
-    for (text, wanted) in shown.iter().zip(expected) {
+    Ok(shown)
+}
+
+const WANTED: [&str; 15] = [
+    "Never",
+    "Bool",
+    "True",
+    "False",
+    "Long",
+    "String",
+    "Set<Long>",
+    "Set<String>",
+    "Set",
+    "{..}",
+    "{}",
+    "Admin",
+    "User",
+    "entity",
+    "ip",
+];
+
+#[test]
+fn kinds_are_in_order(rt: HostRuntime) -> Result<(), Fail> {
+    let shown = shown_in_order(rt.alloc())?;
+    assert_eq!(rt; shown.len(), WANTED.len());
+    for (text, wanted) in shown.iter().zip(WANTED) {
         assert_eq!(rt; text.as_str(), wanted);
     }
     Ok(())

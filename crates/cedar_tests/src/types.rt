@@ -1,13 +1,13 @@
-// Types: their texts byte for byte, their order, and sets of entity types.
-use crate::build::{entity_type, name};
+// Types: their texts byte for byte, their order, their copies and their attributes.
+use crate::build::name;
 use crate::make::{
-    ANY_ENTITY, BOOL, FALSE, TRUE, entity, extension, field, lub, none, record, set, with,
+    ANY_ENTITY, BOOL, FALSE, TRUE, add, entity, extension, field, none, record, set, with,
 };
+use crate::texts::shows;
 use cedar_types::base::type_laws::{compare_types, equal_types, types_are_well_formed};
-use cedar_types::base::{CedarType, EntityLUB, OpenTag, Type};
+use cedar_types::base::{Attributes, CedarType, OpenTag};
 use std::alloc::{AllocError, Global};
 use std::cmp::Ordering;
-use std::collections::BTreeSet;
 use std::process::Abort;
 use std::rc::{Rc, RcStr};
 use std::test::Fail;
@@ -16,113 +16,155 @@ const OPEN: OpenTag = OpenTag::OpenAttributes;
 
 const CLOSED: OpenTag = OpenTag::ClosedAttributes;
 
-fn is_shown(rt: &impl Abort, alloc: Global, ty: &Type, want: &str) -> Result<(), AllocError> {
-    assert_eq!(rt; format!(in alloc; "{ty}")?.as_str(), want);
-    Ok(())
-}
-
 #[test]
 fn types_without_parts_are_shown(rt: HostRuntime) -> Result<(), Fail> {
     let alloc = rt.alloc();
-    is_shown(&rt, alloc, &CedarType::Never, "Never")?;
-    is_shown(&rt, alloc, &BOOL, "Bool")?;
-    is_shown(&rt, alloc, &TRUE, "True")?;
-    is_shown(&rt, alloc, &FALSE, "False")?;
-    is_shown(&rt, alloc, &CedarType::Long, "Long")?;
-    is_shown(&rt, alloc, &CedarType::String, "String")?;
-    is_shown(&rt, alloc, &CedarType::AnySet, "Set")?;
-    is_shown(&rt, alloc, &ANY_ENTITY, "entity")?;
+    for (ty, want) in [
+        (CedarType::Never, "Never"),
+        (BOOL, "Bool"),
+        (TRUE, "True"),
+        (FALSE, "False"),
+        (CedarType::Long, "Long"),
+        (CedarType::String, "String"),
+        (CedarType::AnySet, "Set"),
+        (ANY_ENTITY, "entity"),
+    ] {
+        shows(&rt, alloc, ty, want)?;
+    }
     Ok(())
 }
 
 #[test]
-fn types_with_parts_are_shown(rt: HostRuntime) -> Result<(), Fail> {
+fn sets_and_entities_are_shown(rt: HostRuntime) -> Result<(), Fail> {
     let alloc = rt.alloc();
-    is_shown(&rt, alloc, &set(alloc, CedarType::Long)?, "Set<Long>")?;
-    is_shown(&rt, alloc, &set(alloc, CedarType::AnySet)?, "Set<Set>")?;
-    is_shown(&rt, alloc, &entity(alloc, "User", "")?, "User")?;
-    is_shown(&rt, alloc, &entity(alloc, "b", "B")?, "B|b")?;
-    is_shown(&rt, alloc, &extension(alloc, "ipaddr")?, "ipaddr")?;
-    let named = CedarType::Extension(Rc::new(alloc, name(alloc, "ext", "ipaddr")?)?);
-    is_shown(&rt, alloc, &named, "ext::ipaddr")?;
+    shows(&rt, alloc, set(alloc, CedarType::Long)?, "Set<Long>")?;
+    shows(&rt, alloc, set(alloc, CedarType::AnySet)?, "Set<Set>")?;
+    shows(&rt, alloc, entity(alloc, "User", "")?, "User")?;
+    shows(&rt, alloc, entity(alloc, "b", "B")?, "B|b")?;
+    Ok(())
+}
+
+#[test]
+fn extension_types_are_shown(rt: HostRuntime) -> Result<(), Fail> {
+    let alloc = rt.alloc();
+    shows(&rt, alloc, extension(alloc, "ipaddr")?, "ipaddr")?;
+    let named = Rc::new(alloc, name(alloc, "ext", "ipaddr")?)?;
+    shows(&rt, alloc, CedarType::Extension(named), "ext::ipaddr")?;
+    Ok(())
+}
+
+#[test]
+fn empty_records_are_shown(rt: HostRuntime) -> Result<(), Fail> {
+    let alloc = rt.alloc();
+    shows(&rt, alloc, record(alloc, none(alloc), CLOSED)?, "{}")?;
+    shows(&rt, alloc, record(alloc, none(alloc), OPEN)?, "{..}")?;
     Ok(())
 }
 
 #[test]
 fn records_are_shown(rt: HostRuntime) -> Result<(), Fail> {
     let alloc = rt.alloc();
-    is_shown(&rt, alloc, &record(alloc, none(alloc), CLOSED)?, "{}")?;
-    is_shown(&rt, alloc, &record(alloc, none(alloc), OPEN)?, "{..}")?;
     let one = with(alloc, none(alloc), "b", CedarType::String, false)?;
     let two = with(alloc, one, "a", set(alloc, CedarType::Long)?, true)?;
     let closed = record(alloc, two, CLOSED)?;
-    is_shown(&rt, alloc, &closed, "{a: Set<Long>, b?: String}")?;
+    shows(&rt, alloc, closed.clone()?, "{a: Set<Long>, b?: String}")?;
     let inner = field(alloc, "x", closed, true, OPEN)?;
-    is_shown(&rt, alloc, &inner, "{x: {a: Set<Long>, b?: String}, ..}")?;
+    shows(&rt, alloc, inner, "{x: {a: Set<Long>, b?: String}, ..}")?;
     Ok(())
+}
+
+/// The two types compare as is wanted.
+fn compares(rt: &impl Abort, one: &CedarType, other: &CedarType, want: Ordering) {
+    assert!(rt; one.cmp(other) == want, "{one} and {other}");
+    assert!(rt; compare_types(one, other) == want, "{one} and {other}");
+    let is_equal = want == Ordering::Equal;
+    assert!(rt; equal_types(one, other) == is_equal, "{one} and {other}");
+}
+
+/// The type stands at this place of a table in ascending order.
+fn stands_at(rt: &impl Abort, types: &[CedarType], at: usize, ty: &CedarType) {
+    for (i, other) in types.iter().enumerate() {
+        compares(rt, ty, other, at.cmp(&i));
+    }
 }
 
 /// The types of a table stand in ascending order, each once.
 fn ascends(rt: &impl Abort, types: &[CedarType]) {
-    for (i, lower) in types.iter().enumerate() {
-        for (j, upper) in types.iter().enumerate() {
-            let want = i.cmp(&j);
-            assert_eq!(rt; lower.cmp(upper), want, "at {i} and {j}");
-            assert_eq!(rt; compare_types(lower, upper), want, "at {i} and {j}");
-            assert_eq!(rt;
-                equal_types(lower, upper),
-                want == Ordering::Equal,
-                "at {i} and {j}"
-            );
-        }
+    for (i, ty) in types.iter().enumerate() {
+        stands_at(rt, types, i, ty);
     }
+}
+
+fn add_plain_kinds(types: &mut Vec<CedarType>) -> Result<(), AllocError> {
+    for ty in [
+        CedarType::Never,
+        BOOL,
+        TRUE,
+        FALSE,
+        CedarType::Long,
+        CedarType::String,
+    ] {
+        types.push(ty)?;
+    }
+    Ok(())
+}
+
+fn add_sets(alloc: Global, types: &mut Vec<CedarType>) -> Result<(), AllocError> {
+    add(types, set(alloc, CedarType::Never)?)?;
+    add(types, set(alloc, CedarType::AnySet)?)?;
+    add(types, CedarType::AnySet)
+}
+
+fn add_entities(alloc: Global, types: &mut Vec<CedarType>) -> Result<(), AllocError> {
+    add(types, entity(alloc, "a", "")?)?;
+    add(types, entity(alloc, "a", "b")?)?;
+    add(types, entity(alloc, "b", "")?)?;
+    add(types, ANY_ENTITY)
 }
 
 #[test]
 fn kinds_ascend_in_the_order_named(rt: HostRuntime) -> Result<(), Fail> {
     let alloc = rt.alloc();
     let mut types = Vec::new(alloc);
-    types.push(CedarType::Never)?;
-    types.push(BOOL)?;
-    types.push(TRUE)?;
-    types.push(FALSE)?;
-    types.push(CedarType::Long)?;
-    types.push(CedarType::String)?;
-    types.push(set(alloc, CedarType::Never)?)?;
-    types.push(set(alloc, CedarType::AnySet)?)?;
-    types.push(CedarType::AnySet)?;
-    types.push(record(alloc, none(alloc), OPEN)?)?;
-    types.push(entity(alloc, "a", "")?)?;
-    types.push(entity(alloc, "a", "b")?)?;
-    types.push(entity(alloc, "b", "")?)?;
-    types.push(ANY_ENTITY)?;
-    types.push(extension(alloc, "a")?)?;
-    types.push(extension(alloc, "b")?)?;
+    add_plain_kinds(&mut types)?;
+    add_sets(alloc, &mut types)?;
+    add(&mut types, record(alloc, none(alloc), OPEN)?)?;
+    add_entities(alloc, &mut types)?;
+    add(&mut types, extension(alloc, "a")?)?;
+    add(&mut types, extension(alloc, "b")?)?;
     ascends(&rt, types.as_slice());
     Ok(())
+}
+
+/// The open record of two attributes, `a` and `b`.
+fn two_longs(alloc: Global) -> Result<CedarType, AllocError> {
+    let both = with(alloc, none(alloc), "a", CedarType::Long, true)?;
+    let both = with(alloc, both, "b", CedarType::Long, true)?;
+    record(alloc, both, OPEN)
+}
+
+fn add_fields(alloc: Global, types: &mut Vec<CedarType>) -> Result<(), AllocError> {
+    add(types, field(alloc, "a", CedarType::Long, false, OPEN)?)?;
+    add(types, field(alloc, "a", CedarType::Long, false, CLOSED)?)?;
+    add(types, field(alloc, "a", CedarType::Long, true, OPEN)?)?;
+    add(types, two_longs(alloc)?)?;
+    add(types, field(alloc, "a", CedarType::String, false, OPEN)?)?;
+    add(types, field(alloc, "b", CedarType::Long, false, OPEN)?)
 }
 
 #[test]
 fn records_ascend_by_attributes_and_then_openness(rt: HostRuntime) -> Result<(), Fail> {
     let alloc = rt.alloc();
     let mut types = Vec::new(alloc);
-    types.push(record(alloc, none(alloc), OPEN)?)?;
-    types.push(record(alloc, none(alloc), CLOSED)?)?;
-    types.push(field(alloc, "a", CedarType::Long, false, OPEN)?)?;
-    types.push(field(alloc, "a", CedarType::Long, false, CLOSED)?)?;
-    types.push(field(alloc, "a", CedarType::Long, true, OPEN)?)?;
-    let both = with(alloc, none(alloc), "a", CedarType::Long, true)?;
-    let both = with(alloc, both, "b", CedarType::Long, true)?;
-    types.push(record(alloc, both, OPEN)?)?;
-    types.push(field(alloc, "a", CedarType::String, false, OPEN)?)?;
-    types.push(field(alloc, "b", CedarType::Long, false, OPEN)?)?;
+    add(&mut types, record(alloc, none(alloc), OPEN)?)?;
+    add(&mut types, record(alloc, none(alloc), CLOSED)?)?;
+    add_fields(alloc, &mut types)?;
     ascends(&rt, types.as_slice());
     Ok(())
 }
 
-#[test]
-fn copies_are_equal(rt: HostRuntime) -> Result<(), Fail> {
-    let alloc = rt.alloc();
+/// A type of each kind of which copies have parts, and two others.
+fn to_be_copied(alloc: Global) -> Result<Vec<CedarType>, AllocError> {
     let mut types = Vec::new(alloc);
     types.push(BOOL)?;
     types.push(set(alloc, CedarType::Long)?)?;
@@ -130,59 +172,51 @@ fn copies_are_equal(rt: HostRuntime) -> Result<(), Fail> {
     types.push(ANY_ENTITY)?;
     types.push(extension(alloc, "a")?)?;
     types.push(field(alloc, "a", CedarType::Long, true, OPEN)?)?;
+    Ok(types)
+}
+
+#[test]
+fn copies_are_equal(rt: HostRuntime) -> Result<(), Fail> {
+    let types = to_be_copied(rt.alloc())?;
     for ty in &types {
         let copy = ty.clone()?;
-        assert_eq!(rt; copy, *ty);
+        assert!(rt; copy == *ty, "{copy}");
         types_are_well_formed(&copy);
     }
     Ok(())
 }
 
+fn attributes_of(ty: CedarType) -> Option<Attributes> {
+    match ty {
+        CedarType::Record { attributes, .. } => Some(attributes),
+        _ => None,
+    }
+}
+
+/// The attributes of a record that has one, `a`.
+fn one_attribute(alloc: Global) -> Result<Attributes, Fail> {
+    let ty = field(alloc, "a", CedarType::Long, false, CLOSED)?;
+    Ok(attributes_of(ty).ok_or("a record")?)
+}
+
 #[test]
 fn attributes_are_found_by_name(rt: HostRuntime) -> Result<(), Fail> {
     let alloc = rt.alloc();
-    let ty = field(alloc, "a", CedarType::Long, false, CLOSED)?;
-    let CedarType::Record { attributes, .. } = &ty else {
-        return Err(AllocError.into());
-    };
-    let found = attributes
-        .get_attr(&RcStr::from_str(alloc, "a")?)
-        .ok_or("a")?;
-    assert_eq!(rt; found.attr_type, CedarType::Long);
+    let attributes = one_attribute(alloc)?;
+    let a = RcStr::from_str(alloc, "a")?;
+    let found = attributes.get_attr(&a).ok_or("a")?;
+    assert!(rt; found.attr_type == CedarType::Long);
     assert!(rt; !found.is_required);
-    assert!(rt; attributes.get_attr(&RcStr::from_str(alloc, "b")?).is_none());
-    let copy = attributes.clone()?;
-    assert_eq!(rt; copy, *attributes);
-    assert_eq!(rt; found.clone()?, *found);
+    assert!(rt; found.clone()? == *found);
     Ok(())
 }
 
 #[test]
-fn entity_sets_are_asked(rt: HostRuntime) -> Result<(), Fail> {
+fn other_names_have_no_attribute(rt: HostRuntime) -> Result<(), Fail> {
     let alloc = rt.alloc();
-    let a = entity_type(alloc, "a", None)?;
-    let c = entity_type(alloc, "c", None)?;
-    let single = lub(alloc, "a", "")?;
-    let both = lub(alloc, "b", "a")?;
-    assert_eq!(rt; single.get_single_entity().ok_or("a")?.clone()?, a);
-    assert!(rt; both.get_single_entity().is_none());
-    assert_eq!(rt; both.iter().count(), 2);
-    assert!(rt; both.contains_entity_type(&a));
-    assert!(rt; !both.contains_entity_type(&c));
-    assert!(rt; EntityLUB::from_types(alloc, BTreeSet::new(alloc))?.is_none());
-    Ok(())
-}
-
-#[test]
-fn entity_sets_are_united(rt: HostRuntime) -> Result<(), Fail> {
-    let alloc = rt.alloc();
-    let ab = lub(alloc, "a", "b")?;
-    let bc = lub(alloc, "b", "c")?;
-    let c = lub(alloc, "c", "")?;
-    let all = ab.least_upper_bound(alloc, &bc)?;
-    assert_eq!(rt; format!(in alloc; "{all}")?.as_str(), "a|b|c");
-    assert!(rt; !ab.is_disjoint(&bc));
-    assert!(rt; ab.is_disjoint(&c));
-    assert!(rt; all == all.clone()?);
+    let attributes = one_attribute(alloc)?;
+    let b = RcStr::from_str(alloc, "b")?;
+    assert!(rt; attributes.get_attr(&b).is_none());
+    assert!(rt; attributes.clone()? == attributes);
     Ok(())
 }

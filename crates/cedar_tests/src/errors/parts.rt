@@ -1,14 +1,13 @@
 // Parts that the errors of these tests are made of.
+pub(crate) use crate::build::entity_type;
+pub(crate) use crate::make::BOOL;
 use cedar_types::base::{
-    BoolType, CedarType, EntityKind, EntityLUB, EntityType, EntityUID, Loc, Name, PolicyID,
-    ValidationError,
+    CedarType, EntityKind, EntityLUB, EntityUID, Loc, Name, PolicyID, ValidationError,
 };
 use std::alloc::{AllocError, Global};
 use std::collections::{BTreeSet, HashSet};
 use std::process::Abort;
 use std::rc::RcStr;
-
-pub(crate) const BOOL: CedarType = CedarType::Bool(BoolType::AnyBool);
 
 pub(crate) fn at(start: usize) -> Option<Loc> {
     Some(Loc { start, end: 90 })
@@ -26,15 +25,6 @@ pub(crate) fn name(alloc: Global, basename: &str) -> Result<Name, AllocError> {
         path: Vec::new(alloc),
         basename,
     })
-}
-
-pub(crate) fn entity_type(
-    alloc: Global,
-    basename: &str,
-    loc: Option<Loc>,
-) -> Result<EntityType, AllocError> {
-    let name = name(alloc, basename)?;
-    Ok(EntityType { name, loc })
 }
 
 pub(crate) fn uid(
