@@ -30,6 +30,8 @@ mod names;
 #[cfg(test)]
 mod record_bounds;
 #[cfg(test)]
+mod request_envs;
+#[cfg(test)]
 mod schema_declarations;
 #[cfg(test)]
 mod schema_fault_cases;
