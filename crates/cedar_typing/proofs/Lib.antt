@@ -1,1 +1,11 @@
 pub mod Sequence
+pub mod Judged
+pub mod Marks
+pub mod JudgedAnd
+pub mod JudgedAccess
+pub mod Exact
+pub mod Operands
+pub mod TypedViews
+pub mod Handed
+pub mod Conjunctions
+pub mod Checked

@@ -1,1 +1,7 @@
 pub mod Answer
+pub mod Typed
+pub mod Settings
+pub mod Rules
+pub mod Failing
+pub mod Judge
+pub mod Checks

@@ -1,3 +1,15 @@
 //! Typing, and what it answers.
+mod accesses;
 pub mod answer;
+mod capabilities;
+mod checks;
+mod conjunctions;
+mod expressions;
+mod leaves;
+mod operands;
 mod sequence;
+mod single_env;
+mod type_tests;
+
+pub use checks::{PolicyCheck, Typechecker};
+pub use expressions::MAX_NESTING;

@@ -1,0 +1,15 @@
+use Rattle.std.proofs.Common.{sym, subst}
+use Rattle.cedar_types.specs.View.{written}
+use Rattle.cedar_typing.specs.Typed.{Source}
+use Rattle.cedar_typing.specs.Settings.{Setting}
+use Rattle.cedar_typing.specs.Checks.{Verdict, verdict_of, setting_for, Checks}
+use Rattle.cedar_typing.proofs.Checked.{checked}
+use Rattle.cedar_typing.proofs.typecheck.checks.Typechecker.typecheck_by_single_request_env.Goals as goal
+
+pub returns : goal.returns
+returns g c =
+    let w : Setting = setting_for c.args.self.now c.args.t.now c.args.env.now in
+    let e = written c.in_ok-condition.condition in
+    let P : Verdict → Type 0 = λ v. Checks w e v in
+    let Q : Source → Type 0 = λ x. Checks w x (verdict_of c.in_ok-check.check) in
+    subst Q c.in_ok-condition.ensures (subst P (sym c.in_ok-check.ensures) (checked w e))

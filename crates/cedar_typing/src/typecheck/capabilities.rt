@@ -1,0 +1,35 @@
+// Capabilities that typing hands on.
+ghost use Rattle.std.specs.Prelude.{◌≡◌, IfOk};
+ghost use Rattle.cedar_types.specs.Capability.{caps, cap_of};
+ghost use Rattle.cedar_typing.specs.Settings.{nothing, just, either};
+
+use cedar_types::types::capability::{Capability, CapabilitySet};
+use std::alloc::{AllocError, Global};
+
+/// No capabilities. It takes no memory.
+pub(crate) fn no_capabilities<'a>(alloc: Global) -> CapabilitySet<'a>
+    ensures { caps result ≡ nothing }
+{
+    CapabilitySet::new(alloc)
+}
+
+/// This capability alone.
+pub(crate) fn one_capability<'a>(
+    alloc: Global,
+    capability: Capability<'a>,
+) -> Result<CapabilitySet<'a>, AllocError>
+    ensures { IfOk result (λ r. caps r ≡ just (cap_of capability.entry)) }
+{
+    CapabilitySet::singleton(alloc, capability)
+}
+
+/// The capabilities of both.
+pub(crate) fn both_capabilities<'a>(
+    alloc: Global,
+    one: &CapabilitySet<'a>,
+    other: &CapabilitySet<'a>,
+) -> Result<CapabilitySet<'a>, AllocError>
+    ensures { IfOk result (λ r. caps r ≡ either (caps one.now) (caps other.now)) }
+{
+    one.union(alloc, other)
+}

@@ -1,0 +1,130 @@
+// Tests of types.
+ghost use Rattle.std.specs.Prelude.{◌≡◌};
+ghost use Rattle.cedar_types.specs.Types.{ty_of, TBool};
+ghost use Rattle.cedar_types.specs.declared.base.types.BoolType.TheVariants.{AnyBool};
+ghost use Rattle.cedar_typing.specs.Settings.{accepts, a_bool, an_object, is_false, is_true, is_record, says};
+ghost use Rattle.cedar_typing.specs.Typed.{typed_tree, annotation};
+
+use cedar_types::base::{BoolType, CedarType, Expr};
+
+/// Whether an operand of this type is accepted where a Boolean is required.
+pub(crate) fn is_bool_operand(ty: &CedarType) -> bool
+    ensures { result ≡ accepts a_bool (ty_of ty.now) }
+{
+    match ty {
+        CedarType::Never => true,
+        CedarType::Bool(_) => true,
+        CedarType::Long => false,
+        CedarType::String => false,
+        CedarType::Set(_) => false,
+        CedarType::AnySet => false,
+        CedarType::Record {
+            attributes: _attributes,
+            is_open: _open,
+        } => false,
+        CedarType::Entity(_) => false,
+        CedarType::Extension(_) => false,
+    }
+}
+
+/// Whether an operand of this type is accepted where a record or an entity is required.
+pub(crate) fn is_object_operand(ty: &CedarType) -> bool
+    ensures { result ≡ accepts an_object (ty_of ty.now) }
+{
+    match ty {
+        CedarType::Never => true,
+        CedarType::Bool(_) => false,
+        CedarType::Long => false,
+        CedarType::String => false,
+        CedarType::Set(_) => false,
+        CedarType::AnySet => false,
+        CedarType::Record {
+            attributes: _attributes,
+            is_open: _open,
+        } => true,
+        CedarType::Entity(_) => true,
+        CedarType::Extension(_) => false,
+    }
+}
+
+/// The type of both truth values.
+pub(crate) fn any_bool() -> CedarType
+    ensures { ty_of result ≡ TBool AnyBool }
+{
+    CedarType::Bool(BoolType::AnyBool)
+}
+
+/// Whether the type is False.
+pub(crate) fn is_false_type(ty: &CedarType) -> bool
+    ensures { result ≡ is_false (ty_of ty.now) }
+{
+    match ty {
+        CedarType::Bool(BoolType::False) => true,
+        CedarType::Bool(BoolType::True) => false,
+        CedarType::Bool(BoolType::AnyBool) => false,
+        CedarType::Never => false,
+        CedarType::Long => false,
+        CedarType::String => false,
+        CedarType::Set(_) => false,
+        CedarType::AnySet => false,
+        CedarType::Record {
+            attributes: _attributes,
+            is_open: _open,
+        } => false,
+        CedarType::Entity(_) => false,
+        CedarType::Extension(_) => false,
+    }
+}
+
+/// Whether the type is True.
+pub(crate) fn is_true_type(ty: &CedarType) -> bool
+    ensures { result ≡ is_true (ty_of ty.now) }
+{
+    match ty {
+        CedarType::Bool(BoolType::True) => true,
+        CedarType::Bool(BoolType::False) => false,
+        CedarType::Bool(BoolType::AnyBool) => false,
+        CedarType::Never => false,
+        CedarType::Long => false,
+        CedarType::String => false,
+        CedarType::Set(_) => false,
+        CedarType::AnySet => false,
+        CedarType::Record {
+            attributes: _attributes,
+            is_open: _open,
+        } => false,
+        CedarType::Entity(_) => false,
+        CedarType::Extension(_) => false,
+    }
+}
+
+/// Whether the type is a record's.
+pub(crate) fn is_record_type(ty: &CedarType) -> bool
+    ensures { result ≡ is_record (ty_of ty.now) }
+{
+    match ty {
+        CedarType::Record {
+            attributes: _attributes,
+            is_open: _open,
+        } => true,
+        CedarType::Never => false,
+        CedarType::Bool(_) => false,
+        CedarType::Long => false,
+        CedarType::String => false,
+        CedarType::Set(_) => false,
+        CedarType::AnySet => false,
+        CedarType::Entity(_) => false,
+        CedarType::Extension(_) => false,
+    }
+}
+
+/// Whether the type False was found at the root.
+#[tactic(auto, using(crate::proofs::TypedViews::annotation_is))]
+pub(crate) fn is_typed_false(typed: &Expr<Option<CedarType>>) -> bool
+    ensures { result ≡ says is_false (annotation (typed_tree typed.now)) }
+{
+    match &typed.annotation {
+        Some(ty) => is_false_type(ty),
+        None => false,
+    }
+}
