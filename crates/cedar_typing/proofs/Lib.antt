@@ -9,3 +9,4 @@ pub mod TypedViews
 pub mod Handed
 pub mod Conjunctions
 pub mod Checked
+pub mod Laws

@@ -5,3 +5,4 @@ pub mod Rules
 pub mod Failing
 pub mod Judge
 pub mod Checks
+pub mod Laws

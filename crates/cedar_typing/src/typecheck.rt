@@ -5,6 +5,7 @@ mod capabilities;
 mod checks;
 mod conjunctions;
 mod expressions;
+pub mod laws;
 mod leaves;
 mod operands;
 mod sequence;
