@@ -17,6 +17,7 @@ WHY = {
     "tactic": "a crate's root file has the line",
     "hole": "is a hole",
     "out": "is never committed",
+    "shown": "this code stands in no file",
 }
 # What would be a fault in this file stands in pieces.
 PAPERS = "pap" + "ers"
@@ -25,9 +26,10 @@ CRATE = f"//! A crate.\n#![tactic(auto)]\n\npub fn same<{PARAMETER}>(it: {PARAME
 GOOD = {
     "HANDLES": "Handles allowed: none.\n",
     "LICENSE": f"Section 4 of these {PAPERS}.\n",
-    "README.md": "Row 10 prints `row 10: ok`, as in RFC 76.\nTake crates/tmp/ out of it; 0xD4, T15 and R2D2 are no citations.\n",
+    "README.md": "Row 10 prints `row 10: ok`, as in RFC 76.\nTake crates/tmp/ out of it; 0xD4, T15 and R2D2 are no citations.\n```rust\nlet shown = 1;\n```\n",
     "crates.txt": "demo:\n",
     "crates/demo/src/lib.rt": CRATE,
+    "crates/demo/src/page.rt": "// A page.\nlet shown = 1;\n",
     "crates/demo/specs/Lib.antt": "-- is it there?\nuse lib.ListN.{get_elem?}\n",
 }
 
@@ -42,6 +44,7 @@ def changed(name, text, line=1):
 
 
 FILES = [
+    ("code that is shown alone", "shown", *changed("README.md", "Call it so.\n```rust\nlet it = same(1);\n```\n", 2)),
     ("a promise", "citation", *note("as T" + "4 says")),
     ("a promise's part", "citation", *note("as T" + "4b says")),
     ("a definition", "citation", *note("(D" + "6)")),
@@ -107,7 +110,7 @@ def said_of(folder):
 def is_refused(folder, where, why):
     """Whether the check refuses the repository with one line, which says where and why."""
     status, lines = said_of(folder)
-    well = status == 1 and len(lines) == 2 and lines[0].startswith(where) and WHY[why] in lines[0] and lines[1] == "6 passed, 1 failed"
+    well = status == 1 and len(lines) == 2 and lines[0].startswith(where) and WHY[why] in lines[0] and lines[1] == "7 passed, 1 failed"
     return well, lines
 
 
@@ -116,7 +119,7 @@ def outcomes():
     with tempfile.TemporaryDirectory() as folder:
         repository(folder, GOOD)
         status, lines = said_of(folder)
-        yield "a good repository", status == 0 and lines == ["7 passed, 0 failed"], lines
+        yield "a good repository", status == 0 and lines == ["8 passed, 0 failed"], lines
     for name, why, files, where in FILES:
         with tempfile.TemporaryDirectory() as folder:
             repository(folder, GOOD | files)

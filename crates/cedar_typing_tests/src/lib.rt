@@ -10,4 +10,6 @@ mod lazy_sequences;
 #[cfg(test)]
 mod make;
 #[cfg(test)]
+mod page;
+#[cfg(test)]
 mod sequences;
