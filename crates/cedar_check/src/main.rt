@@ -1,6 +1,7 @@
 //! Runs the worked rows: `cedar-check [ROW]`.
 #![tactic(auto)]
 
+mod fixtures;
 mod rows;
 mod run;
 

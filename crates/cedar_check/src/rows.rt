@@ -1,5 +1,8 @@
 // The worked rows.
-use cedar_types::base::ExtensionSchemas;
+mod checks;
+mod guarded_access;
+
+use cedar_types::base::{ExtensionSchemas, SchemaError};
 use std::alloc::{AllocError, Global};
 
 /// What a row gave.
@@ -27,25 +30,41 @@ pub struct NamedRow<R> {
     pub row: R,
 }
 
-/// The rows that are built. None is yet: the first takes the place of `ToCome`, which is in no list.
+/// The rows that are built.
 #[derive(Clone, Copy)]
 pub enum WorkedRow {
-    ToCome,
+    /// An optional attribute is read behind a test, and without one.
+    GuardedAccess,
 }
 
 /// The rows that are built, in the order in which they run.
-pub const WORKED: [NamedRow<WorkedRow>; 0] = [];
+pub const WORKED: [NamedRow<WorkedRow>; 1] = [NamedRow {
+    name: "10",
+    row: WorkedRow::GuardedAccess,
+}];
 
 impl Row for WorkedRow {
     fn report(
         &self,
         alloc: Global,
-        _x1: &ExtensionSchemas,
+        x1: &ExtensionSchemas,
         _x2: &ExtensionSchemas,
     ) -> Result<Report, AllocError> {
-        Ok(Report {
-            outcomes: Vec::new(alloc),
-            is_expected: false,
-        })
+        let reported = match self {
+            WorkedRow::GuardedAccess => guarded_access::report(alloc, x1),
+        };
+        match reported {
+            Ok(report) => Ok(report),
+            Err(SchemaError::Memory(error)) => Err(error),
+            Err(fault) => other_outcome(alloc, fault.to_string(alloc)?),
+        }
     }
+}
+
+/// The report of a row that came to this alone, which no row expects.
+fn other_outcome(alloc: Global, outcome: String) -> Result<Report, AllocError> {
+    Ok(Report {
+        outcomes: vec![in alloc; outcome]?,
+        is_expected: false,
+    })
 }

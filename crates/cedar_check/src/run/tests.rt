@@ -9,6 +9,8 @@ use std::test::Fail;
 
 const USAGE: &[u8] = b"usage: cedar-check [ROW]\n";
 
+const ROW_10: &[u8] = b"row 10: Success; Fail errors=1; ok\n";
+
 /// The ways in which a row can end.
 enum Sample {
     Expected,
@@ -113,7 +115,16 @@ fn status_after(alloc: Global, all: &[&str], writes: u8) -> Result<u8, AllocErro
 fn no_word_runs_every_row_that_is_built(rt: HostRuntime) -> Result<(), Fail> {
     let (status, out, err) = answers(rt.alloc(), &[])?;
     assert_eq!(rt; status, 0);
-    assert_eq!(rt; out.as_slice(), b"".as_slice());
+    assert_eq!(rt; out.as_slice(), ROW_10);
+    assert_eq!(rt; err.as_slice(), b"".as_slice());
+    Ok(())
+}
+
+#[test]
+fn row_10_is_as_expected(rt: HostRuntime) -> Result<(), Fail> {
+    let (status, out, err) = answers(rt.alloc(), &["10"])?;
+    assert_eq!(rt; status, 0);
+    assert_eq!(rt; out.as_slice(), ROW_10);
     assert_eq!(rt; err.as_slice(), b"".as_slice());
     Ok(())
 }
@@ -149,7 +160,7 @@ fn rows_run_in_order_past_refused_memory(rt: HostRuntime) -> Result<(), Fail> {
 #[test]
 fn a_word_runs_its_row_alone(rt: HostRuntime) -> Result<(), Fail> {
     let cases = [
-        ("10", 0, b"row 10: Success; Fail errors=1; ok\n".as_slice()),
+        ("10", 0, ROW_10),
         (
             "2",
             1,
