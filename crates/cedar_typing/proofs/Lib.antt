@@ -10,3 +10,4 @@ pub mod Handed
 pub mod Conjunctions
 pub mod Checked
 pub mod Laws
+pub mod Examples

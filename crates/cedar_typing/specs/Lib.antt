@@ -6,3 +6,4 @@ pub mod Failing
 pub mod Judge
 pub mod Checks
 pub mod Laws
+pub mod Examples

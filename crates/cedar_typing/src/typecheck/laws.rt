@@ -1,4 +1,5 @@
 //! Laws of the rules of typing, each on a function that does nothing.
+ghost use Rattle.cedar_typing.specs.Examples.{RuleExamples};
 ghost use Rattle.cedar_typing.specs.Laws.{TypingIsAFunction, RecoveryIsAFunction, OneOfThreeAtMost, OneOfThreeAtLeast, CutIsByDepth, SuccessIsSilent};
 
 /// An expression has one type at most, hands on one set of capabilities at most, and is typed in one way at most.
@@ -29,4 +30,9 @@ pub fn cut_is_by_depth()
 /// What is derived adds no error.
 pub fn success_is_silent()
     ensures { SuccessIsSilent }
+{}
+
+/// What the rules say of some small expressions: one for each rule, and one for each way to fail.
+pub fn examples_of_rules()
+    ensures { RuleExamples }
 {}
