@@ -42,7 +42,7 @@ fn is_known<'a>(prior: &CapabilitySet<'a>, base: &'a Expr, attr: &RcStr) -> Resu
     Ok(known)
 }
 
-impl SingleEnvTypechecker<'_, '_> {
+impl SingleEnvTypechecker<'_, '_, '_, '_> {
     /// `base has attr` at `loc`, where the base is typed.
     #[tactic(auto, using(crate::proofs::TypedViews::annotation_is))]
     pub(crate) fn has_answer<'a>(

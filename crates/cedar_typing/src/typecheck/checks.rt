@@ -53,11 +53,11 @@ impl<'a> Typechecker<'a> {
     }
 
     /// The check of a template's condition in this environment.
-    pub fn typecheck_by_single_request_env<'b>(
-        &'b self,
+    pub fn typecheck_by_single_request_env(
+        &self,
         alloc: Global,
-        t: &'b Template,
-        env: &RequestEnv<'b>,
+        t: &Template,
+        env: &RequestEnv<'_>,
     ) -> Result<PolicyCheck, AllocError>
         ensures { IfOk result (λ r. Checks (setting_for self.now t.now env.now) (condition_of (template_of t.now)) (verdict_of r)) }
     {
@@ -73,7 +73,7 @@ impl<'a> Typechecker<'a> {
     }
 }
 
-impl SingleEnvTypechecker<'_, '_> {
+impl SingleEnvTypechecker<'_, '_, '_, '_> {
     /// The check of a condition.
     fn check(&self, alloc: Global, condition: &Expr) -> Result<PolicyCheck, AllocError>
         ensures { IfOk result (λ r. verdict_of r ≡ check_of (setting_of self.now) (written condition.now)) }

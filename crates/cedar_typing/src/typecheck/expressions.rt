@@ -22,7 +22,7 @@ use std::alloc::{AllocError, Global};
 /// The greatest depth at which an expression is looked at. A condition has depth 1, and each part one more than the whole.
 pub const MAX_NESTING: usize = 400;
 
-impl SingleEnvTypechecker<'_, '_> {
+impl SingleEnvTypechecker<'_, '_, '_, '_> {
     /// Types an expression at this depth, with these prior capabilities, and adds its errors.
     #[cycle(typing)]
     pub(crate) fn typecheck<'a>(

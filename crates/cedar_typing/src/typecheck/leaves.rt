@@ -44,7 +44,7 @@ pub(crate) fn moved_to(typed: Expr<Option<CedarType>>, loc: Option<Loc>) -> Expr
     }
 }
 
-impl SingleEnvTypechecker<'_, '_> {
+impl SingleEnvTypechecker<'_, '_, '_, '_> {
     pub(crate) fn type_literal<'a>(
         &self,
         alloc: Global,

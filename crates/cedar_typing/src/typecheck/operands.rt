@@ -89,7 +89,7 @@ impl<'a> Part<'a> {
     }
 }
 
-impl SingleEnvTypechecker<'_, '_> {
+impl SingleEnvTypechecker<'_, '_, '_, '_> {
     /// The part that an answer hands on where it has to be of one of these types, and an error at `loc` where its type is
     /// none of them. On the limit there is none.
     pub(crate) fn expect<'a>(

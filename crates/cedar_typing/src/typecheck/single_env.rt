@@ -4,9 +4,9 @@ use cedar_types::types::request_env::RequestEnv;
 
 /// Types the expressions of one policy in one environment.
 #[derive(Debug, Drop)]
-pub(crate) struct SingleEnvTypechecker<'c, 'e> {
-    pub schema: &'c ValidatorSchema,
+pub(crate) struct SingleEnvTypechecker<'s, 'r, 'e, 'p> {
+    pub schema: &'s ValidatorSchema,
     pub mode: ValidationMode,
-    pub env: &'c RequestEnv<'e>,
-    pub policy_id: &'c PolicyID,
+    pub env: &'r RequestEnv<'e>,
+    pub policy_id: &'p PolicyID,
 }
