@@ -2,14 +2,36 @@
 #![tactic(auto)]
 
 #[cfg(test)]
+mod access_checks;
+#[cfg(test)]
+mod and_checks;
+#[cfg(test)]
 mod answers;
+#[cfg(test)]
+mod checking;
+#[cfg(test)]
+mod conditions;
+#[cfg(test)]
+mod faults;
 #[cfg(test)]
 mod follow_ups;
 #[cfg(test)]
+mod has_checks;
+#[cfg(test)]
 mod lazy_sequences;
+#[cfg(test)]
+mod leaf_checks;
 #[cfg(test)]
 mod make;
 #[cfg(test)]
+mod nesting_checks;
+#[cfg(test)]
 mod page;
 #[cfg(test)]
+mod schema_fixture;
+#[cfg(test)]
+mod schema_parts;
+#[cfg(test)]
 mod sequences;
+#[cfg(test)]
+mod typed_conditions;
