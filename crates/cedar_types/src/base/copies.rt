@@ -60,16 +60,8 @@ fn copy_kind(alloc: Global, kind: &ExprKind) -> Result<ExprKind, AllocError>
                 else_expr,
             })
         }
-        ExprKind::And(a, b) => {
-            let a = copy_box(alloc, a)?;
-            let b = copy_box(alloc, b)?;
-            Ok(ExprKind::And(a, b))
-        }
-        ExprKind::Or(a, b) => {
-            let a = copy_box(alloc, a)?;
-            let b = copy_box(alloc, b)?;
-            Ok(ExprKind::Or(a, b))
-        }
+        ExprKind::And(a, b) => Ok(ExprKind::And(copy_box(alloc, a)?, copy_box(alloc, b)?)),
+        ExprKind::Or(a, b) => Ok(ExprKind::Or(copy_box(alloc, a)?, copy_box(alloc, b)?)),
         ExprKind::UnaryApp(op, a) => Ok(ExprKind::UnaryApp(*op, copy_box(alloc, a)?)),
         ExprKind::BinaryApp(op, a, b) => {
             let a = copy_box(alloc, a)?;
@@ -81,14 +73,8 @@ fn copy_kind(alloc: Global, kind: &ExprKind) -> Result<ExprKind, AllocError>
             let args = copy_list(alloc, args)?;
             Ok(ExprKind::ExtensionFunctionApp(name, args))
         }
-        ExprKind::GetAttr(a, x) => {
-            let a = copy_box(alloc, a)?;
-            Ok(ExprKind::GetAttr(a, x.clone()?))
-        }
-        ExprKind::HasAttr(a, x) => {
-            let a = copy_box(alloc, a)?;
-            Ok(ExprKind::HasAttr(a, x.clone()?))
-        }
+        ExprKind::GetAttr(a, x) => Ok(ExprKind::GetAttr(copy_box(alloc, a)?, x.clone()?)),
+        ExprKind::HasAttr(a, x) => Ok(ExprKind::HasAttr(copy_box(alloc, a)?, x.clone()?)),
         ExprKind::ExtHasAttr(a, chain) => {
             let a = copy_box(alloc, a)?;
             Ok(ExprKind::ExtHasAttr(a, chain.clone()?))
@@ -97,10 +83,7 @@ fn copy_kind(alloc: Global, kind: &ExprKind) -> Result<ExprKind, AllocError>
             let a = copy_box(alloc, a)?;
             Ok(ExprKind::Like(a, copy_pattern(alloc, pattern)?))
         }
-        ExprKind::Is(a, t) => {
-            let a = copy_box(alloc, a)?;
-            Ok(ExprKind::Is(a, t.clone()?))
-        }
+        ExprKind::Is(a, t) => Ok(ExprKind::Is(copy_box(alloc, a)?, t.clone()?)),
         ExprKind::Set(elements) => Ok(ExprKind::Set(copy_list(alloc, elements)?)),
         ExprKind::Record(fields) => Ok(ExprKind::Record(copy_fields(alloc, fields)?)),
     }
