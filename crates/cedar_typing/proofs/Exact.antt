@@ -3,6 +3,7 @@ use Rattle.std.proofs.Common.{◌≡◌, ℕ, ◌+◌, ◌≤◌, ◌<◌, Bool,
 use Rattle.std.specs.Prelude.{if◌then◌else◌}
 use Rattle.std.proofs.lemmas.Grind.{common_steps}
 use Rattle.cedar_types.specs.declared.base.location.Loc.{Loc}
+use Rattle.cedar_types.specs.declared.base.operators.UnaryOp.{UnaryOp}
 use Rattle.cedar_types.specs.Names.{Path}
 use Rattle.cedar_types.specs.Types.{Ty}
 use Rattle.cedar_types.specs.Tree.{lit, var, slot, unknown, if_then_else, and, or, unary, binary, call, get_attr, has_attr, ext_has_attr, like, is_type, set_of, record_of}
@@ -15,6 +16,9 @@ use Rattle.cedar_typing.specs.Failing.{Recovery, Cut, LeafRecovery, leaf_missing
 use Rattle.cedar_typing.specs.Judge.{Ans, success, failure, limit, Out, leaf_of, unbuilt_of, within, judge}
 use Rattle.cedar_typing.proofs.Judged.{Answers, a_derived, a_recovered, a_cut, Found, Marks, Judged}
 use Rattle.cedar_typing.proofs.JudgedAnd.{and_judged}
+use Rattle.cedar_typing.proofs.JudgedOr.{or_judged}
+use Rattle.cedar_typing.proofs.JudgedNot.{not_judged}
+use Rattle.cedar_typing.proofs.JudgedIf.{if_judged}
 use Rattle.cedar_typing.proofs.JudgedAccess.{has_judged, get_judged}
 
 within_limit : (d : ℕ) → nat_lt max_nesting d ≡ false → d ≤ max_nesting
@@ -114,10 +118,12 @@ judged w (lit m x) prior d = within_judged d _ _ _ _ (leaf_judged m (λ k. lit k
 judged w (var m x) prior d = within_judged d _ _ _ _ (leaf_judged m (λ k. var k x) (λ k. refl) (variable_type w x))
 judged w (slot m s) prior d = within_judged d _ _ _ _ (always_judged m (λ k. slot k s) (λ k. refl) (slot_ty w.env s))
 judged w (unknown m n) prior d = within_judged d _ _ _ _ (unknown_judged n m)
-judged w (if_then_else m a b c) prior d = within_judged d _ _ _ _ (unbuilt_judged w m.place)
+judged w (if_then_else m a b e) prior d = within_judged d _ _ _ _ (if_judged w m (place_of a) _ _ _ _ _ _ _ _ _ prior (judge w a prior (d + 1)) (λ p. judge w b p (d + 1)) (judge w e prior (d + 1)) (judged w a prior (d + 1)) (λ p. judged w b p (d + 1)) (judged w e prior (d + 1)))
 judged w (and m a b) prior d = within_judged d _ _ _ _ (and_judged w m (place_of a) (place_of b) _ _ _ _ _ _ prior (judge w a prior (d + 1)) (λ p. judge w b p (d + 1)) (judged w a prior (d + 1)) (λ p. judged w b p (d + 1)))
-judged w (or m a b) prior d = within_judged d _ _ _ _ (unbuilt_judged w m.place)
-judged w (unary m o a) prior d = within_judged d _ _ _ _ (unbuilt_judged w m.place)
+judged w (or m a b) prior d = within_judged d _ _ _ _ (or_judged w m (place_of a) (place_of b) _ _ _ _ _ _ (judge w a prior (d + 1)) (judge w b prior (d + 1)) (judged w a prior (d + 1)) (judged w b prior (d + 1)))
+judged w (unary m UnaryOp.Not a) prior d = within_judged d _ _ _ _ (not_judged w m (place_of a) _ _ _ (judge w a prior (d + 1)) (judged w a prior (d + 1)))
+judged w (unary m UnaryOp.Neg a) prior d = within_judged d _ _ _ _ (unbuilt_judged w m.place)
+judged w (unary m UnaryOp.IsEmpty a) prior d = within_judged d _ _ _ _ (unbuilt_judged w m.place)
 judged w (binary m o a b) prior d = within_judged d _ _ _ _ (unbuilt_judged w m.place)
 judged w (call m n ts) prior d = within_judged d _ _ _ _ (unbuilt_judged w m.place)
 judged w (get_attr m e x) prior d = within_judged d _ _ _ _ (get_judged w m _ _ _ prior e x (judge w e prior (d + 1)) (judged w e prior (d + 1)))

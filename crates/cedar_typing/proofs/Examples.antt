@@ -10,11 +10,9 @@ use Rattle.cedar_typing.specs.Rules.{max_nesting, Has}
 use Rattle.cedar_typing.specs.Failing.{Recovers, Cuts}
 use Rattle.cedar_typing.specs.Judge.{Ans, success, failure, limit, Out, judge}
 use Rattle.cedar_typing.specs.Examples.{RuleExamples, HasType, FailsWith, sample, false_at, typed_false}
+use Rattle.cedar_typing.proofs.Basics.{some_is}
 use Rattle.cedar_typing.proofs.Judged.{Answers, a_derived, a_recovered, a_cut}
 use Rattle.cedar_typing.proofs.Exact.{judged}
-
-some_is : {A : Type 0} {x y : A} → Some x ≡ Some y → x ≡ y
-some_is e = cc
 
 module _ (w : Setting) (e : Source) (p : Caps) (d : ℕ) where
   abbrev Rules : Ans → List Finding → Type 0
@@ -73,6 +71,30 @@ examples = record {
   and_right = typed_as refl refl;
   and_refused = fails_as refl;
   and_failed_left = fails_as refl;
+  or_left = typed_as refl refl;
+  or_open = typed_as refl refl;
+  or_right_true = typed_as refl refl;
+  or_right_known = typed_as refl refl;
+  or_right_false = typed_as refl refl;
+  or_left_false = typed_as refl refl;
+  or_unguarded = fails_as refl;
+  or_refused = fails_as refl;
+  or_failed_left = fails_as refl;
+  not_true = typed_as refl refl;
+  not_false = typed_as refl refl;
+  not_open = typed_as refl refl;
+  not_refused = fails_as refl;
+  not_failed = fails_as refl;
+  if_true = typed_as refl refl;
+  if_false = typed_as refl refl;
+  if_open = typed_as refl refl;
+  if_known = typed_as refl refl;
+  if_unbound = fails_as refl;
+  if_missing = fails_as refl;
+  if_failed_branch = fails_as refl;
+  if_refused = fails_as refl;
+  if_true_failed = fails_as refl;
+  if_false_failed = fails_as refl;
   has_required = typed_as refl refl;
   has_of_record = typed_as refl refl;
   has_optional = typed_as refl refl;

@@ -16,11 +16,10 @@ use Rattle.cedar_typing.specs.declared.typecheck.answer.TypecheckAnswer.TheVaria
 use Rattle.cedar_typing.specs.Answer.{HandsOn}
 use Rattle.cedar_typing.specs.Typed.{typed_tree}
 use Rattle.cedar_typing.specs.Settings.{Setting, nothing}
-use Rattle.cedar_typing.specs.Judge.{ans_of, answer_if, leaf_of, given, given_of, part_with, GivenOut, expected_given, expected_type}
+use Rattle.cedar_typing.specs.Judge.{answer_if, leaf_of, given, part_with, GivenOut, expected_given, expected_type}
+use Rattle.cedar_typing.specs.Plain.{ans_of, given_of}
+use Rattle.cedar_typing.proofs.Basics.{some_is, none_is}
 use Rattle.cedar_typing.proofs.TypedViews.{by_layer, annotation_is}
-
-some_is : {A : Type 0} {x y : A} → Some x ≡ Some y → x ≡ y
-some_is e = cc
 
 pub handed_given : (a : TypecheckAnswer) (p : part.Part) → HandsOn a (Some p) → given (ans_of a) ≡ Some (given_of p)
 handed_given (TypecheckSuccess e c) p h = ap (λ z. Some (given_of z)) (sym (some_is h))
@@ -32,9 +31,6 @@ handed_given RecursionLimit p h = cc
 pub limit_given : (a : TypecheckAnswer) → HandsOn a None → given (ans_of a) ≡ None
 limit_given (TypecheckSuccess e c) h = cc
 limit_given (TypecheckFail e) h = absurd (none_is h.2)
-  where
-    none_is : {A : Type 0} {x : A} → None ≡ Some x → ⊥
-    none_is e = cc
 limit_given RecursionLimit h = refl
 
 -- an operand by the part that is handed on

@@ -8,8 +8,8 @@ use Rattle.cedar_types.specs.Errors.{Finding, unexpected_type}
 use Rattle.cedar_typing.specs.Typed.{TypedTree, annotation}
 use Rattle.cedar_typing.specs.Settings.{Setting, finding, Caps, nothing, accepts, says}
 use Rattle.cedar_typing.specs.Rules.{Derivation}
-use Rattle.cedar_typing.specs.Failing.{Recovery, Cut, Part, derived, recovered, Operand, accepted, refused, missing}
-use Rattle.cedar_typing.specs.Judge.{Ans, success, failure, limit, Given, part_with, dropped, Out, GivenOut, expected_type, expected, after}
+use Rattle.cedar_typing.specs.Failing.{Recovery, Cut, Part, derived, recovered, Operand, accepted, refused, missing, Tried, tried_part, tried_cut}
+use Rattle.cedar_typing.specs.Judge.{Ans, success, failure, limit, Given, part_with, dropped, Out, GivenOut, given, expected_type, expected, after, any_part}
 
 -- an answer and its errors, by the rules
 pub data Answers (D : Derivation) (R : Recovery) (C : Cut) : Ans → List Finding → Type 0 where
@@ -34,16 +34,28 @@ pub record Judged (j : List Finding → Out) (D : Derivation) (R : Recovery) (C 
   pub only : (es : List Finding) (a : Ans) (added : List Finding) → Answers D R C a added → j es ≡ (a, es ++ added)
   pub marks : Marks D
 
--- what a part comes to, of which a type is required
-pub data OperandAnswer (w : Setting) (ts : List Ty) (l : Option Loc) (D : Derivation) (R : Recovery) (C : Cut) : Option Given → List Finding → Type 0 where
-  handed : {good : Bool} {c : Caps} {e : TypedTree} {es : List Finding} → Operand w ts l D R good c e es → OperandAnswer w ts l D R C (Some (part_with good c e)) es
-  cut_off : {es : List Finding} → C es → OperandAnswer w ts l D R C None es
+-- a part as it is handed on: whether it is derived, its capabilities, how it is typed, and its errors
+abbrev pub Handing : Type 1
+Handing = Bool → Caps → TypedTree → List Finding → Type 0
 
-pub record OperandFound (w : Setting) (ts : List Ty) (l : Option Loc) (D : Derivation) (R : Recovery) (C : Cut) (o : GivenOut) (es : List Finding) : Type 0 where
+-- what a part comes to: it is handed on, or it is cut
+pub data PartAnswer (H : Handing) (C : Cut) : Option Given → List Finding → Type 0 where
+  handed : {good : Bool} {c : Caps} {e : TypedTree} {es : List Finding} → H good c e es → PartAnswer H C (Some (part_with good c e)) es
+  cut_off : {es : List Finding} → C es → PartAnswer H C None es
+
+-- from the errors es on, what it comes to and the errors that are added
+pub record PartFound (H : Handing) (C : Cut) (o : GivenOut) (es : List Finding) : Type 0 where
   pub operand : Option Given
   pub added : List Finding
   pub is : o ≡ (operand, es ++ added)
-  pub rules : OperandAnswer w ts l D R C operand added
+  pub rules : PartAnswer H C operand added
+
+-- the same of a part of which a type is required
+abbrev pub OperandAnswer : Setting → List Ty → Option Loc → Derivation → Recovery → Cut → Option Given → List Finding → Type 0
+OperandAnswer w ts l D R C = PartAnswer (Operand w ts l D R) C
+
+abbrev pub OperandFound : Setting → List Ty → Option Loc → Derivation → Recovery → Cut → GivenOut → List Finding → Type 0
+OperandFound w ts l D R C = PartFound (Operand w ts l D R) C
 
 module _ (w : Setting) (ts : List Ty) (l : Option Loc) (D : Derivation) (R : Recovery) (C : Cut) where
   tested : (good : Bool) (c : Caps) (e : TypedTree) (es added : List Finding) (t : Ty) (b : Bool) → annotation e ≡ Some t → accepts ts t ≡ b → Part D R good c e added
@@ -88,21 +100,28 @@ module _ (D : Derivation) (R : Recovery) (C : Cut) where
   later o es0 es before b a added e r =
       record { answer = a; added = before ++ added; is = e ∙ rw (b, append_assoc) refl; rules = r }
 
-  -- where typing goes on with an operand
-  after_answer : (w : Setting) (ts : List Ty) (l : Option Loc) (D0 : Derivation) (R0 : Recovery) (C0 : Cut) (es0 es before : List Finding) (k : Given → List Finding → Out) → es0 ≡ es ++ before
+  -- where typing goes on with a part
+  after_answer : (H : Handing) (C0 : Cut) (es0 es before : List Finding) (k : Given → List Finding → Out) → es0 ≡ es ++ before
       → ((added : List Finding) → C0 added → C (before ++ added))
-      → ((good : Bool) (c : Caps) (e : TypedTree) (added : List Finding) → Operand w ts l D0 R0 good c e added → Found D R C (k (part_with good c e) (es0 ++ added)) es)
-      → (g : Option Given) (added : List Finding) → OperandAnswer w ts l D0 R0 C0 g added → Found D R C (after (g, es0 ++ added) k) es
-  after_answer w ts l D0 R0 C0 es0 es before k b cut on g added (handed {good = good} {c = c} {e = e} op) = on good c e added op
-  after_answer w ts l D0 R0 C0 es0 es before k b cut on g added (cut_off h) = later _ es0 es before b limit added refl (a_cut (cut added h))
+      → ((good : Bool) (c : Caps) (e : TypedTree) (added : List Finding) → H good c e added → Found D R C (k (part_with good c e) (es0 ++ added)) es)
+      → (g : Option Given) (added : List Finding) → PartAnswer H C0 g added → Found D R C (after (g, es0 ++ added) k) es
+  after_answer H C0 es0 es before k b cut on g added (handed {good = good} {c = c} {e = e} p) = on good c e added p
+  after_answer H C0 es0 es before k b cut on g added (cut_off h) = later _ es0 es before b limit added refl (a_cut (cut added h))
 
+  pub after_part : (H : Handing) (C0 : Cut) (es0 es before : List Finding) (k : Given → List Finding → Out) → es0 ≡ es ++ before
+      → ((added : List Finding) → C0 added → C (before ++ added))
+      → ((good : Bool) (c : Caps) (e : TypedTree) (added : List Finding) → H good c e added → Found D R C (k (part_with good c e) (es0 ++ added)) es)
+      → (o : GivenOut) → PartFound H C0 o es0 → Found D R C (after o k) es
+  after_part H C0 es0 es before k b cut on o f =
+      let P : GivenOut → Type 0 = λ o. Found D R C (after o k) es in
+      subst P (sym f.is) (after_answer H C0 es0 es before k b cut on f.operand f.added f.rules)
+
+  -- where it goes on with an operand
   pub after_operand : (w : Setting) (ts : List Ty) (l : Option Loc) (D0 : Derivation) (R0 : Recovery) (C0 : Cut) (es0 es before : List Finding) (k : Given → List Finding → Out) → es0 ≡ es ++ before
       → ((added : List Finding) → C0 added → C (before ++ added))
       → ((good : Bool) (c : Caps) (e : TypedTree) (added : List Finding) → Operand w ts l D0 R0 good c e added → Found D R C (k (part_with good c e) (es0 ++ added)) es)
       → (o : GivenOut) → OperandFound w ts l D0 R0 C0 o es0 → Found D R C (after o k) es
-  after_operand w ts l D0 R0 C0 es0 es before k b cut on o f =
-      let P : GivenOut → Type 0 = λ o. Found D R C (after o k) es in
-      subst P (sym f.is) (after_answer w ts l D0 R0 C0 es0 es before k b cut on f.operand f.added f.rules)
+  after_operand w ts l D0 R0 C0 es0 es before k b cut on o f = after_part (Operand w ts l D0 R0) C0 es0 es before k b cut on o f
 
 -- ---- whatever the rules say is answered
 
@@ -125,3 +144,38 @@ module _ (w : Setting) (ts : List Ty) (l : Option Loc) (D : Derivation) (R : Rec
 -- the type at a root passes or not as its annotation says
 pub says_at : (test : Ty → Bool) (x : Option Ty) (t : Ty) (b : Bool) → x ≡ Some t → says test x ≡ b → test t ≡ b
 says_at test x t b e h = sym (ap (says test) e) ∙ h
+
+-- ---- parts of which nothing is required
+
+module _ (D : Derivation) (R : Recovery) (C : Cut) where
+  part_answer : (a : Ans) (es : List Finding) → Answers D R C a es → PartAnswer (Part D R) C (given a) es
+  part_answer a es (a_derived h) = handed (derived h)
+  part_answer a es (a_recovered h) = handed (recovered h)
+  part_answer a es (a_cut h) = cut_off h
+
+  pub part_found : (o : Out) (es : List Finding) → Found D R C o es → PartFound (Part D R) C (any_part o) es
+  part_found o es f = record { operand = given f.answer; added = f.added; is = ap any_part f.is; rules = part_answer f.answer f.added f.rules }
+
+  pub part_tried : (g : Option Given) (es : List Finding) → PartAnswer (Part D R) C g es → Tried D R C es
+  part_tried g es (handed p) = tried_part p
+  part_tried g es (cut_off h) = tried_cut h
+
+  pub tried_answer : (es : List Finding) → Tried D R C es → (g : Option Given) × PartAnswer (Part D R) C g es
+  tried_answer es (tried_part p) = (_, handed p)
+  tried_answer es (tried_cut h) = (None, cut_off h)
+
+  -- whatever the rules say of it is answered
+  pub any_only : (j : List Finding → Out) → Judged j D R C → (g : Option Given) (added : List Finding) → PartAnswer (Part D R) C g added → (es : List Finding) → any_part (j es) ≡ (g, es ++ added)
+  any_only j base g added (handed (derived h)) es = ap any_part (base.only es _ _ (a_derived h))
+  any_only j base g added (handed (recovered h)) es = ap any_part (base.only es _ _ (a_recovered h))
+  any_only j base g added (cut_off h) es = ap any_part (base.only es _ _ (a_cut h))
+
+  -- a good part is derived, without errors
+  pub record GoodPart (c : Caps) (e : TypedTree) (es : List Finding) : Type 0 where
+    pub ty : Ty
+    pub derived : D ty c e
+    pub mark : annotation e ≡ Some ty
+    pub silent : es ≡ []
+
+  pub good_part_of : (c : Caps) (e : TypedTree) (es : List Finding) → Marks D → Part D R true c e es → GoodPart c e es
+  good_part_of c e es m (derived {t = t} s) = record { ty = t; derived = s; mark = m t c e s; silent = refl }

@@ -9,9 +9,7 @@ use Rattle.cedar_typing.specs.declared.typecheck.sequence.Gathered.{Gathered}
 use Rattle.cedar_typing.specs.declared.typecheck.answer.Part.{Part}
 use Rattle.cedar_typing.specs.declared.typecheck.answer.TypecheckAnswer.{TypecheckAnswer}
 use Rattle.cedar_typing.specs.declared.typecheck.answer.TypecheckAnswer.TheVariants.{TypecheckSuccess, TypecheckFail, RecursionLimit}
-
-some_is : {A : Type 0} {x y : A} → Some x ≡ Some y → x ≡ y
-some_is e = cc
+use Rattle.cedar_typing.proofs.Basics.{some_is, none_is}
 
 -- what one more answer hands on
 pub record OneMore (a : TypecheckAnswer) (p : Part) : Type 0 where
@@ -31,9 +29,6 @@ one_more RecursionLimit p h = cc
 pub is_limit : (a : TypecheckAnswer) → HandsOn a None → a ≡ RecursionLimit
 is_limit (TypecheckSuccess e c) h = cc
 is_limit (TypecheckFail e) h = absurd (none_is h.2)
-  where
-    none_is : {A : Type 0} {x : A} → None ≡ Some x → ⊥
-    none_is e = cc
 is_limit RecursionLimit h = refl
 
 pub all_more : (xs ys : List Answered) → AllHandOn xs → AllHandOn ys → AllHandOn (xs ++ ys)

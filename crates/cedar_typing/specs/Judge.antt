@@ -1,44 +1,27 @@
 -- Typing as a function: what it answers, and which errors it adds to those so far, in its own order.
-use Rattle.std.specs.Prelude.{ℕ, ◌+◌, Bool, true, false, nat_lt, ◌&&◌, ◌||◌, List, [], ◌∷◌, ◌++◌, Option, Some, None, if◌then◌else◌}
+use Rattle.std.specs.Prelude.{ℕ, ◌+◌, Bool, true, false, nat_lt, ◌&&◌, ◌||◌, List, [], ◌∷◌, ◌++◌, Option, Some, None, is_some, if◌then◌else◌}
 use Rattle.cedar_types.specs.declared.base.location.Loc.{Loc}
+use Rattle.cedar_types.specs.declared.base.operators.UnaryOp.{UnaryOp}
 use Rattle.cedar_types.specs.declared.base.types.BoolType.TheVariants.{AnyBool}
-use Rattle.cedar_types.specs.Names.{Text, text_of}
+use Rattle.cedar_types.specs.Names.{Text}
 use Rattle.cedar_types.specs.Types.{Ty, TNever, TBool}
 use Rattle.cedar_types.specs.Tree.{lit, var, slot, unknown, if_then_else, and, or, unary, binary, call, get_attr, has_attr, ext_has_attr, like, is_type, set_of, record_of}
 use Rattle.cedar_types.specs.View.{Written}
-use Rattle.cedar_types.specs.Capability.{caps, attribute}
+use Rattle.cedar_types.specs.Capability.{attribute}
 use Rattle.cedar_types.specs.TypeOrder.{in_order}
 use Rattle.cedar_types.specs.Lookups.{attribute_type, may_have}
-use Rattle.cedar_types.specs.RequestEnvs.{env_of, is_partial}
-use Rattle.cedar_types.specs.SchemaContents.{schema_of}
+use Rattle.cedar_types.specs.RequestEnvs.{is_partial}
 use Rattle.cedar_types.specs.Errors.{Finding, unexpected_type, unsafe_attribute_access, unsafe_optional_attribute_access, internal_invariant_violation}
-use Rattle.cedar_typing.specs.Typed.{Source, TypedTree, Mark, typed, untyped, annotation, cleared, moved, form_of, place_of, typed_tree}
-use Rattle.cedar_typing.specs.Settings.{Setting, finding, Caps, nothing, just, either, accepts, a_bool, an_object, is_false, says, variable_type, slot_ty, literal_ty, and_type, and_caps, declared_has, undeclared_has}
+use Rattle.cedar_typing.specs.Typed.{Source, TypedTree, Mark, typed, untyped, typed_as, annotation, cleared, moved, form_of, place_of}
+use Rattle.cedar_typing.specs.Settings.{Setting, finding, Caps, nothing, just, either, both, accepts, a_bool, an_object, is_false, is_true, says, variable_type, slot_ty, literal_ty, and_type, and_caps, or_type, or_caps, not_type, declared_has, undeclared_has}
 use Rattle.cedar_typing.specs.Rules.{max_nesting}
-use Rattle.cedar_typing.specs.Failing.{nameless}
-use Rattle.cedar_typing.specs.declared.typecheck.answer.TypecheckAnswer.{TypecheckAnswer}
-use Rattle.cedar_typing.specs.declared.typecheck.answer.TypecheckAnswer.TheVariants.{TypecheckSuccess, TypecheckFail, RecursionLimit}
-use Rattle.cedar_typing.specs.declared.typecheck.answer.Part as part
-use Rattle.cedar_typing.specs.declared.typecheck.operands.Required.{Required}
-use Rattle.cedar_typing.specs.declared.typecheck.single_env.SingleEnvTypechecker.{SingleEnvTypechecker}
-
-abbrev pub setting_of : SingleEnvTypechecker → Setting
-setting_of c = record { schema = schema_of c.schema.now; mode = c.mode; env = env_of c.env.now; policy = text_of c.policy_id.now.text }
-
-abbrev pub required_types : Required → List Ty
-required_types Required.Bool = a_bool
-required_types Required.Object = an_object
+use Rattle.cedar_typing.specs.Failing.{nameless, joined, join_errors}
 
 -- an answer as plain data
 pub data Ans : Type 0 where
   success : TypedTree → Caps → Ans
   failure : TypedTree → Ans
   limit : Ans
-
-abbrev pub ans_of : TypecheckAnswer → Ans
-ans_of (TypecheckSuccess e c) = success (typed_tree e) (caps c)
-ans_of (TypecheckFail e) = failure (typed_tree e)
-ans_of RecursionLimit = limit
 
 -- a part that is no limit
 pub record Given : Type 0 where
@@ -48,9 +31,6 @@ pub record Given : Type 0 where
 
 abbrev pub part_with : Bool → Caps → TypedTree → Given
 part_with good c e = record { tree = e; capabilities = c; good = good }
-
-abbrev pub given_of : part.Part → Given
-given_of p = part_with p.is_good (caps p.capabilities) (typed_tree p.typed)
 
 abbrev pub answer_if : Bool → TypedTree → Caps → Ans
 answer_if true e c = success e c
@@ -120,6 +100,62 @@ and_rule w m l' prior a es right =
     if says is_false (annotation a.tree) then (answer_if a.good (moved m.place a.tree) nothing, es)
     else after (expected w a_bool l' (right (either prior a.capabilities) es)) (λ b es'. (and_of m a b (annotation a.tree) (annotation b.tree), es'))
 
+-- the type of `||` where both sides have one
+abbrev pub either_typed : Option Ty → Option Ty → Option Ty
+either_typed None y = None
+either_typed (Some s) None = None
+either_typed (Some s) (Some t) = Some (or_type s t)
+
+-- what both sides of `||` hand on, by their types
+abbrev pub either_hands_on : Option Ty → Option Ty → Caps → Caps → Caps
+either_hands_on (Some s) (Some t) c c' = or_caps s t c c'
+either_hands_on s t c c' = nothing
+
+-- `||` of two sides
+abbrev pub or_of : Written → Given → Given → Option Ty → Option Ty → Ans
+or_of m a b (Some s) (Some t) = answer_if (a.good && b.good) (or (typed (or_type s t) m) a.tree b.tree) (or_caps s t a.capabilities b.capabilities)
+or_of m a b s t = failure (or (typed (TBool AnyBool) m) a.tree b.tree)
+
+abbrev pub or_rule : Setting → Written → Option Loc → Given → List Finding → (List Finding → Out) → Out
+or_rule w m l' a es right =
+    if says is_true (annotation a.tree) then (answer_if a.good (moved m.place a.tree) a.capabilities, es)
+    else after (expected w a_bool l' (right es)) (λ b es'. (or_of m a b (annotation a.tree) (annotation b.tree), es'))
+
+-- `!` of an operand
+abbrev pub not_of : Written → Given → Option Ty → Ans
+not_of m a None = failure (unary (typed (TBool AnyBool) m) UnaryOp.Not a.tree)
+not_of m a (Some s) = answer_if a.good (unary (typed (not_type s) m) UnaryOp.Not a.tree) nothing
+
+-- `if` whose test is True or False, of the test and of the branch that stands for both
+abbrev pub chosen_of : Written → Given → Given → Caps → Ans
+chosen_of m a b c = answer_if (a.good && b.good) (if_then_else (typed_as (annotation b.tree) m) a.tree b.tree b.tree) c
+
+-- an open `if`, of the test and of both branches
+abbrev pub open_of : Setting → Written → Given → Given → Given → List Finding → Out
+open_of w m a b e es = (
+  answer_if (a.good && b.good && e.good && is_some (joined w.mode (annotation b.tree) (annotation e.tree))) (if_then_else (typed_as (joined w.mode (annotation b.tree) (annotation e.tree)) m) a.tree b.tree e.tree) (both e.capabilities (either a.capabilities b.capabilities)),
+  es ++ join_errors w m.place (annotation b.tree) (annotation e.tree),
+)
+
+-- the same, where a branch may be cut
+abbrev pub open_given : Setting → Written → Given → Option Given → Option Given → List Finding → Out
+open_given w m a (Some b) (Some e) es = open_of w m a b e es
+open_given w m a b e es = (limit, es)
+
+-- both branches of an open `if` are typed, one after the other
+abbrev pub open_rule : Setting → Written → Given → Out → (List Finding → Out) → Out
+open_rule w m a b otherwise = open_given w m a (given b.0) (given (otherwise b.1).0) (otherwise b.1).1
+
+-- a part of which nothing is required
+abbrev pub any_part : Out → GivenOut
+any_part o = (given o.0, o.1)
+
+abbrev pub if_rule : Setting → Written → Caps → Given → List Finding → (Caps → List Finding → Out) → (List Finding → Out) → Out
+if_rule w m prior a es branch otherwise =
+    if says is_true (annotation a.tree) then after (any_part (branch (either prior a.capabilities) es)) (λ b es'. (chosen_of m a b (either a.capabilities b.capabilities), es'))
+    else if says is_false (annotation a.tree) then after (any_part (otherwise es)) (λ e es'. (chosen_of m a e e.capabilities, es'))
+    else open_rule w m a (branch (either prior a.capabilities) es) otherwise
+
 -- `has` on a base of this type
 abbrev pub has_declared_of : Setting → Written → Bool → Source → Text → Given → Ty → Option (Ty × Bool) → Ans
 has_declared_of w m known e x a s (Some t) = answer_if a.good (has_attr (typed (declared_has s t.1 known) m) a.tree x) (just (attribute (form_of e) x))
@@ -158,12 +194,19 @@ visit w (lit m x) prior d es = (leaf_of (literal_ty w x) m (λ k. lit k x), es)
 visit w (var m x) prior d es = (leaf_of (variable_type w x) m (λ k. var k x), es)
 visit w (slot m s) prior d es = (success (slot (typed (slot_ty w.env s) m) s) nothing, es)
 visit w (unknown m n) prior d es = (failure (unknown (untyped (record { place = None; names = m.names })) n), es)
-visit w (if_then_else m a b c) prior d es = unbuilt_of w m.place es
+visit w (if_then_else m a b e) prior d es =
+    after (expected w a_bool (place_of a) (within (d + 1) es (visit w a prior (d + 1) es))) (λ p es'.
+    if_rule w m prior p es' (λ prior' es''. within (d + 1) es'' (visit w b prior' (d + 1) es'')) (λ es''. within (d + 1) es'' (visit w e prior (d + 1) es'')))
 visit w (and m a b) prior d es =
     after (expected w a_bool (place_of a) (within (d + 1) es (visit w a prior (d + 1) es))) (λ p es'.
     and_rule w m (place_of b) prior p es' (λ prior' es''. within (d + 1) es'' (visit w b prior' (d + 1) es'')))
-visit w (or m a b) prior d es = unbuilt_of w m.place es
-visit w (unary m o a) prior d es = unbuilt_of w m.place es
+visit w (or m a b) prior d es =
+    after (expected w a_bool (place_of a) (within (d + 1) es (visit w a prior (d + 1) es))) (λ p es'.
+    or_rule w m (place_of b) p es' (λ es''. within (d + 1) es'' (visit w b prior (d + 1) es'')))
+visit w (unary m UnaryOp.Not a) prior d es =
+    after (expected w a_bool (place_of a) (within (d + 1) es (visit w a prior (d + 1) es))) (λ p es'. (not_of m p (annotation p.tree), es'))
+visit w (unary m UnaryOp.Neg a) prior d es = unbuilt_of w m.place es
+visit w (unary m UnaryOp.IsEmpty a) prior d es = unbuilt_of w m.place es
 visit w (binary m o a b) prior d es = unbuilt_of w m.place es
 visit w (call m n ts) prior d es = unbuilt_of w m.place es
 visit w (get_attr m e x) prior d es =

@@ -1,12 +1,13 @@
 -- What the rules of typing have in common.
 use Rattle.std.specs.Prelude.{◌≡◌, ℕ, ◌+◌, ◌≤◌, ◌<◌, Bool, true, false, List, [], ◌⊎◌, ◌↔◌}
+use Rattle.cedar_types.specs.declared.base.operators.UnaryOp.{UnaryOp}
 use Rattle.cedar_types.specs.Names.{Text}
 use Rattle.cedar_types.specs.Types.{Ty}
-use Rattle.cedar_types.specs.Tree.{and, has_attr, get_attr}
+use Rattle.cedar_types.specs.Tree.{if_then_else, and, or, unary, has_attr, get_attr}
 use Rattle.cedar_types.specs.View.{Written}
 use Rattle.cedar_types.specs.Errors.{Finding}
 use Rattle.cedar_typing.specs.Typed.{Source, TypedTree, annotation, place_of}
-use Rattle.cedar_typing.specs.Settings.{Setting, Caps, either, a_bool, is_false, says}
+use Rattle.cedar_typing.specs.Settings.{Setting, Caps, either, a_bool, is_false, is_true, says}
 use Rattle.cedar_typing.specs.Rules.{max_nesting, Has}
 use Rattle.cedar_typing.specs.Failing.{Part, Operand, Recovers, Cuts}
 
@@ -45,6 +46,17 @@ pub data Looked (w : Setting) : Source → Caps → ℕ → ℕ → Type 0 where
   -- the right side is looked at where the left one is not False
   right_of_and : {m : Written} {a b : Source} {prior : Caps} {d k : ℕ} {good : Bool} {c : Caps} {x : TypedTree} {es : List Finding} → d ≤ max_nesting
       → Operand w a_bool (place_of a) (Has w a prior (d + 1)) (Recovers w a prior (d + 1)) good c x es → says is_false (annotation x) ≡ false → Looked w b (either prior c) (d + 1) k → Looked w (and m a b) prior d k
+  left_of_or : {m : Written} {a b : Source} {prior : Caps} {d k : ℕ} → d ≤ max_nesting → Looked w a prior (d + 1) k → Looked w (or m a b) prior d k
+  -- the right side is looked at where the left one is not True
+  right_of_or : {m : Written} {a b : Source} {prior : Caps} {d k : ℕ} {good : Bool} {c : Caps} {x : TypedTree} {es : List Finding} → d ≤ max_nesting
+      → Operand w a_bool (place_of a) (Has w a prior (d + 1)) (Recovers w a prior (d + 1)) good c x es → says is_true (annotation x) ≡ false → Looked w b prior (d + 1) k → Looked w (or m a b) prior d k
+  operand_of_not : {m : Written} {a : Source} {prior : Caps} {d k : ℕ} → d ≤ max_nesting → Looked w a prior (d + 1) k → Looked w (unary m UnaryOp.Not a) prior d k
+  test_of_if : {m : Written} {a b e : Source} {prior : Caps} {d k : ℕ} → d ≤ max_nesting → Looked w a prior (d + 1) k → Looked w (if_then_else m a b e) prior d k
+  -- the first branch is looked at where the test is not False, the other one where it is not True
+  then_of_if : {m : Written} {a b e : Source} {prior : Caps} {d k : ℕ} {good : Bool} {c : Caps} {x : TypedTree} {es : List Finding} → d ≤ max_nesting
+      → Operand w a_bool (place_of a) (Has w a prior (d + 1)) (Recovers w a prior (d + 1)) good c x es → says is_false (annotation x) ≡ false → Looked w b (either prior c) (d + 1) k → Looked w (if_then_else m a b e) prior d k
+  else_of_if : {m : Written} {a b e : Source} {prior : Caps} {d k : ℕ} {good : Bool} {c : Caps} {x : TypedTree} {es : List Finding} → d ≤ max_nesting
+      → Operand w a_bool (place_of a) (Has w a prior (d + 1)) (Recovers w a prior (d + 1)) good c x es → says is_true (annotation x) ≡ false → Looked w e prior (d + 1) k → Looked w (if_then_else m a b e) prior d k
   base_of_has : {m : Written} {e : Source} {x : Text} {prior : Caps} {d k : ℕ} → d ≤ max_nesting → Looked w e prior (d + 1) k → Looked w (has_attr m e x) prior d k
   base_of_get : {m : Written} {e : Source} {x : Text} {prior : Caps} {d k : ℕ} → d ≤ max_nesting → Looked w e prior (d + 1) k → Looked w (get_attr m e x) prior d k
 

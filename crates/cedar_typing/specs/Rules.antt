@@ -1,16 +1,18 @@
 -- The rules of typing: which type an expression has, which capabilities it hands on, and how it is typed. There is no failure
 -- in them: where a part has no type by these rules, neither has the whole.
 use Rattle.std.specs.Prelude.{◌≡◌, ℕ, ◌+◌, ◌≤◌, Bool, true, false, ◌&&◌, ◌||◌, Option, Some, None}
-use Rattle.cedar_types.specs.declared.base.types.BoolType.TheVariants.{False}
+use Rattle.cedar_types.specs.declared.base.types.BoolType.TheVariants.{True, False}
+use Rattle.cedar_types.specs.declared.base.operators.UnaryOp.{UnaryOp}
 use Rattle.cedar_types.specs.Names.{Text}
 use Rattle.cedar_types.specs.Types.{Ty, TNever, TBool}
 use Rattle.cedar_types.specs.Tree.{lit, var, slot, unknown, if_then_else, and, or, unary, binary, call, get_attr, has_attr, ext_has_attr, like, is_type, set_of, record_of}
 use Rattle.cedar_types.specs.View.{Written}
 use Rattle.cedar_types.specs.Capability.{attribute}
+use Rattle.cedar_types.specs.Bounds.{lub}
 use Rattle.cedar_types.specs.Lookups.{attribute_type, may_have}
 use Rattle.cedar_types.specs.RequestEnvs.{is_partial}
 use Rattle.cedar_typing.specs.Typed.{Source, TypedTree, Mark, typed, moved, form_of}
-use Rattle.cedar_typing.specs.Settings.{Setting, Caps, nothing, just, either, accepts, a_bool, an_object, is_false, variable_type, slot_ty, literal_ty, and_type, and_caps, declared_has, undeclared_has}
+use Rattle.cedar_typing.specs.Settings.{Setting, Caps, nothing, just, either, both, accepts, a_bool, an_object, is_false, is_true, variable_type, slot_ty, literal_ty, and_type, and_caps, or_type, or_caps, not_type, declared_has, undeclared_has}
 
 -- the greatest depth at which an expression is looked at; a condition has depth 1, and each part one more than the whole
 abbrev pub max_nesting : ℕ
@@ -31,6 +33,28 @@ pub data AndRule (m : Written) (A : Derivation) (B : Caps → Derivation) (prior
   -- else b is typed with what a hands on besides
   and_both : {s t : Ty} {c c' : Caps} {a b : TypedTree} → A s c a → accepts a_bool s ≡ true → is_false s ≡ false → B (either prior c) t c' b → accepts a_bool t ≡ true
       → AndRule m A B prior (and_type s t) (and_caps t c c') (and (typed (and_type s t) m) a b)
+
+-- `a || b`, by the derivations of a and of b, which are typed with the same prior capabilities
+pub data OrRule (m : Written) (A B : Derivation) : Ty → Caps → TypedTree → Type 0 where
+  -- a is True: the whole is a alone, at the place of the whole, and b is not looked at
+  or_left_true : {c : Caps} {a : TypedTree} → A (TBool True) c a → OrRule m A B (TBool True) c (moved m.place a)
+  -- else b is typed, and knows nothing of a
+  or_both : {s t : Ty} {c c' : Caps} {a b : TypedTree} → A s c a → accepts a_bool s ≡ true → is_true s ≡ false → B t c' b → accepts a_bool t ≡ true
+      → OrRule m A B (or_type s t) (or_caps s t c c') (or (typed (or_type s t) m) a b)
+
+-- `!a`, by the derivations of a
+pub data NotRule (m : Written) (A : Derivation) : Ty → Caps → TypedTree → Type 0 where
+  not_typed : {s : Ty} {c : Caps} {a : TypedTree} → A s c a → accepts a_bool s ≡ true → NotRule m A (not_type s) nothing (unary (typed (not_type s) m) UnaryOp.Not a)
+
+-- `if a then b else e`, by the derivations of a, of b with given prior capabilities, and of e
+pub data IfRule (w : Setting) (m : Written) (A : Derivation) (B : Caps → Derivation) (E : Derivation) (prior : Caps) : Ty → Caps → TypedTree → Type 0 where
+  -- a is True: b stands for both branches, and is typed with what a hands on besides; e is not looked at
+  if_true : {t : Ty} {c c' : Caps} {a b : TypedTree} → A (TBool True) c a → B (either prior c) t c' b → IfRule w m A B E prior t (either c c') (if_then_else (typed t m) a b b)
+  -- a is False: e stands for both branches; b is not looked at, and what a hands on is dropped
+  if_false : {t : Ty} {c c' : Caps} {a e : TypedTree} → A (TBool False) c a → E t c' e → IfRule w m A B E prior t c' (if_then_else (typed t m) a e e)
+  -- else both are typed, and the type is their bound; what is known holds after e, and after a and b
+  if_open : {s t u v : Ty} {c c' c'' : Caps} {a b e : TypedTree} → A s c a → accepts a_bool s ≡ true → is_true s ≡ false → is_false s ≡ false → B (either prior c) t c' b → E u c'' e → lub w.mode t u ≡ Some v
+      → IfRule w m A B E prior v (both c'' (either c c')) (if_then_else (typed v m) a b e)
 
 -- `e has x`, by the derivations of e
 pub data HasRule (w : Setting) (m : Written) (E : Derivation) (prior : Caps) (e : Source) (x : Text) : Ty → Caps → TypedTree → Type 0 where
@@ -64,10 +88,12 @@ Has w (lit m x) prior d = Within d (LeafRule (literal_ty w x) m (λ k. lit k x))
 Has w (var m x) prior d = Within d (LeafRule (variable_type w x) m (λ k. var k x))
 Has w (slot m s) prior d = Within d (LeafRule (Some (slot_ty w.env s)) m (λ k. slot k s))
 Has w (unknown m n) prior d = Within d NoRule
-Has w (if_then_else m a b c) prior d = Within d NoRule
+Has w (if_then_else m a b e) prior d = Within d (IfRule w m (Has w a prior (d + 1)) (λ p. Has w b p (d + 1)) (Has w e prior (d + 1)) prior)
 Has w (and m a b) prior d = Within d (AndRule m (Has w a prior (d + 1)) (λ p. Has w b p (d + 1)) prior)
-Has w (or m a b) prior d = Within d NoRule
-Has w (unary m o a) prior d = Within d NoRule
+Has w (or m a b) prior d = Within d (OrRule m (Has w a prior (d + 1)) (Has w b prior (d + 1)))
+Has w (unary m UnaryOp.Not a) prior d = Within d (NotRule m (Has w a prior (d + 1)))
+Has w (unary m UnaryOp.Neg a) prior d = Within d NoRule
+Has w (unary m UnaryOp.IsEmpty a) prior d = Within d NoRule
 Has w (binary m o a b) prior d = Within d NoRule
 Has w (call m n ts) prior d = Within d NoRule
 Has w (get_attr m e x) prior d = Within d (GetRule w m (Has w e prior (d + 1)) prior e x)

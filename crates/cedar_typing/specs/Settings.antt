@@ -42,6 +42,9 @@ just c = λ q. cap_eq q c
 abbrev pub either : Caps → Caps → Caps
 either f g = λ q. f q || g q
 
+abbrev pub both : Caps → Caps → Caps
+both f g = λ q. f q && g q
+
 -- ---- what an operand may have to be
 
 -- an operand is accepted whose type is, in Permissive, a subtype of one of those that are required
@@ -120,6 +123,19 @@ and_type a b = if is_false b then TBool False else if is_true b then a else if i
 -- a right False hands on nothing, else both sides do
 abbrev pub and_caps : Ty → Caps → Caps → Caps
 and_caps b c c' = if is_false b then nothing else either c c'
+
+-- `||` by the types of both sides: True beside a right True, the left's beside a right False, the right's beside a left
+-- False, else Bool
+abbrev pub or_type : Ty → Ty → Ty
+or_type a b = if is_true b then TBool True else if is_false b then a else if is_false a then b else TBool AnyBool
+
+-- the side that decides hands on what it knows, else only what both know is handed on
+abbrev pub or_caps : Ty → Ty → Caps → Caps → Caps
+or_caps a b c c' = if is_true b then c' else if is_false b then c else if is_false a then c' else both c c'
+
+-- `!`: True and False change places
+abbrev pub not_type : Ty → Ty
+not_type a = if is_true a then TBool False else if is_false a then TBool True else TBool AnyBool
 
 -- `has` of an attribute that is declared, whether required, on a value of the type, where it is known or not: True where it
 -- is known, or required of a record; else Bool

@@ -26,6 +26,10 @@ typed t m = record { ty = Some t; at = m }
 abbrev pub untyped : Written → Mark
 untyped m = record { ty = None; at = m }
 
+-- a node that has another's type, if that has one
+abbrev pub typed_as : Option Ty → Written → Mark
+typed_as t m = record { ty = t; at = m }
+
 -- the tree of a typed expression of the program
 abbrev pub typed_tree : Expr (Option CedarType) → TypedTree
 typed_tree = tree_with (λ t l p. record { ty = option_map ty_of t; at = record { place = l; names = p } })

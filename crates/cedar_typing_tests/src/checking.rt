@@ -3,12 +3,13 @@ use crate::conditions::at;
 use crate::faults::policy;
 use crate::schema_fixture::users_and_photos;
 use cedar_types::base::{
-    ActionConstraint, CedarType, Expr, ExtensionSchemas, PrincipalConstraint,
+    ActionConstraint, CedarType, Expr, ExprKind, ExtensionSchemas, PrincipalConstraint,
     PrincipalOrResourceConstraint, ResourceConstraint, Template, ValidationError, ValidationMode,
 };
 use cedar_typing::typecheck::{PolicyCheck, Typechecker};
 use std::alloc::{AllocError, Global};
 use std::process::Abort;
+use std::rc::Rc;
 use std::test::Fail;
 
 /// A typed condition.
@@ -106,5 +107,25 @@ pub fn fails(rt: &impl Abort, check: PolicyCheck, want: &[ValidationError]) -> R
             are(rt, errors, want);
             Ok(())
         }
+    }
+}
+
+/// The typed copy of the condition that a policy was given, which stands beside that of its scope.
+pub fn given(typed: &Typed) -> Option<&Typed> {
+    match &typed.kind {
+        ExprKind::And(_, condition) => Some(condition),
+        _ => None,
+    }
+}
+
+/// Both branches of an `if`.
+pub fn branches(typed: &Typed) -> Option<(&Rc<Typed>, &Rc<Typed>)> {
+    match &typed.kind {
+        ExprKind::If {
+            test_expr: _test,
+            then_expr,
+            else_expr,
+        } => Some((then_expr, else_expr)),
+        _ => None,
     }
 }

@@ -1,7 +1,7 @@
 // The errors that checks find, written short.
 use crate::conditions::at;
-use crate::schema_parts::{ANY_ENTITY, BOOL, none, record};
-use cedar_types::base::{CedarType, OpenTag, PolicyID, ValidationError};
+use crate::schema_parts::{ANY_ENTITY, BOOL, entity, none, record};
+use cedar_types::base::{CedarType, LubContext, OpenTag, PolicyID, ValidationError};
 use std::alloc::{AllocError, Global};
 use std::collections::BTreeSet;
 use std::rc::RcStr;
@@ -53,6 +53,11 @@ pub fn unguarded(
     Ok(ValidationError::unsafe_optional_attribute_access(at(start), policy, owner, attr))
 }
 
+/// `principal.vip` stands here, and it is not known that it is there.
+pub fn unguarded_vip(alloc: Global, start: usize) -> Result<ValidationError, AllocError> {
+    unguarded(alloc, start, entity(alloc, "User")?, "vip")
+}
+
 /// The access here is to an attribute that is not declared.
 pub fn undeclared(
     alloc: Global,
@@ -64,6 +69,26 @@ pub fn undeclared(
     let attr = RcStr::from_str(alloc, attr)?;
     let policy = policy(alloc)?;
     Ok(ValidationError::unsafe_attribute_access(at(start), policy, owner, attr, may_exist))
+}
+
+/// `principal.nope` stands here, which is not declared.
+pub fn undeclared_nope(alloc: Global, start: usize) -> Result<ValidationError, AllocError> {
+    undeclared(alloc, start, entity(alloc, "User")?, "nope", false)
+}
+
+/// The branches of the `if` here have these types, which have no bound.
+pub fn without_a_bound(
+    alloc: Global,
+    start: usize,
+    one: CedarType,
+    other: CedarType,
+) -> Result<ValidationError, AllocError> {
+    let mut types = BTreeSet::new(alloc);
+    types.insert(one)?;
+    types.insert(other)?;
+    let policy = policy(alloc)?;
+    let context = LubContext::Conditional;
+    Ok(ValidationError::incompatible_types(at(start), policy, types, context))
 }
 
 /// The form that stands here has no rule.

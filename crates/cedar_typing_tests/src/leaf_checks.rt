@@ -1,6 +1,6 @@
 // Checks of conditions without parts, and of a form without a rule.
 use crate::checking::{checked, fails, strict, success, unrequested};
-use crate::conditions::{at, boolean, node, variable};
+use crate::conditions::{at, boolean, node, one, variable};
 use crate::faults::{not_a_bool, without_a_rule};
 use crate::schema_fixture::context_type;
 use crate::schema_parts::{ANY_ENTITY, TRUE, entity, name, uid};
@@ -103,8 +103,8 @@ fn unknowns_fail_without_an_error(rt: HostRuntime) -> Result<(), Fail> {
 #[test]
 fn a_form_without_a_rule_is_an_error(rt: HostRuntime) -> Result<(), Fail> {
     let alloc = rt.alloc();
-    let operand = Box::new(alloc, boolean(20, true))?;
-    let condition = node(at(10), ExprKind::UnaryApp(UnaryOp::Not, operand));
+    let operand = Box::new(alloc, one(20))?;
+    let condition = node(at(10), ExprKind::UnaryApp(UnaryOp::Neg, operand));
     let error = without_a_rule(alloc, 10)?;
     fails(&rt, strict(alloc, condition)?, &[error])
 }

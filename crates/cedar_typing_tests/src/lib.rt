@@ -8,6 +8,8 @@ mod and_checks;
 #[cfg(test)]
 mod answers;
 #[cfg(test)]
+mod branch_checks;
+#[cfg(test)]
 mod checking;
 #[cfg(test)]
 mod conditions;
@@ -18,6 +20,8 @@ mod follow_ups;
 #[cfg(test)]
 mod has_checks;
 #[cfg(test)]
+mod if_checks;
+#[cfg(test)]
 mod lazy_sequences;
 #[cfg(test)]
 mod leaf_checks;
@@ -25,6 +29,12 @@ mod leaf_checks;
 mod make;
 #[cfg(test)]
 mod nesting_checks;
+#[cfg(test)]
+mod not_checks;
+#[cfg(test)]
+mod or_checks;
+#[cfg(test)]
+mod or_failure_checks;
 #[cfg(test)]
 mod page;
 #[cfg(test)]

@@ -10,13 +10,20 @@ use std::rc::{Rc, RcStr};
 use std::test::Fail;
 
 /// An attribute `user` alone, of the type `User`.
-fn user_alone(alloc: Global) -> Result<BTreeMap<RcStr, AttributeType>, AllocError> {
+pub fn user_alone(alloc: Global) -> Result<BTreeMap<RcStr, AttributeType>, AllocError> {
     with(alloc, none(alloc), "user", entity(alloc, "User")?, true)
 }
 
-/// `{bool: Bool, age: Long, vip?: Bool, nick?: String}`.
+/// `{user: User, number: Long}`.
+pub fn card_type(alloc: Global) -> Result<CedarType, AllocError> {
+    let attrs = with(alloc, user_alone(alloc)?, "number", CedarType::Long, true)?;
+    record(alloc, attrs, OpenTag::ClosedAttributes)
+}
+
+/// `{bool: Bool, age: Long, card: {..}, vip?: Bool, nick?: String}`.
 fn user_attributes(alloc: Global) -> Result<BTreeMap<RcStr, AttributeType>, AllocError> {
     let attrs = with(alloc, none(alloc), "bool", BOOL, true)?;
+    let attrs = with(alloc, attrs, "card", card_type(alloc)?, true)?;
     let attrs = with(alloc, attrs, "age", CedarType::Long, true)?;
     let attrs = with(alloc, attrs, "vip", BOOL, false)?;
     with(alloc, attrs, "nick", CedarType::String, false)

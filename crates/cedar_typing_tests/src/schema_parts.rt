@@ -6,6 +6,7 @@ use cedar_types::base::{
 use std::alloc::{AllocError, Global};
 use std::collections::{BTreeMap, BTreeSet};
 use std::rc::RcStr;
+use std::test::Fail;
 
 pub const BOOL: CedarType = CedarType::Bool(BoolType::AnyBool);
 
@@ -49,6 +50,14 @@ pub fn types(alloc: Global, basename: &str) -> Result<BTreeSet<EntityType>, Allo
     let mut set = BTreeSet::new(alloc);
     set.insert(entity_type(alloc, basename)?)?;
     Ok(set)
+}
+
+/// The type of the entities of either of two entity types.
+pub fn entity_of_either(alloc: Global, one: &str, other: &str) -> Result<CedarType, Fail> {
+    let mut set = types(alloc, one)?;
+    set.insert(entity_type(alloc, other)?)?;
+    let lub = EntityLUB::from_types(alloc, set)?.ok_or("two entity types")?;
+    Ok(CedarType::Entity(EntityKind::Entity(lub)))
 }
 
 /// No attributes yet.

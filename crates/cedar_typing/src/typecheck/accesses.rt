@@ -10,7 +10,8 @@ ghost use Rattle.cedar_types.specs.RequestEnvs.{is_partial};
 ghost use Rattle.cedar_types.specs.Errors.{finding_of};
 ghost use Rattle.cedar_typing.specs.Typed.{annotation, typed_tree, typed as typed_mark, form_of};
 ghost use Rattle.cedar_typing.specs.Settings.{declared_has, undeclared_has};
-ghost use Rattle.cedar_typing.specs.Judge.{setting_of, ans_of, given_of, part_with, has_of, get_of, get_guarded, get_declared_of};
+ghost use Rattle.cedar_typing.specs.Judge.{part_with, has_of, get_of, get_guarded, get_declared_of};
+ghost use Rattle.cedar_typing.specs.Plain.{setting_of, ans_of, given_of};
 
 use crate::typecheck::answer::{Part, TypecheckAnswer};
 use crate::typecheck::capabilities::one_capability;

@@ -1,7 +1,7 @@
 // Capabilities that typing hands on.
 ghost use Rattle.std.specs.Prelude.{◌≡◌, IfOk};
 ghost use Rattle.cedar_types.specs.Capability.{caps, cap_of};
-ghost use Rattle.cedar_typing.specs.Settings.{nothing, just, either};
+ghost use Rattle.cedar_typing.specs.Settings.{nothing, just, either, both};
 
 use cedar_types::types::capability::{Capability, CapabilitySet};
 use std::alloc::{AllocError, Global};
@@ -32,4 +32,25 @@ pub(crate) fn both_capabilities<'a>(
     ensures { IfOk result (λ r. caps r ≡ either (caps one.now) (caps other.now)) }
 {
     one.union(alloc, other)
+}
+
+/// The capabilities that both have.
+pub(crate) fn common_capabilities<'a>(
+    alloc: Global,
+    one: &CapabilitySet<'a>,
+    other: &CapabilitySet<'a>,
+) -> Result<CapabilitySet<'a>, AllocError>
+    ensures { IfOk result (λ r. caps r ≡ both (caps one.now) (caps other.now)) }
+{
+    one.intersect(alloc, other)
+}
+
+/// A copy of the capabilities.
+pub(crate) fn same_capabilities<'a>(
+    alloc: Global,
+    capabilities: &CapabilitySet<'a>,
+) -> Result<CapabilitySet<'a>, AllocError>
+    ensures { IfOk result (λ r. caps r ≡ caps capabilities.now) }
+{
+    capabilities.try_clone(alloc)
 }

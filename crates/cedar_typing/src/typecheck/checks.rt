@@ -2,7 +2,9 @@
 ghost use Rattle.std.specs.Prelude.{◌≡◌, IfOk};
 ghost use Rattle.cedar_types.specs.View.{written};
 ghost use Rattle.cedar_types.specs.Templates.{template_of, condition_of};
-ghost use Rattle.cedar_typing.specs.Judge.{setting_of};
+ghost use Rattle.cedar_typing.specs.Plain.{setting_of};
+ghost use Rattle.cedar_typing.specs.Conforming.{table_of};
+ghost use Rattle.cedar_typing.specs.SoundChecks.{IsSoundCheck};
 ghost use Rattle.cedar_typing.specs.Checks.{verdict_of, setting_for, Checks, check_of};
 
 use crate::typecheck::capabilities::no_capabilities;
@@ -52,14 +54,17 @@ impl<'a> Typechecker<'a> {
         }
     }
 
-    /// The check of a template's condition in this environment.
+    /// The check of a template's condition in this environment. In Strict a success promises that evaluation of the condition,
+    /// on a request and a store that conform, gives a boolean or fails only for a missing entity, an overflow or an extension
+    /// function; an irrelevant condition is never true.
     pub fn typecheck_by_single_request_env(
         &self,
         alloc: Global,
         t: &Template,
         env: &RequestEnv<'_>,
     ) -> Result<PolicyCheck, AllocError>
-        ensures { IfOk result (λ r. Checks (setting_for self.now t.now env.now) (condition_of (template_of t.now)) (verdict_of r)) }
+        ensures exact { IfOk result (λ r. Checks (setting_for self.now t.now env.now) (condition_of (template_of t.now)) (verdict_of r)) }
+        ensures sound { IfOk result (λ r. IsSoundCheck (setting_for self.now t.now env.now) (table_of self.now.extensions.now) (condition_of (template_of t.now)) (verdict_of r)) }
     {
         let condition = t.condition(alloc)?;
         let checker = SingleEnvTypechecker {

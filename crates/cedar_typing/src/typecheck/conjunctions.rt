@@ -1,20 +1,59 @@
-// `&&`, where both sides are typed.
-ghost use Rattle.std.specs.Prelude.{◌≡◌, IfOk, option_map};
+// `&&`.
+ghost use Rattle.std.specs.Prelude.{◌≡◌, ◌≤◌, IfOk, map, option_map};
 ghost use Rattle.cedar_types.specs.Types.{ty_of};
 ghost use Rattle.cedar_types.specs.Tree.{and};
-ghost use Rattle.cedar_types.specs.View.{no_name};
+ghost use Rattle.cedar_types.specs.View.{no_name, written};
 ghost use Rattle.cedar_types.specs.Capability.{caps};
+ghost use Rattle.cedar_types.specs.Errors.{finding_of};
 ghost use Rattle.cedar_typing.specs.Typed.{annotation, typed_tree, typed};
 ghost use Rattle.cedar_typing.specs.Settings.{and_type};
-ghost use Rattle.cedar_typing.specs.Judge.{ans_of, answer_if, given_of, and_of, both_typed, right_hands_on};
+ghost use Rattle.cedar_typing.specs.Rules.{max_nesting};
+ghost use Rattle.cedar_typing.specs.Judge.{answer_if, and_of, both_typed, right_hands_on, visit};
+ghost use Rattle.cedar_typing.specs.Plain.{setting_of, ans_of, given_of};
 
 use crate::typecheck::answer::{Part, TypecheckAnswer};
 use crate::typecheck::capabilities::{both_capabilities, no_capabilities};
-use crate::typecheck::leaves::without_capabilities;
-use crate::typecheck::type_tests::{any_bool, is_false_type, is_true_type};
-use cedar_types::base::{BoolType, CedarType, Expr, ExprKind, Loc};
+use crate::typecheck::leaves::{moved_to, without_capabilities};
+use crate::typecheck::operands::Required;
+use crate::typecheck::single_env::SingleEnvTypechecker;
+use crate::typecheck::type_tests::{any_bool, is_false_type, is_true_type, is_typed_false};
+use cedar_types::base::{BoolType, CedarType, Expr, ExprKind, Loc, ValidationError};
 use cedar_types::types::capability::CapabilitySet;
 use std::alloc::{AllocError, Global};
+
+impl SingleEnvTypechecker<'_, '_, '_, '_> {
+    #[cycle(typing)]
+    pub(crate) fn type_and<'a>(
+        &self,
+        alloc: Global,
+        prior: &CapabilitySet<'a>,
+        depth: usize,
+        loc: Option<Loc>,
+        left: &'a Expr,
+        right: &'a Expr,
+        errors: &mut Vec<ValidationError>,
+    ) -> Result<TypecheckAnswer<'a>, AllocError>
+        requires { depth ≤ max_nesting }
+        ensures { IfOk result (λ r. visit (setting_of self.now) (and (record { place = loc; names = no_name }) (written left.now) (written right.now)) (caps prior.now) depth (map finding_of errors.old.items) ≡ (ans_of r, map finding_of errors.new.items)) }
+    {
+        let Some(left) = self.type_part(alloc, prior, depth + 1, Required::Bool, left, errors)?
+        else {
+            return Ok(TypecheckAnswer::RecursionLimit);
+        };
+        if is_typed_false(&left.typed) {
+            let is_good = left.is_good;
+            let typed = moved_to(left.typed, loc);
+            return Ok(without_capabilities(alloc, is_good, typed));
+        }
+        let known = both_capabilities(alloc, prior, &left.capabilities)?;
+        let part = self.type_part(alloc, &known, depth + 1, Required::Bool, right, errors)?;
+        let Some(right) = part else {
+            return Ok(TypecheckAnswer::RecursionLimit);
+        };
+        let answer = and_answer(alloc, loc, left, right)?;
+        Ok(answer)
+    }
+}
 
 /// A success or a failure with these capabilities, which a failure drops.
 pub(crate) fn with_capabilities<'a>(
@@ -32,7 +71,7 @@ pub(crate) fn with_capabilities<'a>(
 }
 
 /// `&&` at `loc` of two typed sides, the left of which is not False.
-pub(crate) fn and_answer<'a>(
+fn and_answer<'a>(
     alloc: Global,
     loc: Option<Loc>,
     left: Part<'a>,

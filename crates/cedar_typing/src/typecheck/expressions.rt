@@ -1,23 +1,22 @@
 // Typing of expressions, one arm for each form.
 ghost use Rattle.std.specs.Prelude.{◌≡◌, ◌≤◌, IfOk, map, option_map};
-ghost use Rattle.cedar_types.specs.Tree.{and};
+ghost use Rattle.cedar_types.specs.Names.{text_of};
+ghost use Rattle.cedar_types.specs.Tree.{has_attr, get_attr};
 ghost use Rattle.cedar_types.specs.View.{no_name, written};
 ghost use Rattle.cedar_types.specs.Capability.{caps};
 ghost use Rattle.cedar_types.specs.Errors.{finding_of};
 ghost use Rattle.cedar_typing.specs.Typed.{place_of};
 ghost use Rattle.cedar_typing.specs.Rules.{max_nesting};
-ghost use Rattle.cedar_typing.specs.Judge.{setting_of, required_types, ans_of, given_of, expected, judge, visit};
+ghost use Rattle.cedar_typing.specs.Judge.{expected, judge, visit};
+ghost use Rattle.cedar_typing.specs.Plain.{setting_of, required_types, ans_of, given_of};
 
 use crate::typecheck::answer::{Part, TypecheckAnswer};
-use crate::typecheck::capabilities::both_capabilities;
-use crate::typecheck::conjunctions::and_answer;
-use crate::typecheck::leaves::{moved_to, without_capabilities};
 use crate::typecheck::operands::Required;
 use crate::typecheck::single_env::SingleEnvTypechecker;
-use crate::typecheck::type_tests::is_typed_false;
-use cedar_types::base::{Expr, ExprKind, Loc, ValidationError};
+use cedar_types::base::{Expr, ExprKind, Loc, UnaryOp, ValidationError};
 use cedar_types::types::capability::CapabilitySet;
 use std::alloc::{AllocError, Global};
+use std::rc::RcStr;
 
 /// The greatest depth at which an expression is looked at. A condition has depth 1, and each part one more than the whole.
 pub const MAX_NESTING: usize = 400;
@@ -46,31 +45,27 @@ impl SingleEnvTypechecker<'_, '_, '_, '_> {
             ExprKind::And(left, right) => {
                 self.type_and(alloc, prior, depth, e.loc, left, right, errors)
             }
-            ExprKind::HasAttr(base, attr) => {
-                let required = Required::Object;
-                let part = self.type_part(alloc, prior, depth + 1, required, base, errors)?;
-                let Some(part) = part else {
-                    return Ok(TypecheckAnswer::RecursionLimit);
-                };
-                let answer = self.has_answer(alloc, e.loc, prior, base, attr, part)?;
-                Ok(answer)
+            ExprKind::Or(left, right) => {
+                self.type_or(alloc, prior, depth, e.loc, left, right, errors)
             }
-            ExprKind::GetAttr(base, attr) => {
-                let required = Required::Object;
-                let part = self.type_part(alloc, prior, depth + 1, required, base, errors)?;
-                let Some(part) = part else {
-                    return Ok(TypecheckAnswer::RecursionLimit);
-                };
-                let answer = self.get_answer(alloc, e.loc, prior, base, attr, part, errors)?;
-                Ok(answer)
+            ExprKind::UnaryApp(UnaryOp::Not, operand) => {
+                self.type_not(alloc, prior, depth, e.loc, operand, errors)
             }
             ExprKind::If {
-                test_expr: _test,
-                then_expr: _then,
-                else_expr: _else,
-            } => self.type_unbuilt(alloc, e.loc, errors),
-            ExprKind::Or(_, _) => self.type_unbuilt(alloc, e.loc, errors),
-            ExprKind::UnaryApp(_, _) => self.type_unbuilt(alloc, e.loc, errors),
+                test_expr,
+                then_expr,
+                else_expr,
+            } => self.type_if(
+                alloc, prior, depth, e.loc, test_expr, then_expr, else_expr, errors,
+            ),
+            ExprKind::HasAttr(base, attr) => {
+                self.type_has(alloc, prior, depth, e.loc, base, attr, errors)
+            }
+            ExprKind::GetAttr(base, attr) => {
+                self.type_get(alloc, prior, depth, e.loc, base, attr, errors)
+            }
+            ExprKind::UnaryApp(UnaryOp::Neg, _) => self.type_unbuilt(alloc, e.loc, errors),
+            ExprKind::UnaryApp(UnaryOp::IsEmpty, _) => self.type_unbuilt(alloc, e.loc, errors),
             ExprKind::BinaryApp(_, _, _) => self.type_unbuilt(alloc, e.loc, errors),
             ExprKind::ExtensionFunctionApp(_, _) => self.type_unbuilt(alloc, e.loc, errors),
             ExprKind::ExtHasAttr(_, _) => self.type_unbuilt(alloc, e.loc, errors),
@@ -82,34 +77,48 @@ impl SingleEnvTypechecker<'_, '_, '_, '_> {
     }
 
     #[cycle(typing)]
-    fn type_and<'a>(
+    fn type_has<'a>(
         &self,
         alloc: Global,
         prior: &CapabilitySet<'a>,
         depth: usize,
         loc: Option<Loc>,
-        left: &'a Expr,
-        right: &'a Expr,
+        base: &'a Expr,
+        attr: &RcStr,
         errors: &mut Vec<ValidationError>,
     ) -> Result<TypecheckAnswer<'a>, AllocError>
         requires { depth ≤ max_nesting }
-        ensures { IfOk result (λ r. visit (setting_of self.now) (and (record { place = loc; names = no_name }) (written left.now) (written right.now)) (caps prior.now) depth (map finding_of errors.old.items) ≡ (ans_of r, map finding_of errors.new.items)) }
+        ensures { IfOk result (λ r. visit (setting_of self.now) (has_attr (record { place = loc; names = no_name }) (written base.now) (text_of attr.now)) (caps prior.now) depth (map finding_of errors.old.items) ≡ (ans_of r, map finding_of errors.new.items)) }
     {
-        let Some(left) = self.type_part(alloc, prior, depth + 1, Required::Bool, left, errors)?
-        else {
+        let required = Required::Object;
+        let part = self.type_part(alloc, prior, depth + 1, required, base, errors)?;
+        let Some(part) = part else {
             return Ok(TypecheckAnswer::RecursionLimit);
         };
-        if is_typed_false(&left.typed) {
-            let is_good = left.is_good;
-            let typed = moved_to(left.typed, loc);
-            return Ok(without_capabilities(alloc, is_good, typed));
-        }
-        let known = both_capabilities(alloc, prior, &left.capabilities)?;
-        let part = self.type_part(alloc, &known, depth + 1, Required::Bool, right, errors)?;
-        let Some(right) = part else {
+        let answer = self.has_answer(alloc, loc, prior, base, attr, part)?;
+        Ok(answer)
+    }
+
+    #[cycle(typing)]
+    fn type_get<'a>(
+        &self,
+        alloc: Global,
+        prior: &CapabilitySet<'a>,
+        depth: usize,
+        loc: Option<Loc>,
+        base: &'a Expr,
+        attr: &RcStr,
+        errors: &mut Vec<ValidationError>,
+    ) -> Result<TypecheckAnswer<'a>, AllocError>
+        requires { depth ≤ max_nesting }
+        ensures { IfOk result (λ r. visit (setting_of self.now) (get_attr (record { place = loc; names = no_name }) (written base.now) (text_of attr.now)) (caps prior.now) depth (map finding_of errors.old.items) ≡ (ans_of r, map finding_of errors.new.items)) }
+    {
+        let required = Required::Object;
+        let part = self.type_part(alloc, prior, depth + 1, required, base, errors)?;
+        let Some(part) = part else {
             return Ok(TypecheckAnswer::RecursionLimit);
         };
-        let answer = and_answer(alloc, loc, left, right)?;
+        let answer = self.get_answer(alloc, loc, prior, base, attr, part, errors)?;
         Ok(answer)
     }
 

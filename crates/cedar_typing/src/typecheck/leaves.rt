@@ -7,7 +7,8 @@ ghost use Rattle.cedar_types.specs.View.{lit_of, lit_places, no_name};
 ghost use Rattle.cedar_types.specs.Errors.{finding_of};
 ghost use Rattle.cedar_typing.specs.Typed.{typed_tree, typed as typed_mark, untyped, moved};
 ghost use Rattle.cedar_typing.specs.Settings.{literal_ty, variable_type, slot_ty, linked_ty, bool_ty, nothing};
-ghost use Rattle.cedar_typing.specs.Judge.{ans_of, answer_if, success, failure, leaf_of, unbuilt_of, setting_of};
+ghost use Rattle.cedar_typing.specs.Judge.{answer_if, success, failure, leaf_of, unbuilt_of};
+ghost use Rattle.cedar_typing.specs.Plain.{ans_of, setting_of};
 
 use crate::typecheck::answer::TypecheckAnswer;
 use crate::typecheck::single_env::SingleEnvTypechecker;

@@ -4,7 +4,8 @@ ghost use Rattle.cedar_types.specs.Types.{ty_of, TRecord, no_attrs};
 ghost use Rattle.cedar_types.specs.TypeOrder.{in_order};
 ghost use Rattle.cedar_types.specs.Errors.{finding_of, unexpected_type};
 ghost use Rattle.cedar_typing.specs.Settings.{accepts, finding};
-ghost use Rattle.cedar_typing.specs.Judge.{setting_of, ans_of, given_of, required_types, kept, dropped, expected, expected_type};
+ghost use Rattle.cedar_typing.specs.Judge.{kept, dropped, given, expected, expected_type};
+ghost use Rattle.cedar_typing.specs.Plain.{setting_of, ans_of, given_of, required_types};
 
 use crate::typecheck::answer::{Part, TypecheckAnswer};
 use crate::typecheck::capabilities::no_capabilities;
@@ -87,6 +88,13 @@ impl<'a> Part<'a> {
             is_good: false,
         }
     }
+}
+
+/// The part that an answer hands on, whatever its type. On the limit there is none.
+pub(crate) fn any_part<'a>(alloc: Global, answer: TypecheckAnswer<'a>) -> Option<Part<'a>>
+    ensures { option_map given_of result ≡ given (ans_of answer.entry) }
+{
+    answer.into_part(alloc)
 }
 
 impl SingleEnvTypechecker<'_, '_, '_, '_> {

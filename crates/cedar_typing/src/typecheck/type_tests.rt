@@ -128,3 +128,14 @@ pub(crate) fn is_typed_false(typed: &Expr<Option<CedarType>>) -> bool
         None => false,
     }
 }
+
+/// Whether the type True was found at the root.
+#[tactic(auto, using(crate::proofs::TypedViews::annotation_is))]
+pub(crate) fn is_typed_true(typed: &Expr<Option<CedarType>>) -> bool
+    ensures { result ≡ says is_true (annotation (typed_tree typed.now)) }
+{
+    match &typed.annotation {
+        Some(ty) => is_true_type(ty),
+        None => false,
+    }
+}

@@ -4,9 +4,10 @@ use Rattle.cedar_types.specs.Tree.{and}
 use Rattle.cedar_types.specs.View.{Written, no_name}
 use Rattle.cedar_typing.specs.Typed.{typed, typed_tree}
 use Rattle.cedar_typing.specs.Settings.{nothing}
-use Rattle.cedar_typing.specs.Judge.{answer_if, given_of, and_of}
+use Rattle.cedar_typing.specs.Judge.{answer_if, and_of}
+use Rattle.cedar_typing.specs.Plain.{given_of}
 use Rattle.cedar_typing.proofs.TypedViews.{annotation_is}
-use Rattle.cedar_typing.proofs.Conjunctions.{typed_sides, untyped_sides}
+use Rattle.cedar_typing.proofs.Sides.{typed_conjunction, untyped_conjunction}
 use Rattle.cedar_typing.proofs.typecheck.conjunctions.and_answer.Goals as goal
 
 pub returns-in-Some : goal.returns-in-Some
@@ -16,7 +17,7 @@ returns-in-Some c =
     let y = annotation_is c.args.right.typed in
     c.with_capabilities.ensures
     ∙ (λ i. answer_if (c.args.left.is_good && c.args.right.is_good) (c.in_ok-typed-in-Some.ensures i) (c.in_ok-capabilities.ensures i))
-    ∙ sym (typed_sides m (given_of c.args.left) (given_of c.args.right) _ _ (ty_of c.in-Some.ty) (ap (option_map {U = Ty} ty_of) (sym c.in-Some.is) ∙ c.in_ok-sides.ensures))
+    ∙ sym (typed_conjunction m (given_of c.args.left) (given_of c.args.right) _ _ (ty_of c.in-Some.ty) (ap (option_map {U = Ty} ty_of) (sym c.in-Some.is) ∙ c.in_ok-sides.ensures))
     ∙ (λ i. and_of m (given_of c.args.left) (given_of c.args.right) (sym x i) (sym y i))
 
 pub returns : goal.returns
@@ -26,5 +27,5 @@ returns c =
     let y = annotation_is c.args.right.typed in
     c.without_capabilities.ensures
     ∙ ap (λ e. answer_if false e nothing) (c.in_ok-typed-in-None.ensures ∙ (λ i. and (typed (c.any_bool.ensures i) m) (typed_tree c.args.left.typed) (typed_tree c.args.right.typed)))
-    ∙ sym (untyped_sides m (given_of c.args.left) (given_of c.args.right) _ _ (ap (option_map {U = Ty} ty_of) (sym c.in-None.is) ∙ c.in_ok-sides.ensures))
+    ∙ sym (untyped_conjunction m (given_of c.args.left) (given_of c.args.right) _ _ (ap (option_map {U = Ty} ty_of) (sym c.in-None.is) ∙ c.in_ok-sides.ensures))
     ∙ (λ i. and_of m (given_of c.args.left) (given_of c.args.right) (sym x i) (sym y i))

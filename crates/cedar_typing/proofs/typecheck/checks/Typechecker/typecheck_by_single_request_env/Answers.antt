@@ -1,9 +1,12 @@
 use Rattle.std.proofs.Common.{sym, subst}
 use Rattle.cedar_types.specs.View.{written}
+use Rattle.cedar_types.specs.Templates.{template_of, condition_of}
 use Rattle.cedar_typing.specs.Typed.{Source}
 use Rattle.cedar_typing.specs.Settings.{Setting}
 use Rattle.cedar_typing.specs.Checks.{Verdict, verdict_of, setting_for, Checks}
+use Rattle.cedar_typing.specs.Conforming.{table_of}
 use Rattle.cedar_typing.proofs.Checked.{checked}
+use Rattle.cedar_typing.proofs.SoundChecks.{check_sound}
 use Rattle.cedar_typing.proofs.typecheck.checks.Typechecker.typecheck_by_single_request_env.Goals as goal
 
 pub returns : goal.returns
@@ -12,4 +15,8 @@ returns g c =
     let e = written c.in_ok-condition.condition in
     let P : Verdict → Type 0 = λ v. Checks w e v in
     let Q : Source → Type 0 = λ x. Checks w x (verdict_of c.in_ok-check.check) in
-    subst Q c.in_ok-condition.ensures (subst P (sym c.in_ok-check.ensures) (checked w e))
+    let checks = subst Q c.in_ok-condition.ensures (subst P (sym c.in_ok-check.ensures) (checked w e)) in
+    record {
+      exact = checks;
+      sound = check_sound w (table_of c.args.self.now.extensions.now) (condition_of (template_of c.args.t.now)) (verdict_of c.in_ok-check.check) c.args.self.now.schema.now.faultless checks;
+    }

@@ -1,5 +1,6 @@
 use Rattle.std.proofs.Common.{◌∙◌}
-use Rattle.cedar_typing.specs.Judge.{setting_of, required_types, expected}
+use Rattle.cedar_typing.specs.Judge.{expected}
+use Rattle.cedar_typing.specs.Plain.{setting_of, required_types}
 use Rattle.cedar_typing.proofs.TypedViews.{place_is}
 use Rattle.cedar_typing.proofs.typecheck.single_env.SingleEnvTypechecker.+typing.Goals as goal
 

@@ -1,5 +1,5 @@
 use Rattle.std.proofs.Common.{◌∙◌}
-use Rattle.cedar_typing.specs.Judge.{setting_of, required_types}
+use Rattle.cedar_typing.specs.Plain.{setting_of, required_types}
 use Rattle.cedar_typing.proofs.Handed.{expected_part}
 use Rattle.cedar_typing.proofs.typecheck.single_env.SingleEnvTypechecker.expect.Goals as goal
 

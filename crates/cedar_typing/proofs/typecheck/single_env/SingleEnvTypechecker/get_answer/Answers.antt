@@ -6,7 +6,8 @@ use Rattle.cedar_types.specs.Capability.{caps, attribute}
 use Rattle.cedar_types.specs.Lookups.{attribute_view, attribute_type}
 use Rattle.cedar_types.specs.Errors.{finding_of}
 use Rattle.cedar_typing.specs.Typed.{annotation, typed_tree, form_of}
-use Rattle.cedar_typing.specs.Judge.{setting_of, given_of, get_of, get_declared_of}
+use Rattle.cedar_typing.specs.Judge.{get_of, get_declared_of}
+use Rattle.cedar_typing.specs.Plain.{setting_of, given_of}
 use Rattle.cedar_typing.proofs.TypedViews.{annotation_is}
 use Rattle.cedar_typing.proofs.typecheck.single_env.SingleEnvTypechecker.get_answer.Goals as goal
 

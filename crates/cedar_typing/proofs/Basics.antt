@@ -1,0 +1,34 @@
+-- Facts about truth values and options that several proofs use.
+use Rattle.std.proofs.Common.{◌≡◌, Bool, true, false, ◌||◌, not, Some, None, refl}
+
+pub some_is : {A : Type 0} {x y : A} → Some x ≡ Some y → x ≡ y
+some_is e = cc
+
+pub none_is : {A : Type 0} {x : A} → None ≡ Some x → ⊥
+none_is e = cc
+
+pub not_true : (b : Bool) → not b ≡ true → b ≡ false
+not_true true h = cc
+not_true false h = refl
+
+pub or_left : (a b : Bool) → a ≡ true → (a || b) ≡ true
+or_left true b h = refl
+or_left false b h = cc
+
+pub or_right : (a b : Bool) → b ≡ true → (a || b) ≡ true
+or_right true b h = refl
+or_right false b h = h
+
+-- what follows from either follows
+pub or_cases : (a b : Bool) (P : Type 0) → (a ≡ true → P) → (b ≡ true → P) → (a || b) ≡ true → P
+or_cases true b P f g h = f refl
+or_cases false b P f g h = g h
+
+-- what is not so in either way is not so in each
+pub neither_left : (a b : Bool) → (a || b) ≡ false → a ≡ false
+neither_left true b h = cc
+neither_left false b h = refl
+
+pub neither_right : (a b : Bool) → (a || b) ≡ false → b ≡ false
+neither_right true b h = cc
+neither_right false b h = h

@@ -1,0 +1,5 @@
+use Rattle.cedar_typing.proofs.Soundness.{type_soundness}
+use Rattle.cedar_typing.proofs.typecheck.laws.type_soundness.Goals as goal
+
+pub returns : goal.returns
+returns c = type_soundness

@@ -1,0 +1,80 @@
+-- What typing promises of evaluation.
+use Rattle.std.specs.Prelude.{◌≡◌, ℕ, false, List, Option, Some, None, IsTrue}
+use Rattle.cedar_types.specs.declared.base.types.BoolType.TheVariants.{True}
+use Rattle.cedar_types.specs.declared.base.types.ValidationMode.TheVariants.{Strict}
+use Rattle.cedar_types.specs.Types.{Ty, TBool}
+use Rattle.cedar_types.specs.Errors.{Finding}
+use Rattle.cedar_types.specs.Schemas.{has_fault}
+use Rattle.cedar_types.specs.Values.{Value, OnBool, HasType}
+use Rattle.cedar_types.specs.Stores.{ConformingStore}
+use Rattle.cedar_typing.specs.Typed.{Source, TypedTree, annotation}
+use Rattle.cedar_typing.specs.Settings.{Setting, Caps}
+use Rattle.cedar_typing.specs.Rules.{Has}
+use Rattle.cedar_typing.specs.Failing.{Recovers}
+use Rattle.cedar_typing.specs.Worlds.{World, Failure, TypeFailure, AbsentAttribute, AbsentTag, MissingEntity, Overflow, ExtensionFailure, UnlinkedSlot, UnknownValue, Outcome, Gives, Fails}
+use Rattle.cedar_typing.specs.Evaluation.{eval}
+use Rattle.cedar_typing.specs.Conforming.{Fits, IsEnvironmentOf, SlotsBound, has_external, Table, KeepsTable, AllHold}
+
+-- ---- outcomes
+
+-- P holds of the value, if there is one
+abbrev pub OnValue : (Value → Type 0) → Outcome → Type 0
+OnValue P (Gives v) = P v
+OnValue P (Fails f) = Unit {0}
+
+-- the value, if there is one, has the type, if there is one
+abbrev pub HasFound : Option Ty → Outcome → Type 0
+HasFound None o = Unit {0}
+HasFound (Some t) o = OnValue (HasType t) o
+
+-- only a missing entity, an overflow or an extension function may be the failure
+abbrev pub IsAllowed : Failure → Type 0
+IsAllowed TypeFailure = ⊥
+IsAllowed AbsentAttribute = ⊥
+IsAllowed AbsentTag = ⊥
+IsAllowed MissingEntity = Unit {0}
+IsAllowed Overflow = Unit {0}
+IsAllowed ExtensionFailure = Unit {0}
+IsAllowed UnlinkedSlot = ⊥
+IsAllowed UnknownValue = ⊥
+
+-- a value, or an allowed failure
+abbrev pub IsSafe : Outcome → Type 0
+IsSafe (Gives v) = Unit {0}
+IsSafe (Fails f) = IsAllowed f
+
+abbrev pub IsTrueOutcome : Outcome → Type 0
+IsTrueOutcome (Gives v) = OnBool IsTrue v
+IsTrueOutcome (Fails f) = ⊥
+
+-- ---- type soundness with capabilities
+
+-- what is promised of an expression in a world, where some capabilities are known
+pub record IsSoundAt (w : Setting) (world : World) (e : Source) (prior : Caps) (d : ℕ) : Type 0 where
+  -- a value has the type of the expression, also that of a refused one
+  pub typed : (t : Ty) (c : Caps) (x : TypedTree) → Has w e prior d t c x → OnValue (HasType t) (eval world e)
+  pub recovered : (x : TypedTree) (es : List Finding) → Recovers w e prior d x es → HasFound (annotation x) (eval world e)
+  -- what has a type gives a value or fails in an allowed way
+  pub safe : (t : Ty) (c : Caps) (x : TypedTree) → Has w e prior d t c x → IsSafe (eval world e)
+  -- what it hands on holds where it is true
+  pub told : (t : Ty) (c : Caps) (x : TypedTree) → Has w e prior d t c x → IsTrueOutcome (eval world e) → AllHold world c
+  -- what an expression of the type True hands on holds whether or not it is evaluated
+  pub sure : (c : Caps) (x : TypedTree) → Has w e prior d (TBool True) c x → AllHold world c
+
+-- a world in which typing by this setting and table can be relied on
+pub record IsWorldOf (w : Setting) (t : Table) (world : World) : Type 0 where
+  pub environment : Fits w.env world.request world.slots
+  pub store : ConformingStore w.schema world.store
+  pub functions : KeepsTable t world.functions
+
+-- typing by this setting promises something of evaluation: in Strict, by a schema without external declarations, in one
+-- of its environments
+pub record IsReliable (w : Setting) : Type 0 where
+  pub mode : w.mode ≡ Strict
+  pub closed : has_external w.schema ≡ false
+  pub environment : IsEnvironmentOf w.schema w.env
+
+-- what has a type does not go wrong, by a schema without faults
+abbrev pub TypeSoundness : Type 0
+TypeSoundness =
+    (w : Setting) (t : Table) (world : World) → has_fault w.schema ≡ false → IsReliable w → IsWorldOf w t world → (e : Source) → SlotsBound world.slots e → (prior : Caps) (d : ℕ) → AllHold world prior → IsSoundAt w world e prior d

@@ -1,0 +1,76 @@
+-- A policy and a world for which every premise of type soundness holds.
+use Rattle.std.specs.Prelude.{◌≡◌, true, false, [], ◌∷◌, Some, None, codes, pos}
+use Rattle.cedar_types.specs.declared.base.slots.SlotId.{SlotId}
+use Rattle.cedar_types.specs.declared.base.types.ValidationMode.TheVariants.{Strict}
+use Rattle.cedar_types.specs.Names.{Text, Uid}
+use Rattle.cedar_types.specs.Types.{TLong}
+use Rattle.cedar_types.specs.Tree.{and}
+use Rattle.cedar_types.specs.Templates.{PlainTemplate, any, any_action, condition_of}
+use Rattle.cedar_types.specs.Schemas.{has_fault}
+use Rattle.cedar_types.specs.Values.{VBool, VLong, VEntity, VString, no_values, more_values, no_entries, more_entries}
+use Rattle.cedar_types.specs.Stores.{Store}
+use Rattle.cedar_typing.specs.Typed.{Source, TypedTree}
+use Rattle.cedar_typing.specs.Checks.{Checks, succeeds}
+use Rattle.cedar_typing.specs.Worlds.{World, Slots, Gives}
+use Rattle.cedar_typing.specs.Evaluation.{eval}
+use Rattle.cedar_typing.specs.Conforming.{ConformingRequest, SlotsBound, Table}
+use Rattle.cedar_typing.specs.Sound.{IsReliable, IsWorldOf}
+use Rattle.cedar_typing.specs.Examples.{named, user, greet, sample_schema, sample, node, has_vip, get_vip}
+
+abbrev pub user_named : Text → Uid
+user_named x = record { entity_type = user; eid = x }
+
+-- `permit(principal, action, resource) when { principal has vip && principal.vip }`
+abbrev pub guarded_policy : PlainTemplate
+guarded_policy = record {
+  id = codes "policy0";
+  place = (node 0).place;
+  principal = any;
+  action = any_action;
+  resource = any;
+  rest = Some (and (node 1) (has_vip 2 3) (get_vip 4 5));
+}
+
+abbrev pub guarded_condition : Source
+guarded_condition = condition_of guarded_policy
+
+-- one extension function, of one argument, to Long
+abbrev pub length_table : Table
+length_table = record { returns = (named (codes "length"), TLong) ∷ []; overloaded_types = [] }
+
+-- alice has the mark, bob has none, and each action is there
+abbrev pub user_store : Store
+user_store =
+    (user_named (codes "alice"), record { attributes = more_entries (codes "age") (VLong (pos 30)) (more_entries (codes "vip") (VBool true) no_entries); ancestors = []; tags = no_entries })
+    ∷ (user_named (codes "bob"), record { attributes = more_entries (codes "age") (VLong (pos 40)) no_entries; ancestors = []; tags = no_entries })
+    ∷ (greet, record { attributes = no_entries; ancestors = []; tags = no_entries })
+    ∷ []
+
+-- the resource's slot is bound to bob
+abbrev pub bob_is_bound : Slots
+bob_is_bound SlotId.Principal = None
+bob_is_bound SlotId.Resource = Some (user_named (codes "bob"))
+
+-- alice greets bob, and her friend is an entity that is not in the store
+abbrev pub greeting : World
+greeting = record {
+  request = record {
+    principal = user_named (codes "alice");
+    action = greet;
+    resource = user_named (codes "bob");
+    context = more_entries (codes "friend") (VEntity (user_named (codes "carol"))) no_entries;
+  };
+  slots = bob_is_bound;
+  store = user_store;
+  functions = record { calls = record { function = named (codes "length"); arguments = more_values (VString (codes "abc")) no_values; value = VLong (pos 3) } ∷ []; overloaded_types = []; less = []; less_or_equal = [] };
+}
+
+-- the premises of type soundness hold together; the check succeeds, and evaluation gives true
+pub record PremisesAreMet : Type 0 where
+  pub faultless : has_fault sample_schema ≡ false
+  pub reliable : IsReliable (sample Strict)
+  pub request : ConformingRequest sample_schema greeting.request
+  pub world : IsWorldOf (sample Strict) length_table greeting
+  pub bound : SlotsBound greeting.slots guarded_condition
+  pub checks : (x : TypedTree) × Checks (sample Strict) guarded_condition (succeeds x)
+  pub evaluates : eval greeting guarded_condition ≡ Gives (VBool true)
