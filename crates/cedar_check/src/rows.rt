@@ -1,6 +1,8 @@
 // The worked rows.
 mod checks;
+mod conditional_guards;
 mod guarded_access;
+mod guarding_forms;
 
 use cedar_types::base::{ExtensionSchemas, SchemaError};
 use std::alloc::{AllocError, Global};
@@ -35,13 +37,27 @@ pub struct NamedRow<R> {
 pub enum WorkedRow {
     /// An optional attribute is read behind a test, and without one.
     GuardedAccess,
+    /// It is read beside a test, in forms that guard it and in forms that do not.
+    GuardingForms,
+    /// It is read behind a conditional that tests it.
+    ConditionalGuards,
 }
 
 /// The rows that are built, in the order in which they run.
-pub const WORKED: [NamedRow<WorkedRow>; 1] = [NamedRow {
-    name: "10",
-    row: WorkedRow::GuardedAccess,
-}];
+pub const WORKED: [NamedRow<WorkedRow>; 3] = [
+    NamedRow {
+        name: "10",
+        row: WorkedRow::GuardedAccess,
+    },
+    NamedRow {
+        name: "31",
+        row: WorkedRow::GuardingForms,
+    },
+    NamedRow {
+        name: "32",
+        row: WorkedRow::ConditionalGuards,
+    },
+];
 
 impl Row for WorkedRow {
     fn report(
@@ -52,6 +68,8 @@ impl Row for WorkedRow {
     ) -> Result<Report, AllocError> {
         let reported = match self {
             WorkedRow::GuardedAccess => guarded_access::report(alloc, x1),
+            WorkedRow::GuardingForms => guarding_forms::report(alloc, x1),
+            WorkedRow::ConditionalGuards => conditional_guards::report(alloc, x1),
         };
         match reported {
             Ok(report) => Ok(report),

@@ -1,12 +1,28 @@
 // The checks that rows make, and what they say of them.
-use crate::fixtures::policies::permit_when;
-use cedar_types::base::{Expr, ExtensionSchemas, ValidationError, ValidationMode, ValidatorSchema};
+use crate::fixtures::policies::{permit_when, policy_id};
+use crate::fixtures::types::entity;
+use crate::rows::{Report, other_outcome};
+use cedar_types::base::{
+    Expr, ExtensionSchemas, Loc, ValidationError, ValidationMode, ValidatorSchema,
+};
 use cedar_typing::typecheck::{PolicyCheck, Typechecker};
 use std::alloc::{AllocError, Global};
+use std::rc::RcStr;
+
+const UNGUARDED: &str =
+    "for policy `policy0`, access to optional attribute `vip` on `User` is not guarded";
+
+/// A condition, and what its check comes to.
+#[derive(Drop)]
+pub struct Case {
+    pub condition: Expr,
+    /// Where it reads the mark of a user without a test that it is there. `None` where it is typed.
+    pub unguarded: Option<Loc>,
+}
 
 /// The check of the policy with this condition, in the strict mode and the schema's first environment. `None` where the
 /// schema has no environment.
-pub fn strict_check<'a>(
+fn strict_check<'a>(
     alloc: Global,
     schema: &'a ValidatorSchema,
     extensions: &'a ExtensionSchemas,
@@ -23,7 +39,7 @@ pub fn strict_check<'a>(
 }
 
 /// What the check came to, and how many errors there are where it may have some.
-pub fn outcome_of(alloc: Global, check: &PolicyCheck) -> Result<String, AllocError> {
+fn outcome_of(alloc: Global, check: &PolicyCheck) -> Result<String, AllocError> {
     match check {
         PolicyCheck::Success(_) => String::from_str(alloc, "Success"),
         PolicyCheck::Irrelevant(errors, _) => {
@@ -37,12 +53,12 @@ pub fn outcome_of(alloc: Global, check: &PolicyCheck) -> Result<String, AllocErr
     }
 }
 
-pub fn is_success(check: &PolicyCheck) -> bool {
+fn is_success(check: &PolicyCheck) -> bool {
     matches!(check, PolicyCheck::Success(_))
 }
 
 /// Whether the check failed with this error alone, shown as this text.
-pub fn fails_with(
+fn fails_with(
     alloc: Global,
     check: &PolicyCheck,
     wanted: &ValidationError,
@@ -56,4 +72,52 @@ pub fn fails_with(
     };
     let shown = error.to_string(alloc)?;
     Ok(error == wanted && shown.as_str() == text)
+}
+
+/// The error of an access to the mark of a user, which may not be there.
+fn unguarded_error(alloc: Global, at: Option<Loc>) -> Result<ValidationError, AllocError> {
+    let policy = policy_id(alloc)?;
+    let user = entity(alloc, "User")?;
+    let attr = RcStr::from_str(alloc, "vip")?;
+    Ok(ValidationError::unsafe_optional_attribute_access(at, policy, user, attr))
+}
+
+/// Whether the check succeeded, or failed with that error alone at this place.
+fn is_as_wanted(
+    alloc: Global,
+    check: &PolicyCheck,
+    unguarded: Option<Loc>,
+) -> Result<bool, AllocError> {
+    if unguarded.is_none() {
+        return Ok(is_success(check));
+    }
+    let wanted = unguarded_error(alloc, unguarded)?;
+    fails_with(alloc, check, &wanted, UNGUARDED)
+}
+
+/// Checks each condition, in order.
+pub fn compared(
+    alloc: Global,
+    schema: &ValidatorSchema,
+    extensions: &ExtensionSchemas,
+    cases: Vec<Case>,
+) -> Result<Report, AllocError> {
+    let mut outcomes = Vec::new(alloc);
+    let mut is_expected = true;
+    for case in cases {
+        let Case {
+            condition,
+            unguarded,
+        } = case;
+        let Some(check) = strict_check(alloc, schema, extensions, condition)? else {
+            return other_outcome(alloc, String::from_str(alloc, "no environment")?);
+        };
+        outcomes.push(outcome_of(alloc, &check)?)?;
+        let is_wanted = is_as_wanted(alloc, &check, unguarded)?;
+        is_expected = is_expected && is_wanted;
+    }
+    Ok(Report {
+        outcomes,
+        is_expected,
+    })
 }

@@ -5,11 +5,17 @@ use cedar_types::base::ExtensionSchemas;
 use std::alloc::{AllocError, Global};
 use std::io;
 use std::io::{ErrorKind, Write};
+use std::process::Abort;
 use std::test::Fail;
 
 const USAGE: &[u8] = b"usage: cedar-check [ROW]\n";
 
 const ROW_10: &[u8] = b"row 10: Success; Fail errors=1; ok\n";
+
+const ROW_31: &[u8] =
+    b"row 31: Fail errors=1; Success; Fail errors=1; Fail errors=1; Success; ok\n";
+
+const ROW_32: &[u8] = b"row 32: Success; Success; Fail errors=1; ok\n";
 
 /// The ways in which a row can end.
 enum Sample {
@@ -111,21 +117,46 @@ fn status_after(alloc: Global, all: &[&str], writes: u8) -> Result<u8, AllocErro
     sampled(alloc, all, &mut out, &mut err)
 }
 
-#[test]
-fn no_word_runs_every_row_that_is_built(rt: HostRuntime) -> Result<(), Fail> {
-    let (status, out, err) = answers(rt.alloc(), &[])?;
+/// That the rows that are built answer these lines alone to these words, and are as expected.
+fn prints<R: Abort>(
+    rt: &R,
+    alloc: Global,
+    words: &[&str],
+    lines: &[&[u8]],
+) -> Result<(), AllocError> {
+    let (status, out, err) = answers(alloc, words)?;
+    let mut all = Vec::new(alloc);
+    for line in lines {
+        all.extend_from_slice(line)?;
+    }
     assert_eq!(rt; status, 0);
-    assert_eq!(rt; out.as_slice(), ROW_10);
+    assert_eq!(rt; out.as_slice(), all.as_slice());
     assert_eq!(rt; err.as_slice(), b"".as_slice());
     Ok(())
 }
 
 #[test]
+fn no_word_runs_every_row_that_is_built(rt: HostRuntime) -> Result<(), Fail> {
+    let lines = [ROW_10, ROW_31, ROW_32];
+    prints(&rt, rt.alloc(), &[], &lines)?;
+    Ok(())
+}
+
+#[test]
 fn row_10_is_as_expected(rt: HostRuntime) -> Result<(), Fail> {
-    let (status, out, err) = answers(rt.alloc(), &["10"])?;
-    assert_eq!(rt; status, 0);
-    assert_eq!(rt; out.as_slice(), ROW_10);
-    assert_eq!(rt; err.as_slice(), b"".as_slice());
+    prints(&rt, rt.alloc(), &["10"], &[ROW_10])?;
+    Ok(())
+}
+
+#[test]
+fn row_31_is_as_expected(rt: HostRuntime) -> Result<(), Fail> {
+    prints(&rt, rt.alloc(), &["31"], &[ROW_31])?;
+    Ok(())
+}
+
+#[test]
+fn row_32_is_as_expected(rt: HostRuntime) -> Result<(), Fail> {
+    prints(&rt, rt.alloc(), &["32"], &[ROW_32])?;
     Ok(())
 }
 
@@ -134,7 +165,8 @@ fn a_word_that_is_no_row_and_a_second_word_get_the_usage(rt: HostRuntime) -> Res
     for words in [
         ["x"].as_slice(),
         ["07"].as_slice(),
-        ["31"].as_slice(),
+        ["1"].as_slice(),
+        ["310"].as_slice(),
         ["1", "2"].as_slice(),
     ] {
         let (status, out, err) = answers(rt.alloc(), words)?;
