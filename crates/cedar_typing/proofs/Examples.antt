@@ -1,7 +1,11 @@
 -- The examples of the rules, computed.
-use Rattle.std.proofs.Common.{◌≡◌, ℕ, ◌+◌, List, [], Some, refl, sym, ◌∙◌, subst}
-use Rattle.cedar_types.specs.declared.base.types.BoolType.TheVariants.{False}
+use Rattle.std.proofs.Common.{◌≡◌, ℕ, ◌+◌, false, List, [], Some, refl, sym, ◌∙◌, subst}
+use Rattle.cedar_types.specs.declared.base.types.BoolType.TheVariants.{AnyBool, False}
 use Rattle.cedar_types.specs.declared.base.types.ValidationMode.TheVariants.{Strict}
+use Rattle.std.specs.Prelude.{codes}
+use Rattle.cedar_types.specs.declared.base.operators.Var.{Var}
+use Rattle.cedar_types.specs.Tree.{var}
+use Rattle.cedar_types.specs.Capability.{attribute}
 use Rattle.cedar_types.specs.Types.{Ty, TBool}
 use Rattle.cedar_types.specs.Errors.{Finding}
 use Rattle.cedar_typing.specs.Typed.{Source, TypedTree, annotation}
@@ -9,7 +13,7 @@ use Rattle.cedar_typing.specs.Settings.{Setting, Caps, nothing}
 use Rattle.cedar_typing.specs.Rules.{max_nesting, Has}
 use Rattle.cedar_typing.specs.Failing.{Recovers, Cuts}
 use Rattle.cedar_typing.specs.Judge.{Ans, success, failure, limit, Out, judge}
-use Rattle.cedar_typing.specs.Examples.{RuleExamples, HasType, FailsWith, sample, false_at, typed_false}
+use Rattle.cedar_typing.specs.Examples.{RuleExamples, HasType, FailsWith, HandsOnNeither, sample, false_at, typed_false, vip_or_age, vip_and_age_or_either}
 use Rattle.cedar_typing.proofs.Basics.{some_is}
 use Rattle.cedar_typing.proofs.Judged.{Answers, a_derived, a_recovered, a_cut}
 use Rattle.cedar_typing.proofs.Exact.{judged}
@@ -52,6 +56,23 @@ typed_as {w} {p} {e} {t} {c} {x} m h = record { has = has w e p 1 t c x m h }
 fails_as : {e : Source} {x : TypedTree} {es : List Finding} → judge (sample Strict) e nothing 1 [] ≡ (failure x, es) → FailsWith e x es
 fails_as {e} {x} {es} h = record { recovers = recovers (sample Strict) e nothing 1 x es h }
 
+-- what a success hands on, and how it is typed
+abbrev handed : Ans → Caps
+handed (success x c) = c
+handed (failure x) = nothing
+handed limit = nothing
+
+abbrev shown : Ans → TypedTree
+shown (success x c) = x
+shown (failure x) = x
+shown limit = typed_false 1
+
+abbrev answer : Source → Ans
+answer e = (judge (sample Strict) e nothing 1 []).0
+
+neither : (e : Source) → annotation (shown (answer e)) ≡ Some (TBool AnyBool) → judge (sample Strict) e nothing 1 [] ≡ (success (shown (answer e)) (handed (answer e)), []) → handed (answer e) (attribute (var tt Var.Principal) (codes "vip")) ≡ false → handed (answer e) (attribute (var tt Var.Principal) (codes "age")) ≡ false → HandsOnNeither e
+neither e m h p q = record { caps = handed (answer e); typed = shown (answer e); has = has (sample Strict) e nothing 1 (TBool AnyBool) (handed (answer e)) (shown (answer e)) m h; no_mark = p; no_age = q }
+
 pub examples : RuleExamples
 examples = record {
   literal_bool = typed_as refl refl;
@@ -73,6 +94,7 @@ examples = record {
   and_failed_left = fails_as refl;
   or_left = typed_as refl refl;
   or_open = typed_as refl refl;
+  or_neither = neither vip_or_age refl refl refl refl;
   or_right_true = typed_as refl refl;
   or_right_known = typed_as refl refl;
   or_right_false = typed_as refl refl;
@@ -88,6 +110,7 @@ examples = record {
   if_true = typed_as refl refl;
   if_false = typed_as refl refl;
   if_open = typed_as refl refl;
+  if_neither = neither vip_and_age_or_either refl refl refl refl;
   if_known = typed_as refl refl;
   if_unbound = fails_as refl;
   if_missing = fails_as refl;

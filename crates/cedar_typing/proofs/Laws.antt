@@ -10,7 +10,7 @@ use Rattle.cedar_typing.specs.Settings.{Setting, Caps, either, a_bool, is_false,
 use Rattle.cedar_typing.specs.Rules.{max_nesting, Has}
 use Rattle.cedar_typing.specs.Failing.{Part, derived, Operand, Recovers, Cuts, too_deep, by_part, and_left_cut, and_right_cut, or_left_cut, or_right_cut, tried_cut, if_test_cut, if_true_cut, if_false_cut, if_then_cut, if_else_cut}
 use Rattle.cedar_typing.specs.Judge.{Ans, success, failure, limit, Given, Out, any_part, judge}
-use Rattle.cedar_typing.specs.Laws.{TypingIsAFunction, RecoveryIsAFunction, IsDerived, IsRecovered, IsCut, OneOfThreeAtMost, OneOfThreeAtLeast, Looked, itself, left_of_and, right_of_and, left_of_or, right_of_or, operand_of_not, test_of_if, then_of_if, else_of_if, base_of_has, base_of_get, CutIsByDepth, SuccessIsSilent}
+use Rattle.cedar_typing.specs.Laws.{TypingIsAFunction, RecoveryIsAFunction, CutIsAFunction, IsDerived, IsRecovered, IsCut, OneOfThreeAtMost, OneOfThreeAtLeast, Looked, itself, left_of_and, right_of_and, left_of_or, right_of_or, operand_of_not, test_of_if, then_of_if, else_of_if, base_of_has, base_of_get, CutIsByDepth, SuccessIsSilent}
 use Rattle.cedar_typing.proofs.Basics.{some_is}
 use Rattle.cedar_typing.proofs.Judged.{Answers, a_derived, a_recovered, a_cut, PartAnswer, handed, cut_off, PartFound, part_found, part_tried}
 use Rattle.cedar_typing.proofs.JudgedIf.{true_is_not_false, false_is_not_true}
@@ -72,6 +72,9 @@ typing = one_derivation
 
 pub recovery : RecoveryIsAFunction
 recovery = one_recovery
+
+pub cut_once : CutIsAFunction
+cut_once w e prior d es fs h k = same_errors w e prior d limit limit es fs (a_cut h) (a_cut k)
 
 pub three_at_most : OneOfThreeAtMost
 three_at_most = at_most

@@ -37,4 +37,5 @@ pub mod SoundIf
 pub mod SoundAccess
 pub mod Soundness
 pub mod SoundChecks
+pub mod Greeting
 pub mod SoundExample

@@ -1,5 +1,5 @@
 -- What has a type does not go wrong: the induction over expressions.
-use Rattle.std.proofs.Common.{◌≡◌, ℕ, ◌+◌, true, false, List, [], ◌∷◌, Option, Some, None, refl, ap}
+use Rattle.std.proofs.Common.{◌≡◌, ℕ, ◌+◌, true, false, List, [], ◌∷◌, Option, Some, None, refl, ap, subst, sym}
 use Rattle.cedar_types.specs.declared.base.operators.UnaryOp.{UnaryOp}
 use Rattle.cedar_types.specs.declared.base.types.BoolType.TheVariants.{True}
 use Rattle.cedar_types.specs.declared.base.types.ValidationMode.TheVariants.{Strict}
@@ -18,7 +18,7 @@ use Rattle.cedar_typing.specs.Failing.{Recovery, UnknownRecovery, unknown_fails,
 use Rattle.cedar_typing.specs.Worlds.{World, Outcome}
 use Rattle.cedar_typing.specs.Evaluation.{eval}
 use Rattle.cedar_typing.specs.Conforming.{Fits, IsEnvironmentOf, SlotsBound, AllHold}
-use Rattle.cedar_typing.specs.Sound.{IsSoundAt, TypeSoundness}
+use Rattle.cedar_typing.specs.Sound.{HasFound, IsSoundAt, TypeSoundness}
 use Rattle.cedar_typing.proofs.Narrow.{is_narrow, IsNarrow}
 use Rattle.cedar_typing.proofs.NarrowRules.{Narrows}
 use Rattle.cedar_typing.proofs.NarrowLeaves.{narrow_types}
@@ -103,7 +103,7 @@ module _ (w : Setting) (world : World) (strict : w.mode ≡ Strict) (faults : ha
   sound_at e b prior d h =
       let s = sounds e b prior d h in
       record {
-        typed = λ t c x r. (s.derivations t c x r).typed;
+        typed = λ t c x r. subst (λ a. HasFound a (eval world e)) (sym (s.marks t c x r)) (s.derivations t c x r).typed;
         recovered = λ x es r. (s.recoveries x es r).typed;
         safe = λ t c x r. (s.derivations t c x r).safe refl;
         told = λ t c x r. (s.derivations t c x r).told;

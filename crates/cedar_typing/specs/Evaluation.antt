@@ -196,6 +196,7 @@ like_outcome p v = Fails TypeFailure
 
 -- ---- operators and calls
 
+-- an operator on one outcome: `!` of a boolean, negation of a long, `isEmpty` of a set
 abbrev pub unary_outcome : UnaryOp → Outcome → Outcome
 unary_outcome UnaryOp.Not o = of_test (not_test (test_of o))
 unary_outcome UnaryOp.Neg o = on_value o negation
@@ -225,21 +226,29 @@ called (Some v) = Gives v
 module _ {D : Type 0} (w : World) where
   abbrev mutual
     pub eval : Tree D → Outcome
+    -- a literal is its value, a variable what the request has, a slot what it is bound to; an unknown has no value
     eval (lit m x) = Gives (literal_value x)
     eval (var m x) = Gives (variable_value w.request x)
     eval (slot m s) = bound_outcome (w.slots s)
     eval (unknown m n) = Fails UnknownValue
+    -- the test says which branch is taken
     eval (if_then_else m a b c) = choose (test_of (eval a)) (eval b) (eval c)
+    -- the right side is looked at where the left one does not decide
     eval (and m a b) = of_test (and_test (test_of (eval a)) (test_of (eval b)))
     eval (or m a b) = of_test (or_test (test_of (eval a)) (test_of (eval b)))
+    -- an operator is applied to the values of its operands, from left to right
     eval (unary m o a) = unary_outcome o (eval a)
     eval (binary m o a b) = on_value (eval a) (λ x. on_value (eval b) (binary_outcome w.store w.functions o x))
+    -- a call gives what the function gives for the values of the arguments
     eval (call m f ts) = on_values (eval_all ts) (λ vs. called (call_value w.functions.calls f vs))
+    -- attributes are read of the value of the base, or tested
     eval (get_attr m a x) = on_value (eval a) (get w.store x)
     eval (has_attr m a x) = of_test (then_test (eval a) (has_test w.store x))
     eval (ext_has_attr m a x xs) = of_test (then_test (eval a) (path_test w.store x xs))
+    -- a text matches or not, an entity is of the type or not
     eval (like m a p) = on_value (eval a) (like_outcome p)
     eval (is_type m a p) = on_value (eval a) (is_of p)
+    -- a set has the values of its elements, a record those of its fields
     eval (set_of m ts) = on_values (eval_all ts) (λ vs. Gives (VSet vs))
     eval (record_of m fs) = record_outcome (eval_fields fs)
 

@@ -1,5 +1,5 @@
 -- What the rules say of some small expressions: one for each rule, and one for each way to fail.
-use Rattle.std.specs.Prelude.{ℕ, ◌+◌, true, false, List, [], ◌∷◌, Some, None, codes, pos}
+use Rattle.std.specs.Prelude.{◌≡◌, ℕ, ◌+◌, true, false, List, [], ◌∷◌, Some, None, codes, pos}
 use Rattle.cedar_types.specs.declared.base.operators.Var.{Var}
 use Rattle.cedar_types.specs.declared.base.operators.UnaryOp.{UnaryOp}
 use Rattle.cedar_types.specs.declared.base.slots.SlotId.{SlotId}
@@ -131,6 +131,25 @@ typed_has_friend n k = has_attr (typed (TBool True) (node n)) (var (typed a_cont
 abbrev pub with_friend : Caps
 with_friend = just (attribute (var tt Var.Context) (codes "friend"))
 
+abbrev pub has_age : ℕ → ℕ → Source
+has_age n k = has_attr (node n) (principal k) (codes "age")
+
+-- `principal has vip || principal has age`
+abbrev pub vip_or_age : Source
+vip_or_age = or (node 1) (has_vip 2 3) (has_age 4 5)
+
+-- `if principal has vip then principal has age else principal has age || principal has vip`
+abbrev pub vip_and_age_or_either : Source
+vip_and_age_or_either = if_then_else (node 1) (has_vip 2 3) (has_age 4 5) (or (node 6) (has_age 7 8) (has_vip 9 10))
+
+-- e is a Boolean that hands on neither that the principal has the mark nor that it has an age
+pub record HandsOnNeither (e : Source) : Type 0 where
+  pub caps : Caps
+  pub typed : TypedTree
+  pub has : Has (sample Strict) e nothing 1 (TBool AnyBool) caps typed
+  pub no_mark : caps (attribute (var tt Var.Principal) (codes "vip")) ≡ false
+  pub no_age : caps (attribute (var tt Var.Principal) (codes "age")) ≡ false
+
 -- ---- what the rules say
 
 pub record RuleExamples : Type 0 where
@@ -164,6 +183,8 @@ pub record RuleExamples : Type 0 where
   pub or_left : HasType (sample Strict) nothing (or (node 1) (has_friend 2 3) (one_at 4)) (TBool True) with_friend (typed_has_friend 1 3)
   -- `principal has vip || principal has vip`: only what both sides say is handed on
   pub or_open : HasType (sample Strict) nothing (or (node 1) (has_vip 2 3) (has_vip 4 5)) (TBool AnyBool) (both marked_principal marked_principal) (or (typed (TBool AnyBool) (node 1)) (typed_has_vip 2 3) (typed_has_vip 4 5))
+  -- what one side of `||` alone says is not handed on
+  pub or_neither : HandsOnNeither vip_or_age
   -- `principal has vip || true`, `principal has vip || context has friend`: True, and what the right side says is handed on
   pub or_right_true : HasType (sample Strict) nothing (or (node 1) (has_vip 2 3) (true_at 4)) (TBool True) nothing (or (typed (TBool True) (node 1)) (typed_has_vip 2 3) (typed_true 4))
   pub or_right_known : HasType (sample Strict) nothing (or (node 1) (has_vip 2 3) (has_friend 4 5)) (TBool True) with_friend (or (typed (TBool True) (node 1)) (typed_has_vip 2 3) (typed_has_friend 4 5))
@@ -190,6 +211,8 @@ pub record RuleExamples : Type 0 where
   pub if_false : HasType (sample Strict) nothing (if_then_else (node 1) (false_at 2) (get_vip 3 4) (has_vip 5 6)) (TBool AnyBool) marked_principal (if_then_else (typed (TBool AnyBool) (node 1)) (typed_false 2) (typed_has_vip 5 6) (typed_has_vip 5 6))
   -- `if principal has vip then principal.vip else false`: the first branch knows what the test says, and Bool is the bound
   pub if_open : HasType (sample Strict) nothing (if_then_else (node 1) (has_vip 2 3) (get_vip 4 5) (false_at 6)) (TBool AnyBool) (both nothing (either marked_principal nothing)) (if_then_else (typed (TBool AnyBool) (node 1)) (typed_has_vip 2 3) (typed_get_vip 4 5) (typed_false 6))
+  -- nor is what the test and one branch alone say
+  pub if_neither : HandsOnNeither vip_and_age_or_either
   -- `if principal has vip then true else principal has vip`: what holds after either branch is handed on
   pub if_known : HasType (sample Strict) nothing (if_then_else (node 1) (has_vip 2 3) (true_at 4) (has_vip 5 6)) (TBool AnyBool) (both marked_principal (either marked_principal nothing)) (if_then_else (typed (TBool AnyBool) (node 1)) (typed_has_vip 2 3) (typed_true 4) (typed_has_vip 5 6))
   -- `if principal has vip then 1 else "a"`: no bound, which is an error at the whole, and no type

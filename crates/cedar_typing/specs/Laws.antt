@@ -21,6 +21,10 @@ abbrev pub RecoveryIsAFunction : Type 0
 RecoveryIsAFunction =
     (w : Setting) (e : Source) (prior : Caps) (d : ℕ) (x y : TypedTree) (es fs : List Finding) → Recovers w e prior d x es → Recovers w e prior d y fs → (x ≡ y) × (es ≡ fs)
 
+-- it is cut with one list of errors at most
+abbrev pub CutIsAFunction : Type 0
+CutIsAFunction = (w : Setting) (e : Source) (prior : Caps) (d : ℕ) (es fs : List Finding) → Cuts w e prior d es → Cuts w e prior d fs → es ≡ fs
+
 abbrev pub IsDerived : Setting → Source → Caps → ℕ → Type 0
 IsDerived w e prior d = (t : Ty) × (c : Caps) × (x : TypedTree) × Has w e prior d t c x
 

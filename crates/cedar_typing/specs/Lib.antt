@@ -18,4 +18,5 @@ pub mod EntityExamples
 pub mod Conforming
 pub mod Sound
 pub mod SoundChecks
+pub mod Greeting
 pub mod SoundExample

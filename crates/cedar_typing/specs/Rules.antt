@@ -44,6 +44,7 @@ pub data OrRule (m : Written) (A B : Derivation) : Ty → Caps → TypedTree →
 
 -- `!a`, by the derivations of a
 pub data NotRule (m : Written) (A : Derivation) : Ty → Caps → TypedTree → Type 0 where
+  -- True and False change places, and any other Boolean is Bool; nothing is handed on
   not_typed : {s : Ty} {c : Caps} {a : TypedTree} → A s c a → accepts a_bool s ≡ true → NotRule m A (not_type s) nothing (unary (typed (not_type s) m) UnaryOp.Not a)
 
 -- `if a then b else e`, by the derivations of a, of b with given prior capabilities, and of e

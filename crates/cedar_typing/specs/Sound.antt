@@ -51,8 +51,8 @@ IsTrueOutcome (Fails f) = ⊥
 
 -- what is promised of an expression in a world, where some capabilities are known
 pub record IsSoundAt (w : Setting) (world : World) (e : Source) (prior : Caps) (d : ℕ) : Type 0 where
-  -- a value has the type of the expression, also that of a refused one
-  pub typed : (t : Ty) (c : Caps) (x : TypedTree) → Has w e prior d t c x → OnValue (HasType t) (eval world e)
+  -- a value has the type that was found, also that of a refused expression
+  pub typed : (t : Ty) (c : Caps) (x : TypedTree) → Has w e prior d t c x → HasFound (annotation x) (eval world e)
   pub recovered : (x : TypedTree) (es : List Finding) → Recovers w e prior d x es → HasFound (annotation x) (eval world e)
   -- what has a type gives a value or fails in an allowed way
   pub safe : (t : Ty) (c : Caps) (x : TypedTree) → Has w e prior d t c x → IsSafe (eval world e)

@@ -1,26 +1,30 @@
--- A policy and a world for which every premise of type soundness holds.
-use Rattle.std.specs.Prelude.{◌≡◌, true, false, [], ◌∷◌, Some, None, codes, pos}
+-- A policy and a world for which every premise of type soundness holds, and worlds in which one does not.
+use Rattle.std.specs.Prelude.{◌≡◌, true, false, ◌∷◌, [], Some, codes}
+use Rattle.cedar_types.specs.declared.base.operators.UnaryOp.{UnaryOp}
+use Rattle.cedar_types.specs.declared.base.operators.Var.{Var}
 use Rattle.cedar_types.specs.declared.base.slots.SlotId.{SlotId}
 use Rattle.cedar_types.specs.declared.base.types.ValidationMode.TheVariants.{Strict}
-use Rattle.cedar_types.specs.Names.{Text, Uid}
-use Rattle.cedar_types.specs.Types.{TLong}
-use Rattle.cedar_types.specs.Tree.{and}
+use Rattle.cedar_types.specs.Types.{TString}
+use Rattle.cedar_types.specs.Tree.{if_then_else, and, or, unary, slot, var, get_attr, has_attr}
 use Rattle.cedar_types.specs.Templates.{PlainTemplate, any, any_action, condition_of}
+use Rattle.cedar_types.specs.Capability.{attribute}
 use Rattle.cedar_types.specs.Schemas.{has_fault}
-use Rattle.cedar_types.specs.Values.{VBool, VLong, VEntity, VString, no_values, more_values, no_entries, more_entries}
-use Rattle.cedar_types.specs.Stores.{Store}
+use Rattle.cedar_types.specs.Values.{VBool}
 use Rattle.cedar_typing.specs.Typed.{Source, TypedTree}
 use Rattle.cedar_typing.specs.Checks.{Checks, succeeds}
-use Rattle.cedar_typing.specs.Worlds.{World, Slots, Gives}
+use Rattle.cedar_typing.specs.Worlds.{Gives, MissingEntity, Fails}
 use Rattle.cedar_typing.specs.Evaluation.{eval}
-use Rattle.cedar_typing.specs.Conforming.{ConformingRequest, SlotsBound, Table}
+use Rattle.cedar_typing.specs.Conforming.{ConformingRequest, FitsSlot, SlotsBound, KeepsTable, Holds, AllHold}
 use Rattle.cedar_typing.specs.Sound.{IsReliable, IsWorldOf}
-use Rattle.cedar_typing.specs.Examples.{named, user, greet, sample_schema, sample, node, has_vip, get_vip}
+use Rattle.cedar_typing.specs.Examples.{named, greet, sample_schema, sample, node, has_vip, get_vip, false_at, marked_principal}
+use Rattle.cedar_typing.specs.Greeting.{length_table, bob_is_bound, greeting}
 
-abbrev pub user_named : Text → Uid
-user_named x = record { entity_type = user; eid = x }
+-- `?resource has age`
+abbrev pub bound_has_age : Source
+bound_has_age = has_attr (node 2) (slot (node 3) SlotId.Resource) (codes "age")
 
--- `permit(principal, action, resource) when { principal has vip && principal.vip }`
+-- `permit(principal, action, resource) when {
+--      if ?resource has age then (principal has vip && principal.vip) || !(principal has vip) else false }`
 abbrev pub guarded_policy : PlainTemplate
 guarded_policy = record {
   id = codes "policy0";
@@ -28,42 +32,15 @@ guarded_policy = record {
   principal = any;
   action = any_action;
   resource = any;
-  rest = Some (and (node 1) (has_vip 2 3) (get_vip 4 5));
+  rest = Some (if_then_else (node 1) bound_has_age (or (node 4) (and (node 5) (has_vip 6 7) (get_vip 8 9)) (unary (node 10) UnaryOp.Not (has_vip 11 12))) (false_at 13));
 }
 
 abbrev pub guarded_condition : Source
 guarded_condition = condition_of guarded_policy
 
--- one extension function, of one argument, to Long
-abbrev pub length_table : Table
-length_table = record { returns = (named (codes "length"), TLong) ∷ []; overloaded_types = [] }
-
--- alice has the mark, bob has none, and each action is there
-abbrev pub user_store : Store
-user_store =
-    (user_named (codes "alice"), record { attributes = more_entries (codes "age") (VLong (pos 30)) (more_entries (codes "vip") (VBool true) no_entries); ancestors = []; tags = no_entries })
-    ∷ (user_named (codes "bob"), record { attributes = more_entries (codes "age") (VLong (pos 40)) no_entries; ancestors = []; tags = no_entries })
-    ∷ (greet, record { attributes = no_entries; ancestors = []; tags = no_entries })
-    ∷ []
-
--- the resource's slot is bound to bob
-abbrev pub bob_is_bound : Slots
-bob_is_bound SlotId.Principal = None
-bob_is_bound SlotId.Resource = Some (user_named (codes "bob"))
-
--- alice greets bob, and her friend is an entity that is not in the store
-abbrev pub greeting : World
-greeting = record {
-  request = record {
-    principal = user_named (codes "alice");
-    action = greet;
-    resource = user_named (codes "bob");
-    context = more_entries (codes "friend") (VEntity (user_named (codes "carol"))) no_entries;
-  };
-  slots = bob_is_bound;
-  store = user_store;
-  functions = record { calls = record { function = named (codes "length"); arguments = more_values (VString (codes "abc")) no_values; value = VLong (pos 3) } ∷ []; overloaded_types = []; less = []; less_or_equal = [] };
-}
+-- `context.friend.age`
+abbrev pub friends_age : Source
+friends_age = get_attr (node 1) (get_attr (node 2) (var (node 3) Var.Context) (codes "friend")) (codes "age")
 
 -- the premises of type soundness hold together; the check succeeds, and evaluation gives true
 pub record PremisesAreMet : Type 0 where
@@ -72,5 +49,20 @@ pub record PremisesAreMet : Type 0 where
   pub request : ConformingRequest sample_schema greeting.request
   pub world : IsWorldOf (sample Strict) length_table greeting
   pub bound : SlotsBound greeting.slots guarded_condition
+  -- a prior capability that holds: alice has the mark
+  pub held : AllHold greeting marked_principal
   pub checks : (x : TypedTree) × Checks (sample Strict) guarded_condition (succeeds x)
   pub evaluates : eval greeting guarded_condition ≡ Gives (VBool true)
+  -- and an allowed failure: the friend is not in the store
+  pub fails : eval greeting friends_age ≡ Fails MissingEntity
+
+-- each of these premises can fail
+pub record PremisesCanFail : Type 0 where
+  -- bob has no mark
+  pub held : Holds greeting (attribute (var tt Var.Resource) (codes "vip")) → ⊥
+  -- bob is no action
+  pub slots : FitsSlot (Some greet.entity_type) (bob_is_bound SlotId.Resource) → ⊥
+  -- the principal's slot is not bound
+  pub bound : SlotsBound greeting.slots (slot (node 1) SlotId.Principal) → ⊥
+  -- what is a number is no string
+  pub table : KeepsTable (record { returns = (named (codes "length"), TString) ∷ []; overloaded_types = [] }) greeting.functions → ⊥

@@ -75,7 +75,7 @@ fn the_branch_that_stands_for_both_may_be_of_any_type(rt: HostRuntime) -> Result
 }
 
 #[test]
-fn a_test_of_any_type_is_open(rt: HostRuntime) -> Result<(), Fail> {
+fn a_test_of_type_never_is_open(rt: HostRuntime) -> Result<(), Fail> {
     let alloc = rt.alloc();
     for (first, second) in [
         (principal_get(alloc, 30, "more")?, one(40)),

@@ -11,7 +11,7 @@ use std::alloc::{AllocError, Global};
 use std::test::Fail;
 
 #[test]
-fn what_is_not_true_is_false(rt: HostRuntime) -> Result<(), Fail> {
+fn not_of_true_is_false(rt: HostRuntime) -> Result<(), Fail> {
     let alloc = rt.alloc();
     for operand in [boolean(20, true), var_has(alloc, 20, Var::Context, "user")?] {
         let condition = not(alloc, 10, operand)?;
@@ -37,7 +37,7 @@ fn what_is_not_false_is_true_and_the_rest_is_open(rt: HostRuntime) -> Result<(),
 }
 
 #[test]
-fn a_value_of_any_type_may_be_the_operand(rt: HostRuntime) -> Result<(), Fail> {
+fn an_operand_of_type_never_is_accepted(rt: HostRuntime) -> Result<(), Fail> {
     let alloc = rt.alloc();
     let condition = not(alloc, 10, principal_get(alloc, 20, "anything")?)?;
     let typed = success(unrequested(alloc, condition)?)?;

@@ -40,7 +40,7 @@ fn two_false_sides_are_false(rt: HostRuntime) -> Result<(), Fail> {
 }
 
 #[test]
-fn a_value_of_any_type_may_be_a_side(rt: HostRuntime) -> Result<(), Fail> {
+fn a_side_of_type_never_is_accepted(rt: HostRuntime) -> Result<(), Fail> {
     let alloc = rt.alloc();
     for (other, want) in [
         (boolean(30, true), TRUE),

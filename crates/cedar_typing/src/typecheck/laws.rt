@@ -2,9 +2,9 @@
 ghost use Rattle.cedar_typing.specs.EntityExamples.{MembershipExamples, AttributeExamples, TagExamples, PatternExamples, CallExamples, OrderExamples};
 ghost use Rattle.cedar_typing.specs.EvaluationExamples.{LeafExamples, TestExamples, NumberExamples, EqualityExamples, SetExamples};
 ghost use Rattle.cedar_typing.specs.Examples.{RuleExamples};
-ghost use Rattle.cedar_typing.specs.Laws.{TypingIsAFunction, RecoveryIsAFunction, OneOfThreeAtMost, OneOfThreeAtLeast, CutIsByDepth, SuccessIsSilent};
+ghost use Rattle.cedar_typing.specs.Laws.{TypingIsAFunction, RecoveryIsAFunction, CutIsAFunction, OneOfThreeAtMost, OneOfThreeAtLeast, CutIsByDepth, SuccessIsSilent};
 ghost use Rattle.cedar_typing.specs.Sound.{TypeSoundness};
-ghost use Rattle.cedar_typing.specs.SoundExample.{PremisesAreMet};
+ghost use Rattle.cedar_typing.specs.SoundExample.{PremisesAreMet, PremisesCanFail};
 ghost use Rattle.cedar_typing.specs.Equality.{EqualityIsAnEquivalence, EqualityHasNoOrder};
 
 /// An expression has one type at most, hands on one set of capabilities at most, and is typed in one way at most.
@@ -15,6 +15,11 @@ pub fn typing_is_a_function()
 /// A refused expression is typed in one way at most, with one list of errors.
 pub fn recovery_is_a_function()
     ensures { RecoveryIsAFunction }
+{}
+
+/// An expression that is cut has one list of errors.
+pub fn cut_is_a_function()
+    ensures { CutIsAFunction }
 {}
 
 /// No expression is both derived and recovered, nor one of these and cut.
@@ -47,9 +52,10 @@ pub fn type_soundness()
     ensures { TypeSoundness }
 {}
 
-/// The premises of type soundness hold of some schema, policy, request and store.
+/// The premises of type soundness hold of some schema, policy, request and store, and each of them can fail.
 pub fn premises_are_met()
-    ensures { PremisesAreMet }
+    ensures met { PremisesAreMet }
+    ensures unmet { PremisesCanFail }
 {}
 
 /// Equality of values, of sets by their members and of records by their keys, is an equivalence.

@@ -1,5 +1,5 @@
-use Rattle.cedar_typing.proofs.SoundExample.{premises}
+use Rattle.cedar_typing.proofs.SoundExample.{premises, failures}
 use Rattle.cedar_typing.proofs.typecheck.laws.premises_are_met.Goals as goal
 
 pub returns : goal.returns
-returns c = premises
+returns c = record { met = premises; unmet = failures }
