@@ -1,4 +1,4 @@
--- The premises of type soundness hold for the sample, and each can fail.
+-- The premises of type soundness hold for the sample, and some fail of other data.
 use Rattle.std.proofs.Common.{◌≡◌, inl, true, false, refl, sym, ◌∙◌, ap}
 use Rattle.std.specs.Prelude.{codes}
 use Rattle.cedar_types.specs.declared.base.operators.Var.{Var}

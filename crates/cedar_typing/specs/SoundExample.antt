@@ -1,4 +1,4 @@
--- A policy and a world for which every premise of type soundness holds, and worlds in which one does not.
+-- A policy and a world for which every premise of type soundness holds, and data of which one does not.
 use Rattle.std.specs.Prelude.{◌≡◌, true, false, ◌∷◌, [], Some, codes}
 use Rattle.cedar_types.specs.declared.base.operators.UnaryOp.{UnaryOp}
 use Rattle.cedar_types.specs.declared.base.operators.Var.{Var}
@@ -56,7 +56,7 @@ pub record PremisesAreMet : Type 0 where
   -- and an allowed failure: the friend is not in the store
   pub fails : eval greeting friends_age ≡ Fails MissingEntity
 
--- each of these premises can fail
+-- these premises fail of other data
 pub record PremisesCanFail : Type 0 where
   -- bob has no mark
   pub held : Holds greeting (attribute (var tt Var.Resource) (codes "vip")) → ⊥

@@ -52,7 +52,7 @@ pub fn type_soundness()
     ensures { TypeSoundness }
 {}
 
-/// The premises of type soundness hold of some schema, policy, request and store, and each of them can fail.
+/// The premises of type soundness hold of some schema, policy, request and store, and four of them fail of other data.
 pub fn premises_are_met()
     ensures met { PremisesAreMet }
     ensures unmet { PremisesCanFail }
