@@ -27,3 +27,5 @@ pub mod SchemaFaults
 pub mod Slots
 pub mod KeptEnvironments
 pub mod Members
+pub mod PlacedTrees
+pub mod ListedAttributes

@@ -24,10 +24,6 @@ abbrev pub has_members : {A : Type 0} → List A → Bool
 has_members [] = false
 has_members (x ∷ xs) = true
 
--- the keys of some entries ascend
-abbrev pub keys_ascend : {X : Type 0} → List (RcStr Global × X) → Bool
-keys_ascend es = texts_ascending (map (λ e. text_of e.0) es)
-
 -- the names of some entity types ascend
 abbrev pub types_ascend : List EntityType → Bool
 types_ascend ts = paths_ascending (map type_of ts)

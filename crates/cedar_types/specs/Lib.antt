@@ -29,3 +29,4 @@ pub mod Declarations
 pub mod Schemas
 pub mod Lookups
 pub mod RequestEnvs
+pub mod Makers

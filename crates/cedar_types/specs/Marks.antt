@@ -10,7 +10,7 @@ use Rattle.cedar_types.specs.declared.base.expressions.ExprKind.TheBlock.{shown-
 use Rattle.cedar_types.specs.declared.base.expressions.ExprKind.TheVariants as K
 use Rattle.cedar_types.specs.Names.{text_of, path_of, type_of}
 use Rattle.cedar_types.specs.Tree.{Tree, lit, var, slot, unknown, if_then_else, and, or, unary, binary, call, get_attr, has_attr, ext_has_attr, like, is_type, set_of, record_of, tree, field, map_tree, map_trees, map_fields}
-use Rattle.cedar_types.specs.View.{Places, no_name, of_type, Written, lit_of, lit_places, chain_of, trees_of, fields_of, tree_with, shape, located, written}
+use Rattle.cedar_types.specs.View.{Places, no_name, of_type, Written, lit_of, lit_places, chain_of, trees_of, fields_of, tree_with, shape, written}
 use Rattle.cedar_types.specs.Layers as layers
 
 module _ (T : Type 0) (D E : Type 0) (mark : T → Option Loc → Places → D) (g : D → E) where
@@ -77,10 +77,7 @@ module _ (T : Type 0) (D E : Type 0) (mark : T → Option Loc → Places → D) 
   pub tree_with-map : (e : Expr T) → tree_with (λ a l p. g (mark a l p)) e ≡ map_tree g (tree_with mark e)
   tree_with-map e = from_form e (forms_agree e.kind)
 
--- what was written tells the places of the nodes, and the shape
-pub located-written : {T : Type 0} (e : Expr T) → located e ≡ map_tree (λ (w : Written). w.place) (written e)
-located-written {T} e = tree_with-map T Written (Option Loc) (λ _ l p. record { place = l; names = p }) (λ w. w.place) e
-
+-- what was written tells the shape
 pub shape-written : {T : Type 0} (e : Expr T) → shape e ≡ map_tree (λ (_ : Written). tt) (written e)
 shape-written {T} e = tree_with-map T Written (Unit {0}) (λ _ l p. record { place = l; names = p }) (λ _. tt) e
 

@@ -4,7 +4,7 @@ use Rattle.std.specs.List.{list_any}
 use Rattle.cedar_types.specs.Names.{Path, Uid, uid_eq}
 use Rattle.cedar_types.specs.Types.{Ty, TRecord, Attrs}
 use Rattle.cedar_types.specs.Schemas.{TypeKind, StandardKind, EnumKind, ExternalKind, DeclaredType, DeclaredAction, Schema, uid_is_among, is_among, type_named, declares_type, declares_action, descendants_of, has_fault, may_be_in}
-use Rattle.cedar_types.specs.Values.{VRecord, Entries, no_entries, is_keyed, AllEntries, HasType}
+use Rattle.cedar_types.specs.Values.{VRecord, Entries, no_entries, AllEntries, HasType}
 
 -- what is stored of an entity
 pub record Entity : Type 0 where
@@ -68,7 +68,6 @@ FitsDeclaration s u (Some t) e = FitsKind s.types u.entity_type t.kind e
 pub record ConformingStore (s : Schema) (store : Store) : Type 0 where
   pub entities : (u : Uid) (e : Entity) → entity_at store u ≡ Some e → FitsDeclaration s u (type_named s.types u.entity_type) e
   pub actions : (u : Uid) → IsTrue (declares_action s.actions u) → (e : Entity) × (entity_at store u ≡ Some e)
-  pub keyed : (u : Uid) (e : Entity) → entity_at store u ≡ Some e → IsTrue (is_keyed (VRecord e.attributes) && is_keyed (VRecord e.tags))
 
 -- v is an ancestor of u in the store
 abbrev pub IsStoredAncestor : Store → Uid → Uid → Type 0

@@ -2,7 +2,6 @@
 use Rattle.std.specs.Prelude.{◌≡◌, Bool, true, false, ◌&&◌, not, List, [], ◌∷◌, Option, Some, None, ℤ, if◌then◌else◌, IsTrue}
 use Rattle.std.specs.List.{list_any}
 use Rattle.cedar_types.specs.Names.{Text, Path, Uid, text_eq}
-use Rattle.cedar_types.specs.Ascending.{texts_ascending}
 use Rattle.cedar_types.specs.Types.{Ty, TNever, TBool, TLong, TString, TSet, TAnySet, TRecord, TEntity, TAnyEntity, TExtension, Attrs, no_attrs, attr, attr_names}
 use Rattle.cedar_types.specs.Schemas.{is_among}
 use Rattle.cedar_types.specs.declared.base.types.BoolType.{BoolType}
@@ -38,25 +37,6 @@ entry_at k (more_entries l v es) = if text_eq k l then Some v else entry_at k es
 abbrev pub entry_keys : Entries → List Text
 entry_keys no_entries = []
 entry_keys (more_entries k v es) = k ∷ entry_keys es
-
--- the keys of each record ascend, each once, at every depth
-abbrev mutual
-  pub is_keyed : Value → Bool
-  is_keyed (VBool b) = true
-  is_keyed (VLong n) = true
-  is_keyed (VString t) = true
-  is_keyed (VEntity u) = true
-  is_keyed (VSet vs) = are_keyed vs
-  is_keyed (VRecord es) = texts_ascending (entry_keys es) && entries_are_keyed es
-  is_keyed (VExtension n t) = true
-
-  pub are_keyed : Values → Bool
-  are_keyed no_values = true
-  are_keyed (more_values v vs) = is_keyed v && are_keyed vs
-
-  pub entries_are_keyed : Entries → Bool
-  entries_are_keyed no_entries = true
-  entries_are_keyed (more_entries k v es) = is_keyed v && entries_are_keyed es
 
 -- ---- by kinds: what is asked of a value of a kind; no other value passes
 

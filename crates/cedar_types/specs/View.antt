@@ -81,10 +81,6 @@ kind_with {T} {D} mark = fold-ExprKind T ((Places → D) → Tree D) (Tree D) (k
 abbrev pub shape : {T : Type 0} → Expr T → Shape
 shape {T} = tree_with {T = T} {D = Unit {0}} (λ _ _ _. tt)
 
--- its form, and where each node stands
-abbrev pub located : {T : Type 0} → Expr T → Tree (Option Loc)
-located {T} = tree_with {T = T} {D = Option Loc} (λ _ l _. l)
-
 -- the whole of what was written: its form, and every place
 abbrev pub written : {T : Type 0} → Expr T → Tree Written
 written {T} = tree_with {T = T} {D = Written} (λ _ l p. record { place = l; names = p })

@@ -1,9 +1,9 @@
 // The attributes of an extended `has`.
-ghost use Rattle.std.specs.Prelude.{◌≡◌};
+ghost use Rattle.std.specs.Prelude.{◌≡◌, IfOk, map};
 ghost use Rattle.cedar_types.specs.View.{chain_of};
 
-use crate::base::names::copy_texts;
-use std::alloc::AllocError;
+use crate::base::names::{copy_texts, texts_from};
+use std::alloc::{AllocError, Global};
 use std::rc::RcStr;
 
 /// The attributes that an extended `has` asks for, one after the other. There is always a first.
@@ -11,6 +11,17 @@ use std::rc::RcStr;
 pub struct AttrChain {
     pub first: RcStr,
     pub rest: Vec<RcStr>,
+}
+
+impl AttrChain {
+    /// The attributes of these names: the first, and the others.
+    pub fn new(alloc: Global, first: &str, rest: &[&str]) -> Result<AttrChain, AllocError>
+        ensures { IfOk result (λ c. chain_of c ≡ (first.now, map (λ s. s.now) rest.now)) }
+    {
+        let first = RcStr::from_str(alloc, first)?;
+        let rest = texts_from(alloc, rest)?;
+        Ok(AttrChain { first, rest })
+    }
 }
 
 impl Clone for AttrChain {

@@ -1,8 +1,9 @@
 // The attributes of record types, made and asked.
-ghost use Rattle.std.specs.Prelude.{◌≡◌, IfOk, option_map};
+ghost use Rattle.std.specs.Prelude.{◌≡◌, IfOk, map, option_map};
 ghost use Rattle.cedar_types.specs.Names.{text_of};
-ghost use Rattle.cedar_types.specs.Types.{ty_of, attributes_of, entries_of};
+ghost use Rattle.cedar_types.specs.Types.{ty_of, attributes_of, entries_of, no_attrs};
 ghost use Rattle.cedar_types.specs.Bounds.{find_attr};
+ghost use Rattle.cedar_types.specs.Makers.{with_attrs};
 
 use crate::base::types::{AttributeType, Attributes};
 use std::alloc::{AllocError, Global};
@@ -20,6 +21,22 @@ impl Attributes {
         Ok(Attributes {
             attrs: Rc::new(alloc, attrs)?,
         })
+    }
+
+    /// The attributes of this list. A later one comes in place of an earlier one of its name.
+    pub fn from_list(
+        alloc: Global,
+        listed: Vec<(&str, AttributeType)>,
+    ) -> Result<Attributes, AllocError>
+        ensures { IfOk result (λ a. attributes_of a ≡ with_attrs
+            (map (λ e. (e.0.now, (ty_of e.1.attr_type, e.1.is_required))) listed.entry.items)
+            no_attrs) }
+    {
+        let mut attrs = BTreeMap::new(alloc);
+        for (key, attribute) in listed {
+            drop(attrs.insert(RcStr::from_str(alloc, key)?, attribute)?);
+        }
+        Attributes::with_attributes(alloc, attrs)
     }
 
     /// The attribute of this name, if there is one.

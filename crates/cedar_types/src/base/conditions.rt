@@ -3,7 +3,7 @@ ghost use Rattle.std.specs.Prelude.{◌≡◌, IfOk, map, option_map};
 ghost use Rattle.cedar_types.specs.Names.{placed_type, placed_uid};
 ghost use Rattle.cedar_types.specs.Tree.{var, and as and_tree, binary as binary_tree};
 ghost use Rattle.cedar_types.specs.View.{written, kind_written};
-ghost use Rattle.cedar_types.specs.Templates.{template_of, condition_of, with_rest as with_rest_tree, scope_of, scope_at, action_scope_of, action_scope_at, reference_of, reference_at, typed_at, within_at, equal_at, true_at, uid_at, made};
+ghost use Rattle.cedar_types.specs.Templates.{template_of, scope_condition, condition_of, with_rest as with_rest_tree, scope_of, scope_at, action_scope_of, action_scope_at, reference_of, reference_at, typed_at, within_at, equal_at, true_at, uid_at, made};
 
 use crate::base::constraints::{ActionConstraint, EntityReference, PrincipalOrResourceConstraint};
 use crate::base::entities::{EntityType, EntityUID};
@@ -24,6 +24,15 @@ impl Template {
     pub fn condition(&self, alloc: Global) -> Result<Expr, AllocError>
         ensures { IfOk result (λ e. written e ≡ condition_of (template_of self.now)) }
     {
+        let scope = self.scope_condition(alloc)?;
+        let condition = with_rest(alloc, self.loc, scope, &self.non_scope_constraints)?;
+        Ok(condition)
+    }
+
+    /// What the scope makes of the condition: `(P && A) && R`. The rest is not looked at.
+    pub fn scope_condition(&self, alloc: Global) -> Result<Expr, AllocError>
+        ensures { IfOk result (λ e. written e ≡ scope_condition (template_of self.now)) }
+    {
         let loc = self.loc;
         let principal = scope_test(
             alloc,
@@ -41,8 +50,7 @@ impl Template {
             &self.resource_constraint.constraint,
         )?;
         let scope = and(alloc, loc, and(alloc, loc, principal, action)?, resource)?;
-        let condition = with_rest(alloc, loc, scope, &self.non_scope_constraints)?;
-        Ok(condition)
+        Ok(scope)
     }
 }
 

@@ -9,7 +9,9 @@ use std::alloc::{AllocError, Global};
 /// What a constraint names: an entity, or the slot of the variable that it constrains.
 #[derive(Debug, Drop)]
 pub enum EntityReference {
+    /// This entity.
     EUID(EntityUID),
+    /// What the slot of the variable is bound to.
     Slot,
 }
 
@@ -27,10 +29,15 @@ impl Clone for EntityReference {
 /// A constraint on the principal or on the resource: none, `==`, `in`, `is`, or `is .. in`.
 #[derive(Debug, Drop)]
 pub enum PrincipalOrResourceConstraint {
+    /// No constraint.
     Any,
+    /// `== x`.
     Eq(EntityReference),
+    /// `in x`: the entity itself, or one below it.
     In(EntityReference),
+    /// `is T`.
     Is(EntityType),
+    /// `is T in x`.
     IsIn(EntityType, EntityReference),
 }
 
@@ -72,8 +79,11 @@ pub struct ResourceConstraint {
 /// The constraint on the action: none, `==` one, or `in` a list.
 #[derive(Debug, Drop)]
 pub enum ActionConstraint {
+    /// No constraint.
     Any,
+    /// `== a`.
     Eq(EntityUID),
+    /// `in [a, b]`: one of these, or one below them.
     In(Vec<EntityUID>),
 }
 

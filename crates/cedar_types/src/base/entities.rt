@@ -1,10 +1,10 @@
 // Entity types and entity ids.
-ghost use Rattle.std.specs.Prelude.{◌≡◌, ◌⊎◌};
-ghost use Rattle.cedar_types.specs.Names.{type_of, placed_type, placed_uid, is_action_path};
+ghost use Rattle.std.specs.Prelude.{◌≡◌, ◌⊎◌, IfOk, None};
+ghost use Rattle.cedar_types.specs.Names.{path_of, type_of, placed_type, placed_uid, is_action_path};
 
 use crate::base::location::Loc;
 use crate::base::names::Name;
-use std::alloc::AllocError;
+use std::alloc::{AllocError, Global};
 use std::fmt;
 use std::rc::RcStr;
 
@@ -18,11 +18,26 @@ pub struct EntityType {
 }
 
 impl EntityType {
+    /// The type of this name, which stands at this place.
+    pub fn new(name: Name, loc: Option<Loc>) -> EntityType
+        ensures { placed_type result ≡ record { name = path_of name; place = loc } }
+    {
+        EntityType { name, loc }
+    }
+
     /// Whether entities of this type are actions: whether the name's last part is `Action`.
     pub fn is_action(&self) -> bool
         ensures { result ≡ is_action_path (type_of self.now) }
     {
         self.name.basename.as_str() == "Action"
+    }
+}
+
+impl From<Name> for EntityType {
+    ghost from_gives = { λ n t. placed_type t ≡ record { name = path_of n; place = None } };
+
+    fn from(name: Name) -> EntityType {
+        EntityType::new(name, None)
     }
 }
 
@@ -54,6 +69,28 @@ pub struct EntityUID {
     pub eid: RcStr,
     #[derive_where(skip(EqHashOrd))]
     pub loc: Option<Loc>,
+}
+
+impl EntityUID {
+    /// The id of this eid among the entities of this type, which stands at this place. The type keeps its own.
+    pub fn from_components(
+        alloc: Global,
+        entity_type: EntityType,
+        eid: &str,
+        loc: Option<Loc>,
+    ) -> Result<EntityUID, AllocError>
+        ensures { IfOk result (λ u. placed_uid u ≡ record {
+          uid = record { entity_type = type_of entity_type; eid = eid.now };
+          place = loc;
+          type_place = entity_type.loc;
+        }) }
+    {
+        Ok(EntityUID {
+            entity_type,
+            eid: RcStr::from_str(alloc, eid)?,
+            loc,
+        })
+    }
 }
 
 impl Clone for EntityUID {

@@ -31,7 +31,7 @@ impl Clone for EntityLUB {
 impl EntityLUB {
     ghost use Rattle.std.specs.Map.Iter.{ShowsInOrder, deref};
     ghost use Rattle.cedar_types.specs.declared.base.entities.EntityType.{EntityType};
-    ghost use Rattle.std.specs.Prelude.{◌≡◌, [], ◌∷◌, IfOk, option_map, not};
+    ghost use Rattle.std.specs.Prelude.{◌≡◌, [], ◌∷◌, IfOk, map, option_map, not};
     ghost use Rattle.std.specs.List.{list_any};
     ghost use Rattle.cedar_types.specs.Names.{type_of, path_eq};
     ghost use Rattle.cedar_types.specs.Types.{lub_of, types_of, lub_from, sole};
@@ -74,7 +74,7 @@ impl EntityLUB {
 
     /// The types, in ascending order.
     pub fn iter(&self) -> btree_set::Iter<'_, EntityType>
-        ensures rest { result ≡ self.now.lub_elements.value.keys }
+        ensures rest { map type_of result ≡ lub_of self.now }
         ensures runs { ShowsInOrder (deref {X = EntityType}) }
     {
         self.lub_elements.iter()

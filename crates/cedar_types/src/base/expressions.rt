@@ -29,25 +29,42 @@ pub struct Expr<T = ()> {
 #[derive(Drop, Debug)]
 #[derive_where(PartialEq, Eq, PartialOrd, Ord, Hash)]
 pub enum ExprKind<T = ()> {
+    /// `true`, `7`, `"a"` or `User::"a"`.
     Lit(Literal),
+    /// `principal`, `action`, `resource` or `context`.
     Var(Var),
+    /// `?principal` or `?resource`.
     Slot(SlotId),
+    /// A value that is not known yet, by its name.
     Unknown(Name),
+    /// `if a then b else c`.
     If {
         test_expr: Box<Expr<T>>,
         then_expr: Rc<Expr<T>>,
         else_expr: Rc<Expr<T>>,
     },
+    /// `a && b`.
     And(Box<Expr<T>>, Box<Expr<T>>),
+    /// `a || b`.
     Or(Box<Expr<T>>, Box<Expr<T>>),
+    /// An operator on one operand.
     UnaryApp(UnaryOp, Box<Expr<T>>),
+    /// An operator on two operands.
     BinaryApp(BinaryOp, Box<Expr<T>>, Box<Expr<T>>),
+    /// A call of the extension function of this name.
     ExtensionFunctionApp(Name, Vec<Expr<T>>),
+    /// `a.x`.
     GetAttr(Box<Expr<T>>, RcStr),
+    /// `a has x`.
     HasAttr(Box<Expr<T>>, RcStr),
+    /// `a has x.y.z`.
     ExtHasAttr(Box<Expr<T>>, AttrChain),
+    /// `a like "x*"`.
     Like(Box<Expr<T>>, Vec<PatternElem>),
+    /// `a is T`.
     Is(Box<Expr<T>>, EntityType),
+    /// `[a, b]`.
     Set(Vec<Expr<T>>),
+    /// `{x: a, y: b}`.
     Record(BTreeMap<RcStr, Expr<T>>),
 }

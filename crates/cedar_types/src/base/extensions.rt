@@ -70,10 +70,12 @@ impl ExtensionSchemas {
 #[derive(Clone, Copy, PartialEq, Eq, PartialOrd, Ord, Hash, Debug, Error)]
 pub enum ExtensionTableError {
     /// The return type is none of: a Boolean, a long, a string, an extension value, or a set of one of these.
-    #[error("an extension function has a return type that is not allowed")]
+    #[error("BadReturnType")]
     BadReturnType,
-    #[error("a variadic extension function has no argument types")]
+    /// A variadic function has no argument types.
+    #[error("VariadicWithoutArguments")]
     VariadicWithoutArguments,
-    #[error("two extension functions have the same name")]
+    /// Two functions have the same name.
+    #[error("DuplicateFunction")]
     DuplicateFunction,
 }

@@ -1,4 +1,4 @@
-// Laws of the data, each on a function that does nothing.
+//! Laws of the data, each on a function that does nothing.
 ghost use Rattle.std.specs.Prelude.{◌≡◌, IsTrue, ◌↔◌};
 ghost use Rattle.cedar_types.specs.Names.{path_of, type_of, uid_of, path_cmp, uid_cmp};
 ghost use Rattle.cedar_types.specs.Comparisons.{name_eq, entity_type_eq, entity_uid_eq, name_cmp, entity_type_cmp, entity_uid_cmp};

@@ -121,7 +121,7 @@ fn types_lookup(
 ) -> Result<Option<AttributeType>, AllocError>
     ensures { IfOk result (λ o. option_map attribute_view o ≡ types_attribute (schema_of schema.now).types (text_of attr.now) (lub_of lub.now)) }
 {
-    let mut types = lub.iter();
+    let mut types = lub.lub_elements.iter();
     let Some(first) = types.next() else {
         return Ok(None);
     };
@@ -206,7 +206,7 @@ fn kind_may_have(schema: &ValidatorSchema, kind: &EntityKind, attr: &RcStr) -> b
 fn types_may_have(schema: &ValidatorSchema, lub: &EntityLUB, attr: &RcStr) -> bool
     ensures { result ≡ list_any (may_declare (schema_of schema.now).types (text_of attr.now)) (lub_of lub.now) }
 {
-    for entity_type in lub.iter() {
+    for entity_type in lub.lub_elements.iter() {
         if type_may_have(schema, entity_type, attr) {
             return true;
         }

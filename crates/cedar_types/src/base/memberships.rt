@@ -22,7 +22,7 @@ impl ValidatorSchema {
     pub fn any_descendent_of(&self, lefts: &EntityLUB, rights: &EntityLUB) -> bool
         ensures { result ≡ any_may_be_in (schema_of self.now) (lub_of lefts.now) (lub_of rights.now) }
     {
-        for left in lefts.iter() {
+        for left in lefts.lub_elements.iter() {
             if self.may_be_in_any(left, rights) {
                 return true;
             }
@@ -33,7 +33,7 @@ impl ValidatorSchema {
     fn may_be_in_any(&self, left: &EntityType, rights: &EntityLUB) -> bool
         ensures { result ≡ list_any (may_be_in (schema_of self.now) (type_of left.now)) (lub_of rights.now) }
     {
-        for right in rights.iter() {
+        for right in rights.lub_elements.iter() {
             if self.may_be_in(left, right) {
                 return true;
             }

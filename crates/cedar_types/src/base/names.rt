@@ -1,8 +1,8 @@
 // Names.
-ghost use Rattle.std.specs.Prelude.{◌≡◌, IfOk, map};
+ghost use Rattle.std.specs.Prelude.{◌≡◌, [], IfOk, map};
 ghost use Rattle.cedar_types.specs.Names.{text_of, path_of};
 
-use std::alloc::AllocError;
+use std::alloc::{AllocError, Global};
 use std::fmt;
 use std::rc::RcStr;
 
@@ -11,6 +11,30 @@ use std::rc::RcStr;
 pub struct Name {
     pub path: Vec<RcStr>,
     pub basename: RcStr,
+}
+
+impl Name {
+    /// The name of this last part, without a path.
+    pub fn unqualified_name(alloc: Global, basename: &str) -> Result<Name, AllocError>
+        ensures { IfOk result (λ n. path_of n ≡ record { path = []; basename = basename.now }) }
+    {
+        Ok(Name {
+            path: Vec::new(alloc),
+            basename: RcStr::from_str(alloc, basename)?,
+        })
+    }
+
+    /// The name of this last part, below these parts of a path.
+    pub fn new(alloc: Global, basename: &str, path: &[&str]) -> Result<Name, AllocError>
+        ensures { IfOk result (λ n. path_of n ≡ record {
+          path = map (λ s. s.now) path.now;
+          basename = basename.now;
+        }) }
+    {
+        let path = texts_from(alloc, path)?;
+        let basename = RcStr::from_str(alloc, basename)?;
+        Ok(Name { path, basename })
+    }
 }
 
 impl Clone for Name {
@@ -41,4 +65,15 @@ pub(crate) fn copy_texts(texts: &Vec<RcStr>) -> Result<Vec<RcStr>, AllocError>
         copies.push(text.clone()?)?;
     }
     Ok(copies)
+}
+
+/// These texts, each on its own.
+pub(crate) fn texts_from(alloc: Global, texts: &[&str]) -> Result<Vec<RcStr>, AllocError>
+    ensures { IfOk result (λ v. map text_of v.items ≡ map (λ s. s.now) texts.now) }
+{
+    let mut owned = Vec::with_capacity(alloc, texts.len())?;
+    for text in texts {
+        owned.push(RcStr::from_str(alloc, text)?)?;
+    }
+    Ok(owned)
 }

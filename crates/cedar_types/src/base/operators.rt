@@ -3,33 +3,52 @@
 /// A variable of a policy.
 #[derive(Clone, Copy, PartialEq, Eq, PartialOrd, Ord, Hash, Debug)]
 pub enum Var {
+    /// Who wants to act.
     Principal,
+    /// What they want to do.
     Action,
+    /// What they want to do it to.
     Resource,
+    /// What else the request says, a record.
     Context,
 }
 
 /// An operator on one operand: `!`, `-` and `isEmpty`.
 #[derive(Clone, Copy, PartialEq, Eq, PartialOrd, Ord, Hash, Debug)]
 pub enum UnaryOp {
+    /// `!`.
     Not,
+    /// `-` before its operand.
     Neg,
+    /// Whether a set has no members.
     IsEmpty,
 }
 
 /// An operator on two operands: `==`, `<`, `<=`, `+`, `-`, `*`, `in`, the three of sets and the two of tags.
 #[derive(Clone, Copy, PartialEq, Eq, PartialOrd, Ord, Hash, Debug)]
 pub enum BinaryOp {
+    /// `==`.
     Eq,
+    /// `<`.
     Less,
+    /// `<=`.
     LessEq,
+    /// `+`.
     Add,
+    /// `-` between its operands.
     Sub,
+    /// `*`.
     Mul,
+    /// `in`: whether an entity is another one, or below it.
     In,
+    /// Whether a set has this member.
     Contains,
+    /// Whether a set has all members of another.
     ContainsAll,
+    /// Whether a set has some member of another.
     ContainsAny,
+    /// The tag of this name, which an entity has to have.
     GetTag,
+    /// Whether an entity has the tag of this name.
     HasTag,
 }

@@ -1,8 +1,8 @@
 // Ids of policies.
-ghost use Rattle.std.specs.Prelude.{◌≡◌};
+ghost use Rattle.std.specs.Prelude.{◌≡◌, IfOk};
 ghost use Rattle.cedar_types.specs.Names.{text_of};
 
-use std::alloc::AllocError;
+use std::alloc::{AllocError, Global};
 use std::fmt;
 use std::rc::RcStr;
 
@@ -10,6 +10,17 @@ use std::rc::RcStr;
 #[derive(PartialEq, Eq, PartialOrd, Ord, Hash, Debug, Drop)]
 pub struct PolicyID {
     pub text: RcStr,
+}
+
+impl PolicyID {
+    /// The id of this text.
+    pub fn from_string(alloc: Global, text: &str) -> Result<PolicyID, AllocError>
+        ensures { IfOk result (λ p. text_of p.text ≡ text.now) }
+    {
+        Ok(PolicyID {
+            text: RcStr::from_str(alloc, text)?,
+        })
+    }
 }
 
 impl Clone for PolicyID {

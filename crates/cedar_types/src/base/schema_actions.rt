@@ -18,6 +18,7 @@ pub struct ValidatorActionId {
 /// Whether it is known what an action applies to.
 #[derive(Debug, Drop)]
 pub enum ValidatorActionKind {
+    /// It applies to these, and to nothing else.
     Defined(ValidatorApplySpec),
     /// Declared elsewhere.
     External,

@@ -16,6 +16,7 @@ pub struct ValidatorEntityType {
 /// What is known of the entities of a type.
 #[derive(Debug, Drop)]
 pub enum ValidatorEntityTypeKind {
+    /// Its attributes are declared, and the type of its tags, if it may have any.
     Standard(StandardValidatorEntityType),
     /// The ids that its entities have, and no others.
     Enum(Vec<RcStr>),

@@ -26,7 +26,9 @@ impl<T> Expr<T> {
 /// that equality, and no more is said of it.
 #[derive(Drop, Debug)]
 pub enum ExprShapeOnly<'a> {
+    /// It lies in what it was taken from.
     Borrowed(&'a Expr),
+    /// It was made for this.
     Owned(Expr),
 }
 

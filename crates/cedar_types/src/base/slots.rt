@@ -5,7 +5,9 @@ use std::collections::BTreeMap;
 /// A place in a template's scope that a link fills with an entity.
 #[derive(Clone, Copy, PartialEq, Eq, PartialOrd, Ord, Hash, Debug)]
 pub enum SlotId {
+    /// `?principal`.
     Principal,
+    /// `?resource`.
     Resource,
 }
 

@@ -1,7 +1,8 @@
 // Templates and policies.
 ghost use Rattle.std.specs.Prelude.{◌≡◌, IfOk, option_map};
+ghost use Rattle.cedar_types.specs.Names.{text_of};
 ghost use Rattle.cedar_types.specs.View.{written};
-ghost use Rattle.cedar_types.specs.Templates.{template_of};
+ghost use Rattle.cedar_types.specs.Templates.{template_of, scope_of, action_scope_of};
 
 use crate::base::constraints::{ActionConstraint, PrincipalConstraint, ResourceConstraint};
 use crate::base::expressions::Expr;
@@ -24,6 +25,34 @@ pub struct Template {
 }
 
 impl Template {
+    /// The template of these parts. It takes no memory.
+    pub fn new(
+        id: PolicyID,
+        loc: Option<Loc>,
+        principal_constraint: PrincipalConstraint,
+        action_constraint: ActionConstraint,
+        resource_constraint: ResourceConstraint,
+        non_scope_constraints: Option<Expr>,
+    ) -> Template
+        ensures { template_of result ≡ record {
+          id = text_of id.text;
+          place = loc;
+          principal = scope_of principal_constraint.constraint;
+          action = action_scope_of action_constraint;
+          resource = scope_of resource_constraint.constraint;
+          rest = option_map written non_scope_constraints;
+        } }
+    {
+        Template {
+            id,
+            loc,
+            principal_constraint,
+            action_constraint,
+            resource_constraint,
+            non_scope_constraints,
+        }
+    }
+
     /// A copy, places included.
     pub fn try_clone(&self, alloc: Global) -> Result<Template, AllocError>
         ensures { IfOk result (λ t. template_of t ≡ template_of self.now) }

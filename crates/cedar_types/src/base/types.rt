@@ -11,30 +11,41 @@ use std::rc::{Rc, RcStr};
 /// How a policy is typed.
 #[derive(Clone, Copy, PartialEq, Eq, PartialOrd, Ord, Hash, Debug)]
 pub enum ValidationMode {
+    /// Types that meet have to agree: entity types do not unite, and no key of a record is dropped. It is the mode
+    /// in which soundness is proved.
     Strict,
+    /// Entity types that meet unite, and records that meet keep the keys that they share.
     Permissive,
+    /// As in Permissive, by a schema that need not declare everything: an undeclared action may be requested too.
     Partial,
 }
 
 /// Which truth values a Boolean may have.
 #[derive(Clone, Copy, PartialEq, Eq, PartialOrd, Ord, Hash, Debug)]
 pub enum BoolType {
+    /// Either of them.
     AnyBool,
+    /// `true` alone.
     True,
+    /// `false` alone.
     False,
 }
 
 /// Which entities a value may be.
 #[derive(PartialEq, Eq, PartialOrd, Ord, Hash, Debug, Drop)]
 pub enum EntityKind {
+    /// One of some types.
     Entity(EntityLUB),
+    /// One of any type.
     AnyEntity,
 }
 
 /// Whether a record may have attributes that its type does not name.
 #[derive(Clone, Copy, PartialEq, Eq, PartialOrd, Ord, Hash, Debug)]
 pub enum OpenTag {
+    /// It may have others.
     OpenAttributes,
+    /// It has no others.
     ClosedAttributes,
 }
 
@@ -57,17 +68,26 @@ pub struct Attributes {
 #[cycle(types)]
 #[derive(PartialEq, Eq, PartialOrd, Ord, Hash, Debug, Drop)]
 pub enum CedarType {
+    /// No value has it.
     Never,
+    /// Truth values.
     Bool(BoolType),
+    /// Whole numbers of 64 bits.
     Long,
+    /// Texts.
     String,
+    /// Sets whose members have this type.
     Set(Rc<CedarType>),
+    /// Sets of anything.
     AnySet,
+    /// Values by key, with these attributes.
     Record {
         attributes: Attributes,
         is_open: OpenTag,
     },
+    /// Ids of entities.
     Entity(EntityKind),
+    /// Values of the extension type of this name.
     Extension(Rc<Name>),
 }
 

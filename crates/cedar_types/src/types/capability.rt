@@ -1,4 +1,4 @@
-// Capabilities: what is known to be there.
+//! Capabilities: what is known to be there.
 ghost use Rattle.std.specs.Prelude.{◌≡◌, IfOk, OnOk};
 ghost use Rattle.cedar_types.specs.Names.{text_of};
 ghost use Rattle.cedar_types.specs.View.{shape};

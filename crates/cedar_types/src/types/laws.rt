@@ -1,4 +1,4 @@
-// Laws of capabilities and of environments, each on a function that does nothing.
+//! Laws of capabilities and of environments, each on a function that does nothing.
 ghost use Rattle.std.specs.Prelude.{◌≡◌, ◌↔◌, IsTrue};
 ghost use Rattle.std.specs.Ordering.{is_eq};
 ghost use Rattle.cedar_types.specs.Capability.{cap_of, capability_eq, capability_cmp};

@@ -1,22 +1,21 @@
-// The environments that typing works in.
-ghost use Rattle.std.specs.Prelude.{◌≡◌, true, [], ◌∷◌, IfOk, option_map};
-ghost use Rattle.cedar_types.specs.Names.{type_of, placed_type};
-ghost use Rattle.cedar_types.specs.Types.{ty_of, TRecord, TEntity, no_attrs};
+//! The environments that typing works in.
+ghost use Rattle.std.specs.Prelude.{◌≡◌, IfOk, option_map};
+ghost use Rattle.cedar_types.specs.Names.{placed_type};
+ghost use Rattle.cedar_types.specs.Types.{ty_of};
 ghost use Rattle.cedar_types.specs.SchemaContents.{schema_of};
 ghost use Rattle.cedar_types.specs.RequestEnvs.{env_of, principal_in, action_in, resource_in, principal_slot_in, resource_slot_in, placed_request, request_in, principal_ty, resource_ty, action_ty, context_ty, linked, IsLinkedTo, bound_type};
 
 use crate::base::{
-    Attributes, CedarType, EntityKind, EntityLUB, EntityType, EntityUID, OpenTag, RequestType,
-    SlotEnv, SlotId, ValidatorSchema,
+    CedarType, EntityType, EntityUID, RequestType, SlotEnv, SlotId, ValidatorSchema,
 };
 pub use crate::types::unlinked_envs::UnlinkedRequestEnvs;
 use std::alloc::{AllocError, Global};
-use std::collections::BTreeMap;
 
 /// What a request may be about: an action that the schema declares with one of its principal types, one of its resource
 /// types and the type of its context, or, in Partial alone, an action of which nothing is known.
 #[derive(Debug, Drop)]
 pub enum RequestEnv<'a> {
+    /// An action that the schema declares, with one choice of what it applies to.
     DeclaredAction {
         principal: &'a EntityType,
         action: &'a EntityUID,
@@ -27,6 +26,7 @@ pub enum RequestEnv<'a> {
         /// The type of the entity that `?resource` is bound to, if it is bound.
         resource_slot: Option<EntityType>,
     },
+    /// Any action that the schema does not declare.
     UndeclaredAction,
 }
 
@@ -105,8 +105,10 @@ impl<'a> RequestEnv<'a> {
         ensures { IfOk result (λ t. ty_of t ≡ principal_ty (env_of self.now)) }
     {
         match self {
-            RequestEnv::DeclaredAction { principal, .. } => entity_of(alloc, principal),
-            RequestEnv::UndeclaredAction => Ok(CedarType::Entity(EntityKind::AnyEntity)),
+            RequestEnv::DeclaredAction { principal, .. } => {
+                CedarType::named_entity_reference(alloc, EntityType::clone(principal)?)
+            }
+            RequestEnv::UndeclaredAction => Ok(CedarType::any_entity_reference()),
         }
     }
 
@@ -132,7 +134,7 @@ impl<'a> RequestEnv<'a> {
             RequestEnv::DeclaredAction { action, .. } => {
                 CedarType::euid_literal(alloc, action, schema)
             }
-            RequestEnv::UndeclaredAction => Ok(Some(CedarType::Entity(EntityKind::AnyEntity))),
+            RequestEnv::UndeclaredAction => Ok(Some(CedarType::any_entity_reference())),
         }
     }
 
@@ -151,8 +153,10 @@ impl<'a> RequestEnv<'a> {
         ensures { IfOk result (λ t. ty_of t ≡ resource_ty (env_of self.now)) }
     {
         match self {
-            RequestEnv::DeclaredAction { resource, .. } => entity_of(alloc, resource),
-            RequestEnv::UndeclaredAction => Ok(CedarType::Entity(EntityKind::AnyEntity)),
+            RequestEnv::DeclaredAction { resource, .. } => {
+                CedarType::named_entity_reference(alloc, EntityType::clone(resource)?)
+            }
+            RequestEnv::UndeclaredAction => Ok(CedarType::any_entity_reference()),
         }
     }
 
@@ -162,7 +166,7 @@ impl<'a> RequestEnv<'a> {
     {
         match self {
             RequestEnv::DeclaredAction { context, .. } => CedarType::clone(context),
-            RequestEnv::UndeclaredAction => any_record(alloc),
+            RequestEnv::UndeclaredAction => CedarType::any_record(alloc),
         }
     }
 
@@ -195,21 +199,4 @@ fn type_bound(slot_env: &SlotEnv, slot: SlotId) -> Result<Option<EntityType>, Al
         Some(entity) => Ok(Some(entity.entity_type.clone()?)),
         None => Ok(None),
     }
-}
-
-fn entity_of(alloc: Global, entity_type: &EntityType) -> Result<CedarType, AllocError>
-    ensures { IfOk result (λ t. ty_of t ≡ TEntity (type_of entity_type.now ∷ [])) }
-{
-    let lub = EntityLUB::single_entity(alloc, entity_type.clone()?)?;
-    Ok(CedarType::Entity(EntityKind::Entity(lub)))
-}
-
-fn any_record(alloc: Global) -> Result<CedarType, AllocError>
-    ensures { IfOk result (λ t. ty_of t ≡ TRecord no_attrs true) }
-{
-    let attributes = Attributes::with_attributes(alloc, BTreeMap::new(alloc))?;
-    Ok(CedarType::Record {
-        attributes,
-        is_open: OpenTag::OpenAttributes,
-    })
 }

@@ -23,7 +23,9 @@ pub struct LiteralDereferenceTarget {
     pub policy_id: PolicyID,
 }
 
-/// A form was met that a policy which was typed in Strict or in Permissive does not have.
+/// A form was met that has no rule. Typing reports it of each form that is not built yet, and will of `hasTag` and
+/// `getTag` on what is Never, which comes up in Partial alone; the level pass, on a base that is neither an entity of
+/// known types nor a record.
 #[derive(PartialEq, Eq, Hash, Debug, Drop, Error)]
 #[error("for policy `{policy_id}`, internal invariant violated")]
 pub struct InternalInvariantViolation {

@@ -20,11 +20,17 @@ pub struct UnexpectedType {
 /// Where a bound of several types was wanted.
 #[derive(Clone, Copy, PartialEq, Eq, PartialOrd, Ord, Hash, Debug)]
 pub enum LubContext {
+    /// Between the branches of an `if`.
     Conditional,
+    /// Between the elements of a set.
     Set,
+    /// Between the sides of `==`.
     Equality,
+    /// Between the elements of a set and what it may contain.
     Contains,
+    /// Between the two sets of `containsAll` or `containsAny`.
     ContainsAnyAll,
+    /// Between the types of tags that several entity types declare.
     GetTag,
 }
 

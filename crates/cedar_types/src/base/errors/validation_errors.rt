@@ -13,49 +13,68 @@ use crate::base::errors::unknown_names::{
     InvalidEnumEntity, UnrecognizedActionId, UnrecognizedEntityType,
 };
 use crate::base::location::Loc;
+use crate::base::policy_ids::PolicyID;
 use thiserror::Error;
 
 /// What makes a policy invalid, with the policy's id and the place that it is about.
 #[derive(PartialEq, Eq, Hash, Debug, Drop, Error)]
 pub enum ValidationError {
+    /// A type that the schema does not know.
     #[error(transparent)]
     UnrecognizedEntityType(UnrecognizedEntityType),
+    /// An action that the schema does not declare.
     #[error(transparent)]
     UnrecognizedActionId(UnrecognizedActionId),
+    /// An id that its enumerated type does not list.
     #[error(transparent)]
     InvalidEnumEntity(InvalidEnumEntity),
+    /// A part of a type that is not accepted there.
     #[error(transparent)]
     UnexpectedType(UnexpectedType),
+    /// Several types that have no bound.
     #[error(transparent)]
     IncompatibleTypes(IncompatibleTypes),
+    /// An attribute that the type does not declare.
     #[error(transparent)]
     UnsafeAttributeAccess(UnsafeAttributeAccess),
+    /// An optional attribute, read without a test.
     #[error(transparent)]
     UnsafeOptionalAttributeAccess(UnsafeOptionalAttributeAccess),
+    /// A tag, read without a test.
     #[error(transparent)]
     UnsafeTagAccess(UnsafeTagAccess),
+    /// A tag of a type that declares none.
     #[error(transparent)]
     NoTagsAllowed(NoTagsAllowed),
+    /// A function that the table does not have.
     #[error(transparent)]
     UndefinedFunction(UndefinedFunction),
+    /// A call with too many arguments, or too few.
     #[error(transparent)]
     WrongNumberArguments(WrongNumberArguments),
+    /// Arguments that the function's check refuses.
     #[error(transparent)]
     FunctionArgumentValidation(FunctionArgumentValidation),
+    /// A set without elements, in Strict.
     #[error(transparent)]
     EmptySetForbidden(EmptySetForbidden),
+    /// A checked function with an argument that is no literal, in Strict.
     #[error(transparent)]
     NonLitExtConstructor(NonLitExtConstructor),
+    /// A form that typing or the level pass has no rule for.
     #[error(transparent)]
     InternalInvariantViolation(InternalInvariantViolation),
+    /// More dereferences, one after another, than the level allows.
     #[error(transparent)]
     MaximumLevelExceeded(MaximumLevelExceeded),
+    /// A dereference of an entity literal or of a slot.
     #[error(transparent)]
     LiteralDereferenceTarget(LiteralDereferenceTarget),
 }
 
 impl ValidationError {
     ghost use Rattle.std.specs.Prelude.{◌≡◌, IsTrue, ◌↔◌};
+    ghost use Rattle.cedar_types.specs.Names.{text_of};
     ghost use Rattle.cedar_types.specs.Errors.{finding_of};
 
     /// Whether two errors are one finding: the same is wrong at the same place of the same policy. It is what `==` says.
@@ -89,6 +108,31 @@ impl ValidationError {
             ValidationError::InternalInvariantViolation(e) => e.source_loc,
             ValidationError::MaximumLevelExceeded(e) => e.source_loc,
             ValidationError::LiteralDereferenceTarget(e) => e.source_loc,
+        }
+    }
+
+    /// The id of the policy that the error is in.
+    pub fn policy_id(&self) -> &PolicyID
+        ensures { text_of result.now.text ≡ (finding_of self.now).policy }
+    {
+        match self {
+            ValidationError::UnrecognizedEntityType(e) => &e.policy_id,
+            ValidationError::UnrecognizedActionId(e) => &e.policy_id,
+            ValidationError::InvalidEnumEntity(e) => &e.policy_id,
+            ValidationError::UnexpectedType(e) => &e.policy_id,
+            ValidationError::IncompatibleTypes(e) => &e.policy_id,
+            ValidationError::UnsafeAttributeAccess(e) => &e.policy_id,
+            ValidationError::UnsafeOptionalAttributeAccess(e) => &e.policy_id,
+            ValidationError::UnsafeTagAccess(e) => &e.policy_id,
+            ValidationError::NoTagsAllowed(e) => &e.policy_id,
+            ValidationError::UndefinedFunction(e) => &e.policy_id,
+            ValidationError::WrongNumberArguments(e) => &e.policy_id,
+            ValidationError::FunctionArgumentValidation(e) => &e.policy_id,
+            ValidationError::EmptySetForbidden(e) => &e.policy_id,
+            ValidationError::NonLitExtConstructor(e) => &e.policy_id,
+            ValidationError::InternalInvariantViolation(e) => &e.policy_id,
+            ValidationError::MaximumLevelExceeded(e) => &e.policy_id,
+            ValidationError::LiteralDereferenceTarget(e) => &e.policy_id,
         }
     }
 }

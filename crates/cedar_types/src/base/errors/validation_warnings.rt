@@ -26,14 +26,17 @@ pub struct InvalidActionApplication {
 /// What is likely a slip in a policy, with the policy's id and place.
 #[derive(PartialEq, Eq, Hash, Debug, Drop, Error)]
 pub enum ValidationWarning {
+    /// The policy never applies.
     #[error(transparent)]
     ImpossiblePolicy(ImpossiblePolicy),
+    /// The scope fits no action.
     #[error(transparent)]
     InvalidActionApplication(InvalidActionApplication),
 }
 
 impl ValidationWarning {
     ghost use Rattle.std.specs.Prelude.{◌≡◌, IsTrue, ◌↔◌};
+    ghost use Rattle.cedar_types.specs.Names.{text_of};
     ghost use Rattle.cedar_types.specs.Errors.{caution_of, noted, impossible_policy, invalid_action_application};
 
     /// The warning on a policy that is false in every environment.
@@ -77,6 +80,16 @@ impl ValidationWarning {
         match self {
             ValidationWarning::ImpossiblePolicy(w) => w.source_loc,
             ValidationWarning::InvalidActionApplication(w) => w.source_loc,
+        }
+    }
+
+    /// The id of the policy that the warning is about.
+    pub fn policy_id(&self) -> &PolicyID
+        ensures { text_of result.now.text ≡ (caution_of self.now).policy }
+    {
+        match self {
+            ValidationWarning::ImpossiblePolicy(w) => &w.policy_id,
+            ValidationWarning::InvalidActionApplication(w) => &w.policy_id,
         }
     }
 }
