@@ -13,11 +13,10 @@ use Rattle.cedar_types.specs.Errors.{Finding}
 use Rattle.cedar_typing.specs.declared.typecheck.answer.Part as part
 use Rattle.cedar_typing.specs.declared.typecheck.answer.TypecheckAnswer.{TypecheckAnswer}
 use Rattle.cedar_typing.specs.declared.typecheck.answer.TypecheckAnswer.TheVariants.{TypecheckSuccess, TypecheckFail, RecursionLimit}
-use Rattle.cedar_typing.specs.Answer.{HandsOn}
 use Rattle.cedar_typing.specs.Typed.{typed_tree}
 use Rattle.cedar_typing.specs.Settings.{Setting, nothing}
 use Rattle.cedar_typing.specs.Judge.{answer_if, leaf_of, given, part_with, GivenOut, expected_given, expected_type}
-use Rattle.cedar_typing.specs.Plain.{ans_of, given_of}
+use Rattle.cedar_typing.specs.Plain.{ans_of, given_of, HandsOn}
 use Rattle.cedar_typing.proofs.Basics.{some_is, none_is}
 use Rattle.cedar_typing.proofs.TypedViews.{by_layer, annotation_is}
 

@@ -8,9 +8,9 @@ use Rattle.cedar_types.specs.Errors.{Finding}
 use Rattle.cedar_typing.specs.Typed.{Source, TypedTree, annotation, place_of}
 use Rattle.cedar_typing.specs.Settings.{Setting, Caps, either, a_bool, is_false, is_true, says}
 use Rattle.cedar_typing.specs.Rules.{max_nesting, Has}
-use Rattle.cedar_typing.specs.Failing.{Part, derived, Operand, Recovers, Cuts, too_deep, by_part, and_left_cut, and_right_cut, or_left_cut, or_right_cut, tried_cut, if_test_cut, if_true_cut, if_false_cut, if_then_cut, if_else_cut}
+use Rattle.cedar_typing.specs.Failing.{Part, Operand, Recovers, Cuts, too_deep, by_part, and_left_cut, and_right_cut, or_left_cut, or_right_cut, tried_cut, if_test_cut, if_true_cut, if_false_cut, if_then_cut, if_else_cut}
 use Rattle.cedar_typing.specs.Judge.{Ans, success, failure, limit, Given, Out, any_part, judge}
-use Rattle.cedar_typing.specs.Laws.{TypingIsAFunction, RecoveryIsAFunction, CutIsAFunction, IsDerived, IsRecovered, IsCut, OneOfThreeAtMost, OneOfThreeAtLeast, Looked, itself, left_of_and, right_of_and, left_of_or, right_of_or, operand_of_not, test_of_if, then_of_if, else_of_if, base_of_has, base_of_get, CutIsByDepth, SuccessIsSilent}
+use Rattle.cedar_typing.specs.Laws.{TypingIsAFunction, RecoveryIsAFunction, CutIsAFunction, IsDerived, IsRecovered, IsCut, OneOfThreeAtMost, OneOfThreeAtLeast, Looked, itself, left_of_and, right_of_and, left_of_or, right_of_or, operand_of_not, test_of_if, then_of_if, else_of_if, base_of_has, base_of_get, CutIsByDepth}
 use Rattle.cedar_typing.proofs.Basics.{some_is}
 use Rattle.cedar_typing.proofs.Judged.{Answers, a_derived, a_recovered, a_cut, PartAnswer, handed, cut_off, PartFound, part_found, part_tried}
 use Rattle.cedar_typing.proofs.JudgedIf.{true_is_not_false, false_is_not_true}
@@ -196,9 +196,3 @@ cut w (get_attr m e x) prior d k h (base_of_get n l) = let r = cut w e prior (d 
 
 pub by_depth : CutIsByDepth
 by_depth w e prior d = (λ c. deep w e prior d c.0 c.1, λ l. cut w e prior d l.0 l.1 l.2)
-
-silent_part : (w : Setting) (e : Source) (prior : Caps) (d : ℕ) (c : Caps) (x : TypedTree) (es : List Finding) → Part (Has w e prior d) (Recovers w e prior d) true c x es → es ≡ []
-silent_part w e prior d c x es (derived h) = refl
-
-pub silent : SuccessIsSilent
-silent = silent_part

@@ -15,11 +15,9 @@ pub mod Handed
 pub mod Sides
 pub mod Checked
 pub mod Laws
-pub mod Examples
+pub mod Verdicts
 pub mod EqualValues
 pub mod ValueLaws
-pub mod EvaluationExamples
-pub mod EntityExamples
 pub mod BoundValues
 pub mod StrictBounds
 pub mod JoinedAttributes
@@ -37,5 +35,4 @@ pub mod SoundIf
 pub mod SoundAccess
 pub mod Soundness
 pub mod SoundChecks
-pub mod Greeting
-pub mod SoundExample
+pub mod Examples

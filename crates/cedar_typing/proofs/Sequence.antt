@@ -4,7 +4,8 @@ use Rattle.std.specs.Prelude.{Option, Some, None, Ok, Err}
 use Rattle.std.specs.Iterator.{Yields}
 use Rattle.cedar_types.specs.Capability.{caps, HasNone}
 use Rattle.cedar_types.specs.declared.types.capability.CapabilitySet.{CapabilitySet}
-use Rattle.cedar_typing.specs.Answer.{TypedExpr, Answered, HandsOn, AllHandOn, AreHanded, none_failed, Gathers}
+use Rattle.cedar_typing.specs.Answer.{TypedExpr, Answered, AllHandOn, AreHanded, none_failed}
+use Rattle.cedar_typing.specs.Plain.{HandsOn, Gathers}
 use Rattle.cedar_typing.specs.declared.typecheck.sequence.Gathered.{Gathered}
 use Rattle.cedar_typing.specs.declared.typecheck.answer.Part.{Part}
 use Rattle.cedar_typing.specs.declared.typecheck.answer.TypecheckAnswer.{TypecheckAnswer}

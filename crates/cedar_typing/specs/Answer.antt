@@ -11,8 +11,6 @@ use Rattle.cedar_types.specs.declared.base.types.CedarType.{CedarType}
 use Rattle.cedar_types.specs.declared.types.capability.CapabilitySet.{CapabilitySet}
 use Rattle.cedar_typing.specs.declared.typecheck.answer.TypecheckAnswer.{TypecheckAnswer}
 use Rattle.cedar_typing.specs.declared.typecheck.answer.TypecheckAnswer.TheVariants.{TypecheckSuccess, TypecheckFail, RecursionLimit}
-use Rattle.cedar_typing.specs.declared.typecheck.answer.Part.{Part}
-use Rattle.cedar_typing.specs.declared.typecheck.sequence.Gathered.{Gathered}
 
 -- an expression whose nodes have the types that were found
 abbrev pub TypedExpr : Type 0
@@ -100,12 +98,6 @@ ThenTypechecks (TypecheckSuccess e c) gives r = gives e c r
 ThenTypechecks (TypecheckFail e) gives r = FollowsFailure e gives r
 ThenTypechecks RecursionLimit gives r = r ≡ Ok RecursionLimit
 
--- what an answer hands on: a failure no capabilities, the limit nothing
-abbrev pub HandsOn : TypecheckAnswer → Option Part → Type 0
-HandsOn (TypecheckSuccess e c) p = p ≡ Some (record { typed = e; capabilities = c; is_good = true })
-HandsOn (TypecheckFail e) p = (c : CapabilitySet) × HasNone (caps c) × (p ≡ Some (record { typed = e; capabilities = c; is_good = false }))
-HandsOn RecursionLimit p = p ≡ None
-
 -- ---- many answers are followed up
 
 -- each item is a success or a failure
@@ -154,10 +146,3 @@ pub record SequencesAll {S : Type 0} (steps : S → Option Answered → S → Ty
   pub answer : TypecheckAnswer
   pub called : gives handed (Ok answer)
   pub adjusts : a ≡ answer_where (is_some taken.last) (none_failed taken.before) answer
-
--- what was gathered is what the taken items hand on, whether a limit came, and whether none had failed
-pub record Gathers {S : Type 0} (steps : S → Option Answered → S → Type 0) (s : S) (g : Gathered) : Type 0 where
-  pub taken : Taken steps s
-  pub in_order : AreHanded taken.before g.handed.items
-  pub is_limit : g.is_limit ≡ is_some taken.last
-  pub is_good : g.is_good ≡ none_failed taken.before

@@ -50,7 +50,13 @@ pub data Checks (w : Setting) (e : Source) : Verdict → Type 0 where
   -- a part is too deep
   check_cut : {es es' : List Finding} → Cuts w e nothing 1 es → IsPermutation es es' → Checks w e (fails es')
 
--- ---- the same as a function
+-- the same verdict: of the same kind and with the same typed condition, its errors in any order
+pub data SameVerdict : Verdict → Verdict → Type 0 where
+  same_success : {e' : TypedTree} → SameVerdict (succeeds e') (succeeds e')
+  same_irrelevant : {e' : TypedTree} {es es' : List Finding} → IsPermutation es es' → SameVerdict (irrelevant es e') (irrelevant es' e')
+  same_failure : {es es' : List Finding} → IsPermutation es es' → SameVerdict (fails es) (fails es')
+
+-- ---- the check as a function
 
 abbrev pub verdict_if : Bool → TypedTree → List Finding → Verdict
 verdict_if good e es = if good then succeeds e else fails es

@@ -1,5 +1,5 @@
--- What the rules of typing have in common.
-use Rattle.std.specs.Prelude.{◌≡◌, ℕ, ◌+◌, ◌≤◌, ◌<◌, Bool, true, false, List, [], ◌⊎◌, ◌↔◌}
+-- What the rules of typing have in common, and the check of a condition.
+use Rattle.std.specs.Prelude.{◌≡◌, ℕ, ◌+◌, ◌≤◌, ◌<◌, Bool, false, List, ◌⊎◌, ◌↔◌}
 use Rattle.cedar_types.specs.declared.base.operators.UnaryOp.{UnaryOp}
 use Rattle.cedar_types.specs.Names.{Text}
 use Rattle.cedar_types.specs.Types.{Ty}
@@ -9,7 +9,8 @@ use Rattle.cedar_types.specs.Errors.{Finding}
 use Rattle.cedar_typing.specs.Typed.{Source, TypedTree, annotation, place_of}
 use Rattle.cedar_typing.specs.Settings.{Setting, Caps, either, a_bool, is_false, is_true, says}
 use Rattle.cedar_typing.specs.Rules.{max_nesting, Has}
-use Rattle.cedar_typing.specs.Failing.{Part, Operand, Recovers, Cuts}
+use Rattle.cedar_typing.specs.Failing.{Operand, Recovers, Cuts}
+use Rattle.cedar_typing.specs.Checks.{Verdict, Checks, SameVerdict}
 
 -- an expression has one type at most, hands on one set of capabilities at most, and is typed in one way at most
 abbrev pub TypingIsAFunction : Type 0
@@ -68,7 +69,16 @@ pub data Looked (w : Setting) : Source → Caps → ℕ → ℕ → Type 0 where
 abbrev pub CutIsByDepth : Type 0
 CutIsByDepth = (w : Setting) (e : Source) (prior : Caps) (d : ℕ) → IsCut w e prior d ↔ ((k : ℕ) × (max_nesting < k) × Looked w e prior d k)
 
--- what is derived adds no error
-abbrev pub SuccessIsSilent : Type 0
-SuccessIsSilent =
-    (w : Setting) (e : Source) (prior : Caps) (d : ℕ) (c : Caps) (x : TypedTree) (es : List Finding) → Part (Has w e prior d) (Recovers w e prior d) true c x es → es ≡ []
+-- ---- the check of a condition
+
+-- it comes to one verdict at most, save for the order of errors
+abbrev pub OneVerdictAtMost : Type 0
+OneVerdictAtMost = (w : Setting) (e : Source) (u v : Verdict) → Checks w e u → Checks w e v → SameVerdict u v
+
+-- it comes to a verdict, whatever the condition
+abbrev pub OneVerdictAtLeast : Type 0
+OneVerdictAtLeast = (w : Setting) (e : Source) → (v : Verdict) × Checks w e v
+
+-- a verdict that it comes to, it comes to with the errors in any order
+abbrev pub ErrorsInAnyOrder : Type 0
+ErrorsInAnyOrder = (w : Setting) (e : Source) (u v : Verdict) → Checks w e u → SameVerdict u v → Checks w e v

@@ -7,16 +7,11 @@ pub mod Judge
 pub mod Plain
 pub mod Checks
 pub mod Laws
-pub mod Examples
 pub mod Equality
 pub mod Worlds
 pub mod Outcomes
 pub mod Evaluation
-pub mod SampleWorld
-pub mod EvaluationExamples
-pub mod EntityExamples
 pub mod Conforming
 pub mod Sound
 pub mod SoundChecks
-pub mod Greeting
-pub mod SoundExample
+pub mod Examples

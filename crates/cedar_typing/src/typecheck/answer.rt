@@ -1,7 +1,8 @@
 //! The answer of typing one expression.
 ghost use Rattle.std.specs.Prelude.{◌≡◌, ◌↔◌, IsTrue, IfOk, Some};
 ghost use Rattle.cedar_types.specs.Types.{ty_of};
-ghost use Rattle.cedar_typing.specs.Answer.{type_at, SucceedsWithNone, is_success, typed_expr_of, type_of_answer, failed, failed_unless, OnSuccess, MapsCapability, OnHanded, ThenTypechecks, HandsOn};
+ghost use Rattle.cedar_typing.specs.Answer.{type_at, SucceedsWithNone, is_success, typed_expr_of, type_of_answer, failed, failed_unless, OnSuccess, MapsCapability, OnHanded, ThenTypechecks};
+ghost use Rattle.cedar_typing.specs.Plain.{HandsOn};
 
 use cedar_types::base::type_laws::equal_types;
 use cedar_types::base::{CedarType, Expr};

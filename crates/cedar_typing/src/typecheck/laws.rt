@@ -1,50 +1,41 @@
-//! Laws of the rules of typing and of evaluation, each on a function that does nothing.
-ghost use Rattle.cedar_typing.specs.EntityExamples.{MembershipExamples, AttributeExamples, TagExamples, PatternExamples, CallExamples, OrderExamples};
-ghost use Rattle.cedar_typing.specs.EvaluationExamples.{LeafExamples, TestExamples, NumberExamples, EqualityExamples, SetExamples};
-ghost use Rattle.cedar_typing.specs.Examples.{RuleExamples};
-ghost use Rattle.cedar_typing.specs.Laws.{TypingIsAFunction, RecoveryIsAFunction, CutIsAFunction, OneOfThreeAtMost, OneOfThreeAtLeast, CutIsByDepth, SuccessIsSilent};
-ghost use Rattle.cedar_typing.specs.Sound.{TypeSoundness};
-ghost use Rattle.cedar_typing.specs.SoundExample.{PremisesAreMet, PremisesCanFail};
+//! Laws of the rules of typing and of evaluation, and computed examples of both, each on a function that does nothing.
 ghost use Rattle.cedar_typing.specs.Equality.{EqualityIsAnEquivalence, EqualityHasNoOrder};
+ghost use Rattle.cedar_typing.specs.Examples.Evaluation.Calls.{PatternExamples, CallExamples, OrderExamples};
+ghost use Rattle.cedar_typing.specs.Examples.Evaluation.Entities.{MembershipExamples, AttributeExamples, TagExamples};
+ghost use Rattle.cedar_typing.specs.Examples.Evaluation.Leaves.{LeafExamples, TestExamples};
+ghost use Rattle.cedar_typing.specs.Examples.Evaluation.Operators.{NumberExamples, EqualityExamples, SetExamples};
+ghost use Rattle.cedar_typing.specs.Examples.Premises.{PremisesAreMet, PremisesCanFail};
+ghost use Rattle.cedar_typing.specs.Examples.Rules.Attributes.{HasTyping, GetTyping};
+ghost use Rattle.cedar_typing.specs.Examples.Rules.Check.{CheckTyping};
+ghost use Rattle.cedar_typing.specs.Examples.Rules.Conditional.{ConditionalTyping};
+ghost use Rattle.cedar_typing.specs.Examples.Rules.Leaves.{LeafTyping};
+ghost use Rattle.cedar_typing.specs.Examples.Rules.Nesting.{NestingTyping};
+ghost use Rattle.cedar_typing.specs.Examples.Rules.ShortCircuit.{AndTyping, OrTyping};
+ghost use Rattle.cedar_typing.specs.Examples.Rules.Unary.{UnaryTyping};
+ghost use Rattle.cedar_typing.specs.Laws.{TypingIsAFunction, RecoveryIsAFunction, CutIsAFunction, OneOfThreeAtMost, OneOfThreeAtLeast, CutIsByDepth, OneVerdictAtMost, OneVerdictAtLeast, ErrorsInAnyOrder};
+ghost use Rattle.cedar_typing.specs.Sound.{TypeSoundness};
 
-/// An expression has one type at most, hands on one set of capabilities at most, and is typed in one way at most.
-pub fn typing_is_a_function()
-    ensures { TypingIsAFunction }
+/// An expression is derived, recovered and cut in one way at most: with one type, one set of capabilities, one typed expression
+/// and one list of errors.
+pub fn rules_are_functions()
+    ensures typing { TypingIsAFunction }
+    ensures recovery { RecoveryIsAFunction }
+    ensures cut { CutIsAFunction }
 {}
 
-/// A refused expression is typed in one way at most, with one list of errors.
-pub fn recovery_is_a_function()
-    ensures { RecoveryIsAFunction }
+/// An expression is derived, recovered or cut, one of the three and never two. It is cut exactly where a part that is looked at
+/// is too deep.
+pub fn one_of_three()
+    ensures at_most { OneOfThreeAtMost }
+    ensures at_least { OneOfThreeAtLeast }
+    ensures cut_by_depth { CutIsByDepth }
 {}
 
-/// An expression that is cut has one list of errors.
-pub fn cut_is_a_function()
-    ensures { CutIsAFunction }
-{}
-
-/// No expression is both derived and recovered, nor one of these and cut.
-pub fn one_of_three_at_most()
-    ensures { OneOfThreeAtMost }
-{}
-
-/// An expression that is not derived is recovered or cut.
-pub fn one_of_three_at_least()
-    ensures { OneOfThreeAtLeast }
-{}
-
-/// An expression is cut exactly where a part that is looked at is too deep.
-pub fn cut_is_by_depth()
-    ensures { CutIsByDepth }
-{}
-
-/// What is derived adds no error.
-pub fn success_is_silent()
-    ensures { SuccessIsSilent }
-{}
-
-/// What the rules say of some small expressions: one for each rule, and one for each way to fail.
-pub fn examples_of_rules()
-    ensures { RuleExamples }
+/// The check of a condition comes to exactly one verdict, save for the order of its errors, and to that one in every order.
+pub fn one_verdict()
+    ensures at_most { OneVerdictAtMost }
+    ensures at_least { OneVerdictAtLeast }
+    ensures any_order { ErrorsInAnyOrder }
 {}
 
 /// What has a type does not go wrong: type soundness with capabilities, in Strict.
@@ -64,28 +55,30 @@ pub fn equality_of_values()
     ensures order { EqualityHasNoOrder }
 {}
 
-/// What literals, variables, slots, unknowns, sets, records and tests come to.
-pub fn examples_of_tests()
-    ensures leaves { LeafExamples }
-    ensures tests { TestExamples }
+/// What the rules say of some small expressions: one for each rule, and one for each way to fail; what is cut at the limit of
+/// depth; and what the check of a condition answers.
+pub fn examples_of_rules()
+    ensures leaves { LeafTyping }
+    ensures conjunctions { AndTyping }
+    ensures disjunctions { OrTyping }
+    ensures unary { UnaryTyping }
+    ensures conditionals { ConditionalTyping }
+    ensures has_attribute { HasTyping }
+    ensures get_attribute { GetTyping }
+    ensures nesting { NestingTyping }
+    ensures checks { CheckTyping }
 {}
 
-/// What operators on numbers, on any values and on sets come to.
-pub fn examples_of_operators()
+/// What each form comes to in evaluation, with each kind of failure, and which of several failures comes first.
+pub fn examples_of_evaluation()
+    ensures leaves { LeafExamples }
+    ensures tests { TestExamples }
     ensures numbers { NumberExamples }
     ensures equality { EqualityExamples }
     ensures sets { SetExamples }
-{}
-
-/// What `in`, attributes and tags come to.
-pub fn examples_of_entities()
     ensures memberships { MembershipExamples }
     ensures attributes { AttributeExamples }
     ensures tags { TagExamples }
-{}
-
-/// What `like`, `is` and calls of extension functions come to, and which failure comes first.
-pub fn examples_of_calls()
     ensures patterns { PatternExamples }
     ensures calls { CallExamples }
     ensures order { OrderExamples }

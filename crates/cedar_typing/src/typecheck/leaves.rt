@@ -1,7 +1,7 @@
 // Expressions without parts: literals, variables, slots, unknowns, and forms without a rule yet.
-ghost use Rattle.std.specs.Prelude.{◌≡◌, [], ◌∷◌, IfOk, map, None, option_map};
+ghost use Rattle.std.specs.Prelude.{◌≡◌, IfOk, map, None, option_map};
 ghost use Rattle.cedar_types.specs.Names.{type_of, uid_of, path_of};
-ghost use Rattle.cedar_types.specs.Types.{ty_of, TEntity};
+ghost use Rattle.cedar_types.specs.Types.{ty_of};
 ghost use Rattle.cedar_types.specs.Tree.{entity, lit, var, slot as slot_tree, unknown};
 ghost use Rattle.cedar_types.specs.View.{lit_of, lit_places, no_name};
 ghost use Rattle.cedar_types.specs.Errors.{finding_of};
@@ -13,8 +13,8 @@ ghost use Rattle.cedar_typing.specs.Plain.{ans_of, setting_of};
 use crate::typecheck::answer::TypecheckAnswer;
 use crate::typecheck::single_env::SingleEnvTypechecker;
 use cedar_types::base::{
-    BoolType, CedarType, EntityKind, EntityLUB, EntityType, EntityUID, Expr, ExprKind, Literal,
-    Loc, Name, SlotId, ValidationError, ValidationMode, Var,
+    BoolType, CedarType, EntityKind, EntityType, EntityUID, Expr, ExprKind, Literal, Loc, Name,
+    SlotId, ValidationError, ValidationMode, Var,
 };
 use std::alloc::{AllocError, Global};
 use std::rc::RcStr;
@@ -177,7 +177,8 @@ impl SingleEnvTypechecker<'_, '_, '_, '_> {
             return Ok(Some(known));
         }
         if self.mode == ValidationMode::Partial {
-            return Ok(Some(entity_of(alloc, &uid.entity_type)?));
+            let named = uid.entity_type.clone()?;
+            return Ok(Some(CedarType::named_entity_reference(alloc, named)?));
         }
         Ok(None)
     }
@@ -188,7 +189,7 @@ fn linked_type(alloc: Global, linked: Option<&EntityType>) -> Result<CedarType, 
     ensures { IfOk result (λ t. ty_of t ≡ linked_ty (option_map (λ p. type_of p.now) linked.entry)) }
 {
     match linked {
-        Some(entity_type) => entity_of(alloc, entity_type),
+        Some(entity_type) => CedarType::named_entity_reference(alloc, entity_type.clone()?),
         None => Ok(CedarType::Entity(EntityKind::AnyEntity)),
     }
 }
@@ -201,11 +202,4 @@ fn bool_type(b: bool) -> CedarType
     } else {
         CedarType::Bool(BoolType::False)
     }
-}
-
-fn entity_of(alloc: Global, entity_type: &EntityType) -> Result<CedarType, AllocError>
-    ensures { IfOk result (λ t. ty_of t ≡ TEntity (type_of entity_type.now ∷ [])) }
-{
-    let lub = EntityLUB::single_entity(alloc, entity_type.clone()?)?;
-    Ok(CedarType::Entity(EntityKind::Entity(lub)))
 }

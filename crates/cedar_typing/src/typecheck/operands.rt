@@ -1,6 +1,6 @@
 // Parts that have to be of certain types.
-ghost use Rattle.std.specs.Prelude.{◌≡◌, true, Some, IfOk, map, option_map};
-ghost use Rattle.cedar_types.specs.Types.{ty_of, TRecord, no_attrs};
+ghost use Rattle.std.specs.Prelude.{◌≡◌, Some, IfOk, map, option_map};
+ghost use Rattle.cedar_types.specs.Types.{ty_of};
 ghost use Rattle.cedar_types.specs.TypeOrder.{in_order};
 ghost use Rattle.cedar_types.specs.Errors.{finding_of, unexpected_type};
 ghost use Rattle.cedar_typing.specs.Settings.{accepts, finding};
@@ -12,11 +12,10 @@ use crate::typecheck::capabilities::no_capabilities;
 use crate::typecheck::single_env::SingleEnvTypechecker;
 use crate::typecheck::type_tests::{is_bool_operand, is_object_operand};
 use cedar_types::base::{
-    Attributes, BoolType, CedarType, EntityKind, Expr, Loc, OpenTag, ValidationError,
-    types_in_order,
+    BoolType, CedarType, EntityKind, Expr, Loc, ValidationError, types_in_order,
 };
 use std::alloc::{AllocError, Global};
-use std::collections::{BTreeMap, BTreeSet};
+use std::collections::BTreeSet;
 
 /// What a part has to be.
 #[derive(Clone, Copy, Debug)]
@@ -43,22 +42,12 @@ impl Required {
         match self {
             Required::Bool => types.push(CedarType::Bool(BoolType::AnyBool))?,
             Required::Object => {
-                types.push(any_record(alloc)?)?;
+                types.push(CedarType::any_record(alloc)?)?;
                 types.push(CedarType::Entity(EntityKind::AnyEntity))?;
             }
         }
         types_in_order(alloc, types)
     }
-}
-
-fn any_record(alloc: Global) -> Result<CedarType, AllocError>
-    ensures { IfOk result (λ t. ty_of t ≡ TRecord no_attrs true) }
-{
-    let attributes = Attributes::with_attributes(alloc, BTreeMap::new(alloc))?;
-    Ok(CedarType::Record {
-        attributes,
-        is_open: OpenTag::OpenAttributes,
-    })
 }
 
 impl<'a> Part<'a> {

@@ -1,7 +1,8 @@
 // Many answers, followed up at once.
 ghost use Rattle.std.specs.Prelude.{◌≡◌, IfOk};
 ghost use Rattle.std.specs.Iterator.{IsFinite, IsFiniteIterable};
-ghost use Rattle.cedar_typing.specs.Answer.{OnAllHanded, SequencesAll, Gathers, answer_where};
+ghost use Rattle.cedar_typing.specs.Answer.{OnAllHanded, SequencesAll, answer_where};
+ghost use Rattle.cedar_typing.specs.Plain.{Gathers};
 
 use crate::typecheck::answer::TypecheckAnswer;
 use cedar_types::base::{CedarType, Expr};

@@ -1,5 +1,15 @@
-use Rattle.cedar_typing.proofs.Examples.{examples}
+use Rattle.cedar_typing.proofs.Examples.Rules.{leaf_typing, and_typing, or_typing, unary_typing, conditional_typing, has_typing, get_typing, nesting_typing, check_typing}
 use Rattle.cedar_typing.proofs.typecheck.laws.examples_of_rules.Goals as goal
 
 pub returns : goal.returns
-returns c = examples
+returns c = record {
+  leaves = leaf_typing;
+  conjunctions = and_typing;
+  disjunctions = or_typing;
+  unary = unary_typing;
+  conditionals = conditional_typing;
+  has_attribute = has_typing;
+  get_attribute = get_typing;
+  nesting = nesting_typing;
+  checks = check_typing;
+}

@@ -1,0 +1,243 @@
+-- The examples of the rules of typing, computed.
+use Rattle.std.proofs.Common.{◌≡◌, ℕ, false, List, [], Some, refl, sym, ◌∙◌, subst}
+use Rattle.std.specs.Prelude.{codes}
+use Rattle.cedar_types.specs.declared.base.types.BoolType.TheVariants.{AnyBool, False}
+use Rattle.cedar_types.specs.declared.base.types.ValidationMode.TheVariants.{Strict}
+use Rattle.cedar_types.specs.Tree.{Shape}
+use Rattle.cedar_types.specs.Capability.{attribute}
+use Rattle.cedar_types.specs.Types.{Ty, TBool}
+use Rattle.cedar_types.specs.Errors.{Finding}
+use Rattle.cedar_typing.specs.Typed.{Source, TypedTree, annotation}
+use Rattle.cedar_typing.specs.Settings.{Setting, Caps, nothing}
+use Rattle.cedar_typing.specs.Rules.{max_nesting, Has}
+use Rattle.cedar_typing.specs.Failing.{Recovers, Cuts}
+use Rattle.cedar_typing.specs.Judge.{Ans, success, failure, limit, Out, judge}
+use Rattle.cedar_typing.specs.Checks.{Verdict, Checks, check_of}
+use Rattle.cedar_typing.specs.Examples.World.{sample}
+use Rattle.cedar_typing.specs.Examples.Expressions.{false_lit, principal, numbered}
+use Rattle.cedar_typing.specs.Examples.Rules.{TypesAsIn, FailsWithIn, CutsAt, ChecksAs, HandsOnNeither, typed_false}
+use Rattle.cedar_typing.specs.Examples.Rules.Leaves.{LeafTyping}
+use Rattle.cedar_typing.specs.Examples.Rules.ShortCircuit.{AndTyping, OrTyping}
+use Rattle.cedar_typing.specs.Examples.Rules.Unary.{UnaryTyping}
+use Rattle.cedar_typing.specs.Examples.Rules.Conditional.{ConditionalTyping}
+use Rattle.cedar_typing.specs.Examples.Rules.Attributes.{HasTyping, GetTyping}
+use Rattle.cedar_typing.specs.Examples.Rules.Nesting.{NestingTyping}
+use Rattle.cedar_typing.specs.Examples.Rules.Check.{CheckTyping}
+use Rattle.cedar_typing.proofs.Basics.{some_is}
+use Rattle.cedar_typing.proofs.Judged.{Answers, a_derived, a_recovered, a_cut}
+use Rattle.cedar_typing.proofs.Exact.{judged}
+use Rattle.cedar_typing.proofs.Checked.{checked}
+
+module _ (w : Setting) (e : Source) (p : Caps) (d : ℕ) where
+  abbrev Rules : Ans → List Finding → Type 0
+  Rules = Answers (Has w e p d) (Recovers w e p d) (Cuts w e p d)
+
+  by_judge : (a : Ans) (es : List Finding) → judge w e p d [] ≡ (a, es) → Rules a es
+  by_judge a es h =
+      let f = (judged w e p d).found [] in
+      let q : ◌≡◌ {A = Out} (f.answer, f.added) (a, es) = sym f.is ∙ h in
+      let P : Out → Type 0 = λ o. Rules o.0 o.1 in
+      subst P q f.rules
+
+  of_success : (t : Ty) (c : Caps) (x : TypedTree) (es : List Finding) → annotation x ≡ Some t → Rules (success x c) es → Has w e p d t c x
+  of_success t c x es m (a_derived {t = u} h) =
+      let same : u ≡ t = some_is (sym ((judged w e p d).marks u c x h) ∙ m) in
+      let P : Ty → Type 0 = λ s. Has w e p d s c x in
+      subst P same h
+
+  of_failure : (x : TypedTree) (es : List Finding) → Rules (failure x) es → Recovers w e p d x es
+  of_failure x es (a_recovered h) = h
+
+  of_limit : (es : List Finding) → Rules limit es → Cuts w e p d es
+  of_limit es (a_cut h) = h
+
+  pub has : (t : Ty) (c : Caps) (x : TypedTree) → annotation x ≡ Some t → judge w e p d [] ≡ (success x c, []) → Has w e p d t c x
+  has t c x m h = of_success t c x [] m (by_judge (success x c) [] h)
+
+  pub recovers : (x : TypedTree) (es : List Finding) → judge w e p d [] ≡ (failure x, es) → Recovers w e p d x es
+  recovers x es h = of_failure x es (by_judge (failure x) es h)
+
+  pub cuts : (es : List Finding) → judge w e p d [] ≡ (limit, es) → Cuts w e p d es
+  cuts es h = of_limit es (by_judge limit es h)
+
+types_as : {w : Setting} {p : Caps} {e : Shape} {t : Ty} {c : Caps} {x : TypedTree} → annotation x ≡ Some t → judge w (numbered e) p 1 [] ≡ (success x c, []) → TypesAsIn w p e t c x
+types_as {w} {p} {e} {t} {c} {x} m h = record { has = has w (numbered e) p 1 t c x m h }
+
+fails_with : {w : Setting} {e : Shape} {x : TypedTree} {es : List Finding} → judge w (numbered e) nothing 1 [] ≡ (failure x, es) → FailsWithIn w e x es
+fails_with {w} {e} {x} {es} h = record { recovers = recovers w (numbered e) nothing 1 x es h }
+
+cuts_at : {d : ℕ} {e : Shape} {es : List Finding} → judge (sample Strict) (numbered e) nothing d [] ≡ (limit, es) → CutsAt d e es
+cuts_at {d} {e} {es} h = record { cuts = cuts (sample Strict) (numbered e) nothing d es h }
+
+checks_as : {e : Shape} {v : Verdict} → check_of (sample Strict) (numbered e) ≡ v → ChecksAs e v
+checks_as {e} {v} h = record { checks = subst (Checks (sample Strict) (numbered e)) h (checked (sample Strict) (numbered e)) }
+
+-- what a success hands on, and how it is typed
+abbrev handed : Ans → Caps
+handed (success x c) = c
+handed (failure x) = nothing
+handed limit = nothing
+
+abbrev shown : Ans → TypedTree
+shown (success x c) = x
+shown (failure x) = x
+shown limit = typed_false 1
+
+abbrev answer : Shape → Ans
+answer e = (judge (sample Strict) (numbered e) nothing 1 []).0
+
+neither : (e : Shape) → annotation (shown (answer e)) ≡ Some (TBool AnyBool) → judge (sample Strict) (numbered e) nothing 1 [] ≡ (success (shown (answer e)) (handed (answer e)), [])
+    → handed (answer e) (attribute principal (codes "vip")) ≡ false → handed (answer e) (attribute principal (codes "age")) ≡ false → HandsOnNeither e
+neither e m h p q = record {
+  caps = handed (answer e);
+  typed = shown (answer e);
+  has = has (sample Strict) (numbered e) nothing 1 (TBool AnyBool) (handed (answer e)) (shown (answer e)) m h;
+  no_mark = p;
+  no_age = q;
+}
+
+pub leaf_typing : LeafTyping
+leaf_typing = record {
+  literal_bool = types_as refl refl;
+  literal_long = types_as refl refl;
+  literal_string = types_as refl refl;
+  literal_entity = types_as refl refl;
+  unknown_entity = fails_with refl;
+  unknown_entity_partial = types_as refl refl;
+  variable_principal = types_as refl refl;
+  variable_action = types_as refl refl;
+  variable_hidden = types_as refl refl;
+  variable_missing = fails_with refl;
+  slot_linked = types_as refl refl;
+  slot_free = types_as refl refl;
+  unknown_value = fails_with refl;
+}
+
+pub and_typing : AndTyping
+and_typing = record {
+  and_left = types_as refl refl;
+  and_left_drops = types_as refl refl;
+  and_guarded = types_as refl refl;
+  and_right = types_as refl refl;
+  and_true = types_as refl refl;
+  and_right_true = types_as refl refl;
+  and_hands_on_left = types_as refl refl;
+  and_hands_on_right = types_as refl refl;
+  and_refused = fails_with refl;
+  and_failed_left = fails_with refl;
+  and_missing_left = fails_with refl;
+  and_missing_right = fails_with refl;
+}
+
+pub or_typing : OrTyping
+or_typing = record {
+  or_left = types_as refl refl;
+  or_open = types_as refl refl;
+  or_hands_on = types_as refl refl;
+  or_neither = neither _ refl refl refl refl;
+  or_right_true = types_as refl refl;
+  or_right_known = types_as refl refl;
+  or_right_false = types_as refl refl;
+  or_left_false = types_as refl refl;
+  or_both_false = types_as refl refl;
+  or_both_false_right = types_as refl refl;
+  or_unguarded = fails_with refl;
+  or_refused = fails_with refl;
+  or_failed_left = fails_with refl;
+  or_missing_left = fails_with refl;
+  or_missing_right = fails_with refl;
+}
+
+pub unary_typing : UnaryTyping
+unary_typing = record {
+  not_true = types_as refl refl;
+  not_false = types_as refl refl;
+  not_open = types_as refl refl;
+  not_refused = fails_with refl;
+  not_failed = fails_with refl;
+  not_missing = fails_with refl;
+  without_rule = fails_with refl;
+}
+
+pub conditional_typing : ConditionalTyping
+conditional_typing = record {
+  if_true = types_as refl refl;
+  if_false = types_as refl refl;
+  if_false_drops = types_as refl refl;
+  if_open = types_as refl refl;
+  if_neither = neither _ refl refl refl refl;
+  if_known = types_as refl refl;
+  if_unbound = fails_with refl;
+  if_missing = fails_with refl;
+  if_test_missing = fails_with refl;
+  if_failed_branch = fails_with refl;
+  if_refused = fails_with refl;
+  if_true_failed = fails_with refl;
+  if_false_failed = fails_with refl;
+}
+
+pub has_typing : HasTyping
+has_typing = record {
+  has_required = types_as refl refl;
+  has_of_record = types_as refl refl;
+  has_optional = types_as refl refl;
+  has_known = types_as refl refl;
+  has_undeclared = types_as refl refl;
+  has_hidden = types_as refl refl;
+  has_refused = fails_with refl;
+  has_missing = fails_with refl;
+  has_failed = fails_with refl;
+  has_failed_false = fails_with refl;
+}
+
+pub get_typing : GetTyping
+get_typing = record {
+  get_required = types_as refl refl;
+  get_known = types_as refl refl;
+  get_unguarded = fails_with refl;
+  get_undeclared = fails_with refl;
+  get_hidden = types_as refl refl;
+  get_refused = fails_with refl;
+  get_missing = fails_with refl;
+  get_failed = fails_with refl;
+  get_failed_unguarded = fails_with refl;
+  get_failed_undeclared = fails_with refl;
+  get_failed_hidden = fails_with refl;
+}
+
+pub nesting_typing : NestingTyping
+nesting_typing = record {
+  at_the_limit = has (sample Strict) (numbered false_lit) nothing max_nesting (TBool False) nothing (typed_false 1) refl refl;
+  past_the_limit = cuts_at refl;
+  base_of_has = cuts_at refl;
+  base_of_get = cuts_at refl;
+  base_of_has_counts = cuts_at refl;
+  base_of_get_counts = cuts_at refl;
+  left_of_and = cuts_at refl;
+  left_of_or = cuts_at refl;
+  left_of_and_counts = cuts_at refl;
+  left_of_or_counts = cuts_at refl;
+  right_of_and = cuts_at refl;
+  right_of_or = cuts_at refl;
+  operand_of_not = cuts_at refl;
+  test_of_if = cuts_at refl;
+  branch_of_true = cuts_at refl;
+  branch_of_false = cuts_at refl;
+  then_of_if = cuts_at refl;
+  else_of_if = cuts_at refl;
+  both_of_if = cuts_at refl;
+}
+
+pub check_typing : CheckTyping
+check_typing = record {
+  succeeded = checks_as refl;
+  never_true = checks_as refl;
+  refused = checks_as refl;
+  untyped = checks_as refl;
+  failed_base_long = checks_as refl;
+  failed_base_bool = checks_as refl;
+  failed_base_of_has = checks_as refl;
+  refused_and_never_true = checks_as refl;
+  failed_base_untyped = checks_as refl;
+  cut = checks_as refl;
+}

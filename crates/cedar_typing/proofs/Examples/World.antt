@@ -1,0 +1,116 @@
+-- The world of the examples conforms.
+use Rattle.std.proofs.Common.{◌≡◌, inl, inr, Bool, true, false, ◌&&◌, ◌||◌, if◌then◌else◌, List, [], ◌∷◌, Option, Some, true≢false, refl, sym, ap, subst}
+use Rattle.std.specs.Prelude.{IsTrue}
+use Rattle.cedar_types.specs.declared.base.types.ValidationMode.TheVariants.{Strict}
+use Rattle.cedar_types.specs.Names.{Path, Uid, uid_eq, path_eq}
+use Rattle.cedar_types.specs.Comparisons.{uid_same}
+use Rattle.cedar_types.specs.Types.{Ty, TExtension}
+use Rattle.cedar_types.specs.Schemas.{is_among, type_named, declares_type, declares_action, descendants_of}
+use Rattle.cedar_types.specs.Values.{Value, Values, HasType}
+use Rattle.cedar_types.specs.Stores.{Entity, Store, entity_at, FitsDeclaration, ConformingStore}
+use Rattle.cedar_typing.specs.Equality.{same_values}
+use Rattle.cedar_typing.specs.Worlds.{Call, call_value}
+use Rattle.cedar_typing.specs.Conforming.{IsOneOf, FitsRequest, KeepsTable}
+use Rattle.cedar_typing.specs.Sound.{IsReliable, IsWorldOf}
+use Rattle.cedar_typing.specs.Examples.World.{user, decimal, bob, greet, a_context, sample_schema, decimal_table, sample, stored_greet, sample_store, sample_functions, greeting}
+use Rattle.cedar_typing.proofs.Basics.{some_is, none_is}
+
+-- ---- the store
+
+-- what holds of each entry holds of what is found
+module _ (P : Uid → Entity → Type 0) where
+  abbrev AllEntities : Store → Type 0
+  AllEntities [] = Unit {0}
+  AllEntities (x ∷ xs) = P x.0 x.1 × AllEntities xs
+
+  at_first : (b : Bool) (u v : Uid) (x e : Entity) (rest : Option Entity) → uid_eq u v ≡ b → P v x → (rest ≡ Some e → P u e) → (if b then Some x else rest) ≡ Some e → P u e
+  at_first true u v x e rest q h f n = subst (λ z. P z e) (sym (uid_same.to u v q)) (subst (P v) (some_is n) h)
+  at_first false u v x e rest q h f n = f n
+
+  all_found : (store : Store) → AllEntities store → (u : Uid) (e : Entity) → entity_at store u ≡ Some e → P u e
+  all_found [] h u e n = absurd (none_is n)
+  all_found (x ∷ xs) h u e n = at_first (uid_eq u x.0) u x.0 x.1 e (entity_at xs u) refl h.0 (all_found xs h.1 u e) n
+
+abbrev Fitting : Uid → Entity → Type 0
+Fitting u e = FitsDeclaration sample_schema u (type_named sample_schema.types u.entity_type) e
+
+none_among : {P : Type 0} → false ≡ true → P
+none_among h = absurd (true≢false (sym h))
+
+-- the one member of a list
+only_one : (b : Bool) → (b || false) ≡ true → b ≡ true
+only_one true n = refl
+only_one false n = n
+
+-- bob, who is a user, may be an ancestor of users
+bobs_type : (v : Uid) → (uid_eq v bob || false) ≡ true → IsTrue (declares_type sample_schema.types v.entity_type && is_among (descendants_of sample_schema.types v.entity_type) user)
+bobs_type v h =
+    let P : Uid → Type 0 = λ z. IsTrue (declares_type sample_schema.types z.entity_type && is_among (descendants_of sample_schema.types z.entity_type) user) in
+    subst P (sym (uid_same.to v bob (only_one (uid_eq v bob) h))) refl
+
+-- no action is an ancestor of the action
+no_ancestor : (v : Uid) → false ≡ ((uid_eq v greet && false) || false)
+no_ancestor v = go (uid_eq v greet)
+  where
+    go : (b : Bool) → false ≡ ((b && false) || false)
+    go true = refl
+    go false = refl
+
+-- alice, bob and the action
+fitting : AllEntities Fitting sample_store
+fitting = (
+  record { attributes = ((tt, (refl, (((tt, tt), (refl, tt)), (tt, tt)))), (refl, (refl, (refl, (refl, tt))))); tagged = (tt, tt); ancestors = λ v h. bobs_type v h },
+  (
+    record { attributes = ((tt, (refl, (refl, (refl, tt)))), (refl, tt)); tagged = tt; ancestors = λ v h. none_among h },
+    (
+      (refl, record { attributes = refl; ancestors = λ v. no_ancestor v; tags = refl }),
+      tt,
+    ),
+  ),
+)
+
+declared_is : (u : Uid) → declares_action sample_schema.actions u ≡ true → u ≡ greet
+declared_is u h = uid_same.to u greet (only_one (uid_eq u greet) h)
+
+store_conforms : ConformingStore sample_schema sample_store
+store_conforms = record {
+  entities = λ u e h. all_found Fitting sample_store fitting u e h;
+  actions = λ u h. subst (λ v. (e : Entity) × (entity_at sample_store v ≡ Some e)) (sym (declared_is u h)) (stored_greet, refl);
+}
+
+-- ---- the extension function
+
+-- what holds of the value of each call holds of what is found
+module _ (P : Value → Type 0) where
+  abbrev AllCalls : List Call → Type 0
+  AllCalls [] = Unit {0}
+  AllCalls (c ∷ cs) = P c.value × AllCalls cs
+
+  first_call : (b : Bool) (v w : Value) (rest : Option Value) → P w → (rest ≡ Some v → P v) → (if b then Some w else rest) ≡ Some v → P v
+  first_call true v w rest h f n = subst P (some_is n) h
+  first_call false v w rest h f n = f n
+
+  all_calls : (cs : List Call) → AllCalls cs → (f : Path) (vs : Values) (v : Value) → call_value cs f vs ≡ Some v → P v
+  all_calls [] h f vs v n = absurd (none_is n)
+  all_calls (c ∷ cs) h f vs v n = first_call (path_eq f c.function && same_values vs c.arguments) v c.value (call_value cs f vs) h.0 (all_calls cs h.1 f vs v) n
+
+only_function : (f : Path) (u : Ty) → IsOneOf (f, u) decimal_table.returns → u ≡ TExtension decimal
+only_function f u (inl e) = ap (λ (p : Path × Ty). p.1) e
+only_function f u (inr h) = absurd h
+
+table_kept : KeepsTable decimal_table sample_functions
+table_kept = record {
+  returns = λ f u h vs v e. subst (λ t. HasType t v) (sym (only_function f u h)) (all_calls (HasType (TExtension decimal)) sample_functions.calls (refl, (refl, (refl, (refl, tt)))) f vs v e);
+  overloaded_types = λ p. refl;
+}
+
+-- ---- the request
+
+pub greets : FitsRequest (record { principal = user; action = greet; resource = user; context = a_context }) greeting.request
+greets = record { principal = refl; action = refl; resource = refl; context = ((refl, (refl, (refl, tt))), (refl, (refl, tt))) }
+
+pub sample_reliable : IsReliable (sample Strict)
+sample_reliable = record { mode = refl; closed = refl; environment = inl refl }
+
+pub greeting_conforms : IsWorldOf (sample Strict) decimal_table greeting
+greeting_conforms = record { environment = (greets, tt, refl); store = store_conforms; functions = table_kept }

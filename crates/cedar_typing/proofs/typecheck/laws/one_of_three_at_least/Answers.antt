@@ -1,5 +1,0 @@
-use Rattle.cedar_typing.proofs.Laws.{three_at_least}
-use Rattle.cedar_typing.proofs.typecheck.laws.one_of_three_at_least.Goals as goal
-
-pub returns : goal.returns
-returns c = three_at_least

@@ -1,0 +1,113 @@
+-- What `like` and calls of extension functions come to, and which failure comes first.
+use Rattle.std.specs.Prelude.{[], ◌∷◌, codes}
+use Rattle.cedar_types.specs.declared.base.operators.UnaryOp.{UnaryOp}
+use Rattle.cedar_types.specs.declared.base.operators.BinaryOp.{BinaryOp}
+use Rattle.cedar_types.specs.declared.base.patterns.PatternElem.{PatternElem}
+use Rattle.cedar_types.specs.Names.{Text}
+use Rattle.cedar_types.specs.Tree.{unary, binary, call, no_trees, tree}
+use Rattle.cedar_typing.specs.Worlds.{TypeFailure, MissingEntity, Overflow, ExtensionFailure}
+use Rattle.cedar_typing.specs.Examples.World.{named, decimal, a_decimal}
+use Rattle.cedar_typing.specs.Examples.Expressions.{one, two, text, set3, to_decimal, matching, missing, mistyped, too_great}
+use Rattle.cedar_typing.specs.Examples.Evaluation.{Yields, YieldsTrue, YieldsFalse, FailsAs}
+
+-- the characters `a`, `b` and `é`, the wildcard, and the text of `é`, which has two bytes
+abbrev pub char_a : PatternElem
+char_a = PatternElem.Char 97
+
+abbrev pub char_b : PatternElem
+char_b = PatternElem.Char 98
+
+abbrev pub char_e : PatternElem
+char_e = PatternElem.Char 233
+
+abbrev pub any : PatternElem
+any = PatternElem.Wildcard
+
+abbrev pub e_acute : Text
+e_acute = 195 ∷ 169 ∷ []
+
+pub record PatternExamples : Type 0 where
+  -- `"ab" like "ab"`, `"ab" like "a"`, `"a" like "ab"`: the whole text
+  pub like_text : YieldsTrue (matching (text (codes "ab")) (char_a ∷ char_b ∷ []))
+  pub like_part : YieldsFalse (matching (text (codes "ab")) (char_a ∷ []))
+  pub like_more : YieldsFalse (matching (text (codes "a")) (char_a ∷ char_b ∷ []))
+  -- `"" like ""`
+  pub like_empty : YieldsTrue (matching (text []) [])
+  -- `"axyz" like "a*"`: a wildcard for a run
+  pub like_run : YieldsTrue (matching (text (codes "axyz")) (char_a ∷ any ∷ []))
+  -- `"a" like "a*"`, `"" like "*"`: for none
+  pub like_none : YieldsTrue (matching (text (codes "a")) (char_a ∷ any ∷ []))
+  pub like_none_at_all : YieldsTrue (matching (text []) (any ∷ []))
+  -- `"aab" like "*ab"`: the run that fits, not the first
+  pub like_later : YieldsTrue (matching (text (codes "aab")) (any ∷ char_a ∷ char_b ∷ []))
+  -- `"xaybz" like "*a*b*"`, `"xbyaz" like "*a*b*"`
+  pub like_wildcards : YieldsTrue
+      (matching (text (codes "xaybz")) (any ∷ char_a ∷ any ∷ char_b ∷ any ∷ []))
+  pub like_wildcards_not : YieldsFalse
+      (matching (text (codes "xbyaz")) (any ∷ char_a ∷ any ∷ char_b ∷ any ∷ []))
+  -- `"xa" like "a*"`
+  pub like_not : YieldsFalse (matching (text (codes "xa")) (char_a ∷ any ∷ []))
+  -- `"é" like "é"`, `"aéb" like "a*b"`, `"é" like "a"`: a character of two bytes
+  pub like_bytes : YieldsTrue (matching (text e_acute) (char_e ∷ []))
+  pub like_bytes_run : YieldsTrue
+      (matching (text (97 ∷ 195 ∷ 169 ∷ 98 ∷ [])) (char_a ∷ any ∷ char_b ∷ []))
+  pub like_bytes_not : YieldsFalse (matching (text e_acute) (char_a ∷ []))
+  -- `"é" like "*©"`, where `©` ends in the same byte: no run ends within a character
+  pub like_bytes_within : YieldsFalse (matching (text e_acute) (any ∷ PatternElem.Char 169 ∷ []))
+  -- `"😀" like "😀"`: one of four bytes
+  pub like_four_bytes : YieldsTrue
+      (matching (text (240 ∷ 159 ∷ 152 ∷ 128 ∷ [])) (PatternElem.Char 128512 ∷ []))
+  -- `"**" like "\**"`: a star that stands for itself, and a wildcard
+  pub like_star : YieldsTrue (matching (text (codes "**")) (PatternElem.Char 42 ∷ any ∷ []))
+  -- `1 like "*"`, `User::"gone".age like "*"`
+  pub like_long : FailsAs (matching one (any ∷ [])) TypeFailure
+  pub like_fails : FailsAs (matching missing (any ∷ [])) MissingEntity
+
+pub record CallExamples : Type 0 where
+  -- `decimal("1.0")`: a value; of two calls that are listed the first counts
+  pub call_value : Yields (to_decimal (text (codes "1.0"))) (a_decimal (codes "1.0"))
+  -- `decimal([2, 1, 1])`: the arguments are compared by equality
+  pub call_equal : Yields (to_decimal (set3 two one one)) (a_decimal (codes "1.2"))
+  -- `decimal("x")`: no value
+  pub call_no_value : FailsAs (to_decimal (text (codes "x"))) ExtensionFailure
+  -- `decimal(1)`, `decimal()`: not a type failure
+  pub call_long : FailsAs (to_decimal one) ExtensionFailure
+  pub call_no_argument : FailsAs (call tt decimal no_trees) ExtensionFailure
+  -- `decimal("1.0", "2.0")`: more arguments
+  pub call_more : FailsAs
+      (call tt decimal (tree (text (codes "1.0")) (tree (text (codes "2.0")) no_trees)))
+      ExtensionFailure
+  -- `ip("1.0")`: an unknown function
+  pub call_unknown : FailsAs (call tt (named (codes "ip")) (tree (text (codes "1.0")) no_trees))
+      ExtensionFailure
+  -- `decimal(User::"gone".age)`: a failure of an argument
+  pub call_fails : FailsAs (to_decimal missing) MissingEntity
+  -- `ip(1 + true, User::"gone".age)`: the first one, before the function is looked for
+  pub call_first_failure : FailsAs
+      (call tt (named (codes "ip")) (tree mistyped (tree missing no_trees))) TypeFailure
+
+pub record OrderExamples : Type 0 where
+  -- `"a" + User::"gone".age`, `User::"gone".age + "a"`
+  pub add_right_missing : FailsAs (binary tt BinaryOp.Add (text (codes "a")) missing) MissingEntity
+  pub add_left_missing : FailsAs (binary tt BinaryOp.Add missing (text (codes "a"))) MissingEntity
+  -- `(9223372036854775807 + 1) + User::"gone".age`, and the other way round: the left failure
+  pub add_overflow_missing : FailsAs (binary tt BinaryOp.Add too_great missing) Overflow
+  pub add_missing_overflow : FailsAs (binary tt BinaryOp.Add missing too_great) MissingEntity
+  -- `"a" - User::"gone".age`, `"a" * User::"gone".age`
+  pub subtract_missing : FailsAs (binary tt BinaryOp.Sub (text (codes "a")) missing) MissingEntity
+  pub multiply_missing : FailsAs (binary tt BinaryOp.Mul (text (codes "a")) missing) MissingEntity
+  -- `"a" < User::"gone".age`, `"a" <= User::"gone".age`
+  pub less_missing : FailsAs (binary tt BinaryOp.Less (text (codes "a")) missing) MissingEntity
+  pub at_most_missing : FailsAs (binary tt BinaryOp.LessEq (text (codes "a")) missing) MissingEntity
+  -- `1 in User::"gone".age`
+  pub in_missing : FailsAs (binary tt BinaryOp.In one missing) MissingEntity
+  -- `1.contains(User::"gone".age)`, and so of all and any
+  pub contains_missing : FailsAs (binary tt BinaryOp.Contains one missing) MissingEntity
+  pub contains_all_missing : FailsAs (binary tt BinaryOp.ContainsAll one missing) MissingEntity
+  pub contains_any_missing : FailsAs (binary tt BinaryOp.ContainsAny one missing) MissingEntity
+  -- `1.hasTag(User::"gone".age)`, `1.getTag(User::"gone".age)`
+  pub has_tag_missing : FailsAs (binary tt BinaryOp.HasTag one missing) MissingEntity
+  pub get_tag_missing : FailsAs (binary tt BinaryOp.GetTag one missing) MissingEntity
+  -- `-(User::"gone".age)`, `User::"gone".age.isEmpty()`: a failure of the operand
+  pub negate_missing : FailsAs (unary tt UnaryOp.Neg missing) MissingEntity
+  pub is_empty_missing : FailsAs (unary tt UnaryOp.IsEmpty missing) MissingEntity

@@ -1,0 +1,107 @@
+-- What leaves and tests come to.
+use Rattle.std.specs.Prelude.{pos, true, codes}
+use Rattle.cedar_types.specs.declared.base.operators.Var.{Var}
+use Rattle.cedar_types.specs.declared.base.operators.UnaryOp.{UnaryOp}
+use Rattle.cedar_types.specs.declared.base.slots.SlotId.{SlotId}
+use Rattle.cedar_types.specs.Tree.{var, slot, unknown, if_then_else, and, or, unary, record_of, no_fields}
+use Rattle.cedar_types.specs.Values.{VBool, VEntity, VSet, VRecord, VExtension, no_values, no_entries, more_entries}
+use Rattle.cedar_typing.specs.Worlds.{TypeFailure, MissingEntity, UnlinkedSlot, UnknownValue}
+use Rattle.cedar_typing.specs.Examples.World.{named, ip_address, alice, bob, gone, greet, number, words, two_values}
+use Rattle.cedar_typing.specs.Examples.Expressions.{true_lit, false_lit, one, two, text, the, principal, context, set0, set2, set3, record2, missing, mistyped}
+use Rattle.cedar_typing.specs.Examples.Evaluation.{Yields, YieldsTrue, YieldsFalse, FailsAs}
+
+pub record LeafExamples : Type 0 where
+  -- `true`
+  pub literal_bool : Yields true_lit (VBool true)
+  -- `1`
+  pub literal_long : Yields one (number (pos 1))
+  -- `"a"`
+  pub literal_string : Yields (text (codes "a")) (words (codes "a"))
+  -- `User::"gone"`: an entity need not be in the store
+  pub literal_entity : Yields (the gone) (VEntity gone)
+  -- `principal`
+  pub principal : Yields principal (VEntity alice)
+  -- `action`
+  pub action : Yields (var tt Var.Action) (VEntity greet)
+  -- `resource`
+  pub resource : Yields (var tt Var.Resource) (VEntity bob)
+  -- `context`
+  pub context : Yields context
+      (VRecord (more_entries (codes "address") (VExtension ip_address (codes "::1"))
+      (more_entries (codes "friend") (VEntity gone) no_entries)))
+  -- `?resource`, which is bound
+  pub slot_bound : Yields (slot tt SlotId.Resource) (VEntity bob)
+  -- `?principal`, which is not
+  pub slot_unlinked : FailsAs (slot tt SlotId.Principal) UnlinkedSlot
+  -- `unknown(x)`
+  pub unknown_fails : FailsAs (unknown tt (named (codes "x"))) UnknownValue
+  -- `[]`
+  pub set_empty : Yields set0 (VSet no_values)
+  -- `[1, "a"]`
+  pub set_of_two : Yields (set2 one (text (codes "a")))
+      (VSet (two_values (number (pos 1)) (words (codes "a"))))
+  -- `[User::"gone".age, 1 + true]`: the first failure is the outcome
+  pub set_first_failure : FailsAs (set2 missing mistyped) MissingEntity
+  -- `[1, 1 + true, User::"gone".age]`
+  pub set_later_failure : FailsAs (set3 one mistyped missing) TypeFailure
+  -- `{}`
+  pub record_empty : Yields (record_of tt no_fields) (VRecord no_entries)
+  -- `{a: 1, b: "x"}`
+  pub record_of_two : Yields (record2 (codes "a") one (codes "b") (text (codes "x")))
+      (VRecord (more_entries (codes "a") (number (pos 1))
+      (more_entries (codes "b") (words (codes "x")) no_entries)))
+  -- `{a: User::"gone".age, b: 1 + true}`: by key, the first failure is the outcome
+  pub record_first_failure : FailsAs (record2 (codes "a") missing (codes "b") mistyped)
+      MissingEntity
+  -- `{a: 1 + true, b: User::"gone".age}`
+  pub record_other_failure : FailsAs (record2 (codes "a") mistyped (codes "b") missing) TypeFailure
+  -- `{a: 1, b: 1 + true}`
+  pub record_later_failure : FailsAs (record2 (codes "a") one (codes "b") mistyped) TypeFailure
+
+pub record TestExamples : Type 0 where
+  -- `if true then 1 else User::"gone".age`: the other branch is not evaluated
+  pub if_true : Yields (if_then_else tt true_lit one missing) (number (pos 1))
+  -- `if false then User::"gone".age else 2`
+  pub if_false : Yields (if_then_else tt false_lit missing two) (number (pos 2))
+  -- `if true then User::"gone".age else 2`
+  pub if_taken_fails : FailsAs (if_then_else tt true_lit missing two) MissingEntity
+  -- `if 1 then User::"gone".age else User::"gone".age`: the test is looked at first
+  pub if_not_bool : FailsAs (if_then_else tt one missing missing) TypeFailure
+  -- `if User::"gone".age then 1 else 2`
+  pub if_test_fails : FailsAs (if_then_else tt missing one two) MissingEntity
+  -- `true && true`
+  pub and_true : YieldsTrue (and tt true_lit true_lit)
+  -- `true && false`
+  pub and_right_false : YieldsFalse (and tt true_lit false_lit)
+  -- `false && User::"gone".age`: the right side is not evaluated
+  pub and_left_false : YieldsFalse (and tt false_lit missing)
+  -- `true && 1`
+  pub and_right_not_bool : FailsAs (and tt true_lit one) TypeFailure
+  -- `true && User::"gone".age`
+  pub and_right_fails : FailsAs (and tt true_lit missing) MissingEntity
+  -- `1 && User::"gone".age`: the left side is looked at first
+  pub and_left_not_bool : FailsAs (and tt one missing) TypeFailure
+  -- `User::"gone".age && false`
+  pub and_left_fails : FailsAs (and tt missing false_lit) MissingEntity
+  -- `true || User::"gone".age`: the right side is not evaluated
+  pub or_left_true : YieldsTrue (or tt true_lit missing)
+  -- `false || true`
+  pub or_right_true : YieldsTrue (or tt false_lit true_lit)
+  -- `false || false`
+  pub or_false : YieldsFalse (or tt false_lit false_lit)
+  -- `false || 1`
+  pub or_right_not_bool : FailsAs (or tt false_lit one) TypeFailure
+  -- `false || User::"gone".age`
+  pub or_right_fails : FailsAs (or tt false_lit missing) MissingEntity
+  -- `1 || User::"gone".age`: the left side is looked at first
+  pub or_left_not_bool : FailsAs (or tt one missing) TypeFailure
+  -- `User::"gone".age || true`
+  pub or_left_fails : FailsAs (or tt missing true_lit) MissingEntity
+  -- `!true`
+  pub not_true : YieldsFalse (unary tt UnaryOp.Not true_lit)
+  -- `!false`
+  pub not_false : YieldsTrue (unary tt UnaryOp.Not false_lit)
+  -- `!1`
+  pub not_of_long : FailsAs (unary tt UnaryOp.Not one) TypeFailure
+  -- `!(User::"gone".age)`
+  pub not_fails : FailsAs (unary tt UnaryOp.Not missing) MissingEntity

@@ -1,0 +1,88 @@
+-- Typing of `has` and `.`.
+use Rattle.std.specs.Prelude.{ℕ, [], ◌∷◌, codes}
+use Rattle.cedar_types.specs.declared.base.operators.Var.{Var}
+use Rattle.cedar_types.specs.declared.base.types.BoolType.TheVariants.{AnyBool, True, False}
+use Rattle.cedar_types.specs.declared.base.types.ValidationMode.TheVariants.{Strict}
+use Rattle.cedar_types.specs.Types.{TNever, TBool, TLong, TAnyEntity}
+use Rattle.cedar_types.specs.Tree.{Shape, var, if_then_else, get_attr, has_attr}
+use Rattle.cedar_typing.specs.Typed.{TypedTree, Mark, typed}
+use Rattle.cedar_typing.specs.Settings.{nothing}
+use Rattle.cedar_typing.specs.Examples.World.{sample, hidden}
+use Rattle.cedar_typing.specs.Examples.Expressions.{one, principal, dot, has, has_vip, has_age, get_vip, get_boss, get_rank, has_friend, node}
+use Rattle.cedar_typing.specs.Examples.Rules.{TypesAs, TypesAsIn, FailsWith, FailsWithIn, marked_principal, aged_principal, with_friend, bool_at, true_at, false_at, long_at, no_type_at, refused_one, typed_principal, typed_has_vip, typed_has_age, typed_get_vip, typed_get_boss, untyped_get_rank, typed_has_friend, not_a_bool, not_an_object, unguarded_vip, unguarded_boss, unknown_rank}
+
+-- a node that is of any entity, at the place n
+abbrev pub any_entity_at : ℕ → Mark
+any_entity_at n = typed TAnyEntity (node n)
+
+-- `principal` in the environment of undeclared actions, at the place n
+abbrev pub hidden_principal : ℕ → TypedTree
+hidden_principal n = var (any_entity_at n) Var.Principal
+
+-- `if 1 then principal else principal`, which is of any entity there, though the test is refused
+abbrev pub refused_principal : Shape
+refused_principal = if_then_else tt one principal principal
+
+pub record HasTyping : Type 0 where
+  -- `principal has age`: Bool of an entity; `context has friend`: True of a record; both hand on
+  -- what they say
+  pub has_required : TypesAs has_age (TBool AnyBool) aged_principal (typed_has_age 1 2)
+  pub has_of_record : TypesAs has_friend (TBool True) with_friend (typed_has_friend 1 2)
+  -- `principal has vip`: Bool, and True where it is known
+  pub has_optional : TypesAs has_vip (TBool AnyBool) marked_principal (typed_has_vip 1 2)
+  pub has_known : TypesAsIn (sample Strict) marked_principal has_vip (TBool True) marked_principal
+      (has_attr (true_at 1) (typed_principal 2) (codes "vip"))
+  -- `principal has rank`: False; of any entity, Bool; neither hands on anything
+  pub has_undeclared : TypesAs (has principal (codes "rank")) (TBool False) nothing
+      (has_attr (false_at 1) (typed_principal 2) (codes "rank"))
+  pub has_hidden : TypesAsIn hidden nothing (has principal (codes "rank")) (TBool AnyBool) nothing
+      (has_attr (bool_at 1) (hidden_principal 2) (codes "rank"))
+  -- `1 has vip`: Bool, and an error at the base, which names any record before any entity
+  pub has_refused : FailsWith (has one (codes "vip"))
+      (has_attr (bool_at 1) (refused_one 2) (codes "vip")) (not_an_object 2 ∷ [])
+  -- `principal.rank has vip`: a base without a type is no other error, and the whole is Bool
+  pub has_missing : FailsWith (has get_rank (codes "vip"))
+      (has_attr (bool_at 1) (untyped_get_rank 2 3) (codes "vip")) (unknown_rank 2 ∷ [])
+  -- `principal.boss has vip`, `principal.boss has rank`: of a failed base that has a type, the type
+  -- of the rule, and no other error
+  pub has_failed : FailsWith (has get_boss (codes "vip"))
+      (has_attr (bool_at 1) (typed_get_boss 2 3) (codes "vip")) (unguarded_boss 2 ∷ [])
+  pub has_failed_false : FailsWith (has get_boss (codes "rank"))
+      (has_attr (false_at 1) (typed_get_boss 2 3) (codes "rank")) (unguarded_boss 2 ∷ [])
+
+pub record GetTyping : Type 0 where
+  -- `principal.age`; `principal.vip` where it is known
+  pub get_required : TypesAs (dot principal (codes "age")) TLong nothing
+      (get_attr (long_at 1) (typed_principal 2) (codes "age"))
+  pub get_known : TypesAsIn (sample Strict) marked_principal get_vip (TBool AnyBool) nothing
+      (typed_get_vip 1 2)
+  -- `principal.vip` where it is not known: an error at the whole, and its type
+  pub get_unguarded : FailsWith get_vip (typed_get_vip 1 2) (unguarded_vip 1 ∷ [])
+  -- `principal.rank`: an error at the whole, and no type; of any entity in Partial, Never
+  pub get_undeclared : FailsWith get_rank (untyped_get_rank 1 2) (unknown_rank 1 ∷ [])
+  pub get_hidden : TypesAsIn hidden nothing get_rank TNever nothing
+      (get_attr (typed TNever (node 1)) (hidden_principal 2) (codes "rank"))
+  -- `1.vip`: an error at the base, and no type
+  pub get_refused : FailsWith (dot one (codes "vip"))
+      (get_attr (no_type_at 1) (refused_one 2) (codes "vip")) (not_an_object 2 ∷ [])
+  -- `principal.rank.vip`: a base without a type is no other error, and neither has the whole a type
+  pub get_missing : FailsWith (dot get_rank (codes "vip"))
+      (get_attr (no_type_at 1) (untyped_get_rank 2 3) (codes "vip")) (unknown_rank 2 ∷ [])
+  -- `principal.boss.age`: of a failed base that has a type, the type of the rule, and no other
+  -- error
+  pub get_failed : FailsWith (dot get_boss (codes "age"))
+      (get_attr (long_at 1) (typed_get_boss 2 3) (codes "age")) (unguarded_boss 2 ∷ [])
+  -- `principal.boss.vip`, `principal.boss.rank`: the errors of the base and of the whole
+  pub get_failed_unguarded : FailsWith (dot get_boss (codes "vip"))
+      (get_attr (bool_at 1) (typed_get_boss 2 3) (codes "vip"))
+      (unguarded_boss 2 ∷ unguarded_vip 1 ∷ [])
+  pub get_failed_undeclared : FailsWith (dot get_boss (codes "rank"))
+      (get_attr (no_type_at 1) (typed_get_boss 2 3) (codes "rank"))
+      (unguarded_boss 2 ∷ unknown_rank 1 ∷ [])
+  -- `(if 1 then principal else principal).rank` in Partial: the failed base is of any entity, and
+  -- the whole is Never, without another error
+  pub get_failed_hidden : FailsWithIn hidden (dot refused_principal (codes "rank"))
+      (get_attr (typed TNever (node 1))
+      (if_then_else (any_entity_at 2) (refused_one 3) (hidden_principal 4) (hidden_principal 5))
+      (codes "rank"))
+      (not_a_bool 3 ∷ [])

@@ -1,0 +1,51 @@
+-- Typing of literals, variables, slots and unknowns.
+use Rattle.std.specs.Prelude.{[], ◌∷◌, None, codes}
+use Rattle.cedar_types.specs.declared.base.operators.Var.{Var}
+use Rattle.cedar_types.specs.declared.base.slots.SlotId.{SlotId}
+use Rattle.cedar_types.specs.declared.base.types.BoolType.TheVariants.{False}
+use Rattle.cedar_types.specs.declared.base.types.ValidationMode.TheVariants.{Partial}
+use Rattle.cedar_types.specs.Names.{Uid}
+use Rattle.cedar_types.specs.Types.{Ty, TBool, TLong, TString, TEntity, TAnyEntity}
+use Rattle.cedar_types.specs.Tree.{string, entity, lit, var, slot, unknown}
+use Rattle.cedar_types.specs.View.{no_name}
+use Rattle.cedar_typing.specs.Typed.{typed, untyped}
+use Rattle.cedar_typing.specs.Settings.{nothing}
+use Rattle.cedar_typing.specs.Examples.World.{named, group, alice, a_user, an_action, sample, unknown_action, hidden}
+use Rattle.cedar_typing.specs.Examples.Expressions.{false_lit, one, text, the, principal, node}
+use Rattle.cedar_typing.specs.Examples.Rules.{TypesAs, TypesAsIn, FailsWith, FailsWithIn, user_at, no_type_at, typed_false, typed_one, typed_principal}
+
+-- `Group::"staff"`, whose type the schema does not know
+abbrev pub staff : Uid
+staff = record { entity_type = group; eid = codes "staff" }
+
+abbrev pub a_group : Ty
+a_group = TEntity (group ∷ [])
+
+pub record LeafTyping : Type 0 where
+  -- `false`, `1`, `"a"`, `User::"alice"`
+  pub literal_bool : TypesAs false_lit (TBool False) nothing (typed_false 1)
+  pub literal_long : TypesAs one TLong nothing (typed_one 1)
+  pub literal_string : TypesAs (text (codes "a")) TString nothing
+      (lit (typed TString (node 1)) (string (codes "a")))
+  pub literal_entity : TypesAs (the alice) a_user nothing (lit (user_at 1) (entity alice))
+  -- `Group::"staff"`: in Strict it fails, without an error; in Partial it has its type
+  pub unknown_entity : FailsWith (the staff) (lit (no_type_at 1) (entity staff)) []
+  pub unknown_entity_partial : TypesAsIn (sample Partial) nothing (the staff) a_group nothing
+      (lit (typed a_group (node 1)) (entity staff))
+  -- `principal`, `action`, and the principal in the environment of undeclared actions
+  pub variable_principal : TypesAs principal a_user nothing (typed_principal 1)
+  pub variable_action : TypesAs (var tt Var.Action) an_action nothing
+      (var (typed an_action (node 1)) Var.Action)
+  pub variable_hidden : TypesAsIn hidden nothing principal TAnyEntity nothing
+      (var (typed TAnyEntity (node 1)) Var.Principal)
+  -- `action`, where the schema does not declare it: it fails, without an error
+  pub variable_missing : FailsWithIn unknown_action (var tt Var.Action)
+      (var (no_type_at 1) Var.Action) []
+  -- `?resource`, which is linked, and `?principal`, which is not
+  pub slot_linked : TypesAs (slot tt SlotId.Resource) a_user nothing
+      (slot (user_at 1) SlotId.Resource)
+  pub slot_free : TypesAs (slot tt SlotId.Principal) TAnyEntity nothing
+      (slot (typed TAnyEntity (node 1)) SlotId.Principal)
+  -- `unknown(u)`: it fails, and has no place
+  pub unknown_value : FailsWith (unknown tt (named (codes "u")))
+      (unknown (untyped (record { place = None; names = no_name })) (named (codes "u"))) []

@@ -1,0 +1,61 @@
+-- Typing at the limit of depth: what is too deep, and which errors were found before or beside it.
+use Rattle.std.specs.Prelude.{◌+◌, [], ◌∷◌, codes}
+use Rattle.cedar_types.specs.declared.base.operators.UnaryOp.{UnaryOp}
+use Rattle.cedar_types.specs.declared.base.types.BoolType.TheVariants.{False}
+use Rattle.cedar_types.specs.declared.base.types.ValidationMode.TheVariants.{Strict}
+use Rattle.cedar_types.specs.Types.{TBool}
+use Rattle.cedar_types.specs.Tree.{Shape, if_then_else, and, or, unary}
+use Rattle.cedar_typing.specs.Settings.{nothing}
+use Rattle.cedar_typing.specs.Rules.{max_nesting, Has}
+use Rattle.cedar_typing.specs.Examples.World.{sample}
+use Rattle.cedar_typing.specs.Examples.Expressions.{true_lit, false_lit, one, dot, has, has_vip, get_boss, numbered}
+use Rattle.cedar_typing.specs.Examples.Rules.{CutsAt, typed_false, not_a_bool, unguarded_boss}
+
+-- `!(principal has vip)`, of which `principal` is too deep where the whole has the depth 399
+abbrev pub deep : Shape
+deep = unary tt UnaryOp.Not has_vip
+
+-- `1 && principal has vip`, which is as deep, and has an error at its left side
+abbrev pub refused_deep : Shape
+refused_deep = and tt one has_vip
+
+pub record NestingTyping : Type 0 where
+  -- `false` is looked at at depth 400, and no deeper
+  pub at_the_limit : Has (sample Strict) (numbered false_lit) nothing max_nesting (TBool False)
+      nothing (typed_false 1)
+  pub past_the_limit : CutsAt (max_nesting + 1) false_lit []
+  -- `principal.boss has vip`, `principal.boss.vip`: the base is cut, and nothing is said of the
+  -- whole
+  pub base_of_has : CutsAt 399 (has get_boss (codes "vip")) []
+  pub base_of_get : CutsAt 399 (dot get_boss (codes "vip")) []
+  -- `(1 && principal has vip) has vip`, `(1 && principal has vip).vip`: an error that was found in
+  -- the base counts
+  pub base_of_has_counts : CutsAt 398 (has refused_deep (codes "vip")) (not_a_bool 3 ∷ [])
+  pub base_of_get_counts : CutsAt 398 (dot refused_deep (codes "vip")) (not_a_bool 3 ∷ [])
+  -- `principal has vip && 1`, `principal has vip || 1`: the left side is cut, and the right one,
+  -- which would be refused, is not looked at
+  pub left_of_and : CutsAt 399 (and tt has_vip one) []
+  pub left_of_or : CutsAt 399 (or tt has_vip one) []
+  -- `(1 && principal has vip) && 1`, `(1 && principal has vip) || 1`: an error that was found in the
+  -- left side counts
+  pub left_of_and_counts : CutsAt 398 (and tt refused_deep one) (not_a_bool 3 ∷ [])
+  pub left_of_or_counts : CutsAt 398 (or tt refused_deep one) (not_a_bool 3 ∷ [])
+  -- `1 && principal has vip`, `1 || principal has vip`: the right side is cut, and the error of the
+  -- left one counts
+  pub right_of_and : CutsAt 399 refused_deep (not_a_bool 2 ∷ [])
+  pub right_of_or : CutsAt 399 (or tt one has_vip) (not_a_bool 2 ∷ [])
+  -- `!(principal has vip)`
+  pub operand_of_not : CutsAt 399 deep []
+  -- `if !(principal has vip) then principal.boss else principal.boss`: the test is cut, and no
+  -- branch is looked at
+  pub test_of_if : CutsAt 398 (if_then_else tt deep get_boss get_boss) []
+  -- `if true then !(principal has vip) else principal.boss`, `if false then principal.boss else
+  -- !(principal has vip)`: the branch that counts is cut, and the other one is not looked at
+  pub branch_of_true : CutsAt 398 (if_then_else tt true_lit deep get_boss) []
+  pub branch_of_false : CutsAt 398 (if_then_else tt false_lit get_boss deep) []
+  -- `if principal has vip then !(principal has vip) else principal.boss`, and with the branches the
+  -- other way round: one branch is cut, and the error of the other one counts
+  pub then_of_if : CutsAt 398 (if_then_else tt has_vip deep get_boss) (unguarded_boss 7 ∷ [])
+  pub else_of_if : CutsAt 398 (if_then_else tt has_vip get_boss deep) (unguarded_boss 4 ∷ [])
+  -- `if principal has vip then !(principal has vip) else !(principal has vip)`: both are cut
+  pub both_of_if : CutsAt 398 (if_then_else tt has_vip deep deep) []
