@@ -1,8 +1,5 @@
-// What the rows are made of, written short: one file for each subject.
+// What the rows are made of: one file for each subject.
 pub mod conditions;
 pub mod declarations;
-pub mod expressions;
-pub mod names;
-pub mod policies;
+pub mod forms;
 pub mod schemas;
-pub mod types;

@@ -1,9 +1,9 @@
 // The worked rows.
 mod checks;
-mod conditional_guards;
-mod guarded_access;
-mod guarding_forms;
+mod guards;
 
+use crate::rows::checks::compared;
+use crate::rows::guards::{CONDITIONAL_GUARDS, GUARDED_ACCESS, GUARDING_FORMS};
 use cedar_types::base::{ExtensionSchemas, SchemaError};
 use std::alloc::{AllocError, Global};
 
@@ -67,20 +67,21 @@ impl Row for WorkedRow {
         _x2: &ExtensionSchemas,
     ) -> Result<Report, AllocError> {
         let reported = match self {
-            WorkedRow::GuardedAccess => guarded_access::report(alloc, x1),
-            WorkedRow::GuardingForms => guarding_forms::report(alloc, x1),
-            WorkedRow::ConditionalGuards => conditional_guards::report(alloc, x1),
+            WorkedRow::GuardedAccess => compared(alloc, x1, &GUARDED_ACCESS),
+            WorkedRow::GuardingForms => compared(alloc, x1, &GUARDING_FORMS),
+            WorkedRow::ConditionalGuards => compared(alloc, x1, &CONDITIONAL_GUARDS),
         };
         match reported {
             Ok(report) => Ok(report),
             Err(SchemaError::Memory(error)) => Err(error),
-            Err(fault) => other_outcome(alloc, fault.to_string(alloc)?),
+            Err(fault) => other_outcome(alloc, fault.to_string(alloc)?.as_str()),
         }
     }
 }
 
 /// The report of a row that came to this alone, which no row expects.
-fn other_outcome(alloc: Global, outcome: String) -> Result<Report, AllocError> {
+fn other_outcome(alloc: Global, outcome: &str) -> Result<Report, AllocError> {
+    let outcome = String::from_str(alloc, outcome)?;
     Ok(Report {
         outcomes: vec![in alloc; outcome]?,
         is_expected: false,

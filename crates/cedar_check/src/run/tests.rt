@@ -10,12 +10,15 @@ use std::test::Fail;
 
 const USAGE: &[u8] = b"usage: cedar-check [ROW]\n";
 
-const ROW_10: &[u8] = b"row 10: Success; Fail errors=1; ok\n";
-
-const ROW_31: &[u8] =
-    b"row 31: Fail errors=1; Success; Fail errors=1; Fail errors=1; Success; ok\n";
-
-const ROW_32: &[u8] = b"row 32: Success; Success; Fail errors=1; ok\n";
+/// The rows that are built, in order, and the line of each.
+const BUILT: [(&str, &[u8]); 3] = [
+    ("10", b"row 10: Success; Fail errors=1; ok\n"),
+    (
+        "31",
+        b"row 31: Fail errors=1; Success; Fail errors=1; Fail errors=1; Success; ok\n",
+    ),
+    ("32", b"row 32: Success; Success; Fail errors=1; ok\n"),
+];
 
 /// The ways in which a row can end.
 enum Sample {
@@ -86,77 +89,62 @@ fn texts(alloc: Global, all: &[&str]) -> Result<Vec<String>, AllocError> {
     Ok(copies)
 }
 
-/// What the rows that are built answer to these words: the status, and what is on both writers.
-fn answers(alloc: Global, all: &[&str]) -> Result<(u8, Vec<u8>, Vec<u8>), AllocError> {
-    let words = texts(alloc, all)?;
+/// The status that a run answered, and what is on its two writers.
+#[derive(Drop)]
+struct Answer {
+    status: u8,
+    out: Vec<u8>,
+    err: Vec<u8>,
+}
+
+/// What the rows that are built answer to these words.
+fn answer(alloc: Global, words: &[&str]) -> Result<Answer, AllocError> {
+    let words = texts(alloc, words)?;
     let x1 = ExtensionSchemas::default(alloc);
     let x2 = ExtensionSchemas::default(alloc);
     let mut out = Vec::new(alloc);
     let mut err = Vec::new(alloc);
     let status = run(alloc, words.as_slice(), &x1, &x2, &mut out, &mut err);
-    Ok((status, out, err))
+    Ok(Answer { status, out, err })
 }
 
-/// What the samples answer, on writers of any kind.
+/// The status of the samples, on writers of any kind.
 fn sampled<O: Write, E: Write>(
     alloc: Global,
-    all: &[&str],
+    words: &[&str],
     out: &mut O,
     err: &mut E,
 ) -> Result<u8, AllocError> {
-    let words = texts(alloc, all)?;
+    let words = texts(alloc, words)?;
     let x1 = ExtensionSchemas::default(alloc);
     let x2 = ExtensionSchemas::default(alloc);
     Ok(run_among(alloc, &SAMPLES, words.as_slice(), &x1, &x2, out, err))
 }
 
-/// What the samples answer where the output takes so many writes.
-fn status_after(alloc: Global, all: &[&str], writes: u8) -> Result<u8, AllocError> {
-    let mut out = Failing { writes };
+/// What the samples answer to these words.
+fn sample_answer(alloc: Global, words: &[&str]) -> Result<Answer, AllocError> {
+    let mut out = Vec::new(alloc);
     let mut err = Vec::new(alloc);
-    sampled(alloc, all, &mut out, &mut err)
+    let status = sampled(alloc, words, &mut out, &mut err)?;
+    Ok(Answer { status, out, err })
 }
 
-/// That the rows that are built answer these lines alone to these words, and are as expected.
-fn prints<R: Abort>(
-    rt: &R,
-    alloc: Global,
-    words: &[&str],
-    lines: &[&[u8]],
-) -> Result<(), AllocError> {
-    let (status, out, err) = answers(alloc, words)?;
-    let mut all = Vec::new(alloc);
-    for line in lines {
-        all.extend_from_slice(line)?;
+/// That the answer has this status and output, and that the usage is beside it with status two alone.
+fn check(rt: &impl Abort, words: &[&str], answer: Answer, status: u8, out: &[u8]) {
+    let err = if status == 2 { USAGE } else { b"" };
+    assert_eq!(rt; answer.status, status, "{words:?}");
+    assert_eq!(rt; answer.out.as_slice(), out, "{words:?}");
+    assert_eq!(rt; answer.err.as_slice(), err, "{words:?}");
+}
+
+#[test]
+fn each_row_that_is_built_is_as_expected(rt: HostRuntime) -> Result<(), Fail> {
+    let mut lines = Vec::new(rt.alloc());
+    for (word, line) in BUILT {
+        check(&rt, &[word], answer(rt.alloc(), &[word])?, 0, line);
+        lines.extend_from_slice(line)?;
     }
-    assert_eq!(rt; status, 0);
-    assert_eq!(rt; out.as_slice(), all.as_slice());
-    assert_eq!(rt; err.as_slice(), b"".as_slice());
-    Ok(())
-}
-
-#[test]
-fn no_word_runs_every_row_that_is_built(rt: HostRuntime) -> Result<(), Fail> {
-    let lines = [ROW_10, ROW_31, ROW_32];
-    prints(&rt, rt.alloc(), &[], &lines)?;
-    Ok(())
-}
-
-#[test]
-fn row_10_is_as_expected(rt: HostRuntime) -> Result<(), Fail> {
-    prints(&rt, rt.alloc(), &["10"], &[ROW_10])?;
-    Ok(())
-}
-
-#[test]
-fn row_31_is_as_expected(rt: HostRuntime) -> Result<(), Fail> {
-    prints(&rt, rt.alloc(), &["31"], &[ROW_31])?;
-    Ok(())
-}
-
-#[test]
-fn row_32_is_as_expected(rt: HostRuntime) -> Result<(), Fail> {
-    prints(&rt, rt.alloc(), &["32"], &[ROW_32])?;
+    check(&rt, &[], answer(rt.alloc(), &[])?, 0, lines.as_slice());
     Ok(())
 }
 
@@ -169,61 +157,51 @@ fn a_word_that_is_no_row_and_a_second_word_get_the_usage(rt: HostRuntime) -> Res
         ["310"].as_slice(),
         ["1", "2"].as_slice(),
     ] {
-        let (status, out, err) = answers(rt.alloc(), words)?;
-        assert_eq!(rt; status, 2, "{words:?}");
-        assert_eq!(rt; out.as_slice(), b"".as_slice());
-        assert_eq!(rt; err.as_slice(), USAGE);
+        check(&rt, words, answer(rt.alloc(), words)?, 2, b"");
     }
     Ok(())
 }
 
 #[test]
-fn rows_run_in_order_past_refused_memory(rt: HostRuntime) -> Result<(), Fail> {
-    let mut out = Vec::new(rt.alloc());
-    let mut err = Vec::new(rt.alloc());
-    assert_eq!(rt; sampled(rt.alloc(), &[], &mut out, &mut err)?, 1);
-    let lines =
-        b"row 2: errors=1 warnings=0; errors=0 warnings=0; differs\nrow 7: no memory\nrow 10: Success; Fail errors=1; ok\n";
-    assert_eq!(rt; out.as_slice(), lines.as_slice());
-    assert_eq!(rt; err.as_slice(), b"".as_slice());
-    Ok(())
-}
-
-#[test]
-fn a_word_runs_its_row_alone(rt: HostRuntime) -> Result<(), Fail> {
+fn rows_run_in_order_past_refused_memory_or_alone(rt: HostRuntime) -> Result<(), Fail> {
     let cases = [
-        ("10", 0, ROW_10),
         (
-            "2",
+            [].as_slice(),
+            1,
+            b"row 2: errors=1 warnings=0; errors=0 warnings=0; differs\nrow 7: no memory\nrow 10: Success; Fail errors=1; ok\n".as_slice(),
+        ),
+        (
+            ["10"].as_slice(),
+            0,
+            b"row 10: Success; Fail errors=1; ok\n".as_slice(),
+        ),
+        (
+            ["2"].as_slice(),
             1,
             b"row 2: errors=1 warnings=0; errors=0 warnings=0; differs\n".as_slice(),
         ),
-        ("7", 1, b"row 7: no memory\n".as_slice()),
-        ("1", 2, b"".as_slice()),
-        ("010", 2, b"".as_slice()),
+        (["7"].as_slice(), 1, b"row 7: no memory\n".as_slice()),
+        (["1"].as_slice(), 2, b"".as_slice()),
+        (["010"].as_slice(), 2, b"".as_slice()),
     ];
-    for (word, status, text) in cases {
-        let mut out = Vec::new(rt.alloc());
-        let mut err = Vec::new(rt.alloc());
-        assert_eq!(rt;
-            sampled(rt.alloc(), &[word], &mut out, &mut err)?,
-            status,
-            "{word}"
-        );
-        assert_eq!(rt; out.as_slice(), text, "{word}");
-        assert_eq!(rt; err.is_empty(), status < 2, "{word}");
+    for (words, status, out) in cases {
+        check(&rt, words, sample_answer(rt.alloc(), words)?, status, out);
     }
     Ok(())
 }
 
 #[test]
 fn a_failed_write_is_status_one(rt: HostRuntime) -> Result<(), Fail> {
-    for writes in [0, 1] {
-        assert_eq!(rt; status_after(rt.alloc(), &[], writes)?, 1);
-        assert_eq!(rt; status_after(rt.alloc(), &["10"], writes)?, 1);
+    for (words, writes) in [
+        ([].as_slice(), 0),
+        ([].as_slice(), 1),
+        (["10"].as_slice(), 0),
+        (["10"].as_slice(), 1),
+        (["x"].as_slice(), 1),
+    ] {
+        let mut out = Failing { writes };
+        let mut err = Failing { writes: 0 };
+        assert_eq!(rt; sampled(rt.alloc(), words, &mut out, &mut err)?, 1);
     }
-    let mut out = Vec::new(rt.alloc());
-    let mut err = Failing { writes: 0 };
-    assert_eq!(rt; sampled(rt.alloc(), &["x"], &mut out, &mut err)?, 1);
     Ok(())
 }
