@@ -2,54 +2,28 @@
 #![tactic(auto)]
 
 #[cfg(test)]
-mod bound_checks;
-#[cfg(test)]
-mod build;
-#[cfg(test)]
 mod capabilities;
 #[cfg(test)]
 mod conditions;
 #[cfg(test)]
-mod copies;
+mod declarations;
 #[cfg(test)]
-mod entity_sets;
+mod error_texts;
 #[cfg(test)]
-mod errors;
+mod expressions;
 #[cfg(test)]
 mod extensions;
 #[cfg(test)]
-mod levels;
-#[cfg(test)]
-mod lookups;
-#[cfg(test)]
-mod make;
-#[cfg(test)]
-mod memberships;
+mod findings;
 #[cfg(test)]
 mod names;
 #[cfg(test)]
-mod record_bounds;
+mod parts;
 #[cfg(test)]
 mod request_envs;
 #[cfg(test)]
-mod schema_declarations;
-#[cfg(test)]
-mod schema_fault_cases;
-#[cfg(test)]
 mod schema_faults;
 #[cfg(test)]
-mod schema_fixtures;
-#[cfg(test)]
-mod schema_parts;
-#[cfg(test)]
 mod schema_queries;
-#[cfg(test)]
-mod shapes;
-#[cfg(test)]
-mod texts;
-#[cfg(test)]
-mod type_bounds;
-#[cfg(test)]
-mod type_sets;
 #[cfg(test)]
 mod types;

@@ -1,10 +1,12 @@
-// Schemas that are refused: each fault alone, and before the next one.
-use crate::make::{ANY_ENTITY, BOOL, FALSE, TRUE, entity, none, record, set, with};
-use crate::schema_declarations::Declarations;
-use crate::schema_fault_cases::add_fault;
-use crate::schema_parts::{action, standard};
-use cedar_types::base::{CedarType, OpenTag, SchemaError};
+// Schemas that are refused: each fault alone, and before every later one.
+use crate::declarations::{Declared, Kind, declare, schema, standard, view};
+use crate::parts::{entity, entity_type, shows};
+use cedar_types::base::{
+    AttributeType, CedarType, SchemaError, ValidatorEntityType, ValidatorEntityTypeKind,
+    ValidatorSchema,
+};
 use std::alloc::{AllocError, Global};
+use std::collections::BTreeSet;
 use std::process::Abort;
 use std::test::Fail;
 
@@ -20,186 +22,122 @@ const FAULTS: [SchemaError; 9] = [
     SchemaError::DescendantsNotClosed,
 ];
 
-const VAGUE: Option<SchemaError> = Some(SchemaError::VagueType);
-
-const UNKNOWN: Option<SchemaError> = Some(SchemaError::UnknownType);
-
-/// The fault that is found where both of these are.
-fn found_of(
-    alloc: Global,
-    added: &SchemaError,
-    after: &SchemaError,
-) -> Result<Option<SchemaError>, AllocError> {
-    let mut declared = Declarations::nothing(alloc);
-    add_fault(&mut declared, alloc, added)?;
-    add_fault(&mut declared, alloc, after)?;
-    Ok(declared.fault(alloc))
-}
+/// Declarations with each of these faults, by names of their own.
+const SAMPLES: [&[Declared]; 9] = [
+    &[
+        Declared("Twice", &[], Kind::Plain),
+        Declared("Twice", &[], Kind::External),
+    ],
+    &[
+        Declared("twice", &[], Kind::Action("Action")),
+        Declared("twice", &[], Kind::Action("Action")),
+    ],
+    &[Declared("Action", &[], Kind::Plain)],
+    &[Declared("a", &[], Kind::Action("User"))],
+    &[Declared("Hollow", &[], Kind::Enum(&[]))],
+    &[Declared("Lost", &["Gone"], Kind::Plain)],
+    &[Declared("above", &["gone"], Kind::Action("Action"))],
+    &[Declared("Vague", &[], Kind::Vague)],
+    &[
+        Declared("Top", &["Middle"], Kind::External),
+        Declared("Middle", &["Bottom"], Kind::External),
+        Declared("Bottom", &[], Kind::External),
+    ],
+];
 
 #[test]
-fn each_fault_alone_is_found(rt: HostRuntime) -> Result<(), Fail> {
+fn each_fault_is_found_before_the_later_ones(rt: HostRuntime) -> Result<(), Fail> {
     let alloc = rt.alloc();
-    for fault in &FAULTS {
-        let mut declared = Declarations::nothing(alloc);
-        add_fault(&mut declared, alloc, fault)?;
-        assert_eq!(rt; declared.fault(alloc).as_ref(), Some(fault));
+    assert!(rt; schema(alloc, &[]).is_ok());
+    for (at, fault) in FAULTS.iter().enumerate() {
+        let alone = schema(alloc, &SAMPLES[at..at + 1]).err();
+        assert!(rt; alone.as_ref() == Some(fault), "{fault}");
+        let first = schema(alloc, &SAMPLES[at..]).err();
+        assert!(rt; first.as_ref() == Some(fault), "{fault}");
     }
+    let actions: &[Declared] = &[
+        Declared("top", &["middle"], Kind::Action("Action")),
+        Declared("middle", &["bottom"], Kind::Action("Action")),
+        Declared("bottom", &[], Kind::Action("Action")),
+    ];
+    let open = schema(alloc, &[actions]).err();
+    assert!(rt; open.as_ref() == FAULTS.last());
+    shows(
+        &rt,
+        alloc,
+        SchemaError::UnknownActionDescendant,
+        "UnknownActionDescendant",
+    )?;
+    shows(&rt, alloc, SchemaError::from(AllocError), "Memory")?;
     Ok(())
 }
 
-#[test]
-fn nothing_has_no_fault(rt: HostRuntime) {
-    let alloc = rt.alloc();
-    assert_eq!(rt; Declarations::nothing(alloc).fault(alloc), None);
-}
-
-#[test]
-fn of_two_faults_the_first_is_found(rt: HostRuntime) -> Result<(), Fail> {
-    let alloc = rt.alloc();
-    for (first, second) in FAULTS.iter().zip(FAULTS[1..].iter()) {
-        let found = found_of(alloc, second, first)?;
-        assert_eq!(rt; found.as_ref(), Some(first));
-    }
-    Ok(())
-}
-
-/// A type with one attribute of this type has this fault.
-fn attribute_gives(
+/// A type with an attribute of this type and one with tags of it each have this fault, or none.
+fn gives(
     rt: &impl Abort,
     alloc: Global,
-    attr_type: CedarType,
-    fault: Option<SchemaError>,
+    ty: CedarType,
+    fault: Option<&SchemaError>,
 ) -> Result<(), AllocError> {
-    let mut declared = Declarations::nothing(alloc);
-    let attrs = with(alloc, none(alloc), "x", attr_type, false)?;
-    declared.add_type(standard(alloc, "A", &[], attrs, None)?)?;
-    declared.add_plain(alloc, "B", &[])?;
-    assert!(rt; declared.fault(alloc) == fault);
+    let attribute = AttributeType::optional_attribute(ty.clone()?);
+    let with_attribute = standard(alloc, vec![in alloc; ("x", attribute)]?, None)?;
+    let with_tags = standard(alloc, Vec::new(alloc), Some(ty))?;
+    for kind in [with_attribute, with_tags] {
+        let plain = declare(alloc, "B", standard(alloc, Vec::new(alloc), None)?)?;
+        let types = vec![in alloc; declare(alloc, "A", kind)?, plain]?;
+        let found = ValidatorSchema::new(alloc, types, Vec::new(alloc)).err();
+        assert!(rt; found.as_ref() == fault);
+    }
     Ok(())
 }
+
+const VAGUE: Option<&SchemaError> = Some(&SchemaError::VagueType);
+
+const UNKNOWN: Option<&SchemaError> = Some(&SchemaError::UnknownType);
 
 #[test]
-fn plain_attributes_say_enough(rt: HostRuntime) -> Result<(), Fail> {
+fn attributes_and_tags_say_enough_and_are_known(rt: HostRuntime) -> Result<(), AllocError> {
     let alloc = rt.alloc();
-    attribute_gives(&rt, alloc, ANY_ENTITY, VAGUE)?;
-    attribute_gives(&rt, alloc, CedarType::AnySet, VAGUE)?;
-    attribute_gives(&rt, alloc, TRUE, VAGUE)?;
-    attribute_gives(&rt, alloc, FALSE, VAGUE)?;
-    Ok(())
+    gives(&rt, alloc, CedarType::Never, VAGUE)?;
+    gives(&rt, alloc, CedarType::any_set(), VAGUE)?;
+    gives(&rt, alloc, CedarType::any_entity_reference(), VAGUE)?;
+    gives(&rt, alloc, CedarType::singleton_boolean(true), VAGUE)?;
+    gives(&rt, alloc, CedarType::singleton_boolean(false), VAGUE)?;
+    gives(&rt, alloc, CedarType::any_record(alloc)?, VAGUE)?;
+    gives(&rt, alloc, entity(alloc, &["A", "B"])?, VAGUE)?;
+    gives(&rt, alloc, CedarType::set(alloc, CedarType::Never)?, VAGUE)?;
+    gives(
+        &rt,
+        alloc,
+        CedarType::set(alloc, CedarType::primitive_boolean())?,
+        None,
+    )?;
+    gives(&rt, alloc, entity(alloc, &["A"])?, None)?;
+    gives(&rt, alloc, entity(alloc, &["Action"])?, None)?;
+    gives(&rt, alloc, entity(alloc, &["Gone"])?, UNKNOWN)
 }
 
-#[test]
-fn attributes_with_parts_say_enough(rt: HostRuntime) -> Result<(), Fail> {
-    let alloc = rt.alloc();
-    let open = record(alloc, none(alloc), OpenTag::OpenAttributes)?;
-    attribute_gives(&rt, alloc, open, VAGUE)?;
-    attribute_gives(&rt, alloc, entity(alloc, "A", "B")?, VAGUE)?;
-    attribute_gives(&rt, alloc, set(alloc, CedarType::Never)?, VAGUE)?;
-    attribute_gives(&rt, alloc, set(alloc, BOOL)?, None)?;
-    Ok(())
-}
-
-#[test]
-fn attributes_are_of_known_types(rt: HostRuntime) -> Result<(), Fail> {
-    let alloc = rt.alloc();
-    attribute_gives(&rt, alloc, entity(alloc, "A", "")?, None)?;
-    attribute_gives(&rt, alloc, entity(alloc, "Gone", "")?, UNKNOWN)?;
-    attribute_gives(&rt, alloc, entity(alloc, "Action", "")?, None)?;
-    Ok(())
-}
-
-/// An action of these types and this context has this fault.
-fn action_gives(
+/// An action of these types and this context, where `A` alone is declared, has this fault.
+fn applied(
     rt: &impl Abort,
     alloc: Global,
-    types: (&str, &str),
+    (principal, resource): (&str, &str),
     context: CedarType,
-    fault: Option<SchemaError>,
+    fault: Option<&SchemaError>,
 ) -> Result<(), AllocError> {
-    let mut declared = Declarations::nothing(alloc);
-    declared.add_plain(alloc, "A", &[])?;
-    declared.add_action(action(alloc, "act", types, context)?)?;
-    assert!(rt; declared.fault(alloc) == fault);
+    let a = declare(alloc, "A", ValidatorEntityTypeKind::External)?;
+    let action = view(alloc, &[principal], &[resource], context)?;
+    let made = ValidatorSchema::new(alloc, vec![in alloc; a]?, vec![in alloc; action]?);
+    assert!(rt; made.err().as_ref() == fault, "{principal} {resource}");
     Ok(())
 }
 
-/// An action of these types and of an empty context has this fault.
-fn application_gives(
-    rt: &impl Abort,
-    alloc: Global,
-    types: (&str, &str),
-    fault: Option<SchemaError>,
-) -> Result<(), AllocError> {
-    let context = record(alloc, none(alloc), OpenTag::ClosedAttributes)?;
-    action_gives(rt, alloc, types, context, fault)
-}
-
 #[test]
-fn applications_are_known(rt: HostRuntime) -> Result<(), Fail> {
+fn what_an_action_applies_to_is_known(rt: HostRuntime) -> Result<(), AllocError> {
     let alloc = rt.alloc();
-    application_gives(&rt, alloc, ("A", "A"), None)?;
-    application_gives(&rt, alloc, ("Gone", "A"), UNKNOWN)?;
-    application_gives(&rt, alloc, ("A", "Gone"), UNKNOWN)?;
-    Ok(())
-}
-
-#[test]
-fn contexts_are_known_and_say_enough(rt: HostRuntime) -> Result<(), Fail> {
-    let alloc = rt.alloc();
-    let gone = entity(alloc, "Gone", "")?;
-    action_gives(&rt, alloc, ("A", "A"), gone, UNKNOWN)?;
-    action_gives(&rt, alloc, ("A", "A"), CedarType::String, VAGUE)?;
-    Ok(())
-}
-
-/// A type with these tags has this fault.
-fn tags_give(
-    rt: &impl Abort,
-    alloc: Global,
-    tags: CedarType,
-    fault: Option<SchemaError>,
-) -> Result<(), AllocError> {
-    let mut declared = Declarations::nothing(alloc);
-    declared.add_type(standard(alloc, "A", &[], none(alloc), Some(tags))?)?;
-    assert!(rt; declared.fault(alloc) == fault);
-    Ok(())
-}
-
-#[test]
-fn tags_are_known_and_say_enough(rt: HostRuntime) -> Result<(), Fail> {
-    let alloc = rt.alloc();
-    tags_give(&rt, alloc, entity(alloc, "Gone", "")?, UNKNOWN)?;
-    tags_give(&rt, alloc, CedarType::Never, VAGUE)?;
-    Ok(())
-}
-
-#[test]
-fn actions_have_the_descendants_of_their_descendants(rt: HostRuntime) -> Result<(), Fail> {
-    let alloc = rt.alloc();
-    let mut declared = Declarations::nothing(alloc);
-    declared.add_group(alloc, "top", &["middle"])?;
-    declared.add_group(alloc, "middle", &["bottom"])?;
-    declared.add_group(alloc, "bottom", &[])?;
-    assert_eq!(rt;
-        declared.fault(alloc),
-        Some(SchemaError::DescendantsNotClosed)
-    );
-    Ok(())
-}
-
-#[test]
-fn the_first_fault_comes_before_a_type_that_says_too_little(rt: HostRuntime) -> Result<(), Fail> {
-    let found = found_of(rt.alloc(), &SchemaError::VagueType, &SchemaError::VagueType)?;
-    assert_eq!(rt; found, Some(SchemaError::DuplicateEntityType));
-    Ok(())
-}
-
-#[test]
-fn faults_are_shown_by_name(rt: HostRuntime) -> Result<(), Fail> {
-    let alloc = rt.alloc();
-    let found = SchemaError::UnknownActionDescendant.to_string(alloc)?;
-    assert_eq!(rt; found.as_str(), "UnknownActionDescendant");
-    let found = SchemaError::from(AllocError).to_string(alloc)?;
-    assert_eq!(rt; found.as_str(), "Memory");
-    Ok(())
+    applied(&rt, alloc, ("Gone", "A"), CedarType::Never, UNKNOWN)?;
+    applied(&rt, alloc, ("A", "Gone"), CedarType::Never, UNKNOWN)?;
+    applied(&rt, alloc, ("A", "A"), entity(alloc, &["Gone"])?, UNKNOWN)?;
+    applied(&rt, alloc, ("A", "A"), CedarType::primitive_string(), VAGUE)?;
+    applied(&rt, alloc, ("A", "A"), CedarType::any_record(alloc)?, VAGUE)
 }

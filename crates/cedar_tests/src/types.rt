@@ -1,222 +1,132 @@
-// Types: their texts byte for byte, their order, their copies and their attributes.
-use crate::build::name;
-use crate::make::{
-    ANY_ENTITY, BOOL, FALSE, TRUE, add, entity, extension, field, none, record, set, with,
-};
-use crate::texts::shows;
+// Types: their texts and their order, and what is asked of two.
+use crate::parts::{entity, shows, text};
 use cedar_types::base::type_laws::{compare_types, equal_types, types_are_well_formed};
-use cedar_types::base::{Attributes, CedarType, OpenTag};
+use cedar_types::base::{
+    AttributeType, Attributes, CedarType, Name, OpenTag, ValidationMode, types_in_order,
+};
 use std::alloc::{AllocError, Global};
 use std::cmp::Ordering;
-use std::process::Abort;
-use std::rc::{Rc, RcStr};
 use std::test::Fail;
 
-const OPEN: OpenTag = OpenTag::OpenAttributes;
+/// An open or a closed record of one attribute, `a`.
+fn field(alloc: Global, a: AttributeType, is_open: OpenTag) -> Result<CedarType, AllocError> {
+    let attributes = Attributes::from_list(alloc, vec![in alloc; ("a", a)]?)?;
+    Ok(CedarType::record_with_attributes(attributes, is_open))
+}
 
-const CLOSED: OpenTag = OpenTag::ClosedAttributes;
-
-#[test]
-fn types_without_parts_are_shown(rt: HostRuntime) -> Result<(), Fail> {
-    let alloc = rt.alloc();
-    for (ty, want) in [
-        (CedarType::Never, "Never"),
-        (BOOL, "Bool"),
-        (TRUE, "True"),
-        (FALSE, "False"),
-        (CedarType::Long, "Long"),
-        (CedarType::String, "String"),
-        (CedarType::AnySet, "Set"),
-        (ANY_ENTITY, "entity"),
-    ] {
-        shows(&rt, alloc, ty, want)?;
+fn add_records(alloc: Global, types: &mut Vec<CedarType>) -> Result<(), AllocError> {
+    let string = AttributeType::optional_attribute(CedarType::String);
+    types.push(field(alloc, string, OpenTag::OpenAttributes)?)?;
+    let required = AttributeType::required_attribute(CedarType::Long);
+    types.push(field(alloc, required, OpenTag::OpenAttributes)?)?;
+    for is_open in [OpenTag::ClosedAttributes, OpenTag::OpenAttributes] {
+        let optional = AttributeType::optional_attribute(CedarType::Long);
+        types.push(field(alloc, optional, is_open)?)?;
     }
+    types.push(CedarType::any_record(alloc)?)?;
     Ok(())
 }
 
-#[test]
-fn sets_and_entities_are_shown(rt: HostRuntime) -> Result<(), Fail> {
-    let alloc = rt.alloc();
-    shows(&rt, alloc, set(alloc, CedarType::Long)?, "Set<Long>")?;
-    shows(&rt, alloc, set(alloc, CedarType::AnySet)?, "Set<Set>")?;
-    shows(&rt, alloc, entity(alloc, "User", "")?, "User")?;
-    shows(&rt, alloc, entity(alloc, "b", "B")?, "B|b")?;
-    Ok(())
-}
-
-#[test]
-fn extension_types_are_shown(rt: HostRuntime) -> Result<(), Fail> {
-    let alloc = rt.alloc();
-    shows(&rt, alloc, extension(alloc, "ipaddr")?, "ipaddr")?;
-    let named = Rc::new(alloc, name(alloc, "ext", "ipaddr")?)?;
-    shows(&rt, alloc, CedarType::Extension(named), "ext::ipaddr")?;
-    Ok(())
-}
-
-#[test]
-fn empty_records_are_shown(rt: HostRuntime) -> Result<(), Fail> {
-    let alloc = rt.alloc();
-    shows(&rt, alloc, record(alloc, none(alloc), CLOSED)?, "{}")?;
-    shows(&rt, alloc, record(alloc, none(alloc), OPEN)?, "{..}")?;
-    Ok(())
-}
-
-#[test]
-fn records_are_shown(rt: HostRuntime) -> Result<(), Fail> {
-    let alloc = rt.alloc();
-    let one = with(alloc, none(alloc), "b", CedarType::String, false)?;
-    let two = with(alloc, one, "a", set(alloc, CedarType::Long)?, true)?;
-    let closed = record(alloc, two, CLOSED)?;
-    shows(&rt, alloc, closed.clone()?, "{a: Set<Long>, b?: String}")?;
-    let inner = field(alloc, "x", closed, true, OPEN)?;
-    shows(&rt, alloc, inner, "{x: {a: Set<Long>, b?: String}, ..}")?;
-    Ok(())
-}
-
-/// The two types compare as is wanted.
-fn compares(rt: &impl Abort, one: &CedarType, other: &CedarType, want: Ordering) {
-    assert!(rt; one.cmp(other) == want, "{one} and {other}");
-    assert!(rt; compare_types(one, other) == want, "{one} and {other}");
-    let is_equal = want == Ordering::Equal;
-    assert!(rt; equal_types(one, other) == is_equal, "{one} and {other}");
-}
-
-/// The type stands at this place of a table in ascending order.
-fn stands_at(rt: &impl Abort, types: &[CedarType], at: usize, ty: &CedarType) {
-    for (i, other) in types.iter().enumerate() {
-        compares(rt, ty, other, at.cmp(&i));
-    }
-}
-
-/// The types of a table stand in ascending order, each once.
-fn ascends(rt: &impl Abort, types: &[CedarType]) {
-    for (i, ty) in types.iter().enumerate() {
-        stands_at(rt, types, i, ty);
-    }
-}
-
-fn add_plain_kinds(types: &mut Vec<CedarType>) -> Result<(), AllocError> {
-    for ty in [
-        CedarType::Never,
-        BOOL,
-        TRUE,
-        FALSE,
-        CedarType::Long,
-        CedarType::String,
-    ] {
-        types.push(ty)?;
+fn add_entities(alloc: Global, types: &mut Vec<CedarType>) -> Result<(), AllocError> {
+    let ip = Name::new(alloc, "ip", &["ext"])?;
+    types.push(CedarType::extension(alloc, ip)?)?;
+    types.push(CedarType::any_entity_reference())?;
+    for names in [&["b"][..], &["a", "b"][..], &["a"][..]] {
+        types.push(entity(alloc, names)?)?;
     }
     Ok(())
 }
 
 fn add_sets(alloc: Global, types: &mut Vec<CedarType>) -> Result<(), AllocError> {
-    add(types, set(alloc, CedarType::Never)?)?;
-    add(types, set(alloc, CedarType::AnySet)?)?;
-    add(types, CedarType::AnySet)
+    types.push(CedarType::any_set())?;
+    types.push(CedarType::set(alloc, CedarType::any_set())?)?;
+    types.push(CedarType::set(alloc, CedarType::primitive_string())?)?;
+    types.push(CedarType::set(alloc, CedarType::Never)?)?;
+    Ok(())
 }
 
-fn add_entities(alloc: Global, types: &mut Vec<CedarType>) -> Result<(), AllocError> {
-    add(types, entity(alloc, "a", "")?)?;
-    add(types, entity(alloc, "a", "b")?)?;
-    add(types, entity(alloc, "b", "")?)?;
-    add(types, ANY_ENTITY)
+fn add_flat_types(types: &mut Vec<CedarType>) -> Result<(), AllocError> {
+    types.push(CedarType::primitive_string())?;
+    types.push(CedarType::primitive_long())?;
+    types.push(CedarType::primitive_long())?;
+    types.push(CedarType::singleton_boolean(false))?;
+    types.push(CedarType::singleton_boolean(true))?;
+    types.push(CedarType::primitive_boolean())?;
+    types.push(CedarType::Never)?;
+    Ok(())
 }
 
-#[test]
-fn kinds_ascend_in_the_order_named(rt: HostRuntime) -> Result<(), Fail> {
-    let alloc = rt.alloc();
+/// Types of each kind, the last ones first, and one twice.
+fn of_each_kind(alloc: Global) -> Result<Vec<CedarType>, AllocError> {
     let mut types = Vec::new(alloc);
-    add_plain_kinds(&mut types)?;
-    add_sets(alloc, &mut types)?;
-    add(&mut types, record(alloc, none(alloc), OPEN)?)?;
     add_entities(alloc, &mut types)?;
-    add(&mut types, extension(alloc, "a")?)?;
-    add(&mut types, extension(alloc, "b")?)?;
-    ascends(&rt, types.as_slice());
-    Ok(())
-}
-
-/// The open record of two attributes, `a` and `b`.
-fn two_longs(alloc: Global) -> Result<CedarType, AllocError> {
-    let both = with(alloc, none(alloc), "a", CedarType::Long, true)?;
-    let both = with(alloc, both, "b", CedarType::Long, true)?;
-    record(alloc, both, OPEN)
-}
-
-fn add_fields(alloc: Global, types: &mut Vec<CedarType>) -> Result<(), AllocError> {
-    add(types, field(alloc, "a", CedarType::Long, false, OPEN)?)?;
-    add(types, field(alloc, "a", CedarType::Long, false, CLOSED)?)?;
-    add(types, field(alloc, "a", CedarType::Long, true, OPEN)?)?;
-    add(types, two_longs(alloc)?)?;
-    add(types, field(alloc, "a", CedarType::String, false, OPEN)?)?;
-    add(types, field(alloc, "b", CedarType::Long, false, OPEN)?)
-}
-
-#[test]
-fn records_ascend_by_attributes_and_then_openness(rt: HostRuntime) -> Result<(), Fail> {
-    let alloc = rt.alloc();
-    let mut types = Vec::new(alloc);
-    add(&mut types, record(alloc, none(alloc), OPEN)?)?;
-    add(&mut types, record(alloc, none(alloc), CLOSED)?)?;
-    add_fields(alloc, &mut types)?;
-    ascends(&rt, types.as_slice());
-    Ok(())
-}
-
-/// A type of each kind of which copies have parts, and two others.
-fn to_be_copied(alloc: Global) -> Result<Vec<CedarType>, AllocError> {
-    let mut types = Vec::new(alloc);
-    types.push(BOOL)?;
-    types.push(set(alloc, CedarType::Long)?)?;
-    types.push(entity(alloc, "a", "b")?)?;
-    types.push(ANY_ENTITY)?;
-    types.push(extension(alloc, "a")?)?;
-    types.push(field(alloc, "a", CedarType::Long, true, OPEN)?)?;
+    add_records(alloc, &mut types)?;
+    add_sets(alloc, &mut types)?;
+    add_flat_types(&mut types)?;
     Ok(types)
 }
 
+const IN_ORDER: &str =
+    "Never, Bool, True, False, Long, String, Set<Never>, Set<String>, Set<Set>, Set, \
+    {..}, {a?: Long, ..}, {a?: Long}, {a: Long, ..}, {a?: String, ..}, a, a|b, b, entity, ext::ip, ";
+
 #[test]
-fn copies_are_equal(rt: HostRuntime) -> Result<(), Fail> {
-    let types = to_be_copied(rt.alloc())?;
-    for ty in &types {
-        let copy = ty.clone()?;
-        assert!(rt; copy == *ty, "{copy}");
-        types_are_well_formed(&copy);
+fn types_are_shown_in_their_order(rt: HostRuntime) -> Result<(), Fail> {
+    let alloc = rt.alloc();
+    let types = types_in_order(alloc, of_each_kind(alloc)?)?;
+    let mut shown = String::new(alloc);
+    for ty in types.iter() {
+        write!(shown, "{ty}, ")?;
+        types_are_well_formed(ty);
     }
+    assert_eq!(rt; shown.as_str(), IN_ORDER);
+    assert!(rt; equal_types(&CedarType::Long, &CedarType::Long));
+    let order = compare_types(&CedarType::Long, &CedarType::AnySet);
+    assert!(rt; order == Ordering::Less);
     Ok(())
 }
 
-fn attributes_of(ty: CedarType) -> Option<Attributes> {
-    match ty {
-        CedarType::Record { attributes, .. } => Some(attributes),
-        _ => None,
-    }
+#[test]
+fn a_list_is_folded_from_its_first_type(rt: HostRuntime) -> Result<(), Fail> {
+    let alloc = rt.alloc();
+    let mode = ValidationMode::Strict;
+    let any = CedarType::any_set();
+    let longs = CedarType::set(alloc, CedarType::primitive_long())?;
+    let bools = CedarType::set(alloc, CedarType::primitive_boolean())?;
+    let found = CedarType::reduce_to_least_upper_bound(alloc, &[&any, &longs, &bools], mode)?;
+    assert!(rt; found.as_ref() == Some(&any));
+    let found = CedarType::reduce_to_least_upper_bound(alloc, &[&longs, &bools, &any], mode)?;
+    assert!(rt; found.is_none());
+    let found = CedarType::least_upper_bound(alloc, &longs, &any, mode)?;
+    assert!(rt; found.as_ref() == Some(&any));
+    assert!(rt; CedarType::is_subtype(alloc, &bools, &any, mode)?);
+    Ok(())
 }
 
-/// The attributes of a record that has one, `a`.
-fn one_attribute(alloc: Global) -> Result<Attributes, Fail> {
-    let ty = field(alloc, "a", CedarType::Long, false, CLOSED)?;
-    Ok(attributes_of(ty).ok_or("a record")?)
+#[test]
+fn only_sets_of_entity_types_are_disjoint(rt: HostRuntime) -> Result<(), Fail> {
+    let alloc = rt.alloc();
+    let both = entity(alloc, &["a", "b"])?;
+    let [a, c] = [entity(alloc, &["a"])?, entity(alloc, &["c"])?];
+    let [any, never] = [CedarType::any_entity_reference(), CedarType::Never];
+    for (other, want) in [(&a, false), (&c, true), (&any, false), (&never, false)] {
+        assert!(rt;
+            CedarType::are_types_disjoint(&both, other) == want,
+            "{other}"
+        );
+    }
+    Ok(())
 }
 
 #[test]
 fn attributes_are_found_by_name(rt: HostRuntime) -> Result<(), Fail> {
     let alloc = rt.alloc();
-    let attributes = one_attribute(alloc)?;
-    let a = RcStr::from_str(alloc, "a")?;
+    let optional = AttributeType::optional_attribute(CedarType::Long);
+    let attributes = Attributes::from_list(alloc, vec![in alloc; ("a", optional)]?)?.clone()?;
+    let a = text(alloc, "a")?;
+    let b = text(alloc, "b")?;
     let found = attributes.get_attr(&a).ok_or("a")?;
-    assert!(rt; found.attr_type == CedarType::Long);
     assert!(rt; !found.is_required);
-    assert!(rt; found.clone()? == *found);
-    Ok(())
-}
-
-#[test]
-fn other_names_have_no_attribute(rt: HostRuntime) -> Result<(), Fail> {
-    let alloc = rt.alloc();
-    let attributes = one_attribute(alloc)?;
-    let b = RcStr::from_str(alloc, "b")?;
     assert!(rt; attributes.get_attr(&b).is_none());
-    assert!(rt; attributes.clone()? == attributes);
     Ok(())
 }

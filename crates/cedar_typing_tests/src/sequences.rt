@@ -1,150 +1,136 @@
-// What follows up on a list of answers.
-use crate::make::{is_failure, is_limit, knowing, knows, number, typed};
-use cedar_types::base::{CedarType, Expr};
-use cedar_types::types::capability::CapabilitySet;
+// What follows up on a list of answers, which are made as they are taken.
+ghost use Rattle.std.specs.Iterator.{at_most};
+
+use crate::parts::{is_limit, knowing, knows, long, number};
+use cedar_types::base::CedarType;
 use cedar_typing::typecheck::answer::TypecheckAnswer;
 use std::alloc::{AllocError, Global};
+use std::cell::Cell;
 use std::test::Fail;
 
-type Handed<'a> = Vec<(Expr<Option<CedarType>>, CapabilitySet<'a>)>;
-
-/// Whether the numbers of these expressions count up from zero.
-fn count_up(handed: &Handed<'_>) -> bool {
-    handed
-        .iter()
-        .zip(0..)
-        .all(|((expr, _), value)| *expr == number(value))
+/// What stands in a list.
+#[derive(Clone, Copy)]
+enum Item {
+    /// A success that knows that the principal has `x`.
+    Success,
+    Failure,
+    Limit,
+    Refused,
 }
 
-/// Whether the set of each of these knows that the principal has the attribute `x`.
-fn known(alloc: Global, handed: &Handed<'_>) -> Result<Vec<bool>, AllocError> {
-    let mut all = Vec::new(alloc);
-    for (_, set) in handed {
-        all.push(knows(alloc, set, "x")?)?;
+/// The items in order; each answer's number is that of its item. It counts how often it is asked for one.
+#[derive(Drop)]
+struct Answers<'a> {
+    alloc: Global,
+    items: &'a [Item],
+    left: usize,
+    asked: &'a Cell<i64>,
+}
+
+impl<'a> Iterator for Answers<'a> {
+    type Item = Result<TypecheckAnswer<'a>, AllocError>;
+
+    ghost remaining = { λ s. at_most s.left };
+
+    fn next(&mut self) -> Option<Result<TypecheckAnswer<'a>, AllocError>> {
+        let number = self.asked.get();
+        self.asked.set(number.wrapping_add(1));
+        if self.left == 0 {
+            return None;
+        }
+        self.left -= 1;
+        let (item, rest) = self.items.split_first()?;
+        self.items = rest;
+        Some(answer(self.alloc, *item, number))
     }
-    Ok(all)
 }
 
-#[test]
-fn successes_are_handed_on_in_order(rt: HostRuntime) -> Result<(), Fail> {
-    let alloc = rt.alloc();
-    let set = knowing(alloc, "x")?;
-    let answers = vec![in alloc;
-        Ok(TypecheckAnswer::success(alloc, number(0))),
-        Ok(TypecheckAnswer::success_with_capability(number(1), set)),
-    ]?;
-    let mut in_order = false;
-    let mut all_known = Vec::new(alloc);
+fn answer<'a>(alloc: Global, item: Item, value: i64) -> Result<TypecheckAnswer<'a>, AllocError> {
+    match item {
+        Item::Success => {
+            let set = knowing(alloc, "x")?;
+            Ok(TypecheckAnswer::success_with_capability(long(value), set))
+        }
+        Item::Failure => Ok(TypecheckAnswer::fail(long(value))),
+        Item::Limit => Ok(TypecheckAnswer::RecursionLimit),
+        Item::Refused => Err(AllocError),
+    }
+}
+
+/// Which answers these items hand on, each by its number and, where it knows `x`, an x, how many items are asked for, and what
+/// the answer is.
+fn sequenced(alloc: Global, items: &[Item]) -> Result<String, AllocError> {
+    let asked = Cell::new(0);
+    let answers = Answers {
+        alloc,
+        items,
+        left: items.len(),
+        asked: &asked,
+    };
+    let mut shown = String::from_str(alloc, "not called")?;
     let answer = TypecheckAnswer::sequence_all_then_typecheck(alloc, answers, |handed| {
-        in_order = count_up(&handed);
-        all_known = known(alloc, &handed)?;
-        Ok(TypecheckAnswer::success(alloc, typed(CedarType::String)))
-    })?;
-    assert!(rt; in_order);
-    assert_eq!(rt; all_known.as_slice(), [false, true].as_slice());
-    assert!(rt; answer.typechecked());
-    assert!(rt; answer.contains_type(&CedarType::String));
-    Ok(())
-}
-
-#[test]
-fn one_failure_makes_the_answer_a_failure(rt: HostRuntime) -> Result<(), Fail> {
-    let alloc = rt.alloc();
-    let set = knowing(alloc, "x")?;
-    let answers = vec![in alloc;
-        Ok(TypecheckAnswer::success_with_capability(number(0), set)),
-        Ok(TypecheckAnswer::fail(number(1))),
-        Ok(TypecheckAnswer::success(alloc, number(2))),
-    ]?;
-    let mut in_order = false;
-    let mut all_known = Vec::new(alloc);
-    let answers = answers.into_iter();
-    let answer = TypecheckAnswer::sequence_all_then_typecheck(alloc, answers, |handed| {
-        in_order = count_up(&handed);
-        all_known = known(alloc, &handed)?;
-        Ok(TypecheckAnswer::success(alloc, typed(CedarType::String)))
-    })?;
-    assert!(rt; in_order);
-    assert_eq!(rt; all_known.as_slice(), [true, false, false].as_slice());
-    assert!(rt; is_failure(&answer));
-    assert!(rt; answer.contains_type(&CedarType::String));
-    Ok(())
-}
-
-#[test]
-fn no_answers_hand_on_nothing(rt: HostRuntime) -> Result<(), Fail> {
-    let alloc = rt.alloc();
-    let mut count = None;
-    let answer = TypecheckAnswer::sequence_all_then_typecheck(alloc, Vec::new(alloc), |handed| {
-        count = Some(handed.len());
-        Ok(TypecheckAnswer::success(alloc, typed(CedarType::String)))
-    })?;
-    assert!(rt; answer.typechecked());
-    assert_eq!(rt; count, Some(0));
-    Ok(())
-}
-
-#[test]
-fn after_a_limit_nothing_is_taken(rt: HostRuntime) -> Result<(), Fail> {
-    let alloc = rt.alloc();
-    let answers = vec![in alloc;
-        Ok(TypecheckAnswer::fail(number(0))),
-        Ok(TypecheckAnswer::success(alloc, number(1))),
-        Ok(TypecheckAnswer::RecursionLimit),
-        Err(AllocError),
-    ]?;
-    let mut calls = 0;
-    let mut count = None;
-    let answer = TypecheckAnswer::sequence_all_then_typecheck(alloc, answers, |handed| {
-        calls += 1;
-        count = Some(handed.len());
-        Ok(TypecheckAnswer::success(alloc, typed(CedarType::String)))
-    })?;
-    assert!(rt; is_limit(&answer));
-    assert_eq!(rt; calls, 1);
-    assert_eq!(rt; count, Some(2));
-    Ok(())
-}
-
-#[test]
-fn an_error_before_a_limit_is_the_answer(rt: HostRuntime) -> Result<(), Fail> {
-    let alloc = rt.alloc();
-    let answers = vec![in alloc;
-        Ok(TypecheckAnswer::success(alloc, number(0))),
-        Err(AllocError),
-        Ok(TypecheckAnswer::RecursionLimit),
-    ]?;
-    let mut calls = 0;
-    let answer = TypecheckAnswer::sequence_all_then_typecheck(alloc, answers, |_| {
-        calls += 1;
-        Ok(TypecheckAnswer::success(alloc, typed(CedarType::String)))
+        shown = String::from_str(alloc, "called with")?;
+        for ((expr, set), value) in handed.into_iter().zip(0..) {
+            let order = if expr == long(value) { "" } else { "?" };
+            let known = if knows(alloc, &set, "x")? { "x" } else { "" };
+            write!(shown, " {order}{value}{known}")?;
+        }
+        Ok(TypecheckAnswer::success(alloc, number(0, Some(CedarType::String))))
     });
-    assert!(rt; answer.is_err());
-    assert_eq!(rt; calls, 0);
+    let ending = match answer {
+        Ok(TypecheckAnswer::TypecheckSuccess { .. }) => "success",
+        Ok(TypecheckAnswer::TypecheckFail { .. }) => "failure",
+        Ok(TypecheckAnswer::RecursionLimit) => "limit",
+        Err(AllocError) => "refused",
+    };
+    write!(shown, "; {} asked for; {ending}", asked.get())?;
+    Ok(shown)
+}
+
+#[test]
+fn answers_are_taken_until_the_first_limit(rt: HostRuntime) -> Result<(), Fail> {
+    let alloc = rt.alloc();
+    for (items, want) in [
+        (
+            &[Item::Success, Item::Success][..],
+            "called with 0x 1x; 3 asked for; success",
+        ),
+        (
+            &[Item::Failure, Item::Success, Item::Success][..],
+            "called with 0 1x 2x; 4 asked for; failure",
+        ),
+        (&[][..], "called with; 1 asked for; success"),
+        (
+            &[Item::Success, Item::Failure, Item::Limit, Item::Refused][..],
+            "called with 0x 1; 3 asked for; limit",
+        ),
+        (
+            &[Item::Limit, Item::Limit][..],
+            "called with; 1 asked for; limit",
+        ),
+        (
+            &[Item::Success, Item::Refused, Item::Limit][..],
+            "not called; 2 asked for; refused",
+        ),
+    ] {
+        let found = sequenced(alloc, items)?;
+        assert_eq!(rt; found.as_str(), want);
+    }
     Ok(())
 }
 
 #[test]
-fn an_error_that_follows_a_limit_is_the_answer(rt: HostRuntime) -> Result<(), Fail> {
+fn what_follows_may_be_a_limit_or_an_error(rt: HostRuntime) -> Result<(), Fail> {
     let alloc = rt.alloc();
-    let answers = vec![in alloc; Ok(TypecheckAnswer::RecursionLimit)]?;
-    let mut calls = 0;
-    let answer = TypecheckAnswer::sequence_all_then_typecheck(alloc, answers, |_| {
-        calls += 1;
-        Err(AllocError)
-    });
-    assert!(rt; answer.is_err());
-    assert_eq!(rt; calls, 1);
-    Ok(())
-}
-
-#[test]
-fn a_limit_that_follows_stays(rt: HostRuntime) -> Result<(), Fail> {
-    let alloc = rt.alloc();
-    let answers = vec![in alloc; Ok(TypecheckAnswer::fail(number(0)))]?;
-    let answer = TypecheckAnswer::sequence_all_then_typecheck(alloc, answers, |_| {
-        Ok(TypecheckAnswer::RecursionLimit)
-    })?;
+    let failures = vec![in alloc; Ok(TypecheckAnswer::fail(long(0)))]?;
+    let answer = TypecheckAnswer::sequence_all_then_typecheck(
+        alloc,
+        failures,
+        |_| Ok(TypecheckAnswer::RecursionLimit),
+    )?;
     assert!(rt; is_limit(&answer));
+    let limits = vec![in alloc; Ok(TypecheckAnswer::RecursionLimit)]?;
+    let answer = TypecheckAnswer::sequence_all_then_typecheck(alloc, limits, |_| Err(AllocError));
+    assert!(rt; answer.is_err());
     Ok(())
 }

@@ -1,0 +1,151 @@
+// Declarations of schemas as data.
+use crate::parts::{entity_type, text, types, uid};
+use cedar_types::base::{
+    AttributeType, Attributes, CedarType, SchemaError, StandardValidatorEntityType,
+    ValidatorActionId, ValidatorActionKind, ValidatorApplySpec, ValidatorEntityType,
+    ValidatorEntityTypeKind, ValidatorSchema,
+};
+use std::alloc::{AllocError, Global};
+use std::collections::BTreeSet;
+use std::rc::Rc;
+
+/// A declaration: its name, the names of its descendants, and what it is.
+pub struct Declared(pub &'static str, pub &'static [&'static str], pub Kind);
+
+/// What is declared.
+#[derive(Clone, Copy)]
+pub enum Kind {
+    /// An entity type without attributes and tags.
+    Plain,
+    /// An entity type of whose entities nothing is known.
+    External,
+    /// An entity type of these ids alone.
+    Enum(&'static [&'static str]),
+    /// An entity type with an attribute `x` of the type Never, which says nothing.
+    Vague,
+    /// An external action, of a type of this name.
+    Action(&'static str),
+}
+
+fn type_kind(alloc: Global, kind: Kind) -> Result<ValidatorEntityTypeKind, AllocError> {
+    match kind {
+        Kind::Enum(ids) => {
+            let mut members = Vec::new(alloc);
+            for id in ids {
+                members.push(text(alloc, id)?)?;
+            }
+            Ok(ValidatorEntityTypeKind::Enum(members))
+        }
+        Kind::External => Ok(ValidatorEntityTypeKind::External),
+        Kind::Vague => {
+            let never = AttributeType::required_attribute(CedarType::Never);
+            standard(alloc, vec![in alloc; ("x", never)]?, None)
+        }
+        Kind::Plain | Kind::Action(_) => standard(alloc, Vec::new(alloc), None),
+    }
+}
+
+/// Entities with these attributes and tags.
+pub fn standard(
+    alloc: Global,
+    attributes: Vec<(&str, AttributeType)>,
+    tags: Option<CedarType>,
+) -> Result<ValidatorEntityTypeKind, AllocError> {
+    Ok(ValidatorEntityTypeKind::Standard(StandardValidatorEntityType {
+        attributes: Attributes::from_list(alloc, attributes)?,
+        tags,
+    }))
+}
+
+fn type_of(alloc: Global, declared: &Declared) -> Result<ValidatorEntityType, AllocError> {
+    let Declared(name, below, kind) = declared;
+    Ok(ValidatorEntityType {
+        name: entity_type(alloc, name)?,
+        descendants: types(alloc, below)?,
+        kind: type_kind(alloc, *kind)?,
+    })
+}
+
+/// A type of this kind, without descendants.
+pub fn declare(
+    alloc: Global,
+    name: &str,
+    kind: ValidatorEntityTypeKind,
+) -> Result<ValidatorEntityType, AllocError> {
+    Ok(ValidatorEntityType {
+        name: entity_type(alloc, name)?,
+        descendants: BTreeSet::new(alloc),
+        kind,
+    })
+}
+
+/// An external action, of a type of this name; its descendants are of the type `Action`.
+fn action_of(
+    alloc: Global,
+    declared: &Declared,
+    type_name: &str,
+) -> Result<ValidatorActionId, AllocError> {
+    let Declared(eid, below, _) = declared;
+    let mut descendants = BTreeSet::new(alloc);
+    for eid in *below {
+        descendants.insert(uid(alloc, "Action", eid)?)?;
+    }
+    Ok(ValidatorActionId {
+        name: uid(alloc, type_name, eid)?,
+        descendants,
+        kind: ValidatorActionKind::External,
+    })
+}
+
+/// The action `view` of principals and resources of these types.
+pub fn view(
+    alloc: Global,
+    principals: &[&str],
+    resources: &[&str],
+    context: CedarType,
+) -> Result<ValidatorActionId, AllocError> {
+    let applies_to = ValidatorApplySpec {
+        principal_apply_spec: types(alloc, principals)?,
+        resource_apply_spec: types(alloc, resources)?,
+        context: Rc::new(alloc, context)?,
+    };
+    Ok(ValidatorActionId {
+        name: uid(alloc, "Action", "view")?,
+        descendants: BTreeSet::new(alloc),
+        kind: ValidatorActionKind::Defined(applies_to),
+    })
+}
+
+/// What a schema is made of.
+#[derive(Drop)]
+struct Declarations {
+    types: Vec<ValidatorEntityType>,
+    actions: Vec<ValidatorActionId>,
+}
+
+impl Declarations {
+    fn add(&mut self, alloc: Global, declared: &Declared) -> Result<(), AllocError> {
+        match declared.2 {
+            Kind::Action(type_name) => {
+                self.actions.push(action_of(alloc, declared, type_name)?)?;
+            }
+            _ => self.types.push(type_of(alloc, declared)?)?,
+        }
+        Ok(())
+    }
+}
+
+/// The schema of these declarations.
+pub fn schema(alloc: Global, lists: &[&[Declared]]) -> Result<ValidatorSchema, SchemaError> {
+    let mut all = Declarations {
+        types: Vec::new(alloc),
+        actions: Vec::new(alloc),
+    };
+    for list in lists {
+        for declared in *list {
+            all.add(alloc, declared)?;
+        }
+    }
+    let Declarations { types, actions } = all;
+    ValidatorSchema::new(alloc, types, actions)
+}

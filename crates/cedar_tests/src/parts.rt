@@ -1,0 +1,64 @@
+// Values that the tests share, written short.
+use cedar_types::base::{
+    CedarType, EntityKind, EntityLUB, EntityType, EntityUID, Loc, Name, PolicyID,
+};
+use std::alloc::{AllocError, Global};
+use std::collections::BTreeSet;
+use std::fmt::Display;
+use std::process::Abort;
+use std::rc::RcStr;
+
+pub fn text(alloc: Global, s: &str) -> Result<RcStr, AllocError> {
+    RcStr::from_str(alloc, s)
+}
+
+pub fn place(start: usize) -> Option<Loc> {
+    Some(Loc { start, end: 90 })
+}
+
+pub fn policy(alloc: Global) -> Result<PolicyID, AllocError> {
+    PolicyID::from_string(alloc, "policy0")
+}
+
+/// The type of this name, which may have one part of a path, without a place.
+pub fn entity_type(alloc: Global, name: &str) -> Result<EntityType, AllocError> {
+    let name = match name.rsplit_once("::") {
+        Some((part, basename)) => Name::new(alloc, basename, &[part])?,
+        None => Name::unqualified_name(alloc, name)?,
+    };
+    Ok(EntityType::new(name, None))
+}
+
+pub fn uid(alloc: Global, basename: &str, eid: &str) -> Result<EntityUID, AllocError> {
+    EntityUID::from_components(alloc, entity_type(alloc, basename)?, eid, None)
+}
+
+pub fn types(alloc: Global, names: &[&str]) -> Result<BTreeSet<EntityType>, AllocError> {
+    let mut types = BTreeSet::new(alloc);
+    for name in names {
+        types.insert(entity_type(alloc, name)?)?;
+    }
+    Ok(types)
+}
+
+/// The set of the types of these names, of which there is one at least.
+pub fn lub(alloc: Global, names: &[&str]) -> Result<EntityLUB, AllocError> {
+    EntityLUB::from_types(alloc, types(alloc, names)?)?.ok_or(AllocError)
+}
+
+/// The type of the entities of the types of these names.
+pub fn entity(alloc: Global, names: &[&str]) -> Result<CedarType, AllocError> {
+    Ok(CedarType::Entity(EntityKind::Entity(lub(alloc, names)?)))
+}
+
+/// The value is shown so.
+pub fn shows<T: Display + Drop>(
+    rt: &impl Abort,
+    alloc: Global,
+    value: T,
+    want: &str,
+) -> Result<(), AllocError> {
+    let shown = value.to_string(alloc)?;
+    assert_eq!(rt; shown.as_str(), want);
+    Ok(())
+}

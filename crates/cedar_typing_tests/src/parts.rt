@@ -1,0 +1,42 @@
+// Typed expressions, sets of capabilities and answers, written short.
+use cedar_types::base::{CedarType, Expr, ExprKind, Literal, Var};
+use cedar_types::types::capability::{Capability, CapabilitySet};
+use cedar_typing::typecheck::answer::TypecheckAnswer;
+use std::alloc::{AllocError, Global};
+use std::rc::RcStr;
+
+/// A literal number with this type.
+pub fn number(value: i64, annotation: Option<CedarType>) -> Expr<Option<CedarType>> {
+    Expr {
+        annotation,
+        loc: None,
+        kind: ExprKind::Lit(Literal::Long(value)),
+    }
+}
+
+/// A literal number, typed as a long.
+pub fn long(value: i64) -> Expr<Option<CedarType>> {
+    number(value, Some(CedarType::Long))
+}
+
+/// That the principal has the attribute `attr`, alone.
+pub fn knowing<'a>(alloc: Global, attr: &str) -> Result<CapabilitySet<'a>, AllocError> {
+    let attr = RcStr::from_str(alloc, attr)?;
+    let principal = Expr::var(Var::Principal);
+    CapabilitySet::singleton(alloc, Capability::new_attribute_owned(principal, attr))
+}
+
+/// Whether it is known that the principal has the attribute `attr`.
+pub fn knows(alloc: Global, set: &CapabilitySet<'_>, attr: &str) -> Result<bool, AllocError> {
+    let attr = RcStr::from_str(alloc, attr)?;
+    let principal = Expr::var(Var::Principal);
+    Ok(set.contains(&Capability::new_attribute_owned(principal, attr)))
+}
+
+pub fn is_failure(answer: &TypecheckAnswer<'_>) -> bool {
+    matches!(answer, TypecheckAnswer::TypecheckFail { .. })
+}
+
+pub fn is_limit(answer: &TypecheckAnswer<'_>) -> bool {
+    matches!(answer, TypecheckAnswer::RecursionLimit)
+}
