@@ -1,0 +1,10 @@
+// Case files: which policies they ask about, and what they want of them.
+mod answers;
+mod columns;
+mod files;
+mod report;
+#[cfg(test)]
+mod tests;
+
+pub use files::{CaseFile, FileFault};
+pub use report::{Tally, run_cases};

@@ -1,0 +1,109 @@
+// The lines of a case file.
+use crate::cases::columns::{Column, Wanted};
+use std::alloc::{AllocError, Global};
+
+/// A piece of a line, and the byte of the line at which it begins.
+#[derive(Clone, Copy, Debug)]
+pub struct Field<'a> {
+    pub text: &'a str,
+    pub start: usize,
+}
+
+/// A case: a policy, and what is wanted of it.
+#[derive(Drop)]
+pub struct Case<'a> {
+    /// Its line in the file, from 1 on.
+    pub number: usize,
+    pub line: &'a str,
+    pub scope: Field<'a>,
+    pub condition: Field<'a>,
+    pub wanted: Vec<(Wanted, &'a str)>,
+}
+
+/// A case file.
+#[derive(Drop)]
+pub struct CaseFile<'a> {
+    /// The name of the schema's file, which lies beside it.
+    pub schema: &'a str,
+    pub columns: Vec<Column>,
+    /// The lines after the names of the columns.
+    pub lines: &'a str,
+}
+
+/// What is wrong with the first two lines of a case file.
+#[derive(Clone, Copy, Debug, PartialEq, Eq)]
+pub enum FileFault {
+    /// The first line is not `schema`, a tab and a name.
+    NoSchema,
+    /// The second line has a name that no column has, as its field of this number, from 1 on.
+    NoColumn(usize),
+}
+
+/// What a field says that asks nothing.
+const NOT_ASKED: &str = "?";
+
+/// How many lines there are before the cases.
+const HEAD: usize = 2;
+
+impl<'a> CaseFile<'a> {
+    /// Reads the first two lines: the schema, and the names of the columns.
+    pub fn new(
+        alloc: Global,
+        text: &'a str,
+    ) -> Result<Result<CaseFile<'a>, FileFault>, AllocError> {
+        let (first, rest) = text.split_once('\n').unwrap_or((text, ""));
+        let (names, lines) = rest.split_once('\n').unwrap_or((rest, ""));
+        let Some(schema) = first.strip_prefix("schema\t") else {
+            return Ok(Err(FileFault::NoSchema));
+        };
+        let mut columns = Vec::new(alloc);
+        for name in names.split('\t') {
+            let Some(column) = Column::named(name) else {
+                let number = columns.len().saturating_add(1);
+                return Ok(Err(FileFault::NoColumn(number)));
+            };
+            columns.push(column)?;
+        }
+        Ok(Ok(CaseFile {
+            schema,
+            columns,
+            lines,
+        }))
+    }
+
+    /// The cases: the lines that neither are empty nor begin with `#`.
+    pub fn cases(&self, alloc: Global) -> Result<Vec<Case<'a>>, AllocError> {
+        let mut cases = Vec::new(alloc);
+        let mut number = HEAD;
+        for line in self.lines.split('\n') {
+            number = number.saturating_add(1);
+            if !line.is_empty() && !line.starts_with('#') {
+                cases.push(self.case(alloc, number, line)?)?;
+            }
+        }
+        Ok(cases)
+    }
+
+    fn case(&self, alloc: Global, number: usize, line: &'a str) -> Result<Case<'a>, AllocError> {
+        let nothing = Field { text: "", start: 0 };
+        let mut case = Case {
+            number,
+            line,
+            scope: nothing,
+            condition: nothing,
+            wanted: Vec::new(alloc),
+        };
+        let mut start: usize = 0;
+        for (column, text) in self.columns.iter().zip(line.split('\t')) {
+            match column {
+                Column::About => {}
+                Column::Scope => case.scope = Field { text, start },
+                Column::Condition => case.condition = Field { text, start },
+                Column::Wanted(_) if text == NOT_ASKED => {}
+                Column::Wanted(wanted) => case.wanted.push((*wanted, text))?,
+            }
+            start = start.saturating_add(text.len()).saturating_add(1);
+        }
+        Ok(case)
+    }
+}

@@ -1,0 +1,137 @@
+// What came of the cases of a file.
+use crate::cases::answers::{answers, in_order};
+use crate::cases::files::{Case, CaseFile, Field};
+use crate::reading::{Fault, ReadError, condition, policy, scope_alone};
+use crate::shown::unbuilt_form;
+use cedar_types::base::{Template, ValidatorSchema};
+use std::alloc::{AllocError, Global};
+use std::collections::BTreeMap;
+use std::io;
+use std::io::Write;
+
+/// How many cases of a file ended how.
+#[derive(Drop)]
+pub struct Tally {
+    /// Those that ran.
+    pub ran: usize,
+    /// Those of them that differ, and those that cannot be read.
+    pub wrong: usize,
+    /// Those that were skipped, by the form that has no rule yet.
+    pub skipped: BTreeMap<&'static str, usize>,
+}
+
+/// What came of a case.
+#[derive(Clone, Copy, PartialEq, Eq, Debug)]
+enum End {
+    Agrees,
+    Wrong,
+    Skipped(&'static str),
+}
+
+/// Runs each case of a file, and writes those that differ or cannot be read.
+pub fn run_cases<W: Write>(
+    alloc: Global,
+    name: &str,
+    file: &CaseFile<'_>,
+    schema: &ValidatorSchema,
+    out: &mut W,
+) -> io::Result<Tally> {
+    let mut tally = Tally {
+        ran: 0,
+        wrong: 0,
+        skipped: BTreeMap::new(alloc),
+    };
+    for case in file.cases(alloc)? {
+        match run_case(alloc, name, &case, schema, out)? {
+            End::Agrees => tally.ran = tally.ran.saturating_add(1),
+            End::Wrong => {
+                tally.ran = tally.ran.saturating_add(1);
+                tally.wrong = tally.wrong.saturating_add(1);
+            }
+            End::Skipped(form) => {
+                let count = tally.skipped.entry(form)?.or_insert(0);
+                *count = count.saturating_add(1);
+            }
+        }
+    }
+    Ok(tally)
+}
+
+fn run_case<W: Write>(
+    alloc: Global,
+    name: &str,
+    case: &Case<'_>,
+    schema: &ValidatorSchema,
+    out: &mut W,
+) -> io::Result<End> {
+    let policy = match policy_of(alloc, case)? {
+        Ok(policy) => policy,
+        Err((at, fault)) => {
+            let column = column_at(case.line, at);
+            writeln!(out, "{name}:{}:{column}: {fault}", case.number)?;
+            return Ok(End::Wrong);
+        }
+    };
+    if let Some(form) = unbuilt_in(alloc, &policy)? {
+        return Ok(End::Skipped(form));
+    }
+    let mut end = End::Agrees;
+    for (asked, wanted) in &case.wanted {
+        let wanted = in_order(alloc, wanted)?;
+        let got = answers(alloc, schema, &policy, case.condition.text, *asked)?;
+        if got != wanted {
+            let column = asked.name();
+            writeln!(out, "{name}:{}: {column}: wanted {wanted}", case.number)?;
+            writeln!(out, "{name}:{}: {column}: got {got}", case.number)?;
+            end = End::Wrong;
+        }
+    }
+    Ok(end)
+}
+
+/// The name of a form in a policy's condition that has no rule of typing yet.
+fn unbuilt_in(alloc: Global, policy: &Template) -> Result<Option<&'static str>, AllocError> {
+    let found = unbuilt_form(alloc, &policy.scope_condition(alloc)?)?;
+    match &policy.non_scope_constraints {
+        Some(rest) if found.is_none() => unbuilt_form(alloc, rest),
+        _ => Ok(found),
+    }
+}
+
+/// The policy of a case, or the byte of its line at which it cannot be read.
+fn policy_of(
+    alloc: Global,
+    case: &Case<'_>,
+) -> Result<Result<Template, (usize, Fault)>, AllocError> {
+    let scope = match scope_alone(alloc, case.scope.text) {
+        Ok(scope) => scope,
+        Err(error) => return fault_in(case.scope, error),
+    };
+    let mut rest = None;
+    if !case.condition.text.is_empty() {
+        match condition(alloc, case.condition.text) {
+            Ok(read) => rest = Some(read),
+            Err(error) => return fault_in(case.condition, error),
+        }
+    }
+    Ok(Ok(policy(alloc, scope, rest)?))
+}
+
+fn fault_in(
+    field: Field<'_>,
+    error: ReadError,
+) -> Result<Result<Template, (usize, Fault)>, AllocError> {
+    match error {
+        ReadError::Memory(error) => Err(error),
+        ReadError::At(at, fault) => Ok(Err((field.start.saturating_add(at), fault))),
+    }
+}
+
+/// The column of a byte of a line, in characters, from 1 on.
+pub fn column_at(line: &str, at: usize) -> usize {
+    line.get(..at)
+        .unwrap_or(line)
+        .chars()
+        .count()
+        .saturating_add(1)
+}

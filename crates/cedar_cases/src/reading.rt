@@ -1,0 +1,19 @@
+// Policies and schemas as texts: a notation for cases, with a fault and its place for what cannot be read.
+mod cursor;
+mod expressions;
+mod faults;
+mod members;
+mod names;
+mod operators;
+mod parts;
+mod schemas;
+mod scopes;
+#[cfg(test)]
+mod tests;
+mod texts;
+mod tokens;
+
+pub use cursor::MAX_LENGTH;
+pub use faults::{Fault, ReadError};
+pub use schemas::{SchemaReadError, schema};
+pub use scopes::{condition, policy, scope_alone};

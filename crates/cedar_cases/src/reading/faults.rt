@@ -1,0 +1,44 @@
+// Why a text cannot be read.
+use std::alloc::{AllocError, AllocFailed};
+use thiserror::Error;
+
+/// What is wrong at a place of a text.
+#[derive(Clone, Copy, PartialEq, Eq, Debug, Error)]
+pub enum Fault {
+    /// Parts stand inside each other more than `MAX_NESTING` times.
+    #[error("nested too deep")]
+    TooDeep,
+    /// The text is longer than `MAX_LENGTH`.
+    #[error("too long")]
+    TooLong,
+    #[error("a number out of range")]
+    Number,
+    #[error("a text that does not end, or an escape that is none")]
+    Text,
+    #[error("the same key twice")]
+    SameKey,
+    #[error("a name that is not declared")]
+    Undeclared,
+    /// Something else should stand here.
+    #[error("{0} is expected")]
+    Expected(&'static str),
+}
+
+/// Why a text cannot be read: its first fault, and at which byte it stands; or memory was refused.
+#[derive(Debug, Drop)]
+pub enum ReadError {
+    Memory(AllocError),
+    At(usize, Fault),
+}
+
+impl From<AllocError> for ReadError {
+    fn from(error: AllocError) -> ReadError {
+        ReadError::Memory(error)
+    }
+}
+
+impl<T: Drop> From<AllocFailed<T>> for ReadError {
+    fn from(error: AllocFailed<T>) -> ReadError {
+        ReadError::Memory(AllocError::from(error))
+    }
+}

@@ -1,0 +1,35 @@
+// What is in what, over any number of steps.
+use crate::reading::schemas::declarations::{Declaration, Placed};
+use std::alloc::{AllocError, Global};
+use std::collections::BTreeSet;
+
+/// What is in this name. It is among them itself where it is in one of them.
+pub fn descendants<N: Ord + Clone + Drop, K>(
+    alloc: Global,
+    declared: &[Declaration<N, K>],
+    ancestor: &N,
+) -> Result<BTreeSet<N>, AllocError> {
+    let mut found = BTreeSet::new(alloc);
+    // each round but the last finds the names of another declaration
+    for _ in 0..=declared.len() {
+        let before = found.len();
+        for declaration in declared {
+            if is_below(declaration.parents.as_slice(), ancestor, &found) {
+                for name in &declaration.names {
+                    found.insert(name.clone()?)?;
+                }
+            }
+        }
+        if found.len() == before {
+            break;
+        }
+    }
+    Ok(found)
+}
+
+/// Whether one of the parents is this name, or one of those that are known to be below it.
+fn is_below<N: Ord>(parents: &[Placed<N>], ancestor: &N, below: &BTreeSet<N>) -> bool {
+    parents
+        .iter()
+        .any(|p| p.name == *ancestor || below.contains(&p.name))
+}

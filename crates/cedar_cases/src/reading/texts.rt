@@ -1,0 +1,72 @@
+// What stands in quotes.
+use crate::reading::cursor::Cursor;
+use crate::reading::faults::{Fault, ReadError};
+use crate::reading::tokens::TokenKind;
+use cedar_types::base::PatternElem;
+use std::alloc::Global;
+
+/// Reads a text in quotes: what it says.
+pub fn text(cursor: &mut Cursor<'_>) -> Result<String, ReadError> {
+    let alloc = cursor.alloc;
+    let mut said = String::new(alloc);
+    for part in pattern(cursor)? {
+        match part {
+            PatternElem::Char(c) => said.push(c)?,
+            PatternElem::Wildcard => said.push('*')?,
+        }
+    }
+    Ok(said)
+}
+
+/// Reads a pattern in quotes: a `*` is a wildcard, and `\*` the character.
+pub fn pattern(cursor: &mut Cursor<'_>) -> Result<Vec<PatternElem>, ReadError> {
+    let token = cursor.peek();
+    if token.kind == TokenKind::Unknown {
+        return Err(cursor.fault(Fault::Text));
+    }
+    if token.kind != TokenKind::Text {
+        return Err(cursor.fault(Fault::Expected("a text in quotes")));
+    }
+    let inner = token
+        .text
+        .strip_prefix('"')
+        .and_then(|t| t.strip_suffix('"'));
+    let Some(parts) = unescaped(cursor.alloc, inner.unwrap_or(""))? else {
+        return Err(cursor.fault(Fault::Text));
+    };
+    cursor.take();
+    Ok(parts)
+}
+
+/// The characters of a text, its escapes replaced by what they stand for. `None` where an escape is none.
+fn unescaped(alloc: Global, text: &str) -> Result<Option<Vec<PatternElem>>, ReadError> {
+    let mut parts = Vec::new(alloc);
+    let mut is_escaped = false;
+    for c in text.chars() {
+        match (is_escaped, c) {
+            (false, '\\') => is_escaped = true,
+            (false, '*') => parts.push(PatternElem::Wildcard)?,
+            (false, _) => parts.push(PatternElem::Char(c))?,
+            (true, _) => {
+                let Some(meant) = escape(c) else {
+                    return Ok(None);
+                };
+                parts.push(PatternElem::Char(meant))?;
+                is_escaped = false;
+            }
+        }
+    }
+    Ok(Some(parts))
+}
+
+/// What a character behind a backslash stands for.
+fn escape(c: char) -> Option<char> {
+    match c {
+        '"' | '\\' | '\'' | '*' => Some(c),
+        'n' => Some('\n'),
+        't' => Some('\t'),
+        'r' => Some('\r'),
+        '0' => Some('\0'),
+        _ => None,
+    }
+}

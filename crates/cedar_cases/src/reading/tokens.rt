@@ -1,0 +1,97 @@
+// The smallest parts of a text: words, numbers, texts in quotes, and marks.
+use cedar_types::base::Loc;
+
+/// What a token is.
+#[derive(Clone, Copy, PartialEq, Eq, Debug)]
+pub enum TokenKind {
+    /// A letter or `_`, and letters, digits and `_` behind it.
+    Word,
+    /// Digits.
+    Number,
+    /// What stands in quotes, the quotes included.
+    Text,
+    /// One of `MARKS`.
+    Mark,
+    /// A text without its end, or a character that begins nothing.
+    Unknown,
+    /// The end of the text.
+    End,
+}
+
+/// A token, its text and its place.
+#[derive(Clone, Copy, Debug)]
+pub struct Token<'a> {
+    pub kind: TokenKind,
+    pub text: &'a str,
+    pub place: Loc,
+}
+
+/// The marks. A longer one stands before those that it begins with.
+const MARKS: [&str; 23] = [
+    "==", "<=", "&&", "||", "::", "(", ")", "[", "]", "{", "}", ",", ";", ":", ".", "?", "!", "<",
+    ">", "+", "-", "*", "=",
+];
+
+/// The first token of the text from this byte on, after blanks.
+pub fn token_from(text: &str, from: usize) -> Token<'_> {
+    let rest = text.get(from..).unwrap_or("").trim_start();
+    let start = text.len().saturating_sub(rest.len());
+    let (kind, size) = first_of(rest);
+    let shown = rest.get(..size).unwrap_or(rest);
+    let end = start.saturating_add(shown.len());
+    Token {
+        kind,
+        text: shown,
+        place: Loc { start, end },
+    }
+}
+
+/// What the text begins with, and how many bytes that has.
+fn first_of(text: &str) -> (TokenKind, usize) {
+    match text.chars().next() {
+        None => (TokenKind::End, 0),
+        Some('"') => quoted(text),
+        Some(c) if c.is_ascii_digit() => (TokenKind::Number, digits(text)),
+        Some(c) if is_in_word(c) => (TokenKind::Word, word(text)),
+        Some(c) => mark(text, c),
+    }
+}
+
+fn is_in_word(c: char) -> bool {
+    c.is_alphanumeric() || c == '_'
+}
+
+/// How many bytes the digits at the beginning have.
+fn digits(text: &str) -> usize {
+    text.find(|c: char| !c.is_ascii_digit())
+        .unwrap_or(text.len())
+}
+
+/// How many bytes the word at the beginning has.
+fn word(text: &str) -> usize {
+    text.find(|c: char| !is_in_word(c)).unwrap_or(text.len())
+}
+
+fn mark(text: &str, first: char) -> (TokenKind, usize) {
+    for mark in &MARKS {
+        if text.starts_with(*mark) {
+            return (TokenKind::Mark, mark.len());
+        }
+    }
+    (TokenKind::Unknown, first.len_utf8())
+}
+
+/// A text in quotes: a backslash takes the character behind it along.
+fn quoted(text: &str) -> (TokenKind, usize) {
+    let mut is_escaped = false;
+    for (at, c) in text.char_indices().skip(1) {
+        if is_escaped {
+            is_escaped = false;
+        } else if c == '\\' {
+            is_escaped = true;
+        } else if c == '"' {
+            return (TokenKind::Text, at.saturating_add(1));
+        }
+    }
+    (TokenKind::Unknown, text.len())
+}

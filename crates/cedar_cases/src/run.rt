@@ -1,0 +1,149 @@
+// What the program does, over any files and any two writers.
+use crate::cases::{CaseFile, FileFault, Tally, run_cases};
+use crate::reading::{Fault, MAX_LENGTH, ReadError, SchemaReadError, schema};
+use cedar_types::base::ValidatorSchema;
+use std::alloc::{AllocError, Global};
+use std::io::Write;
+use std::rt::Files;
+use std::{fs, io};
+
+const USAGE: &str = "usage: cedar-cases FILE..\n";
+
+/// Runs the cases of each file, and answers the exit status: 0 where every case that ran agrees, 1 where one differs or
+/// something cannot be read or written, 2 without a file.
+pub fn run<R: Files + AllocGlobal, O: Write, E: Write>(
+    rt: &R,
+    files: &[String],
+    out: &mut O,
+    err: &mut E,
+) -> u8 {
+    if files.is_empty() {
+        return match err.write_all(USAGE.as_bytes()) {
+            Ok(()) => 2,
+            Err(_) => 1,
+        };
+    }
+    match run_files(rt, files, out) {
+        Ok(true) => 0,
+        _ => 1,
+    }
+}
+
+fn run_files<R: Files + AllocGlobal, O: Write>(
+    rt: &R,
+    files: &[String],
+    out: &mut O,
+) -> io::Result<bool> {
+    let mut all_agree = true;
+    for file in files {
+        let agrees = run_file(rt, file.as_str(), out)?;
+        all_agree = all_agree && agrees;
+    }
+    Ok(all_agree)
+}
+
+/// Runs the cases of a file, and answers whether all that ran agree.
+fn run_file<R: Files + AllocGlobal, O: Write>(rt: &R, name: &str, out: &mut O) -> io::Result<bool> {
+    let alloc = rt.alloc();
+    let Some(text) = read(rt, name, out)? else {
+        return Ok(false);
+    };
+    let file = match CaseFile::new(alloc, text.as_str())? {
+        Ok(file) => file,
+        Err(fault) => {
+            write_file_fault(out, name, fault)?;
+            return Ok(false);
+        }
+    };
+    let schema_name = beside(alloc, name, file.schema)?;
+    let Some(schema_text) = read(rt, schema_name.as_str(), out)? else {
+        return Ok(false);
+    };
+    let Some(schema) = read_schema(alloc, schema_name.as_str(), schema_text.as_str(), out)? else {
+        return Ok(false);
+    };
+    let tally = run_cases(alloc, name, &file, &schema, out)?;
+    write_tally(out, name, &tally)?;
+    Ok(tally.wrong == 0)
+}
+
+/// The text of a file. Where it cannot be had, that is written, and the answer is `None`.
+fn read<R: Files + AllocGlobal, O: Write>(
+    rt: &R,
+    name: &str,
+    out: &mut O,
+) -> io::Result<Option<String>> {
+    match fs::read_to_string(rt, name) {
+        Ok(text) if text.len() <= MAX_LENGTH => Ok(Some(text)),
+        Ok(_) => {
+            writeln!(out, "{name}: {}", Fault::TooLong)?;
+            Ok(None)
+        }
+        Err(error) => {
+            writeln!(out, "{name}: {error}")?;
+            Ok(None)
+        }
+    }
+}
+
+/// The name of a file that lies in the folder of another.
+fn beside(alloc: Global, name: &str, other: &str) -> Result<String, AllocError> {
+    match name.rsplit_once('/') {
+        None => String::from_str(alloc, other),
+        Some((folder, _)) => format!(in alloc; "{folder}/{other}"),
+    }
+}
+
+fn write_file_fault<O: Write>(out: &mut O, name: &str, fault: FileFault) -> io::Result<()> {
+    match fault {
+        FileFault::NoSchema => {
+            writeln!(
+                out,
+                "{name}:1:1: `schema`, a tab and the name of a file are expected"
+            )
+        }
+        FileFault::NoColumn(column) => {
+            writeln!(out, "{name}:2:{column}: the name of a column is expected")
+        }
+    }
+}
+
+/// The schema of a text. Where there is none, why is written, and the answer is `None`.
+fn read_schema<O: Write>(
+    alloc: Global,
+    name: &str,
+    text: &str,
+    out: &mut O,
+) -> io::Result<Option<ValidatorSchema>> {
+    match schema(alloc, text) {
+        Ok(schema) => Ok(Some(schema)),
+        Err(SchemaReadError::Refused(fault)) => {
+            writeln!(out, "{name}: {fault}")?;
+            Ok(None)
+        }
+        Err(SchemaReadError::Read(ReadError::Memory(error))) => Err(io::Error::from(error)),
+        Err(SchemaReadError::Read(ReadError::At(at, fault))) => {
+            let before = text.get(..at).unwrap_or(text);
+            let line = before.split('\n').count();
+            let column = before.rsplit('\n').next().unwrap_or("").chars().count();
+            writeln!(out, "{name}:{line}:{}: {fault}", column.saturating_add(1))?;
+            Ok(None)
+        }
+    }
+}
+
+/// A line with how many cases ran and differ, and how many were skipped, by form.
+fn write_tally<O: Write>(out: &mut O, name: &str, tally: &Tally) -> io::Result<()> {
+    write!(out, "{name}: {} ran, {} differ", tally.ran, tally.wrong)?;
+    let mut is_first = true;
+    for (form, count) in &tally.skipped {
+        if is_first {
+            write!(out, "; skipped for want of a rule: ")?;
+        } else {
+            write!(out, ", ")?;
+        }
+        write!(out, "{count} `{form}`")?;
+        is_first = false;
+    }
+    writeln!(out)
+}

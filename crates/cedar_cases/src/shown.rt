@@ -1,0 +1,10 @@
+// What a check answers, as case files write it.
+mod forms;
+mod nodes;
+mod outcomes;
+mod places;
+mod typed;
+
+pub use forms::unbuilt_form;
+pub use outcomes::outcome;
+pub use typed::typed_condition;
