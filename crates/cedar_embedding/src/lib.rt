@@ -1,0 +1,8 @@
+//! A host that admits policies: a schema, some policies, and what it does with each of them.
+#![tactic(auto)]
+
+pub mod admission;
+pub mod policies;
+pub mod schemas;
+#[cfg(test)]
+mod tests;

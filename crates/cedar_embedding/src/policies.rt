@@ -1,0 +1,54 @@
+//! Policies, as the trees that a host's own parser would make of their texts.
+use cedar_types::base::{
+    ActionConstraint, Expr, Loc, PolicyID, PrincipalConstraint, ResourceConstraint, Template, Var,
+};
+use std::alloc::{AllocError, Global};
+
+/// About sharing alone: the context of a view has no `approved`.
+pub const APPROVED_SHARING: &str =
+    "permit(principal, action, resource) when { context has approved && context.approved };";
+
+/// A mark is read that users may not have.
+pub const UNGUARDED: &str = "permit(principal, action, resource) when { principal.vip };";
+
+/// No user has an attribute of this name.
+pub const MISSPELT: &str = "permit(principal, action, resource) when { principal has vlp };";
+
+/// The place at which the text first has this part.
+fn place_in(text: &str, part: &str) -> Option<Loc> {
+    let start = text.find(part)?;
+    let end = start + part.len();
+    Some(Loc { start, end })
+}
+
+/// The policy of this text, with this condition.
+pub fn permit_when(alloc: Global, text: &str, condition: Expr) -> Result<Template, AllocError> {
+    Ok(Template::new(
+        PolicyID::from_string(alloc, "policy0")?,
+        place_in(text, text),
+        PrincipalConstraint::any(),
+        ActionConstraint::any(),
+        ResourceConstraint::any(),
+        Some(condition),
+    ))
+}
+
+/// `context has approved && context.approved`
+pub fn approved_sharing(alloc: Global) -> Result<Template, AllocError> {
+    let test = Expr::has_attr(alloc, Expr::var(Var::Context), "approved")?;
+    let access = Expr::get_attr(alloc, Expr::var(Var::Context), "approved")?;
+    permit_when(alloc, APPROVED_SHARING, Expr::and(alloc, test, access)?)
+}
+
+/// `principal.vip`, at its place
+pub fn unguarded(alloc: Global) -> Result<Template, AllocError> {
+    let access = Expr::get_attr(alloc, Expr::var(Var::Principal), "vip")?;
+    let place = place_in(UNGUARDED, "principal.vip");
+    permit_when(alloc, UNGUARDED, access.with_maybe_source_loc(place))
+}
+
+/// `principal has vlp`
+pub fn misspelt(alloc: Global) -> Result<Template, AllocError> {
+    let test = Expr::has_attr(alloc, Expr::var(Var::Principal), "vlp")?;
+    permit_when(alloc, MISSPELT, test)
+}

@@ -1,0 +1,89 @@
+// What the host does with policies of each kind.
+use crate::admission::{Admission, admit};
+use crate::policies::{
+    APPROVED_SHARING, MISSPELT, UNGUARDED, approved_sharing, misspelt, permit_when, unguarded,
+};
+use crate::schemas::documents;
+use cedar_types::base::{
+    EntityType, EntityUID, Expr, ExtensionSchemas, Literal, Name, Template, Var,
+};
+use std::alloc::Global;
+use std::process::Abort;
+use std::test::Fail;
+
+fn admitted(alloc: Global, policy: &Template, text: &str) -> Result<Admission, Fail> {
+    let schema = documents(alloc)?;
+    let extensions = ExtensionSchemas::default(alloc);
+    Ok(admit(alloc, &schema, &extensions, policy, text)?)
+}
+
+/// The policy is refused for this reason alone.
+fn is_refused(rt: &impl Abort, found: Admission, want: &str) -> Result<(), Fail> {
+    let Admission::Refused(lines) = found else {
+        return Err(Fail::from("not refused"));
+    };
+    assert_eq!(rt; lines.len(), 1);
+    for line in &lines {
+        assert_eq!(rt; line.as_str(), want);
+    }
+    Ok(())
+}
+
+#[test]
+fn a_policy_about_one_of_two_actions_is_admitted(rt: HostRuntime) -> Result<(), Fail> {
+    let alloc = rt.alloc();
+    let policy = approved_sharing(alloc)?;
+    let found = admitted(alloc, &policy, APPROVED_SHARING)?;
+    assert!(rt; matches!(found, Admission::Admitted));
+    Ok(())
+}
+
+#[test]
+fn an_unguarded_access_is_refused_at_its_place(rt: HostRuntime) -> Result<(), Fail> {
+    let alloc = rt.alloc();
+    let policy = unguarded(alloc)?;
+    let found = admitted(alloc, &policy, UNGUARDED)?;
+    is_refused(
+        &rt,
+        found,
+        "43..56 `principal.vip`: for policy `policy0`, access to optional attribute `vip` on `User` is not guarded",
+    )
+}
+
+#[test]
+fn a_policy_that_is_irrelevant_everywhere_never_applies(rt: HostRuntime) -> Result<(), Fail> {
+    let alloc = rt.alloc();
+    let policy = misspelt(alloc)?;
+    let found = admitted(alloc, &policy, MISSPELT)?;
+    assert!(rt; matches!(found, Admission::NeverApplies));
+    Ok(())
+}
+
+#[test]
+fn an_error_counts_where_a_policy_is_irrelevant_too(rt: HostRuntime) -> Result<(), Fail> {
+    let alloc = rt.alloc();
+    let access = Expr::get_attr(alloc, Expr::var(Var::Principal), "vip")?;
+    let condition = Expr::and(alloc, access, Expr::val(Literal::from(false)))?;
+    let policy = permit_when(alloc, "", condition)?;
+    let found = admitted(alloc, &policy, "")?;
+    is_refused(
+        &rt,
+        found,
+        "for policy `policy0`, access to optional attribute `vip` on `User` is not guarded",
+    )
+}
+
+#[test]
+fn a_policy_that_is_refused_without_an_error_has_a_line(rt: HostRuntime) -> Result<(), Fail> {
+    let alloc = rt.alloc();
+    let ghosts = EntityType::from(Name::unqualified_name(alloc, "Ghost")?);
+    let casper = EntityUID::from_components(alloc, ghosts, "casper", None)?;
+    let base = Expr::val(Literal::from(casper));
+    let policy = permit_when(alloc, "", Expr::has_attr(alloc, base, "vip")?)?;
+    let found = admitted(alloc, &policy, "")?;
+    is_refused(
+        &rt,
+        found,
+        "for policy `policy0`, no error says why: an undeclared type or action, an unknown, or too deep a nesting",
+    )
+}
