@@ -3,6 +3,7 @@
 
 pub mod admission;
 pub mod policies;
+pub mod safety;
 pub mod schemas;
 #[cfg(test)]
 mod tests;

@@ -3,10 +3,12 @@ use crate::admission::{Admission, admit};
 use crate::policies::{
     APPROVED_SHARING, MISSPELT, UNGUARDED, approved_sharing, misspelt, permit_when, unguarded,
 };
+use crate::safety::is_safe_in;
 use crate::schemas::documents;
 use cedar_types::base::{
-    EntityType, EntityUID, Expr, ExtensionSchemas, Literal, Name, Template, Var,
+    EntityType, EntityUID, Expr, ExtensionSchemas, Literal, Name, Template, ValidationMode, Var,
 };
+use cedar_typing::typecheck::Typechecker;
 use std::alloc::Global;
 use std::process::Abort;
 use std::test::Fail;
@@ -86,4 +88,23 @@ fn a_policy_that_is_refused_without_an_error_has_a_line(rt: HostRuntime) -> Resu
         found,
         "for policy `policy0`, no error says why: an undeclared type or action, an unknown, or too deep a nesting",
     )
+}
+
+#[test]
+fn a_policy_is_safe_where_it_is_a_success(rt: HostRuntime) -> Result<(), Fail> {
+    let alloc = rt.alloc();
+    let schema = documents(alloc)?;
+    let extensions = ExtensionSchemas::default(alloc);
+    let typechecker = Typechecker::new(&schema, &extensions, ValidationMode::Strict);
+    let sharing = approved_sharing(alloc)?;
+    let refused = unguarded(alloc)?;
+    let mut safe: usize = 0;
+    for env in schema.unlinked_request_envs(ValidationMode::Strict) {
+        if is_safe_in(alloc, &typechecker, &sharing, &env)? {
+            safe = safe.saturating_add(1);
+        }
+        assert!(rt; !is_safe_in(alloc, &typechecker, &refused, &env)?);
+    }
+    assert_eq!(rt; safe, 1);
+    Ok(())
 }
