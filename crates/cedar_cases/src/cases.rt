@@ -3,8 +3,6 @@ mod answers;
 mod columns;
 mod files;
 mod report;
-#[cfg(test)]
-mod tests;
 
 pub use files::{CaseFile, FileFault};
 pub use report::{Tally, run_cases};

@@ -8,8 +8,6 @@ mod operators;
 mod parts;
 mod schemas;
 mod scopes;
-#[cfg(test)]
-mod tests;
 mod texts;
 mod tokens;
 

@@ -7,8 +7,6 @@ mod descendants;
 mod entity_types;
 mod lists;
 mod meanings;
-#[cfg(test)]
-mod tests;
 mod types;
 
 use crate::reading::faults::ReadError;
