@@ -34,7 +34,7 @@ enum Form {
     Get(Part),
 }
 
-fn part(alloc: Global, part: Part) -> Result<Expr, AllocError> {
+fn made(alloc: Global, part: Part) -> Result<Expr, AllocError> {
     match part {
         Part::True => Ok(Expr::val(Literal::from(true))),
         Part::False => Ok(Expr::val(Literal::from(false))),
@@ -60,15 +60,15 @@ fn part(alloc: Global, part: Part) -> Result<Expr, AllocError> {
 
 fn condition(alloc: Global, form: Form) -> Result<Expr, AllocError> {
     match form {
-        Form::And(left, right) => Expr::and(alloc, part(alloc, left)?, part(alloc, right)?),
-        Form::Or(left, right) => Expr::or(alloc, part(alloc, left)?, part(alloc, right)?),
-        Form::Not(operand) => Expr::not(alloc, part(alloc, operand)?),
+        Form::And(left, right) => Expr::and(alloc, made(alloc, left)?, made(alloc, right)?),
+        Form::Or(left, right) => Expr::or(alloc, made(alloc, left)?, made(alloc, right)?),
+        Form::Not(operand) => Expr::not(alloc, made(alloc, operand)?),
         Form::If(test, yes, no) => {
-            let test = part(alloc, test)?;
-            Expr::ite(alloc, test, part(alloc, yes)?, part(alloc, no)?)
+            let test = made(alloc, test)?;
+            Expr::ite(alloc, test, made(alloc, yes)?, made(alloc, no)?)
         }
-        Form::Has(base) => Expr::has_attr(alloc, part(alloc, base)?, "ok"),
-        Form::Get(base) => Expr::get_attr(alloc, part(alloc, base)?, "ok"),
+        Form::Has(base) => Expr::has_attr(alloc, made(alloc, base)?, "ok"),
+        Form::Get(base) => Expr::get_attr(alloc, made(alloc, base)?, "ok"),
     }
 }
 

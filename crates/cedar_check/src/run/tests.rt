@@ -98,7 +98,7 @@ struct Answer {
 }
 
 /// What the rows that are built answer to these words.
-fn answer(alloc: Global, words: &[&str]) -> Result<Answer, AllocError> {
+fn answer_to(alloc: Global, words: &[&str]) -> Result<Answer, AllocError> {
     let words = texts(alloc, words)?;
     let x1 = ExtensionSchemas::default(alloc);
     let x2 = ExtensionSchemas::default(alloc);
@@ -141,10 +141,10 @@ fn check(rt: &impl Abort, words: &[&str], answer: Answer, status: u8, out: &[u8]
 fn each_row_that_is_built_is_as_expected(rt: HostRuntime) -> Result<(), Fail> {
     let mut lines = Vec::new(rt.alloc());
     for (word, line) in BUILT {
-        check(&rt, &[word], answer(rt.alloc(), &[word])?, 0, line);
+        check(&rt, &[word], answer_to(rt.alloc(), &[word])?, 0, line);
         lines.extend_from_slice(line)?;
     }
-    check(&rt, &[], answer(rt.alloc(), &[])?, 0, lines.as_slice());
+    check(&rt, &[], answer_to(rt.alloc(), &[])?, 0, lines.as_slice());
     Ok(())
 }
 
@@ -157,7 +157,7 @@ fn a_word_that_is_no_row_and_a_second_word_get_the_usage(rt: HostRuntime) -> Res
         ["310"].as_slice(),
         ["1", "2"].as_slice(),
     ] {
-        check(&rt, words, answer(rt.alloc(), words)?, 2, b"");
+        check(&rt, words, answer_to(rt.alloc(), words)?, 2, b"");
     }
     Ok(())
 }
