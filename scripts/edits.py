@@ -115,10 +115,7 @@ def batches(bodies):
     return found
 
 
-def chosen(named, words):
-    """The edits that are to be tried, by their names, and the names of mutations/named.txt that no edit has."""
+def chosen(words):
+    """The edits that are to be tried, by their names: all, or those whose path has one of the words."""
     every = {str(path.relative_to(MUTATIONS).with_suffix("")): path for path in sorted(MUTATIONS.rglob("*.edit"))}
-    names = (MUTATIONS / "named.txt").read_text(encoding="utf8").split() if named else []
-    known = {path.stem for path in [*every.values(), *TOP.glob("crates/*/must-fail/*.edit")]}
-    found = {name: path for name, path in every.items() if not words or any(word in name for word in words)}
-    return {name: path for name, path in found.items() if not named or path.stem in names}, [it for it in names if it not in known]
+    return {name: path for name, path in every.items() if not words or any(word in name for word in words)}

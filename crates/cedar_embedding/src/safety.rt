@@ -1,8 +1,8 @@
 //! What the promise of a check gives to a host.
 ghost use Rattle.std.specs.Prelude.{◌≡◌, true, IfOk};
 ghost use Rattle.cedar_types.specs.Templates.{template_of, condition_of};
-ghost use Rattle.cedar_typing.specs.Checks.{setting_for};
-ghost use Rattle.cedar_typing.specs.Conforming.{table_of};
+ghost use Rattle.cedar_typing.specs.Evaluation.Conformance.{table_of};
+ghost use Rattle.cedar_typing.specs.CheckViews.{env_for};
 ghost use Rattle.cedar_embedding.specs.Safety.{IsSafeToEvaluate};
 
 use cedar_types::base::Template;
@@ -19,7 +19,7 @@ pub fn is_safe_in(
 ) -> Result<bool, AllocError>
     ensures { IfOk result (λ safe.
         safe ≡ true
-        → IsSafeToEvaluate (setting_for typechecker.now policy.now env.now)
+        → IsSafeToEvaluate (env_for typechecker.now policy.now env.now)
         (table_of typechecker.now.extensions.now)
         (condition_of (template_of policy.now))) }
 {

@@ -8,13 +8,13 @@ use Rattle.cedar_types.specs.declared.base.types.Attributes.{Attributes}
 use Rattle.cedar_types.specs.declared.base.types.OpenTag.{OpenTag}
 use Rattle.cedar_types.specs.Types.{Ty, TRecord, Attrs, no_attrs, attr, is_open_tag, ty_step, attribute_step, attributes_step, ty_of, attributes_of}
 use Rattle.cedar_types.specs.Bounds.{common_attrs}
-use Rattle.cedar_typing.specs.Settings.{accepts, an_object}
+use Rattle.cedar_typing.specs.TypeTests.{accepts, object_types}
 
 none_common : (xs : Attrs) → common_attrs Permissive xs no_attrs ≡ no_attrs
 none_common no_attrs = refl
 none_common (attr k t r xs) = none_common xs
 
-pub record_accepted : (xs : Attrs) (o : Bool) → accepts an_object (TRecord xs o) ≡ true
+pub record_accepted : (xs : Attrs) (o : Bool) → accepts object_types (TRecord xs o) ≡ true
 record_accepted no_attrs true = refl
 record_accepted no_attrs false = refl
 record_accepted (attr k t r xs) true = rw (none_common xs) refl
@@ -24,5 +24,5 @@ record_is : (a : Attributes) (o : OpenTag) → ty_of (Record a o) ≡ TRecord (a
 record_is a o = ap ty_of (sym (rolls-Record a o)) ∙ fold-roll-CedarType Ty (Ty × Bool) Attrs ty_step attribute_step attributes_step (layer.Record a o)
 
 -- also one of the program
-pub record_is_object : (t : CedarType) (a : Attributes) (o : OpenTag) → t ≡ Record a o → true ≡ accepts an_object (ty_of t)
-record_is_object t a o h = sym (ap (λ t. accepts an_object (ty_of t)) h ∙ ap (accepts an_object) (record_is a o) ∙ record_accepted (attributes_of a) (is_open_tag o))
+pub record_is_object : (t : CedarType) (a : Attributes) (o : OpenTag) → t ≡ Record a o → true ≡ accepts object_types (ty_of t)
+record_is_object t a o h = sym (ap (λ t. accepts object_types (ty_of t)) h ∙ ap (accepts object_types) (record_is a o) ∙ record_accepted (attributes_of a) (is_open_tag o))

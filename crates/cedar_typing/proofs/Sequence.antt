@@ -5,26 +5,26 @@ use Rattle.std.specs.Iterator.{Yields}
 use Rattle.cedar_types.specs.Capability.{caps, HasNone}
 use Rattle.cedar_types.specs.declared.types.capability.CapabilitySet.{CapabilitySet}
 use Rattle.cedar_typing.specs.Answer.{TypedExpr, Answered, AllHandOn, AreHanded, none_failed}
-use Rattle.cedar_typing.specs.Plain.{HandsOn, Gathers}
+use Rattle.cedar_typing.specs.Views.{HandsOn, Gathers}
+use Rattle.cedar_typing.proofs.Basics.{some_is, none_is}
 use Rattle.cedar_typing.specs.declared.typecheck.sequence.Gathered.{Gathered}
-use Rattle.cedar_typing.specs.declared.typecheck.answer.Part.{Part}
+use Rattle.cedar_typing.specs.declared.typecheck.answer.Part.{Part as TypedPart}
 use Rattle.cedar_typing.specs.declared.typecheck.answer.TypecheckAnswer.{TypecheckAnswer}
 use Rattle.cedar_typing.specs.declared.typecheck.answer.TypecheckAnswer.TheVariants.{TypecheckSuccess, TypecheckFail, RecursionLimit}
-use Rattle.cedar_typing.proofs.Basics.{some_is, none_is}
 
 -- what one more answer hands on
-pub record OneMore (a : TypecheckAnswer) (p : Part) : Type 0 where
+pub record OneMore (a : TypecheckAnswer) (p : TypedPart) : Type 0 where
   pub hands_on : AllHandOn (Ok a ∷ [])
   pub handed : AreHanded (Ok a ∷ []) ((p.typed, p.capabilities) ∷ [])
-  pub is_good : none_failed (Ok a ∷ []) ≡ p.is_good
+  pub succeeded : none_failed (Ok a ∷ []) ≡ p.succeeded
 
-pub one_more : (a : TypecheckAnswer) (p : Part) → HandsOn a (Some p) → OneMore a p
+pub one_more : (a : TypecheckAnswer) (p : TypedPart) → HandsOn a (Some p) → OneMore a p
 one_more (TypecheckSuccess e c) p h =
     let q = some_is h in
-    record { hands_on = tt; handed = (ap (λ z. (z.typed, z.capabilities)) q, tt); is_good = sym (ap (λ z. z.is_good) q) }
+    record { hands_on = tt; handed = (ap (λ z. (z.typed, z.capabilities)) q, tt); succeeded = sym (ap (λ z. z.succeeded) q) }
 one_more (TypecheckFail e) p h =
     let q = some_is h.2 in
-    record { hands_on = tt; handed = ((ap (λ z. z.typed) q, subst (λ c. HasNone (caps c)) (sym (ap (λ z. z.capabilities) q)) h.1), tt); is_good = sym (ap (λ z. z.is_good) q) }
+    record { hands_on = tt; handed = ((ap (λ z. z.typed) q, subst (λ c. HasNone (caps c)) (sym (ap (λ z. z.capabilities) q)) h.1), tt); succeeded = sym (ap (λ z. z.succeeded) q) }
 one_more RecursionLimit p h = cc
 
 pub is_limit : (a : TypecheckAnswer) → HandsOn a None → a ≡ RecursionLimit
@@ -62,19 +62,19 @@ none_more (Err e ∷ xs) ys = none_more xs ys
 
 module _ {S : Type 0} (steps : S → Option Answered → S → Type 0) where
   -- all items are taken
-  pub drained : (s t u : S) (xs : List Answered) (g : Gathered) → Yields steps s xs t → steps t None u → AllHandOn xs → AreHanded xs g.handed.items → g.is_limit ≡ false → g.is_good ≡ none_failed xs → Gathers steps s g
+  pub drained : (s t u : S) (xs : List Answered) (g : Gathered) → Yields steps s xs t → steps t None u → AllHandOn xs → AreHanded xs g.handed.items → g.is_limit ≡ false → g.succeeded ≡ none_failed xs → Gathers steps s g
   drained s t u xs g y n h i l k = record {
     taken = record { before = xs; last = None; rest = u; yields = (t, y, n); hand_on = h; ends = tt };
     in_order = i;
     is_limit = l;
-    is_good = k;
+    succeeded = k;
   }
 
   -- a limit came
-  pub cut : (s t u : S) (xs : List Answered) (x : Answered) (g : Gathered) → Yields steps s xs t → steps t (Some x) u → x ≡ Ok RecursionLimit → AllHandOn xs → AreHanded xs g.handed.items → g.is_limit ≡ true → g.is_good ≡ none_failed xs → Gathers steps s g
+  pub cut : (s t u : S) (xs : List Answered) (x : Answered) (g : Gathered) → Yields steps s xs t → steps t (Some x) u → x ≡ Ok RecursionLimit → AllHandOn xs → AreHanded xs g.handed.items → g.is_limit ≡ true → g.succeeded ≡ none_failed xs → Gathers steps s g
   cut s t u xs x g y n q h i l k = record {
     taken = record { before = xs; last = Some x; rest = u; yields = (t, y, n); hand_on = h; ends = q };
     in_order = i;
     is_limit = l;
-    is_good = k;
+    succeeded = k;
   }

@@ -8,7 +8,7 @@ use Rattle.cedar_types.specs.declared.base.types.CedarType.{CedarType}
 use Rattle.cedar_types.specs.Types.{Ty, ty_of}
 use Rattle.cedar_types.specs.View.{Places, Written, written}
 use Rattle.cedar_types.specs.Layers as layers
-use Rattle.cedar_typing.specs.Typed.{Mark, annotation, place_of, typed_tree}
+use Rattle.cedar_typing.specs.TypedExpr.{Mark, annotation, place_of, typed_tree}
 
 abbrev Type' : Type 0
 Type' = Option CedarType
@@ -67,8 +67,13 @@ layer_placed l (K.Is' p1 a1 l1 k1 x2) d h = h _
 layer_placed l (K.Set' h1 r1) d h = h _
 layer_placed l (K.Record' h1 r1) d h = h _
 
+-- the tree of an expression by the form at its root
+pub written_by_layer : (e : Expr (Unit {0})) → written e ≡ layers.layer (Unit {0}) Written node e.kind (node tt e.loc)
+written_by_layer e = layers.seen_by_form (Unit {0}) Written node e ∙ layers.is_layer (Unit {0}) Written node e.kind (node tt e.loc)
+
+pub written_as : (e : Expr (Unit {0})) (k : ExprKind (Unit {0})) → e.kind ≡ k → written e ≡ layers.layer (Unit {0}) Written node k (node tt e.loc)
+written_as e k h = written_by_layer e ∙ ap (λ k. layers.layer (Unit {0}) Written node k (node tt e.loc)) h
+
 -- the place at the root of the tree is that of the expression
 pub place_is : (e : Expr (Unit {0})) → place_of (written e) ≡ e.loc
-place_is e =
-    ap place_of (layers.seen_by_form (Unit {0}) Written node e ∙ layers.is_layer (Unit {0}) Written node e.kind (node tt e.loc))
-    ∙ layer_placed e.loc e.kind (node tt e.loc) (λ p. refl)
+place_is e = ap place_of (written_by_layer e) ∙ layer_placed e.loc e.kind (node tt e.loc) (λ p. refl)

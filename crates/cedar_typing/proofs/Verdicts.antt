@@ -6,16 +6,19 @@ use Rattle.std.proofs.lemmas.List.Sorted.{IsPermutation-refl, IsPermutation-sym,
 use Rattle.cedar_types.specs.declared.base.types.BoolType.TheVariants.{False}
 use Rattle.cedar_types.specs.Types.{TBool}
 use Rattle.cedar_types.specs.Errors.{Finding}
-use Rattle.cedar_typing.specs.Typed.{Source, TypedTree, annotation, place_of}
-use Rattle.cedar_typing.specs.Settings.{Setting, Caps, nothing, a_bool}
-use Rattle.cedar_typing.specs.Rules.{Has}
-use Rattle.cedar_typing.specs.Failing.{derived, Operand, accepted, Recovers, Cuts}
-use Rattle.cedar_typing.specs.Judge.{part_with, judge}
-use Rattle.cedar_typing.specs.Checks.{Verdict, succeeds, irrelevant, fails, Checks, check_true, check_false, check_refused_false, check_refused, check_cut, SameVerdict, same_success, same_irrelevant, same_failure, given_verdict, out_verdict, check_of}
-use Rattle.cedar_typing.specs.Laws.{OneVerdictAtMost, OneVerdictAtLeast, ErrorsInAnyOrder}
-use Rattle.cedar_typing.proofs.Judged.{operand_only, cut_only}
-use Rattle.cedar_typing.proofs.Exact.{judged}
-use Rattle.cedar_typing.proofs.Checked.{checked}
+use Rattle.cedar_typing.specs.Capabilities.{Caps, no_caps}
+use Rattle.cedar_typing.specs.Infer.{infer}
+use Rattle.cedar_typing.specs.Infer.Parts.{part_with}
+use Rattle.cedar_typing.specs.Judgments.{derived, accepted, Operand}
+use Rattle.cedar_typing.specs.PolicyCheck.{Verdict, succeeds, irrelevant, fails, PolicyChecks, SameVerdict, part_verdict, out_verdict, policy_check, check_true, check_false, check_refused_false, check_refused, check_cut, same_success, same_irrelevant, same_failure}
+use Rattle.cedar_typing.specs.RuleLaws.{OneVerdictAtMost, OneVerdictAtLeast, ErrorsInAnyOrder}
+use Rattle.cedar_typing.specs.Rules.{rules, Cuts}
+use Rattle.cedar_typing.specs.TypeEnv.{TypeEnv}
+use Rattle.cedar_typing.specs.TypeTests.{bool_types}
+use Rattle.cedar_typing.specs.TypedExpr.{Source, TypedTree, annotation, place_of}
+use Rattle.cedar_typing.proofs.Agreement.Induction.{agrees}
+use Rattle.cedar_typing.proofs.Agreement.Parts.{operand_only, cut_only}
+use Rattle.cedar_typing.proofs.PolicyCheck.{checked}
 
 -- ---- the same verdict
 
@@ -31,37 +34,37 @@ same_on u v x (same_failure p) (same_failure q) = same_failure (IsPermutation-tr
 
 -- ---- whatever the rules of the check say is that of the function
 
-module _ (w : Setting) (e : Source) where
+module _ (env : TypeEnv) (e : Source) where
   abbrev Condition : Bool → Caps → TypedTree → List Finding → Type 0
-  Condition = Operand w a_bool (place_of e) (Has w e nothing 1) (Recovers w e nothing 1)
+  Condition = Operand env bool_types (place_of e) (rules env e no_caps 1)
 
-  of_operand : (good : Bool) (c : Caps) (x : TypedTree) (es : List Finding) → Condition good c x es → check_of w e ≡ given_verdict (Some (part_with good c x)) es
-  of_operand good c x es o =
-      ap out_verdict (operand_only w a_bool (place_of e) (Has w e nothing 1) (Recovers w e nothing 1) (Cuts w e nothing 1) (judge w e nothing 1) (judged w e nothing 1) good c x es o [])
+  of_operand : (succeeded : Bool) (c : Caps) (x : TypedTree) (es : List Finding) → Condition succeeded c x es → policy_check env e ≡ part_verdict (Some (part_with succeeded c x)) es
+  of_operand succeeded c x es o =
+      ap out_verdict (operand_only env bool_types (place_of e) (rules env e no_caps 1) (infer env e no_caps 1) (agrees env e no_caps 1) succeeded c x es o [])
 
-  of_cut : (es : List Finding) → Cuts w e nothing 1 es → check_of w e ≡ fails es
+  of_cut : (es : List Finding) → Cuts env e no_caps 1 es → policy_check env e ≡ fails es
   of_cut es h =
-      ap out_verdict (cut_only w a_bool (place_of e) (Has w e nothing 1) (Recovers w e nothing 1) (Cuts w e nothing 1) (judge w e nothing 1) (judged w e nothing 1) es h [])
+      ap out_verdict (cut_only env bool_types (place_of e) (rules env e no_caps 1) (infer env e no_caps 1) (agrees env e no_caps 1) es h [])
 
-  only : (u v : Verdict) → check_of w e ≡ u → SameVerdict u v → SameVerdict (check_of w e) v
+  only : (u v : Verdict) → policy_check env e ≡ u → SameVerdict u v → SameVerdict (policy_check env e) v
   only u v q s = subst (λ x. SameVerdict x v) (sym q) s
 
-  by_function : (v : Verdict) → Checks w e v → SameVerdict (check_of w e) v
+  by_function : (v : Verdict) → PolicyChecks env e v → SameVerdict (policy_check env e) v
   by_function v (check_true t c {e' = x} h a n) =
-      let m : annotation x ≡ Some t = (judged w e nothing 1).marks t c x h in
+      let m : annotation x ≡ Some t = (agrees env e no_caps 1).marks t c x h in
       only (succeeds x) v (of_operand true c x [] (accepted t (derived h) m a) ∙ rw (m, n) refl) same_success
   by_function v (check_false c {e' = x} h) =
-      let m : annotation x ≡ Some (TBool False) = (judged w e nothing 1).marks (TBool False) c x h in
+      let m : annotation x ≡ Some (TBool False) = (agrees env e no_caps 1).marks (TBool False) c x h in
       only (irrelevant [] x) v (of_operand true c x [] (accepted (TBool False) (derived h) m refl) ∙ rw m refl) (same_irrelevant (IsPermutation-refl []))
   by_function v (check_refused_false {e' = x} {es = es} (c, o) n p) = only (irrelevant es x) v (of_operand false c x es o ∙ rw n refl) (same_irrelevant p)
   by_function v (check_refused {e' = x} {es = es} (c, o) n p) = only (fails es) v (of_operand false c x es o ∙ rw n refl) (same_failure p)
   by_function v (check_cut {es = es} h p) = only (fails es) v (of_cut es h) (same_failure p)
 
 pub verdict_at_most : OneVerdictAtMost
-verdict_at_most w e u v h k = same_on u (check_of w e) v (same_back (check_of w e) u (by_function w e u h)) (by_function w e v k)
+verdict_at_most env e u v h k = same_on u (policy_check env e) v (same_back (policy_check env e) u (by_function env e u h)) (by_function env e v k)
 
 pub verdict_at_least : OneVerdictAtLeast
-verdict_at_least w e = (check_of w e, checked w e)
+verdict_at_least env e = (policy_check env e, checked env e)
 
 -- ---- errors in any order
 
@@ -71,8 +74,8 @@ none [] p = refl
 none (x ∷ es) p = let e : length (x ∷ es) ≡ 0 = length_permutation [] (x ∷ es) p in grind (arith, common_steps)
 
 pub any_order : ErrorsInAnyOrder
-any_order w e u v (check_true t c h a n) same_success = check_true t c h a n
-any_order w e u v (check_false c {e' = x} h) (same_irrelevant {es' = es} p) = subst (λ l. Checks w e (irrelevant l x)) (sym (none es p)) (check_false c h)
-any_order w e u v (check_refused_false o n p) (same_irrelevant q) = check_refused_false o n (IsPermutation-trans _ _ _ p q)
-any_order w e u v (check_refused o n p) (same_failure q) = check_refused o n (IsPermutation-trans _ _ _ p q)
-any_order w e u v (check_cut h p) (same_failure q) = check_cut h (IsPermutation-trans _ _ _ p q)
+any_order env e u v (check_true t c h a n) same_success = check_true t c h a n
+any_order env e u v (check_false c {e' = x} h) (same_irrelevant {es' = es} p) = subst (λ l. PolicyChecks env e (irrelevant l x)) (sym (none es p)) (check_false c h)
+any_order env e u v (check_refused_false o n p) (same_irrelevant q) = check_refused_false o n (IsPermutation-trans _ _ _ p q)
+any_order env e u v (check_refused o n p) (same_failure q) = check_refused o n (IsPermutation-trans _ _ _ p q)
+any_order env e u v (check_cut h p) (same_failure q) = check_cut h (IsPermutation-trans _ _ _ p q)

@@ -55,7 +55,7 @@ failed RecursionLimit = RecursionLimit
 
 -- an answer as it is, or made a failure
 abbrev pub failed_unless : Bool → TypecheckAnswer → TypecheckAnswer
-failed_unless is_good a = cond is_good a (failed a)
+failed_unless succeeded a = cond succeeded a (failed a)
 
 -- an answer is adjusted, and refused memory stays
 abbrev pub ok_map : {T U : Type 0} → (T → U) → Result T AllocError → Result U AllocError
@@ -136,7 +136,7 @@ OnAllHanded steps s P = (taken : Taken steps s) → (v : Vec (TypedExpr × Capab
 
 -- the answer after a limit is the limit, else the closure's, made a failure if an item was one
 abbrev pub answer_where : Bool → Bool → TypecheckAnswer → TypecheckAnswer
-answer_where is_limit is_good a = cond is_limit RecursionLimit (failed_unless is_good a)
+answer_where is_limit succeeded a = cond is_limit RecursionLimit (failed_unless succeeded a)
 
 -- the closure was called once, with what the taken items hand on, and a is its answer, adjusted
 pub record SequencesAll {S : Type 0} (steps : S → Option Answered → S → Type 0) (s : S) (gives : Vec (TypedExpr × CapabilitySet) Global → Answered → Type 0) (a : TypecheckAnswer) : Type 0 where

@@ -1,9 +1,9 @@
 -- The examples of evaluation, computed.
 use Rattle.std.proofs.Common.{refl}
+use Rattle.cedar_typing.specs.Examples.Evaluation.Calls.{PatternExamples, CallExamples, OrderExamples}
+use Rattle.cedar_typing.specs.Examples.Evaluation.Entities.{MembershipExamples, AttributeExamples, TagExamples}
 use Rattle.cedar_typing.specs.Examples.Evaluation.Leaves.{LeafExamples, TestExamples}
 use Rattle.cedar_typing.specs.Examples.Evaluation.Operators.{NumberExamples, EqualityExamples, SetExamples}
-use Rattle.cedar_typing.specs.Examples.Evaluation.Entities.{MembershipExamples, AttributeExamples, TagExamples}
-use Rattle.cedar_typing.specs.Examples.Evaluation.Calls.{PatternExamples, CallExamples, OrderExamples}
 
 pub leaf_examples : LeafExamples
 leaf_examples = record {

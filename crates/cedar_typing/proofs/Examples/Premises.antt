@@ -6,12 +6,12 @@ use Rattle.cedar_types.specs.Names.{path_eq}
 use Rattle.cedar_types.specs.Comparisons.{path_same}
 use Rattle.cedar_types.specs.Types.{TLong}
 use Rattle.cedar_types.specs.Capability.{attribute}
-use Rattle.cedar_typing.specs.Examples.World.{user, decimal, words, one_value, a_decimal, sample, greeting}
 use Rattle.cedar_typing.specs.Examples.Expressions.{principal}
 use Rattle.cedar_typing.specs.Examples.Premises.{guarded_condition, PremisesAreMet, PremisesCanFail}
-use Rattle.cedar_typing.proofs.Checked.{checked}
-use Rattle.cedar_typing.proofs.SoundCaps.{hold_just}
+use Rattle.cedar_typing.specs.Examples.World.{user, decimal, words, one_value, a_decimal, sample, greeting}
 use Rattle.cedar_typing.proofs.Examples.World.{greets, sample_reliable, greeting_conforms}
+use Rattle.cedar_typing.proofs.PolicyCheck.{checked}
+use Rattle.cedar_typing.proofs.Soundness.Capabilities.{hold_just}
 
 pub premises : PremisesAreMet
 premises = record {

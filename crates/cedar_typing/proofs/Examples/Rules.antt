@@ -7,91 +7,93 @@ use Rattle.cedar_types.specs.Tree.{Shape}
 use Rattle.cedar_types.specs.Capability.{attribute}
 use Rattle.cedar_types.specs.Types.{Ty, TBool}
 use Rattle.cedar_types.specs.Errors.{Finding}
-use Rattle.cedar_typing.specs.Typed.{Source, TypedTree, annotation}
-use Rattle.cedar_typing.specs.Settings.{Setting, Caps, nothing}
-use Rattle.cedar_typing.specs.Rules.{max_nesting, Has}
-use Rattle.cedar_typing.specs.Failing.{Recovers, Cuts}
-use Rattle.cedar_typing.specs.Judge.{Ans, success, failure, limit, Out, judge}
-use Rattle.cedar_typing.specs.Checks.{Verdict, Checks, check_of}
-use Rattle.cedar_typing.specs.Examples.World.{sample}
+use Rattle.cedar_typing.specs.Capabilities.{Caps, no_caps}
 use Rattle.cedar_typing.specs.Examples.Expressions.{false_lit, principal, numbered}
 use Rattle.cedar_typing.specs.Examples.Rules.{TypesAsIn, FailsWithIn, CutsAt, ChecksAs, HandsOnNeither, typed_false}
+use Rattle.cedar_typing.specs.Examples.Rules.Attributes.{HasTyping, GetTyping}
+use Rattle.cedar_typing.specs.Examples.Rules.Check.{CheckTyping}
+use Rattle.cedar_typing.specs.Examples.Rules.Conditional.{ConditionalTyping}
 use Rattle.cedar_typing.specs.Examples.Rules.Leaves.{LeafTyping}
+use Rattle.cedar_typing.specs.Examples.Rules.Nesting.{NestingTyping}
 use Rattle.cedar_typing.specs.Examples.Rules.ShortCircuit.{AndTyping, OrTyping}
 use Rattle.cedar_typing.specs.Examples.Rules.Unary.{UnaryTyping}
-use Rattle.cedar_typing.specs.Examples.Rules.Conditional.{ConditionalTyping}
-use Rattle.cedar_typing.specs.Examples.Rules.Attributes.{HasTyping, GetTyping}
-use Rattle.cedar_typing.specs.Examples.Rules.Nesting.{NestingTyping}
-use Rattle.cedar_typing.specs.Examples.Rules.Check.{CheckTyping}
+use Rattle.cedar_typing.specs.Examples.World.{sample}
+use Rattle.cedar_typing.specs.Infer.{infer}
+use Rattle.cedar_typing.specs.Infer.Parts.{success, failure, limit, Answer, AnswerAndErrors}
+use Rattle.cedar_typing.specs.Judgments.{max_nesting}
+use Rattle.cedar_typing.specs.PolicyCheck.{Verdict, PolicyChecks, policy_check}
+use Rattle.cedar_typing.specs.Rules.{rules, Derives, Recovers, Cuts}
+use Rattle.cedar_typing.specs.TypeEnv.{TypeEnv}
+use Rattle.cedar_typing.specs.TypedExpr.{Source, TypedTree, annotation}
+use Rattle.cedar_typing.proofs.Agreement.Induction.{agrees}
+use Rattle.cedar_typing.proofs.Agreement.Parts.{Answers, a_derived, a_recovered, a_cut}
 use Rattle.cedar_typing.proofs.Basics.{some_is}
-use Rattle.cedar_typing.proofs.Judged.{Answers, a_derived, a_recovered, a_cut}
-use Rattle.cedar_typing.proofs.Exact.{judged}
-use Rattle.cedar_typing.proofs.Checked.{checked}
+use Rattle.cedar_typing.proofs.PolicyCheck.{checked}
 
-module _ (w : Setting) (e : Source) (p : Caps) (d : ℕ) where
-  abbrev Rules : Ans → List Finding → Type 0
-  Rules = Answers (Has w e p d) (Recovers w e p d) (Cuts w e p d)
+module _ (env : TypeEnv) (e : Source) (p : Caps) (d : ℕ) where
+  abbrev Rules : Answer → List Finding → Type 0
+  Rules = Answers (rules env e p d)
 
-  by_judge : (a : Ans) (es : List Finding) → judge w e p d [] ≡ (a, es) → Rules a es
+  by_judge : (a : Answer) (es : List Finding) → infer env e p d [] ≡ (a, es) → Rules a es
   by_judge a es h =
-      let f = (judged w e p d).found [] in
-      let q : ◌≡◌ {A = Out} (f.answer, f.added) (a, es) = sym f.is ∙ h in
-      let P : Out → Type 0 = λ o. Rules o.0 o.1 in
+      let f = (agrees env e p d).found [] in
+      let q : ◌≡◌ {A = AnswerAndErrors} (f.answer, f.added) (a, es) = sym f.is ∙ h in
+      let P : AnswerAndErrors → Type 0 = λ o. Rules o.0 o.1 in
       subst P q f.rules
 
-  of_success : (t : Ty) (c : Caps) (x : TypedTree) (es : List Finding) → annotation x ≡ Some t → Rules (success x c) es → Has w e p d t c x
+  of_success : (t : Ty) (c : Caps) (x : TypedTree) (es : List Finding) → annotation x ≡ Some t → Rules (success x c) es → Derives env e p d t c x
   of_success t c x es m (a_derived {t = u} h) =
-      let same : u ≡ t = some_is (sym ((judged w e p d).marks u c x h) ∙ m) in
-      let P : Ty → Type 0 = λ s. Has w e p d s c x in
+      let same : u ≡ t = some_is (sym ((agrees env e p d).marks u c x h) ∙ m) in
+      let P : Ty → Type 0 = λ s. Derives env e p d s c x in
       subst P same h
 
-  of_failure : (x : TypedTree) (es : List Finding) → Rules (failure x) es → Recovers w e p d x es
+  of_failure : (x : TypedTree) (es : List Finding) → Rules (failure x) es → Recovers env e p d x es
   of_failure x es (a_recovered h) = h
 
-  of_limit : (es : List Finding) → Rules limit es → Cuts w e p d es
+  of_limit : (es : List Finding) → Rules limit es → Cuts env e p d es
   of_limit es (a_cut h) = h
 
-  pub has : (t : Ty) (c : Caps) (x : TypedTree) → annotation x ≡ Some t → judge w e p d [] ≡ (success x c, []) → Has w e p d t c x
+  pub has : (t : Ty) (c : Caps) (x : TypedTree) → annotation x ≡ Some t → infer env e p d [] ≡ (success x c, []) → Derives env e p d t c x
   has t c x m h = of_success t c x [] m (by_judge (success x c) [] h)
 
-  pub recovers : (x : TypedTree) (es : List Finding) → judge w e p d [] ≡ (failure x, es) → Recovers w e p d x es
+  pub recovers : (x : TypedTree) (es : List Finding) → infer env e p d [] ≡ (failure x, es) → Recovers env e p d x es
   recovers x es h = of_failure x es (by_judge (failure x) es h)
 
-  pub cuts : (es : List Finding) → judge w e p d [] ≡ (limit, es) → Cuts w e p d es
+  pub cuts : (es : List Finding) → infer env e p d [] ≡ (limit, es) → Cuts env e p d es
   cuts es h = of_limit es (by_judge limit es h)
 
-types_as : {w : Setting} {p : Caps} {e : Shape} {t : Ty} {c : Caps} {x : TypedTree} → annotation x ≡ Some t → judge w (numbered e) p 1 [] ≡ (success x c, []) → TypesAsIn w p e t c x
-types_as {w} {p} {e} {t} {c} {x} m h = record { has = has w (numbered e) p 1 t c x m h }
+types_as : {env : TypeEnv} {p : Caps} {e : Shape} {t : Ty} {c : Caps} {x : TypedTree} → annotation x ≡ Some t → infer env (numbered e) p 1 [] ≡ (success x c, []) → TypesAsIn env p e t c x
+types_as {env} {p} {e} {t} {c} {x} m h = record { has = has env (numbered e) p 1 t c x m h }
 
-fails_with : {w : Setting} {e : Shape} {x : TypedTree} {es : List Finding} → judge w (numbered e) nothing 1 [] ≡ (failure x, es) → FailsWithIn w e x es
-fails_with {w} {e} {x} {es} h = record { recovers = recovers w (numbered e) nothing 1 x es h }
+fails_with : {env : TypeEnv} {e : Shape} {x : TypedTree} {es : List Finding} → infer env (numbered e) no_caps 1 [] ≡ (failure x, es) → FailsWithIn env e x es
+fails_with {env} {e} {x} {es} h = record { recovers = recovers env (numbered e) no_caps 1 x es h }
 
-cuts_at : {d : ℕ} {e : Shape} {es : List Finding} → judge (sample Strict) (numbered e) nothing d [] ≡ (limit, es) → CutsAt d e es
-cuts_at {d} {e} {es} h = record { cuts = cuts (sample Strict) (numbered e) nothing d es h }
+cuts_at : {d : ℕ} {e : Shape} {es : List Finding} → infer (sample Strict) (numbered e) no_caps d [] ≡ (limit, es) → CutsAt d e es
+cuts_at {d} {e} {es} h = record { cuts = cuts (sample Strict) (numbered e) no_caps d es h }
 
-checks_as : {e : Shape} {v : Verdict} → check_of (sample Strict) (numbered e) ≡ v → ChecksAs e v
-checks_as {e} {v} h = record { checks = subst (Checks (sample Strict) (numbered e)) h (checked (sample Strict) (numbered e)) }
+checks_as : {e : Shape} {v : Verdict} → policy_check (sample Strict) (numbered e) ≡ v → ChecksAs e v
+checks_as {e} {v} h = record { checks = subst (PolicyChecks (sample Strict) (numbered e)) h (checked (sample Strict) (numbered e)) }
 
 -- what a success hands on, and how it is typed
-abbrev handed : Ans → Caps
+abbrev handed : Answer → Caps
 handed (success x c) = c
-handed (failure x) = nothing
-handed limit = nothing
+handed (failure x) = no_caps
+handed limit = no_caps
 
-abbrev shown : Ans → TypedTree
+abbrev shown : Answer → TypedTree
 shown (success x c) = x
 shown (failure x) = x
 shown limit = typed_false 1
 
-abbrev answer : Shape → Ans
-answer e = (judge (sample Strict) (numbered e) nothing 1 []).0
+abbrev answer : Shape → Answer
+answer e = (infer (sample Strict) (numbered e) no_caps 1 []).0
 
-neither : (e : Shape) → annotation (shown (answer e)) ≡ Some (TBool AnyBool) → judge (sample Strict) (numbered e) nothing 1 [] ≡ (success (shown (answer e)) (handed (answer e)), [])
+neither : (e : Shape) → annotation (shown (answer e)) ≡ Some (TBool AnyBool) → infer (sample Strict) (numbered e) no_caps 1 [] ≡ (success (shown (answer e)) (handed (answer e)), [])
     → handed (answer e) (attribute principal (codes "vip")) ≡ false → handed (answer e) (attribute principal (codes "age")) ≡ false → HandsOnNeither e
 neither e m h p q = record {
   caps = handed (answer e);
   typed = shown (answer e);
-  has = has (sample Strict) (numbered e) nothing 1 (TBool AnyBool) (handed (answer e)) (shown (answer e)) m h;
+  has = has (sample Strict) (numbered e) no_caps 1 (TBool AnyBool) (handed (answer e)) (shown (answer e)) m h;
   no_mark = p;
   no_age = q;
 }
@@ -207,7 +209,7 @@ get_typing = record {
 
 pub nesting_typing : NestingTyping
 nesting_typing = record {
-  at_the_limit = has (sample Strict) (numbered false_lit) nothing max_nesting (TBool False) nothing (typed_false 1) refl refl;
+  at_the_limit = has (sample Strict) (numbered false_lit) no_caps max_nesting (TBool False) no_caps (typed_false 1) refl refl;
   past_the_limit = cuts_at refl;
   base_of_has = cuts_at refl;
   base_of_get = cuts_at refl;

@@ -8,11 +8,11 @@ use Rattle.cedar_types.specs.Types.{Ty, TExtension}
 use Rattle.cedar_types.specs.Schemas.{is_among, type_named, declares_type, declares_action, descendants_of}
 use Rattle.cedar_types.specs.Values.{Value, Values, HasType}
 use Rattle.cedar_types.specs.Stores.{Entity, Store, entity_at, FitsDeclaration, ConformingStore}
-use Rattle.cedar_typing.specs.Equality.{same_values}
-use Rattle.cedar_typing.specs.Worlds.{Call, call_value}
-use Rattle.cedar_typing.specs.Conforming.{IsOneOf, FitsRequest, KeepsTable}
-use Rattle.cedar_typing.specs.Sound.{IsReliable, IsWorldOf}
+use Rattle.cedar_typing.specs.Evaluation.Conformance.{IsOneOf, FitsRequest, KeepsTable}
+use Rattle.cedar_typing.specs.Evaluation.Equality.{same_values}
+use Rattle.cedar_typing.specs.Evaluation.World.{Call, call_value}
 use Rattle.cedar_typing.specs.Examples.World.{user, decimal, bob, greet, a_context, sample_schema, decimal_table, sample, stored_greet, sample_store, sample_functions, greeting}
+use Rattle.cedar_typing.specs.Soundness.{IsReliable, IsWorldOf}
 use Rattle.cedar_typing.proofs.Basics.{some_is, none_is}
 
 -- ---- the store

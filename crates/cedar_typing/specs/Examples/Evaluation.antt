@@ -7,8 +7,8 @@ pub mod Calls
 use Rattle.std.specs.Prelude.{◌≡◌, true, false}
 use Rattle.cedar_types.specs.Tree.{Shape}
 use Rattle.cedar_types.specs.Values.{Value, VBool}
-use Rattle.cedar_typing.specs.Worlds.{Failure, Gives, Fails}
-use Rattle.cedar_typing.specs.Evaluation.{eval}
+use Rattle.cedar_typing.specs.Evaluation.Eval.{eval}
+use Rattle.cedar_typing.specs.Evaluation.World.{Failure, Gives, Fails}
 use Rattle.cedar_typing.specs.Examples.World.{greeting}
 
 -- e evaluates to v

@@ -11,15 +11,15 @@ use Rattle.cedar_types.specs.Templates.{PlainTemplate, any, any_action, conditio
 use Rattle.cedar_types.specs.Capability.{attribute}
 use Rattle.cedar_types.specs.Schemas.{has_fault}
 use Rattle.cedar_types.specs.Values.{VBool}
-use Rattle.cedar_typing.specs.Typed.{Source, TypedTree}
-use Rattle.cedar_typing.specs.Checks.{Checks, succeeds}
-use Rattle.cedar_typing.specs.Worlds.{Gives, MissingEntity, Fails}
-use Rattle.cedar_typing.specs.Evaluation.{eval}
-use Rattle.cedar_typing.specs.Conforming.{ConformingRequest, FitsSlot, SlotsBound, KeepsTable, Holds, AllHold}
-use Rattle.cedar_typing.specs.Sound.{IsReliable, IsWorldOf}
-use Rattle.cedar_typing.specs.Examples.World.{decimal, greet, sample_schema, decimal_table, sample, sample_slots, greeting}
+use Rattle.cedar_typing.specs.Evaluation.Conformance.{ConformingRequest, FitsSlot, SlotsBound, KeepsTable, Holds, AllHold}
+use Rattle.cedar_typing.specs.Evaluation.Eval.{eval}
+use Rattle.cedar_typing.specs.Evaluation.World.{Gives, MissingEntity, Fails}
 use Rattle.cedar_typing.specs.Examples.Expressions.{false_lit, context, dot, has, has_vip, get_vip, node, numbered}
 use Rattle.cedar_typing.specs.Examples.Rules.{marked_principal}
+use Rattle.cedar_typing.specs.Examples.World.{decimal, greet, sample_schema, decimal_table, sample, sample_slots, greeting}
+use Rattle.cedar_typing.specs.PolicyCheck.{PolicyChecks, succeeds}
+use Rattle.cedar_typing.specs.Soundness.{IsReliable, IsWorldOf}
+use Rattle.cedar_typing.specs.TypedExpr.{Source, TypedTree}
 
 -- `if ?resource has age then (principal has vip && principal.vip) || !(principal has vip) else
 -- false`
@@ -55,7 +55,7 @@ pub record PremisesAreMet : Type 0 where
   pub bound : SlotsBound greeting.slots guarded_condition
   -- a prior capability that holds: alice has the mark
   pub held : AllHold greeting marked_principal
-  pub checks : (x : TypedTree) × Checks (sample Strict) guarded_condition (succeeds x)
+  pub checks : (x : TypedTree) × PolicyChecks (sample Strict) guarded_condition (succeeds x)
   pub evaluates : eval greeting guarded_condition ≡ Gives (VBool true)
   -- and an allowed failure: the friend is not in the store
   pub fails : eval greeting friends_age ≡ Fails MissingEntity

@@ -17,29 +17,29 @@ use Rattle.cedar_types.specs.Types.{Ty, TBool, TLong, TRecord, TAnyEntity, no_at
 use Rattle.cedar_types.specs.Tree.{bool, long, Shape, lit, var, if_then_else, get_attr, has_attr}
 use Rattle.cedar_types.specs.Capability.{attribute}
 use Rattle.cedar_types.specs.Errors.{Finding, Fault, unexpected_type, unsafe_attribute_access, unsafe_optional_attribute_access}
-use Rattle.cedar_typing.specs.Typed.{TypedTree, Mark, typed, untyped}
-use Rattle.cedar_typing.specs.Settings.{Setting, finding, Caps, nothing, just}
-use Rattle.cedar_typing.specs.Rules.{Has}
-use Rattle.cedar_typing.specs.Failing.{Recovers, Cuts}
-use Rattle.cedar_typing.specs.Checks.{Verdict, Checks}
-use Rattle.cedar_typing.specs.Examples.World.{a_user, a_context, sample}
+use Rattle.cedar_typing.specs.Capabilities.{Caps, no_caps, single}
 use Rattle.cedar_typing.specs.Examples.Expressions.{principal, context, node, numbered}
+use Rattle.cedar_typing.specs.Examples.World.{a_user, a_context, sample}
+use Rattle.cedar_typing.specs.PolicyCheck.{Verdict, PolicyChecks}
+use Rattle.cedar_typing.specs.Rules.{rules, Derives, Recovers, Cuts}
+use Rattle.cedar_typing.specs.TypeEnv.{TypeEnv, finding}
+use Rattle.cedar_typing.specs.TypedExpr.{TypedTree, Mark, typed, untyped}
 
 -- ---- what an example says
 
 -- where p is known, e has that type, hands on c, and is typed as x
-pub record TypesAsIn (w : Setting) (p : Caps) (e : Shape) (t : Ty) (c : Caps) (x : TypedTree) :
+pub record TypesAsIn (env : TypeEnv) (p : Caps) (e : Shape) (t : Ty) (c : Caps) (x : TypedTree) :
     Type 0 where
-  pub has : Has w (numbered e) p 1 t c x
+  pub has : Derives env (numbered e) p 1 t c x
 
 -- the same in Strict, where nothing is known
 abbrev pub TypesAs : Shape → Ty → Caps → TypedTree → Type 0
-TypesAs = TypesAsIn (sample Strict) nothing
+TypesAs = TypesAsIn (sample Strict) no_caps
 
 -- e has no type by the rules, and is typed as x all the same, with these errors
-pub record FailsWithIn (w : Setting) (e : Shape) (x : TypedTree) (es : List Finding) :
+pub record FailsWithIn (env : TypeEnv) (e : Shape) (x : TypedTree) (es : List Finding) :
     Type 0 where
-  pub recovers : Recovers w (numbered e) nothing 1 x es
+  pub recovers : Recovers env (numbered e) no_caps 1 x es
 
 -- the same in Strict
 abbrev pub FailsWith : Shape → TypedTree → List Finding → Type 0
@@ -47,17 +47,17 @@ FailsWith = FailsWithIn (sample Strict)
 
 -- at the depth d a part of e is too deep, and these errors were found
 pub record CutsAt (d : ℕ) (e : Shape) (es : List Finding) : Type 0 where
-  pub cuts : Cuts (sample Strict) (numbered e) nothing d es
+  pub cuts : Cuts (sample Strict) (numbered e) no_caps d es
 
 -- the check of the condition e
 pub record ChecksAs (e : Shape) (v : Verdict) : Type 0 where
-  pub checks : Checks (sample Strict) (numbered e) v
+  pub checks : PolicyChecks (sample Strict) (numbered e) v
 
 -- e is a Boolean that hands on neither that the principal has the mark nor that it has an age
 pub record HandsOnNeither (e : Shape) : Type 0 where
   pub caps : Caps
   pub typed : TypedTree
-  pub has : Has (sample Strict) (numbered e) nothing 1 (TBool AnyBool) caps typed
+  pub has : Derives (sample Strict) (numbered e) no_caps 1 (TBool AnyBool) caps typed
   pub no_mark : caps (attribute principal (codes "vip")) ≡ false
   pub no_age : caps (attribute principal (codes "age")) ≡ false
 
@@ -65,13 +65,13 @@ pub record HandsOnNeither (e : Shape) : Type 0 where
 
 -- that the principal has the mark, or an age; that there is a friend
 abbrev pub marked_principal : Caps
-marked_principal = just (attribute principal (codes "vip"))
+marked_principal = single (attribute principal (codes "vip"))
 
 abbrev pub aged_principal : Caps
-aged_principal = just (attribute principal (codes "age"))
+aged_principal = single (attribute principal (codes "age"))
 
 abbrev pub with_friend : Caps
-with_friend = just (attribute context (codes "friend"))
+with_friend = single (attribute context (codes "friend"))
 
 -- ---- nodes of typed expressions, by their types and places
 

@@ -11,9 +11,9 @@ use Rattle.cedar_types.specs.Schemas.{StandardKind, DeclaredType, DeclaredAction
 use Rattle.cedar_types.specs.RequestEnvs.{Declared, Undeclared}
 use Rattle.cedar_types.specs.Values.{Value, VBool, VLong, VString, VEntity, VSet, VRecord, VExtension, Values, no_values, more_values, no_entries, more_entries}
 use Rattle.cedar_types.specs.Stores.{Entity, Store}
-use Rattle.cedar_typing.specs.Settings.{Setting}
-use Rattle.cedar_typing.specs.Worlds.{Call, Interpretation, Slots, World}
-use Rattle.cedar_typing.specs.Conforming.{Table}
+use Rattle.cedar_typing.specs.Evaluation.Conformance.{Table}
+use Rattle.cedar_typing.specs.Evaluation.World.{Call, Interpretation, Slots, World}
+use Rattle.cedar_typing.specs.TypeEnv.{TypeEnv}
 
 -- ---- names
 
@@ -114,30 +114,30 @@ decimal_table = record {
 -- ---- what expressions are typed in
 
 -- users greet users; `?resource` is linked to a user, and `?principal` is not linked
-abbrev pub sample : ValidationMode → Setting
+abbrev pub sample : ValidationMode → TypeEnv
 sample m = record {
   schema = sample_schema;
   mode = m;
-  env =
+  request_env =
       Declared (record { principal = user; action = greet; resource = user; context = a_context })
       None (Some user);
   policy = codes "policy0";
 }
 
 -- the same, of an action that the schema does not declare
-abbrev pub unknown_action : Setting
+abbrev pub unknown_action : TypeEnv
 unknown_action = record (sample Strict) {
-  env =
+  request_env =
       Declared (record { principal = user; action = wave; resource = user; context = a_context })
       None (Some user);
 }
 
 -- the environment of undeclared actions, in Partial
-abbrev pub hidden : Setting
+abbrev pub hidden : TypeEnv
 hidden = record {
   schema = sample_schema;
   mode = Partial;
-  env = Undeclared;
+  request_env = Undeclared;
   policy = codes "policy0";
 }
 
@@ -153,7 +153,7 @@ abbrev pub one_value : Value → Values
 one_value v = more_values v no_values
 
 abbrev pub two_values : Value → Value → Values
-two_values v w = more_values v (one_value w)
+two_values v env = more_values v (one_value env)
 
 -- the values of the type `decimal`
 abbrev pub a_decimal : Text → Value

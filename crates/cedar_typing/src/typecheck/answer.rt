@@ -2,7 +2,7 @@
 ghost use Rattle.std.specs.Prelude.{◌≡◌, ◌↔◌, IsTrue, IfOk, Some};
 ghost use Rattle.cedar_types.specs.Types.{ty_of};
 ghost use Rattle.cedar_typing.specs.Answer.{type_at, SucceedsWithNone, is_success, typed_expr_of, type_of_answer, failed, failed_unless, OnSuccess, MapsCapability, OnHanded, ThenTypechecks};
-ghost use Rattle.cedar_typing.specs.Plain.{HandsOn};
+ghost use Rattle.cedar_typing.specs.Views.{HandsOn};
 
 use cedar_types::base::type_laws::equal_types;
 use cedar_types::base::{CedarType, Expr};
@@ -31,7 +31,7 @@ pub(crate) struct Part<'a> {
     pub typed: Expr<Option<CedarType>>,
     pub capabilities: CapabilitySet<'a>,
     /// Whether the answer was a success.
-    pub is_good: bool,
+    pub succeeded: bool,
 }
 
 impl<'a> TypecheckAnswer<'a> {
@@ -169,22 +169,22 @@ impl<'a> TypecheckAnswer<'a> {
             } => Some(Part {
                 typed: expr_type,
                 capabilities: expr_capability,
-                is_good: true,
+                succeeded: true,
             }),
             TypecheckAnswer::TypecheckFail { expr_recovery_type } => Some(Part {
                 typed: expr_recovery_type,
                 capabilities: CapabilitySet::new(alloc),
-                is_good: false,
+                succeeded: false,
             }),
             TypecheckAnswer::RecursionLimit => None,
         }
     }
 
     /// The answer as it is, or made a failure.
-    pub(crate) fn fail_unless(self, is_good: bool) -> TypecheckAnswer<'a>
-        ensures { result ≡ failed_unless is_good self.entry }
+    pub(crate) fn fail_unless(self, succeeded: bool) -> TypecheckAnswer<'a>
+        ensures { result ≡ failed_unless succeeded self.entry }
     {
-        if is_good { self } else { self.into_fail() }
+        if succeeded { self } else { self.into_fail() }
     }
 }
 

@@ -1,14 +1,14 @@
 // Capabilities that typing hands on.
 ghost use Rattle.std.specs.Prelude.{◌≡◌, IfOk};
 ghost use Rattle.cedar_types.specs.Capability.{caps, cap_of};
-ghost use Rattle.cedar_typing.specs.Settings.{nothing, just, either, both};
+ghost use Rattle.cedar_typing.specs.Capabilities.{no_caps, single, union, intersection};
 
 use cedar_types::types::capability::{Capability, CapabilitySet};
 use std::alloc::{AllocError, Global};
 
 /// No capabilities. It takes no memory.
 pub(crate) fn no_capabilities<'a>(alloc: Global) -> CapabilitySet<'a>
-    ensures { caps result ≡ nothing }
+    ensures { caps result ≡ no_caps }
 {
     CapabilitySet::new(alloc)
 }
@@ -18,29 +18,29 @@ pub(crate) fn one_capability<'a>(
     alloc: Global,
     capability: Capability<'a>,
 ) -> Result<CapabilitySet<'a>, AllocError>
-    ensures { IfOk result (λ r. caps r ≡ just (cap_of capability.entry)) }
+    ensures { IfOk result (λ r. caps r ≡ single (cap_of capability.entry)) }
 {
     CapabilitySet::singleton(alloc, capability)
 }
 
 /// The capabilities of both.
-pub(crate) fn both_capabilities<'a>(
+pub(crate) fn union_of<'a>(
     alloc: Global,
     one: &CapabilitySet<'a>,
     other: &CapabilitySet<'a>,
 ) -> Result<CapabilitySet<'a>, AllocError>
-    ensures { IfOk result (λ r. caps r ≡ either (caps one.now) (caps other.now)) }
+    ensures { IfOk result (λ r. caps r ≡ union (caps one.now) (caps other.now)) }
 {
     one.union(alloc, other)
 }
 
 /// The capabilities that both have.
-pub(crate) fn common_capabilities<'a>(
+pub(crate) fn intersection_of<'a>(
     alloc: Global,
     one: &CapabilitySet<'a>,
     other: &CapabilitySet<'a>,
 ) -> Result<CapabilitySet<'a>, AllocError>
-    ensures { IfOk result (λ r. caps r ≡ both (caps one.now) (caps other.now)) }
+    ensures { IfOk result (λ r. caps r ≡ intersection (caps one.now) (caps other.now)) }
 {
     one.intersect(alloc, other)
 }

@@ -1,5 +1,5 @@
 //! Laws of the rules of typing and of evaluation, and computed examples of both, each on a function that does nothing.
-ghost use Rattle.cedar_typing.specs.Equality.{EqualityIsAnEquivalence, EqualityHasNoOrder};
+ghost use Rattle.cedar_typing.specs.Evaluation.Equality.{EqualityIsAnEquivalence, EqualityHasNoOrder};
 ghost use Rattle.cedar_typing.specs.Examples.Evaluation.Calls.{PatternExamples, CallExamples, OrderExamples};
 ghost use Rattle.cedar_typing.specs.Examples.Evaluation.Entities.{MembershipExamples, AttributeExamples, TagExamples};
 ghost use Rattle.cedar_typing.specs.Examples.Evaluation.Leaves.{LeafExamples, TestExamples};
@@ -12,8 +12,8 @@ ghost use Rattle.cedar_typing.specs.Examples.Rules.Leaves.{LeafTyping};
 ghost use Rattle.cedar_typing.specs.Examples.Rules.Nesting.{NestingTyping};
 ghost use Rattle.cedar_typing.specs.Examples.Rules.ShortCircuit.{AndTyping, OrTyping};
 ghost use Rattle.cedar_typing.specs.Examples.Rules.Unary.{UnaryTyping};
-ghost use Rattle.cedar_typing.specs.Laws.{TypingIsAFunction, RecoveryIsAFunction, CutIsAFunction, OneOfThreeAtMost, OneOfThreeAtLeast, CutIsByDepth, OneVerdictAtMost, OneVerdictAtLeast, ErrorsInAnyOrder};
-ghost use Rattle.cedar_typing.specs.Sound.{TypeSoundness};
+ghost use Rattle.cedar_typing.specs.RuleLaws.{TypingIsAFunction, RecoveryIsAFunction, CutIsAFunction, OneOfThreeAtMost, OneOfThreeAtLeast, CutIsByDepth, OneVerdictAtMost, OneVerdictAtLeast, ErrorsInAnyOrder};
+ghost use Rattle.cedar_typing.specs.Soundness.{TypeSoundness};
 
 /// An expression is derived, recovered and cut in one way at most: with one type, one set of capabilities, one typed expression
 /// and one list of errors.

@@ -3,9 +3,10 @@ ghost use Rattle.std.specs.Prelude.{◌≡◌, Some, IfOk, map, option_map};
 ghost use Rattle.cedar_types.specs.Types.{ty_of};
 ghost use Rattle.cedar_types.specs.TypeOrder.{in_order};
 ghost use Rattle.cedar_types.specs.Errors.{finding_of, unexpected_type};
-ghost use Rattle.cedar_typing.specs.Settings.{accepts, finding};
-ghost use Rattle.cedar_typing.specs.Judge.{kept, dropped, given, expected, expected_type};
-ghost use Rattle.cedar_typing.specs.Plain.{setting_of, ans_of, given_of, required_types};
+ghost use Rattle.cedar_typing.specs.Infer.Parts.{as_failed, as_failed_untyped, part_from, expect, expect_type};
+ghost use Rattle.cedar_typing.specs.TypeEnv.{finding};
+ghost use Rattle.cedar_typing.specs.TypeTests.{accepts};
+ghost use Rattle.cedar_typing.specs.Views.{env_at, answer_of, part_of, expected_types, findings};
 
 use crate::typecheck::answer::{Part, TypecheckAnswer};
 use crate::typecheck::capabilities::no_capabilities;
@@ -19,29 +20,29 @@ use std::collections::BTreeSet;
 
 /// What a part has to be.
 #[derive(Clone, Copy, Debug)]
-pub(crate) enum Required {
+pub(crate) enum Expected {
     Bool,
     /// A record or an entity.
     Object,
 }
 
-impl Required {
+impl Expected {
     fn accepts(self, ty: &CedarType) -> bool
-        ensures { result ≡ accepts (required_types self) (ty_of ty.now) }
+        ensures { result ≡ accepts (expected_types self) (ty_of ty.now) }
     {
         match self {
-            Required::Bool => is_bool_operand(ty),
-            Required::Object => is_object_operand(ty),
+            Expected::Bool => is_bool_operand(ty),
+            Expected::Object => is_object_operand(ty),
         }
     }
 
     fn types(self, alloc: Global) -> Result<BTreeSet<CedarType>, AllocError>
-        ensures { IfOk result (λ s. map ty_of s.keys ≡ in_order (required_types self)) }
+        ensures { IfOk result (λ s. map ty_of s.keys ≡ in_order (expected_types self)) }
     {
         let mut types = Vec::new(alloc);
         match self {
-            Required::Bool => types.push(CedarType::Bool(BoolType::AnyBool))?,
-            Required::Object => {
+            Expected::Bool => types.push(CedarType::Bool(BoolType::AnyBool))?,
+            Expected::Object => {
                 types.push(CedarType::any_record(alloc)?)?;
                 types.push(CedarType::Entity(EntityKind::AnyEntity))?;
             }
@@ -52,19 +53,19 @@ impl Required {
 
 impl<'a> Part<'a> {
     /// The part as it is after a failure: without capabilities.
-    fn kept(self, alloc: Global) -> Part<'a>
-        ensures { given_of result ≡ kept (given_of self.entry) }
+    fn as_failed(self, alloc: Global) -> Part<'a>
+        ensures { part_of result ≡ as_failed (part_of self.entry) }
     {
         Part {
             typed: self.typed,
             capabilities: no_capabilities(alloc),
-            is_good: false,
+            succeeded: false,
         }
     }
 
     /// The same without the type at its root.
-    fn dropped(self, alloc: Global) -> Part<'a>
-        ensures { given_of result ≡ dropped (given_of self.entry) }
+    fn as_failed_untyped(self, alloc: Global) -> Part<'a>
+        ensures { part_of result ≡ as_failed_untyped (part_of self.entry) }
     {
         let typed = Expr {
             annotation: None,
@@ -74,14 +75,14 @@ impl<'a> Part<'a> {
         Part {
             typed,
             capabilities: no_capabilities(alloc),
-            is_good: false,
+            succeeded: false,
         }
     }
 }
 
 /// The part that an answer hands on, whatever its type. On the limit there is none.
 pub(crate) fn any_part<'a>(alloc: Global, answer: TypecheckAnswer<'a>) -> Option<Part<'a>>
-    ensures { option_map given_of result ≡ given (ans_of answer.entry) }
+    ensures { option_map part_of result ≡ part_from (answer_of answer.entry) }
 {
     answer.into_part(alloc)
 }
@@ -91,53 +92,59 @@ impl SingleEnvTypechecker<'_, '_, '_, '_> {
     /// none of them. On the limit there is none.
     pub(crate) fn expect<'a>(
         &self,
-        alloc: Global,
-        required: Required,
+        expected: Expected,
         loc: Option<Loc>,
         answer: TypecheckAnswer<'a>,
         errors: &mut Vec<ValidationError>,
     ) -> Result<Option<Part<'a>>, AllocError>
-        ensures { IfOk result (λ p. expected (setting_of self.now) (required_types required) loc (ans_of answer.entry, map finding_of errors.old.items) ≡ (option_map given_of p, map finding_of errors.new.items)) }
+        ensures { IfOk result (λ p.
+            expect (env_at self.now) (expected_types expected) loc
+            (answer_of answer.entry, findings errors.old.items)
+            ≡ (option_map part_of p, findings errors.new.items)) }
     {
-        let Some(part) = answer.into_part(alloc) else {
+        let Some(part) = answer.into_part(self.alloc) else {
             return Ok(None);
         };
-        Ok(Some(self.expect_part(alloc, required, loc, part, errors)?))
+        Ok(Some(self.expect_part(expected, loc, part, errors)?))
     }
 
     fn expect_part<'a>(
         &self,
-        alloc: Global,
-        required: Required,
+        expected: Expected,
         loc: Option<Loc>,
         part: Part<'a>,
         errors: &mut Vec<ValidationError>,
     ) -> Result<Part<'a>, AllocError>
-        ensures { IfOk result (λ p. expected_type (setting_of self.now) (required_types required) loc (given_of part.entry) (map finding_of errors.old.items) (option_map ty_of part.entry.typed.annotation) ≡ (Some (given_of p), map finding_of errors.new.items)) }
+        ensures { IfOk result (λ p.
+            expect_type (env_at self.now) (expected_types expected) loc (part_of part.entry)
+            (findings errors.old.items) (option_map ty_of part.entry.typed.annotation)
+            ≡ (Some (part_of p), findings errors.new.items)) }
     {
         match &part.typed.annotation {
-            None => Ok(part.kept(alloc)),
+            None => Ok(part.as_failed(self.alloc)),
             Some(found) => {
-                if required.accepts(found) {
+                if expected.accepts(found) {
                     return Ok(part);
                 }
-                errors.push(self.unexpected(alloc, required, loc, found)?)?;
-                Ok(part.dropped(alloc))
+                errors.push(self.unexpected(expected, loc, found)?)?;
+                Ok(part.as_failed_untyped(self.alloc))
             }
         }
     }
 
     fn unexpected(
         &self,
-        alloc: Global,
-        required: Required,
+        expected: Expected,
         loc: Option<Loc>,
         found: &CedarType,
     ) -> Result<ValidationError, AllocError>
-        ensures { IfOk result (λ e. finding_of e ≡ finding (setting_of self.now) loc (unexpected_type (in_order (required_types required)) (ty_of found.now))) }
+        ensures { IfOk result (λ e.
+            finding_of e
+            ≡ finding (env_at self.now) loc
+            (unexpected_type (in_order (expected_types expected)) (ty_of found.now))) }
     {
         let policy_id = self.policy_id.clone()?;
-        let types = required.types(alloc)?;
+        let types = expected.types(self.alloc)?;
         let actual = found.clone()?;
         Ok(ValidationError::expected_one_of_types(loc, policy_id, types, actual))
     }

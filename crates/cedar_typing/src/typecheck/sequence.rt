@@ -2,7 +2,7 @@
 ghost use Rattle.std.specs.Prelude.{◌≡◌, IfOk};
 ghost use Rattle.std.specs.Iterator.{IsFinite, IsFiniteIterable};
 ghost use Rattle.cedar_typing.specs.Answer.{OnAllHanded, SequencesAll, answer_where};
-ghost use Rattle.cedar_typing.specs.Plain.{Gathers};
+ghost use Rattle.cedar_typing.specs.Views.{Gathers};
 
 use crate::typecheck::answer::TypecheckAnswer;
 use cedar_types::base::{CedarType, Expr};
@@ -24,26 +24,30 @@ impl<'a> TypecheckAnswer<'a> {
             Vec<(Expr<Option<CedarType>>, CapabilitySet<'a>)>,
         ) -> Result<TypecheckAnswer<'a>, AllocError>,
         requires ends { IsFiniteIterable I.into_iter_gives I.IntoIter.can_next I.IntoIter.remaining answers }
-        requires callable { (it : I.IntoIter) → I.into_iter_gives answers it → OnAllHanded I.IntoIter.next_gives it (F.pre f) }
-        ensures { IfOk result (λ a. (it : I.IntoIter) × I.into_iter_gives answers it × SequencesAll I.IntoIter.next_gives it (F.post f) a) }
+        requires callable { (it : I.IntoIter)
+            → I.into_iter_gives answers it
+            → OnAllHanded I.IntoIter.next_gives it (F.pre f) }
+        ensures { IfOk result (λ a.
+            (it : I.IntoIter) × I.into_iter_gives answers it × SequencesAll
+            I.IntoIter.next_gives it (F.post f) a) }
     {
         let Gathered {
             handed,
             is_limit,
-            is_good,
+            succeeded,
         } = gather(alloc, answers.into_iter())?;
         let answer = f(handed)?;
-        Ok(answer.adjusted(is_limit, is_good))
+        Ok(answer.adjusted(is_limit, succeeded))
     }
 
     /// The answer after others: the limit after a limit, else a failure after a failure.
-    fn adjusted(self, is_limit: bool, is_good: bool) -> TypecheckAnswer<'a>
-        ensures { result ≡ answer_where is_limit is_good self.entry }
+    fn adjusted(self, is_limit: bool, succeeded: bool) -> TypecheckAnswer<'a>
+        ensures { result ≡ answer_where is_limit succeeded self.entry }
     {
         if is_limit {
             TypecheckAnswer::RecursionLimit
         } else {
-            self.fail_unless(is_good)
+            self.fail_unless(succeeded)
         }
     }
 }
@@ -53,7 +57,7 @@ impl<'a> TypecheckAnswer<'a> {
 struct Gathered<'a> {
     handed: Vec<(Expr<Option<CedarType>>, CapabilitySet<'a>)>,
     is_limit: bool,
-    is_good: bool,
+    succeeded: bool,
 }
 
 fn gather<'a, I>(alloc: Global, answers: I) -> Result<Gathered<'a>, AllocError>
@@ -64,19 +68,19 @@ where
     ensures { IfOk result (Gathers I.next_gives answers) }
 {
     let mut handed = Vec::new(alloc);
-    let mut is_good = true;
+    let mut succeeded = true;
     let mut is_limit = false;
     for answer in answers {
         let Some(part) = answer?.into_part(alloc) else {
             is_limit = true;
             break;
         };
-        is_good &= part.is_good;
+        succeeded &= part.succeeded;
         handed.push((part.typed, part.capabilities))?;
     }
     Ok(Gathered {
         handed,
         is_limit,
-        is_good,
+        succeeded,
     })
 }

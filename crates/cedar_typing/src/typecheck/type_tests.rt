@@ -2,14 +2,14 @@
 ghost use Rattle.std.specs.Prelude.{◌≡◌};
 ghost use Rattle.cedar_types.specs.Types.{ty_of, TBool};
 ghost use Rattle.cedar_types.specs.declared.base.types.BoolType.TheVariants.{AnyBool};
-ghost use Rattle.cedar_typing.specs.Settings.{accepts, a_bool, an_object, is_false, is_true, is_record, says};
-ghost use Rattle.cedar_typing.specs.Typed.{typed_tree, annotation};
+ghost use Rattle.cedar_typing.specs.TypeTests.{accepts, bool_types, object_types, is_false, is_true, is_record, annotation_passes};
+ghost use Rattle.cedar_typing.specs.TypedExpr.{typed_tree, annotation};
 
 use cedar_types::base::{BoolType, CedarType, Expr};
 
 /// Whether an operand of this type is accepted where a Boolean is required.
 pub(crate) fn is_bool_operand(ty: &CedarType) -> bool
-    ensures { result ≡ accepts a_bool (ty_of ty.now) }
+    ensures { result ≡ accepts bool_types (ty_of ty.now) }
 {
     match ty {
         CedarType::Never => true,
@@ -29,7 +29,7 @@ pub(crate) fn is_bool_operand(ty: &CedarType) -> bool
 
 /// Whether an operand of this type is accepted where a record or an entity is required.
 pub(crate) fn is_object_operand(ty: &CedarType) -> bool
-    ensures { result ≡ accepts an_object (ty_of ty.now) }
+    ensures { result ≡ accepts object_types (ty_of ty.now) }
 {
     match ty {
         CedarType::Never => true,
@@ -121,7 +121,7 @@ pub(crate) fn is_record_type(ty: &CedarType) -> bool
 /// Whether the type False was found at the root.
 #[tactic(auto, using(crate::proofs::TypedViews::annotation_is))]
 pub(crate) fn is_typed_false(typed: &Expr<Option<CedarType>>) -> bool
-    ensures { result ≡ says is_false (annotation (typed_tree typed.now)) }
+    ensures { result ≡ annotation_passes is_false (annotation (typed_tree typed.now)) }
 {
     match &typed.annotation {
         Some(ty) => is_false_type(ty),
@@ -132,7 +132,7 @@ pub(crate) fn is_typed_false(typed: &Expr<Option<CedarType>>) -> bool
 /// Whether the type True was found at the root.
 #[tactic(auto, using(crate::proofs::TypedViews::annotation_is))]
 pub(crate) fn is_typed_true(typed: &Expr<Option<CedarType>>) -> bool
-    ensures { result ≡ says is_true (annotation (typed_tree typed.now)) }
+    ensures { result ≡ annotation_passes is_true (annotation (typed_tree typed.now)) }
 {
     match &typed.annotation {
         Some(ty) => is_true_type(ty),

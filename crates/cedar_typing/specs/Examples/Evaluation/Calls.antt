@@ -5,10 +5,10 @@ use Rattle.cedar_types.specs.declared.base.operators.BinaryOp.{BinaryOp}
 use Rattle.cedar_types.specs.declared.base.patterns.PatternElem.{PatternElem}
 use Rattle.cedar_types.specs.Names.{Text}
 use Rattle.cedar_types.specs.Tree.{unary, binary, call, no_trees, tree}
-use Rattle.cedar_typing.specs.Worlds.{TypeFailure, MissingEntity, Overflow, ExtensionFailure}
-use Rattle.cedar_typing.specs.Examples.World.{named, decimal, a_decimal}
-use Rattle.cedar_typing.specs.Examples.Expressions.{one, two, text, set3, to_decimal, matching, missing, mistyped, too_great}
+use Rattle.cedar_typing.specs.Evaluation.World.{TypeFailure, MissingEntity, Overflow, ExtensionFailure}
 use Rattle.cedar_typing.specs.Examples.Evaluation.{Yields, YieldsTrue, YieldsFalse, FailsAs}
+use Rattle.cedar_typing.specs.Examples.Expressions.{one, two, text, set3, to_decimal, matching, missing, mistyped, too_great}
+use Rattle.cedar_typing.specs.Examples.World.{named, decimal, a_decimal}
 
 -- the characters `a`, `b` and `é`, the wildcard, and the text of `é`, which has two bytes
 abbrev pub char_a : PatternElem

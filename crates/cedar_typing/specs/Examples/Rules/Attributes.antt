@@ -5,11 +5,11 @@ use Rattle.cedar_types.specs.declared.base.types.BoolType.TheVariants.{AnyBool, 
 use Rattle.cedar_types.specs.declared.base.types.ValidationMode.TheVariants.{Strict}
 use Rattle.cedar_types.specs.Types.{TNever, TBool, TLong, TAnyEntity}
 use Rattle.cedar_types.specs.Tree.{Shape, var, if_then_else, get_attr, has_attr}
-use Rattle.cedar_typing.specs.Typed.{TypedTree, Mark, typed}
-use Rattle.cedar_typing.specs.Settings.{nothing}
-use Rattle.cedar_typing.specs.Examples.World.{sample, hidden}
+use Rattle.cedar_typing.specs.Capabilities.{no_caps}
 use Rattle.cedar_typing.specs.Examples.Expressions.{one, principal, dot, has, has_vip, has_age, get_vip, get_boss, get_rank, has_friend, node}
 use Rattle.cedar_typing.specs.Examples.Rules.{TypesAs, TypesAsIn, FailsWith, FailsWithIn, marked_principal, aged_principal, with_friend, bool_at, true_at, false_at, long_at, no_type_at, refused_one, typed_principal, typed_has_vip, typed_has_age, typed_get_vip, typed_get_boss, untyped_get_rank, typed_has_friend, not_a_bool, not_an_object, unguarded_vip, unguarded_boss, unknown_rank}
+use Rattle.cedar_typing.specs.Examples.World.{sample, hidden}
+use Rattle.cedar_typing.specs.TypedExpr.{TypedTree, Mark, typed}
 
 -- a node that is of any entity, at the place n
 abbrev pub any_entity_at : ℕ → Mark
@@ -33,9 +33,9 @@ pub record HasTyping : Type 0 where
   pub has_known : TypesAsIn (sample Strict) marked_principal has_vip (TBool True) marked_principal
       (has_attr (true_at 1) (typed_principal 2) (codes "vip"))
   -- `principal has rank`: False; of any entity, Bool; neither hands on anything
-  pub has_undeclared : TypesAs (has principal (codes "rank")) (TBool False) nothing
+  pub has_undeclared : TypesAs (has principal (codes "rank")) (TBool False) no_caps
       (has_attr (false_at 1) (typed_principal 2) (codes "rank"))
-  pub has_hidden : TypesAsIn hidden nothing (has principal (codes "rank")) (TBool AnyBool) nothing
+  pub has_hidden : TypesAsIn hidden no_caps (has principal (codes "rank")) (TBool AnyBool) no_caps
       (has_attr (bool_at 1) (hidden_principal 2) (codes "rank"))
   -- `1 has vip`: Bool, and an error at the base, which names any record before any entity
   pub has_refused : FailsWith (has one (codes "vip"))
@@ -52,15 +52,15 @@ pub record HasTyping : Type 0 where
 
 pub record GetTyping : Type 0 where
   -- `principal.age`; `principal.vip` where it is known
-  pub get_required : TypesAs (dot principal (codes "age")) TLong nothing
+  pub get_required : TypesAs (dot principal (codes "age")) TLong no_caps
       (get_attr (long_at 1) (typed_principal 2) (codes "age"))
-  pub get_known : TypesAsIn (sample Strict) marked_principal get_vip (TBool AnyBool) nothing
+  pub get_known : TypesAsIn (sample Strict) marked_principal get_vip (TBool AnyBool) no_caps
       (typed_get_vip 1 2)
   -- `principal.vip` where it is not known: an error at the whole, and its type
   pub get_unguarded : FailsWith get_vip (typed_get_vip 1 2) (unguarded_vip 1 ∷ [])
   -- `principal.rank`: an error at the whole, and no type; of any entity in Partial, Never
   pub get_undeclared : FailsWith get_rank (untyped_get_rank 1 2) (unknown_rank 1 ∷ [])
-  pub get_hidden : TypesAsIn hidden nothing get_rank TNever nothing
+  pub get_hidden : TypesAsIn hidden no_caps get_rank TNever no_caps
       (get_attr (typed TNever (node 1)) (hidden_principal 2) (codes "rank"))
   -- `1.vip`: an error at the base, and no type
   pub get_refused : FailsWith (dot one (codes "vip"))

@@ -5,10 +5,10 @@ use Rattle.cedar_types.specs.declared.base.types.BoolType.TheVariants.{AnyBool}
 use Rattle.cedar_types.specs.Types.{TBool, TLong, TString}
 use Rattle.cedar_types.specs.Tree.{string, lit, if_then_else, or}
 use Rattle.cedar_types.specs.Errors.{incompatible_types}
-use Rattle.cedar_typing.specs.Typed.{TypedTree, typed}
-use Rattle.cedar_typing.specs.Settings.{nothing, either, both}
+use Rattle.cedar_typing.specs.Capabilities.{no_caps, union, intersection}
 use Rattle.cedar_typing.specs.Examples.Expressions.{true_lit, false_lit, one, text, has_vip, has_age, get_vip, get_rank, has_friend, false_with_friend, node}
 use Rattle.cedar_typing.specs.Examples.Rules.{TypesAs, FailsWith, HandsOnNeither, marked_principal, with_friend, bool_at, no_type_at, typed_true, typed_false, typed_one, refused_one, typed_has_vip, typed_get_vip, untyped_get_rank, typed_has_friend, typed_false_with_friend, error_at, not_a_bool, unguarded_vip, unknown_rank}
+use Rattle.cedar_typing.specs.TypedExpr.{TypedTree, typed}
 
 -- `"a"` at the place 5
 abbrev pub typed_text : TypedTree
@@ -18,7 +18,7 @@ pub record ConditionalTyping : Type 0 where
   -- `if context has friend then principal has vip else principal.vip`: the first branch stands for
   -- both, and the test and it hand on what they say
   pub if_true : TypesAs (if_then_else tt has_friend has_vip get_vip) (TBool AnyBool)
-      (either with_friend marked_principal)
+      (union with_friend marked_principal)
       (if_then_else (bool_at 1) (typed_has_friend 2 3) (typed_has_vip 4 5) (typed_has_vip 4 5))
   -- `if false then principal.vip else principal has vip`: the other branch stands for both
   pub if_false : TypesAs (if_then_else tt false_lit get_vip has_vip) (TBool AnyBool)
@@ -33,7 +33,7 @@ pub record ConditionalTyping : Type 0 where
   -- `if principal has vip then principal.vip else false`: the first branch knows what the test
   -- says, and Bool is the bound
   pub if_open : TypesAs (if_then_else tt has_vip get_vip false_lit) (TBool AnyBool)
-      (both nothing (either marked_principal nothing))
+      (intersection no_caps (union marked_principal no_caps))
       (if_then_else (bool_at 1) (typed_has_vip 2 3) (typed_get_vip 4 5) (typed_false 6))
   -- `if principal has vip then principal has age else principal has age || principal has vip`: what
   -- the test and one branch alone say is not handed on
@@ -41,7 +41,7 @@ pub record ConditionalTyping : Type 0 where
   -- `if principal has vip then true else principal has vip`: what holds after either branch is
   -- handed on
   pub if_known : TypesAs (if_then_else tt has_vip true_lit has_vip) (TBool AnyBool)
-      (both marked_principal (either marked_principal nothing))
+      (intersection marked_principal (union marked_principal no_caps))
       (if_then_else (bool_at 1) (typed_has_vip 2 3) (typed_true 4) (typed_has_vip 5 6))
   -- `if principal has vip then 1 else "a"`: no bound, which is an error at the whole, and no type
   pub if_unbound : FailsWith (if_then_else tt has_vip one (text (codes "a")))

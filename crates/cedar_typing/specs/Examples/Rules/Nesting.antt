@@ -5,11 +5,12 @@ use Rattle.cedar_types.specs.declared.base.types.BoolType.TheVariants.{False}
 use Rattle.cedar_types.specs.declared.base.types.ValidationMode.TheVariants.{Strict}
 use Rattle.cedar_types.specs.Types.{TBool}
 use Rattle.cedar_types.specs.Tree.{Shape, if_then_else, and, or, unary}
-use Rattle.cedar_typing.specs.Settings.{nothing}
-use Rattle.cedar_typing.specs.Rules.{max_nesting, Has}
-use Rattle.cedar_typing.specs.Examples.World.{sample}
+use Rattle.cedar_typing.specs.Capabilities.{no_caps}
 use Rattle.cedar_typing.specs.Examples.Expressions.{true_lit, false_lit, one, dot, has, has_vip, get_boss, numbered}
 use Rattle.cedar_typing.specs.Examples.Rules.{CutsAt, typed_false, not_a_bool, unguarded_boss}
+use Rattle.cedar_typing.specs.Examples.World.{sample}
+use Rattle.cedar_typing.specs.Judgments.{max_nesting}
+use Rattle.cedar_typing.specs.Rules.{Derives}
 
 -- `!(principal has vip)`, of which `principal` is too deep where the whole has the depth 399
 abbrev pub deep : Shape
@@ -21,8 +22,8 @@ refused_deep = and tt one has_vip
 
 pub record NestingTyping : Type 0 where
   -- `false` is looked at at depth 400, and no deeper
-  pub at_the_limit : Has (sample Strict) (numbered false_lit) nothing max_nesting (TBool False)
-      nothing (typed_false 1)
+  pub at_the_limit : Derives (sample Strict) (numbered false_lit) no_caps max_nesting (TBool False)
+      no_caps (typed_false 1)
   pub past_the_limit : CutsAt (max_nesting + 1) false_lit []
   -- `principal.boss has vip`, `principal.boss.vip`: the base is cut, and nothing is said of the
   -- whole

@@ -3,38 +3,38 @@ use Rattle.std.specs.Prelude.{[], ◌∷◌}
 use Rattle.cedar_types.specs.declared.base.types.BoolType.TheVariants.{AnyBool, True, False}
 use Rattle.cedar_types.specs.Types.{TBool}
 use Rattle.cedar_types.specs.Tree.{and, or}
-use Rattle.cedar_typing.specs.Settings.{nothing, either, both}
+use Rattle.cedar_typing.specs.Capabilities.{no_caps, union, intersection}
 use Rattle.cedar_typing.specs.Examples.Expressions.{true_lit, false_lit, one, has_vip, has_age, get_vip, get_rank, has_friend, false_with_friend}
 use Rattle.cedar_typing.specs.Examples.Rules.{TypesAs, FailsWith, HandsOnNeither, marked_principal, aged_principal, with_friend, bool_at, true_at, false_at, typed_true, typed_false, refused_one, typed_has_vip, typed_has_age, typed_get_vip, untyped_get_rank, typed_has_friend, typed_false_with_friend, not_a_bool, unguarded_vip, unknown_rank}
 
 pub record AndTyping : Type 0 where
   -- `false && 1`: the left side alone, at the place of the whole
-  pub and_left : TypesAs (and tt false_lit one) (TBool False) nothing (typed_false 1)
+  pub and_left : TypesAs (and tt false_lit one) (TBool False) no_caps (typed_false 1)
   -- `(if context has friend then false else true) && 1`: what a False left side says is not handed
   -- on
-  pub and_left_drops : TypesAs (and tt false_with_friend one) (TBool False) nothing
+  pub and_left_drops : TypesAs (and tt false_with_friend one) (TBool False) no_caps
       (typed_false_with_friend 1 3 4 5)
   -- `principal has vip && principal.vip`: the right side knows what the left one says
   pub and_guarded : TypesAs (and tt has_vip get_vip) (TBool AnyBool)
-      (either marked_principal nothing)
+      (union marked_principal no_caps)
       (and (bool_at 1) (typed_has_vip 2 3) (typed_get_vip 4 5))
   -- `principal has vip && false`: nothing is handed on
-  pub and_right : TypesAs (and tt has_vip false_lit) (TBool False) nothing
+  pub and_right : TypesAs (and tt has_vip false_lit) (TBool False) no_caps
       (and (false_at 1) (typed_has_vip 2 3) (typed_false 4))
   -- `true && context has friend`, `context has friend && true`: True, with what both sides say
-  pub and_true : TypesAs (and tt true_lit has_friend) (TBool True) (either nothing with_friend)
+  pub and_true : TypesAs (and tt true_lit has_friend) (TBool True) (union no_caps with_friend)
       (and (true_at 1) (typed_true 2) (typed_has_friend 3 4))
   pub and_right_true : TypesAs (and tt has_friend true_lit) (TBool True)
-      (either with_friend nothing)
+      (union with_friend no_caps)
       (and (true_at 1) (typed_has_friend 2 3) (typed_true 4))
   -- `(principal has vip && principal has age) && principal.vip`, and the other way round within the
   -- parentheses: what either side says is handed on, or the access would be refused
   pub and_hands_on_left : TypesAs (and tt (and tt has_vip has_age) get_vip) (TBool AnyBool)
-      (either (either marked_principal aged_principal) nothing)
+      (union (union marked_principal aged_principal) no_caps)
       (and (bool_at 1) (and (bool_at 2) (typed_has_vip 3 4) (typed_has_age 5 6))
       (typed_get_vip 7 8))
   pub and_hands_on_right : TypesAs (and tt (and tt has_age has_vip) get_vip) (TBool AnyBool)
-      (either (either aged_principal marked_principal) nothing)
+      (union (union aged_principal marked_principal) no_caps)
       (and (bool_at 1) (and (bool_at 2) (typed_has_age 3 4) (typed_has_vip 5 6))
       (typed_get_vip 7 8))
   -- `1 && false`: Bool, and an error at the left side
@@ -56,18 +56,18 @@ pub record OrTyping : Type 0 where
   pub or_left : TypesAs (or tt has_friend one) (TBool True) with_friend (typed_has_friend 1 3)
   -- `principal has vip || principal has vip`: only what both sides say is handed on
   pub or_open : TypesAs (or tt has_vip has_vip) (TBool AnyBool)
-      (both marked_principal marked_principal)
+      (intersection marked_principal marked_principal)
       (or (bool_at 1) (typed_has_vip 2 3) (typed_has_vip 4 5))
   -- `(principal has vip || principal has vip) && principal.vip`: it is handed on, or the access
   -- would be refused
   pub or_hands_on : TypesAs (and tt (or tt has_vip has_vip) get_vip) (TBool AnyBool)
-      (either (both marked_principal marked_principal) nothing)
+      (union (intersection marked_principal marked_principal) no_caps)
       (and (bool_at 1) (or (bool_at 2) (typed_has_vip 3 4) (typed_has_vip 5 6)) (typed_get_vip 7 8))
   -- `principal has vip || principal has age`: what one side alone says is not handed on
   pub or_neither : HandsOnNeither (or tt has_vip has_age)
   -- `principal has vip || true`, `principal has vip || context has friend`: True, and what the
   -- right side says is handed on
-  pub or_right_true : TypesAs (or tt has_vip true_lit) (TBool True) nothing
+  pub or_right_true : TypesAs (or tt has_vip true_lit) (TBool True) no_caps
       (or (true_at 1) (typed_has_vip 2 3) (typed_true 4))
   pub or_right_known : TypesAs (or tt has_vip has_friend) (TBool True) with_friend
       (or (true_at 1) (typed_has_vip 2 3) (typed_has_friend 4 5))
@@ -80,9 +80,9 @@ pub record OrTyping : Type 0 where
   -- `(if context has friend then false else true) || false`, and the other way round: False, and
   -- only what the left side says is handed on
   pub or_both_false : TypesAs (or tt false_with_friend false_lit) (TBool False)
-      (either with_friend nothing)
+      (union with_friend no_caps)
       (or (false_at 1) (typed_false_with_friend 2 3 4 5) (typed_false 7))
-  pub or_both_false_right : TypesAs (or tt false_lit false_with_friend) (TBool False) nothing
+  pub or_both_false_right : TypesAs (or tt false_lit false_with_friend) (TBool False) no_caps
       (or (false_at 1) (typed_false 2) (typed_false_with_friend 3 4 5 6))
   -- `principal has vip || principal.vip`: the right side knows nothing of the left one
   pub or_unguarded : FailsWith (or tt has_vip get_vip)

@@ -5,19 +5,19 @@ use Rattle.cedar_types.specs.declared.base.types.BoolType.TheVariants.{AnyBool, 
 use Rattle.cedar_types.specs.Types.{TBool}
 use Rattle.cedar_types.specs.Tree.{and, unary}
 use Rattle.cedar_types.specs.Errors.{internal_invariant_violation}
-use Rattle.cedar_typing.specs.Settings.{nothing}
-use Rattle.cedar_typing.specs.Failing.{nameless}
+use Rattle.cedar_typing.specs.Capabilities.{no_caps}
 use Rattle.cedar_typing.specs.Examples.Expressions.{true_lit, false_lit, one, has_vip, get_vip, get_rank, node}
 use Rattle.cedar_typing.specs.Examples.Rules.{TypesAs, FailsWith, bool_at, true_at, false_at, typed_true, typed_false, refused_one, typed_has_vip, typed_get_vip, untyped_get_rank, error_at, not_a_bool, unguarded_vip, unknown_rank}
+use Rattle.cedar_typing.specs.Rules.Leaves.{nameless}
 
 pub record UnaryTyping : Type 0 where
   -- `!true`, `!false`: True and False change places; `!(principal has vip)`: Bool; nothing is
   -- handed on
-  pub not_true : TypesAs (unary tt UnaryOp.Not true_lit) (TBool False) nothing
+  pub not_true : TypesAs (unary tt UnaryOp.Not true_lit) (TBool False) no_caps
       (unary (false_at 1) UnaryOp.Not (typed_true 2))
-  pub not_false : TypesAs (unary tt UnaryOp.Not false_lit) (TBool True) nothing
+  pub not_false : TypesAs (unary tt UnaryOp.Not false_lit) (TBool True) no_caps
       (unary (true_at 1) UnaryOp.Not (typed_false 2))
-  pub not_open : TypesAs (unary tt UnaryOp.Not has_vip) (TBool AnyBool) nothing
+  pub not_open : TypesAs (unary tt UnaryOp.Not has_vip) (TBool AnyBool) no_caps
       (unary (bool_at 1) UnaryOp.Not (typed_has_vip 2 3))
   -- `!1`: Bool, and an error at the operand
   pub not_refused : FailsWith (unary tt UnaryOp.Not one)

@@ -1,4 +1,4 @@
-use Rattle.cedar_typing.proofs.ValueLaws.{equality, no_order}
+use Rattle.cedar_typing.proofs.Values.Laws.{equality, no_order}
 use Rattle.cedar_typing.proofs.typecheck.laws.equality_of_values.Goals as goal
 
 pub returns : goal.returns

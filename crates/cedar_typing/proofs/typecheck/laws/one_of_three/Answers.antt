@@ -1,4 +1,4 @@
-use Rattle.cedar_typing.proofs.Laws.{three_at_most, three_at_least, by_depth}
+use Rattle.cedar_typing.proofs.RuleLaws.{three_at_most, three_at_least, by_depth}
 use Rattle.cedar_typing.proofs.typecheck.laws.one_of_three.Goals as goal
 
 pub returns : goal.returns

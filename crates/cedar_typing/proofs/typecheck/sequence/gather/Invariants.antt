@@ -7,5 +7,5 @@ invariant-loop-answer g l = record {
   no_limit : l.is_limit ≡ false;
   hand_on : AllHandOn l.yielded;
   handed : AreHanded l.yielded l.handed.items;
-  is_good : l.is_good ≡ none_failed l.yielded;
+  succeeded : l.succeeded ≡ none_failed l.yielded;
 }

@@ -13,6 +13,6 @@ returns g c =
         in_order = k.in_order;
         answer = c.in_ok-answer.answer;
         called = c.in_ok-answer.ensures;
-        adjusts = c.adjusted.ensures ∙ (λ i. answer_where (k.is_limit i) (k.is_good i) c.in_ok-answer.answer);
+        adjusts = c.adjusted.ensures ∙ (λ i. answer_where (k.is_limit i) (k.succeeded i) c.in_ok-answer.answer);
       },
     )

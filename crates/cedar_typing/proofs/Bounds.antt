@@ -1,0 +1,4 @@
+-- Values have the bounds of their types.
+pub mod Values
+pub mod Strict
+pub mod Attributes

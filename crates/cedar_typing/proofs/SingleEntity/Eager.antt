@@ -1,0 +1,86 @@
+-- In Strict each type that is found names one entity type at most: forms whose operands are all typed first.
+use Rattle.std.proofs.Common.{◌≡◌, Bool, true, false, List, [], ◌∷◌, Option, Some, None, sym, ap, subst}
+use Rattle.cedar_types.specs.declared.base.location.Loc.{Loc}
+use Rattle.cedar_types.specs.Types.{Ty}
+use Rattle.cedar_types.specs.Errors.{Finding}
+use Rattle.cedar_typing.specs.Capabilities.{Caps}
+use Rattle.cedar_typing.specs.Eager.{Expectation, Decision, gives, refuses, Form, first_expectation, types_found}
+use Rattle.cedar_typing.specs.Judgments.{Judgment}
+use Rattle.cedar_typing.specs.Rules.Eager.{Judgments, NoneDerived, none_derived, NoneGiven, none_given, no_operands, ExpectedOperand, also_derived, also_given, one_more, eager_typed, operand_failed, table_refused, eager_rules, one_operand_rules}
+use Rattle.cedar_typing.specs.TypeEnv.{TypeEnv}
+use Rattle.cedar_typing.specs.TypedExpr.{TypedTree, Mark, mark_of, typed, typed_as, annotation}
+use Rattle.cedar_typing.proofs.Agreement.Parts.{Marks}
+use Rattle.cedar_typing.proofs.SingleEntity.Rules.{SingleEntities, part_single, operand_single}
+use Rattle.cedar_typing.proofs.SingleEntity.Types.{has_single_entities, HasSingleEntities}
+
+pub expected_single : (J : Judgment) → SingleEntities J → (env : TypeEnv) (q : Expectation) (l : Option Loc) (succeeded : Bool) (c : Caps) (x : TypedTree) (es : List Finding) → ExpectedOperand env q l J succeeded c x es → HasSingleEntities (annotation x)
+expected_single J n env None l succeeded c x es p = part_single J n succeeded c x es p
+expected_single J n env (Some ts) l succeeded c x es p = operand_single J n env ts l succeeded c x es p
+
+-- ---- operands, one after another
+
+-- each names one entity type at most
+abbrev pub AllSingle : List (Option Ty) → Type 0
+AllSingle [] = Unit {0}
+AllSingle (t ∷ ts) = HasSingleEntities t × AllSingle ts
+
+pub record SingleAll (Js : Judgments) : Type 0 where
+  pub derivations : (xs : List TypedTree) → Js.derive xs → AllSingle (types_found xs)
+  pub givings : (b : Bool) (xs : List TypedTree) (es : List Finding) → Js.give b xs es → AllSingle (types_found xs)
+
+no_derivations : (xs : List TypedTree) → NoneDerived xs → AllSingle (types_found xs)
+no_derivations xs none_derived = tt
+
+no_givings : (b : Bool) (xs : List TypedTree) (es : List Finding) → NoneGiven b xs es → AllSingle (types_found xs)
+no_givings b xs es none_given = tt
+
+none_single : SingleAll no_operands
+none_single = record { derivations = no_derivations; givings = no_givings }
+
+module _ (env : TypeEnv) (goes_on : Bool) (q : Expectation) (l : Option Loc) (J : Judgment) (operand : SingleEntities J) (Js : Judgments) (others : SingleAll Js) where
+  abbrev More : Judgments
+  More = one_more env goes_on q l J Js
+
+  more_derivations : (xs : List TypedTree) → More.derive xs → AllSingle (types_found xs)
+  more_derivations xs (also_derived {t = t} {c = c} {x = x} {xs = ys} d h ds) = (subst HasSingleEntities (sym (operand.marks t c x d)) (operand.derivations t c x d), others.derivations ys ds)
+
+  more_givings : (b : Bool) (xs : List TypedTree) (es : List Finding) → More.give b xs es → AllSingle (types_found xs)
+  more_givings b xs es (also_given {succeeded = s} {later = s'} {c = c} {x = x} {xs = ys} {es = before} {es' = after} p hs) = (expected_single J operand env q l s c x before p, others.givings s' ys after hs)
+
+  more_single : SingleAll More
+  more_single = record { derivations = more_derivations; givings = more_givings }
+
+-- ---- a form
+
+-- the type that a table gives or lets stay
+abbrev pub decided_type : Decision → Option Ty
+decided_type (gives t c) = Some t
+decided_type (refuses t fs) = t
+
+-- a table names one entity type at most where its operands do
+abbrev pub SingleForm : Form → Type 0
+SingleForm f = (ts : List (Option Ty)) → AllSingle ts → HasSingleEntities (decided_type (f.decides ts))
+
+module _ (f : Form) (node_mark : (k : Mark) (xs : List TypedTree) → mark_of (f.node k xs) ≡ k) (form : SingleForm f) (Js : Judgments) (operands : SingleAll Js) where
+  abbrev Whole : Judgment
+  Whole = eager_rules f Js
+
+  by_decision : (xs : List TypedTree) (z : Decision) → AllSingle (types_found xs) → f.decides (types_found xs) ≡ z → HasSingleEntities (decided_type z)
+  by_decision xs z h e = subst (λ y. HasSingleEntities (decided_type y)) e (form (types_found xs) h)
+
+  form_derived : (t : Ty) (c : Caps) (x : TypedTree) → Whole.derives t c x → has_single_entities t ≡ true
+  form_derived t c x (eager_typed {xs = xs} ds e) = by_decision xs (gives t c) (operands.derivations xs ds) e
+
+  at_root : (k : Mark) (xs : List TypedTree) → HasSingleEntities k.ty → HasSingleEntities (annotation (f.node k xs))
+  at_root k xs h = subst HasSingleEntities (sym (ap (λ (z : Mark). z.ty) (node_mark k xs))) h
+
+  form_recovered : (x : TypedTree) (es : List Finding) → Whole.recovers x es → HasSingleEntities (annotation x)
+  form_recovered x es (operand_failed {t = t} {c = c} {xs = xs} h e) = at_root (typed t f.at) xs (by_decision xs (gives t c) (operands.givings false xs es h) e)
+  form_recovered x es (table_refused {succeeded = s} {t = t} {fs = fs} {xs = xs} {es = before} h e) = at_root (typed_as t f.at) xs (by_decision xs (refuses t fs) (operands.givings s xs before h) e)
+
+  form_single : Marks Whole.derives → SingleEntities Whole
+  form_single h = record { derivations = form_derived; recoveries = form_recovered; marks = h }
+
+-- a form with one operand
+pub one_operand_single : (env : TypeEnv) (f : Form) → ((k : Mark) (xs : List TypedTree) → mark_of (f.node k xs) ≡ k) → SingleForm f → (l : Option Loc) (J : Judgment) → SingleEntities J → Marks (one_operand_rules env f l J).derives → SingleEntities (one_operand_rules env f l J)
+one_operand_single env f node_mark form l J s h = form_single f node_mark form _ (more_single env f.goes_on (first_expectation f.expects) l J s no_operands none_single) h

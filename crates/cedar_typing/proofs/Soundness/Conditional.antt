@@ -1,0 +1,249 @@
+-- `if` does not go wrong.
+use Rattle.std.proofs.Common.{◌≡◌, Bool, true, false, List, Option, Some, None, option_map, if◌then◌else◌, ◌||◌, refl, sym, ◌∙◌, ap, subst}
+use Rattle.cedar_types.specs.declared.base.location.Loc.{Loc}
+use Rattle.cedar_types.specs.declared.base.types.ValidationMode.{ValidationMode}
+use Rattle.cedar_types.specs.declared.base.types.ValidationMode.TheVariants.{Strict}
+use Rattle.cedar_types.specs.Names.{Path}
+use Rattle.cedar_types.proofs.SameTypes.{ty_to}
+use Rattle.cedar_types.specs.Types.{Attrs, Ty, TNever, TBool, TLong, TString, TSet, TAnySet, TRecord, TEntity, TAnyEntity, TExtension}
+use Rattle.cedar_types.specs.View.{Written}
+use Rattle.cedar_types.specs.Bounds.{is_never, ty_eq, lub, apart_lub, bool_lub, set_lub, any_set_lub, entity_lub, any_entity_lub, record_lub, both_attrs, common_attrs}
+use Rattle.cedar_types.specs.Errors.{Finding}
+use Rattle.cedar_typing.specs.Capabilities.{Caps, no_caps, union, intersection}
+use Rattle.cedar_typing.specs.Evaluation.Conformance.{AllHold, SaysTrue}
+use Rattle.cedar_typing.specs.Evaluation.Outcomes.{Test, Says, Stops, test_of, choose}
+use Rattle.cedar_typing.specs.Evaluation.World.{World, Failure, Outcome, Gives, Fails}
+use Rattle.cedar_typing.specs.Judgments.{Judgment}
+use Rattle.cedar_typing.specs.Rules.Conditional.{if_true_recovered, if_false_recovered, if_open_recovered, if_true, if_false, if_open, if_rules, joined}
+use Rattle.cedar_typing.specs.Soundness.{HasFound, IsSafe, IsTrueOutcome}
+use Rattle.cedar_typing.specs.TypeEnv.{TypeEnv}
+use Rattle.cedar_typing.specs.TypedExpr.{TypedTree, annotation}
+use Rattle.cedar_typing.proofs.Bounds.Strict.{lub_right_strict}
+use Rattle.cedar_typing.proofs.Bounds.Values.{lub_left}
+use Rattle.cedar_typing.proofs.Soundness.Capabilities.{hold_either, hold_left, hold_right}
+use Rattle.cedar_typing.proofs.Soundness.Conjunction.{derived_test, true_sort, false_sort}
+use Rattle.cedar_typing.proofs.Soundness.Parts.{IsSureType, Sound, Sounds, IsSure, refused_sound, part_sound}
+use Rattle.cedar_typing.proofs.Soundness.Tests.{Sort, Yes, No, TestHas, SafeTest, SoundTest, sorted, operand_sort, tested_operand}
+
+-- ---- the branch that is taken
+
+module _ (t : Option Ty) where
+  failed_has : (f : Failure) → HasFound t (Fails f)
+  failed_has f = go t
+    where
+      go : (t : Option Ty) → HasFound t (Fails f)
+      go None = tt
+      go (Some t) = tt
+
+  true_has : (s : Test) (o p : Outcome) → TestHas s (Some Yes) → (SaysTrue s → HasFound t o) → HasFound t (choose s o p)
+  true_has (Says true) o p h f = f refl
+  true_has (Says false) o p h f = cc
+  true_has (Stops e) o p h f = failed_has e
+
+  false_has : (s : Test) (o p : Outcome) → TestHas s (Some No) → HasFound t p → HasFound t (choose s o p)
+  false_has (Says true) o p h f = cc
+  false_has (Says false) o p h f = f
+  false_has (Stops e) o p h f = failed_has e
+
+  open_has : (s : Test) (o p : Outcome) → (SaysTrue s → HasFound t o) → HasFound t p → HasFound t (choose s o p)
+  open_has (Says true) o p f g = f refl
+  open_has (Says false) o p f g = g
+  open_has (Stops e) o p f g = failed_has e
+
+chosen_safe : (s : Test) (o p : Outcome) → SafeTest s → (SaysTrue s → IsSafe o) → IsSafe p → IsSafe (choose s o p)
+chosen_safe (Says true) o p h f g = f refl
+chosen_safe (Says false) o p h f g = g
+chosen_safe (Stops e) o p h f g = h
+
+true_safe : (s : Test) (o p : Outcome) → TestHas s (Some Yes) → SafeTest s → (SaysTrue s → IsSafe o) → IsSafe (choose s o p)
+true_safe (Says true) o p n h f = f refl
+true_safe (Says false) o p n h f = cc
+true_safe (Stops e) o p n h f = h
+
+false_safe : (s : Test) (o p : Outcome) → TestHas s (Some No) → SafeTest s → IsSafe p → IsSafe (choose s o p)
+false_safe (Says true) o p n h f = cc
+false_safe (Says false) o p n h f = f
+false_safe (Stops e) o p n h f = h
+
+true_taken : (s : Test) (o p : Outcome) → TestHas s (Some Yes) → IsTrueOutcome (choose s o p) → IsTrueOutcome o
+true_taken (Says true) o p n h = h
+true_taken (Says false) o p n h = cc
+true_taken (Stops e) o p n h = absurd h
+
+false_taken : (s : Test) (o p : Outcome) → TestHas s (Some No) → IsTrueOutcome (choose s o p) → IsTrueOutcome p
+false_taken (Says true) o p n h = cc
+false_taken (Says false) o p n h = h
+false_taken (Stops e) o p n h = absurd h
+
+open_taken : (s : Test) (o p : Outcome) (P : Type 0) → (SaysTrue s → IsTrueOutcome o → P) → (IsTrueOutcome p → P) → IsTrueOutcome (choose s o p) → P
+open_taken (Says true) o p P f g h = f refl h
+open_taken (Says false) o p P f g h = g h
+open_taken (Stops e) o p P f g h = absurd h
+
+-- ---- bounds
+
+-- a value of a branch has the type of the whole
+left_has : (m : ValidationMode) (x y : Option Ty) (o : Outcome) → HasFound x o → HasFound (joined m x y) o
+left_has m None y o h = tt
+left_has m (Some t) None o h = tt
+left_has m (Some t) (Some u) o h = go (lub m t u) refl o h
+  where
+    go : (z : Option Ty) → lub m t u ≡ z → (o : Outcome) → HasFound (Some t) o → HasFound z o
+    go None e o h = tt
+    go (Some v) e (Gives x) h = lub_left m t u v e x h
+    go (Some v) e (Fails f) h = tt
+
+right_has : (x y : Option Ty) (o : Outcome) → HasFound y o → HasFound (joined Strict x y) o
+right_has None y o h = tt
+right_has (Some t) None o h = tt
+right_has (Some t) (Some u) o h = go (lub Strict t u) refl o h
+  where
+    go : (z : Option Ty) → lub Strict t u ≡ z → (o : Outcome) → HasFound (Some u) o → HasFound z o
+    go None e o h = tt
+    go (Some v) e (Gives x) h = lub_right_strict Strict t u v refl e x h
+    go (Some v) e (Fails f) h = tt
+
+-- a bound that is True or of no value is the right side too
+module _ (u : Ty) where
+  abbrev FromRight : Option Ty → Type 0
+  FromRight o = IsSure o → IsSureType u
+
+  right_if : (b : Bool) (x y : Option Ty) → (b ≡ true → FromRight x) → FromRight y → FromRight (if b then x else y)
+  right_if true x y f g = f refl
+  right_if false x y f g = g
+
+right_set : (o : Option Ty) (u : Ty) → FromRight u (option_map TSet o)
+right_set None u h = absurd h
+right_set (Some t) u h = absurd h
+
+right_sets : (f : Ty → Option Ty) (u : Ty) → FromRight u (set_lub f u)
+right_sets f (TSet t) h = right_set (f t) (TSet t) h
+right_sets f TNever h = tt
+right_sets f (TBool k) h = absurd h
+right_sets f TLong h = absurd h
+right_sets f TString h = absurd h
+right_sets f TAnySet h = absurd h
+right_sets f (TRecord xs o) h = absurd h
+right_sets f (TEntity ps) h = absurd h
+right_sets f TAnyEntity h = absurd h
+right_sets f (TExtension n) h = absurd h
+
+right_bool : (u : Ty) → FromRight u (bool_lub u)
+right_bool (TBool k) h = absurd h
+right_bool u h = absurd h
+
+right_any_set : (u : Ty) → FromRight u (any_set_lub u)
+right_any_set (TSet t) h = absurd h
+right_any_set u h = absurd h
+
+right_entity : (ps : List Path) (u : Ty) → FromRight u (entity_lub Strict ps u)
+right_entity ps TAnyEntity h = absurd h
+right_entity ps u h = absurd h
+
+right_any_entity : (u : Ty) → FromRight u (any_entity_lub u)
+right_any_entity (TEntity ps) h = absurd h
+right_any_entity u h = absurd h
+
+right_closed : (b : Bool) (zs : Option Attrs) (u : Ty) → FromRight u (if b then None else option_map (λ zs. TRecord zs false) zs)
+right_closed true zs u h = absurd h
+right_closed false None u h = absurd h
+right_closed false (Some zs) u h = absurd h
+
+right_record : (xs : Attrs) (o : Bool) (f : Attrs → Option Attrs) (g : Attrs → Attrs) (u : Ty) → FromRight u (record_lub Strict xs o f g u)
+right_record xs o f g (TRecord ys p) h = right_closed (o || p) (f ys) (TRecord ys p) h
+right_record xs o f g u h = absurd h
+
+right_apart : (t u : Ty) → FromRight u (apart_lub Strict t u)
+right_apart TNever u h = h
+right_apart (TBool k) u h = right_bool u h
+right_apart TLong u h = absurd h
+right_apart TString u h = absurd h
+right_apart (TSet t) u h = right_sets (lub Strict t) u h
+right_apart TAnySet u h = right_any_set u h
+right_apart (TRecord xs o) u h = right_record xs o (both_attrs Strict xs) (common_attrs Strict xs) u h
+right_apart (TEntity ps) u h = right_entity ps u h
+right_apart TAnyEntity u h = right_any_entity u h
+right_apart (TExtension n) u h = absurd h
+
+never_sure : (u : Ty) → is_never u ≡ true → IsSureType u
+never_sure TNever h = tt
+never_sure u h = cc
+
+right_lub : (t u : Ty) → FromRight u (lub Strict t u)
+right_lub t u = right_if u (ty_eq t u) (Some t) _ (λ e h. subst IsSureType (ty_to t u e) h) (right_if u (is_never u) (Some t) (apart_lub Strict t u) (λ e h. never_sure u e) (right_apart t u))
+
+right_joined : (x y : Option Ty) → IsSure (joined Strict x y) → IsSure y
+right_joined None y h = absurd h
+right_joined (Some t) None h = absurd h
+right_joined (Some t) (Some u) h = right_lub t u h
+
+-- ---- the rules
+
+module _ (world : World) (env : TypeEnv) (strict : env.mode ≡ Strict) (m : Written) (l : Option Loc) (o p q : Outcome) (A : Judgment) (B : Caps → Judgment) (E : Judgment) (prior : Caps)
+    (held : AllHold world prior) (test : Sounds world o A) (branch : (p' : Caps) → AllHold world p' → Sounds world p (B p')) (otherwise : Sounds world q E) where
+  abbrev choice : Outcome
+  choice = choose (test_of o) p q
+
+  known : (c : Caps) → AllHold world c → AllHold world (union prior c)
+  known c h = hold_either world prior c held h
+
+  if_derived : (t : Ty) (c : Caps) (x : TypedTree) → (if_rules env m l A B E prior).derives t c x → Sound world choice true (Some t) c
+  if_derived t c x (if_true {c = k} {c' = k'} d d') =
+      let h = sorted world o true Yes k (test.derivations _ _ _ d) in
+      let s = (branch (union prior k) (known k (h.caps_hold_at_true tt))).derivations _ _ _ d' in
+      record {
+        typed = true_has (Some t) (test_of o) p q h.typed (λ n. s.typed);
+        safe = λ n. true_safe (test_of o) p q h.typed (h.safe refl) (λ e. s.safe refl);
+        caps_hold_if_true = λ n. hold_either world k k' (h.caps_hold_at_true tt) (s.caps_hold_if_true (true_taken (test_of o) p q h.typed n));
+        caps_hold_at_true = λ n. hold_either world k k' (h.caps_hold_at_true tt) (s.caps_hold_at_true n);
+      }
+  if_derived t c x (if_false {c = k} d d') =
+      let h = sorted world o true No k (test.derivations _ _ _ d) in
+      let s = otherwise.derivations _ _ _ d' in
+      record {
+        typed = false_has (Some t) (test_of o) p q h.typed s.typed;
+        safe = λ n. false_safe (test_of o) p q h.typed (h.safe refl) (s.safe refl);
+        caps_hold_if_true = λ n. s.caps_hold_if_true (false_taken (test_of o) p q h.typed n);
+        caps_hold_at_true = s.caps_hold_at_true;
+      }
+  if_derived t c x (if_open {s = s} {t = t'} {u = u} {c = k} {c' = k'} {c'' = k''} d a n n' d' d'' e) =
+      let h = (derived_test world o s k a (test.derivations _ _ _ d)).test in
+      let b = λ (f : SaysTrue (test_of o)). (branch (union prior k) (known k (h.caps_hold_if_true f))).derivations _ _ _ d' in
+      let z = otherwise.derivations _ _ _ d'' in
+      let f : joined Strict (Some t') (Some u) ≡ Some t = sym (ap (λ m. lub m t' u) strict) ∙ e in
+      let P : Option Ty → Type 0 = λ v. HasFound v choice in
+      let Q : Option Ty → Type 0 = λ v. IsSure v → AllHold world (intersection k'' (union k k')) in
+      record {
+        typed = subst P f (open_has (joined Strict (Some t') (Some u)) (test_of o) p q (λ i. left_has Strict (Some t') (Some u) p (b i).typed) (right_has (Some t') (Some u) q z.typed));
+        safe = λ i. chosen_safe (test_of o) p q (h.safe refl) (λ j. (b j).safe refl) (z.safe refl);
+        caps_hold_if_true = λ i. open_taken (test_of o) p q _ (λ j v. hold_right world k'' (union k k') (hold_either world k k' (h.caps_hold_if_true j) ((b j).caps_hold_if_true v))) (λ v. hold_left world k'' (union k k') (z.caps_hold_if_true v)) i;
+        caps_hold_at_true = subst Q f (λ i. hold_left world k'' (union k k') (z.caps_hold_at_true (right_joined (Some t') (Some u) i)));
+      }
+
+  if_recovery : (x : TypedTree) (es : List Finding) → (if_rules env m l A B E prior).recovers x es → Sound world choice false (annotation x) no_caps
+  if_recovery x es (if_true_recovered {succeeded = succeeded} {succeeded' = succeeded'} {c = k} {c' = k'} {a = a} {b = b} {es = fs} {es' = fs'} a' n b' g) =
+      let e = true_sort (annotation a) (operand_sort world o env l A succeeded k a fs a') n in
+      let P : Option Sort → Type 0 = λ s. SoundTest world (test_of o) succeeded s k in
+      let h = subst P e (tested_operand world o env l A test succeeded k a fs a') in
+      let s = part_sound world p (B (union prior k)) (branch (union prior k) (known k (h.caps_hold_at_true tt))) succeeded' k' b fs' b' in
+      refused_sound world choice _ (true_has (annotation b) (test_of o) p q h.typed (λ i. s.typed))
+  if_recovery x es (if_false_recovered {succeeded = succeeded} {succeeded' = succeeded'} {c = k} {c' = k'} {a = a} {e = b} {es = fs} {es' = fs'} a' n b' g) =
+      let e = false_sort (annotation a) (operand_sort world o env l A succeeded k a fs a') n in
+      let P : Option Sort → Type 0 = λ s. SoundTest world (test_of o) succeeded s k in
+      let h = subst P e (tested_operand world o env l A test succeeded k a fs a') in
+      let s = part_sound world q E otherwise succeeded' k' b fs' b' in
+      refused_sound world choice _ (false_has (annotation b) (test_of o) p q h.typed s.typed)
+  if_recovery x es (if_open_recovered {succeeded = succeeded} {succeeded' = succeeded'} {succeeded'' = succeeded''} {c = k} {c' = k'} {c'' = k''} {a = a} {b = b} {e = z} {es = fs} {es' = fs'} {es'' = fs''} a' n n' b' z' g) =
+      let h = tested_operand world o env l A test succeeded k a fs a' in
+      let s = λ (f : SaysTrue (test_of o)). part_sound world p (B (union prior k)) (branch (union prior k) (known k (h.caps_hold_if_true f))) succeeded' k' b fs' b' in
+      let i = part_sound world q E otherwise succeeded'' k'' z fs'' z' in
+      let P : ValidationMode → Type 0 = λ v. HasFound (joined v (annotation b) (annotation z)) choice in
+      refused_sound world choice _ (subst P (sym strict) (open_has (joined Strict (annotation b) (annotation z)) (test_of o) p q (λ f. left_has Strict (annotation b) (annotation z) p (s f).typed) (right_has (annotation b) (annotation z) q i.typed)))
+
+  if_marks : (t : Ty) (c : Caps) (x : TypedTree) → (if_rules env m l A B E prior).derives t c x → annotation x ≡ Some t
+  if_marks t c x (if_true d d') = refl
+  if_marks t c x (if_false d d') = refl
+  if_marks t c x (if_open d a n n' d' d'' e) = refl
+
+  pub if_sounds : Sounds world choice (if_rules env m l A B E prior)
+  if_sounds = record { derivations = if_derived; recoveries = if_recovery; marks = if_marks }

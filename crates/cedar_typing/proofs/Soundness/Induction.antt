@@ -1,0 +1,127 @@
+-- What has a type does not go wrong: the induction over expressions.
+use Rattle.std.proofs.Common.{◌≡◌, ℕ, ◌+◌, true, false, List, [], ◌∷◌, refl, ap, subst, sym}
+use Rattle.cedar_types.specs.declared.base.operators.UnaryOp.{UnaryOp}
+use Rattle.cedar_types.specs.declared.base.types.BoolType.TheVariants.{True}
+use Rattle.cedar_types.specs.declared.base.types.ValidationMode.TheVariants.{Strict}
+use Rattle.cedar_types.specs.Names.{Path}
+use Rattle.cedar_types.specs.Types.{Ty, TEntity, TBool, TNever, TLong, TString, TSet, TAnySet, TRecord, TAnyEntity, TExtension}
+use Rattle.cedar_types.specs.Tree.{lit, var, slot, unknown, if_then_else, and, or, unary, binary, call, get_attr, has_attr, ext_has_attr, like, is_type, set_of, record_of}
+use Rattle.cedar_types.specs.View.{Written}
+use Rattle.cedar_types.specs.Schemas.{Schema, has_fault}
+use Rattle.cedar_types.specs.RequestEnvs.{is_partial}
+use Rattle.cedar_types.specs.Errors.{Finding}
+use Rattle.cedar_types.specs.Stores.{ConformingStore}
+use Rattle.cedar_typing.specs.Capabilities.{Caps, no_caps}
+use Rattle.cedar_typing.specs.Evaluation.Conformance.{Fits, IsEnvironmentOf, SlotsBound, AllHold}
+use Rattle.cedar_typing.specs.Evaluation.Eval.{eval}
+use Rattle.cedar_typing.specs.Evaluation.World.{World, Outcome}
+use Rattle.cedar_typing.specs.Judgments.{Judgment, within}
+use Rattle.cedar_typing.specs.Rules.{rules, rules_within}
+use Rattle.cedar_typing.specs.Rules.Attributes.{has_form, get_form}
+use Rattle.cedar_typing.specs.Rules.Leaves.{UnknownRecovery, unknown_fails, unknown_rules, UnbuiltRecovery, unbuilt, unbuilt_rules}
+use Rattle.cedar_typing.specs.Rules.Unary.{not_form}
+use Rattle.cedar_typing.specs.Soundness.{HasFound, IsSoundAt, TypeSoundness}
+use Rattle.cedar_typing.specs.TypeEnv.{TypeEnv}
+use Rattle.cedar_typing.specs.TypedExpr.{Source, TypedTree, annotation, place_of}
+use Rattle.cedar_typing.proofs.Bounds.Attributes.{Joins}
+use Rattle.cedar_typing.proofs.SingleEntity.Induction.{single_entity_types}
+use Rattle.cedar_typing.proofs.SingleEntity.Rules.{SingleEntities}
+use Rattle.cedar_typing.proofs.SingleEntity.Types.{has_single_entities}
+use Rattle.cedar_typing.proofs.Soundness.Attributes.{has_sound, get_sound}
+use Rattle.cedar_typing.proofs.Soundness.Conditional.{if_sounds}
+use Rattle.cedar_typing.proofs.Soundness.Conjunction.{and_sounds}
+use Rattle.cedar_typing.proofs.Soundness.Disjunction.{or_sounds}
+use Rattle.cedar_typing.proofs.Soundness.Eager.{one_operand_sounds}
+use Rattle.cedar_typing.proofs.Soundness.Leaves.{literal_has, variable_has, slot_sound, leaf_sounds, always_sounds}
+use Rattle.cedar_typing.proofs.Soundness.Parts.{Sound, Sounds, nothing_sound}
+use Rattle.cedar_typing.proofs.Soundness.Unary.{not_sound}
+
+-- ---- forms without a rule, and the limit
+
+module _ (world : World) (o : Outcome) where
+  unbuilt_recovered : (env : TypeEnv) (m : Written) (x : TypedTree) (es : List Finding) → UnbuiltRecovery env m.place x es → Sound world o false (annotation x) no_caps
+  unbuilt_recovered env m x es unbuilt = nothing_sound world o
+
+  unbuilt_sounds : (env : TypeEnv) (m : Written) → Sounds world o (unbuilt_rules env m.place)
+  unbuilt_sounds env m = record { derivations = λ t c x h. absurd h; recoveries = unbuilt_recovered env m; marks = λ t c x h. absurd h }
+
+  unknown_recovered : (n : Path) (m : Written) (x : TypedTree) (es : List Finding) → UnknownRecovery n m x es → Sound world o false (annotation x) no_caps
+  unknown_recovered n m x es unknown_fails = nothing_sound world o
+
+  unknown_sounds : (n : Path) (m : Written) → Sounds world o (unknown_rules n m)
+  unknown_sounds n m = record { derivations = λ t c x h. absurd h; recoveries = unknown_recovered n m; marks = λ t c x h. absurd h }
+
+  within_sounds : (d : ℕ) (J : Judgment) → Sounds world o J → Sounds world o (within d J)
+  within_sounds d J s = record {
+    derivations = λ t c x h. s.derivations t c x h.1;
+    recoveries = λ x es h. s.recoveries x es h.1;
+    marks = λ t c x h. s.marks t c x h.1;
+  }
+
+-- what a type declares can be joined where it names one entity type at most
+single_joins : (s : Schema) (t : Ty) → has_single_entities t ≡ true → Joins s t
+single_joins s (TEntity []) n h = cc
+single_joins s (TEntity (p ∷ [])) n h = cc
+single_joins s (TEntity (p ∷ q ∷ ps)) n h = cc
+single_joins s TNever n h = cc
+single_joins s (TBool k) n h = cc
+single_joins s TLong n h = cc
+single_joins s TString n h = cc
+single_joins s (TSet t) n h = cc
+single_joins s TAnySet n h = cc
+single_joins s (TRecord xs o) n h = cc
+single_joins s TAnyEntity n h = cc
+single_joins s (TExtension m) n h = cc
+
+-- ---- all expressions
+
+module _ (env : TypeEnv) (world : World) (strict : env.mode ≡ Strict) (faults : has_fault env.schema ≡ false) (environment : IsEnvironmentOf env.schema env.request_env) (fits : Fits env.request_env world.request world.slots) (store : ConformingStore env.schema world.store) where
+  partial : is_partial env.mode ≡ false
+  partial = ap is_partial strict
+
+  single_at : (e : Source) (prior : Caps) (d : ℕ) → SingleEntities (rules env e prior d)
+  single_at = single_entity_types env strict faults environment
+
+  sounds_within : (e : Source) → SlotsBound world.slots e → (prior : Caps) (d : ℕ) → AllHold world prior → Sounds world (eval world e) (rules_within env e prior d)
+  sounds_within (lit m x) b prior d h = leaf_sounds world m (λ k. lit k x) (λ k. refl) _ _ (literal_has env x)
+  sounds_within (var m x) b prior d h = leaf_sounds world m (λ k. var k x) (λ k. refl) _ _ (variable_has env.schema env.mode env.request_env env.policy world.request world.slots fits x)
+  sounds_within (slot m s) b prior d h = always_sounds world m (λ k. slot k s) (λ k. refl) _ _ (slot_sound world env.request_env world.request world.slots fits s b)
+  sounds_within (unknown m n) b prior d h = unknown_sounds world _ n m
+  sounds_within (if_then_else m x y z) b prior d h =
+      if_sounds world env strict m (place_of x) _ _ _ _ _ _ prior h (within_sounds world _ (d + 1) _ (sounds_within x b.0 prior (d + 1) h)) (λ p k. within_sounds world _ (d + 1) _ (sounds_within y b.1 p (d + 1) k)) (within_sounds world _ (d + 1) _ (sounds_within z b.2 prior (d + 1) h))
+  sounds_within (and m x y) b prior d h =
+      and_sounds world env m (place_of x) (place_of y) _ _ _ _ prior h (within_sounds world _ (d + 1) _ (sounds_within x b.0 prior (d + 1) h)) (λ p k. within_sounds world _ (d + 1) _ (sounds_within y b.1 p (d + 1) k))
+  sounds_within (or m x y) b prior d h =
+      or_sounds world env m (place_of x) (place_of y) _ _ _ _ prior (within_sounds world _ (d + 1) _ (sounds_within x b.0 prior (d + 1) h)) (within_sounds world _ (d + 1) _ (sounds_within y b.1 prior (d + 1) h))
+  sounds_within (unary m UnaryOp.Not x) b prior d h =
+      one_operand_sounds world env (not_form m) (λ k xs. refl) (place_of x) (eval world x) _ _ (not_sound world (eval world x) m) (within_sounds world _ (d + 1) _ (sounds_within x b prior (d + 1) h)) (single_at x prior (d + 1))
+  sounds_within (unary m UnaryOp.Neg x) b prior d h = unbuilt_sounds world _ env m
+  sounds_within (unary m UnaryOp.IsEmpty x) b prior d h = unbuilt_sounds world _ env m
+  sounds_within (binary m o x y) b prior d h = unbuilt_sounds world _ env m
+  sounds_within (call m n ts) b prior d h = unbuilt_sounds world _ env m
+  sounds_within (get_attr m x a) b prior d h =
+      one_operand_sounds world env (get_form env m prior x a) (λ k xs. refl) (place_of x) (eval world x) _ _ (get_sound env world store m prior h x a partial (single_joins env.schema)) (within_sounds world _ (d + 1) _ (sounds_within x b prior (d + 1) h)) (single_at x prior (d + 1))
+  sounds_within (has_attr m x a) b prior d h =
+      one_operand_sounds world env (has_form env m prior x a) (λ k xs. refl) (place_of x) (eval world x) _ _ (has_sound env world store m prior h x a) (within_sounds world _ (d + 1) _ (sounds_within x b prior (d + 1) h)) (single_at x prior (d + 1))
+  sounds_within (ext_has_attr m x a xs) b prior d h = unbuilt_sounds world _ env m
+  sounds_within (like m x p) b prior d h = unbuilt_sounds world _ env m
+  sounds_within (is_type m x n) b prior d h = unbuilt_sounds world _ env m
+  sounds_within (set_of m ts) b prior d h = unbuilt_sounds world _ env m
+  sounds_within (record_of m fs) b prior d h = unbuilt_sounds world _ env m
+
+  pub sounds : (e : Source) → SlotsBound world.slots e → (prior : Caps) (d : ℕ) → AllHold world prior → Sounds world (eval world e) (rules env e prior d)
+  sounds e b prior d h = within_sounds world _ d _ (sounds_within e b prior d h)
+
+  sound_at : (e : Source) → SlotsBound world.slots e → (prior : Caps) (d : ℕ) → AllHold world prior → IsSoundAt env world e prior d
+  sound_at e b prior d h =
+      let s = sounds e b prior d h in
+      record {
+        typed = λ t c x r. subst (λ a. HasFound a (eval world e)) (sym (s.marks t c x r)) (s.derivations t c x r).typed;
+        recovered = λ x es r. (s.recoveries x es r).typed;
+        safe = λ t c x r. (s.derivations t c x r).safe refl;
+        caps_hold_if_true = λ t c x r. (s.derivations t c x r).caps_hold_if_true;
+        caps_hold_at_true = λ c x r. (s.derivations (TBool True) c x r).caps_hold_at_true tt;
+      }
+
+pub type_soundness : TypeSoundness
+type_soundness env t world f r i e b prior d h = sound_at env world r.mode f r.environment i.environment i.store e b prior d h

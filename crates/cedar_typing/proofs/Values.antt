@@ -1,0 +1,4 @@
+-- Values: equality, types and attributes.
+pub mod Equality
+pub mod Laws
+pub mod Attributes

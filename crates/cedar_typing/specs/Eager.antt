@@ -1,0 +1,75 @@
+-- Forms whose operands are typed one after another, all with the same prior capabilities, before a
+-- table decides: what such a form is.
+use Rattle.std.specs.Prelude.{Bool, true, false, List, [], ◌∷◌, map, Option, Some, None}
+use Rattle.cedar_types.specs.Types.{Ty}
+use Rattle.cedar_types.specs.Tree.{unknown}
+use Rattle.cedar_types.specs.View.{Written, no_name}
+use Rattle.cedar_types.specs.Errors.{Finding}
+use Rattle.cedar_typing.specs.Capabilities.{Caps}
+use Rattle.cedar_typing.specs.TypeTests.{accepts}
+use Rattle.cedar_typing.specs.TypedExpr.{TypedTree, Mark, untyped, annotation}
+
+-- what an operand has to be: of one of some types, or anything
+abbrev pub Expectation : Type 0
+Expectation = Option (List Ty)
+
+abbrev pub meets : Expectation → Ty → Bool
+meets None t = true
+meets (Some ts) t = accepts ts t
+
+-- what a table says by the types of the operands
+pub data Decision : Type 0 where
+  -- the whole has this type, and produces these capabilities
+  gives : Ty → Caps → Decision
+  -- it fails: the type that stays, if one does, and the errors
+  refuses : Option Ty → List Finding → Decision
+
+pub record Form : Type 0 where
+  -- the node as it was written
+  pub at : Written
+  -- what the operands have to be, from left to right; further ones may be anything
+  pub expects : List Expectation
+  -- whether operands are still typed after one that is too deep
+  pub goes_on : Bool
+  -- the table: by the type of each operand, if it has one
+  pub decides : List (Option Ty) → Decision
+  -- the errors beside an operand that is too deep, by the types of those before it
+  pub at_limit : List (Option Ty) → List Finding
+  -- the typed whole: its mark, and the typed operands
+  pub node : Mark → List TypedTree → TypedTree
+
+-- ---- the first operand of those that a form has
+
+abbrev pub first_expectation : List Expectation → Expectation
+first_expectation [] = None
+first_expectation (q ∷ qs) = q
+
+-- the types of operands
+abbrev pub types_found : List TypedTree → List (Option Ty)
+types_found xs = map annotation xs
+
+abbrev pub first_type : List (Option Ty) → Option Ty
+first_type [] = None
+first_type (t ∷ ts) = t
+
+-- what stands for an operand that no form lacks
+abbrev pub no_tree : TypedTree
+no_tree =
+    unknown (untyped (record { place = None; names = no_name })) (record { path = []; basename = [] })
+
+abbrev pub first_tree : List TypedTree → TypedTree
+first_tree [] = no_tree
+first_tree (x ∷ xs) = x
+
+-- ---- forms by the number of their operands
+
+-- one operand
+abbrev pub on_one : Written → Expectation → (Option Ty → Decision) → (Mark → TypedTree → TypedTree) → Form
+on_one m q table node = record {
+  at = m;
+  expects = q ∷ [];
+  goes_on = false;
+  decides = λ ts. table (first_type ts);
+  at_limit = λ ts. [];
+  node = λ k xs. node k (first_tree xs);
+}

@@ -1,0 +1,64 @@
+-- Inference for all forms whose operands are typed first.
+use Rattle.std.specs.Prelude.{Bool, true, false, ◌&&◌, List, [], ◌∷◌, ◌++◌, Option, Some, None}
+use Rattle.cedar_types.specs.declared.base.location.Loc.{Loc}
+use Rattle.cedar_types.specs.Errors.{Finding}
+use Rattle.cedar_typing.specs.Eager.{Expectation, Decision, gives, refuses, Form, first_expectation, types_found}
+use Rattle.cedar_typing.specs.Infer.Parts.{failure, limit, Part, AnswerAndErrors, PartAndErrors, answer_if, expect, any_part}
+use Rattle.cedar_typing.specs.TypeEnv.{TypeEnv}
+use Rattle.cedar_typing.specs.TypedExpr.{TypedTree, typed, typed_as}
+
+-- what operands result in
+pub data Operands : Type 0 where
+  -- whether all succeeded, and their typed copies
+  all_typed : Bool → List TypedTree → Operands
+  -- one is too deep: the typed copies of those before it
+  cut_after : List TypedTree → Operands
+
+abbrev pub OperandsAndErrors : Type 0
+OperandsAndErrors = Operands × List Finding
+
+-- ---- operands, one after another
+
+-- no operand
+abbrev pub infer_none : List Finding → OperandsAndErrors
+infer_none es = (all_typed true [], es)
+
+-- an operand that has to be of certain types, or may be anything
+abbrev pub expect_operand : TypeEnv → Expectation → Option Loc → AnswerAndErrors → PartAndErrors
+expect_operand env None l o = any_part o
+expect_operand env (Some ts) l o = expect env ts l o
+
+abbrev pub with_operand : Part → Operands → Operands
+with_operand p (all_typed later xs) = all_typed (later && p.succeeded) (p.tree ∷ xs)
+with_operand p (cut_after xs) = cut_after (p.tree ∷ xs)
+
+-- a typed operand, and those after it
+abbrev pub infer_rest : Bool → Option Part → List Finding → (List Finding → OperandsAndErrors) → OperandsAndErrors
+infer_rest goes_on (Some p) es rest = (with_operand p (rest es).0, (rest es).1)
+infer_rest true None es rest = (cut_after [], (rest es).1)
+infer_rest false None es rest = (cut_after [], es)
+
+abbrev pub infer_one_more : TypeEnv → Bool → Expectation → Option Loc → (List Finding → AnswerAndErrors) → (List Finding → OperandsAndErrors) → List Finding → OperandsAndErrors
+infer_one_more env goes_on q l first rest es =
+    infer_rest goes_on (expect_operand env q l (first es)).0 (expect_operand env q l (first es)).1 rest
+
+-- ---- the whole
+
+-- by what the table decides
+abbrev pub infer_decided : Form → Bool → List TypedTree → List Finding → Decision → AnswerAndErrors
+infer_decided f succeeded xs es (gives t c) = (answer_if succeeded (f.node (typed t f.at) xs) c, es)
+infer_decided f succeeded xs es (refuses t fs) = (failure (f.node (typed_as t f.at) xs), es ++ fs)
+
+-- by what the operands result in
+abbrev pub infer_form : Form → Operands → List Finding → AnswerAndErrors
+infer_form f (all_typed succeeded xs) es =
+    infer_decided f succeeded xs es (f.decides (types_found xs))
+infer_form f (cut_after xs) es = (limit, es ++ f.at_limit (types_found xs))
+
+abbrev pub infer_eager : Form → (List Finding → OperandsAndErrors) → List Finding → AnswerAndErrors
+infer_eager f operands es = infer_form f (operands es).0 (operands es).1
+
+-- a form with one operand, at l
+abbrev pub infer_one_operand : TypeEnv → Form → Option Loc → (List Finding → AnswerAndErrors) → List Finding → AnswerAndErrors
+infer_one_operand env f l operand =
+    infer_eager f (infer_one_more env f.goes_on (first_expectation f.expects) l operand infer_none)

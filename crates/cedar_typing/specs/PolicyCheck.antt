@@ -1,0 +1,66 @@
+-- The check of a policy's condition in one environment.
+use Rattle.std.specs.Prelude.{◌≡◌, Bool, true, false, List, [], Option, Some, None, IsPermutation, if◌then◌else◌}
+use Rattle.cedar_types.specs.declared.base.types.BoolType.TheVariants.{False}
+use Rattle.cedar_types.specs.Types.{Ty, TBool}
+use Rattle.cedar_types.specs.Errors.{Finding}
+use Rattle.cedar_typing.specs.Capabilities.{Caps, no_caps}
+use Rattle.cedar_typing.specs.Infer.{infer}
+use Rattle.cedar_typing.specs.Infer.Parts.{Part, PartAndErrors, expect}
+use Rattle.cedar_typing.specs.Judgments.{Operand}
+use Rattle.cedar_typing.specs.Rules.{rules, Derives, Cuts}
+use Rattle.cedar_typing.specs.TypeEnv.{TypeEnv}
+use Rattle.cedar_typing.specs.TypeTests.{accepts, bool_types, is_false, annotation_passes}
+use Rattle.cedar_typing.specs.TypedExpr.{Source, TypedTree, annotation, place_of}
+
+-- what a check comes to: a success with the typed condition; a condition that is never true, with its errors; or errors alone
+pub data Verdict : Type 0 where
+  succeeds : TypedTree → Verdict
+  irrelevant : List Finding → TypedTree → Verdict
+  fails : List Finding → Verdict
+
+-- a refused condition as it is gone on with: a condition has to be a Boolean
+abbrev pub RefusedCondition : TypeEnv → Source → TypedTree → List Finding → Type 0
+RefusedCondition env e e' es =
+    (c : Caps) × Operand env bool_types (place_of e) (rules env e no_caps 1) false c e' es
+
+-- the check of a condition, at depth 1 and without prior capabilities; the errors count as often as they are found, and their
+-- order does not
+pub data PolicyChecks (env : TypeEnv) (e : Source) : Verdict → Type 0 where
+  -- it has a Boolean type other than False
+  check_true : (t : Ty) (c : Caps) {e' : TypedTree}
+      → Derives env e no_caps 1 t c e' → accepts bool_types t ≡ true → is_false t ≡ false
+      → PolicyChecks env e (succeeds e')
+  -- it has the type False
+  check_false : (c : Caps) {e' : TypedTree}
+      → Derives env e no_caps 1 (TBool False) c e' → PolicyChecks env e (irrelevant [] e')
+  -- it is refused, and False all the same
+  check_refused_false : {e' : TypedTree} {es es' : List Finding}
+      → RefusedCondition env e e' es → annotation_passes is_false (annotation e') ≡ true
+      → IsPermutation es es' → PolicyChecks env e (irrelevant es' e')
+  -- it is refused, with another type or with none
+  check_refused : {e' : TypedTree} {es es' : List Finding}
+      → RefusedCondition env e e' es → annotation_passes is_false (annotation e') ≡ false
+      → IsPermutation es es' → PolicyChecks env e (fails es')
+  -- a part is too deep
+  check_cut : {es es' : List Finding} → Cuts env e no_caps 1 es → IsPermutation es es' → PolicyChecks env e (fails es')
+
+-- the same verdict: of the same kind and with the same typed condition, its errors in any order
+pub data SameVerdict : Verdict → Verdict → Type 0 where
+  same_success : {e' : TypedTree} → SameVerdict (succeeds e') (succeeds e')
+  same_irrelevant : {e' : TypedTree} {es es' : List Finding} → IsPermutation es es' → SameVerdict (irrelevant es e') (irrelevant es' e')
+  same_failure : {es es' : List Finding} → IsPermutation es es' → SameVerdict (fails es) (fails es')
+
+-- ---- the check as a function
+
+abbrev pub verdict_if : Bool → TypedTree → List Finding → Verdict
+verdict_if succeeded e es = if succeeded then succeeds e else fails es
+
+abbrev pub part_verdict : Option Part → List Finding → Verdict
+part_verdict None es = fails es
+part_verdict (Some p) es = if annotation_passes is_false (annotation p.tree) then irrelevant es p.tree else verdict_if p.succeeded p.tree es
+
+abbrev pub out_verdict : PartAndErrors → Verdict
+out_verdict o = part_verdict o.0 o.1
+
+abbrev pub policy_check : TypeEnv → Source → Verdict
+policy_check env e = out_verdict (expect env bool_types (place_of e) (infer env e no_caps 1 []))

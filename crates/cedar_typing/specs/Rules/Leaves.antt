@@ -1,0 +1,98 @@
+-- Expressions without parts: literals, variables, slots and unknowns; and forms without a rule yet.
+use Rattle.std.specs.Prelude.{◌≡◌, Bool, true, false, List, [], ◌∷◌, Option, Some, None, if◌then◌else◌}
+use Rattle.cedar_types.specs.declared.base.location.Loc.{Loc}
+use Rattle.cedar_types.specs.declared.base.operators.Var.{Var}
+use Rattle.cedar_types.specs.declared.base.slots.SlotId.{SlotId}
+use Rattle.cedar_types.specs.declared.base.types.BoolType.TheVariants.{True, False}
+use Rattle.cedar_types.specs.declared.base.types.ValidationMode.{ValidationMode}
+use Rattle.cedar_types.specs.Names.{Path, Uid}
+use Rattle.cedar_types.specs.Types.{Ty, TBool, TLong, TString, TEntity, TAnyEntity}
+use Rattle.cedar_types.specs.Tree.{Lit, bool, long, string, entity, unknown}
+use Rattle.cedar_types.specs.View.{Written, no_name}
+use Rattle.cedar_types.specs.Lookups.{literal_type}
+use Rattle.cedar_types.specs.RequestEnvs.{Env, Declared, Undeclared, principal_ty, resource_ty, action_ty, context_ty, is_partial}
+use Rattle.cedar_types.specs.Errors.{Finding, internal_invariant_violation}
+use Rattle.cedar_typing.specs.Capabilities.{Caps, no_caps}
+use Rattle.cedar_typing.specs.Judgments.{Judgment, NoDerivation, NoCut}
+use Rattle.cedar_typing.specs.TypeEnv.{TypeEnv, finding}
+use Rattle.cedar_typing.specs.TypedExpr.{TypedTree, Mark, typed, untyped}
+
+-- ---- the tables
+
+-- the types of the variables: an action has one where the schema declares it
+abbrev pub variable_type : TypeEnv → Var → Option Ty
+variable_type env Var.Principal = Some (principal_ty env.request_env)
+variable_type env Var.Action = action_ty env.schema env.request_env
+variable_type env Var.Resource = Some (resource_ty env.request_env)
+variable_type env Var.Context = Some (context_ty env.request_env)
+
+-- any entity, or one of the linked type
+abbrev pub linked_ty : Option Path → Ty
+linked_ty None = TAnyEntity
+linked_ty (Some p) = TEntity (p ∷ [])
+
+abbrev pub slot_ty : Env → SlotId → Ty
+slot_ty (Declared d ps rs) SlotId.Principal = linked_ty ps
+slot_ty (Declared d ps rs) SlotId.Resource = linked_ty rs
+slot_ty Undeclared s = TAnyEntity
+
+abbrev pub bool_ty : Bool → Ty
+bool_ty true = TBool True
+bool_ty false = TBool False
+
+-- an entity that the schema does not know has its type in Partial, and none else
+abbrev pub unknown_entity_type : ValidationMode → Uid → Option Ty
+unknown_entity_type m u = if is_partial m then Some (TEntity (u.entity_type ∷ [])) else None
+
+abbrev pub known_entity_type : Option Ty → Option Ty → Option Ty
+known_entity_type None other = other
+known_entity_type (Some t) other = Some t
+
+-- the types of literals: True or False, Long, String; an entity's own where the schema knows it
+abbrev pub type_of_literal : TypeEnv → Lit → Option Ty
+type_of_literal env (bool b) = Some (bool_ty b)
+type_of_literal env (long z) = Some TLong
+type_of_literal env (string s) = Some TString
+type_of_literal env (entity u) =
+    known_entity_type (literal_type env.schema u) (unknown_entity_type env.mode u)
+
+-- ---- the rules
+
+-- the type that a table gives, if it gives one; it produces no capabilities
+pub data LeafRule (found : Option Ty) (m : Written) (node : Mark → TypedTree) :
+    Ty → Caps → TypedTree → Type 0 where
+  leaf : {t : Ty} → found ≡ Some t → LeafRule found m node t no_caps (node (typed t m))
+
+-- where it gives none: no error, and no type
+pub data LeafRecovery (found : Option Ty) (m : Written) (node : Mark → TypedTree) :
+    TypedTree → List Finding → Type 0 where
+  leaf_missing : found ≡ None → LeafRecovery found m node (node (untyped m)) []
+
+abbrev pub leaf_rules : Option Ty → Written → (Mark → TypedTree) → Judgment
+leaf_rules found m node = record {
+  derives = LeafRule found m node;
+  recovers = LeafRecovery found m node;
+  cuts = NoCut;
+}
+
+-- an unknown always fails: no error, no type and no place
+pub data UnknownRecovery (n : Path) (m : Written) : TypedTree → List Finding → Type 0 where
+  unknown_fails :
+      UnknownRecovery n m (unknown (untyped (record { place = None; names = m.names })) n) []
+
+abbrev pub unknown_rules : Path → Written → Judgment
+unknown_rules n m =
+    record { derives = NoDerivation; recovers = UnknownRecovery n m; cuts = NoCut }
+
+-- what stands for a form without a rule yet: an unknown without a name, at its place
+abbrev pub nameless : Option Loc → TypedTree
+nameless l =
+    unknown (untyped (record { place = l; names = no_name })) (record { path = []; basename = [] })
+
+-- a form without a rule yet: an error at the whole, and no type
+pub data UnbuiltRecovery (env : TypeEnv) (l : Option Loc) : TypedTree → List Finding → Type 0 where
+  unbuilt : UnbuiltRecovery env l (nameless l) (finding env l internal_invariant_violation ∷ [])
+
+abbrev pub unbuilt_rules : TypeEnv → Option Loc → Judgment
+unbuilt_rules env l =
+    record { derives = NoDerivation; recovers = UnbuiltRecovery env l; cuts = NoCut }

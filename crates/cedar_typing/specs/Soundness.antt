@@ -1,0 +1,80 @@
+-- What typing promises of evaluation.
+use Rattle.std.specs.Prelude.{◌≡◌, ℕ, false, List, Option, Some, None, IsTrue}
+use Rattle.cedar_types.specs.declared.base.types.BoolType.TheVariants.{True}
+use Rattle.cedar_types.specs.declared.base.types.ValidationMode.TheVariants.{Strict}
+use Rattle.cedar_types.specs.Types.{Ty, TBool}
+use Rattle.cedar_types.specs.Errors.{Finding}
+use Rattle.cedar_types.specs.Schemas.{has_fault}
+use Rattle.cedar_types.specs.Values.{Value, OnBool, HasType}
+use Rattle.cedar_types.specs.Stores.{ConformingStore}
+use Rattle.cedar_typing.specs.Capabilities.{Caps}
+use Rattle.cedar_typing.specs.Evaluation.Conformance.{Fits, IsEnvironmentOf, SlotsBound, has_external, Table, KeepsTable, AllHold}
+use Rattle.cedar_typing.specs.Evaluation.Eval.{eval}
+use Rattle.cedar_typing.specs.Evaluation.World.{World, Failure, TypeFailure, AbsentAttribute, AbsentTag, MissingEntity, Overflow, ExtensionFailure, UnlinkedSlot, UnknownValue, Outcome, Gives, Fails}
+use Rattle.cedar_typing.specs.Rules.{Derives, Recovers}
+use Rattle.cedar_typing.specs.TypeEnv.{TypeEnv}
+use Rattle.cedar_typing.specs.TypedExpr.{Source, TypedTree, annotation}
+
+-- ---- outcomes
+
+-- P holds of the value, if there is one
+abbrev pub OnValue : (Value → Type 0) → Outcome → Type 0
+OnValue P (Gives v) = P v
+OnValue P (Fails f) = Unit {0}
+
+-- the value, if there is one, has the type, if there is one
+abbrev pub HasFound : Option Ty → Outcome → Type 0
+HasFound None o = Unit {0}
+HasFound (Some t) o = OnValue (HasType t) o
+
+-- only a missing entity, an overflow or an extension function may be the failure
+abbrev pub IsAllowed : Failure → Type 0
+IsAllowed TypeFailure = ⊥
+IsAllowed AbsentAttribute = ⊥
+IsAllowed AbsentTag = ⊥
+IsAllowed MissingEntity = Unit {0}
+IsAllowed Overflow = Unit {0}
+IsAllowed ExtensionFailure = Unit {0}
+IsAllowed UnlinkedSlot = ⊥
+IsAllowed UnknownValue = ⊥
+
+-- a value, or an allowed failure
+abbrev pub IsSafe : Outcome → Type 0
+IsSafe (Gives v) = Unit {0}
+IsSafe (Fails f) = IsAllowed f
+
+abbrev pub IsTrueOutcome : Outcome → Type 0
+IsTrueOutcome (Gives v) = OnBool IsTrue v
+IsTrueOutcome (Fails f) = ⊥
+
+-- ---- type soundness with capabilities
+
+-- what is promised of an expression in a world, where some capabilities are known
+pub record IsSoundAt (env : TypeEnv) (world : World) (e : Source) (prior : Caps) (d : ℕ) : Type 0 where
+  -- a value has the type that was found, also that of a refused expression
+  pub typed : (t : Ty) (c : Caps) (x : TypedTree) → Derives env e prior d t c x → HasFound (annotation x) (eval world e)
+  pub recovered : (x : TypedTree) (es : List Finding) → Recovers env e prior d x es → HasFound (annotation x) (eval world e)
+  -- what has a type gives a value or fails in an allowed way
+  pub safe : (t : Ty) (c : Caps) (x : TypedTree) → Derives env e prior d t c x → IsSafe (eval world e)
+  -- what it hands on holds where it is true
+  pub caps_hold_if_true : (t : Ty) (c : Caps) (x : TypedTree) → Derives env e prior d t c x → IsTrueOutcome (eval world e) → AllHold world c
+  -- what an expression of the type True hands on holds whether or not it is evaluated
+  pub caps_hold_at_true : (c : Caps) (x : TypedTree) → Derives env e prior d (TBool True) c x → AllHold world c
+
+-- a world in which typing by this setting and table can be relied on
+pub record IsWorldOf (env : TypeEnv) (t : Table) (world : World) : Type 0 where
+  pub environment : Fits env.request_env world.request world.slots
+  pub store : ConformingStore env.schema world.store
+  pub functions : KeepsTable t world.functions
+
+-- typing by this setting promises something of evaluation: in Strict, by a schema without external declarations, in one
+-- of its environments
+pub record IsReliable (env : TypeEnv) : Type 0 where
+  pub mode : env.mode ≡ Strict
+  pub closed : has_external env.schema ≡ false
+  pub environment : IsEnvironmentOf env.schema env.request_env
+
+-- what has a type does not go wrong, by a schema without faults
+abbrev pub TypeSoundness : Type 0
+TypeSoundness =
+    (env : TypeEnv) (t : Table) (world : World) → has_fault env.schema ≡ false → IsReliable env → IsWorldOf env t world → (e : Source) → SlotsBound world.slots e → (prior : Caps) (d : ℕ) → AllHold world prior → IsSoundAt env world e prior d

@@ -1,0 +1,19 @@
+-- What an expression is typed in.
+use Rattle.std.specs.Prelude.{Option}
+use Rattle.cedar_types.specs.declared.base.location.Loc.{Loc}
+use Rattle.cedar_types.specs.declared.base.types.ValidationMode.{ValidationMode}
+use Rattle.cedar_types.specs.Names.{Text}
+use Rattle.cedar_types.specs.Schemas.{Schema}
+use Rattle.cedar_types.specs.RequestEnvs.{Env}
+use Rattle.cedar_types.specs.Errors.{Fault, Finding}
+
+-- the schema, the mode, the request environment, and the policy that errors name
+pub record TypeEnv : Type 0 where
+  pub schema : Schema
+  pub mode : ValidationMode
+  pub request_env : Env
+  pub policy : Text
+
+-- an error of that policy at a place
+abbrev pub finding : TypeEnv → Option Loc → Fault → Finding
+finding env l f = record { place = l; policy = env.policy; fault = f }

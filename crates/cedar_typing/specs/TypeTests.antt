@@ -1,0 +1,39 @@
+-- Tests of types: what an operand may have to be, and what the rules ask of the type of a part.
+use Rattle.std.specs.Prelude.{Bool, true, false, List, [], ◌∷◌, Option, Some, None}
+use Rattle.std.specs.List.{list_any}
+use Rattle.cedar_types.specs.declared.base.types.BoolType.TheVariants.{AnyBool, True, False}
+use Rattle.cedar_types.specs.declared.base.types.ValidationMode.TheVariants.{Permissive}
+use Rattle.cedar_types.specs.Types.{Ty, TBool, TRecord, TAnyEntity, no_attrs}
+use Rattle.cedar_types.specs.Bounds.{is_subtype}
+
+-- ---- what an operand may have to be
+
+-- an operand is accepted whose type is, in Permissive, a subtype of one of those that are expected
+abbrev pub accepts : List Ty → Ty → Bool
+accepts ts t = list_any (is_subtype Permissive t) ts
+
+abbrev pub bool_types : List Ty
+bool_types = TBool AnyBool ∷ []
+
+-- any record or any entity
+abbrev pub object_types : List Ty
+object_types = TRecord no_attrs true ∷ TAnyEntity ∷ []
+
+-- ---- the type of a part
+
+abbrev pub is_false : Ty → Bool
+is_false (TBool False) = true
+is_false t = false
+
+abbrev pub is_true : Ty → Bool
+is_true (TBool True) = true
+is_true t = false
+
+abbrev pub is_record : Ty → Bool
+is_record (TRecord xs o) = true
+is_record t = false
+
+-- whether a type was found that passes
+abbrev pub annotation_passes : (Ty → Bool) → Option Ty → Bool
+annotation_passes test None = false
+annotation_passes test (Some t) = test t

@@ -1,0 +1,119 @@
+-- The words of private contracts: what the program's values stand for in inference, and what answers
+-- give inside the crate, in types that callers do not see.
+use Rattle.std.specs.Prelude.{◌≡◌, ℕ, ◌+◌, true, false, Option, Some, None, is_some, option_map, List, map}
+use Rattle.cedar_types.specs.declared.base.errors.validation_errors.ValidationError.{ValidationError}
+use Rattle.cedar_types.specs.declared.base.location.Loc.{Loc}
+use Rattle.cedar_types.specs.Names.{text_of}
+use Rattle.cedar_types.specs.Types.{Ty, ty_of}
+use Rattle.cedar_types.specs.View.{Written, no_name}
+use Rattle.cedar_types.specs.Capability.{caps, HasNone}
+use Rattle.cedar_types.specs.Errors.{Finding, finding_of}
+use Rattle.cedar_types.specs.declared.types.capability.CapabilitySet.{CapabilitySet}
+use Rattle.cedar_types.specs.RequestEnvs.{env_of}
+use Rattle.cedar_types.specs.SchemaContents.{schema_of}
+use Rattle.cedar_typing.specs.Answer.{Answered, AreHanded, none_failed, Taken}
+use Rattle.cedar_typing.specs.Capabilities.{Caps}
+use Rattle.cedar_typing.specs.Eager.{Decision, gives, refuses, Form}
+use Rattle.cedar_typing.specs.Infer.{infer}
+use Rattle.cedar_typing.specs.Infer.Eager.{infer_one_operand}
+use Rattle.cedar_typing.specs.Infer.Parts.{Answer, success, failure, limit, Part, part_with, AnswerAndErrors, expect, after}
+use Rattle.cedar_typing.specs.Infer.ShortCircuit.{infer_right}
+use Rattle.cedar_typing.specs.Rules.Attributes.{has_form, get_form}
+use Rattle.cedar_typing.specs.Rules.ShortCircuit.{Side, right_ends, left_alone, right_alone, neither, Connective, conjunction, disjunction}
+use Rattle.cedar_typing.specs.Rules.Unary.{not_form}
+use Rattle.cedar_typing.specs.TypeEnv.{TypeEnv}
+use Rattle.cedar_typing.specs.TypeTests.{bool_types, object_types}
+use Rattle.cedar_typing.specs.TypedExpr.{Source, typed_tree, place_of}
+use Rattle.cedar_typing.specs.declared.typecheck.answer.TypecheckAnswer.{TypecheckAnswer}
+use Rattle.cedar_typing.specs.declared.typecheck.answer.TypecheckAnswer.TheVariants.{TypecheckSuccess, TypecheckFail, RecursionLimit}
+use Rattle.cedar_typing.specs.declared.typecheck.answer.Part.{Part as TypedPart}
+use Rattle.cedar_typing.specs.declared.typecheck.sequence.Gathered.{Gathered}
+use Rattle.cedar_typing.specs.declared.typecheck.operands.Expected.{Expected}
+use Rattle.cedar_typing.specs.declared.typecheck.rules.eager.Decision.{Decision as TableDecision}
+use Rattle.cedar_typing.specs.declared.typecheck.rules.eager.Decision.TheVariants.{Gives, Refuses}
+use Rattle.cedar_typing.specs.declared.typecheck.rules.eager.OneOperand.{OneOperand}
+use Rattle.cedar_typing.specs.declared.typecheck.rules.eager.OneOperand.TheVariants.{Not, Has, Get}
+use Rattle.cedar_typing.specs.declared.typecheck.rules.short_circuit.Connective as connective
+use Rattle.cedar_typing.specs.declared.typecheck.rules.short_circuit.Side as side
+use Rattle.cedar_typing.specs.declared.typecheck.single_env.SingleEnvTypechecker.{SingleEnvTypechecker}
+
+-- what is typed in
+abbrev pub env_at : SingleEnvTypechecker → TypeEnv
+env_at c = record {
+  schema = schema_of c.schema.now;
+  mode = c.mode;
+  request_env = env_of c.env.now;
+  policy = text_of c.policy_id.now.text;
+}
+
+-- a node at a place, in which no name stands
+abbrev pub at : Option Loc → Written
+at l = record { place = l; names = no_name }
+
+abbrev pub findings : List ValidationError → List Finding
+findings es = map finding_of es
+
+abbrev pub expected_types : Expected → List Ty
+expected_types Expected.Bool = bool_types
+expected_types Expected.Object = object_types
+
+-- an answer
+abbrev pub answer_of : TypecheckAnswer → Answer
+answer_of (TypecheckSuccess e c) = success (typed_tree e) (caps c)
+answer_of (TypecheckFail e) = failure (typed_tree e)
+answer_of RecursionLimit = limit
+
+-- a part
+abbrev pub part_of : TypedPart → Part
+part_of p = part_with p.succeeded (caps p.capabilities) (typed_tree p.typed)
+
+-- ---- `&&` and `||`
+
+abbrev pub connective_of : connective.Connective → Connective
+connective_of connective.Connective.And = conjunction
+connective_of connective.Connective.Or = disjunction
+
+abbrev pub side_seen : side.Side → Side
+side_seen side.Side.RightEnds = right_ends
+side_seen side.Side.LeftAlone = left_alone
+side_seen side.Side.RightAlone = right_alone
+side_seen side.Side.Neither = neither
+
+abbrev pub infer_connective : TypeEnv → Connective → Written → Source → Source → Caps → ℕ → List Finding → AnswerAndErrors
+infer_connective env f m a b prior d es =
+    after (expect env bool_types (place_of a) (infer env a prior (d + 1) es))
+    (λ p es'. infer_right env f m (place_of b) prior p es' (λ known. infer env b known (d + 1)))
+
+-- ---- forms whose operands are all typed first
+
+abbrev pub decision_of : TableDecision → Decision
+decision_of (Gives t c) = gives (ty_of t) (caps c)
+decision_of (Refuses t fs) = refuses (option_map ty_of t) (findings fs.items)
+
+abbrev pub form_of_one : TypeEnv → Written → Caps → Source → OneOperand → Form
+form_of_one env m prior e Not = not_form m
+form_of_one env m prior e (Has x) = has_form env m prior e (text_of x.now)
+form_of_one env m prior e (Get x) = get_form env m prior e (text_of x.now)
+
+abbrev pub infer_one : TypeEnv → Written → Caps → Source → ℕ → OneOperand → List Finding → AnswerAndErrors
+infer_one env m prior e d form =
+    infer_one_operand env (form_of_one env m prior e form) (place_of e) (infer env e prior (d + 1))
+
+-- ---- what answers give
+
+-- an answer gives its expression: a failure no capabilities, the limit nothing
+abbrev pub HandsOn : TypecheckAnswer → Option TypedPart → Type 0
+HandsOn (TypecheckSuccess e c) p =
+    p ≡ Some (record { typed = e; capabilities = c; succeeded = true })
+HandsOn (TypecheckFail e) p =
+    (c : CapabilitySet) × HasNone (caps c)
+    × (p ≡ Some (record { typed = e; capabilities = c; succeeded = false }))
+HandsOn RecursionLimit p = p ≡ None
+
+-- what was gathered is what the taken items give, whether a limit came, and whether none had failed
+pub record Gathers {S : Type 0} (steps : S → Option Answered → S → Type 0) (s : S) (g : Gathered) :
+    Type 0 where
+  pub taken : Taken steps s
+  pub in_order : AreHanded taken.before g.handed.items
+  pub is_limit : g.is_limit ≡ is_some taken.last
+  pub succeeded : g.succeeded ≡ none_failed taken.before

@@ -1,0 +1,214 @@
+// `has` and `.`.
+ghost use Rattle.std.specs.Prelude.{◌≡◌, [], ◌∷◌, IfOk, option_map};
+ghost use Rattle.cedar_types.specs.Names.{text_of};
+ghost use Rattle.cedar_types.specs.Types.{ty_of};
+ghost use Rattle.cedar_types.specs.Tree.{has_attr, get_attr};
+ghost use Rattle.cedar_types.specs.View.{written};
+ghost use Rattle.cedar_types.specs.Capability.{caps, cap_of};
+ghost use Rattle.cedar_types.specs.Lookups.{attribute_type};
+ghost use Rattle.cedar_types.specs.Errors.{unsafe_optional_attribute_access};
+ghost use Rattle.cedar_typing.specs.Rules.Attributes.{attribute_of, declared_has, undeclared_has, has_table, get_table, undeclared_get};
+ghost use Rattle.cedar_typing.specs.TypeEnv.{finding};
+ghost use Rattle.cedar_typing.specs.TypedExpr.{typed_as, typed_tree};
+ghost use Rattle.cedar_typing.specs.Views.{env_at, at, decision_of, findings};
+
+use crate::typecheck::capabilities::{no_capabilities, one_capability};
+use crate::typecheck::rules::eager::Decision;
+use crate::typecheck::single_env::SingleEnvTypechecker;
+use crate::typecheck::type_tests::{any_bool, is_record_type};
+use cedar_types::base::{
+    BoolType, CedarType, Expr, ExprKind, Loc, ValidationError, ValidationMode,
+};
+use cedar_types::types::capability::{Capability, CapabilitySet};
+use std::alloc::{AllocError, Global};
+use std::rc::RcStr;
+
+/// That the base has the attribute.
+fn attribute_of<'a>(base: &'a Expr, attr: &RcStr) -> Result<Capability<'a>, AllocError>
+    ensures { IfOk result (λ c. cap_of c ≡ attribute_of (written base.now) (text_of attr.now)) }
+{
+    Ok(Capability::new_attribute(base, attr.clone()?))
+}
+
+impl SingleEnvTypechecker<'_, '_, '_, '_> {
+    /// The type of `base has attr` by that of the base, and that the attribute is there, where it is declared.
+    pub(crate) fn decide_has<'a>(
+        &self,
+        prior: &CapabilitySet<'a>,
+        base: &'a Expr,
+        attr: &RcStr,
+        found: &Option<CedarType>,
+    ) -> Result<Decision<'a>, AllocError>
+        ensures { IfOk result (λ d. decision_of d
+            ≡ has_table (env_at self.now) (text_of attr.now) (attribute_of (written base.now) (text_of attr.now))
+            (caps prior.now (attribute_of (written base.now) (text_of attr.now))) (option_map ty_of found.now)) }
+    {
+        let Some(owner) = found else {
+            return Ok(Decision::Gives(any_bool(), no_capabilities(self.alloc)));
+        };
+        match self.required(owner, attr)? {
+            None => {
+                let ty = self.undeclared_type(owner, attr);
+                Ok(Decision::Gives(ty, no_capabilities(self.alloc)))
+            }
+            Some(is_required) => {
+                let there = attribute_of(base, attr)?;
+                let ty = declared_type(owner, is_required, prior.contains(&there));
+                Ok(Decision::Gives(ty, one_capability(self.alloc, there)?))
+            }
+        }
+    }
+
+    /// Whether the type requires the attribute, if it declares it.
+    fn required(&self, owner: &CedarType, attr: &RcStr) -> Result<Option<bool>, AllocError>
+        ensures { IfOk result (λ o. o
+            ≡ option_map (λ t. t.1) (attribute_type (env_at self.now).schema (ty_of owner.now) (text_of attr.now))) }
+    {
+        match CedarType::lookup_attribute_type(self.alloc, self.schema, owner, attr)? {
+            Some(found) => {
+                let is_required = found.is_required;
+                drop(found);
+                Ok(Some(is_required))
+            }
+            None => Ok(None),
+        }
+    }
+
+    fn undeclared_type(&self, owner: &CedarType, attr: &RcStr) -> CedarType
+        ensures { ty_of result
+            ≡ undeclared_has (env_at self.now).schema (ty_of owner.now) (text_of attr.now) }
+    {
+        if CedarType::may_have_attr(self.schema, owner, attr) {
+            CedarType::Bool(BoolType::AnyBool)
+        } else {
+            CedarType::Bool(BoolType::False)
+        }
+    }
+
+    /// The type of `base.attr` by that of the base, or an error at `loc`.
+    pub(crate) fn decide_get<'a>(
+        &self,
+        prior: &CapabilitySet<'a>,
+        loc: Option<Loc>,
+        base: &'a Expr,
+        attr: &RcStr,
+        found: &Option<CedarType>,
+    ) -> Result<Decision<'a>, AllocError>
+        ensures { IfOk result (λ d. decision_of d
+            ≡ get_table (env_at self.now) loc (text_of attr.now)
+            (caps prior.now (attribute_of (written base.now) (text_of attr.now))) (option_map ty_of found.now)) }
+    {
+        let Some(owner) = found else {
+            return Ok(Decision::Refuses(None, Vec::new(self.alloc)));
+        };
+        match CedarType::lookup_attribute_type(self.alloc, self.schema, owner, attr)? {
+            None => {
+                let decision = self.decide_undeclared(loc, attr, owner)?;
+                Ok(decision)
+            }
+            Some(found) => {
+                if found.is_required | prior.contains(&attribute_of(base, attr)?) {
+                    return Ok(Decision::Gives(found.attr_type, no_capabilities(self.alloc)));
+                }
+                let errors = self.unguarded(loc, attr, owner)?;
+                Ok(Decision::Refuses(Some(found.attr_type), errors))
+            }
+        }
+    }
+
+    /// Of an attribute that is not declared: Never where it may be there, in Partial alone.
+    fn decide_undeclared<'a>(
+        &self,
+        loc: Option<Loc>,
+        attr: &RcStr,
+        owner: &CedarType,
+    ) -> Result<Decision<'a>, AllocError>
+        ensures { IfOk result (λ d. decision_of d
+            ≡ undeclared_get (env_at self.now) loc (text_of attr.now) (ty_of owner.now)) }
+    {
+        let may_exist = CedarType::may_have_attr(self.schema, owner, attr);
+        if (self.mode == ValidationMode::Partial) & may_exist {
+            return Ok(Decision::Gives(CedarType::Never, no_capabilities(self.alloc)));
+        }
+        let policy_id = self.policy_id.clone()?;
+        let owner = CedarType::clone(owner)?;
+        let mut errors = Vec::new(self.alloc);
+        errors.push(ValidationError::unsafe_attribute_access(
+            loc,
+            policy_id,
+            owner,
+            attr.clone()?,
+            may_exist,
+        ))?;
+        Ok(Decision::Refuses(None, errors))
+    }
+
+    /// The error of an access to an optional attribute that is not known to be there.
+    fn unguarded(
+        &self,
+        loc: Option<Loc>,
+        attr: &RcStr,
+        owner: &CedarType,
+    ) -> Result<Vec<ValidationError>, AllocError>
+        ensures { IfOk result (λ es. findings es.items
+            ≡ finding (env_at self.now) loc (unsafe_optional_attribute_access (ty_of owner.now) (text_of attr.now)) ∷ []) }
+    {
+        let policy_id = self.policy_id.clone()?;
+        let owner = CedarType::clone(owner)?;
+        let mut errors = Vec::new(self.alloc);
+        errors.push(ValidationError::unsafe_optional_attribute_access(
+            loc,
+            policy_id,
+            owner,
+            attr.clone()?,
+        ))?;
+        Ok(errors)
+    }
+}
+
+fn declared_type(owner: &CedarType, is_required: bool, is_known: bool) -> CedarType
+    ensures { ty_of result ≡ declared_has (ty_of owner.now) is_required is_known }
+{
+    if is_known {
+        return CedarType::Bool(BoolType::True);
+    }
+    if is_required && is_record_type(owner) {
+        CedarType::Bool(BoolType::True)
+    } else {
+        CedarType::Bool(BoolType::AnyBool)
+    }
+}
+
+pub(crate) fn has_node(
+    alloc: Global,
+    loc: Option<Loc>,
+    ty: Option<CedarType>,
+    base: Expr<Option<CedarType>>,
+    attr: &RcStr,
+) -> Result<Expr<Option<CedarType>>, AllocError>
+    ensures { IfOk result (λ e. typed_tree e
+        ≡ has_attr (typed_as (option_map ty_of ty) (at loc)) (typed_tree base) (text_of attr.now)) }
+{
+    Ok(Expr {
+        annotation: ty,
+        loc,
+        kind: ExprKind::HasAttr(Box::new(alloc, base)?, attr.clone()?),
+    })
+}
+
+pub(crate) fn get_node(
+    alloc: Global,
+    loc: Option<Loc>,
+    ty: Option<CedarType>,
+    base: Expr<Option<CedarType>>,
+    attr: &RcStr,
+) -> Result<Expr<Option<CedarType>>, AllocError>
+    ensures { IfOk result (λ e. typed_tree e
+        ≡ get_attr (typed_as (option_map ty_of ty) (at loc)) (typed_tree base) (text_of attr.now)) }
+{
+    Ok(Expr {
+        annotation: ty,
+        loc,
+        kind: ExprKind::GetAttr(Box::new(alloc, base)?, attr.clone()?),
+    })
+}

@@ -1,0 +1,311 @@
+// `if`.
+ghost use Rattle.std.specs.Prelude.{◌≡◌, ◌≤◌, [], ◌∷◌, ◌++◌, IfOk, map, option_map};
+ghost use Rattle.cedar_types.specs.declared.base.errors.type_errors.LubContext.TheVariants.{Conditional};
+ghost use Rattle.cedar_types.specs.Types.{ty_of};
+ghost use Rattle.cedar_types.specs.Tree.{if_then_else};
+ghost use Rattle.cedar_types.specs.View.{written};
+ghost use Rattle.cedar_types.specs.TypeOrder.{in_order};
+ghost use Rattle.cedar_types.specs.Bounds.{lub};
+ghost use Rattle.cedar_types.specs.Capability.{caps};
+ghost use Rattle.cedar_types.specs.Errors.{finding_of, incompatible_types};
+ghost use Rattle.cedar_typing.specs.Capabilities.{union};
+ghost use Rattle.cedar_typing.specs.Infer.{infer_within};
+ghost use Rattle.cedar_typing.specs.Infer.Conditional.{infer_constant_test, infer_open_test, infer_open_parts};
+ghost use Rattle.cedar_typing.specs.Infer.Parts.{part_from};
+ghost use Rattle.cedar_typing.specs.Judgments.{max_nesting};
+ghost use Rattle.cedar_typing.specs.Rules.Conditional.{joined, join_errors, bound_errors};
+ghost use Rattle.cedar_typing.specs.TypeEnv.{finding};
+ghost use Rattle.cedar_typing.specs.TypedExpr.{annotation, typed_tree, typed_as};
+ghost use Rattle.cedar_typing.specs.Views.{env_at, answer_of, part_of, findings, at};
+
+use crate::typecheck::answer::{Part, TypecheckAnswer};
+use crate::typecheck::capabilities::{intersection_of, union_of};
+use crate::typecheck::operands::{Expected, any_part};
+use crate::typecheck::single_env::SingleEnvTypechecker;
+use crate::typecheck::type_tests::{is_typed_false, is_typed_true};
+use crate::typecheck::typed_nodes::with_capabilities;
+use cedar_types::base::{
+    CedarType, Expr, ExprKind, Loc, LubContext, ValidationError, types_in_order,
+};
+use cedar_types::types::capability::CapabilitySet;
+use std::alloc::{AllocError, Global};
+use std::rc::Rc;
+
+impl SingleEnvTypechecker<'_, '_, '_, '_> {
+    #[cycle(typing)]
+    pub(crate) fn type_if<'a>(
+        &self,
+        prior: &CapabilitySet<'a>,
+        depth: usize,
+        loc: Option<Loc>,
+        test: &'a Expr,
+        then_expr: &'a Expr,
+        else_expr: &'a Expr,
+        errors: &mut Vec<ValidationError>,
+    ) -> Result<TypecheckAnswer<'a>, AllocError>
+        requires { depth ≤ max_nesting }
+        ensures { IfOk result (λ r.
+            infer_within (env_at self.now)
+            (if_then_else (at loc) (written test.now) (written then_expr.now)
+            (written else_expr.now)) (caps prior.now) depth (findings errors.old.items)
+            ≡ (answer_of r, findings errors.new.items)) }
+    {
+        let Some(test) = self.type_part(prior, depth + 1, Expected::Bool, test, errors)? else {
+            return Ok(TypecheckAnswer::RecursionLimit);
+        };
+        if is_typed_true(&test.typed) {
+            let known = union_of(self.alloc, prior, &test.capabilities)?;
+            let branch = self.typecheck(&known, depth + 1, then_expr, errors)?;
+            let Some(branch) = any_part(self.alloc, branch) else {
+                return Ok(TypecheckAnswer::RecursionLimit);
+            };
+            let answer = true_test_answer(self.alloc, loc, test, branch)?;
+            return Ok(answer);
+        }
+        if is_typed_false(&test.typed) {
+            let branch = self.typecheck(prior, depth + 1, else_expr, errors)?;
+            let Some(branch) = any_part(self.alloc, branch) else {
+                return Ok(TypecheckAnswer::RecursionLimit);
+            };
+            let answer = false_test_answer(self.alloc, loc, test, branch)?;
+            return Ok(answer);
+        }
+        let known = union_of(self.alloc, prior, &test.capabilities)?;
+        let one = self.typecheck(&known, depth + 1, then_expr, errors)?;
+        let other = self.typecheck(prior, depth + 1, else_expr, errors)?;
+        let answer = self.open_test_answer(loc, test, one, other, errors)?;
+        Ok(answer)
+    }
+
+    /// `if` at `loc`, where the test is open and both branches were typed.
+    fn open_test_answer<'a>(
+        &self,
+        loc: Option<Loc>,
+        test: Part<'a>,
+        one: TypecheckAnswer<'a>,
+        other: TypecheckAnswer<'a>,
+        errors: &mut Vec<ValidationError>,
+    ) -> Result<TypecheckAnswer<'a>, AllocError>
+        ensures { IfOk result (λ r.
+            infer_open_parts (env_at self.now) (at loc) (part_of test.entry)
+            (part_from (answer_of one.entry)) (part_from (answer_of other.entry))
+            (findings errors.old.items)
+            ≡ (answer_of r, findings errors.new.items)) }
+    {
+        let Some(one) = any_part(self.alloc, one) else {
+            return Ok(TypecheckAnswer::RecursionLimit);
+        };
+        let Some(other) = any_part(self.alloc, other) else {
+            return Ok(TypecheckAnswer::RecursionLimit);
+        };
+        let answer = self.open_test_parts(loc, test, one, other, errors)?;
+        Ok(answer)
+    }
+
+    #[tactic(auto, using(crate::proofs::TypedViews::annotation_is))]
+    fn open_test_parts<'a>(
+        &self,
+        loc: Option<Loc>,
+        test: Part<'a>,
+        one: Part<'a>,
+        other: Part<'a>,
+        errors: &mut Vec<ValidationError>,
+    ) -> Result<TypecheckAnswer<'a>, AllocError>
+        ensures { IfOk result (λ r.
+            infer_open_test (env_at self.now) (at loc) (part_of test.entry) (part_of one.entry)
+            (part_of other.entry) (findings errors.old.items)
+            ≡ (answer_of r, findings errors.new.items)) }
+    {
+        let ty = self.joined_type(loc, &one.typed.annotation, &other.typed.annotation, errors)?;
+        let succeeded = test.succeeded & one.succeeded & other.succeeded & ty.is_some();
+        let known = union_of(self.alloc, &test.capabilities, &one.capabilities)?;
+        let capabilities = intersection_of(self.alloc, &other.capabilities, &known)?;
+        let typed = open_test_node(self.alloc, loc, ty, test.typed, one.typed, other.typed)?;
+        Ok(with_capabilities(succeeded, typed, capabilities))
+    }
+
+    /// The bound of the types of both branches, if both have one, and an error at `loc` where those have none.
+    fn joined_type(
+        &self,
+        loc: Option<Loc>,
+        one: &Option<CedarType>,
+        other: &Option<CedarType>,
+        errors: &mut Vec<ValidationError>,
+    ) -> Result<Option<CedarType>, AllocError>
+        ensures bound { IfOk result (λ o.
+            option_map ty_of o
+            ≡ joined (env_at self.now).mode (option_map ty_of one.now)
+            (option_map ty_of other.now)) }
+        ensures reported { IfOk result (λ o.
+            findings errors.new.items
+            ≡ findings errors.old.items
+            ++ join_errors (env_at self.now) loc (option_map ty_of one.now)
+            (option_map ty_of other.now)) }
+    {
+        let Some(one) = one else {
+            return Ok(None);
+        };
+        let Some(other) = other else {
+            return Ok(None);
+        };
+        let ty = self.bound_type(loc, one, other, errors)?;
+        Ok(ty)
+    }
+
+    fn bound_type(
+        &self,
+        loc: Option<Loc>,
+        one: &CedarType,
+        other: &CedarType,
+        errors: &mut Vec<ValidationError>,
+    ) -> Result<Option<CedarType>, AllocError>
+        ensures bound { IfOk result (λ o.
+            option_map ty_of o
+            ≡ lub (env_at self.now).mode (ty_of one.now) (ty_of other.now)) }
+        ensures reported { IfOk result (λ o.
+            findings errors.new.items
+            ≡ findings errors.old.items
+            ++ bound_errors (env_at self.now) loc (ty_of one.now) (ty_of other.now)
+            (lub (env_at self.now).mode (ty_of one.now) (ty_of other.now))) }
+    {
+        let bound = CedarType::least_upper_bound(self.alloc, one, other, self.mode)?;
+        match bound {
+            Some(ty) => Ok(Some(ty)),
+            None => {
+                errors.push(self.incompatible(loc, one, other)?)?;
+                Ok(None)
+            }
+        }
+    }
+
+    fn incompatible(
+        &self,
+        loc: Option<Loc>,
+        one: &CedarType,
+        other: &CedarType,
+    ) -> Result<ValidationError, AllocError>
+        ensures { IfOk result (λ e.
+            finding_of e
+            ≡ finding (env_at self.now) loc
+            (incompatible_types (in_order (ty_of one.now ∷ ty_of other.now ∷ [])) Conditional)) }
+    {
+        let policy_id = self.policy_id.clone()?;
+        let mut types = Vec::new(self.alloc);
+        types.push(CedarType::clone(one)?)?;
+        types.push(CedarType::clone(other)?)?;
+        let types = types_in_order(self.alloc, types)?;
+        let context = LubContext::Conditional;
+        Ok(ValidationError::incompatible_types(loc, policy_id, types, context))
+    }
+}
+
+/// `if` at `loc` whose test is True, of the branch that stands for both.
+fn true_test_answer<'a>(
+    alloc: Global,
+    loc: Option<Loc>,
+    test: Part<'a>,
+    branch: Part<'a>,
+) -> Result<TypecheckAnswer<'a>, AllocError>
+    ensures { IfOk result (λ r.
+        answer_of r
+        ≡ infer_constant_test (at loc) (part_of test.entry) (part_of branch.entry)
+        (union (caps test.entry.capabilities) (caps branch.entry.capabilities))) }
+{
+    let known = union_of(alloc, &test.capabilities, &branch.capabilities)?;
+    let succeeded = test.succeeded & branch.succeeded;
+    let typed = constant_test_node(alloc, loc, test.typed, branch.typed)?;
+    Ok(with_capabilities(succeeded, typed, known))
+}
+
+/// `if` at `loc` whose test is False, of the branch that stands for both.
+fn false_test_answer<'a>(
+    alloc: Global,
+    loc: Option<Loc>,
+    test: Part<'a>,
+    branch: Part<'a>,
+) -> Result<TypecheckAnswer<'a>, AllocError>
+    ensures { IfOk result (λ r.
+        answer_of r
+        ≡ infer_constant_test (at loc) (part_of test.entry) (part_of branch.entry)
+        (caps branch.entry.capabilities)) }
+{
+    let succeeded = test.succeeded & branch.succeeded;
+    let typed = constant_test_node(alloc, loc, test.typed, branch.typed)?;
+    Ok(with_capabilities(succeeded, typed, branch.capabilities))
+}
+
+/// One branch that stands for both, which share it.
+#[tactic(auto, using(crate::proofs::TypedViews::annotation_is))]
+fn constant_test_node(
+    alloc: Global,
+    loc: Option<Loc>,
+    test: Expr<Option<CedarType>>,
+    branch: Expr<Option<CedarType>>,
+) -> Result<Expr<Option<CedarType>>, AllocError>
+    ensures { IfOk result (λ e.
+        typed_tree e
+        ≡ if_then_else (typed_as (annotation (typed_tree branch)) (at loc)) (typed_tree test)
+        (typed_tree branch) (typed_tree branch)) }
+{
+    let ty = same_type(&branch.annotation)?;
+    let typed = shared_node(alloc, loc, ty, test, branch)?;
+    Ok(typed)
+}
+
+fn shared_node(
+    alloc: Global,
+    loc: Option<Loc>,
+    ty: Option<CedarType>,
+    test: Expr<Option<CedarType>>,
+    branch: Expr<Option<CedarType>>,
+) -> Result<Expr<Option<CedarType>>, AllocError>
+    ensures { IfOk result (λ e.
+        typed_tree e
+        ≡ if_then_else (typed_as (option_map ty_of ty) (at loc)) (typed_tree test)
+        (typed_tree branch) (typed_tree branch)) }
+{
+    let then_expr = Rc::new(alloc, branch)?;
+    let else_expr = then_expr.clone()?;
+    Ok(Expr {
+        annotation: ty,
+        loc,
+        kind: ExprKind::If {
+            test_expr: Box::new(alloc, test)?,
+            then_expr,
+            else_expr,
+        },
+    })
+}
+
+fn open_test_node(
+    alloc: Global,
+    loc: Option<Loc>,
+    ty: Option<CedarType>,
+    test: Expr<Option<CedarType>>,
+    one: Expr<Option<CedarType>>,
+    other: Expr<Option<CedarType>>,
+) -> Result<Expr<Option<CedarType>>, AllocError>
+    ensures { IfOk result (λ e.
+        typed_tree e
+        ≡ if_then_else (typed_as (option_map ty_of ty) (at loc)) (typed_tree test)
+        (typed_tree one) (typed_tree other)) }
+{
+    Ok(Expr {
+        annotation: ty,
+        loc,
+        kind: ExprKind::If {
+            test_expr: Box::new(alloc, test)?,
+            then_expr: Rc::new(alloc, one)?,
+            else_expr: Rc::new(alloc, other)?,
+        },
+    })
+}
+
+fn same_type(ty: &Option<CedarType>) -> Result<Option<CedarType>, AllocError>
+    ensures { IfOk result (λ o. option_map ty_of o ≡ option_map ty_of ty.now) }
+{
+    match ty {
+        Some(ty) => Ok(Some(CedarType::clone(ty)?)),
+        None => Ok(None),
+    }
+}

@@ -1,0 +1,180 @@
+// Expressions without parts: literals, variables, slots, unknowns, and forms without a rule yet.
+ghost use Rattle.std.specs.Prelude.{◌≡◌, IfOk, None, Some, option_map};
+ghost use Rattle.cedar_types.specs.Names.{type_of, uid_of, path_of};
+ghost use Rattle.cedar_types.specs.Types.{ty_of};
+ghost use Rattle.cedar_types.specs.Tree.{entity, lit, var, slot as slot_tree};
+ghost use Rattle.cedar_types.specs.View.{lit_of, lit_places};
+ghost use Rattle.cedar_typing.specs.Infer.Leaves.{infer_leaf, infer_unknown, infer_unbuilt};
+ghost use Rattle.cedar_typing.specs.Rules.Leaves.{bool_ty, linked_ty, slot_ty, type_of_literal, variable_type};
+ghost use Rattle.cedar_typing.specs.Views.{env_at, answer_of, findings, at};
+
+use crate::typecheck::answer::TypecheckAnswer;
+use crate::typecheck::single_env::SingleEnvTypechecker;
+use crate::typecheck::typed_nodes::without_capabilities;
+use cedar_types::base::{
+    BoolType, CedarType, EntityKind, EntityType, EntityUID, Expr, ExprKind, Literal, Loc, Name,
+    SlotId, ValidationError, ValidationMode, Var,
+};
+use std::alloc::{AllocError, Global};
+use std::rc::RcStr;
+
+impl SingleEnvTypechecker<'_, '_, '_, '_> {
+    pub(crate) fn check_literal<'a>(
+        &self,
+        loc: Option<Loc>,
+        literal: &Literal,
+    ) -> Result<TypecheckAnswer<'a>, AllocError>
+        ensures { IfOk result (λ r.
+            answer_of r
+            ≡ infer_leaf (type_of_literal (env_at self.now) (lit_of literal.now))
+            (record { place = loc; names = lit_places literal.now })
+            (λ k. lit k (lit_of literal.now))) }
+    {
+        let annotation = self.declared_type_of(literal)?;
+        let succeeded = annotation.is_some();
+        let kind = ExprKind::Lit(literal.clone()?);
+        let typed = Expr {
+            annotation,
+            loc,
+            kind,
+        };
+        Ok(without_capabilities(self.alloc, succeeded, typed))
+    }
+
+    pub(crate) fn type_variable<'a>(
+        &self,
+        loc: Option<Loc>,
+        variable: Var,
+    ) -> Result<TypecheckAnswer<'a>, AllocError>
+        ensures { IfOk result (λ r.
+            answer_of r
+            ≡ infer_leaf (variable_type (env_at self.now) variable) (at loc)
+            (λ k. var k variable)) }
+    {
+        let annotation = self.type_of_variable(variable)?;
+        let succeeded = annotation.is_some();
+        let typed = Expr {
+            annotation,
+            loc,
+            kind: ExprKind::Var(variable),
+        };
+        Ok(without_capabilities(self.alloc, succeeded, typed))
+    }
+
+    fn type_of_variable(&self, variable: Var) -> Result<Option<CedarType>, AllocError>
+        ensures { IfOk result (λ o. option_map ty_of o ≡ variable_type (env_at self.now) variable) }
+    {
+        match variable {
+            Var::Principal => Ok(Some(self.env.principal_type(self.alloc)?)),
+            Var::Action => self.env.action_type(self.alloc, self.schema),
+            Var::Resource => Ok(Some(self.env.resource_type(self.alloc)?)),
+            Var::Context => Ok(Some(self.env.context_type(self.alloc)?)),
+        }
+    }
+
+    pub(crate) fn type_slot<'a>(
+        &self,
+        loc: Option<Loc>,
+        slot: SlotId,
+    ) -> Result<TypecheckAnswer<'a>, AllocError>
+        ensures { IfOk result (λ r.
+            answer_of r
+            ≡ infer_leaf (Some (slot_ty (env_at self.now).request_env slot)) (at loc)
+            (λ k. slot_tree k slot)) }
+    {
+        let linked = match slot {
+            SlotId::Principal => self.env.principal_slot(),
+            SlotId::Resource => self.env.resource_slot(),
+        };
+        let typed = Expr {
+            annotation: Some(linked_type(self.alloc, linked)?),
+            loc,
+            kind: ExprKind::Slot(slot),
+        };
+        Ok(without_capabilities(self.alloc, true, typed))
+    }
+
+    /// An unknown has no type, and its typed expression no place.
+    pub(crate) fn type_unknown<'a>(&self, name: &Name) -> Result<TypecheckAnswer<'a>, AllocError>
+        ensures { IfOk result (λ r. answer_of r ≡ infer_unknown (path_of name.now) (at None)) }
+    {
+        Ok(TypecheckAnswer::fail(Expr {
+            annotation: None,
+            loc: None,
+            kind: ExprKind::Unknown(name.clone()?),
+        }))
+    }
+
+    /// A form without a rule yet: an error, and no type.
+    pub(crate) fn type_unbuilt<'a>(
+        &self,
+        loc: Option<Loc>,
+        errors: &mut Vec<ValidationError>,
+    ) -> Result<TypecheckAnswer<'a>, AllocError>
+        ensures { IfOk result (λ r.
+            infer_unbuilt (env_at self.now) loc (findings errors.old.items)
+            ≡ (answer_of r, findings errors.new.items)) }
+    {
+        let policy_id = self.policy_id.clone()?;
+        let nameless = Name {
+            path: Vec::new(self.alloc),
+            basename: RcStr::from_str(self.alloc, "")?,
+        };
+        errors.push(ValidationError::internal_invariant_violation(loc, policy_id))?;
+        Ok(TypecheckAnswer::fail(Expr {
+            annotation: None,
+            loc,
+            kind: ExprKind::Unknown(nameless),
+        }))
+    }
+
+    fn declared_type_of(&self, literal: &Literal) -> Result<Option<CedarType>, AllocError>
+        ensures { IfOk result (λ o.
+            option_map ty_of o
+            ≡ type_of_literal (env_at self.now) (lit_of literal.now)) }
+    {
+        match literal {
+            Literal::Bool(b) => Ok(Some(bool_type(*b))),
+            Literal::Long(_) => Ok(Some(CedarType::Long)),
+            Literal::String(_) => Ok(Some(CedarType::String)),
+            Literal::EntityUID(uid) => self.entity_literal_type(uid),
+        }
+    }
+
+    fn entity_literal_type(&self, uid: &EntityUID) -> Result<Option<CedarType>, AllocError>
+        ensures { IfOk result (λ o.
+            option_map ty_of o
+            ≡ type_of_literal (env_at self.now) (entity (uid_of uid.now))) }
+    {
+        if let Some(known) = CedarType::euid_literal(self.alloc, uid, self.schema)? {
+            return Ok(Some(known));
+        }
+        if self.mode == ValidationMode::Partial {
+            let named = uid.entity_type.clone()?;
+            return Ok(Some(CedarType::named_entity_reference(self.alloc, named)?));
+        }
+        Ok(None)
+    }
+}
+
+/// The type that a slot is linked to, or any entity.
+fn linked_type(alloc: Global, linked: Option<&EntityType>) -> Result<CedarType, AllocError>
+    ensures { IfOk result (λ t.
+        ty_of t
+        ≡ linked_ty (option_map (λ p. type_of p.now) linked.entry)) }
+{
+    match linked {
+        Some(entity_type) => CedarType::named_entity_reference(alloc, entity_type.clone()?),
+        None => Ok(CedarType::Entity(EntityKind::AnyEntity)),
+    }
+}
+
+fn bool_type(b: bool) -> CedarType
+    ensures { ty_of result ≡ bool_ty b }
+{
+    if b {
+        CedarType::Bool(BoolType::True)
+    } else {
+        CedarType::Bool(BoolType::False)
+    }
+}

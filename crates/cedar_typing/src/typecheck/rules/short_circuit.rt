@@ -1,0 +1,266 @@
+// `&&` and `||`.
+ghost use Rattle.std.specs.Prelude.{◌≡◌, ◌≤◌, IfOk, option_map};
+ghost use Rattle.cedar_types.specs.Types.{ty_of};
+ghost use Rattle.cedar_types.specs.View.{written};
+ghost use Rattle.cedar_types.specs.Capability.{caps};
+ghost use Rattle.cedar_typing.specs.Infer.Parts.{answer_if};
+ghost use Rattle.cedar_typing.specs.Infer.ShortCircuit.{infer_sides};
+ghost use Rattle.cedar_typing.specs.Judgments.{max_nesting};
+ghost use Rattle.cedar_typing.specs.Rules.ShortCircuit.{side_of, type_of_side};
+ghost use Rattle.cedar_typing.specs.TypeTests.{annotation_passes};
+ghost use Rattle.cedar_typing.specs.TypedExpr.{annotation, at_place, typed, typed_tree};
+ghost use Rattle.cedar_typing.specs.Views.{env_at, answer_of, part_of, findings, at, connective_of, side_seen, infer_connective};
+
+use crate::typecheck::answer::{Part, TypecheckAnswer};
+use crate::typecheck::capabilities::{
+    intersection_of, no_capabilities, same_capabilities, union_of,
+};
+use crate::typecheck::operands::Expected;
+use crate::typecheck::single_env::SingleEnvTypechecker;
+use crate::typecheck::type_tests::{any_bool, is_false_type, is_true_type};
+use crate::typecheck::typed_nodes::{at_place, with_capabilities};
+use cedar_types::base::{CedarType, Expr, ExprKind, Loc, ValidationError};
+use cedar_types::types::capability::CapabilitySet;
+use std::alloc::{AllocError, Global};
+
+/// `&&` or `||`.
+#[derive(Clone, Copy, Debug)]
+pub(crate) enum Connective {
+    And,
+    Or,
+}
+
+/// Which of two sides says what the type of the whole is.
+#[derive(Clone, Copy, Debug)]
+pub(crate) enum Side {
+    /// The right one, which ends the whole.
+    RightEnds,
+    LeftAlone,
+    RightAlone,
+    Neither,
+}
+
+impl Connective {
+    /// Whether a side of this type ends the whole.
+    fn ends(self, ty: &CedarType) -> bool
+        ensures { result ≡ (connective_of self).ends (ty_of ty.now) }
+    {
+        match self {
+            Connective::And => is_false_type(ty),
+            Connective::Or => is_true_type(ty),
+        }
+    }
+
+    /// Whether a side of this type leaves it to the other side.
+    fn changes_nothing(self, ty: &CedarType) -> bool
+        ensures { result ≡ (connective_of self).changes_nothing (ty_of ty.now) }
+    {
+        match self {
+            Connective::And => is_true_type(ty),
+            Connective::Or => is_false_type(ty),
+        }
+    }
+
+    #[tactic(auto, using(crate::proofs::TypedViews::annotation_is))]
+    fn ends_with(self, typed: &Expr<Option<CedarType>>) -> bool
+        ensures { result
+            ≡ annotation_passes (connective_of self).ends (annotation (typed_tree typed.now)) }
+    {
+        match &typed.annotation {
+            Some(ty) => self.ends(ty),
+            None => false,
+        }
+    }
+
+    fn side(self, left: &CedarType, right: &CedarType) -> Side
+        ensures { side_seen result
+            ≡ side_of (connective_of self) (ty_of left.now) (ty_of right.now) }
+    {
+        if self.ends(right) {
+            return Side::RightEnds;
+        }
+        if self.changes_nothing(right) {
+            return Side::LeftAlone;
+        }
+        if self.changes_nothing(left) {
+            return Side::RightAlone;
+        }
+        Side::Neither
+    }
+
+    /// What is known on the right beside what is known before: `b` of `a && b` is evaluated only where `a` is true, and
+    /// `b` of `a || b` only where it is false.
+    fn known_on_right<'a>(
+        self,
+        alloc: Global,
+        prior: &CapabilitySet<'a>,
+        left: &CapabilitySet<'a>,
+    ) -> Result<CapabilitySet<'a>, AllocError>
+        ensures { IfOk result (λ c.
+            caps c
+            ≡ (connective_of self).right_prior (caps prior.now) (caps left.now)) }
+    {
+        match self {
+            Connective::And => union_of(alloc, prior, left),
+            Connective::Or => same_capabilities(alloc, prior),
+        }
+    }
+
+    /// What a left side that ends the whole produces.
+    fn ended_capabilities<'a>(self, alloc: Global, left: CapabilitySet<'a>) -> CapabilitySet<'a>
+        ensures { caps result ≡ (connective_of self).ended_caps (caps left.entry) }
+    {
+        match self {
+            Connective::And => no_capabilities(alloc),
+            Connective::Or => left,
+        }
+    }
+
+    /// What both sides produce.
+    fn capabilities<'a>(
+        self,
+        alloc: Global,
+        side: Side,
+        left: &CapabilitySet<'a>,
+        right: &CapabilitySet<'a>,
+    ) -> Result<CapabilitySet<'a>, AllocError>
+        ensures { IfOk result (λ c. caps c
+            ≡ (connective_of self).side_caps (side_seen side) (caps left.now) (caps right.now)) }
+    {
+        match (self, side) {
+            (Connective::And, Side::RightEnds) => Ok(no_capabilities(alloc)),
+            (Connective::And, Side::LeftAlone) => union_of(alloc, left, right),
+            (Connective::And, Side::RightAlone) => union_of(alloc, left, right),
+            (Connective::And, Side::Neither) => union_of(alloc, left, right),
+            (Connective::Or, Side::LeftAlone) => same_capabilities(alloc, left),
+            (Connective::Or, Side::RightEnds) => same_capabilities(alloc, right),
+            (Connective::Or, Side::RightAlone) => same_capabilities(alloc, right),
+            (Connective::Or, Side::Neither) => intersection_of(alloc, left, right),
+        }
+    }
+
+    fn node(
+        self,
+        alloc: Global,
+        loc: Option<Loc>,
+        ty: CedarType,
+        left: Expr<Option<CedarType>>,
+        right: Expr<Option<CedarType>>,
+    ) -> Result<Expr<Option<CedarType>>, AllocError>
+        ensures { IfOk result (λ e. typed_tree e
+            ≡ (connective_of self).node (typed (ty_of ty) (at loc)) (typed_tree left) (typed_tree right)) }
+    {
+        let left = Box::new(alloc, left)?;
+        let right = Box::new(alloc, right)?;
+        let kind = match self {
+            Connective::And => ExprKind::And(left, right),
+            Connective::Or => ExprKind::Or(left, right),
+        };
+        Ok(Expr {
+            annotation: Some(ty),
+            loc,
+            kind,
+        })
+    }
+}
+
+impl SingleEnvTypechecker<'_, '_, '_, '_> {
+    /// `&&` or `||` at `loc`.
+    #[cycle(typing)]
+    pub(crate) fn type_short_circuit<'a>(
+        &self,
+        prior: &CapabilitySet<'a>,
+        depth: usize,
+        loc: Option<Loc>,
+        connective: Connective,
+        left: &'a Expr,
+        right: &'a Expr,
+        errors: &mut Vec<ValidationError>,
+    ) -> Result<TypecheckAnswer<'a>, AllocError>
+        requires { depth ≤ max_nesting }
+        ensures { IfOk result (λ r.
+            infer_connective (env_at self.now) (connective_of connective) (at loc) (written left.now)
+            (written right.now) (caps prior.now) depth (findings errors.old.items)
+            ≡ (answer_of r, findings errors.new.items)) }
+    {
+        let Some(left) = self.type_part(prior, depth + 1, Expected::Bool, left, errors)? else {
+            return Ok(TypecheckAnswer::RecursionLimit);
+        };
+        if connective.ends_with(&left.typed) {
+            return Ok(self.ended_answer(loc, connective, left));
+        }
+        let known = connective.known_on_right(self.alloc, prior, &left.capabilities)?;
+        let part = self.type_part(&known, depth + 1, Expected::Bool, right, errors)?;
+        let Some(right) = part else {
+            return Ok(TypecheckAnswer::RecursionLimit);
+        };
+        let answer = self.sides_answer(loc, connective, left, right)?;
+        Ok(answer)
+    }
+
+    /// The left side, which ends the whole, at the place of the whole.
+    fn ended_answer<'a>(
+        &self,
+        loc: Option<Loc>,
+        connective: Connective,
+        left: Part<'a>,
+    ) -> TypecheckAnswer<'a>
+        ensures { answer_of result
+            ≡ answer_if left.entry.succeeded (at_place loc (typed_tree left.entry.typed))
+            ((connective_of connective).ended_caps (caps left.entry.capabilities)) }
+    {
+        let succeeded = left.succeeded;
+        let typed = at_place(left.typed, loc);
+        let capabilities = connective.ended_capabilities(self.alloc, left.capabilities);
+        with_capabilities(succeeded, typed, capabilities)
+    }
+
+    /// `&&` or `||` at `loc` of two typed sides, the left of which does not end the whole.
+    #[tactic(auto, using(crate::proofs::TypedViews::annotation_is))]
+    fn sides_answer<'a>(
+        &self,
+        loc: Option<Loc>,
+        connective: Connective,
+        left: Part<'a>,
+        right: Part<'a>,
+    ) -> Result<TypecheckAnswer<'a>, AllocError>
+        ensures { IfOk result (λ r. answer_of r
+            ≡ infer_sides (connective_of connective) (at loc) (part_of left.entry) (part_of right.entry)
+            (annotation (typed_tree left.entry.typed)) (annotation (typed_tree right.entry.typed))) }
+    {
+        match (&left.typed.annotation, &right.typed.annotation) {
+            (Some(one), Some(other)) => {
+                let side = connective.side(one, other);
+                let ty = type_by_side(side, one, other)?;
+                let produced = connective.capabilities(
+                    self.alloc,
+                    side,
+                    &left.capabilities,
+                    &right.capabilities,
+                )?;
+                let succeeded = left.succeeded & right.succeeded;
+                let typed = connective.node(self.alloc, loc, ty, left.typed, right.typed)?;
+                Ok(with_capabilities(succeeded, typed, produced))
+            }
+            _ => {
+                let ty = any_bool();
+                let typed = connective.node(self.alloc, loc, ty, left.typed, right.typed)?;
+                Ok(TypecheckAnswer::fail(typed))
+            }
+        }
+    }
+}
+
+/// The type of the whole by the types of both sides.
+fn type_by_side(side: Side, left: &CedarType, right: &CedarType) -> Result<CedarType, AllocError>
+    ensures { IfOk result (λ t.
+        ty_of t
+        ≡ type_of_side (side_seen side) (ty_of left.now) (ty_of right.now)) }
+{
+    match side {
+        Side::LeftAlone => CedarType::clone(left),
+        Side::RightEnds => CedarType::clone(right),
+        Side::RightAlone => CedarType::clone(right),
+        Side::Neither => Ok(any_bool()),
+    }
+}

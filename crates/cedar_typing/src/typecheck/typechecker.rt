@@ -1,0 +1,163 @@
+// The check of a policy in one environment.
+ghost use Rattle.std.specs.Prelude.{◌≡◌, IfOk, map, option_map};
+ghost use Rattle.cedar_types.specs.View.{written};
+ghost use Rattle.cedar_types.specs.Errors.{finding_of};
+ghost use Rattle.cedar_types.specs.Templates.{template_of, condition_of, with_rest};
+ghost use Rattle.cedar_typing.specs.CheckViews.{verdict_of, env_for};
+ghost use Rattle.cedar_typing.specs.Evaluation.Conformance.{table_of};
+ghost use Rattle.cedar_typing.specs.PolicyCheck.{PolicyChecks, policy_check, part_verdict};
+ghost use Rattle.cedar_typing.specs.SoundPolicyCheck.{IsSoundPolicyCheck};
+ghost use Rattle.cedar_typing.specs.Views.{env_at, part_of};
+
+use crate::typecheck::answer::Part;
+use crate::typecheck::capabilities::no_capabilities;
+use crate::typecheck::operands::Expected;
+use crate::typecheck::rules::short_circuit::Connective;
+use crate::typecheck::single_env::SingleEnvTypechecker;
+use crate::typecheck::type_tests::is_typed_false;
+use cedar_types::base::{
+    CedarType, Expr, ExtensionSchemas, Loc, Template, ValidationError, ValidationMode,
+    ValidatorSchema,
+};
+use cedar_types::types::request_env::RequestEnv;
+use std::alloc::{AllocError, Global};
+
+/// What the check of a policy in one environment comes to. An error stands in a list as often as it is found, in any order.
+///
+/// A policy is refused where it fails in some environment, or is irrelevant there with errors.
+#[derive(Debug, Drop)]
+pub enum PolicyCheck {
+    /// The condition, typed, without an error. Its type is a Boolean other than False; in Partial it may be Never too.
+    Success(Expr<Option<CedarType>>),
+    /// The condition, typed, is False: here the policy never applies. Without errors this is no fault, as of a policy
+    /// about another action.
+    Irrelevant(Vec<ValidationError>, Expr<Option<CedarType>>),
+    /// The condition is refused. There may be no error: an entity whose type the schema does not know, an action that it
+    /// does not declare and an unknown fail without one, and so does what is nested too deep. A host that prints errors
+    /// alone would show such a policy as clean. The passes over names and ids will name the first two.
+    Fail(Vec<ValidationError>),
+}
+
+/// Types policies by a schema and some extension functions, in a mode.
+#[derive(Drop)]
+pub struct Typechecker<'a> {
+    pub(crate) schema: &'a ValidatorSchema,
+    pub(crate) extensions: &'a ExtensionSchemas,
+    pub(crate) mode: ValidationMode,
+}
+
+impl<'a> Typechecker<'a> {
+    ghost use Rattle.std.specs.Prelude.{◌≡◌};
+
+    /// Types by this schema and these functions, in this mode.
+    pub fn new(
+        schema: &'a ValidatorSchema,
+        extensions: &'a ExtensionSchemas,
+        mode: ValidationMode,
+    ) -> Typechecker<'a>
+        ensures { result
+            ≡ record { schema = schema.entry; extensions = extensions.entry; mode = mode } }
+    {
+        Typechecker {
+            schema,
+            extensions,
+            mode,
+        }
+    }
+
+    /// The check of a template's condition in this environment: a success, irrelevant, or failed, perhaps without an error
+    /// (`PolicyCheck::Fail`).
+    ///
+    /// In Strict, by a schema without external declarations, in one of its own environments, whose slots are linked in any
+    /// way: where a request and slots fit the environment, the store conforms, the extension functions keep to their table
+    /// and each slot of the condition is bound, a success promises that evaluation gives a boolean or fails only for a
+    /// missing entity, an overflow or an extension function, and an irrelevant condition is never true. Nothing is promised
+    /// of another environment or mode.
+    ///
+    /// That each type and action that the policy names is the schema's, also in parts that are not visited, and each id of an
+    /// enumerated type one of its ids, is left to the passes over names and ids.
+    ///
+    /// The rest of the policy is typed where it stands: no copy of it is made, and no part of it that lies deeper than
+    /// `MAX_NESTING` is visited. The caller's own tree is dropped by the caller, and to drop a deep one takes a deep stack.
+    /// Where memory is refused, the answer is an `AllocError`.
+    pub fn typecheck_by_single_request_env(
+        &self,
+        alloc: Global,
+        t: &Template,
+        env: &RequestEnv<'_>,
+    ) -> Result<PolicyCheck, AllocError>
+        ensures exact { IfOk result (λ r.
+            PolicyChecks (env_for self.now t.now env.now) (condition_of (template_of t.now))
+            (verdict_of r)) }
+        ensures sound { IfOk result (λ r.
+            IsSoundPolicyCheck (env_for self.now t.now env.now)
+            (table_of self.now.extensions.now) (condition_of (template_of t.now)) (verdict_of r)) }
+    {
+        let scope = t.scope_condition(alloc)?;
+        let checker = SingleEnvTypechecker {
+            alloc,
+            schema: self.schema,
+            mode: self.mode,
+            env,
+            policy_id: &t.id,
+        };
+        let check = checker.check_rest(t.loc, &scope, &t.non_scope_constraints)?;
+        Ok(check)
+    }
+}
+
+impl SingleEnvTypechecker<'_, '_, '_, '_> {
+    /// The check of the scope's condition and the rest of the policy, which is typed where it stands: no copy of it is made,
+    /// and no part of it beyond the limit is visited.
+    fn check_rest(
+        &self,
+        loc: Option<Loc>,
+        scope: &Expr,
+        rest: &Option<Expr>,
+    ) -> Result<PolicyCheck, AllocError>
+        ensures { IfOk result (λ r.
+            verdict_of r
+            ≡ policy_check (env_at self.now)
+            (with_rest loc (written scope.now) (option_map written rest.now))) }
+    {
+        let mut errors = Vec::new(self.alloc);
+        let known = no_capabilities(self.alloc);
+        match rest {
+            None => {
+                let part = self.type_part(&known, 1, Expected::Bool, scope, &mut errors)?;
+                Ok(verdict(part, errors))
+            }
+            Some(rest) => {
+                let answer = self.type_short_circuit(
+                    &known,
+                    1,
+                    loc,
+                    Connective::And,
+                    scope,
+                    rest,
+                    &mut errors,
+                )?;
+                let part = self.expect(Expected::Bool, loc, answer, &mut errors)?;
+                Ok(verdict(part, errors))
+            }
+        }
+    }
+}
+
+/// What the check of a condition comes to, by its typed copy and its errors. Without a copy a part was too deep.
+fn verdict(part: Option<Part<'_>>, errors: Vec<ValidationError>) -> PolicyCheck
+    ensures { verdict_of result
+        ≡ part_verdict (option_map part_of part.entry) (map finding_of errors.items) }
+{
+    let Some(part) = part else {
+        return PolicyCheck::Fail(errors);
+    };
+    if is_typed_false(&part.typed) {
+        return PolicyCheck::Irrelevant(errors, part.typed);
+    }
+    if part.succeeded {
+        PolicyCheck::Success(part.typed)
+    } else {
+        PolicyCheck::Fail(errors)
+    }
+}
