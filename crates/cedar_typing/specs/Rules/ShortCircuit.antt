@@ -102,7 +102,7 @@ disjunction = record {
 -- ---- the rules
 
 module _ (env : TypeEnv) (f : Connective) (m : Written) (l l' : Option Loc) (A : Judgment) (B : Caps → Judgment) (prior : Caps) where
-  -- how the left side is given on, and the right one after a left one that produces c
+  -- what the left side gives, and the right one after a left one that produces c
   abbrev pub Left : Bool → Caps → TypedTree → List Finding → Type 0
   Left = Operand env bool_types l A
 
@@ -110,7 +110,8 @@ module _ (env : TypeEnv) (f : Connective) (m : Written) (l l' : Option Loc) (A :
   Right c = Operand env bool_types l' (B (f.right_prior prior c))
 
   pub data ShortCircuitRule : Ty → Caps → TypedTree → Type 0 where
-    -- the left side ends the whole, which is that side alone at its own place; the right one is not visited
+    -- the left side ends the whole, which is that side alone, at the place of the whole; the right one
+    -- is not visited
     left_ends : {s : Ty} {c : Caps} {a : TypedTree}
         → A.derives s c a → accepts bool_types s ≡ true → f.ends s ≡ true
         → ShortCircuitRule s (f.ended_caps c) (at_place m.place a)
