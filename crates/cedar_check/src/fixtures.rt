@@ -1,5 +1,7 @@
 // What the rows are made of: one file for each subject.
 pub mod conditions;
 pub mod declarations;
-pub mod forms;
+pub mod equality;
+pub mod guards;
+pub mod operators;
 pub mod schemas;

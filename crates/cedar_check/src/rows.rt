@@ -1,11 +1,20 @@
 // The worked rows.
 mod checks;
+mod equality;
+mod expected;
 mod guards;
+mod operators;
 
+use crate::fixtures::schemas::{photos, photos_with_options};
 use crate::rows::checks::compared;
+use crate::rows::equality::{SIDES_WITHOUT_BOUND, TEST_BESIDE_EQUALITY};
 use crate::rows::guards::{CONDITIONAL_GUARDS, GUARDED_ACCESS, GUARDING_FORMS};
-use cedar_types::base::{ExtensionSchemas, SchemaError};
+use crate::rows::operators::OPERATORS;
+use cedar_types::base::{ExtensionSchemas, SchemaError, ValidatorSchema};
 use std::alloc::{AllocError, Global};
+
+#[cfg(test)]
+mod tests;
 
 /// What a row gave.
 #[derive(Drop)]
@@ -37,17 +46,31 @@ pub struct NamedRow<R> {
 pub enum WorkedRow {
     /// An optional attribute is read behind a test, and without one.
     GuardedAccess,
-    /// It is read beside a test, in forms that guard it and in forms that do not.
+    /// An optional attribute is compared beside a test.
+    TestBesideEquality,
+    /// Sides of types that have no bound are compared, and an empty set is asked.
+    SidesWithoutBound,
+    /// An optional attribute is read beside a test, in forms that guard it and in others.
     GuardingForms,
-    /// It is read behind a conditional that tests it.
+    /// An optional attribute is read behind a conditional that tests it.
     ConditionalGuards,
+    /// Operators are on what they accept, and on other operands.
+    Operators,
 }
 
 /// The rows that are built, in the order in which they run.
-pub const WORKED: [NamedRow<WorkedRow>; 3] = [
+pub const WORKED: [NamedRow<WorkedRow>; 6] = [
     NamedRow {
         name: "10",
         row: WorkedRow::GuardedAccess,
+    },
+    NamedRow {
+        name: "12",
+        row: WorkedRow::TestBesideEquality,
+    },
+    NamedRow {
+        name: "17",
+        row: WorkedRow::SidesWithoutBound,
     },
     NamedRow {
         name: "31",
@@ -57,7 +80,38 @@ pub const WORKED: [NamedRow<WorkedRow>; 3] = [
         name: "32",
         row: WorkedRow::ConditionalGuards,
     },
+    NamedRow {
+        name: "33",
+        row: WorkedRow::Operators,
+    },
 ];
+
+impl WorkedRow {
+    /// The schema that the row stands on.
+    fn schema(&self, alloc: Global) -> Result<ValidatorSchema, SchemaError> {
+        match self {
+            WorkedRow::SidesWithoutBound | WorkedRow::Operators => photos(alloc),
+            _ => photos_with_options(alloc),
+        }
+    }
+
+    /// Checks the row's policies by this schema.
+    fn checked(
+        &self,
+        alloc: Global,
+        schema: &ValidatorSchema,
+        x1: &ExtensionSchemas,
+    ) -> Result<Report, AllocError> {
+        match self {
+            WorkedRow::GuardedAccess => compared(alloc, schema, x1, &GUARDED_ACCESS),
+            WorkedRow::TestBesideEquality => compared(alloc, schema, x1, &TEST_BESIDE_EQUALITY),
+            WorkedRow::SidesWithoutBound => compared(alloc, schema, x1, &SIDES_WITHOUT_BOUND),
+            WorkedRow::GuardingForms => compared(alloc, schema, x1, &GUARDING_FORMS),
+            WorkedRow::ConditionalGuards => compared(alloc, schema, x1, &CONDITIONAL_GUARDS),
+            WorkedRow::Operators => compared(alloc, schema, x1, &OPERATORS),
+        }
+    }
+}
 
 impl Row for WorkedRow {
     fn report(
@@ -66,13 +120,8 @@ impl Row for WorkedRow {
         x1: &ExtensionSchemas,
         _x2: &ExtensionSchemas,
     ) -> Result<Report, AllocError> {
-        let reported = match self {
-            WorkedRow::GuardedAccess => compared(alloc, x1, &GUARDED_ACCESS),
-            WorkedRow::GuardingForms => compared(alloc, x1, &GUARDING_FORMS),
-            WorkedRow::ConditionalGuards => compared(alloc, x1, &CONDITIONAL_GUARDS),
-        };
-        match reported {
-            Ok(report) => Ok(report),
+        match self.schema(alloc) {
+            Ok(schema) => self.checked(alloc, &schema, x1),
             Err(SchemaError::Memory(error)) => Err(error),
             Err(fault) => other_outcome(alloc, fault.to_string(alloc)?.as_str()),
         }

@@ -4,9 +4,16 @@ pub mod Marks
 pub mod TypeTests
 pub mod Agreement
 pub mod Operands
+pub mod TwoOperands
+pub mod Elements
+pub mod FieldValues
+pub mod FieldsInOrder
+pub mod FieldViews
 pub mod TypedViews
 pub mod PartViews
 pub mod PolicyCheck
+pub mod BrokenOperands
+pub mod Cuts
 pub mod RuleLaws
 pub mod Verdicts
 pub mod Values

@@ -2,5 +2,8 @@
 pub mod Types
 pub mod Rules
 pub mod Eager
+pub mod Equality
+pub mod Collections
+pub mod Operators
 pub mod Attributes
 pub mod Induction

@@ -4,6 +4,13 @@ pub mod Capabilities
 pub mod Tests
 pub mod Leaves
 pub mod Eager
+pub mod FixedTypes
+pub mod Numbers
+pub mod Comparison
+pub mod Kinds
+pub mod Equality
+pub mod Sets
+pub mod Records
 pub mod Conjunction
 pub mod Disjunction
 pub mod Unary

@@ -5,7 +5,7 @@ use Rattle.cedar_types.specs.Types.{Ty}
 use Rattle.cedar_types.specs.Tree.{unknown}
 use Rattle.cedar_types.specs.View.{Written, no_name}
 use Rattle.cedar_types.specs.Errors.{Finding}
-use Rattle.cedar_typing.specs.Capabilities.{Caps}
+use Rattle.cedar_typing.specs.Capabilities.{Caps, no_caps}
 use Rattle.cedar_typing.specs.TypeTests.{accepts}
 use Rattle.cedar_typing.specs.TypedExpr.{TypedTree, Mark, untyped, annotation}
 
@@ -38,11 +38,20 @@ pub record Form : Type 0 where
   -- the typed whole: its mark, and the typed operands
   pub node : Mark → List TypedTree → TypedTree
 
--- ---- the first operand of those that a form has
+-- the type, or the errors if there are any
+abbrev pub gives_unless : List Finding → Ty → Decision
+gives_unless [] t = gives t no_caps
+gives_unless (e ∷ es) t = refuses (Some t) (e ∷ es)
+
+-- ---- the first operand of those that a form has, and those after it
 
 abbrev pub first_expectation : List Expectation → Expectation
 first_expectation [] = None
 first_expectation (q ∷ qs) = q
+
+abbrev pub later_expectations : List Expectation → List Expectation
+later_expectations [] = []
+later_expectations (q ∷ qs) = qs
 
 -- the types of operands
 abbrev pub types_found : List TypedTree → List (Option Ty)
@@ -52,6 +61,10 @@ abbrev pub first_type : List (Option Ty) → Option Ty
 first_type [] = None
 first_type (t ∷ ts) = t
 
+abbrev pub second_type : List (Option Ty) → Option Ty
+second_type [] = None
+second_type (t ∷ ts) = first_type ts
+
 -- what stands for an operand that no form lacks
 abbrev pub no_tree : TypedTree
 no_tree =
@@ -60,6 +73,10 @@ no_tree =
 abbrev pub first_tree : List TypedTree → TypedTree
 first_tree [] = no_tree
 first_tree (x ∷ xs) = x
+
+abbrev pub second_tree : List TypedTree → TypedTree
+second_tree [] = no_tree
+second_tree (x ∷ xs) = first_tree xs
 
 -- ---- forms by the number of their operands
 
@@ -72,4 +89,15 @@ on_one m q table node = record {
   decides = λ ts. table (first_type ts);
   at_limit = λ ts. [];
   node = λ k xs. node k (first_tree xs);
+}
+
+-- two operands; nothing is typed after one that is too deep
+abbrev pub on_two : Written → Expectation → Expectation → (Option Ty → Option Ty → Decision) → (Mark → TypedTree → TypedTree → TypedTree) → Form
+on_two m q r table node = record {
+  at = m;
+  expects = q ∷ r ∷ [];
+  goes_on = false;
+  decides = λ ts. table (first_type ts) (second_type ts);
+  at_limit = λ ts. [];
+  node = λ k xs. node k (first_tree xs) (second_tree xs);
 }

@@ -5,6 +5,7 @@ pub mod TypedExpr
 pub mod Answer
 pub mod Judgments
 pub mod Eager
+pub mod Joins
 pub mod Rules
 pub mod Infer
 pub mod Views

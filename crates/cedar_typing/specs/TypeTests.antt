@@ -3,7 +3,7 @@ use Rattle.std.specs.Prelude.{Bool, true, false, List, [], ◌∷◌, Option, So
 use Rattle.std.specs.List.{list_any}
 use Rattle.cedar_types.specs.declared.base.types.BoolType.TheVariants.{AnyBool, True, False}
 use Rattle.cedar_types.specs.declared.base.types.ValidationMode.TheVariants.{Permissive}
-use Rattle.cedar_types.specs.Types.{Ty, TBool, TRecord, TAnyEntity, no_attrs}
+use Rattle.cedar_types.specs.Types.{Ty, TBool, TLong, TString, TAnySet, TRecord, TAnyEntity, no_attrs}
 use Rattle.cedar_types.specs.Bounds.{is_subtype}
 
 -- ---- what an operand may have to be
@@ -14,6 +14,20 @@ accepts ts t = list_any (is_subtype Permissive t) ts
 
 abbrev pub bool_types : List Ty
 bool_types = TBool AnyBool ∷ []
+
+abbrev pub long_types : List Ty
+long_types = TLong ∷ []
+
+abbrev pub string_types : List Ty
+string_types = TString ∷ []
+
+-- any set
+abbrev pub set_types : List Ty
+set_types = TAnySet ∷ []
+
+-- any entity
+abbrev pub entity_types : List Ty
+entity_types = TAnyEntity ∷ []
 
 -- any record or any entity
 abbrev pub object_types : List Ty
@@ -28,6 +42,11 @@ is_false t = false
 abbrev pub is_true : Ty → Bool
 is_true (TBool True) = true
 is_true t = false
+
+-- neither True nor False
+abbrev pub is_any_bool : Ty → Bool
+is_any_bool (TBool AnyBool) = true
+is_any_bool t = false
 
 abbrev pub is_record : Ty → Bool
 is_record (TRecord xs o) = true

@@ -1,29 +1,35 @@
 -- The words of private contracts: what the program's values stand for in inference, and what answers
 -- give inside the crate, in types that callers do not see.
-use Rattle.std.specs.Prelude.{◌≡◌, ℕ, ◌+◌, true, false, Option, Some, None, is_some, option_map, List, map}
+use Rattle.std.specs.Prelude.{◌≡◌, ℕ, ◌+◌, true, false, ◌&&◌, Option, Some, None, is_some, option_map, List, [], ◌∷◌, ◌++◌, map, if◌then◌else◌}
+use Rattle.std.specs.declared.alloc.Global.{Global}
+use Rattle.std.specs.declared.rc.RcStr.{RcStr}
 use Rattle.cedar_types.specs.declared.base.errors.validation_errors.ValidationError.{ValidationError}
 use Rattle.cedar_types.specs.declared.base.location.Loc.{Loc}
-use Rattle.cedar_types.specs.Names.{text_of}
+use Rattle.cedar_types.specs.declared.base.expressions.Expr.{Expr}
+use Rattle.cedar_types.specs.declared.base.types.CedarType.{CedarType}
+use Rattle.cedar_types.specs.Names.{text_of, type_of, Text}
 use Rattle.cedar_types.specs.Types.{Ty, ty_of}
-use Rattle.cedar_types.specs.View.{Written, no_name}
+use Rattle.cedar_types.specs.View.{Written, no_name, of_type}
 use Rattle.cedar_types.specs.Capability.{caps, HasNone}
 use Rattle.cedar_types.specs.Errors.{Finding, finding_of}
 use Rattle.cedar_types.specs.declared.types.capability.CapabilitySet.{CapabilitySet}
 use Rattle.cedar_types.specs.RequestEnvs.{env_of}
 use Rattle.cedar_types.specs.SchemaContents.{schema_of}
 use Rattle.cedar_typing.specs.Answer.{Answered, AreHanded, none_failed, Taken}
-use Rattle.cedar_typing.specs.Capabilities.{Caps}
+use Rattle.cedar_typing.specs.Capabilities.{Caps, no_caps}
 use Rattle.cedar_typing.specs.Eager.{Decision, gives, refuses, Form}
 use Rattle.cedar_typing.specs.Infer.{infer}
-use Rattle.cedar_typing.specs.Infer.Eager.{infer_one_operand}
+use Rattle.cedar_typing.specs.Infer.Eager.{Operands, all_typed, cut_after, infer_one_operand, infer_two_operands}
 use Rattle.cedar_typing.specs.Infer.Parts.{Answer, success, failure, limit, Part, part_with, AnswerAndErrors, expect, after}
 use Rattle.cedar_typing.specs.Infer.ShortCircuit.{infer_right}
 use Rattle.cedar_typing.specs.Rules.Attributes.{has_form, get_form}
+use Rattle.cedar_typing.specs.Rules.Equality.{equality_form, contains_form, contains_several_form}
+use Rattle.cedar_typing.specs.Rules.Numbers.{arithmetic_form, comparison_form}
 use Rattle.cedar_typing.specs.Rules.ShortCircuit.{Side, right_ends, left_alone, right_alone, neither, Connective, conjunction, disjunction}
-use Rattle.cedar_typing.specs.Rules.Unary.{not_form}
+use Rattle.cedar_typing.specs.Rules.Unary.{unary_form, like_form, is_form}
 use Rattle.cedar_typing.specs.TypeEnv.{TypeEnv}
-use Rattle.cedar_typing.specs.TypeTests.{bool_types, object_types}
-use Rattle.cedar_typing.specs.TypedExpr.{Source, typed_tree, place_of}
+use Rattle.cedar_typing.specs.TypeTests.{bool_types, long_types, string_types, set_types, entity_types, object_types}
+use Rattle.cedar_typing.specs.TypedExpr.{Source, typed_tree, place_of, TypedTree}
 use Rattle.cedar_typing.specs.declared.typecheck.answer.TypecheckAnswer.{TypecheckAnswer}
 use Rattle.cedar_typing.specs.declared.typecheck.answer.TypecheckAnswer.TheVariants.{TypecheckSuccess, TypecheckFail, RecursionLimit}
 use Rattle.cedar_typing.specs.declared.typecheck.answer.Part.{Part as TypedPart}
@@ -31,11 +37,15 @@ use Rattle.cedar_typing.specs.declared.typecheck.sequence.Gathered.{Gathered}
 use Rattle.cedar_typing.specs.declared.typecheck.operands.Expected.{Expected}
 use Rattle.cedar_typing.specs.declared.typecheck.rules.eager.Decision.{Decision as TableDecision}
 use Rattle.cedar_typing.specs.declared.typecheck.rules.eager.Decision.TheVariants.{Gives, Refuses}
-use Rattle.cedar_typing.specs.declared.typecheck.rules.eager.OneOperand.{OneOperand}
-use Rattle.cedar_typing.specs.declared.typecheck.rules.eager.OneOperand.TheVariants.{Not, Has, Get}
+use Rattle.cedar_typing.specs.declared.typecheck.rules.one_operand.OneOperand.{OneOperand}
+use Rattle.cedar_typing.specs.declared.typecheck.rules.one_operand.OneOperand.TheVariants.{Unary, Has, Get, Like, Is}
+use Rattle.cedar_typing.specs.declared.typecheck.rules.sets.Elements.{Elements}
 use Rattle.cedar_typing.specs.declared.typecheck.rules.short_circuit.Connective as connective
 use Rattle.cedar_typing.specs.declared.typecheck.rules.short_circuit.Side as side
+use Rattle.cedar_typing.specs.declared.typecheck.rules.two_operands.TwoOperands.{TwoOperands}
+use Rattle.cedar_typing.specs.declared.typecheck.rules.two_operands.TwoOperands.TheVariants.{Equality, Comparison, Arithmetic, Contains, ContainsSeveral}
 use Rattle.cedar_typing.specs.declared.typecheck.single_env.SingleEnvTypechecker.{SingleEnvTypechecker}
+use Rattle.cedar_typing.specs.declared.typecheck.rules.records.FieldValues.{FieldValues}
 
 -- what is typed in
 abbrev pub env_at : SingleEnvTypechecker → TypeEnv
@@ -55,6 +65,10 @@ findings es = map finding_of es
 
 abbrev pub expected_types : Expected → List Ty
 expected_types Expected.Bool = bool_types
+expected_types Expected.Long = long_types
+expected_types Expected.String = string_types
+expected_types Expected.Set = set_types
+expected_types Expected.Entity = entity_types
 expected_types Expected.Object = object_types
 
 -- an answer
@@ -90,14 +104,74 @@ abbrev pub decision_of : TableDecision → Decision
 decision_of (Gives t c) = gives (ty_of t) (caps c)
 decision_of (Refuses t fs) = refuses (option_map ty_of t) (findings fs.items)
 
+-- one operand: the form, and its node as it was written at a place
 abbrev pub form_of_one : TypeEnv → Written → Caps → Source → OneOperand → Form
-form_of_one env m prior e Not = not_form m
+form_of_one env m prior e (Unary o) = unary_form m o
 form_of_one env m prior e (Has x) = has_form env m prior e (text_of x.now)
 form_of_one env m prior e (Get x) = get_form env m prior e (text_of x.now)
+form_of_one env m prior e (Like p) = like_form m p.now.items
+form_of_one env m prior e (Is n) = is_form m (type_of n.now)
+
+abbrev pub mark_of_one : Option Loc → OneOperand → Written
+mark_of_one l (Unary o) = at l
+mark_of_one l (Has x) = at l
+mark_of_one l (Get x) = at l
+mark_of_one l (Like p) = at l
+mark_of_one l (Is n) = record { place = l; names = of_type n.now.loc }
 
 abbrev pub infer_one : TypeEnv → Written → Caps → Source → ℕ → OneOperand → List Finding → AnswerAndErrors
 infer_one env m prior e d form =
     infer_one_operand env (form_of_one env m prior e form) (place_of e) (infer env e prior (d + 1))
+
+-- two operands
+abbrev pub form_of_two : TypeEnv → Written → Source → Source → TwoOperands → Form
+form_of_two env m a b Equality = equality_form env m a b
+form_of_two env m a b (Comparison o) = comparison_form env m (place_of a) (place_of b) o
+form_of_two env m a b (Arithmetic o) = arithmetic_form m o
+form_of_two env m a b Contains = contains_form env m
+form_of_two env m a b (ContainsSeveral o) = contains_several_form env m o
+
+abbrev pub infer_two : TypeEnv → Written → Source → Source → Caps → ℕ → TwoOperands → List Finding → AnswerAndErrors
+infer_two env m a b prior d form =
+    infer_two_operands env (form_of_two env m a b form) (place_of a) (place_of b)
+    (infer env a prior (d + 1)) (infer env b prior (d + 1))
+
+-- two operands that are typed, or too deep
+abbrev pub two_parts : Option Part → Option Part → Operands
+two_parts None q = cut_after []
+two_parts (Some p) None = cut_after (p.tree ∷ [])
+two_parts (Some p) (Some q) = all_typed (q.succeeded && p.succeeded) (p.tree ∷ q.tree ∷ [])
+
+-- elements, one after another
+abbrev pub operands_of : Elements → Operands
+operands_of e =
+    if e.is_cut then cut_after (map typed_tree e.typed.items)
+    else all_typed e.succeeded (map typed_tree e.typed.items)
+
+-- one more operand after others: where it has no part, it is too deep
+abbrev pub with_element : Operands → Option Part → Operands
+with_element (all_typed succeeded xs) (Some p) = all_typed (p.succeeded && succeeded) (xs ++ p.tree ∷ [])
+with_element (all_typed succeeded xs) None = cut_after xs
+with_element (cut_after xs) p = cut_after xs
+
+-- the keys in some entries of a map
+abbrev pub keys_in : {A : Type 0} → List (RcStr Global × A) → List Text
+keys_in es = map (λ e. text_of e.0) es
+
+-- the typed values in some entries of a map
+abbrev pub trees_in : List (RcStr Global × Expr (Option CedarType)) → List TypedTree
+trees_in es = map (λ e. typed_tree e.1) es
+
+-- the values of fields, one after another
+abbrev pub field_operands : FieldValues → Operands
+field_operands f =
+    if f.is_cut then cut_after (trees_in f.typed.entries)
+    else all_typed f.succeeded (trees_in f.typed.entries)
+
+-- a type, or a failure without an error
+abbrev pub decision_without_errors : Option Ty → Decision
+decision_without_errors (Some t) = gives t no_caps
+decision_without_errors None = refuses None []
 
 -- ---- what answers give
 

@@ -2,7 +2,9 @@
 pub mod answer;
 mod capabilities;
 mod expressions;
+mod joins;
 pub mod laws;
+mod operand_tests;
 mod operands;
 mod rules;
 mod sequence;

@@ -26,8 +26,17 @@ fn is_built(kind: &ExprKind) -> bool {
         ExprKind::Lit(_) | ExprKind::Var(_) | ExprKind::Slot(_) | ExprKind::Unknown(_) => true,
         ExprKind::If { .. } | ExprKind::And(_, _) | ExprKind::Or(_, _) => true,
         ExprKind::GetAttr(_, _) | ExprKind::HasAttr(_, _) => true,
-        ExprKind::UnaryApp(operator, _) => *operator == UnaryOp::Not,
-        _ => false,
+        ExprKind::UnaryApp(_, _) | ExprKind::Like(_, _) | ExprKind::Is(_, _) => true,
+        ExprKind::Set(_) | ExprKind::Record(_) => true,
+        ExprKind::BinaryApp(operator, _, _) => is_built_operator(*operator),
+        ExprKind::ExtHasAttr(_, _) | ExprKind::ExtensionFunctionApp(_, _) => false,
+    }
+}
+
+fn is_built_operator(operator: BinaryOp) -> bool {
+    match operator {
+        BinaryOp::In | BinaryOp::GetTag | BinaryOp::HasTag => false,
+        _ => true,
     }
 }
 

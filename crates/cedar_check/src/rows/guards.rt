@@ -1,66 +1,82 @@
 // The rows on reads of an optional attribute, and what guards them.
-use crate::fixtures::forms::Form;
+use crate::fixtures::guards::GuardForm;
 use crate::rows::checks::Case;
+use crate::rows::expected::{Expected, WantedError};
 use cedar_types::base::Loc;
 
 /// With a test that it is there, and without one.
-pub const GUARDED_ACCESS: [Case; 2] = [
+pub const GUARDED_ACCESS: [Case<GuardForm>; 2] = [
     Case {
         text: "principal has vip && principal.vip",
-        form: Form::TestedAndRead,
-        unguarded: None,
+        form: GuardForm::TestedAndRead,
+        expected: Expected::Success,
     },
     Case {
         text: "principal.vip",
-        form: Form::Read,
-        unguarded: Some(Loc { start: 0, end: 13 }),
+        form: GuardForm::Read,
+        expected: Expected::Fail(&[WantedError::UnguardedAccess {
+            at: Loc { start: 0, end: 13 },
+            attr: "vip",
+        }]),
     },
 ];
 
 /// Which forms let a test of one part guard a read in another.
-pub const GUARDING_FORMS: [Case; 5] = [
+pub const GUARDING_FORMS: [Case<GuardForm>; 5] = [
     Case {
         text: "principal has vip || principal.vip",
-        form: Form::TestedOrRead,
-        unguarded: Some(Loc { start: 21, end: 34 }),
+        form: GuardForm::TestedOrRead,
+        expected: Expected::Fail(&[WantedError::UnguardedAccess {
+            at: Loc { start: 21, end: 34 },
+            attr: "vip",
+        }]),
     },
     Case {
         text: "if principal has vip then principal.vip else false",
-        form: Form::ReadWhereTested,
-        unguarded: None,
+        form: GuardForm::ReadWhereTested,
+        expected: Expected::Success,
     },
     Case {
         text: "!(principal has vip) || principal.vip",
-        form: Form::AbsentOrRead,
-        unguarded: Some(Loc { start: 24, end: 37 }),
+        form: GuardForm::AbsentOrRead,
+        expected: Expected::Fail(&[WantedError::UnguardedAccess {
+            at: Loc { start: 24, end: 37 },
+            attr: "vip",
+        }]),
     },
     Case {
         text: "(principal has vip || true) && principal.vip",
-        form: Form::ReadAfterEither,
-        unguarded: Some(Loc { start: 31, end: 44 }),
+        form: GuardForm::ReadAfterEither,
+        expected: Expected::Fail(&[WantedError::UnguardedAccess {
+            at: Loc { start: 31, end: 44 },
+            attr: "vip",
+        }]),
     },
     Case {
         text: "principal has vip && ((principal.bool || principal has vip) && principal.vip)",
-        form: Form::ReadAfterOuterTest,
-        unguarded: None,
+        form: GuardForm::ReadAfterOuterTest,
+        expected: Expected::Success,
     },
 ];
 
 /// Guards that are conditionals.
-pub const CONDITIONAL_GUARDS: [Case; 3] = [
+pub const CONDITIONAL_GUARDS: [Case<GuardForm>; 3] = [
     Case {
         text: "(if true then principal has vip else false) && principal.vip",
-        form: Form::FirstBranchTests,
-        unguarded: None,
+        form: GuardForm::FirstBranchTests,
+        expected: Expected::Success,
     },
     Case {
         text: "(if false then true else principal has vip) && principal.vip",
-        form: Form::SecondBranchTests,
-        unguarded: None,
+        form: GuardForm::SecondBranchTests,
+        expected: Expected::Success,
     },
     Case {
         text: "(if principal.bool then principal has vip else false) && principal.vip",
-        form: Form::EitherBranchIsTaken,
-        unguarded: Some(Loc { start: 57, end: 70 }),
+        form: GuardForm::EitherBranchIsTaken,
+        expected: Expected::Fail(&[WantedError::UnguardedAccess {
+            at: Loc { start: 57, end: 70 },
+            attr: "vip",
+        }]),
     },
 ];

@@ -10,14 +10,23 @@ use std::test::Fail;
 
 const USAGE: &[u8] = b"usage: cedar-check [ROW]\n";
 
+const ROW_33: &[u8] = b"row 33: Success; Fail errors=1; Fail errors=2; Fail errors=1; \
+    Irrelevant errors=0; Success; Fail errors=1; ok\n";
+
 /// The rows that are built, in order, and the line of each.
-const BUILT: [(&str, &[u8]); 3] = [
+const BUILT: [(&str, &[u8]); 6] = [
     ("10", b"row 10: Success; Fail errors=1; ok\n"),
+    ("12", b"row 12: Fail errors=1; ok\n"),
+    (
+        "17",
+        b"row 17: Irrelevant errors=0; Fail errors=1; Fail errors=1; ok\n",
+    ),
     (
         "31",
         b"row 31: Fail errors=1; Success; Fail errors=1; Fail errors=1; Success; ok\n",
     ),
     ("32", b"row 32: Success; Success; Fail errors=1; ok\n"),
+    ("33", ROW_33),
 ];
 
 /// The ways in which a row can end.

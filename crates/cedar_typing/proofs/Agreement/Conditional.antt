@@ -1,6 +1,7 @@
 -- `if` is inferred by its rules.
 use Rattle.std.proofs.Common.{◌≡◌, Bool, true, false, ◌&&◌, List, [], ◌++◌, Option, refl, sym, ◌∙◌, ap, subst, append_assoc, append-nil}
 use Rattle.std.specs.Prelude.{is_some, if◌then◌else◌}
+use Rattle.cedar_types.specs.declared.base.errors.type_errors.LubContext.TheVariants.{Conditional}
 use Rattle.cedar_types.specs.declared.base.location.Loc.{Loc}
 use Rattle.cedar_types.specs.declared.base.types.BoolType.TheVariants.{True, False}
 use Rattle.cedar_types.specs.Types.{Ty, TBool}
@@ -10,8 +11,9 @@ use Rattle.cedar_types.specs.Errors.{Finding}
 use Rattle.cedar_typing.specs.Capabilities.{Caps, union, intersection}
 use Rattle.cedar_typing.specs.Infer.Conditional.{infer_constant_test, infer_open_branches, infer_branches}
 use Rattle.cedar_typing.specs.Infer.Parts.{success, Answer, part_with, answer_if, AnswerAndErrors, expect, after, any_part}
+use Rattle.cedar_typing.specs.Joins.{joined, bound_errors, join_errors}
 use Rattle.cedar_typing.specs.Judgments.{derived, Judgment, PartResult, Operand}
-use Rattle.cedar_typing.specs.Rules.Conditional.{if_true_recovered, if_false_recovered, if_open_recovered, if_test_cut, if_true_cut, if_false_cut, if_then_cut, if_else_cut, if_true, if_false, if_open, if_rules, joined, bound_errors, join_errors}
+use Rattle.cedar_typing.specs.Rules.Conditional.{if_true_recovered, if_false_recovered, if_open_recovered, if_test_cut, if_true_cut, if_false_cut, if_then_cut, if_else_cut, if_true, if_false, if_open, if_rules}
 use Rattle.cedar_typing.specs.TypeEnv.{TypeEnv}
 use Rattle.cedar_typing.specs.TypeTests.{bool_types, is_false, is_true, annotation_passes}
 use Rattle.cedar_typing.specs.TypedExpr.{TypedTree, typed_as, annotation}
@@ -129,8 +131,8 @@ module _ (env : TypeEnv) (m : Written) (l : Option Loc) (A : Judgment) (B : Caps
       let q' : annotation_passes is_false (annotation a) ≡ false = ap (annotation_passes is_false) (test.marks s c a d) ∙ n' in
       let k : Option Ty → List Finding → AnswerAndErrors = λ y z. (answer_if (is_some y) (if_then_else (typed_as y m) a b e) (intersection c'' (union c c')), es ++ z) in
       on_open true c a [] o es q q' ∙ open_typed env m l A B E prior jt jb je test branch otherwise true c a es [] o q q' true true c' c'' b e [] [] (derived d') (derived d'')
-      ∙ (λ i. k (joined env.mode ((branch (union prior c)).marks t c' b d' i) (otherwise.marks u c'' e d'' i)) (join_errors env m.place ((branch (union prior c)).marks t c' b d' i) (otherwise.marks u c'' e d'' i)))
-      ∙ (λ i. k (h i) (bound_errors env m.place t u (h i)))
+      ∙ (λ i. k (joined env.mode ((branch (union prior c)).marks t c' b d' i) (otherwise.marks u c'' e d'' i)) (join_errors env m.place Conditional ((branch (union prior c)).marks t c' b d' i) (otherwise.marks u c'' e d'' i)))
+      ∙ (λ i. k (h i) (bound_errors env m.place Conditional t u (h i)))
   if_only es x added (a_recovered (if_true_recovered {succeeded = g} {succeeded' = g'} {c = c} {c' = c'} {a = a} {b = b} {es = y} {es' = z} o n p h)) =
       true_typed g c a y o es n g' c' b z p ∙ ap (λ k. (answer_if k (constant a b) (union c c'), es ++ (y ++ z))) h
   if_only es x added (a_recovered (if_false_recovered {succeeded = g} {succeeded' = g'} {c = c} {c' = c'} {a = a} {e = e} {es = y} {es' = z} o n p h)) =

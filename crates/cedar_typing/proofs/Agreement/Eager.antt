@@ -4,11 +4,11 @@ use Rattle.cedar_types.specs.declared.base.location.Loc.{Loc}
 use Rattle.cedar_types.specs.Types.{Ty}
 use Rattle.cedar_types.specs.Errors.{Finding}
 use Rattle.cedar_typing.specs.Capabilities.{Caps}
-use Rattle.cedar_typing.specs.Eager.{Expectation, meets, Decision, gives, refuses, Form, first_expectation, types_found}
-use Rattle.cedar_typing.specs.Infer.Eager.{Operands, all_typed, cut_after, OperandsAndErrors, infer_none, expect_operand, with_operand, infer_rest, infer_one_more, infer_decided, infer_form, infer_eager, infer_one_operand}
+use Rattle.cedar_typing.specs.Eager.{Expectation, meets, Decision, gives, refuses, Form, first_expectation, later_expectations, types_found}
+use Rattle.cedar_typing.specs.Infer.Eager.{Operands, all_typed, cut_after, OperandsAndErrors, infer_none, expect_operand, with_operand, infer_rest, infer_one_more, infer_decided, infer_form, infer_eager, infer_one_operand, infer_two_operands}
 use Rattle.cedar_typing.specs.Infer.Parts.{Answer, success, failure, limit, Part, part_with, AnswerAndErrors, PartAndErrors, answer_if}
 use Rattle.cedar_typing.specs.Judgments.{Judgment, Giving, derived}
-use Rattle.cedar_typing.specs.Rules.Eager.{Judgments, NoneDerived, none_derived, NoneGiven, none_given, no_operands, ExpectedOperand, also_derived, also_given, AfterCut, not_visited, all_given, also_cut, broken_here, broken_later, one_more, eager_typed, operand_failed, table_refused, operand_cut, eager_rules, one_operand_rules}
+use Rattle.cedar_typing.specs.Rules.Eager.{Judgments, NoneDerived, none_derived, NoneGiven, none_given, no_operands, ExpectedOperand, also_derived, also_given, AfterCut, not_visited, all_given, also_cut, broken_here, broken_later, one_more, eager_typed, operand_failed, table_refused, operand_cut, eager_rules, one_operand_rules, two_operand_rules}
 use Rattle.cedar_typing.specs.TypeEnv.{TypeEnv}
 use Rattle.cedar_typing.specs.TypedExpr.{TypedTree, Mark, mark_of, typed, typed_as}
 use Rattle.cedar_typing.proofs.Agreement.Parts.{Answers, a_derived, a_recovered, a_cut, Found, Marks, Agrees, PartAnswer, is_given, is_cut, PartFound, part_found, operand_found, any_only, operand_only, cut_only, derived_operand, good_operand, good_part_of}
@@ -217,3 +217,10 @@ module _ (f : Form) (node_mark : (k : Mark) (xs : List TypedTree) → mark_of (f
 -- a form with one operand
 pub one_operand_agrees : (env : TypeEnv) (f : Form) → ((k : Mark) (xs : List TypedTree) → mark_of (f.node k xs) ≡ k) → (l : Option Loc) (J : Judgment) (j : List Finding → AnswerAndErrors) → Agrees j J → Agrees (infer_one_operand env f l j) (one_operand_rules env f l J)
 one_operand_agrees env f node_mark l J j base = form_agrees f node_mark _ _ (more_agree env f.goes_on (first_expectation f.expects) l J j base infer_none no_operands none_agrees)
+
+-- a form with two operands
+pub two_operands_agree : (env : TypeEnv) (f : Form) → ((k : Mark) (xs : List TypedTree) → mark_of (f.node k xs) ≡ k) → (l l' : Option Loc) (J J' : Judgment) (j j' : List Finding → AnswerAndErrors) → Agrees j J → Agrees j' J'
+    → Agrees (infer_two_operands env f l l' j j') (two_operand_rules env f l l' J J')
+two_operands_agree env f node_mark l l' J J' j j' base base' =
+    let right = more_agree env f.goes_on (first_expectation (later_expectations f.expects)) l' J' j' base' infer_none no_operands none_agrees in
+    form_agrees f node_mark _ _ (more_agree env f.goes_on (first_expectation f.expects) l J j base _ _ right)

@@ -1,5 +1,5 @@
 -- The examples of the rules of typing, computed.
-use Rattle.std.proofs.Common.{◌≡◌, ℕ, false, List, [], Some, refl, sym, ◌∙◌, subst}
+use Rattle.std.proofs.Common.{◌≡◌, ℕ, false, List, [], Option, Some, refl, sym, ◌∙◌, subst}
 use Rattle.std.specs.Prelude.{codes}
 use Rattle.cedar_types.specs.declared.base.types.BoolType.TheVariants.{AnyBool, False}
 use Rattle.cedar_types.specs.declared.base.types.ValidationMode.TheVariants.{Strict}
@@ -9,12 +9,15 @@ use Rattle.cedar_types.specs.Types.{Ty, TBool}
 use Rattle.cedar_types.specs.Errors.{Finding}
 use Rattle.cedar_typing.specs.Capabilities.{Caps, no_caps}
 use Rattle.cedar_typing.specs.Examples.Expressions.{false_lit, principal, numbered}
-use Rattle.cedar_typing.specs.Examples.Rules.{TypesAsIn, FailsWithIn, CutsAt, ChecksAs, HandsOnNeither, typed_false}
+use Rattle.cedar_typing.specs.Examples.Rules.{TypesAsIn, FailsWithIn, IsTypedIn, IsRefusedIn, CutsAt, ChecksAs, HandsOnNeither, typed_false}
 use Rattle.cedar_typing.specs.Examples.Rules.Attributes.{HasTyping, GetTyping}
 use Rattle.cedar_typing.specs.Examples.Rules.Check.{CheckTyping}
+use Rattle.cedar_typing.specs.Examples.Rules.Collections.{SetTyping, RecordTyping}
 use Rattle.cedar_typing.specs.Examples.Rules.Conditional.{ConditionalTyping}
+use Rattle.cedar_typing.specs.Examples.Rules.Equality.{EqualityTyping, MemberTyping}
 use Rattle.cedar_typing.specs.Examples.Rules.Leaves.{LeafTyping}
 use Rattle.cedar_typing.specs.Examples.Rules.Nesting.{NestingTyping}
+use Rattle.cedar_typing.specs.Examples.Rules.Numbers.{OperatorTyping, NumberTyping}
 use Rattle.cedar_typing.specs.Examples.Rules.ShortCircuit.{AndTyping, OrTyping}
 use Rattle.cedar_typing.specs.Examples.Rules.Unary.{UnaryTyping}
 use Rattle.cedar_typing.specs.Examples.World.{sample}
@@ -71,6 +74,21 @@ fails_with {env} {e} {x} {es} h = record { recovers = recovers env (numbered e) 
 cuts_at : {d : ℕ} {e : Shape} {es : List Finding} → infer (sample Strict) (numbered e) no_caps d [] ≡ (limit, es) → CutsAt d e es
 cuts_at {d} {e} {es} h = record { cuts = cuts (sample Strict) (numbered e) no_caps d es h }
 
+-- how an expression is typed, whatever comes of it
+abbrev copy_of : Answer → TypedTree
+copy_of (success x c) = x
+copy_of (failure x) = x
+copy_of limit = typed_false 1
+
+abbrev copy_in : TypeEnv → Shape → TypedTree
+copy_in env e = copy_of (infer env (numbered e) no_caps 1 []).0
+
+is_typed : {env : TypeEnv} {e : Shape} {t : Ty} → annotation (copy_in env e) ≡ Some t → infer env (numbered e) no_caps 1 [] ≡ (success (copy_in env e) no_caps, []) → IsTypedIn env e t
+is_typed {env} {e} {t} m h = record { copy = copy_in env e; has = has env (numbered e) no_caps 1 t no_caps (copy_in env e) m h }
+
+is_refused : {env : TypeEnv} {e : Shape} {t : Option Ty} {es : List Finding} → annotation (copy_in env e) ≡ t → infer env (numbered e) no_caps 1 [] ≡ (failure (copy_in env e), es) → IsRefusedIn env e t es
+is_refused {env} {e} {t} {es} m h = record { copy = copy_in env e; stays = m; recovers = recovers env (numbered e) no_caps 1 (copy_in env e) es h }
+
 checks_as : {e : Shape} {v : Verdict} → policy_check (sample Strict) (numbered e) ≡ v → ChecksAs e v
 checks_as {e} {v} h = record { checks = subst (PolicyChecks (sample Strict) (numbered e)) h (checked (sample Strict) (numbered e)) }
 
@@ -80,20 +98,15 @@ handed (success x c) = c
 handed (failure x) = no_caps
 handed limit = no_caps
 
-abbrev shown : Answer → TypedTree
-shown (success x c) = x
-shown (failure x) = x
-shown limit = typed_false 1
-
 abbrev answer : Shape → Answer
 answer e = (infer (sample Strict) (numbered e) no_caps 1 []).0
 
-neither : (e : Shape) → annotation (shown (answer e)) ≡ Some (TBool AnyBool) → infer (sample Strict) (numbered e) no_caps 1 [] ≡ (success (shown (answer e)) (handed (answer e)), [])
+neither : (e : Shape) → annotation (copy_of (answer e)) ≡ Some (TBool AnyBool) → infer (sample Strict) (numbered e) no_caps 1 [] ≡ (success (copy_of (answer e)) (handed (answer e)), [])
     → handed (answer e) (attribute principal (codes "vip")) ≡ false → handed (answer e) (attribute principal (codes "age")) ≡ false → HandsOnNeither e
 neither e m h p q = record {
   caps = handed (answer e);
-  typed = shown (answer e);
-  has = has (sample Strict) (numbered e) no_caps 1 (TBool AnyBool) (handed (answer e)) (shown (answer e)) m h;
+  typed = copy_of (answer e);
+  has = has (sample Strict) (numbered e) no_caps 1 (TBool AnyBool) (handed (answer e)) (copy_of (answer e)) m h;
   no_mark = p;
   no_age = q;
 }
@@ -207,6 +220,90 @@ get_typing = record {
   get_failed_hidden = fails_with refl;
 }
 
+pub operator_typing : OperatorTyping
+operator_typing = record {
+  negation = is_typed refl refl;
+  negation_refused = is_refused refl refl;
+  negation_missing = is_refused refl refl;
+  empty_refused = is_refused refl refl;
+  like_text = is_typed refl refl;
+  like_refused = is_refused refl refl;
+  is_it = is_typed refl refl;
+  is_another = is_typed refl refl;
+  is_one_of_two = is_typed refl refl;
+  is_none_of_two = is_typed refl refl;
+  is_of_any = is_typed refl refl;
+  is_of_never = is_refused refl refl;
+  is_refused = is_refused refl refl;
+  is_missing = is_refused refl refl;
+}
+
+pub number_typing : NumberTyping
+number_typing = record {
+  sum = is_typed refl refl;
+  sum_refused = is_refused refl refl;
+  difference = is_typed refl refl;
+  product = is_typed refl refl;
+  compared = is_typed refl refl;
+  compared_at_most = is_typed refl refl;
+  left_is_long = is_refused refl refl;
+  right_is_long = is_refused refl refl;
+  neither_is_long = is_refused refl refl;
+  addresses = is_refused refl refl;
+  side_missing = is_refused refl refl;
+  never_and_long = is_typed refl refl;
+  long_and_never = is_typed refl refl;
+  never_and_text = is_refused refl refl;
+  text_and_never = is_refused refl refl;
+  two_nevers = is_refused refl refl;
+}
+
+pub equality_typing : EqualityTyping
+equality_typing = record {
+  same_literals = is_typed refl refl;
+  other_literals = is_typed refl refl;
+  mixed_literals = is_typed refl refl;
+  action_is = is_typed refl refl;
+  action_is_not = is_typed refl refl;
+  undeclared_action = is_refused refl refl;
+  disjoint = is_typed refl refl;
+  of_one_type = is_typed refl refl;
+  unbound = is_refused refl refl;
+  unbound_permissive = is_typed refl refl;
+  side_missing = is_refused refl refl;
+}
+
+pub member_typing : MemberTyping
+member_typing = record {
+  has_member = is_typed refl refl;
+  no_member = is_refused refl refl;
+  no_member_permissive = is_typed refl refl;
+  no_set = is_refused refl refl;
+  has_members = is_typed refl refl;
+  no_members = is_refused refl refl;
+  no_right_set = is_refused refl refl;
+}
+
+pub set_typing : SetTyping
+set_typing = record {
+  of_one_type = is_typed refl refl;
+  of_their_bound = is_typed refl refl;
+  unbound = is_refused refl refl;
+  without_elements = is_refused refl refl;
+  without_elements_permissive = is_typed refl refl;
+  element_missing = is_refused refl refl;
+  element_failed = is_refused refl refl;
+}
+
+pub record_typing : RecordTyping
+record_typing = record {
+  of_both = is_typed refl refl;
+  value_missing = is_refused refl refl;
+  value_failed = is_refused refl refl;
+  keys_descend = is_refused refl refl;
+  key_twice = is_refused refl refl;
+}
+
 pub nesting_typing : NestingTyping
 nesting_typing = record {
   at_the_limit = has (sample Strict) (numbered false_lit) no_caps max_nesting (TBool False) no_caps (typed_false 1) refl refl;
@@ -228,6 +325,16 @@ nesting_typing = record {
   then_of_if = cuts_at refl;
   else_of_if = cuts_at refl;
   both_of_if = cuts_at refl;
+  left_of_less = cuts_at refl;
+  right_of_less = cuts_at refl;
+  left_of_sum = cuts_at refl;
+  left_of_equal = cuts_at refl;
+  right_of_equal = cuts_at refl;
+  both_of_equal = cuts_at refl;
+  element_of_set = cuts_at refl;
+  bound_before_cut = cuts_at refl;
+  value_of_record = cuts_at refl;
+  later_value_of_record = cuts_at refl;
 }
 
 pub check_typing : CheckTyping

@@ -4,9 +4,9 @@ use Rattle.cedar_types.specs.declared.base.location.Loc.{Loc}
 use Rattle.cedar_types.specs.Types.{Ty}
 use Rattle.cedar_types.specs.Errors.{Finding}
 use Rattle.cedar_typing.specs.Capabilities.{Caps}
-use Rattle.cedar_typing.specs.Eager.{Expectation, Decision, gives, refuses, Form, first_expectation, types_found}
+use Rattle.cedar_typing.specs.Eager.{Expectation, Decision, gives, refuses, Form, first_expectation, later_expectations, types_found}
 use Rattle.cedar_typing.specs.Judgments.{Judgment}
-use Rattle.cedar_typing.specs.Rules.Eager.{Judgments, NoneDerived, none_derived, NoneGiven, none_given, no_operands, ExpectedOperand, also_derived, also_given, one_more, eager_typed, operand_failed, table_refused, eager_rules, one_operand_rules}
+use Rattle.cedar_typing.specs.Rules.Eager.{Judgments, NoneDerived, none_derived, NoneGiven, none_given, no_operands, ExpectedOperand, also_derived, also_given, one_more, eager_typed, operand_failed, table_refused, eager_rules, one_operand_rules, two_operand_rules}
 use Rattle.cedar_typing.specs.TypeEnv.{TypeEnv}
 use Rattle.cedar_typing.specs.TypedExpr.{TypedTree, Mark, mark_of, typed, typed_as, annotation}
 use Rattle.cedar_typing.proofs.Agreement.Parts.{Marks}
@@ -34,7 +34,7 @@ no_derivations xs none_derived = tt
 no_givings : (b : Bool) (xs : List TypedTree) (es : List Finding) → NoneGiven b xs es → AllSingle (types_found xs)
 no_givings b xs es none_given = tt
 
-none_single : SingleAll no_operands
+pub none_single : SingleAll no_operands
 none_single = record { derivations = no_derivations; givings = no_givings }
 
 module _ (env : TypeEnv) (goes_on : Bool) (q : Expectation) (l : Option Loc) (J : Judgment) (operand : SingleEntities J) (Js : Judgments) (others : SingleAll Js) where
@@ -47,7 +47,7 @@ module _ (env : TypeEnv) (goes_on : Bool) (q : Expectation) (l : Option Loc) (J 
   more_givings : (b : Bool) (xs : List TypedTree) (es : List Finding) → More.give b xs es → AllSingle (types_found xs)
   more_givings b xs es (also_given {succeeded = s} {later = s'} {c = c} {x = x} {xs = ys} {es = before} {es' = after} p hs) = (expected_single J operand env q l s c x before p, others.givings s' ys after hs)
 
-  more_single : SingleAll More
+  pub more_single : SingleAll More
   more_single = record { derivations = more_derivations; givings = more_givings }
 
 -- ---- a form
@@ -78,9 +78,16 @@ module _ (f : Form) (node_mark : (k : Mark) (xs : List TypedTree) → mark_of (f
   form_recovered x es (operand_failed {t = t} {c = c} {xs = xs} h e) = at_root (typed t f.at) xs (by_decision xs (gives t c) (operands.givings false xs es h) e)
   form_recovered x es (table_refused {succeeded = s} {t = t} {fs = fs} {xs = xs} {es = before} h e) = at_root (typed_as t f.at) xs (by_decision xs (refuses t fs) (operands.givings s xs before h) e)
 
-  form_single : Marks Whole.derives → SingleEntities Whole
+  pub form_single : Marks Whole.derives → SingleEntities Whole
   form_single h = record { derivations = form_derived; recoveries = form_recovered; marks = h }
 
 -- a form with one operand
 pub one_operand_single : (env : TypeEnv) (f : Form) → ((k : Mark) (xs : List TypedTree) → mark_of (f.node k xs) ≡ k) → SingleForm f → (l : Option Loc) (J : Judgment) → SingleEntities J → Marks (one_operand_rules env f l J).derives → SingleEntities (one_operand_rules env f l J)
 one_operand_single env f node_mark form l J s h = form_single f node_mark form _ (more_single env f.goes_on (first_expectation f.expects) l J s no_operands none_single) h
+
+-- a form with two operands
+pub two_operands_single : (env : TypeEnv) (f : Form) → ((k : Mark) (xs : List TypedTree) → mark_of (f.node k xs) ≡ k) → SingleForm f → (l l' : Option Loc) (J J' : Judgment) → SingleEntities J → SingleEntities J' → Marks (two_operand_rules env f l l' J J').derives
+    → SingleEntities (two_operand_rules env f l l' J J')
+two_operands_single env f node_mark form l l' J J' s s' h =
+    let right = more_single env f.goes_on (first_expectation (later_expectations f.expects)) l' J' s' no_operands none_single in
+    form_single f node_mark form _ (more_single env f.goes_on (first_expectation f.expects) l J s _ right) h

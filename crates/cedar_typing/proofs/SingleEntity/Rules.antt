@@ -8,8 +8,9 @@ use Rattle.cedar_types.specs.View.{Written}
 use Rattle.cedar_types.specs.Bounds.{lub}
 use Rattle.cedar_types.specs.Errors.{Finding}
 use Rattle.cedar_typing.specs.Capabilities.{Caps, union}
+use Rattle.cedar_typing.specs.Joins.{joined}
 use Rattle.cedar_typing.specs.Judgments.{derived, recovered, accepted, refused, missing, Judgment, PartResult, Operand}
-use Rattle.cedar_typing.specs.Rules.Conditional.{if_true_recovered, if_false_recovered, if_open_recovered, if_true, if_false, if_open, if_rules, joined}
+use Rattle.cedar_typing.specs.Rules.Conditional.{if_true_recovered, if_false_recovered, if_open_recovered, if_true, if_false, if_open, if_rules}
 use Rattle.cedar_typing.specs.Rules.ShortCircuit.{Side, right_ends, left_alone, right_alone, neither, Connective, side_of, type_of_side, sides_type, sides_annotation, short_circuit_rules, left_ends, both_sides, left_ends_failed, side_failed}
 use Rattle.cedar_typing.specs.TypeEnv.{TypeEnv}
 use Rattle.cedar_typing.specs.TypeTests.{bool_types}

@@ -13,8 +13,9 @@ use Rattle.cedar_typing.specs.Capabilities.{Caps, no_caps, union, intersection}
 use Rattle.cedar_typing.specs.Evaluation.Conformance.{AllHold, SaysTrue}
 use Rattle.cedar_typing.specs.Evaluation.Outcomes.{Test, Says, Stops, test_of, choose}
 use Rattle.cedar_typing.specs.Evaluation.World.{World, Failure, Outcome, Gives, Fails}
+use Rattle.cedar_typing.specs.Joins.{joined}
 use Rattle.cedar_typing.specs.Judgments.{Judgment}
-use Rattle.cedar_typing.specs.Rules.Conditional.{if_true_recovered, if_false_recovered, if_open_recovered, if_true, if_false, if_open, if_rules, joined}
+use Rattle.cedar_typing.specs.Rules.Conditional.{if_true_recovered, if_false_recovered, if_open_recovered, if_true, if_false, if_open, if_rules}
 use Rattle.cedar_typing.specs.Soundness.{HasFound, IsSafe, IsTrueOutcome}
 use Rattle.cedar_typing.specs.TypeEnv.{TypeEnv}
 use Rattle.cedar_typing.specs.TypedExpr.{TypedTree, annotation}

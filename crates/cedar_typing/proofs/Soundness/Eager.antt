@@ -4,11 +4,11 @@ use Rattle.cedar_types.specs.declared.base.location.Loc.{Loc}
 use Rattle.cedar_types.specs.Types.{Ty}
 use Rattle.cedar_types.specs.Errors.{Finding}
 use Rattle.cedar_typing.specs.Capabilities.{Caps, no_caps}
-use Rattle.cedar_typing.specs.Eager.{Expectation, meets, Decision, gives, refuses, Form, first_expectation, types_found}
+use Rattle.cedar_typing.specs.Eager.{Expectation, meets, Decision, gives, refuses, Form, first_expectation, later_expectations, types_found}
 use Rattle.cedar_typing.specs.Evaluation.Conformance.{AllHold}
 use Rattle.cedar_typing.specs.Evaluation.World.{World, Outcome}
 use Rattle.cedar_typing.specs.Judgments.{Judgment}
-use Rattle.cedar_typing.specs.Rules.Eager.{Judgments, NoneDerived, none_derived, NoneGiven, none_given, no_operands, ExpectedOperand, also_derived, also_given, one_more, eager_typed, operand_failed, table_refused, eager_rules, one_operand_rules}
+use Rattle.cedar_typing.specs.Rules.Eager.{Judgments, NoneDerived, none_derived, NoneGiven, none_given, no_operands, ExpectedOperand, also_derived, also_given, one_more, eager_typed, operand_failed, table_refused, eager_rules, one_operand_rules, two_operand_rules}
 use Rattle.cedar_typing.specs.Soundness.{HasFound, IsSafe, IsTrueOutcome}
 use Rattle.cedar_typing.specs.TypeEnv.{TypeEnv}
 use Rattle.cedar_typing.specs.TypedExpr.{TypedTree, Mark, mark_of, typed, typed_as, annotation}
@@ -43,10 +43,6 @@ AllFound (t ∷ ts) = IsFound t × AllFound ts
 abbrev pub Meets : Expectation → Option Ty → Type 0
 Meets q None = Unit {0}
 Meets q (Some t) = meets q t ≡ true
-
-abbrev pub later_expectations : List Expectation → List Expectation
-later_expectations [] = []
-later_expectations (q ∷ qs) = qs
 
 abbrev pub AllMeet : List Expectation → List (Option Ty) → Type 0
 AllMeet qs [] = Unit {0}
@@ -189,3 +185,11 @@ pub one_operand_sounds : (world : World) (env : TypeEnv) (f : Form) → ((k : Ma
     → Sounds world o' (one_operand_rules env f l J)
 one_operand_sounds world env f node_mark l o o' J form s n =
     form_sounds world f node_mark (o ∷ []) o' form _ (more_sounds world env f.goes_on f.expects l o J s n [] no_operands (none_sounds world (later_expectations f.expects)))
+
+-- a form with two operands
+pub two_operands_sound : (world : World) (env : TypeEnv) (f : Form) → ((k : Mark) (xs : List TypedTree) → mark_of (f.node k xs) ≡ k) → (l l' : Option Loc) (o o' o'' : Outcome) (J J' : Judgment) → SoundForm world f (o ∷ o' ∷ []) o''
+    → Sounds world o J → SingleEntities J → Sounds world o' J' → SingleEntities J' → Sounds world o'' (two_operand_rules env f l l' J J')
+two_operands_sound world env f node_mark l l' o o' o'' J J' form s n s' n' =
+    let later = later_expectations f.expects in
+    let right = more_sounds world env f.goes_on later l' o' J' s' n' [] no_operands (none_sounds world (later_expectations later)) in
+    form_sounds world f node_mark (o ∷ o' ∷ []) o'' form _ (more_sounds world env f.goes_on f.expects l o J s n (o' ∷ []) _ right)

@@ -1,39 +1,51 @@
 -- What has a type does not go wrong: the induction over expressions.
-use Rattle.std.proofs.Common.{◌≡◌, ℕ, ◌+◌, true, false, List, [], ◌∷◌, refl, ap, subst, sym}
+use Rattle.std.proofs.Common.{◌≡◌, ℕ, ◌+◌, Bool, true, false, List, [], ◌∷◌, Option, Some, None, refl, ap, subst, sym}
+use Rattle.std.specs.Prelude.{◌+ℤ◌, ◌-ℤ◌, ◌*ℤ◌, int_lt, int_le}
+use Rattle.cedar_types.specs.declared.base.location.Loc.{Loc}
+use Rattle.cedar_types.specs.declared.base.operators.BinaryOp.{BinaryOp}
 use Rattle.cedar_types.specs.declared.base.operators.UnaryOp.{UnaryOp}
 use Rattle.cedar_types.specs.declared.base.types.BoolType.TheVariants.{True}
 use Rattle.cedar_types.specs.declared.base.types.ValidationMode.TheVariants.{Strict}
 use Rattle.cedar_types.specs.Names.{Path}
 use Rattle.cedar_types.specs.Types.{Ty, TEntity, TBool, TNever, TLong, TString, TSet, TAnySet, TRecord, TAnyEntity, TExtension}
-use Rattle.cedar_types.specs.Tree.{lit, var, slot, unknown, if_then_else, and, or, unary, binary, call, get_attr, has_attr, ext_has_attr, like, is_type, set_of, record_of}
+use Rattle.cedar_types.specs.Tree.{lit, var, slot, unknown, if_then_else, and, or, unary, binary, call, get_attr, has_attr, ext_has_attr, like, is_type, set_of, record_of, Trees, no_trees, tree, Fields, no_fields, field}
 use Rattle.cedar_types.specs.View.{Written}
 use Rattle.cedar_types.specs.Schemas.{Schema, has_fault}
 use Rattle.cedar_types.specs.RequestEnvs.{is_partial}
 use Rattle.cedar_types.specs.Errors.{Finding}
 use Rattle.cedar_types.specs.Stores.{ConformingStore}
 use Rattle.cedar_typing.specs.Capabilities.{Caps, no_caps}
-use Rattle.cedar_typing.specs.Evaluation.Conformance.{Fits, IsEnvironmentOf, SlotsBound, AllHold}
-use Rattle.cedar_typing.specs.Evaluation.Eval.{eval}
+use Rattle.cedar_typing.specs.Eager.{Form}
+use Rattle.cedar_typing.specs.Evaluation.Conformance.{Fits, IsEnvironmentOf, SlotsBound, AllSlotsBound, FieldSlotsBound, AllHold}
+use Rattle.cedar_typing.specs.Evaluation.Eval.{unary_outcome, eval}
 use Rattle.cedar_typing.specs.Evaluation.World.{World, Outcome}
 use Rattle.cedar_typing.specs.Judgments.{Judgment, within}
-use Rattle.cedar_typing.specs.Rules.{rules, rules_within}
+use Rattle.cedar_typing.specs.Rules.{rules, rules_within, rules_all, rules_fields}
 use Rattle.cedar_typing.specs.Rules.Attributes.{has_form, get_form}
+use Rattle.cedar_typing.specs.Rules.Binary.{binary_form, binary_rules}
 use Rattle.cedar_typing.specs.Rules.Leaves.{UnknownRecovery, unknown_fails, unknown_rules, UnbuiltRecovery, unbuilt, unbuilt_rules}
-use Rattle.cedar_typing.specs.Rules.Unary.{not_form}
+use Rattle.cedar_typing.specs.Rules.Unary.{unary_form, like_form, is_form}
 use Rattle.cedar_typing.specs.Soundness.{HasFound, IsSoundAt, TypeSoundness}
 use Rattle.cedar_typing.specs.TypeEnv.{TypeEnv}
 use Rattle.cedar_typing.specs.TypedExpr.{Source, TypedTree, annotation, place_of}
+use Rattle.cedar_typing.proofs.Agreement.Operators.{OnForm, IsMarked, unary_marked, binary_marked}
 use Rattle.cedar_typing.proofs.Bounds.Attributes.{Joins}
 use Rattle.cedar_typing.proofs.SingleEntity.Induction.{single_entity_types}
 use Rattle.cedar_typing.proofs.SingleEntity.Rules.{SingleEntities}
 use Rattle.cedar_typing.proofs.SingleEntity.Types.{has_single_entities}
 use Rattle.cedar_typing.proofs.Soundness.Attributes.{has_sound, get_sound}
+use Rattle.cedar_typing.proofs.Soundness.Comparison.{comparison_sound}
 use Rattle.cedar_typing.proofs.Soundness.Conditional.{if_sounds}
 use Rattle.cedar_typing.proofs.Soundness.Conjunction.{and_sounds}
 use Rattle.cedar_typing.proofs.Soundness.Disjunction.{or_sounds}
-use Rattle.cedar_typing.proofs.Soundness.Eager.{one_operand_sounds}
+use Rattle.cedar_typing.proofs.Soundness.Eager.{SoundForm, SoundsAll, none_sounds, more_sounds, one_operand_sounds, two_operands_sound}
+use Rattle.cedar_typing.proofs.Soundness.Equality.{literal_outcome, equality_sound, contains_sound, contains_all_sound, contains_any_sound}
+use Rattle.cedar_typing.proofs.Soundness.Kinds.{is_empty_sound, like_sound, is_sound}
 use Rattle.cedar_typing.proofs.Soundness.Leaves.{literal_has, variable_has, slot_sound, leaf_sounds, always_sounds}
+use Rattle.cedar_typing.proofs.Soundness.Numbers.{negation_sound, operator_sound}
 use Rattle.cedar_typing.proofs.Soundness.Parts.{Sound, Sounds, nothing_sound}
+use Rattle.cedar_typing.proofs.Soundness.Records.{field_outcomes, record_sounds}
+use Rattle.cedar_typing.proofs.Soundness.Sets.{outcomes, set_sounds}
 use Rattle.cedar_typing.proofs.Soundness.Unary.{not_sound}
 
 -- ---- forms without a rule, and the limit
@@ -75,6 +87,11 @@ single_joins s (TExtension m) n h = cc
 
 -- ---- all expressions
 
+unary_sound : (world : World) (o : Outcome) (m : Written) (op : UnaryOp) → SoundForm world (unary_form m op) (o ∷ []) (unary_outcome op o)
+unary_sound world o m UnaryOp.Not = not_sound world o m
+unary_sound world o m UnaryOp.Neg = negation_sound world m o
+unary_sound world o m UnaryOp.IsEmpty = is_empty_sound world m o
+
 module _ (env : TypeEnv) (world : World) (strict : env.mode ≡ Strict) (faults : has_fault env.schema ≡ false) (environment : IsEnvironmentOf env.schema env.request_env) (fits : Fits env.request_env world.request world.slots) (store : ConformingStore env.schema world.store) where
   partial : is_partial env.mode ≡ false
   partial = ap is_partial strict
@@ -82,32 +99,72 @@ module _ (env : TypeEnv) (world : World) (strict : env.mode ≡ Strict) (faults 
   single_at : (e : Source) (prior : Caps) (d : ℕ) → SingleEntities (rules env e prior d)
   single_at = single_entity_types env strict faults environment
 
-  sounds_within : (e : Source) → SlotsBound world.slots e → (prior : Caps) (d : ℕ) → AllHold world prior → Sounds world (eval world e) (rules_within env e prior d)
-  sounds_within (lit m x) b prior d h = leaf_sounds world m (λ k. lit k x) (λ k. refl) _ _ (literal_has env x)
-  sounds_within (var m x) b prior d h = leaf_sounds world m (λ k. var k x) (λ k. refl) _ _ (variable_has env.schema env.mode env.request_env env.policy world.request world.slots fits x)
-  sounds_within (slot m s) b prior d h = always_sounds world m (λ k. slot k s) (λ k. refl) _ _ (slot_sound world env.request_env world.request world.slots fits s b)
-  sounds_within (unknown m n) b prior d h = unknown_sounds world _ n m
-  sounds_within (if_then_else m x y z) b prior d h =
-      if_sounds world env strict m (place_of x) _ _ _ _ _ _ prior h (within_sounds world _ (d + 1) _ (sounds_within x b.0 prior (d + 1) h)) (λ p k. within_sounds world _ (d + 1) _ (sounds_within y b.1 p (d + 1) k)) (within_sounds world _ (d + 1) _ (sounds_within z b.2 prior (d + 1) h))
-  sounds_within (and m x y) b prior d h =
-      and_sounds world env m (place_of x) (place_of y) _ _ _ _ prior h (within_sounds world _ (d + 1) _ (sounds_within x b.0 prior (d + 1) h)) (λ p k. within_sounds world _ (d + 1) _ (sounds_within y b.1 p (d + 1) k))
-  sounds_within (or m x y) b prior d h =
-      or_sounds world env m (place_of x) (place_of y) _ _ _ _ prior (within_sounds world _ (d + 1) _ (sounds_within x b.0 prior (d + 1) h)) (within_sounds world _ (d + 1) _ (sounds_within y b.1 prior (d + 1) h))
-  sounds_within (unary m UnaryOp.Not x) b prior d h =
-      one_operand_sounds world env (not_form m) (λ k xs. refl) (place_of x) (eval world x) _ _ (not_sound world (eval world x) m) (within_sounds world _ (d + 1) _ (sounds_within x b prior (d + 1) h)) (single_at x prior (d + 1))
-  sounds_within (unary m UnaryOp.Neg x) b prior d h = unbuilt_sounds world _ env m
-  sounds_within (unary m UnaryOp.IsEmpty x) b prior d h = unbuilt_sounds world _ env m
-  sounds_within (binary m o x y) b prior d h = unbuilt_sounds world _ env m
-  sounds_within (call m n ts) b prior d h = unbuilt_sounds world _ env m
-  sounds_within (get_attr m x a) b prior d h =
-      one_operand_sounds world env (get_form env m prior x a) (λ k xs. refl) (place_of x) (eval world x) _ _ (get_sound env world store m prior h x a partial (single_joins env.schema)) (within_sounds world _ (d + 1) _ (sounds_within x b prior (d + 1) h)) (single_at x prior (d + 1))
-  sounds_within (has_attr m x a) b prior d h =
-      one_operand_sounds world env (has_form env m prior x a) (λ k xs. refl) (place_of x) (eval world x) _ _ (has_sound env world store m prior h x a) (within_sounds world _ (d + 1) _ (sounds_within x b prior (d + 1) h)) (single_at x prior (d + 1))
-  sounds_within (ext_has_attr m x a xs) b prior d h = unbuilt_sounds world _ env m
-  sounds_within (like m x p) b prior d h = unbuilt_sounds world _ env m
-  sounds_within (is_type m x n) b prior d h = unbuilt_sounds world _ env m
-  sounds_within (set_of m ts) b prior d h = unbuilt_sounds world _ env m
-  sounds_within (record_of m fs) b prior d h = unbuilt_sounds world _ env m
+  -- what an operator on two operands promises, if it has a form yet
+  abbrev OperatorIsSound : Written → Source → Source → BinaryOp → Option Form → Type 0
+  OperatorIsSound m x y o f = OnForm (λ f. SoundForm world f (eval world x ∷ eval world y ∷ []) (eval world (binary m o x y))) f
+
+  binary_sound : (m : Written) (x y : Source) (o : BinaryOp) → OperatorIsSound m x y o (binary_form env m x y o)
+  binary_sound m x y BinaryOp.Eq =
+      equality_sound world env m x y (eval world x) (eval world y) (literal_outcome world env.request_env fits x) (literal_outcome world env.request_env fits y)
+  binary_sound m x y BinaryOp.Less = comparison_sound world world.functions.overloaded_types int_lt world.functions.less (eval world x) (eval world y) env (place_of x) (place_of y) m BinaryOp.Less
+  binary_sound m x y BinaryOp.LessEq = comparison_sound world world.functions.overloaded_types int_le world.functions.less_or_equal (eval world x) (eval world y) env (place_of x) (place_of y) m BinaryOp.LessEq
+  binary_sound m x y BinaryOp.Add = operator_sound (λ a b. a +ℤ b) world m BinaryOp.Add (eval world x) (eval world y)
+  binary_sound m x y BinaryOp.Sub = operator_sound (λ a b. a -ℤ b) world m BinaryOp.Sub (eval world x) (eval world y)
+  binary_sound m x y BinaryOp.Mul = operator_sound (λ a b. a *ℤ b) world m BinaryOp.Mul (eval world x) (eval world y)
+  binary_sound m x y BinaryOp.In = tt
+  binary_sound m x y BinaryOp.Contains = contains_sound world env m (eval world x) (eval world y)
+  binary_sound m x y BinaryOp.ContainsAll = contains_all_sound world env m (eval world x) (eval world y)
+  binary_sound m x y BinaryOp.ContainsAny = contains_any_sound world env m (eval world x) (eval world y)
+  binary_sound m x y BinaryOp.GetTag = tt
+  binary_sound m x y BinaryOp.HasTag = tt
+
+  binary_sounds : (f : Option Form) → OnForm IsMarked f → (m : Written) (l l' : Option Loc) (o o' o'' : Outcome) (J J' : Judgment) → OnForm (λ f. SoundForm world f (o ∷ o' ∷ []) o'') f
+      → Sounds world o J → SingleEntities J → Sounds world o' J' → SingleEntities J' → Sounds world o'' (binary_rules env f m.place l l' J J')
+  binary_sounds None k m l l' o o' o'' J J' form s n s' n' = unbuilt_sounds world o'' env m
+  binary_sounds (Some f) k m l l' o o' o'' J J' form s n s' n' = two_operands_sound world env f k l l' o o' o'' J J' form s n s' n'
+
+  mutual
+    sounds_within : (e : Source) → SlotsBound world.slots e → (prior : Caps) (d : ℕ) → AllHold world prior → Sounds world (eval world e) (rules_within env e prior d)
+    sounds_within (lit m x) b prior d h = leaf_sounds world m (λ k. lit k x) (λ k. refl) _ _ (literal_has env x)
+    sounds_within (var m x) b prior d h = leaf_sounds world m (λ k. var k x) (λ k. refl) _ _ (variable_has env.schema env.mode env.request_env env.policy world.request world.slots fits x)
+    sounds_within (slot m s) b prior d h = always_sounds world m (λ k. slot k s) (λ k. refl) _ _ (slot_sound world env.request_env world.request world.slots fits s b)
+    sounds_within (unknown m n) b prior d h = unknown_sounds world _ n m
+    sounds_within (if_then_else m x y z) b prior d h =
+        if_sounds world env strict m (place_of x) _ _ _ _ _ _ prior h (within_sounds world _ (d + 1) _ (sounds_within x b.0 prior (d + 1) h)) (λ p k. within_sounds world _ (d + 1) _ (sounds_within y b.1 p (d + 1) k)) (within_sounds world _ (d + 1) _ (sounds_within z b.2 prior (d + 1) h))
+    sounds_within (and m x y) b prior d h =
+        and_sounds world env m (place_of x) (place_of y) _ _ _ _ prior h (within_sounds world _ (d + 1) _ (sounds_within x b.0 prior (d + 1) h)) (λ p k. within_sounds world _ (d + 1) _ (sounds_within y b.1 p (d + 1) k))
+    sounds_within (or m x y) b prior d h =
+        or_sounds world env m (place_of x) (place_of y) _ _ _ _ prior (within_sounds world _ (d + 1) _ (sounds_within x b.0 prior (d + 1) h)) (within_sounds world _ (d + 1) _ (sounds_within y b.1 prior (d + 1) h))
+    sounds_within (unary m o x) b prior d h =
+        one_operand_sounds world env (unary_form m o) (unary_marked m o) (place_of x) (eval world x) _ _ (unary_sound world (eval world x) m o) (within_sounds world _ (d + 1) _ (sounds_within x b prior (d + 1) h)) (single_at x prior (d + 1))
+    sounds_within (binary m o x y) b prior d h =
+        binary_sounds (binary_form env m x y o) (binary_marked env m x y o) m (place_of x) (place_of y) (eval world x) (eval world y) _ _ _ (binary_sound m x y o)
+        (within_sounds world _ (d + 1) _ (sounds_within x b.0 prior (d + 1) h)) (single_at x prior (d + 1))
+        (within_sounds world _ (d + 1) _ (sounds_within y b.1 prior (d + 1) h)) (single_at y prior (d + 1))
+    sounds_within (call m n ts) b prior d h = unbuilt_sounds world _ env m
+    sounds_within (get_attr m x a) b prior d h =
+        one_operand_sounds world env (get_form env m prior x a) (λ k xs. refl) (place_of x) (eval world x) _ _ (get_sound env world store m prior h x a partial (single_joins env.schema)) (within_sounds world _ (d + 1) _ (sounds_within x b prior (d + 1) h)) (single_at x prior (d + 1))
+    sounds_within (has_attr m x a) b prior d h =
+        one_operand_sounds world env (has_form env m prior x a) (λ k xs. refl) (place_of x) (eval world x) _ _ (has_sound env world store m prior h x a) (within_sounds world _ (d + 1) _ (sounds_within x b prior (d + 1) h)) (single_at x prior (d + 1))
+    sounds_within (ext_has_attr m x a xs) b prior d h = unbuilt_sounds world _ env m
+    sounds_within (like m x p) b prior d h =
+        one_operand_sounds world env (like_form m p) (λ k xs. refl) (place_of x) (eval world x) _ _ (like_sound world m p (eval world x)) (within_sounds world _ (d + 1) _ (sounds_within x b prior (d + 1) h)) (single_at x prior (d + 1))
+    sounds_within (is_type m x n) b prior d h =
+        one_operand_sounds world env (is_form m n) (λ k xs. refl) (place_of x) (eval world x) _ _ (is_sound world m n (eval world x)) (within_sounds world _ (d + 1) _ (sounds_within x b prior (d + 1) h)) (single_at x prior (d + 1))
+    sounds_within (set_of m ts) b prior d h = set_sounds world env strict m ts _ (all_sound true ts b prior (d + 1) h)
+    sounds_within (record_of m fs) b prior d h = record_sounds world m fs _ (fields_sound fs b prior (d + 1) h)
+
+    -- expressions one after another
+    all_sound : (goes_on : Bool) (ts : Trees Written) → AllSlotsBound world.slots ts → (prior : Caps) (d : ℕ) → AllHold world prior → SoundsAll world [] (outcomes world ts) (rules_all env goes_on ts prior d)
+    all_sound goes_on no_trees b prior d h = none_sounds world []
+    all_sound goes_on (tree e ts) b prior d h =
+        more_sounds world env goes_on [] (place_of e) (eval world e) _ (within_sounds world _ d _ (sounds_within e b.0 prior d h)) (single_at e prior d) (outcomes world ts) _ (all_sound goes_on ts b.1 prior d h)
+
+    -- the values of fields
+    fields_sound : (fs : Fields Written) → FieldSlotsBound world.slots fs → (prior : Caps) (d : ℕ) → AllHold world prior → SoundsAll world [] (field_outcomes world fs) (rules_fields env fs prior d)
+    fields_sound no_fields b prior d h = none_sounds world []
+    fields_sound (field k e fs) b prior d h =
+        more_sounds world env false [] (place_of e) (eval world e) _ (within_sounds world _ d _ (sounds_within e b.0 prior d h)) (single_at e prior d) (field_outcomes world fs) _ (fields_sound fs b.1 prior d h)
 
   pub sounds : (e : Source) → SlotsBound world.slots e → (prior : Caps) (d : ℕ) → AllHold world prior → Sounds world (eval world e) (rules env e prior d)
   sounds e b prior d h = within_sounds world _ d _ (sounds_within e b prior d h)

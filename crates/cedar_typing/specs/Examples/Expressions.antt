@@ -112,6 +112,31 @@ record1 x a = record_of tt (field x a no_fields)
 abbrev pub record2 : Text → Shape → Text → Shape → Shape
 record2 x a y b = record_of tt (field x a (field y b no_fields))
 
+-- ---- operators
+
+-- `a == b`, `a < b`, `a <= b`, `a + b`
+abbrev pub equal : Shape → Shape → Shape
+equal a b = binary tt BinaryOp.Eq a b
+
+abbrev pub less : Shape → Shape → Shape
+less a b = binary tt BinaryOp.Less a b
+
+abbrev pub at_most : Shape → Shape → Shape
+at_most a b = binary tt BinaryOp.LessEq a b
+
+abbrev pub plus : Shape → Shape → Shape
+plus a b = binary tt BinaryOp.Add a b
+
+-- `a.contains(b)`, `a.containsAll(b)`, `a.containsAny(b)`
+abbrev pub contains : Shape → Shape → Shape
+contains a b = binary tt BinaryOp.Contains a b
+
+abbrev pub contains_all : Shape → Shape → Shape
+contains_all a b = binary tt BinaryOp.ContainsAll a b
+
+abbrev pub contains_any : Shape → Shape → Shape
+contains_any a b = binary tt BinaryOp.ContainsAny a b
+
 -- `decimal(a)`
 abbrev pub to_decimal : Shape → Shape
 to_decimal a = call tt decimal (tree a no_trees)

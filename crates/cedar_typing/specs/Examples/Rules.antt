@@ -6,9 +6,12 @@ pub mod ShortCircuit
 pub mod Unary
 pub mod Conditional
 pub mod Attributes
+pub mod Numbers
+pub mod Equality
+pub mod Collections
 pub mod Nesting
 pub mod Check
-use Rattle.std.specs.Prelude.{◌≡◌, ℕ, pos, true, false, List, [], ◌∷◌, codes}
+use Rattle.std.specs.Prelude.{◌≡◌, ℕ, pos, true, false, List, [], ◌∷◌, Option, codes}
 use Rattle.cedar_types.specs.declared.base.operators.Var.{Var}
 use Rattle.cedar_types.specs.declared.base.types.BoolType.TheVariants.{AnyBool, True, False}
 use Rattle.cedar_types.specs.declared.base.types.ValidationMode.TheVariants.{Strict}
@@ -23,7 +26,7 @@ use Rattle.cedar_typing.specs.Examples.World.{a_user, a_context, sample}
 use Rattle.cedar_typing.specs.PolicyCheck.{Verdict, PolicyChecks}
 use Rattle.cedar_typing.specs.Rules.{rules, Derives, Recovers, Cuts}
 use Rattle.cedar_typing.specs.TypeEnv.{TypeEnv, finding}
-use Rattle.cedar_typing.specs.TypedExpr.{TypedTree, Mark, typed, untyped}
+use Rattle.cedar_typing.specs.TypedExpr.{TypedTree, Mark, typed, untyped, annotation}
 
 -- ---- what an example says
 
@@ -44,6 +47,24 @@ pub record FailsWithIn (env : TypeEnv) (e : Shape) (x : TypedTree) (es : List Fi
 -- the same in Strict
 abbrev pub FailsWith : Shape → TypedTree → List Finding → Type 0
 FailsWith = FailsWithIn (sample Strict)
+
+-- e has that type, and hands on nothing
+pub record IsTypedIn (env : TypeEnv) (e : Shape) (t : Ty) : Type 0 where
+  pub copy : TypedTree
+  pub has : Derives env (numbered e) no_caps 1 t no_caps copy
+
+abbrev pub IsTyped : Shape → Ty → Type 0
+IsTyped = IsTypedIn (sample Strict)
+
+-- e fails with these errors, and this type stays, if one does
+pub record IsRefusedIn (env : TypeEnv) (e : Shape) (t : Option Ty) (es : List Finding) :
+    Type 0 where
+  pub copy : TypedTree
+  pub stays : annotation copy ≡ t
+  pub recovers : Recovers env (numbered e) no_caps 1 copy es
+
+abbrev pub IsRefused : Shape → Option Ty → List Finding → Type 0
+IsRefused = IsRefusedIn (sample Strict)
 
 -- at the depth d a part of e is too deep, and these errors were found
 pub record CutsAt (d : ℕ) (e : Shape) (es : List Finding) : Type 0 where
@@ -138,6 +159,11 @@ abbrev pub typed_false_with_friend : ℕ → ℕ → ℕ → ℕ → TypedTree
 typed_false_with_friend n k l m =
     if_then_else (false_at n) (typed_has_friend k l) (typed_false m) (typed_false m)
 
+-- ---- types
+
+abbrev pub bool_type : Ty
+bool_type = TBool AnyBool
+
 -- ---- errors
 
 abbrev pub error_at : ℕ → Fault → Finding
@@ -149,6 +175,10 @@ not_a_bool n = error_at n (unexpected_type (TBool AnyBool ∷ []) TLong)
 
 abbrev pub not_an_object : ℕ → Finding
 not_an_object n = error_at n (unexpected_type (TRecord no_attrs true ∷ TAnyEntity ∷ []) TLong)
+
+-- a Long is wanted, and a type t is there
+abbrev pub not_a_long : ℕ → Ty → Finding
+not_a_long n t = error_at n (unexpected_type (TLong ∷ []) t)
 
 -- an access to an optional attribute of a user that is not known to be there
 abbrev pub unguarded : ℕ → Text → Finding

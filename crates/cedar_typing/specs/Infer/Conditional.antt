@@ -1,11 +1,12 @@
 -- Inference for `if`.
 use Rattle.std.specs.Prelude.{◌&&◌, List, ◌++◌, Option, Some, is_some, if◌then◌else◌}
+use Rattle.cedar_types.specs.declared.base.errors.type_errors.LubContext.TheVariants.{Conditional}
 use Rattle.cedar_types.specs.Tree.{if_then_else}
 use Rattle.cedar_types.specs.View.{Written}
 use Rattle.cedar_types.specs.Errors.{Finding}
 use Rattle.cedar_typing.specs.Capabilities.{Caps, union, intersection}
 use Rattle.cedar_typing.specs.Infer.Parts.{Answer, limit, Part, AnswerAndErrors, answer_if, part_from, any_part, after}
-use Rattle.cedar_typing.specs.Rules.Conditional.{joined, join_errors}
+use Rattle.cedar_typing.specs.Joins.{joined, join_errors}
 use Rattle.cedar_typing.specs.TypeEnv.{TypeEnv}
 use Rattle.cedar_typing.specs.TypeTests.{is_false, is_true, annotation_passes}
 use Rattle.cedar_typing.specs.TypedExpr.{typed_as, annotation}
@@ -23,7 +24,7 @@ infer_open_test env m a b e es = (
       (a.succeeded && b.succeeded && e.succeeded && is_some (joined env.mode (annotation b.tree) (annotation e.tree)))
       (if_then_else (typed_as (joined env.mode (annotation b.tree) (annotation e.tree)) m) a.tree b.tree e.tree)
       (intersection e.capabilities (union a.capabilities b.capabilities)),
-  es ++ join_errors env m.place (annotation b.tree) (annotation e.tree),
+  es ++ join_errors env m.place Conditional (annotation b.tree) (annotation e.tree),
 )
 
 -- the same, where a branch may be cut

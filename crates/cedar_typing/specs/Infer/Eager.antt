@@ -2,7 +2,7 @@
 use Rattle.std.specs.Prelude.{Bool, true, false, ◌&&◌, List, [], ◌∷◌, ◌++◌, Option, Some, None}
 use Rattle.cedar_types.specs.declared.base.location.Loc.{Loc}
 use Rattle.cedar_types.specs.Errors.{Finding}
-use Rattle.cedar_typing.specs.Eager.{Expectation, Decision, gives, refuses, Form, first_expectation, types_found}
+use Rattle.cedar_typing.specs.Eager.{Expectation, Decision, gives, refuses, Form, first_expectation, later_expectations, types_found}
 use Rattle.cedar_typing.specs.Infer.Parts.{failure, limit, Part, AnswerAndErrors, PartAndErrors, answer_if, expect, any_part}
 use Rattle.cedar_typing.specs.TypeEnv.{TypeEnv}
 use Rattle.cedar_typing.specs.TypedExpr.{TypedTree, typed, typed_as}
@@ -62,3 +62,10 @@ infer_eager f operands es = infer_form f (operands es).0 (operands es).1
 abbrev pub infer_one_operand : TypeEnv → Form → Option Loc → (List Finding → AnswerAndErrors) → List Finding → AnswerAndErrors
 infer_one_operand env f l operand =
     infer_eager f (infer_one_more env f.goes_on (first_expectation f.expects) l operand infer_none)
+
+-- a form with two operands, at l and at l'
+abbrev pub infer_two_operands : TypeEnv → Form → Option Loc → Option Loc → (List Finding → AnswerAndErrors) → (List Finding → AnswerAndErrors) → List Finding → AnswerAndErrors
+infer_two_operands env f l l' left right =
+    infer_eager f
+    (infer_one_more env f.goes_on (first_expectation f.expects) l left
+    (infer_one_more env f.goes_on (first_expectation (later_expectations f.expects)) l' right infer_none))

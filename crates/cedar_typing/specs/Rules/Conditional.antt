@@ -1,38 +1,19 @@
 -- `if a then b else e`.
-use Rattle.std.specs.Prelude.{◌≡◌, Bool, true, false, ◌&&◌, List, [], ◌∷◌, ◌++◌, Option, Some, None, is_some}
+use Rattle.std.specs.Prelude.{◌≡◌, Bool, true, false, ◌&&◌, List, ◌++◌, Option, Some, is_some}
 use Rattle.cedar_types.specs.declared.base.location.Loc.{Loc}
 use Rattle.cedar_types.specs.declared.base.errors.type_errors.LubContext.TheVariants.{Conditional}
 use Rattle.cedar_types.specs.declared.base.types.BoolType.TheVariants.{True, False}
-use Rattle.cedar_types.specs.declared.base.types.ValidationMode.{ValidationMode}
 use Rattle.cedar_types.specs.Types.{Ty, TBool}
 use Rattle.cedar_types.specs.Tree.{if_then_else}
 use Rattle.cedar_types.specs.View.{Written}
-use Rattle.cedar_types.specs.TypeOrder.{in_order}
 use Rattle.cedar_types.specs.Bounds.{lub}
-use Rattle.cedar_types.specs.Errors.{Finding, incompatible_types}
+use Rattle.cedar_types.specs.Errors.{Finding}
 use Rattle.cedar_typing.specs.Capabilities.{Caps, union, intersection}
+use Rattle.cedar_typing.specs.Joins.{joined, join_errors}
 use Rattle.cedar_typing.specs.Judgments.{Judgment, PartResult, Operand, PartOrCut}
-use Rattle.cedar_typing.specs.TypeEnv.{TypeEnv, finding}
+use Rattle.cedar_typing.specs.TypeEnv.{TypeEnv}
 use Rattle.cedar_typing.specs.TypeTests.{accepts, bool_types, is_false, is_true, annotation_passes}
 use Rattle.cedar_typing.specs.TypedExpr.{TypedTree, typed, typed_as, annotation}
-
--- ---- the bound of both branches
-
--- the bound of two types, if both are there and there is one
-abbrev pub joined : ValidationMode → Option Ty → Option Ty → Option Ty
-joined m (Some t) (Some u) = lub m t u
-joined m t u = None
-
--- two types without a bound are an error there
-abbrev pub bound_errors : TypeEnv → Option Loc → Ty → Ty → Option Ty → List Finding
-bound_errors env l t u (Some v) = []
-bound_errors env l t u None =
-    finding env l (incompatible_types (in_order (t ∷ u ∷ [])) Conditional) ∷ []
-
--- a type that is missing is no other error
-abbrev pub join_errors : TypeEnv → Option Loc → Option Ty → Option Ty → List Finding
-join_errors env l (Some t) (Some u) = bound_errors env l t u (lub env.mode t u)
-join_errors env l t u = []
 
 -- ---- the rules
 
@@ -82,7 +63,7 @@ module _ (env : TypeEnv) (m : Written) (l : Option Loc) (A : Judgment) (B : Caps
         → Then c succeeded' c' b es' → Else succeeded'' c'' e es''
         → (succeeded && succeeded' && succeeded'' && is_some (joined env.mode (annotation b) (annotation e))) ≡ false
         → IfRecovery (if_then_else (typed_as (joined env.mode (annotation b) (annotation e)) m) a b e)
-        (es ++ es' ++ es'' ++ join_errors env m.place (annotation b) (annotation e))
+        (es ++ es' ++ es'' ++ join_errors env m.place Conditional (annotation b) (annotation e))
 
   pub data IfCut : List Finding → Type 0 where
     -- the test is cut: no branch is visited

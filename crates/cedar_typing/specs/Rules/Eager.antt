@@ -5,7 +5,7 @@ use Rattle.cedar_types.specs.declared.base.location.Loc.{Loc}
 use Rattle.cedar_types.specs.Types.{Ty}
 use Rattle.cedar_types.specs.Errors.{Finding}
 use Rattle.cedar_typing.specs.Capabilities.{Caps}
-use Rattle.cedar_typing.specs.Eager.{Expectation, meets, gives, refuses, Form, first_expectation, types_found}
+use Rattle.cedar_typing.specs.Eager.{Expectation, meets, gives, refuses, Form, first_expectation, later_expectations, types_found}
 use Rattle.cedar_typing.specs.Judgments.{Cut, Judgment, Giving, PartResult, Operand}
 use Rattle.cedar_typing.specs.TypeEnv.{TypeEnv}
 use Rattle.cedar_typing.specs.TypedExpr.{TypedTree, typed, typed_as}
@@ -106,3 +106,10 @@ module _ (f : Form) (Js : Judgments) where
 abbrev pub one_operand_rules : TypeEnv → Form → Option Loc → Judgment → Judgment
 one_operand_rules env f l J =
     eager_rules f (one_more env f.goes_on (first_expectation f.expects) l J no_operands)
+
+-- a form with two operands, at l and at l'
+abbrev pub two_operand_rules : TypeEnv → Form → Option Loc → Option Loc → Judgment → Judgment → Judgment
+two_operand_rules env f l l' J J' =
+    eager_rules f
+    (one_more env f.goes_on (first_expectation f.expects) l J
+    (one_more env f.goes_on (first_expectation (later_expectations f.expects)) l' J' no_operands))

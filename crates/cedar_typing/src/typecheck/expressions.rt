@@ -9,10 +9,11 @@ ghost use Rattle.cedar_typing.specs.Views.{env_at, expected_types, answer_of, pa
 
 use crate::typecheck::answer::{Part, TypecheckAnswer};
 use crate::typecheck::operands::Expected;
-use crate::typecheck::rules::eager::OneOperand;
+use crate::typecheck::rules::one_operand::OneOperand;
 use crate::typecheck::rules::short_circuit::Connective;
+use crate::typecheck::rules::two_operands::TwoOperands;
 use crate::typecheck::single_env::SingleEnvTypechecker;
-use cedar_types::base::{Expr, ExprKind, UnaryOp, ValidationError};
+use cedar_types::base::{Expr, ExprKind, ValidationError};
 use cedar_types::types::capability::CapabilitySet;
 use std::alloc::AllocError;
 
@@ -52,24 +53,42 @@ impl SingleEnvTypechecker<'_, '_, '_, '_> {
                 then_expr,
                 else_expr,
             } => self.type_if(prior, depth, e.loc, test_expr, then_expr, else_expr, errors),
-            ExprKind::UnaryApp(UnaryOp::Not, operand) => {
-                self.type_one_operand(prior, depth, e.loc, OneOperand::Not, operand, errors)
+            ExprKind::UnaryApp(op, operand) => {
+                self.type_one_operand(prior, depth, e.loc, OneOperand::Unary(*op), operand, errors)
             }
+            ExprKind::BinaryApp(op, left, right) => match TwoOperands::of(*op) {
+                Some(form) => self.type_two_operands(
+                    prior, depth, e.loc, form, left, right, errors,
+                ),
+                None => self.type_unbuilt(e.loc, errors),
+            },
             ExprKind::HasAttr(base, attr) => {
                 self.type_one_operand(prior, depth, e.loc, OneOperand::Has(attr), base, errors)
             }
             ExprKind::GetAttr(base, attr) => {
                 self.type_one_operand(prior, depth, e.loc, OneOperand::Get(attr), base, errors)
             }
-            ExprKind::UnaryApp(UnaryOp::Neg, _) => self.type_unbuilt(e.loc, errors),
-            ExprKind::UnaryApp(UnaryOp::IsEmpty, _) => self.type_unbuilt(e.loc, errors),
-            ExprKind::BinaryApp(_, _, _) => self.type_unbuilt(e.loc, errors),
+            ExprKind::Like(operand, pattern) => {
+                self.type_one_operand(
+                    prior,
+                    depth,
+                    e.loc,
+                    OneOperand::Like(pattern),
+                    operand,
+                    errors,
+                )
+            }
+            ExprKind::Is(operand, named) => {
+                self.type_one_operand(prior, depth, e.loc, OneOperand::Is(named), operand, errors)
+            }
             ExprKind::ExtensionFunctionApp(_, _) => self.type_unbuilt(e.loc, errors),
             ExprKind::ExtHasAttr(_, _) => self.type_unbuilt(e.loc, errors),
-            ExprKind::Like(_, _) => self.type_unbuilt(e.loc, errors),
-            ExprKind::Is(_, _) => self.type_unbuilt(e.loc, errors),
-            ExprKind::Set(_) => self.type_unbuilt(e.loc, errors),
-            ExprKind::Record(_) => self.type_unbuilt(e.loc, errors),
+            ExprKind::Set(elements) => {
+                let elements = self.type_elements(prior, depth, elements, errors)?;
+                let answer = self.set_answer(e.loc, elements, errors)?;
+                Ok(answer)
+            }
+            ExprKind::Record(fields) => self.type_record(prior, depth, e.loc, fields, errors),
         }
     }
 

@@ -7,9 +7,12 @@ ghost use Rattle.cedar_typing.specs.Examples.Evaluation.Operators.{NumberExample
 ghost use Rattle.cedar_typing.specs.Examples.Premises.{PremisesAreMet, PremisesCanFail};
 ghost use Rattle.cedar_typing.specs.Examples.Rules.Attributes.{HasTyping, GetTyping};
 ghost use Rattle.cedar_typing.specs.Examples.Rules.Check.{CheckTyping};
+ghost use Rattle.cedar_typing.specs.Examples.Rules.Collections.{SetTyping, RecordTyping};
 ghost use Rattle.cedar_typing.specs.Examples.Rules.Conditional.{ConditionalTyping};
+ghost use Rattle.cedar_typing.specs.Examples.Rules.Equality.{EqualityTyping, MemberTyping};
 ghost use Rattle.cedar_typing.specs.Examples.Rules.Leaves.{LeafTyping};
 ghost use Rattle.cedar_typing.specs.Examples.Rules.Nesting.{NestingTyping};
+ghost use Rattle.cedar_typing.specs.Examples.Rules.Numbers.{OperatorTyping, NumberTyping};
 ghost use Rattle.cedar_typing.specs.Examples.Rules.ShortCircuit.{AndTyping, OrTyping};
 ghost use Rattle.cedar_typing.specs.Examples.Rules.Unary.{UnaryTyping};
 ghost use Rattle.cedar_typing.specs.RuleLaws.{TypingIsAFunction, RecoveryIsAFunction, CutIsAFunction, OneOfThreeAtMost, OneOfThreeAtLeast, CutIsByDepth, OneVerdictAtMost, OneVerdictAtLeast, ErrorsInAnyOrder};
@@ -65,6 +68,12 @@ pub fn examples_of_rules()
     ensures conditionals { ConditionalTyping }
     ensures has_attribute { HasTyping }
     ensures get_attribute { GetTyping }
+    ensures operators { OperatorTyping }
+    ensures numbers { NumberTyping }
+    ensures equality { EqualityTyping }
+    ensures members { MemberTyping }
+    ensures sets { SetTyping }
+    ensures records { RecordTyping }
     ensures nesting { NestingTyping }
     ensures checks { CheckTyping }
 {}

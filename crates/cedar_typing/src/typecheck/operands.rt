@@ -3,6 +3,7 @@ ghost use Rattle.std.specs.Prelude.{◌≡◌, Some, IfOk, map, option_map};
 ghost use Rattle.cedar_types.specs.Types.{ty_of};
 ghost use Rattle.cedar_types.specs.TypeOrder.{in_order};
 ghost use Rattle.cedar_types.specs.Errors.{finding_of, unexpected_type};
+ghost use Rattle.cedar_typing.specs.Infer.Eager.{expect_operand};
 ghost use Rattle.cedar_typing.specs.Infer.Parts.{as_failed, as_failed_untyped, part_from, expect, expect_type};
 ghost use Rattle.cedar_typing.specs.TypeEnv.{finding};
 ghost use Rattle.cedar_typing.specs.TypeTests.{accepts};
@@ -10,8 +11,11 @@ ghost use Rattle.cedar_typing.specs.Views.{env_at, answer_of, part_of, expected_
 
 use crate::typecheck::answer::{Part, TypecheckAnswer};
 use crate::typecheck::capabilities::no_capabilities;
+use crate::typecheck::operand_tests::{
+    is_bool_operand, is_entity_operand, is_long_operand, is_object_operand, is_set_operand,
+    is_string_operand,
+};
 use crate::typecheck::single_env::SingleEnvTypechecker;
-use crate::typecheck::type_tests::{is_bool_operand, is_object_operand};
 use cedar_types::base::{
     BoolType, CedarType, EntityKind, Expr, Loc, ValidationError, types_in_order,
 };
@@ -22,6 +26,10 @@ use std::collections::BTreeSet;
 #[derive(Clone, Copy, Debug)]
 pub(crate) enum Expected {
     Bool,
+    Long,
+    String,
+    Set,
+    Entity,
     /// A record or an entity.
     Object,
 }
@@ -32,6 +40,10 @@ impl Expected {
     {
         match self {
             Expected::Bool => is_bool_operand(ty),
+            Expected::Long => is_long_operand(ty),
+            Expected::String => is_string_operand(ty),
+            Expected::Set => is_set_operand(ty),
+            Expected::Entity => is_entity_operand(ty),
             Expected::Object => is_object_operand(ty),
         }
     }
@@ -42,6 +54,10 @@ impl Expected {
         let mut types = Vec::new(alloc);
         match self {
             Expected::Bool => types.push(CedarType::Bool(BoolType::AnyBool))?,
+            Expected::Long => types.push(CedarType::Long)?,
+            Expected::String => types.push(CedarType::String)?,
+            Expected::Set => types.push(CedarType::AnySet)?,
+            Expected::Entity => types.push(CedarType::Entity(EntityKind::AnyEntity))?,
             Expected::Object => {
                 types.push(CedarType::any_record(alloc)?)?;
                 types.push(CedarType::Entity(EntityKind::AnyEntity))?;
@@ -106,6 +122,26 @@ impl SingleEnvTypechecker<'_, '_, '_, '_> {
             return Ok(None);
         };
         Ok(Some(self.expect_part(expected, loc, part, errors)?))
+    }
+
+    /// The same of an operand, which may be anything where nothing is expected.
+    pub(crate) fn operand<'a>(
+        &self,
+        expected: Option<Expected>,
+        loc: Option<Loc>,
+        answer: TypecheckAnswer<'a>,
+        errors: &mut Vec<ValidationError>,
+    ) -> Result<Option<Part<'a>>, AllocError>
+        ensures { IfOk result (λ p.
+            expect_operand (env_at self.now) (option_map expected_types expected) loc
+            (answer_of answer.entry, findings errors.old.items)
+            ≡ (option_map part_of p, findings errors.new.items)) }
+    {
+        let Some(expected) = expected else {
+            return Ok(any_part(self.alloc, answer));
+        };
+        let part = self.expect(expected, loc, answer, errors)?;
+        Ok(part)
     }
 
     fn expect_part<'a>(

@@ -2,6 +2,12 @@
 pub(crate) mod attributes;
 mod conditional;
 pub(crate) mod eager;
+mod equality;
 mod leaves;
+mod numbers;
+pub(crate) mod one_operand;
+pub(crate) mod records;
+pub(crate) mod sets;
 pub(crate) mod short_circuit;
+pub(crate) mod two_operands;
 pub(crate) mod unary;

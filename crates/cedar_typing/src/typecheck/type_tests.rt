@@ -1,51 +1,12 @@
 // Tests of types.
 ghost use Rattle.std.specs.Prelude.{◌≡◌};
 ghost use Rattle.cedar_types.specs.Types.{ty_of, TBool};
+ghost use Rattle.cedar_types.specs.Bounds.{is_never};
 ghost use Rattle.cedar_types.specs.declared.base.types.BoolType.TheVariants.{AnyBool};
-ghost use Rattle.cedar_typing.specs.TypeTests.{accepts, bool_types, object_types, is_false, is_true, is_record, annotation_passes};
+ghost use Rattle.cedar_typing.specs.TypeTests.{is_false, is_true, is_any_bool, is_record, annotation_passes};
 ghost use Rattle.cedar_typing.specs.TypedExpr.{typed_tree, annotation};
 
 use cedar_types::base::{BoolType, CedarType, Expr};
-
-/// Whether an operand of this type is accepted where a Boolean is required.
-pub(crate) fn is_bool_operand(ty: &CedarType) -> bool
-    ensures { result ≡ accepts bool_types (ty_of ty.now) }
-{
-    match ty {
-        CedarType::Never => true,
-        CedarType::Bool(_) => true,
-        CedarType::Long => false,
-        CedarType::String => false,
-        CedarType::Set(_) => false,
-        CedarType::AnySet => false,
-        CedarType::Record {
-            attributes: _attributes,
-            is_open: _open,
-        } => false,
-        CedarType::Entity(_) => false,
-        CedarType::Extension(_) => false,
-    }
-}
-
-/// Whether an operand of this type is accepted where a record or an entity is required.
-pub(crate) fn is_object_operand(ty: &CedarType) -> bool
-    ensures { result ≡ accepts object_types (ty_of ty.now) }
-{
-    match ty {
-        CedarType::Never => true,
-        CedarType::Bool(_) => false,
-        CedarType::Long => false,
-        CedarType::String => false,
-        CedarType::Set(_) => false,
-        CedarType::AnySet => false,
-        CedarType::Record {
-            attributes: _attributes,
-            is_open: _open,
-        } => true,
-        CedarType::Entity(_) => true,
-        CedarType::Extension(_) => false,
-    }
-}
 
 /// The type of both truth values.
 pub(crate) fn any_bool() -> CedarType
@@ -85,6 +46,48 @@ pub(crate) fn is_true_type(ty: &CedarType) -> bool
         CedarType::Bool(BoolType::False) => false,
         CedarType::Bool(BoolType::AnyBool) => false,
         CedarType::Never => false,
+        CedarType::Long => false,
+        CedarType::String => false,
+        CedarType::Set(_) => false,
+        CedarType::AnySet => false,
+        CedarType::Record {
+            attributes: _attributes,
+            is_open: _open,
+        } => false,
+        CedarType::Entity(_) => false,
+        CedarType::Extension(_) => false,
+    }
+}
+
+/// Whether the type is Bool, neither True nor False.
+pub(crate) fn is_any_bool_type(ty: &CedarType) -> bool
+    ensures { result ≡ is_any_bool (ty_of ty.now) }
+{
+    match ty {
+        CedarType::Bool(BoolType::AnyBool) => true,
+        CedarType::Bool(BoolType::True) => false,
+        CedarType::Bool(BoolType::False) => false,
+        CedarType::Never => false,
+        CedarType::Long => false,
+        CedarType::String => false,
+        CedarType::Set(_) => false,
+        CedarType::AnySet => false,
+        CedarType::Record {
+            attributes: _attributes,
+            is_open: _open,
+        } => false,
+        CedarType::Entity(_) => false,
+        CedarType::Extension(_) => false,
+    }
+}
+
+/// Whether the type is Never.
+pub(crate) fn is_never_type(ty: &CedarType) -> bool
+    ensures { result ≡ is_never (ty_of ty.now) }
+{
+    match ty {
+        CedarType::Never => true,
+        CedarType::Bool(_) => false,
         CedarType::Long => false,
         CedarType::String => false,
         CedarType::Set(_) => false,

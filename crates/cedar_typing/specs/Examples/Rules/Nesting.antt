@@ -1,13 +1,15 @@
 -- Typing at the limit of depth: what is too deep, and which errors were found before or beside it.
 use Rattle.std.specs.Prelude.{◌+◌, [], ◌∷◌, codes}
+use Rattle.cedar_types.specs.declared.base.errors.type_errors.LubContext.TheVariants.{Set}
 use Rattle.cedar_types.specs.declared.base.operators.UnaryOp.{UnaryOp}
 use Rattle.cedar_types.specs.declared.base.types.BoolType.TheVariants.{False}
 use Rattle.cedar_types.specs.declared.base.types.ValidationMode.TheVariants.{Strict}
-use Rattle.cedar_types.specs.Types.{TBool}
+use Rattle.cedar_types.specs.Types.{TBool, TLong, TString}
 use Rattle.cedar_types.specs.Tree.{Shape, if_then_else, and, or, unary}
+use Rattle.cedar_types.specs.Errors.{incompatible_types}
 use Rattle.cedar_typing.specs.Capabilities.{no_caps}
-use Rattle.cedar_typing.specs.Examples.Expressions.{true_lit, false_lit, one, dot, has, has_vip, get_boss, numbered}
-use Rattle.cedar_typing.specs.Examples.Rules.{CutsAt, typed_false, not_a_bool, unguarded_boss}
+use Rattle.cedar_typing.specs.Examples.Expressions.{true_lit, false_lit, one, text, dot, has, has_vip, get_boss, equal, less, plus, set3, record2, numbered}
+use Rattle.cedar_typing.specs.Examples.Rules.{CutsAt, typed_false, error_at, not_a_bool, unguarded_boss}
 use Rattle.cedar_typing.specs.Examples.World.{sample}
 use Rattle.cedar_typing.specs.Judgments.{max_nesting}
 use Rattle.cedar_typing.specs.Rules.{Derives}
@@ -60,3 +62,22 @@ pub record NestingTyping : Type 0 where
   pub else_of_if : CutsAt 398 (if_then_else tt has_vip get_boss deep) (unguarded_boss 4 ∷ [])
   -- `if principal has vip then !(principal has vip) else !(principal has vip)`: both are cut
   pub both_of_if : CutsAt 398 (if_then_else tt has_vip deep deep) []
+  -- `!(principal has vip) < principal.boss`: nothing is typed after a left side that is cut; the other
+  -- way round the error of the left one counts
+  pub left_of_less : CutsAt 398 (less deep get_boss) []
+  pub right_of_less : CutsAt 398 (less get_boss deep) (unguarded_boss 2 ∷ [])
+  pub left_of_sum : CutsAt 398 (plus deep true_lit) []
+  -- the same of `==`: both sides are typed in any case
+  pub left_of_equal : CutsAt 398 (equal deep get_boss) (unguarded_boss 5 ∷ [])
+  pub right_of_equal : CutsAt 398 (equal get_boss deep) (unguarded_boss 2 ∷ [])
+  pub both_of_equal : CutsAt 398 (equal deep deep) []
+  -- `[principal.boss, !(principal has vip), principal.boss]`: all elements are typed in any case
+  pub element_of_set : CutsAt 398 (set3 get_boss deep get_boss)
+      (unguarded_boss 2 ∷ unguarded_boss 7 ∷ [])
+  -- `[1, "a", !(principal has vip)]`: those before one that is cut have to have a bound
+  pub bound_before_cut : CutsAt 398 (set3 one (text (codes "a")) deep)
+      (error_at 1 (incompatible_types (TLong ∷ TString ∷ []) Set) ∷ [])
+  -- `{x: !(principal has vip), y: principal.boss}`: nothing is typed after a value that is cut
+  pub value_of_record : CutsAt 398 (record2 (codes "x") deep (codes "y") get_boss) []
+  pub later_value_of_record : CutsAt 398 (record2 (codes "x") get_boss (codes "y") deep)
+      (unguarded_boss 2 ∷ [])

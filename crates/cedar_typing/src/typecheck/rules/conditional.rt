@@ -1,20 +1,17 @@
 // `if`.
-ghost use Rattle.std.specs.Prelude.{◌≡◌, ◌≤◌, [], ◌∷◌, ◌++◌, IfOk, map, option_map};
+ghost use Rattle.std.specs.Prelude.{◌≡◌, ◌≤◌, ◌++◌, IfOk, option_map};
 ghost use Rattle.cedar_types.specs.declared.base.errors.type_errors.LubContext.TheVariants.{Conditional};
 ghost use Rattle.cedar_types.specs.Types.{ty_of};
 ghost use Rattle.cedar_types.specs.Tree.{if_then_else};
 ghost use Rattle.cedar_types.specs.View.{written};
-ghost use Rattle.cedar_types.specs.TypeOrder.{in_order};
 ghost use Rattle.cedar_types.specs.Bounds.{lub};
 ghost use Rattle.cedar_types.specs.Capability.{caps};
-ghost use Rattle.cedar_types.specs.Errors.{finding_of, incompatible_types};
 ghost use Rattle.cedar_typing.specs.Capabilities.{union};
 ghost use Rattle.cedar_typing.specs.Infer.{infer_within};
 ghost use Rattle.cedar_typing.specs.Infer.Conditional.{infer_constant_test, infer_open_test, infer_open_parts};
 ghost use Rattle.cedar_typing.specs.Infer.Parts.{part_from};
+ghost use Rattle.cedar_typing.specs.Joins.{joined, join_errors, bound_errors};
 ghost use Rattle.cedar_typing.specs.Judgments.{max_nesting};
-ghost use Rattle.cedar_typing.specs.Rules.Conditional.{joined, join_errors, bound_errors};
-ghost use Rattle.cedar_typing.specs.TypeEnv.{finding};
 ghost use Rattle.cedar_typing.specs.TypedExpr.{annotation, typed_tree, typed_as};
 ghost use Rattle.cedar_typing.specs.Views.{env_at, answer_of, part_of, findings, at};
 
@@ -24,9 +21,7 @@ use crate::typecheck::operands::{Expected, any_part};
 use crate::typecheck::single_env::SingleEnvTypechecker;
 use crate::typecheck::type_tests::{is_typed_false, is_typed_true};
 use crate::typecheck::typed_nodes::with_capabilities;
-use cedar_types::base::{
-    CedarType, Expr, ExprKind, Loc, LubContext, ValidationError, types_in_order,
-};
+use cedar_types::base::{CedarType, Expr, ExprKind, Loc, LubContext, ValidationError};
 use cedar_types::types::capability::CapabilitySet;
 use std::alloc::{AllocError, Global};
 use std::rc::Rc;
@@ -139,7 +134,7 @@ impl SingleEnvTypechecker<'_, '_, '_, '_> {
         ensures reported { IfOk result (λ o.
             findings errors.new.items
             ≡ findings errors.old.items
-            ++ join_errors (env_at self.now) loc (option_map ty_of one.now)
+            ++ join_errors (env_at self.now) loc Conditional (option_map ty_of one.now)
             (option_map ty_of other.now)) }
     {
         let Some(one) = one else {
@@ -165,37 +160,17 @@ impl SingleEnvTypechecker<'_, '_, '_, '_> {
         ensures reported { IfOk result (λ o.
             findings errors.new.items
             ≡ findings errors.old.items
-            ++ bound_errors (env_at self.now) loc (ty_of one.now) (ty_of other.now)
+            ++ bound_errors (env_at self.now) loc Conditional (ty_of one.now) (ty_of other.now)
             (lub (env_at self.now).mode (ty_of one.now) (ty_of other.now))) }
     {
         let bound = CedarType::least_upper_bound(self.alloc, one, other, self.mode)?;
         match bound {
             Some(ty) => Ok(Some(ty)),
             None => {
-                errors.push(self.incompatible(loc, one, other)?)?;
+                errors.push(self.incompatible(loc, LubContext::Conditional, one, other)?)?;
                 Ok(None)
             }
         }
-    }
-
-    fn incompatible(
-        &self,
-        loc: Option<Loc>,
-        one: &CedarType,
-        other: &CedarType,
-    ) -> Result<ValidationError, AllocError>
-        ensures { IfOk result (λ e.
-            finding_of e
-            ≡ finding (env_at self.now) loc
-            (incompatible_types (in_order (ty_of one.now ∷ ty_of other.now ∷ [])) Conditional)) }
-    {
-        let policy_id = self.policy_id.clone()?;
-        let mut types = Vec::new(self.alloc);
-        types.push(CedarType::clone(one)?)?;
-        types.push(CedarType::clone(other)?)?;
-        let types = types_in_order(self.alloc, types)?;
-        let context = LubContext::Conditional;
-        Ok(ValidationError::incompatible_types(loc, policy_id, types, context))
     }
 }
 

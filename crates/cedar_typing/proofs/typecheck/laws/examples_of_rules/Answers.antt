@@ -1,4 +1,4 @@
-use Rattle.cedar_typing.proofs.Examples.Rules.{leaf_typing, and_typing, or_typing, unary_typing, conditional_typing, has_typing, get_typing, nesting_typing, check_typing}
+use Rattle.cedar_typing.proofs.Examples.Rules.{leaf_typing, and_typing, or_typing, unary_typing, conditional_typing, has_typing, get_typing, operator_typing, number_typing, equality_typing, member_typing, set_typing, record_typing, nesting_typing, check_typing}
 use Rattle.cedar_typing.proofs.typecheck.laws.examples_of_rules.Goals as goal
 
 pub returns : goal.returns
@@ -10,6 +10,12 @@ returns c = record {
   conditionals = conditional_typing;
   has_attribute = has_typing;
   get_attribute = get_typing;
+  operators = operator_typing;
+  numbers = number_typing;
+  equality = equality_typing;
+  members = member_typing;
+  sets = set_typing;
+  records = record_typing;
   nesting = nesting_typing;
   checks = check_typing;
 }

@@ -1,16 +1,30 @@
-use Rattle.std.proofs.Common.{◌≡◌, ◌∙◌, sym, subst}
+use Rattle.std.proofs.Common.{◌≡◌, ◌<◌, ◌+◌, ◌∙◌, length, drop, arith, sym, ap, subst, true, ◌&&◌, [], ◌∷◌, ◌++◌, option_map, append_assoc, append-nil, Option, Some, None, refl}
 use Rattle.std.specs.Prelude.{IfOk}
+use Rattle.std.specs.List.Sorted.{IsStrictlySortedBy}
+use Rattle.std.specs.Map.{keys_of}
 use Rattle.cedar_types.specs.declared.base.expressions.ExprKind.TheVariants as K
-use Rattle.cedar_types.specs.Names.{text_of}
-use Rattle.cedar_types.specs.Tree.{and, or, has_attr, get_attr}
-use Rattle.cedar_types.specs.View.{written}
+use Rattle.cedar_types.specs.Names.{text_of, type_of}
+use Rattle.cedar_types.specs.Tree.{and, or, has_attr, get_attr, unary, binary, like, is_type}
+use Rattle.cedar_types.specs.View.{written, Written, of_type, fields_written}
 use Rattle.cedar_types.specs.Capability.{caps}
-use Rattle.cedar_typing.specs.Infer.{infer_within}
+use Rattle.cedar_types.proofs.Entries.{Entry}
+use Rattle.cedar_types.proofs.Records.{key_cmp}
+use Rattle.cedar_typing.specs.Infer.{infer_within, infer, infer_fields}
 use Rattle.cedar_typing.specs.Infer.Parts.{AnswerAndErrors, expect}
-use Rattle.cedar_typing.specs.TypedExpr.{Source}
-use Rattle.cedar_typing.specs.Views.{env_at, expected_types, answer_of, findings, at}
+use Rattle.cedar_typing.specs.TypedExpr.{Source, place_of}
+use Rattle.cedar_typing.specs.Views.{env_at, expected_types, answer_of, findings, operands_of, at, part_of, form_of_two, keys_in, trees_in}
+use Rattle.cedar_typing.specs.Eager.{Form}
+use Rattle.cedar_typing.specs.Infer.Binary.{infer_binary}
+use Rattle.cedar_typing.specs.Infer.Eager.{expect_operand, infer_form}
+use Rattle.cedar_typing.specs.Rules.Binary.{binary_form}
+use Rattle.cedar_typing.specs.Rules.Collections.{field_keys, record_form}
 use Rattle.cedar_typing.proofs.Agreement.Induction.{below_limit}
+use Rattle.cedar_typing.proofs.Elements.{resumed, all_inferred, next_item, one_element}
 use Rattle.cedar_typing.proofs.TypedViews.{written_as, place_is}
+use Rattle.cedar_typing.proofs.FieldValues.{goes_last, key_is_last, keys_with_last, keys_written, trees_append}
+use Rattle.cedar_typing.proofs.FieldsInOrder.{finish, starts, goes_on, by_keys_typed}
+use Rattle.cedar_typing.proofs.FieldViews.{written_record}
+use Rattle.cedar_typing.proofs.TwoOperands.{is_limit, stops, typed_on, two_stopped, two_typed}
 use Rattle.cedar_typing.proofs.typecheck.single_env.SingleEnvTypechecker.+typing.Goals as goal
 
 pub type_part-returns : goal.type_part-returns
@@ -69,3 +83,200 @@ typecheck-returns-in-GetAttr t c =
     let P : AnswerAndErrors → Type 0 = λ z. IfOk c.type_one_operand-in-GetAttr.result (λ r. z ≡ (answer_of r, findings c.type_one_operand-in-GetAttr.new.errors.items)) in
     let Q : Source → Type 0 = λ e. P (infer_within env e prior d es) in
     subst P (sym (below_limit d es _ c.if-depth-gt-MAX_NESTING.false)) (subst Q (sym tree) c.type_one_operand-in-GetAttr.ensures)
+
+pub typecheck-returns-in-UnaryApp : goal.typecheck-returns-in-UnaryApp
+typecheck-returns-in-UnaryApp t c =
+    let env = env_at c.args.self.now in
+    let prior = caps c.args.prior.now in
+    let d = c.args.depth in
+    let es = findings c.args.errors.now.items in
+    let m = at c.args.e.now.loc in
+    let tree : written c.args.e.now ≡ unary m c.in-UnaryApp.op (written c.deref-in-UnaryApp.result.now) =
+    written_as c.args.e.now (K.UnaryApp c.in-UnaryApp.op c.in-UnaryApp.operand) c.in-UnaryApp.is ∙ (λ i. unary m c.in-UnaryApp.op (written (sym c.deref-in-UnaryApp.ensures i))) in
+    let P : AnswerAndErrors → Type 0 = λ z. IfOk c.type_one_operand.result (λ r. z ≡ (answer_of r, findings c.type_one_operand.new.errors.items)) in
+    let Q : Source → Type 0 = λ e. P (infer_within env e prior d es) in
+    subst P (sym (below_limit d es _ c.if-depth-gt-MAX_NESTING.false)) (subst Q (sym tree) c.type_one_operand.ensures)
+
+pub typecheck-returns-in-Like : goal.typecheck-returns-in-Like
+typecheck-returns-in-Like t c =
+    let env = env_at c.args.self.now in
+    let prior = caps c.args.prior.now in
+    let d = c.args.depth in
+    let es = findings c.args.errors.now.items in
+    let m = at c.args.e.now.loc in
+    let tree : written c.args.e.now ≡ like m (written c.deref-in-Like.result.now) c.in-Like.pattern.items =
+    written_as c.args.e.now (K.Like c.in-Like.operand c.in-Like.pattern) c.in-Like.is ∙ (λ i. like m (written (sym c.deref-in-Like.ensures i)) c.in-Like.pattern.items) in
+    let P : AnswerAndErrors → Type 0 = λ z. IfOk c.type_one_operand-in-Like.result (λ r. z ≡ (answer_of r, findings c.type_one_operand-in-Like.new.errors.items)) in
+    let Q : Source → Type 0 = λ e. P (infer_within env e prior d es) in
+    subst P (sym (below_limit d es _ c.if-depth-gt-MAX_NESTING.false)) (subst Q (sym tree) c.type_one_operand-in-Like.ensures)
+
+pub typecheck-returns-in-Is : goal.typecheck-returns-in-Is
+typecheck-returns-in-Is t c =
+    let env = env_at c.args.self.now in
+    let prior = caps c.args.prior.now in
+    let d = c.args.depth in
+    let es = findings c.args.errors.now.items in
+    let m : Written = record { place = c.args.e.now.loc; names = of_type c.in-Is.named.loc } in
+    let tree : written c.args.e.now ≡ is_type m (written c.deref-in-Is.result.now) (type_of c.in-Is.named) =
+    written_as c.args.e.now (K.Is c.in-Is.operand c.in-Is.named) c.in-Is.is ∙ (λ i. is_type m (written (sym c.deref-in-Is.ensures i)) (type_of c.in-Is.named)) in
+    let P : AnswerAndErrors → Type 0 = λ z. IfOk c.type_one_operand-in-Is.result (λ r. z ≡ (answer_of r, findings c.type_one_operand-in-Is.new.errors.items)) in
+    let Q : Source → Type 0 = λ e. P (infer_within env e prior d es) in
+    subst P (sym (below_limit d es _ c.if-depth-gt-MAX_NESTING.false)) (subst Q (sym tree) c.type_one_operand-in-Is.ensures)
+
+pub typecheck-returns-in-Some : goal.typecheck-returns-in-Some
+typecheck-returns-in-Some t c =
+    let env = env_at c.args.self.now in
+    let prior = caps c.args.prior.now in
+    let d = c.args.depth in
+    let es = findings c.args.errors.now.items in
+    let m = at c.args.e.now.loc in
+    let o = c.in-BinaryApp.op in
+    let a = written c.deref-in-Some.result.now in
+    let b = written c.deref-in-Some-2.result.now in
+    let tree : written c.args.e.now ≡ binary m o a b =
+    written_as c.args.e.now (K.BinaryApp o c.in-BinaryApp.left c.in-BinaryApp.right) c.in-BinaryApp.is ∙ (λ i. binary m o (written (sym c.deref-in-Some.ensures i)) (written (sym c.deref-in-Some-2.ensures i))) in
+    let form : Some (form_of_two env m a b c.in-Some.form) ≡ binary_form env m a b o = sym (ap (option_map (form_of_two env m a b)) c.in-Some.is) ∙ c.of.ensures env m a b in
+    let P : AnswerAndErrors → Type 0 = λ z. IfOk c.type_two_operands.result (λ r. z ≡ (answer_of r, findings c.type_two_operands.new.errors.items)) in
+    let Q : Source → Type 0 = λ e. P (infer_within env e prior d es) in
+    let R : Option Form → Type 0 = λ f. P (infer_binary env f m.place (place_of a) (place_of b) (infer env a prior (d + 1)) (infer env b prior (d + 1)) es) in
+    subst P (sym (below_limit d es _ c.if-depth-gt-MAX_NESTING.false)) (subst Q (sym tree) (subst R form c.type_two_operands.ensures))
+
+pub typecheck-returns-in-None : goal.typecheck-returns-in-None
+typecheck-returns-in-None t c =
+    let env = env_at c.args.self.now in
+    let prior = caps c.args.prior.now in
+    let d = c.args.depth in
+    let es = findings c.args.errors.now.items in
+    let m = at c.args.e.now.loc in
+    let o = c.in-BinaryApp.op in
+    let a = written c.in-BinaryApp.left.value in
+    let b = written c.in-BinaryApp.right.value in
+    let tree : written c.args.e.now ≡ binary m o a b = written_as c.args.e.now (K.BinaryApp o c.in-BinaryApp.left c.in-BinaryApp.right) c.in-BinaryApp.is in
+    let form : None ≡ binary_form env m a b o = sym (ap (option_map (form_of_two env m a b)) c.in-None.is) ∙ c.of.ensures env m a b in
+    let P : AnswerAndErrors → Type 0 = λ z. IfOk c.type_unbuilt.result (λ r. z ≡ (answer_of r, findings c.type_unbuilt.new.errors.items)) in
+    let Q : Source → Type 0 = λ e. P (infer_within env e prior d es) in
+    let R : Option Form → Type 0 = λ f. P (infer_binary env f m.place (place_of a) (place_of b) (infer env a prior (d + 1)) (infer env b prior (d + 1)) es) in
+    subst P (sym (below_limit d es _ c.if-depth-gt-MAX_NESTING.false)) (subst Q (sym tree) (subst R form c.type_unbuilt.ensures))
+
+pub type_two_operands-returns-then-is_none-goes_on : goal.type_two_operands-returns-then-is_none-goes_on
+type_two_operands-returns-then-is_none-goes_on t c =
+    let env = env_at c.args.self.now in
+    let prior = caps c.args.prior.now in
+    let d = c.args.depth in
+    let m = at c.args.loc in
+    let a = written c.args.left.now in
+    let b = written c.args.right.now in
+    let f = form_of_two env m a b c.args.form in
+    let es = findings c.args.errors.now.items in
+    let es' = findings c.operand.new.errors.items in
+    let q = option_map expected_types c.expected_left.result in
+    let left : expect_operand env q (place_of a) (infer env a prior (d + 1) es) ≡ (option_map part_of c.in_ok-one-2.one, es') =
+    (λ i. expect_operand env q (place_is c.args.left.now i) (c.in_ok-one.ensures i)) ∙ c.in_ok-one-2.ensures in
+    two_stopped env f (place_of a) (place_of b) (infer env a prior (d + 1)) (infer env b prior (d + 1)) q _ (c.expected_left.ensures env m a b) refl _ es es'
+    (stops c.is_none.result c.goes_on.result f.goes_on c.in_ok-one-2.one c.is_none.ensures (c.goes_on.ensures env m a b) c.if-is_none-goes_on.true) left
+    ∙ is_limit env m a b c.args.form [] es'
+
+pub type_two_operands-returns : goal.type_two_operands-returns
+type_two_operands-returns t c =
+    let env = env_at c.args.self.now in
+    let prior = caps c.args.prior.now in
+    let d = c.args.depth in
+    let m = at c.args.loc in
+    let a = written c.args.left.now in
+    let b = written c.args.right.now in
+    let f = form_of_two env m a b c.args.form in
+    let es = findings c.args.errors.now.items in
+    let es' = findings c.operand.new.errors.items in
+    let es'' = findings c.operand-2.new.errors.items in
+    let q = option_map expected_types c.expected_left.result in
+    let q' = option_map expected_types c.expected_right.result in
+    let left : expect_operand env q (place_of a) (infer env a prior (d + 1) es) ≡ (option_map part_of c.in_ok-one-2.one, es') =
+    (λ i. expect_operand env q (place_is c.args.left.now i) (c.in_ok-one.ensures i)) ∙ c.in_ok-one-2.ensures in
+    let right : expect_operand env q' (place_of b) (infer env b prior (d + 1) es') ≡ (option_map part_of c.in_ok-other-2.other, es'') =
+    (λ i. expect_operand env q' (place_is c.args.right.now i) (c.in_ok-other.ensures i)) ∙ c.in_ok-other-2.ensures in
+    two_typed env f (place_of a) (place_of b) (infer env a prior (d + 1)) (infer env b prior (d + 1)) q q' (c.expected_left.ensures env m a b) (c.expected_right.ensures env m a b) _ _ es es' es''
+    (typed_on c.is_none.result c.goes_on.result f.goes_on c.in_ok-one-2.one c.is_none.ensures (c.goes_on.ensures env m a b) c.if-is_none-goes_on.false) left right
+    ∙ c.in_ok-answer.ensures
+
+pub type_elements-loop-element-preserved : goal.type_elements-loop-element-preserved
+type_elements-loop-element-preserved t c =
+    let env = env_at c.args.self.now in
+    let prior = caps c.args.prior.now in
+    let d = c.args.depth + 1 in
+    let xs = c.deref-element-items.result.now in
+    let i = c.loop-element.element-index in
+    let x = c.element-item.result in
+    let here : i < length xs = omega arith in
+    let before = operands_of c.loop-element.all in
+    let es = findings c.loop-element.errors.items in
+    one_element env prior d before _ x (drop (i + 1) xs) es _ _ _ c.in_ok-answer.ensures c.any_part.ensures c.in_ok-all.ensures
+    ∙ ap (λ ys. resumed before (all_inferred env prior d ys es)) (sym (next_item xs i x here c.element-item.is))
+    ∙ c.loop-element.invariant
+
+pub typecheck-returns-in-Record : goal.typecheck-returns-in-Record
+typecheck-returns-in-Record t c =
+    let env = env_at c.args.self.now in
+    let prior = caps c.args.prior.now in
+    let d = c.args.depth in
+    let es = findings c.args.errors.now.items in
+    let tree = written_record c.args.e.now c.in-Record.fields c.in-Record.is in
+    let P : AnswerAndErrors → Type 0 = λ z. IfOk c.type_record.result (λ r. z ≡ (answer_of r, findings c.type_record.new.errors.items)) in
+    let Q : Source → Type 0 = λ e. P (infer_within env e prior d es) in
+    subst P (sym (below_limit d es _ c.if-depth-gt-MAX_NESTING.false)) (subst Q (sym tree) c.type_record.ensures)
+
+pub type_record-returns : goal.type_record-returns
+type_record-returns t c =
+    let m = at c.args.loc in
+    let ks = field_keys (fields_written c.args.fields.now.entries) in
+    let values = c.in_ok-values.values in
+    let es = findings c.type_fields.new.errors.items in
+    ap (λ o. infer_form (record_form m ks) o.0 o.1) c.in_ok-values.ensures.typed
+    ∙ by_keys_typed m ks values es c.in_ok-values.ensures.keys
+    ∙ c.in_ok-answer.ensures es
+
+pub type_fields-loop-key-preserved : goal.type_fields-loop-key-preserved
+type_fields-loop-key-preserved t c =
+    let l = c.loop-key in
+    let env = env_at c.args.self.now in
+    let prior = caps c.args.prior.now in
+    let d = c.args.depth + 1 in
+    let done = l.invariant.0 in
+    let e : Entry = (c.in-Some.key.now, c.in-Some.value.now) in
+    let left = c.next.new.self in
+    let key = c.in_ok-clone.field-0 in
+    let all : c.args.fields.now.entries ≡ done ++ e ∷ left = l.invariant.1 ∙ ap (λ es. done ++ es) c.in-Some.ensures.steps in
+    let named : text_of key ≡ text_of e.0 = c.in_ok-clone.ensures.cases in
+    let above = key_is_last l.typed.entries done e left key l.invariant.2 named (subst (λ es. IsStrictlySortedBy key_cmp (keys_of es)) all c.iter-key-items.ensures.ordered) in
+    let p = c.in-Some-any_part.part in
+    let es = findings l.errors.items in
+    let es' = findings c.typecheck.new.errors.items in
+    let entries = c.in_ok-insert.ensures.entries ∙ goes_last l.typed.entries key _ above in (
+      done ++ e ∷ [],
+      all ∙ sym (append_assoc done (e ∷ []) left),
+      ap keys_in entries ∙ keys_with_last l.typed.entries done e key _ l.invariant.2 named,
+      ap (λ zs. finish (p.succeeded && l.succeeded) zs (infer_fields env (fields_written left) prior d es')) (ap trees_in entries ∙ trees_append l.typed.entries ((key, p.typed) ∷ []))
+          ∙ sym (goes_on env prior d (text_of e.0) (written e.1) (fields_written left) l.succeeded (trees_in l.typed.entries) es es' _ (part_of p) c.in_ok-answer.ensures (sym c.any_part.ensures ∙ ap (option_map part_of) c.in-Some-any_part.is))
+          ∙ ap (λ rest. finish l.succeeded (trees_in l.typed.entries) (infer_fields env (fields_written rest) prior d es)) (sym c.in-Some.ensures.steps)
+          ∙ l.invariant.3,
+    )
+
+pub type_fields-loop-key-init : goal.type_fields-loop-key-init
+type_fields-loop-key-init t c =
+    let env = env_at c.args.self.now in
+    let prior = caps c.args.prior.now in
+    let d = c.args.depth + 1 in
+    let es = findings c.args.errors.now.items in
+    let given = c.into_iter-key-iterator.ensures.into_iter_gives ∙ c.iter-key-items.ensures.rest in (
+      [],
+      sym given,
+      ap keys_in c.new-typed.ensures.empty,
+      ap (λ typed. finish true (trees_in typed) (infer_fields env (fields_written c.into_iter-key-iterator.result) prior d es)) c.new-typed.ensures.empty
+          ∙ starts _
+          ∙ ap (λ fields. infer_fields env (fields_written fields) prior d es) given,
+    )
+
+pub type_fields-returns-clause-keys : goal.type_fields-returns-clause-keys
+type_fields-returns-clause-keys t c not_cut =
+    let l = c.loop-key in
+    let all : c.args.fields.now.entries ≡ l.invariant.0 = l.invariant.1 ∙ ap (λ es. l.invariant.0 ++ es) c.in-None.ensures.steps.0 ∙ append-nil l.invariant.0 in
+    l.invariant.2 ∙ ap keys_in (sym all) ∙ sym (keys_written c.args.fields.now.entries)

@@ -6,7 +6,7 @@ use Rattle.cedar_typing.specs.Eager.{gives, refuses}
 use Rattle.cedar_typing.specs.Infer.Eager.{infer_decided}
 use Rattle.cedar_typing.specs.Infer.Parts.{failure, answer_if}
 use Rattle.cedar_typing.specs.TypedExpr.{annotation, typed_tree}
-use Rattle.cedar_typing.specs.Views.{env_at, answer_of, findings, at, decision_of, form_of_one}
+use Rattle.cedar_typing.specs.Views.{env_at, answer_of, findings, decision_of, form_of_one, mark_of_one}
 use Rattle.cedar_typing.proofs.TypedViews.{annotation_is}
 use Rattle.cedar_typing.proofs.typecheck.single_env.SingleEnvTypechecker.one_answer.Goals as goal
 
@@ -15,7 +15,7 @@ returns-in-Gives c =
     let env = env_at c.args.self.now in
     let prior = caps c.args.prior.now in
     let e = written c.args.operand.now in
-    let f = form_of_one env (at c.args.loc) prior e c.args.form in
+    let f = form_of_one env (mark_of_one c.args.loc c.args.form) prior e c.args.form in
     let x = typed_tree c.args.part.typed in
     let es = findings c.args.errors.now.items in
     let d : f.decides (annotation x ∷ []) ≡ gives (ty_of c.in-Gives.ty) (caps c.in-Gives.capabilities) =
@@ -29,7 +29,7 @@ returns c =
     let env = env_at c.args.self.now in
     let prior = caps c.args.prior.now in
     let e = written c.args.operand.now in
-    let f = form_of_one env (at c.args.loc) prior e c.args.form in
+    let f = form_of_one env (mark_of_one c.args.loc c.args.form) prior e c.args.form in
     let x = typed_tree c.args.part.typed in
     let es = findings c.args.errors.now.items in
     let d : f.decides (annotation x ∷ []) ≡ refuses (option_map ty_of c.in-Refuses.ty) (findings c.in-Refuses.found.items) =

@@ -1,0 +1,214 @@
+// What a check is to come to, and whether it did.
+use crate::fixtures::declarations::entity;
+use cedar_types::base::{
+    AttributeType, Attributes, CedarType, Loc, LubContext, OpenTag, PolicyID, ValidationError,
+    types_in_order,
+};
+use cedar_typing::typecheck::PolicyCheck;
+use std::alloc::{AllocError, Global};
+use std::rc::RcStr;
+
+/// What a check comes to.
+#[derive(Clone, Copy)]
+pub enum Expected {
+    Success,
+    /// Without an error.
+    Irrelevant,
+    /// With these errors, each as often as it stands here, in any order.
+    Fail(&'static [WantedError]),
+}
+
+/// An error of the policy, at a place in its condition.
+#[derive(Clone, Copy)]
+pub enum WantedError {
+    /// An optional attribute of a user is read without a test that it is there.
+    UnguardedAccess {
+        at: Loc,
+        attr: &'static str,
+    },
+    /// Two types, in ascending order, have no bound.
+    IncompatibleTypes {
+        at: Loc,
+        types: [WantedType; 2],
+        context: LubContext,
+    },
+    /// A set has no elements.
+    EmptySet {
+        at: Loc,
+    },
+    /// One type alone is accepted, and it is another.
+    UnexpectedType {
+        at: Loc,
+        expected: WantedType,
+        actual: WantedType,
+    },
+}
+
+/// A type that an error names.
+#[derive(Clone, Copy)]
+pub enum WantedType {
+    Long,
+    String,
+    User,
+    /// A closed record with an attribute `a`, a Long.
+    RecordOfA,
+    /// The same with an attribute `b`, a Long too.
+    RecordOfAAndB,
+}
+
+/// The id of the policy of each check.
+pub fn policy_id(alloc: Global) -> Result<PolicyID, AllocError> {
+    PolicyID::from_string(alloc, "policy0")
+}
+
+impl Expected {
+    /// Whether the check came to this, the text of each error included.
+    pub fn is_met_by(&self, alloc: Global, check: PolicyCheck) -> Result<bool, AllocError> {
+        match self {
+            Expected::Success => Ok(matches!(&check, PolicyCheck::Success(_))),
+            Expected::Irrelevant => match &check {
+                PolicyCheck::Irrelevant(errors, _) => Ok(errors.is_empty()),
+                _ => Ok(false),
+            },
+            Expected::Fail(wanted) => match check {
+                PolicyCheck::Fail(errors) => are_wanted(alloc, errors, wanted),
+                _ => Ok(false),
+            },
+        }
+    }
+}
+
+/// Whether the errors are those that are wanted, each as often, in any order.
+fn are_wanted(
+    alloc: Global,
+    errors: Vec<ValidationError>,
+    wanted: &[WantedError],
+) -> Result<bool, AllocError> {
+    let mut left = errors;
+    for error in wanted {
+        let (others, is_there) = without_one(alloc, left, error)?;
+        if !is_there {
+            return Ok(false);
+        }
+        left = others;
+    }
+    Ok(left.is_empty())
+}
+
+/// The errors other than the first that is wanted, and whether there is such an error.
+fn without_one(
+    alloc: Global,
+    errors: Vec<ValidationError>,
+    wanted: &WantedError,
+) -> Result<(Vec<ValidationError>, bool), AllocError> {
+    let wanted_error = wanted.error(alloc)?;
+    let wanted_text = wanted.text(alloc)?;
+    let mut others = Vec::new(alloc);
+    let mut is_there = false;
+    for error in errors {
+        let text = error.to_string(alloc)?;
+        if !is_there && error == wanted_error && text == wanted_text {
+            is_there = true;
+        } else {
+            others.push(error)?;
+        }
+    }
+    Ok((others, is_there))
+}
+
+impl WantedError {
+    /// The error, with all of its fields.
+    fn error(&self, alloc: Global) -> Result<ValidationError, AllocError> {
+        let policy = policy_id(alloc)?;
+        match self {
+            WantedError::UnguardedAccess { at, attr } => {
+                let user = entity(alloc, "User")?;
+                let attr = RcStr::from_str(alloc, attr)?;
+                let at = Some(*at);
+                Ok(ValidationError::unsafe_optional_attribute_access(at, policy, user, attr))
+            }
+            WantedError::IncompatibleTypes { at, types, context } => {
+                let [first, second] = types;
+                let types = vec![in alloc; first.cedar_type(alloc)?, second.cedar_type(alloc)?]?;
+                let types = types_in_order(alloc, types)?;
+                Ok(ValidationError::incompatible_types(Some(*at), policy, types, *context))
+            }
+            WantedError::EmptySet { at } => {
+                Ok(ValidationError::empty_set_forbidden(Some(*at), policy))
+            }
+            WantedError::UnexpectedType {
+                at,
+                expected,
+                actual,
+            } => {
+                let types = vec![in alloc; expected.cedar_type(alloc)?]?;
+                let expected = types_in_order(alloc, types)?;
+                let actual = actual.cedar_type(alloc)?;
+                Ok(ValidationError::expected_one_of_types(Some(*at), policy, expected, actual))
+            }
+        }
+    }
+
+    /// What the error says.
+    fn text(&self, alloc: Global) -> Result<String, AllocError> {
+        let fault = match self {
+            WantedError::UnguardedAccess { at: _at, attr } => {
+                format!(in alloc; "access to optional attribute `{attr}` on `User` is not guarded")
+            }
+            WantedError::IncompatibleTypes {
+                at: _at,
+                types,
+                context: _context,
+            } => {
+                let [first, second] = types;
+                let (first, second) = (first.text(), second.text());
+                format!(in alloc; "the types `{first}`, `{second}` are not compatible")
+            }
+            WantedError::EmptySet { at: _at } => {
+                String::from_str(alloc, "empty set literals are forbidden")
+            }
+            WantedError::UnexpectedType {
+                at: _at,
+                expected,
+                actual,
+            } => {
+                let (expected, actual) = (expected.text(), actual.text());
+                format!(in alloc; "unexpected type: expected `{expected}` but saw `{actual}`")
+            }
+        }?;
+        format!(in alloc; "for policy `policy0`, {fault}")
+    }
+}
+
+impl WantedType {
+    fn text(self) -> &'static str {
+        match self {
+            WantedType::Long => "Long",
+            WantedType::String => "String",
+            WantedType::User => "User",
+            WantedType::RecordOfA => "{a: Long}",
+            WantedType::RecordOfAAndB => "{a: Long, b: Long}",
+        }
+    }
+
+    fn cedar_type(self, alloc: Global) -> Result<CedarType, AllocError> {
+        match self {
+            WantedType::Long => Ok(CedarType::primitive_long()),
+            WantedType::String => Ok(CedarType::primitive_string()),
+            WantedType::User => entity(alloc, "User"),
+            WantedType::RecordOfA => record_of_longs(alloc, &["a"]),
+            WantedType::RecordOfAAndB => record_of_longs(alloc, &["a", "b"]),
+        }
+    }
+}
+
+/// The closed record of attributes with these names, each a Long.
+fn record_of_longs(alloc: Global, names: &[&str]) -> Result<CedarType, AllocError> {
+    let mut listed = Vec::new(alloc);
+    for name in names {
+        let long = AttributeType::required_attribute(CedarType::primitive_long());
+        listed.push((*name, long))?;
+    }
+    let attributes = Attributes::from_list(alloc, listed)?;
+    Ok(CedarType::record_with_attributes(attributes, OpenTag::ClosedAttributes))
+}

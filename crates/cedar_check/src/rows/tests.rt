@@ -1,0 +1,125 @@
+// Whether a check that came to this is taken for what is expected of it.
+use crate::fixtures::conditions::Form;
+use crate::fixtures::equality::EqualityForm;
+use crate::fixtures::guards::GuardForm;
+use crate::fixtures::operators::OperatorForm;
+use crate::fixtures::schemas::photos_with_options;
+use crate::rows::checks::{Case, compared};
+use crate::rows::expected::{Expected, WantedError, WantedType};
+use cedar_types::base::{ExtensionSchemas, Loc, SchemaError};
+use std::alloc::Global;
+use std::process::Abort;
+use std::test::Fail;
+
+/// The mark is not guarded where it is read.
+const MARK: WantedError = WantedError::UnguardedAccess {
+    at: Loc { start: 0, end: 13 },
+    attr: "vip",
+};
+
+/// The same at another place.
+const MARK_ELSEWHERE: WantedError = WantedError::UnguardedAccess {
+    at: Loc { start: 0, end: 12 },
+    attr: "vip",
+};
+
+/// The same of another attribute.
+const NICKNAME: WantedError = WantedError::UnguardedAccess {
+    at: Loc { start: 0, end: 13 },
+    attr: "nick",
+};
+
+/// The left side is a string.
+const LEFT: WantedError = WantedError::UnexpectedType {
+    at: Loc { start: 0, end: 3 },
+    expected: WantedType::Long,
+    actual: WantedType::String,
+};
+
+/// The right side is a string.
+const RIGHT: WantedError = WantedError::UnexpectedType {
+    at: Loc { start: 6, end: 9 },
+    expected: WantedType::Long,
+    actual: WantedType::String,
+};
+
+/// The right side is a user.
+const RIGHT_USER: WantedError = WantedError::UnexpectedType {
+    at: Loc { start: 6, end: 9 },
+    expected: WantedType::Long,
+    actual: WantedType::User,
+};
+
+/// Whether `1 == "a"` comes to this.
+const DIFFERENT_LITERALS: [(Expected, bool); 3] = [
+    (Expected::Irrelevant, true),
+    (Expected::Success, false),
+    (Expected::Fail(&[]), false),
+];
+
+/// Whether `principal.vip` comes to this.
+const MARK_IS_READ: [(Expected, bool); 6] = [
+    (Expected::Fail(&[MARK]), true),
+    (Expected::Fail(&[MARK_ELSEWHERE]), false),
+    (Expected::Fail(&[NICKNAME]), false),
+    (Expected::Fail(&[]), false),
+    (Expected::Irrelevant, false),
+    (Expected::Success, false),
+];
+
+/// Whether `"a" < "b"` comes to this.
+const STRINGS_ARE_COMPARED: [(Expected, bool); 6] = [
+    (Expected::Fail(&[LEFT, RIGHT]), true),
+    (Expected::Fail(&[RIGHT, LEFT]), true),
+    (Expected::Fail(&[LEFT, LEFT]), false),
+    (Expected::Fail(&[LEFT]), false),
+    (Expected::Fail(&[LEFT, RIGHT, RIGHT]), false),
+    (Expected::Fail(&[LEFT, RIGHT_USER]), false),
+];
+
+/// Whether this condition's check is taken for what is expected.
+fn is_expected<F: Form + Copy>(
+    alloc: Global,
+    text: &'static str,
+    form: F,
+    expected: Expected,
+) -> Result<bool, SchemaError> {
+    let schema = photos_with_options(alloc)?;
+    let extensions = ExtensionSchemas::default(alloc);
+    let case = Case {
+        text,
+        form,
+        expected,
+    };
+    Ok(compared(alloc, &schema, &extensions, &[case])?.is_expected)
+}
+
+#[test]
+fn an_outcome_is_no_other(rt: HostRuntime) -> Result<(), Fail> {
+    let text = "1 == \"a\"";
+    for (expected, is_met) in DIFFERENT_LITERALS {
+        let form = EqualityForm::NumberWithString;
+        assert_eq!(rt; is_expected(rt.alloc(), text, form, expected)?, is_met);
+    }
+    Ok(())
+}
+
+#[test]
+fn an_error_has_its_place_and_fields(rt: HostRuntime) -> Result<(), Fail> {
+    let text = "principal.vip";
+    for (expected, is_met) in MARK_IS_READ {
+        let form = GuardForm::Read;
+        assert_eq!(rt; is_expected(rt.alloc(), text, form, expected)?, is_met);
+    }
+    Ok(())
+}
+
+#[test]
+fn errors_come_in_any_order_each_as_often(rt: HostRuntime) -> Result<(), Fail> {
+    let text = "\"a\" < \"b\"";
+    for (expected, is_met) in STRINGS_ARE_COMPARED {
+        let form = OperatorForm::StringLessThanString;
+        assert_eq!(rt; is_expected(rt.alloc(), text, form, expected)?, is_met);
+    }
+    Ok(())
+}

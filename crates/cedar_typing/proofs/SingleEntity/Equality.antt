@@ -1,0 +1,68 @@
+-- In Strict each type that `==`, `contains`, `containsAll` or `containsAny` has names one entity type at most, as it is a Bool.
+use Rattle.std.proofs.Common.{◌≡◌, Bool, true, false, List, [], ◌∷◌, Option, Some, None, if◌then◌else◌, refl, sym, subst}
+use Rattle.cedar_types.specs.declared.base.location.Loc.{Loc}
+use Rattle.cedar_types.specs.declared.base.operators.BinaryOp.{BinaryOp}
+use Rattle.cedar_types.specs.declared.base.errors.type_errors.LubContext.TheVariants.{Equality, Contains, ContainsAnyAll}
+use Rattle.cedar_types.specs.declared.base.types.BoolType.TheVariants.{AnyBool, False}
+use Rattle.cedar_types.specs.Types.{Ty, TBool}
+use Rattle.cedar_types.specs.Tree.{Lit}
+use Rattle.cedar_types.specs.TreeEq.{lit_eq}
+use Rattle.cedar_types.specs.View.{Written}
+use Rattle.cedar_types.specs.Errors.{Finding}
+use Rattle.cedar_typing.specs.Capabilities.{no_caps}
+use Rattle.cedar_typing.specs.Eager.{gives, gives_unless, first_type, second_type}
+use Rattle.cedar_typing.specs.Joins.{strict_errors}
+use Rattle.cedar_typing.specs.Rules.Equality.{literal_of, compared_literals, are_apart, equality_type, equality_decides, equality_form, member_type, contains_form, contains_several_form}
+use Rattle.cedar_typing.specs.Rules.Leaves.{bool_ty}
+use Rattle.cedar_typing.specs.TypeEnv.{TypeEnv}
+use Rattle.cedar_typing.specs.TypeTests.{is_any_bool}
+use Rattle.cedar_typing.specs.TypedExpr.{Source}
+use Rattle.cedar_typing.proofs.SingleEntity.Eager.{decided_type, SingleForm}
+use Rattle.cedar_typing.proofs.SingleEntity.Types.{has_single_entities, HasSingleEntities}
+
+-- ---- the type stays, whether or not there are errors
+
+pub given_type : (fs : List Finding) (u : Ty) → decided_type (gives_unless fs u) ≡ Some u
+given_type [] u = refl
+given_type (f ∷ fs) u = refl
+
+given_if : (any_bool : Bool) (fs : List Finding) (u : Ty) → decided_type (if any_bool then gives_unless fs u else gives u no_caps) ≡ Some u
+given_if true fs u = given_type fs u
+given_if false fs u = refl
+
+pub equality_given : (env : TypeEnv) (l : Option Loc) (u : Ty) (s t : Option Ty) → decided_type (equality_decides env l u s t) ≡ Some u
+equality_given env l u s t = given_if (is_any_bool u) (strict_errors env l Equality s t) u
+
+-- ---- `==`
+
+bool_single : (b : Bool) → has_single_entities (bool_ty b) ≡ true
+bool_single true = refl
+bool_single false = refl
+
+compared_single : (x y : Option Lit) → has_single_entities (compared_literals x y) ≡ true
+compared_single None y = refl
+compared_single (Some x) None = refl
+compared_single (Some x) (Some y) = bool_single (lit_eq x y)
+
+apart_single : (apart : Bool) (x y : Option Lit) → has_single_entities (if apart then TBool False else compared_literals x y) ≡ true
+apart_single true x y = refl
+apart_single false x y = compared_single x y
+
+pub equality_single : (env : TypeEnv) (m : Written) (a b : Source) → SingleForm (equality_form env m a b)
+equality_single env m a b ts h =
+    let x = literal_of env.request_env a in
+    let y = literal_of env.request_env b in
+    let s = first_type ts in
+    let t = second_type ts in
+    subst HasSingleEntities (sym (equality_given env m.place (equality_type x y s t) s t)) (apart_single (are_apart s t) x y)
+
+-- ---- sets and their members
+
+given_single : (fs : List Finding) → HasSingleEntities (decided_type (gives_unless fs (TBool AnyBool)))
+given_single fs = subst HasSingleEntities (sym (given_type fs (TBool AnyBool))) refl
+
+pub contains_single : (env : TypeEnv) (m : Written) → SingleForm (contains_form env m)
+contains_single env m ts h = given_single (strict_errors env m.place Contains (member_type (first_type ts)) (second_type ts))
+
+pub contains_several_single : (env : TypeEnv) (m : Written) (o : BinaryOp) → SingleForm (contains_several_form env m o)
+contains_several_single env m o ts h = given_single (strict_errors env m.place ContainsAnyAll (first_type ts) (second_type ts))

@@ -1,0 +1,92 @@
+-- In Strict the types of operators, of `like` and of `is` name no entity type.
+use Rattle.std.proofs.Common.{◌≡◌, Bool, true, false, ◌&&◌, not, List, [], ◌∷◌, Option, Some, None, if◌then◌else◌, refl, sym, subst}
+use Rattle.std.specs.Prelude.{is_some}
+use Rattle.cedar_types.specs.declared.base.location.Loc.{Loc}
+use Rattle.cedar_types.specs.declared.base.operators.BinaryOp.{BinaryOp}
+use Rattle.cedar_types.specs.declared.base.operators.UnaryOp.{UnaryOp}
+use Rattle.cedar_types.specs.declared.base.patterns.PatternElem.{PatternElem}
+use Rattle.cedar_types.specs.declared.base.types.BoolType.TheVariants.{AnyBool, True, False}
+use Rattle.cedar_types.specs.Names.{Path}
+use Rattle.cedar_types.specs.Types.{Ty, TNever, TBool, TEntity, sole}
+use Rattle.cedar_types.specs.View.{Written}
+use Rattle.cedar_types.specs.Schemas.{is_among}
+use Rattle.cedar_types.specs.Bounds.{ty_eq, is_never}
+use Rattle.cedar_types.specs.Errors.{Finding}
+use Rattle.cedar_typing.specs.Eager.{Decision, gives_unless}
+use Rattle.cedar_typing.specs.Rules.Binary.{binary_form}
+use Rattle.cedar_typing.specs.Rules.Numbers.{is_comparable, beside_never, compares, comparison_form}
+use Rattle.cedar_typing.specs.Rules.Unary.{unary_form, like_form, is_type_of, is_decides, is_form}
+use Rattle.cedar_typing.specs.TypeEnv.{TypeEnv}
+use Rattle.cedar_typing.specs.TypedExpr.{Source}
+use Rattle.cedar_typing.specs.TypeTests.{is_true, is_false}
+use Rattle.cedar_typing.proofs.Agreement.Operators.{OnForm}
+use Rattle.cedar_typing.proofs.SingleEntity.Eager.{decided_type, SingleForm}
+use Rattle.cedar_typing.proofs.SingleEntity.Equality.{equality_single, contains_single, contains_several_single}
+use Rattle.cedar_typing.proofs.SingleEntity.Rules.{pick}
+use Rattle.cedar_typing.proofs.SingleEntity.Types.{has_single_entities, HasSingleEntities}
+
+-- ---- one operand
+
+pub unary_single : (m : Written) (o : UnaryOp) → SingleForm (unary_form m o)
+unary_single m UnaryOp.Not [] h = refl
+unary_single m UnaryOp.Not (None ∷ ts) h = refl
+unary_single m UnaryOp.Not (Some s ∷ ts) h = pick (is_true s) _ _ refl (pick (is_false s) (TBool True) _ refl refl)
+unary_single m UnaryOp.Neg ts h = refl
+unary_single m UnaryOp.IsEmpty ts h = refl
+
+pub like_single : (m : Written) (p : List PatternElem) → SingleForm (like_form m p)
+like_single m p ts h = refl
+
+is_type_single : (n : Path) (ps : List Path) → has_single_entities (is_type_of n ps) ≡ true
+is_type_single n ps = pick (not (is_among ps n)) (TBool False) _ refl (pick (is_some (sole ps)) (TBool True) _ refl refl)
+
+is_decided : (n : Path) (s : Ty) → HasSingleEntities (decided_type (is_decides n (Some s)))
+is_decided n (TEntity ps) = is_type_single n ps
+is_decided n TNever = refl
+is_decided n s = refl
+
+pub is_single : (m : Written) (n : Path) → SingleForm (is_form m n)
+is_single m n [] h = refl
+is_single m n (None ∷ ts) h = refl
+is_single m n (Some s ∷ ts) h = is_decided n s
+
+-- ---- `<` and `<=`: Bool stays, whatever is decided
+
+unless_is : (es : List Finding) → decided_type (gives_unless es (TBool AnyBool)) ≡ Some (TBool AnyBool)
+unless_is [] = refl
+unless_is (e ∷ es) = refl
+
+if_is : (b : Bool) (d d' : Decision) → decided_type d ≡ Some (TBool AnyBool) → decided_type d' ≡ Some (TBool AnyBool) → decided_type (if b then d else d') ≡ Some (TBool AnyBool)
+if_is true d d' h k = h
+if_is false d d' h k = k
+
+module _ (env : TypeEnv) (l l' : Option Loc) where
+  pub compares_is : (s t : Ty) → decided_type (compares env l l' s t) ≡ Some (TBool AnyBool)
+  compares_is s t =
+      if_is (is_never s && is_never t) _ _ refl
+      (if_is (is_never s) _ _ (unless_is (beside_never env l' t))
+      (if_is (is_never t) _ _ (unless_is (beside_never env l s))
+      (if_is (is_comparable s && ty_eq s t) _ _ refl refl)))
+
+  comparison_single : (m : Written) (o : BinaryOp) → SingleForm (comparison_form env m l l' o)
+  comparison_single m o [] h = refl
+  comparison_single m o (None ∷ ts) h = refl
+  comparison_single m o (Some s ∷ []) h = refl
+  comparison_single m o (Some s ∷ None ∷ ts) h = refl
+  comparison_single m o (Some s ∷ Some t ∷ ts) h = subst HasSingleEntities (sym (compares_is s t)) refl
+
+-- ---- two operands
+
+pub binary_single : (env : TypeEnv) (m : Written) (a b : Source) (o : BinaryOp) → OnForm SingleForm (binary_form env m a b o)
+binary_single env m a b BinaryOp.Eq = equality_single env m a b
+binary_single env m a b BinaryOp.Less = comparison_single env _ _ m BinaryOp.Less
+binary_single env m a b BinaryOp.LessEq = comparison_single env _ _ m BinaryOp.LessEq
+binary_single env m a b BinaryOp.Add = λ ts h. refl
+binary_single env m a b BinaryOp.Sub = λ ts h. refl
+binary_single env m a b BinaryOp.Mul = λ ts h. refl
+binary_single env m a b BinaryOp.In = tt
+binary_single env m a b BinaryOp.Contains = contains_single env m
+binary_single env m a b BinaryOp.ContainsAll = contains_several_single env m BinaryOp.ContainsAll
+binary_single env m a b BinaryOp.ContainsAny = contains_several_single env m BinaryOp.ContainsAny
+binary_single env m a b BinaryOp.GetTag = tt
+binary_single env m a b BinaryOp.HasTag = tt

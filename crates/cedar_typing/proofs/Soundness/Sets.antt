@@ -1,0 +1,207 @@
+-- Sets do not go wrong.
+use Rattle.std.proofs.Common.{◌≡◌, Bool, true, false, List, [], ◌∷◌, Option, Some, None, if◌then◌else◌, refl, ap, subst}
+use Rattle.cedar_types.specs.declared.base.types.ValidationMode.{ValidationMode}
+use Rattle.cedar_types.specs.declared.base.types.ValidationMode.TheVariants.{Strict}
+use Rattle.cedar_types.specs.Types.{Ty, TSet}
+use Rattle.cedar_types.specs.Tree.{set_of, Trees, no_trees, tree}
+use Rattle.cedar_types.specs.View.{Written}
+use Rattle.cedar_types.specs.Bounds.{is_strict, lub, go_on, fold_lub, list_lub}
+use Rattle.cedar_types.specs.Errors.{empty_set_forbidden}
+use Rattle.cedar_types.specs.Values.{Value, VSet, no_values, AllValues, HasType}
+use Rattle.cedar_typing.specs.Eager.{Decision, refuses}
+use Rattle.cedar_typing.specs.Evaluation.Eval.{eval, eval_all}
+use Rattle.cedar_typing.specs.Evaluation.Outcomes.{Outcomes, GiveAll, FailAt, more_outcomes, on_values}
+use Rattle.cedar_typing.specs.Evaluation.World.{World, Outcome, Gives, Fails}
+use Rattle.cedar_typing.specs.Rules.Collections.{with_type, all_types, set_by_bound, set_of_types, set_decides, set_form}
+use Rattle.cedar_typing.specs.Rules.Eager.{Judgments, eager_rules}
+use Rattle.cedar_typing.specs.Soundness.{HasFound, IsAllowed, IsSafe}
+use Rattle.cedar_typing.specs.TypeEnv.{TypeEnv, finding}
+use Rattle.cedar_typing.proofs.Basics.{some_is}
+use Rattle.cedar_typing.proofs.Bounds.Strict.{lub_right_strict}
+use Rattle.cedar_typing.proofs.Bounds.Values.{lub_left}
+use Rattle.cedar_typing.proofs.SingleEntity.Eager.{decided_type}
+use Rattle.cedar_typing.proofs.Soundness.Capabilities.{hold_none}
+use Rattle.cedar_typing.proofs.Soundness.Eager.{AllHave, AllSafe, GiftIsSound, SoundForm, SoundsAll, form_sounds}
+use Rattle.cedar_typing.proofs.Soundness.Parts.{Sounds}
+
+-- ---- the types that were found
+
+-- the value of each, if there is one, has the type at its place
+abbrev pub AllTyped : List Ty → List Outcome → Type 0
+AllTyped [] [] = Unit {0}
+AllTyped [] (o ∷ os) = ⊥
+AllTyped (t ∷ ts) [] = ⊥
+AllTyped (t ∷ ts) (o ∷ os) = HasFound (Some t) o × AllTyped ts os
+
+next_typed : (t : Option Ty) (found : Option (List Ty)) (us : List Ty) (o : Outcome) (os : List Outcome) → HasFound t o
+    → ((vs : List Ty) → found ≡ Some vs → AllTyped vs os) → with_type t found ≡ Some us → AllTyped us (o ∷ os)
+next_typed None None us o os h f e = cc
+next_typed None (Some vs) us o os h f e = cc
+next_typed (Some t) None us o os h f e = cc
+next_typed (Some t) (Some vs) us o os h f e = subst (λ y. AllTyped y (o ∷ os)) (some_is e) (h, f vs refl)
+
+pub found_typed : (ts : List (Option Ty)) (us : List Ty) (os : List Outcome) → AllHave ts os → all_types ts ≡ Some us → AllTyped us os
+found_typed [] us [] h e = subst (λ y. AllTyped y []) (some_is e) tt
+found_typed [] us (o ∷ os) h e = absurd h
+found_typed (t ∷ ts) us [] h e = absurd h
+found_typed (t ∷ ts) us (o ∷ os) h e = next_typed t (all_types ts) us o os h.0 (λ vs. found_typed ts vs os h.1) e
+
+-- ---- bounds of several types
+
+-- all have one type
+abbrev AllOf : Ty → List Outcome → Type 0
+AllOf u [] = Unit {0}
+AllOf u (o ∷ os) = HasFound (Some u) o × AllOf u os
+
+-- a bound that was gone on with
+went_on : (bound : Option Ty) (u : Ty) (P : Type 0) (next : Ty → Option Ty) → ((z : Ty) → bound ≡ Some z → next z ≡ Some u → P)
+    → go_on bound next ≡ Some u → P
+went_on None u P next f e = cc
+went_on (Some z) u P next f e = f z refl e
+
+module _ (m : ValidationMode) (strict : is_strict m ≡ true) where
+  -- a value of the first type has the bound
+  value_first : (t u : Ty) (ts : List Ty) → fold_lub m t ts ≡ Some u → (v : Value) → HasType t v → HasType u v
+  value_first t u [] e v h = subst (λ z. HasType z v) (some_is e) h
+  value_first t u (s ∷ ts) e v h =
+      went_on (lub m t s) u (HasType u v) (λ z. fold_lub m z ts) (λ z f k. value_first z u ts k v (lub_left m t s z f v h)) e
+
+  first_has : (t u : Ty) (ts : List Ty) → fold_lub m t ts ≡ Some u → (o : Outcome) → HasFound (Some t) o → HasFound (Some u) o
+  first_has t u ts e (Gives v) h = value_first t u ts e v h
+  first_has t u ts e (Fails f) h = tt
+
+  -- and so has a value of the next one
+  next_has : (t s z u : Ty) (ts : List Ty) → lub m t s ≡ Some z → fold_lub m z ts ≡ Some u
+      → (o : Outcome) → HasFound (Some s) o → HasFound (Some u) o
+  next_has t s z u ts f e (Gives v) h = value_first z u ts e v (lub_right_strict m t s z strict f v h)
+  next_has t s z u ts f e (Fails g) h = tt
+
+  others_have : (t u : Ty) (ts : List Ty) → fold_lub m t ts ≡ Some u → (os : List Outcome) → AllTyped ts os → AllOf u os
+  others_have t u [] e [] h = tt
+  others_have t u [] e (o ∷ os) h = absurd h
+  others_have t u (s ∷ ts) e [] h = absurd h
+  others_have t u (s ∷ ts) e (o ∷ os) h =
+      went_on (lub m t s) u (AllOf u (o ∷ os)) (λ z. fold_lub m z ts)
+      (λ z f k. (next_has t s z u ts f k o h.0, others_have z u ts k os h.1)) e
+
+  all_have : (u : Ty) (ts : List Ty) → list_lub m ts ≡ Some u → (os : List Outcome) → AllTyped ts os → AllOf u os
+  all_have u [] e [] h = tt
+  all_have u [] e (o ∷ os) h = absurd h
+  all_have u (t ∷ ts) e [] h = absurd h
+  all_have u (t ∷ ts) e (o ∷ os) h = (first_has t u ts e o h.0, others_have t u ts e os h.1)
+
+-- ---- what the elements come to
+
+abbrev pub outcomes : World → Trees Written → List Outcome
+outcomes world no_trees = []
+outcomes world (tree t ts) = eval world t ∷ outcomes world ts
+
+-- together: all their values, or the first failure
+abbrev pub together : List Outcome → Outcomes
+together [] = GiveAll no_values
+together (o ∷ os) = more_outcomes o (together os)
+
+pub evaluated_together : (world : World) (ts : Trees Written) → together (outcomes world ts) ≡ eval_all world ts
+evaluated_together world no_trees = refl
+evaluated_together world (tree t ts) = ap (more_outcomes (eval world t)) (evaluated_together world ts)
+
+-- only an allowed failure
+abbrev pub AreSafe : Outcomes → Type 0
+AreSafe (GiveAll vs) = Unit {0}
+AreSafe (FailAt f) = IsAllowed f
+
+next_safe : (o : Outcome) (os : Outcomes) → IsSafe o → AreSafe os → AreSafe (more_outcomes o os)
+next_safe (Gives v) (GiveAll vs) g k = tt
+next_safe (Gives v) (FailAt f) g k = k
+next_safe (Fails f) os g k = g
+
+pub together_safe : (os : List Outcome) → AllSafe os → AreSafe (together os)
+together_safe [] h = tt
+together_safe (o ∷ os) h = next_safe o (together os) h.0 (together_safe os h.1)
+
+-- ---- the set of their values
+
+abbrev set_from : Outcomes → Outcome
+set_from os = on_values os (λ vs. Gives (VSet vs))
+
+-- each value has the type
+abbrev EachHas : Ty → Outcomes → Type 0
+EachHas u (GiveAll vs) = AllValues (HasType u) vs
+EachHas u (FailAt f) = Unit {0}
+
+next_each : (u : Ty) (o : Outcome) (os : Outcomes) → HasFound (Some u) o → EachHas u os → EachHas u (more_outcomes o os)
+next_each u (Gives v) (GiveAll vs) g k = (g, k)
+next_each u (Gives v) (FailAt f) g k = tt
+next_each u (Fails f) os g k = tt
+
+together_has : (u : Ty) (os : List Outcome) → AllOf u os → EachHas u (together os)
+together_has u [] h = tt
+together_has u (o ∷ os) h = next_each u o (together os) h.0 (together_has u os h.1)
+
+set_has : (u : Ty) (os : Outcomes) → EachHas u os → HasFound (Some (TSet u)) (set_from os)
+set_has u (GiveAll vs) h = h
+set_has u (FailAt f) h = tt
+
+set_safe : (os : Outcomes) → AreSafe os → IsSafe (set_from os)
+set_safe (GiveAll vs) h = tt
+set_safe (FailAt f) h = h
+
+-- ---- the form
+
+module _ (world : World) (env : TypeEnv) (strict : env.mode ≡ Strict) (m : Written) (os : List Outcome) where
+  abbrev whole : Outcome
+  whole = set_from (together os)
+
+  -- what the table says of a set without elements
+  abbrev without_elements : Bool → Decision
+  without_elements b = if b then refuses None (finding env m.place empty_set_forbidden ∷ []) else set_of_types env m.place (Some [])
+
+  bound_typed : (us : List Ty) (bound : Option Ty) → AllTyped us os → list_lub env.mode us ≡ bound
+      → HasFound (decided_type (set_by_bound env m.place us bound)) whole
+  bound_typed us (Some u) h e = set_has u (together os) (together_has u os (all_have env.mode (ap is_strict strict) u us e os h))
+  bound_typed us None h e = tt
+
+  types_typed : (ts : List (Option Ty)) (found : Option (List Ty)) → AllHave ts os → all_types ts ≡ found
+      → HasFound (decided_type (set_of_types env m.place found)) whole
+  types_typed ts None h e = tt
+  types_typed ts (Some us) h e = bound_typed us (list_lub env.mode us) (found_typed ts us os h e) refl
+
+  empty_typed : (b : Bool) → AllHave [] os → HasFound (decided_type (without_elements b)) whole
+  empty_typed true h = tt
+  empty_typed false h = types_typed [] (Some []) h refl
+
+  decided_typed : (ts : List (Option Ty)) → AllHave ts os → HasFound (decided_type (set_decides env m.place ts)) whole
+  decided_typed [] h = empty_typed (is_strict env.mode) h
+  decided_typed (t ∷ ts) h = types_typed (t ∷ ts) (all_types (t ∷ ts)) h refl
+
+  bound_gift : (us : List Ty) (bound : Option Ty) → GiftIsSound world os whole (set_by_bound env m.place us bound)
+  bound_gift us (Some u) = record {
+    safe = λ h. set_safe (together os) (together_safe os h);
+    caps_hold_if_true = λ n. hold_none world;
+    caps_hold_at_true = λ n. hold_none world;
+  }
+  bound_gift us None = tt
+
+  types_gift : (found : Option (List Ty)) → GiftIsSound world os whole (set_of_types env m.place found)
+  types_gift None = tt
+  types_gift (Some us) = bound_gift us (list_lub env.mode us)
+
+  empty_gift : (b : Bool) → GiftIsSound world os whole (without_elements b)
+  empty_gift true = tt
+  empty_gift false = types_gift (Some [])
+
+  decided_gift : (ts : List (Option Ty)) → GiftIsSound world os whole (set_decides env m.place ts)
+  decided_gift [] = empty_gift (is_strict env.mode)
+  decided_gift (t ∷ ts) = types_gift (all_types (t ∷ ts))
+
+  set_sound : SoundForm world (set_form env m) os whole
+  set_sound = record { typed = λ ts a. decided_typed ts a.have; succeeds = λ ts a f. decided_gift ts }
+
+-- ---- evaluation
+
+pub set_sounds : (world : World) (env : TypeEnv) → env.mode ≡ Strict → (m : Written) (ts : Trees Written) (Js : Judgments)
+    → SoundsAll world [] (outcomes world ts) Js → Sounds world (eval world (set_of m ts)) (eager_rules (set_form env m) Js)
+set_sounds world env strict m ts Js operands =
+    let os = outcomes world ts in
+    subst (λ z. Sounds world (set_from z) (eager_rules (set_form env m) Js)) (evaluated_together world ts)
+    (form_sounds world (set_form env m) (λ k xs. refl) os (set_from (together os)) (set_sound world env strict m os) Js operands)

@@ -1,0 +1,86 @@
+-- Typing of negation, `isEmpty`, `like`, `is`, `+`, `-`, `*`, `<` and `<=`.
+use Rattle.std.specs.Prelude.{[], ◌∷◌, Some, codes}
+use Rattle.cedar_types.specs.declared.base.operators.BinaryOp.{BinaryOp}
+use Rattle.cedar_types.specs.declared.base.operators.UnaryOp.{UnaryOp}
+use Rattle.cedar_types.specs.declared.base.operators.Var.{Var}
+use Rattle.cedar_types.specs.declared.base.patterns.PatternElem.{PatternElem}
+use Rattle.cedar_types.specs.declared.base.types.BoolType.TheVariants.{True, False}
+use Rattle.cedar_types.specs.declared.base.types.ValidationMode.TheVariants.{Permissive}
+use Rattle.cedar_types.specs.Types.{TBool, TLong, TString, TAnySet, TAnyEntity, TExtension}
+use Rattle.cedar_types.specs.Tree.{Shape, var, slot, if_then_else, unary, binary}
+use Rattle.cedar_types.specs.declared.base.slots.SlotId.{SlotId}
+use Rattle.cedar_types.specs.Errors.{unexpected_type}
+use Rattle.cedar_typing.specs.Examples.Expressions.{true_lit, one, two, text, principal, context, dot, is, matching, less, at_most, plus, has_vip, get_rank}
+use Rattle.cedar_typing.specs.Examples.Rules.{IsTyped, IsTypedIn, IsRefused, IsRefusedIn, bool_type, error_at, not_a_long, unknown_rank}
+use Rattle.cedar_typing.specs.Examples.World.{sample, hidden, user, group, ip_address}
+
+-- `if principal has vip then principal else action`, of two entity types in Permissive
+abbrev pub user_or_action : Shape
+user_or_action = if_then_else tt has_vip principal (var tt Var.Action)
+
+-- `context.address`, of an extension type; `principal.nope`, of Never in Partial
+abbrev pub address : Shape
+address = dot context (codes "address")
+
+abbrev pub nope : Shape
+nope = dot principal (codes "nope")
+
+pub record OperatorTyping : Type 0 where
+  -- `-1` of an operand, `-true`: the type stays; `-(principal.rank)`: no other error
+  pub negation : IsTyped (unary tt UnaryOp.Neg one) TLong
+  pub negation_refused : IsRefused (unary tt UnaryOp.Neg true_lit) (Some TLong) (not_a_long 2 (TBool True) ∷ [])
+  pub negation_missing : IsRefused (unary tt UnaryOp.Neg get_rank) (Some TLong) (unknown_rank 2 ∷ [])
+  -- `(1).isEmpty()`
+  pub empty_refused : IsRefused (unary tt UnaryOp.IsEmpty one) (Some bool_type)
+      (error_at 2 (unexpected_type (TAnySet ∷ []) TLong) ∷ [])
+  -- `"a" like "*"`, `1 like "*"`
+  pub like_text : IsTyped (matching (text (codes "a")) (PatternElem.Wildcard ∷ [])) bool_type
+  pub like_refused : IsRefused (matching one (PatternElem.Wildcard ∷ [])) (Some bool_type)
+      (error_at 2 (unexpected_type (TString ∷ []) TLong) ∷ [])
+  -- `principal is User`: True; `principal is Group`: False
+  pub is_it : IsTyped (is principal user) (TBool True)
+  pub is_another : IsTyped (is principal group) (TBool False)
+  -- of two types in Permissive: Bool of one of them, False of a third
+  pub is_one_of_two : IsTypedIn (sample Permissive) (is user_or_action user) bool_type
+  pub is_none_of_two : IsTypedIn (sample Permissive) (is user_or_action group) (TBool False)
+  -- `?principal is User`, which may be any entity: Bool
+  pub is_of_any : IsTyped (is (slot tt SlotId.Principal) user) bool_type
+  -- `principal.nope is User` of Never, in Partial: it fails, without an error
+  pub is_of_never : IsRefusedIn hidden (is nope user) (Some bool_type) []
+  -- `1 is User`; `principal.rank is User`
+  pub is_refused : IsRefused (is one user) (Some bool_type)
+      (error_at 2 (unexpected_type (TAnyEntity ∷ []) TLong) ∷ [])
+  pub is_missing : IsRefused (is get_rank user) (Some bool_type) (unknown_rank 2 ∷ [])
+
+pub record NumberTyping : Type 0 where
+  -- `1 + 2`; `true + "a"`: an error at each, and the type stays
+  pub sum : IsTyped (plus one two) TLong
+  pub sum_refused : IsRefused (plus true_lit (text (codes "a"))) (Some TLong)
+      (not_a_long 2 (TBool True) ∷ not_a_long 3 TString ∷ [])
+  pub difference : IsTyped (binary tt BinaryOp.Sub one two) TLong
+  pub product : IsTyped (binary tt BinaryOp.Mul one two) TLong
+  -- `1 < 2`, `1 <= 2`
+  pub compared : IsTyped (less one two) bool_type
+  pub compared_at_most : IsTyped (at_most one two) bool_type
+  -- one side is a Long: an error at the other
+  pub left_is_long : IsRefused (less one true_lit) (Some bool_type)
+      (not_a_long 3 (TBool True) ∷ [])
+  pub right_is_long : IsRefused (less true_lit one) (Some bool_type)
+      (not_a_long 2 (TBool True) ∷ [])
+  -- neither is: an error at each; an extension type is none that is compared yet
+  pub neither_is_long : IsRefused (less true_lit (text (codes "a"))) (Some bool_type)
+      (not_a_long 2 (TBool True) ∷ not_a_long 3 TString ∷ [])
+  pub addresses : IsRefused (less address address) (Some bool_type)
+      (not_a_long 2 (TExtension ip_address) ∷ not_a_long 4 (TExtension ip_address) ∷ [])
+  -- `principal.rank < "a"`: a side without a type is no other error
+  pub side_missing : IsRefused (less get_rank (text (codes "a"))) (Some bool_type)
+      (unknown_rank 2 ∷ [])
+  -- in Partial, beside Never: a Long passes, another type is an error there; two Nevers fail
+  -- without one
+  pub never_and_long : IsTypedIn hidden (less nope one) bool_type
+  pub long_and_never : IsTypedIn hidden (less one nope) bool_type
+  pub never_and_text : IsRefusedIn hidden (less nope (text (codes "a"))) (Some bool_type)
+      (not_a_long 4 TString ∷ [])
+  pub text_and_never : IsRefusedIn hidden (less (text (codes "a")) nope) (Some bool_type)
+      (not_a_long 2 TString ∷ [])
+  pub two_nevers : IsRefusedIn hidden (less nope nope) (Some bool_type) []

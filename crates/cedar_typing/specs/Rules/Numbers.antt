@@ -1,0 +1,68 @@
+-- `+`, `-`, `*`, `<` and `<=`.
+use Rattle.std.specs.Prelude.{Bool, ◌&&◌, List, [], ◌∷◌, Option, Some, None, if◌then◌else◌}
+use Rattle.std.specs.List.{list_any}
+use Rattle.cedar_types.specs.declared.base.location.Loc.{Loc}
+use Rattle.cedar_types.specs.declared.base.operators.BinaryOp.{BinaryOp}
+use Rattle.cedar_types.specs.declared.base.types.BoolType.TheVariants.{AnyBool}
+use Rattle.cedar_types.specs.Types.{Ty, TBool, TLong}
+use Rattle.cedar_types.specs.Tree.{binary}
+use Rattle.cedar_types.specs.View.{Written}
+use Rattle.cedar_types.specs.TypeOrder.{in_order}
+use Rattle.cedar_types.specs.Bounds.{ty_eq, is_never}
+use Rattle.cedar_types.specs.Errors.{Finding, unexpected_type}
+use Rattle.cedar_typing.specs.Capabilities.{no_caps}
+use Rattle.cedar_typing.specs.Eager.{Decision, gives, refuses, Form, gives_unless, on_two}
+use Rattle.cedar_typing.specs.TypeEnv.{TypeEnv, finding}
+use Rattle.cedar_typing.specs.TypeTests.{long_types}
+
+-- `a + b`, `a - b`, `a * b` of two Longs: Long
+abbrev pub arithmetic_form : Written → BinaryOp → Form
+arithmetic_form m o =
+    on_two m (Some long_types) (Some long_types) (λ s t. gives TLong no_caps) (λ k a b. binary k o a b)
+
+-- ---- `<` and `<=`
+
+-- the types that are compared
+abbrev pub comparable_types : List Ty
+comparable_types = TLong ∷ []
+
+abbrev pub is_comparable : Ty → Bool
+is_comparable t = list_any (ty_eq t) comparable_types
+
+-- an error at l, where one of the types ts is expected
+abbrev pub expected_at : TypeEnv → Option Loc → List Ty → Ty → Finding
+expected_at env l ts t = finding env l (unexpected_type (in_order ts) t)
+
+-- a type beside Never has to be comparable
+abbrev pub beside_never : TypeEnv → Option Loc → Ty → List Finding
+beside_never env l t =
+    if is_comparable t then [] else expected_at env l comparable_types t ∷ []
+
+-- two types that are not one comparable type: the other side has to be a Long where one is, or else
+-- to be of the type of the one that is comparable; where neither is, both sides are wrong
+abbrev pub incomparable : TypeEnv → Option Loc → Option Loc → Ty → Ty → List Finding
+incomparable env l l' s t =
+    if ty_eq s TLong then expected_at env l' (TLong ∷ []) t ∷ []
+    else if ty_eq t TLong then expected_at env l (TLong ∷ []) s ∷ []
+    else if is_comparable s then expected_at env l' (s ∷ []) t ∷ []
+    else if is_comparable t then expected_at env l (t ∷ []) s ∷ []
+    else expected_at env l comparable_types s ∷ expected_at env l' comparable_types t ∷ []
+
+-- two Nevers fail without an error, and Bool stays; one comparable type passes
+abbrev pub compares : TypeEnv → Option Loc → Option Loc → Ty → Ty → Decision
+compares env l l' s t =
+    if is_never s && is_never t then refuses (Some (TBool AnyBool)) []
+    else if is_never s then gives_unless (beside_never env l' t) (TBool AnyBool)
+    else if is_never t then gives_unless (beside_never env l s) (TBool AnyBool)
+    else if is_comparable s && ty_eq s t then gives (TBool AnyBool) no_caps
+    else refuses (Some (TBool AnyBool)) (incomparable env l l' s t)
+
+-- a type that is missing is no other error
+abbrev pub compare_decides : TypeEnv → Option Loc → Option Loc → Option Ty → Option Ty → Decision
+compare_decides env l l' (Some s) (Some t) = compares env l l' s t
+compare_decides env l l' s t = refuses (Some (TBool AnyBool)) []
+
+-- `a < b`, `a <= b` of operands at l and l' that are of one comparable type: Bool
+abbrev pub comparison_form : TypeEnv → Written → Option Loc → Option Loc → BinaryOp → Form
+comparison_form env m l l' o =
+    on_two m None None (compare_decides env l l') (λ k a b. binary k o a b)

@@ -1,0 +1,115 @@
+// Types that have to have a bound.
+ghost use Rattle.std.specs.Prelude.{◌≡◌, [], ◌∷◌, IfOk, option_map};
+ghost use Rattle.cedar_types.specs.Types.{ty_of};
+ghost use Rattle.cedar_types.specs.TypeOrder.{in_order};
+ghost use Rattle.cedar_types.specs.Bounds.{is_strict, lub};
+ghost use Rattle.cedar_types.specs.Errors.{finding_of, incompatible_types};
+ghost use Rattle.cedar_typing.specs.Joins.{bound_errors, join_errors, strict_errors};
+ghost use Rattle.cedar_typing.specs.TypeEnv.{finding};
+ghost use Rattle.cedar_typing.specs.Views.{env_at, findings};
+
+use crate::typecheck::single_env::SingleEnvTypechecker;
+use cedar_types::base::{
+    CedarType, Loc, LubContext, ValidationError, ValidationMode, types_in_order,
+};
+use std::alloc::AllocError;
+
+impl SingleEnvTypechecker<'_, '_, '_, '_> {
+    /// An error at `loc` where Strict finds no bound of two types. Of a type that is missing there is none.
+    pub(crate) fn strict_errors(
+        &self,
+        loc: Option<Loc>,
+        context: LubContext,
+        one: Option<&CedarType>,
+        other: Option<&CedarType>,
+    ) -> Result<Vec<ValidationError>, AllocError>
+        ensures { IfOk result (λ v.
+            findings v.items
+            ≡ strict_errors (env_at self.now) loc context
+            (option_map (λ t. ty_of t.now) one.entry) (option_map (λ t. ty_of t.now) other.entry)) }
+    {
+        if !self.is_strict() {
+            return Ok(Vec::new(self.alloc));
+        }
+        let errors = self.join_errors(loc, context, one, other)?;
+        Ok(errors)
+    }
+
+    fn join_errors(
+        &self,
+        loc: Option<Loc>,
+        context: LubContext,
+        one: Option<&CedarType>,
+        other: Option<&CedarType>,
+    ) -> Result<Vec<ValidationError>, AllocError>
+        ensures { IfOk result (λ v.
+            findings v.items
+            ≡ join_errors (env_at self.now) loc context
+            (option_map (λ t. ty_of t.now) one.entry) (option_map (λ t. ty_of t.now) other.entry)) }
+    {
+        let Some(one) = one else {
+            return Ok(Vec::new(self.alloc));
+        };
+        let Some(other) = other else {
+            return Ok(Vec::new(self.alloc));
+        };
+        let errors = self.bound_errors(loc, context, one, other)?;
+        Ok(errors)
+    }
+
+    fn bound_errors(
+        &self,
+        loc: Option<Loc>,
+        context: LubContext,
+        one: &CedarType,
+        other: &CedarType,
+    ) -> Result<Vec<ValidationError>, AllocError>
+        ensures { IfOk result (λ v.
+            findings v.items
+            ≡ bound_errors (env_at self.now) loc context (ty_of one.now) (ty_of other.now)
+            (lub (env_at self.now).mode (ty_of one.now) (ty_of other.now))) }
+    {
+        let mut errors = Vec::new(self.alloc);
+        let bound = CedarType::least_upper_bound(self.alloc, one, other, self.mode)?;
+        match bound {
+            Some(ty) => {
+                drop(ty);
+                Ok(errors)
+            }
+            None => {
+                errors.push(self.incompatible(loc, context, one, other)?)?;
+                Ok(errors)
+            }
+        }
+    }
+
+    pub(crate) fn incompatible(
+        &self,
+        loc: Option<Loc>,
+        context: LubContext,
+        one: &CedarType,
+        other: &CedarType,
+    ) -> Result<ValidationError, AllocError>
+        ensures { IfOk result (λ e.
+            finding_of e
+            ≡ finding (env_at self.now) loc
+            (incompatible_types (in_order (ty_of one.now ∷ ty_of other.now ∷ [])) context)) }
+    {
+        let policy_id = self.policy_id.clone()?;
+        let mut types = Vec::new(self.alloc);
+        types.push(CedarType::clone(one)?)?;
+        types.push(CedarType::clone(other)?)?;
+        let types = types_in_order(self.alloc, types)?;
+        Ok(ValidationError::incompatible_types(loc, policy_id, types, context))
+    }
+
+    pub(crate) fn is_strict(&self) -> bool
+        ensures { result ≡ is_strict (env_at self.now).mode }
+    {
+        match self.mode {
+            ValidationMode::Strict => true,
+            ValidationMode::Permissive => false,
+            ValidationMode::Partial => false,
+        }
+    }
+}

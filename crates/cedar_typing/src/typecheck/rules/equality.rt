@@ -1,0 +1,162 @@
+// `==`, and the operators on sets and their members.
+ghost use Rattle.std.specs.Prelude.{◌≡◌, IfOk, option_map};
+ghost use Rattle.cedar_types.specs.Types.{ty_of};
+ghost use Rattle.cedar_types.specs.View.{lit_of, written};
+ghost use Rattle.cedar_types.specs.TreeEq.{lit_eq};
+ghost use Rattle.cedar_typing.specs.Rules.Equality.{action_literal, literal_of, compared_literals, are_apart, equality_type, equality_decides, member_type};
+ghost use Rattle.cedar_typing.specs.Views.{env_at, decision_of};
+
+use crate::typecheck::rules::eager::{Decision, gives, gives_unless};
+use crate::typecheck::single_env::SingleEnvTypechecker;
+use crate::typecheck::type_tests::{any_bool, is_any_bool_type};
+use cedar_types::base::{
+    BoolType, CedarType, EntityUID, Expr, ExprKind, Literal, Loc, LubContext, Var,
+};
+use std::alloc::AllocError;
+
+impl SingleEnvTypechecker<'_, '_, '_, '_> {
+    /// What `left == right` has for a type by theirs.
+    pub(crate) fn decide_equality<'a>(
+        &self,
+        loc: Option<Loc>,
+        left: &Expr,
+        right: &Expr,
+        left_type: Option<&CedarType>,
+        right_type: Option<&CedarType>,
+    ) -> Result<Decision<'a>, AllocError>
+        ensures { IfOk result (λ d. decision_of d
+            ≡ equality_decides (env_at self.now) loc
+            (equality_type (literal_of (env_at self.now).request_env (written left.now))
+            (literal_of (env_at self.now).request_env (written right.now))
+            (option_map (λ t. ty_of t.now) left_type.entry)
+            (option_map (λ t. ty_of t.now) right_type.entry))
+            (option_map (λ t. ty_of t.now) left_type.entry)
+            (option_map (λ t. ty_of t.now) right_type.entry)) }
+    {
+        let one = self.literal_of(left)?;
+        let other = self.literal_of(right)?;
+        let ty = equality_type(&one, &other, left_type, right_type);
+        if !is_any_bool_type(&ty) {
+            return Ok(gives(self.alloc, ty));
+        }
+        let errors = self.strict_errors(loc, LubContext::Equality, left_type, right_type)?;
+        Ok(gives_unless(self.alloc, errors, ty))
+    }
+
+    /// The literal that an expression is. The variable `action` counts as the environment's action.
+    fn literal_of(&self, e: &Expr) -> Result<Option<Literal>, AllocError>
+        ensures { IfOk result (λ o.
+            option_map lit_of o
+            ≡ literal_of (env_at self.now).request_env (written e.now)) }
+    {
+        match &e.kind {
+            ExprKind::Lit(literal) => Ok(Some(literal.clone()?)),
+            ExprKind::Var(Var::Action) => self.action_literal(),
+            ExprKind::Var(Var::Principal) => Ok(None),
+            ExprKind::Var(Var::Resource) => Ok(None),
+            ExprKind::Var(Var::Context) => Ok(None),
+            ExprKind::Slot(_) => Ok(None),
+            ExprKind::Unknown(_) => Ok(None),
+            ExprKind::If { .. } => Ok(None),
+            ExprKind::And(_, _) => Ok(None),
+            ExprKind::Or(_, _) => Ok(None),
+            ExprKind::UnaryApp(_, _) => Ok(None),
+            ExprKind::BinaryApp(_, _, _) => Ok(None),
+            ExprKind::ExtensionFunctionApp(_, _) => Ok(None),
+            ExprKind::GetAttr(_, _) => Ok(None),
+            ExprKind::HasAttr(_, _) => Ok(None),
+            ExprKind::ExtHasAttr(_, _) => Ok(None),
+            ExprKind::Like(_, _) => Ok(None),
+            ExprKind::Is(_, _) => Ok(None),
+            ExprKind::Set(_) => Ok(None),
+            ExprKind::Record(_) => Ok(None),
+        }
+    }
+
+    fn action_literal(&self) -> Result<Option<Literal>, AllocError>
+        ensures { IfOk result (λ o.
+            option_map lit_of o ≡ action_literal (env_at self.now).request_env) }
+    {
+        match self.env.action_entity_uid() {
+            Some(action) => Ok(Some(Literal::EntityUID(EntityUID::clone(action)?))),
+            None => Ok(None),
+        }
+    }
+}
+
+/// The type of `==`, before Strict asks for a bound.
+fn equality_type(
+    one: &Option<Literal>,
+    other: &Option<Literal>,
+    left: Option<&CedarType>,
+    right: Option<&CedarType>,
+) -> CedarType
+    ensures { ty_of result
+        ≡ equality_type (option_map lit_of one.now) (option_map lit_of other.now)
+        (option_map (λ t. ty_of t.now) left.entry) (option_map (λ t. ty_of t.now) right.entry) }
+{
+    if are_apart(left, right) {
+        return CedarType::Bool(BoolType::False);
+    }
+    compared_literals(one, other)
+}
+
+fn compared_literals(one: &Option<Literal>, other: &Option<Literal>) -> CedarType
+    ensures { ty_of result
+        ≡ compared_literals (option_map lit_of one.now) (option_map lit_of other.now) }
+{
+    let Some(one) = one else {
+        return any_bool();
+    };
+    let Some(other) = other else {
+        return any_bool();
+    };
+    if is_same_literal(one, other) {
+        CedarType::Bool(BoolType::True)
+    } else {
+        CedarType::Bool(BoolType::False)
+    }
+}
+
+fn are_apart(left: Option<&CedarType>, right: Option<&CedarType>) -> bool
+    ensures { result
+        ≡ are_apart (option_map (λ t. ty_of t.now) left.entry)
+        (option_map (λ t. ty_of t.now) right.entry) }
+{
+    let Some(left) = left else {
+        return false;
+    };
+    let Some(right) = right else {
+        return false;
+    };
+    CedarType::are_types_disjoint(left, right)
+}
+
+fn is_same_literal(one: &Literal, other: &Literal) -> bool
+    ensures { result ≡ lit_eq (lit_of one.now) (lit_of other.now) }
+{
+    *one == *other
+}
+
+/// The type of a set's members, where it names one.
+pub(crate) fn member_type(ty: &Option<CedarType>) -> Option<&CedarType>
+    ensures { option_map (λ t. ty_of t.now) result ≡ member_type (option_map ty_of ty.now) }
+{
+    match ty {
+        Some(CedarType::Set(element)) => Some(element),
+        Some(CedarType::Never) => None,
+        Some(CedarType::Bool(_)) => None,
+        Some(CedarType::Long) => None,
+        Some(CedarType::String) => None,
+        Some(CedarType::AnySet) => None,
+        Some(
+            CedarType::Record {
+                attributes: _attributes,
+                is_open: _open,
+            },
+        ) => None,
+        Some(CedarType::Entity(_)) => None,
+        Some(CedarType::Extension(_)) => None,
+        None => None,
+    }
+}

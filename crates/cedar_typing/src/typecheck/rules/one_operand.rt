@@ -1,0 +1,161 @@
+// Forms with one operand.
+ghost use Rattle.std.specs.Prelude.{◌≡◌, ◌≤◌, [], ◌∷◌, Some, IfOk, option_map};
+ghost use Rattle.cedar_types.specs.Types.{ty_of};
+ghost use Rattle.cedar_types.specs.View.{written};
+ghost use Rattle.cedar_types.specs.Capability.{caps};
+ghost use Rattle.cedar_typing.specs.Eager.{first_expectation};
+ghost use Rattle.cedar_typing.specs.Infer.Eager.{infer_decided};
+ghost use Rattle.cedar_typing.specs.Judgments.{max_nesting};
+ghost use Rattle.cedar_typing.specs.TypedExpr.{annotation, typed_as, typed_tree};
+ghost use Rattle.cedar_typing.specs.Views.{env_at, expected_types, answer_of, part_of, findings, decision_of, form_of_one, mark_of_one, infer_one};
+
+use crate::typecheck::answer::{Part, TypecheckAnswer};
+use crate::typecheck::operands::Expected;
+use crate::typecheck::rules::attributes::{get_node, has_node};
+use crate::typecheck::rules::eager::{Decision, add_errors, gives};
+use crate::typecheck::rules::unary::{decide_is, decide_not, is_node, like_node, unary_node};
+use crate::typecheck::single_env::SingleEnvTypechecker;
+use crate::typecheck::type_tests::any_bool;
+use crate::typecheck::typed_nodes::with_capabilities;
+use cedar_types::base::{CedarType, EntityType, Expr, Loc, PatternElem, UnaryOp, ValidationError};
+use cedar_types::types::capability::CapabilitySet;
+use std::alloc::{AllocError, Global};
+use std::rc::RcStr;
+
+/// A form with one operand.
+#[derive(Clone, Copy, Debug)]
+pub(crate) enum OneOperand<'x> {
+    Unary(UnaryOp),
+    Has(&'x RcStr),
+    Get(&'x RcStr),
+    Like(&'x Vec<PatternElem>),
+    Is(&'x EntityType),
+}
+
+impl OneOperand<'_> {
+    /// What the operand has to be.
+    fn expected(self) -> Expected
+        ensures { (env : _) → (m : _) → (prior : _) → (e : _)
+            → first_expectation (form_of_one env m prior e self.entry).expects
+            ≡ Some (expected_types result) }
+    {
+        match self {
+            OneOperand::Unary(UnaryOp::Not) => Expected::Bool,
+            OneOperand::Unary(UnaryOp::Neg) => Expected::Long,
+            OneOperand::Unary(UnaryOp::IsEmpty) => Expected::Set,
+            OneOperand::Has(_) => Expected::Object,
+            OneOperand::Get(_) => Expected::Object,
+            OneOperand::Like(_) => Expected::String,
+            OneOperand::Is(_) => Expected::Entity,
+        }
+    }
+
+    /// The typed whole.
+    fn node(
+        self,
+        alloc: Global,
+        loc: Option<Loc>,
+        ty: Option<CedarType>,
+        operand: Expr<Option<CedarType>>,
+    ) -> Result<Expr<Option<CedarType>>, AllocError>
+        ensures { (env : _) → (prior : _) → (e : _)
+            → IfOk result (λ r. typed_tree r
+            ≡ (form_of_one env (mark_of_one loc self.entry) prior e self.entry).node
+            (typed_as (option_map ty_of ty) (form_of_one env (mark_of_one loc self.entry) prior e self.entry).at)
+            (typed_tree operand ∷ [])) }
+    {
+        match self {
+            OneOperand::Unary(UnaryOp::Not) => unary_node(alloc, loc, ty, UnaryOp::Not, operand),
+            OneOperand::Unary(UnaryOp::Neg) => unary_node(alloc, loc, ty, UnaryOp::Neg, operand),
+            OneOperand::Unary(UnaryOp::IsEmpty) => {
+                unary_node(alloc, loc, ty, UnaryOp::IsEmpty, operand)
+            }
+            OneOperand::Has(attr) => has_node(alloc, loc, ty, operand, attr),
+            OneOperand::Get(attr) => get_node(alloc, loc, ty, operand, attr),
+            OneOperand::Like(pattern) => like_node(alloc, loc, ty, operand, pattern),
+            OneOperand::Is(entity_type) => is_node(alloc, loc, ty, operand, entity_type),
+        }
+    }
+}
+
+impl SingleEnvTypechecker<'_, '_, '_, '_> {
+    /// A form with one operand, at `loc`.
+    #[cycle(typing)]
+    pub(crate) fn type_one_operand<'a>(
+        &self,
+        prior: &CapabilitySet<'a>,
+        depth: usize,
+        loc: Option<Loc>,
+        form: OneOperand<'_>,
+        operand: &'a Expr,
+        errors: &mut Vec<ValidationError>,
+    ) -> Result<TypecheckAnswer<'a>, AllocError>
+        requires { depth ≤ max_nesting }
+        ensures { IfOk result (λ r.
+            infer_one (env_at self.now) (mark_of_one loc form.entry) (caps prior.now) (written operand.now) depth form.entry
+            (findings errors.old.items)
+            ≡ (answer_of r, findings errors.new.items)) }
+    {
+        let expected = form.expected();
+        let part = self.type_part(prior, depth + 1, expected, operand, errors)?;
+        let Some(part) = part else {
+            return Ok(TypecheckAnswer::RecursionLimit);
+        };
+        let answer = self.one_answer(prior, loc, form, operand, part, errors)?;
+        Ok(answer)
+    }
+
+    /// A form with one operand, at `loc`, where the operand is typed.
+    fn one_answer<'a>(
+        &self,
+        prior: &CapabilitySet<'a>,
+        loc: Option<Loc>,
+        form: OneOperand<'_>,
+        operand: &'a Expr,
+        part: Part<'a>,
+        errors: &mut Vec<ValidationError>,
+    ) -> Result<TypecheckAnswer<'a>, AllocError>
+        ensures { IfOk result (λ r.
+            infer_decided (form_of_one (env_at self.now) (mark_of_one loc form.entry) (caps prior.now) (written operand.now) form.entry)
+            part.entry.succeeded (typed_tree part.entry.typed ∷ []) (findings errors.old.items)
+            ((form_of_one (env_at self.now) (mark_of_one loc form.entry) (caps prior.now) (written operand.now) form.entry).decides
+            (annotation (typed_tree part.entry.typed) ∷ []))
+            ≡ (answer_of r, findings errors.new.items)) }
+    {
+        match self.decide_one(prior, loc, form, operand, &part.typed.annotation)? {
+            Decision::Gives(ty, capabilities) => {
+                let typed = form.node(self.alloc, loc, Some(ty), part.typed)?;
+                Ok(with_capabilities(part.succeeded, typed, capabilities))
+            }
+            Decision::Refuses(ty, found) => {
+                let typed = form.node(self.alloc, loc, ty, part.typed)?;
+                add_errors(errors, found)?;
+                Ok(TypecheckAnswer::fail(typed))
+            }
+        }
+    }
+
+    /// What the form's table says, by the type of its operand.
+    fn decide_one<'a>(
+        &self,
+        prior: &CapabilitySet<'a>,
+        loc: Option<Loc>,
+        form: OneOperand<'_>,
+        operand: &'a Expr,
+        found: &Option<CedarType>,
+    ) -> Result<Decision<'a>, AllocError>
+        ensures { IfOk result (λ d. decision_of d
+            ≡ (form_of_one (env_at self.now) (mark_of_one loc form.entry) (caps prior.now) (written operand.now) form.entry).decides
+            (option_map ty_of found.now ∷ [])) }
+    {
+        match form {
+            OneOperand::Unary(UnaryOp::Not) => Ok(decide_not(self.alloc, found)),
+            OneOperand::Unary(UnaryOp::Neg) => Ok(gives(self.alloc, CedarType::Long)),
+            OneOperand::Unary(UnaryOp::IsEmpty) => Ok(gives(self.alloc, any_bool())),
+            OneOperand::Has(attr) => self.decide_has(prior, operand, attr, found),
+            OneOperand::Get(attr) => self.decide_get(prior, loc, operand, attr, found),
+            OneOperand::Like(_) => Ok(gives(self.alloc, any_bool())),
+            OneOperand::Is(entity_type) => Ok(decide_is(self.alloc, entity_type, found)),
+        }
+    }
+}

@@ -1,0 +1,183 @@
+// Records: the values of the fields one after another, and what their types say of the whole.
+ghost use Rattle.std.specs.Prelude.{◌≡◌, ◌≤◌, ◌+◌, false, IfOk, option_map};
+ghost use Rattle.cedar_types.specs.Capability.{caps};
+ghost use Rattle.cedar_types.specs.Tree.{record_of};
+ghost use Rattle.cedar_types.specs.Types.{ty_of};
+ghost use Rattle.cedar_types.specs.View.{fields_written};
+ghost use Rattle.cedar_typing.specs.Eager.{types_found};
+ghost use Rattle.cedar_typing.specs.Infer.{infer_fields};
+ghost use Rattle.cedar_typing.specs.Infer.Eager.{infer_decided, infer_eager, infer_form};
+ghost use Rattle.cedar_typing.specs.Judgments.{max_nesting};
+ghost use Rattle.cedar_typing.specs.Rules.Collections.{all_types, field_keys, fields_from, record_form, record_of_types};
+ghost use Rattle.cedar_typing.specs.TypedExpr.{typed_as, typed_tree};
+ghost use Rattle.cedar_typing.specs.Views.{answer_of, at, decision_without_errors, env_at, field_operands, findings, keys_in, trees_in};
+
+use crate::typecheck::answer::TypecheckAnswer;
+use crate::typecheck::operands::any_part;
+use crate::typecheck::single_env::SingleEnvTypechecker;
+use crate::typecheck::typed_nodes::without_capabilities;
+use cedar_types::base::{
+    AttributeType, Attributes, CedarType, Expr, ExprKind, Loc, OpenTag, ValidationError,
+};
+use cedar_types::types::capability::CapabilitySet;
+use std::alloc::{AllocError, Global};
+use std::collections::BTreeMap;
+use std::rc::RcStr;
+
+/// What the values of fields, one after another, resulted in.
+#[derive(Debug, Drop)]
+pub(crate) struct FieldValues {
+    /// The fields with their typed values, of those before the first that is too deep.
+    typed: BTreeMap<RcStr, Expr<Option<CedarType>>>,
+    /// Whether all of these succeeded.
+    succeeded: bool,
+    /// Whether a value is too deep.
+    is_cut: bool,
+}
+
+impl SingleEnvTypechecker<'_, '_, '_, '_> {
+    /// A record, at `loc`.
+    #[cycle(typing)]
+    pub(crate) fn type_record<'a>(
+        &self,
+        prior: &CapabilitySet<'a>,
+        depth: usize,
+        loc: Option<Loc>,
+        fields: &'a BTreeMap<RcStr, Expr>,
+        errors: &mut Vec<ValidationError>,
+    ) -> Result<TypecheckAnswer<'a>, AllocError>
+        requires { depth ≤ max_nesting }
+        ensures { IfOk result (λ r.
+            infer_eager (record_form (at loc) (field_keys (fields_written fields.now.entries)))
+            (infer_fields (env_at self.now) (fields_written fields.now.entries) (caps prior.now)
+            (depth + 1)) (findings errors.old.items)
+            ≡ (answer_of r, findings errors.new.items)) }
+    {
+        let values = self.type_fields(prior, depth, fields, errors)?;
+        let answer = self.record_answer(loc, values)?;
+        Ok(answer)
+    }
+
+    /// Types the values of the fields of a record, each one deeper than the whole, in the order
+    /// of their keys. After one that is too deep none is typed.
+    #[cycle(typing)]
+    fn type_fields<'a>(
+        &self,
+        prior: &CapabilitySet<'a>,
+        depth: usize,
+        fields: &'a BTreeMap<RcStr, Expr>,
+        errors: &mut Vec<ValidationError>,
+    ) -> Result<FieldValues, AllocError>
+        requires { depth ≤ max_nesting }
+        ensures typed { IfOk result (λ r.
+            infer_fields (env_at self.now) (fields_written fields.now.entries) (caps prior.now)
+            (depth + 1) (findings errors.old.items)
+            ≡ (field_operands r, findings errors.new.items)) }
+        ensures keys { IfOk result (λ r. r.is_cut ≡ false
+            → keys_in r.typed.entries ≡ field_keys (fields_written fields.now.entries)) }
+    {
+        let mut typed = BTreeMap::new(self.alloc);
+        let mut succeeded = true;
+        for (key, value) in fields.iter() {
+            let answer = self.typecheck(prior, depth + 1, value, errors)?;
+            let Some(part) = any_part(self.alloc, answer) else {
+                return Ok(FieldValues {
+                    typed,
+                    succeeded,
+                    is_cut: true,
+                });
+            };
+            succeeded = part.succeeded & succeeded;
+            drop(typed.insert(key.clone()?, part.typed)?);
+        }
+        Ok(FieldValues {
+            typed,
+            succeeded,
+            is_cut: false,
+        })
+    }
+
+    /// A record at `loc`, where the values of its fields are typed. It adds no error.
+    fn record_answer<'a>(
+        &self,
+        loc: Option<Loc>,
+        values: FieldValues,
+    ) -> Result<TypecheckAnswer<'a>, AllocError>
+        ensures { (es : _) → IfOk result (λ r.
+            infer_form (record_form (at loc) (keys_in values.typed.entries))
+            (field_operands values) es
+            ≡ (answer_of r, es)) }
+    {
+        if values.is_cut {
+            return Ok(TypecheckAnswer::RecursionLimit);
+        }
+        let answer = typed_record(self.alloc, loc, values.succeeded, values.typed)?;
+        Ok(answer)
+    }
+}
+
+/// A record none of whose values is too deep.
+fn typed_record<'a>(
+    alloc: Global,
+    loc: Option<Loc>,
+    succeeded: bool,
+    fields: BTreeMap<RcStr, Expr<Option<CedarType>>>,
+) -> Result<TypecheckAnswer<'a>, AllocError>
+    ensures { (es : _) → IfOk result (λ r.
+        infer_decided (record_form (at loc) (keys_in fields.entries)) succeeded
+        (trees_in fields.entries) es
+        (record_of_types (keys_in fields.entries)
+        (all_types (types_found (trees_in fields.entries))))
+        ≡ (answer_of r, es)) }
+{
+    match record_type(alloc, &fields)? {
+        Some(ty) => {
+            let typed = record_node(loc, Some(ty), fields);
+            Ok(without_capabilities(alloc, succeeded, typed))
+        }
+        None => Ok(TypecheckAnswer::fail(record_node(loc, None, fields))),
+    }
+}
+
+/// The type of a record with these fields: closed, and each attribute required. There is none
+/// where a value has none.
+fn record_type(
+    alloc: Global,
+    fields: &BTreeMap<RcStr, Expr<Option<CedarType>>>,
+) -> Result<Option<CedarType>, AllocError>
+    ensures { IfOk result (λ t.
+        record_of_types (keys_in fields.now.entries)
+        (all_types (types_found (trees_in fields.now.entries)))
+        ≡ decision_without_errors (option_map ty_of t)) }
+{
+    let mut attrs = BTreeMap::new(alloc);
+    for (key, value) in fields.iter() {
+        let Some(ty) = &value.annotation else {
+            return Ok(None);
+        };
+        let attribute = AttributeType {
+            attr_type: ty.clone()?,
+            is_required: true,
+        };
+        drop(attrs.insert(key.clone()?, attribute)?);
+    }
+    let attributes = Attributes::with_attributes(alloc, attrs)?;
+    let ty = CedarType::record_with_attributes(attributes, OpenTag::ClosedAttributes);
+    Ok(Some(ty))
+}
+
+fn record_node(
+    loc: Option<Loc>,
+    ty: Option<CedarType>,
+    fields: BTreeMap<RcStr, Expr<Option<CedarType>>>,
+) -> Expr<Option<CedarType>>
+    ensures { typed_tree result
+        ≡ record_of (typed_as (option_map ty_of ty) (at loc))
+        (fields_from (keys_in fields.entries) (trees_in fields.entries)) }
+{
+    Expr {
+        annotation: ty,
+        loc,
+        kind: ExprKind::Record(fields),
+    }
+}

@@ -1,0 +1,272 @@
+// Sets: the elements one after another, and what is said of the whole by their types.
+ghost use Rattle.std.specs.Prelude.{◌≡◌, ◌≤◌, ◌+◌, true, [], IfOk, map, option_map};
+ghost use Rattle.cedar_types.specs.declared.base.errors.type_errors.LubContext.TheVariants as context;
+ghost use Rattle.cedar_types.specs.Capability.{caps};
+ghost use Rattle.cedar_types.specs.Errors.{finding_of, incompatible_types};
+ghost use Rattle.cedar_types.specs.Tree.{set_of};
+ghost use Rattle.cedar_types.specs.TypeOrder.{in_order};
+ghost use Rattle.cedar_types.specs.Types.{ty_of};
+ghost use Rattle.cedar_types.specs.View.{trees_of, written};
+ghost use Rattle.cedar_typing.specs.Eager.{types_found};
+ghost use Rattle.cedar_typing.specs.Infer.{infer_all};
+ghost use Rattle.cedar_typing.specs.Infer.Eager.{all_typed, infer_decided, infer_form};
+ghost use Rattle.cedar_typing.specs.Judgments.{max_nesting};
+ghost use Rattle.cedar_typing.specs.Rules.Collections.{all_types, errors_of, set_decides, set_form, set_of_types};
+ghost use Rattle.cedar_typing.specs.TypeEnv.{finding};
+ghost use Rattle.cedar_typing.specs.TypedExpr.{typed_as, typed_tree};
+ghost use Rattle.cedar_typing.specs.Views.{answer_of, at, decision_of, env_at, findings, operands_of, part_of, with_element};
+
+use crate::typecheck::answer::{Part, TypecheckAnswer};
+use crate::typecheck::capabilities::no_capabilities;
+use crate::typecheck::operands::any_part;
+use crate::typecheck::rules::eager::{Decision, add_errors};
+use crate::typecheck::single_env::SingleEnvTypechecker;
+use crate::typecheck::typed_nodes::with_capabilities;
+use cedar_types::base::{
+    CedarType, Expr, ExprKind, Loc, LubContext, ValidationError, types_in_order,
+};
+use cedar_types::types::capability::CapabilitySet;
+use std::alloc::{AllocError, Global};
+use std::rc::Rc;
+
+/// What elements, one after another, resulted in.
+#[derive(Debug, Drop)]
+pub(crate) struct Elements {
+    /// The typed copies, of those before the first that is too deep.
+    typed: Vec<Expr<Option<CedarType>>>,
+    /// Whether all of these succeeded.
+    succeeded: bool,
+    /// Whether an element is too deep.
+    is_cut: bool,
+}
+
+impl Elements {
+    /// No element.
+    fn none(alloc: Global) -> Elements
+        ensures { operands_of result ≡ all_typed true [] }
+    {
+        Elements {
+            typed: Vec::new(alloc),
+            succeeded: true,
+            is_cut: false,
+        }
+    }
+
+    /// One more element, which is too deep where it has no part. After such a one no copy is kept:
+    /// the set has none.
+    fn with(self, element: Option<Part<'_>>) -> Result<Elements, AllocError>
+        ensures { IfOk result (λ r. operands_of r
+            ≡ with_element (operands_of self) (option_map part_of element.entry)) }
+    {
+        if self.is_cut {
+            return Ok(self);
+        }
+        let mut typed = self.typed;
+        match element {
+            Some(part) => {
+                typed.push(part.typed)?;
+                Ok(Elements {
+                    typed,
+                    succeeded: part.succeeded & self.succeeded,
+                    is_cut: false,
+                })
+            }
+            None => Ok(Elements {
+                typed,
+                succeeded: self.succeeded,
+                is_cut: true,
+            }),
+        }
+    }
+}
+
+impl SingleEnvTypechecker<'_, '_, '_, '_> {
+    /// Types the elements of a set at this depth. All are typed, for their errors, also after one
+    /// that is too deep.
+    #[cycle(typing)]
+    pub(crate) fn type_elements<'a>(
+        &self,
+        prior: &CapabilitySet<'a>,
+        depth: usize,
+        elements: &'a Vec<Expr>,
+        errors: &mut Vec<ValidationError>,
+    ) -> Result<Elements, AllocError>
+        requires { depth ≤ max_nesting }
+        ensures { IfOk result (λ r.
+            infer_all (env_at self.now) true (trees_of (map written elements.now.items))
+            (caps prior.now) (depth + 1) (findings errors.old.items)
+            ≡ (operands_of r, findings errors.new.items)) }
+    {
+        let mut all = Elements::none(self.alloc);
+        for element in elements {
+            let answer = self.typecheck(prior, depth + 1, element, errors)?;
+            all = all.with(any_part(self.alloc, answer))?;
+        }
+        Ok(all)
+    }
+
+    /// A set at `loc`, where the elements are typed.
+    pub(crate) fn set_answer<'a>(
+        &self,
+        loc: Option<Loc>,
+        elements: Elements,
+        errors: &mut Vec<ValidationError>,
+    ) -> Result<TypecheckAnswer<'a>, AllocError>
+        ensures { IfOk result (λ r.
+            infer_form (set_form (env_at self.now) (at loc)) (operands_of elements)
+            (findings errors.old.items)
+            ≡ (answer_of r, findings errors.new.items)) }
+    {
+        if elements.is_cut {
+            add_errors(errors, self.errors_before_cut(loc, &elements.typed)?)?;
+            return Ok(TypecheckAnswer::RecursionLimit);
+        }
+        let answer = self.typed_set(loc, elements.succeeded, elements.typed, errors)?;
+        Ok(answer)
+    }
+
+    /// A set none of whose elements is too deep.
+    fn typed_set<'a>(
+        &self,
+        loc: Option<Loc>,
+        succeeded: bool,
+        elements: Vec<Expr<Option<CedarType>>>,
+        errors: &mut Vec<ValidationError>,
+    ) -> Result<TypecheckAnswer<'a>, AllocError>
+        ensures { IfOk result (λ r.
+            infer_decided (set_form (env_at self.now) (at loc)) succeeded
+            (map typed_tree elements.items) (findings errors.old.items)
+            (set_decides (env_at self.now) loc (types_found (map typed_tree elements.items)))
+            ≡ (answer_of r, findings errors.new.items)) }
+    {
+        match self.decide_set(loc, &elements)? {
+            Decision::Gives(ty, capabilities) => {
+                let typed = set_node(loc, Some(ty), elements);
+                Ok(with_capabilities(succeeded, typed, capabilities))
+            }
+            Decision::Refuses(ty, found) => {
+                let typed = set_node(loc, ty, elements);
+                add_errors(errors, found)?;
+                Ok(TypecheckAnswer::fail(typed))
+            }
+        }
+    }
+
+    /// What is said of a set by its elements: in Strict there has to be one.
+    fn decide_set<'a>(
+        &self,
+        loc: Option<Loc>,
+        elements: &[Expr<Option<CedarType>>],
+    ) -> Result<Decision<'a>, AllocError>
+        ensures { IfOk result (λ d. decision_of d
+            ≡ set_decides (env_at self.now) loc (types_found (map typed_tree elements.now))) }
+    {
+        if elements.is_empty() & self.is_strict() {
+            let mut errors = Vec::new(self.alloc);
+            errors.push(ValidationError::empty_set_forbidden(loc, self.policy_id.clone()?))?;
+            return Ok(Decision::Refuses(None, errors));
+        }
+        let decision = self.decide_by_types(loc, elements)?;
+        Ok(decision)
+    }
+
+    /// The errors beside an element that is too deep: those before it have to have a bound all the
+    /// same.
+    fn errors_before_cut(
+        &self,
+        loc: Option<Loc>,
+        elements: &[Expr<Option<CedarType>>],
+    ) -> Result<Vec<ValidationError>, AllocError>
+        ensures { IfOk result (λ es. findings es.items
+            ≡ errors_of (set_of_types (env_at self.now) loc (all_types (types_found (map typed_tree elements.now))))) }
+    {
+        match self.decide_by_types(loc, elements)? {
+            Decision::Gives(_, _) => Ok(Vec::new(self.alloc)),
+            Decision::Refuses(_, errors) => Ok(errors),
+        }
+    }
+
+    /// A set of the bound of the types of its elements. A type that is missing is no other error.
+    fn decide_by_types<'a>(
+        &self,
+        loc: Option<Loc>,
+        elements: &[Expr<Option<CedarType>>],
+    ) -> Result<Decision<'a>, AllocError>
+        ensures { IfOk result (λ d. decision_of d
+            ≡ set_of_types (env_at self.now) loc (all_types (types_found (map typed_tree elements.now)))) }
+    {
+        let Some(types) = types_of(self.alloc, elements)? else {
+            return Ok(Decision::Refuses(None, Vec::new(self.alloc)));
+        };
+        let bound = CedarType::reduce_to_least_upper_bound(self.alloc, &types, self.mode)?;
+        match bound {
+            Some(element) => {
+                let ty = CedarType::Set(Rc::new(self.alloc, element)?);
+                Ok(Decision::Gives(ty, no_capabilities(self.alloc)))
+            }
+            None => {
+                let mut errors = Vec::new(self.alloc);
+                errors.push(self.without_bound(loc, &types)?)?;
+                Ok(Decision::Refuses(None, errors))
+            }
+        }
+    }
+
+    /// The error of elements whose types have no bound.
+    fn without_bound(
+        &self,
+        loc: Option<Loc>,
+        types: &[&CedarType],
+    ) -> Result<ValidationError, AllocError>
+        ensures { IfOk result (λ e. finding_of e
+            ≡ finding (env_at self.now) loc
+            (incompatible_types (in_order (map (λ t. ty_of t.now) types.now)) context.Set)) }
+    {
+        let policy_id = self.policy_id.clone()?;
+        let types = types_in_order(self.alloc, copies(self.alloc, types)?)?;
+        Ok(ValidationError::incompatible_types(loc, policy_id, types, LubContext::Set))
+    }
+}
+
+fn set_node(
+    loc: Option<Loc>,
+    ty: Option<CedarType>,
+    elements: Vec<Expr<Option<CedarType>>>,
+) -> Expr<Option<CedarType>>
+    ensures { typed_tree result
+        ≡ set_of (typed_as (option_map ty_of ty) (at loc)) (trees_of (map typed_tree elements.items)) }
+{
+    Expr {
+        annotation: ty,
+        loc,
+        kind: ExprKind::Set(elements),
+    }
+}
+
+/// The types of the elements, if none is missing.
+fn types_of<'t>(
+    alloc: Global,
+    elements: &'t [Expr<Option<CedarType>>],
+) -> Result<Option<Vec<&'t CedarType>>, AllocError>
+    ensures { IfOk result (λ o. option_map (λ v. map (λ t. ty_of t.now) v.items) o
+        ≡ all_types (types_found (map typed_tree elements.now))) }
+{
+    let mut types = Vec::new(alloc);
+    for element in elements {
+        let Some(ty) = &element.annotation else {
+            return Ok(None);
+        };
+        types.push(ty)?;
+    }
+    Ok(Some(types))
+}
+
+fn copies(alloc: Global, types: &[&CedarType]) -> Result<Vec<CedarType>, AllocError>
+    ensures { IfOk result (λ v. map ty_of v.items ≡ map (λ t. ty_of t.now) types.now) }
+{
+    let mut all = Vec::new(alloc);
+    for ty in types {
+        all.push(CedarType::clone(ty)?)?;
+    }
+    Ok(all)
+}

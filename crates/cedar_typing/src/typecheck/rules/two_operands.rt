@@ -1,0 +1,270 @@
+// Operators on two operands.
+ghost use Rattle.std.specs.Prelude.{◌≡◌, ◌≤◌, [], ◌∷◌, Some, IfOk, option_map};
+ghost use Rattle.cedar_types.specs.Types.{ty_of};
+ghost use Rattle.cedar_types.specs.Tree.{binary};
+ghost use Rattle.cedar_types.specs.View.{written};
+ghost use Rattle.cedar_types.specs.Capability.{caps};
+ghost use Rattle.cedar_typing.specs.Eager.{first_expectation, later_expectations};
+ghost use Rattle.cedar_typing.specs.Infer.Eager.{infer_decided, infer_form};
+ghost use Rattle.cedar_typing.specs.Judgments.{max_nesting};
+ghost use Rattle.cedar_typing.specs.Rules.Binary.{binary_form};
+ghost use Rattle.cedar_typing.specs.TypedExpr.{annotation, typed_as, typed_tree};
+ghost use Rattle.cedar_typing.specs.Views.{env_at, expected_types, answer_of, part_of, findings, at, decision_of, form_of_two, two_parts, infer_two};
+
+use crate::typecheck::answer::{Part, TypecheckAnswer};
+use crate::typecheck::operands::Expected;
+use crate::typecheck::rules::eager::{Decision, add_errors, gives, gives_unless};
+use crate::typecheck::rules::equality::member_type;
+use crate::typecheck::single_env::SingleEnvTypechecker;
+use crate::typecheck::type_tests::any_bool;
+use crate::typecheck::typed_nodes::with_capabilities;
+use cedar_types::base::{BinaryOp, CedarType, Expr, ExprKind, Loc, LubContext, ValidationError};
+use cedar_types::types::capability::CapabilitySet;
+use std::alloc::{AllocError, Global};
+
+/// A form with two operands.
+#[derive(Clone, Copy, Debug)]
+pub(crate) enum TwoOperands {
+    /// `==`.
+    Equality,
+    /// `<` and `<=`.
+    Comparison(BinaryOp),
+    /// `+`, `-` and `*`.
+    Arithmetic(BinaryOp),
+    /// `contains`.
+    Contains,
+    /// `containsAll` and `containsAny`.
+    ContainsSeveral(BinaryOp),
+}
+
+impl TwoOperands {
+    /// The form of an operator, if it has a rule yet.
+    pub(crate) fn of(op: BinaryOp) -> Option<TwoOperands>
+        ensures { (env : _) → (m : _) → (a : _) → (b : _)
+            → option_map (form_of_two env m a b) result ≡ binary_form env m a b op }
+    {
+        match op {
+            BinaryOp::Eq => Some(TwoOperands::Equality),
+            BinaryOp::Less => Some(TwoOperands::Comparison(BinaryOp::Less)),
+            BinaryOp::LessEq => Some(TwoOperands::Comparison(BinaryOp::LessEq)),
+            BinaryOp::Add => Some(TwoOperands::Arithmetic(BinaryOp::Add)),
+            BinaryOp::Sub => Some(TwoOperands::Arithmetic(BinaryOp::Sub)),
+            BinaryOp::Mul => Some(TwoOperands::Arithmetic(BinaryOp::Mul)),
+            BinaryOp::Contains => Some(TwoOperands::Contains),
+            BinaryOp::ContainsAll => Some(TwoOperands::ContainsSeveral(BinaryOp::ContainsAll)),
+            BinaryOp::ContainsAny => Some(TwoOperands::ContainsSeveral(BinaryOp::ContainsAny)),
+            BinaryOp::In => None,
+            BinaryOp::GetTag => None,
+            BinaryOp::HasTag => None,
+        }
+    }
+
+    /// Whether the right operand is still typed after a left one that is too deep.
+    fn goes_on(self) -> bool
+        ensures { (env : _) → (m : _) → (a : _) → (b : _)
+            → (form_of_two env m a b self).goes_on ≡ result }
+    {
+        match self {
+            TwoOperands::Equality => true,
+            TwoOperands::Comparison(_) => false,
+            TwoOperands::Arithmetic(_) => false,
+            TwoOperands::Contains => false,
+            TwoOperands::ContainsSeveral(_) => false,
+        }
+    }
+
+    /// What the left operand has to be, if anything.
+    fn expected_left(self) -> Option<Expected>
+        ensures { (env : _) → (m : _) → (a : _) → (b : _)
+            → first_expectation (form_of_two env m a b self).expects
+            ≡ option_map expected_types result }
+    {
+        match self {
+            TwoOperands::Equality => None,
+            TwoOperands::Comparison(_) => None,
+            TwoOperands::Arithmetic(_) => Some(Expected::Long),
+            TwoOperands::Contains => Some(Expected::Set),
+            TwoOperands::ContainsSeveral(_) => Some(Expected::Set),
+        }
+    }
+
+    /// What the right operand has to be, if anything.
+    fn expected_right(self) -> Option<Expected>
+        ensures { (env : _) → (m : _) → (a : _) → (b : _)
+            → first_expectation (later_expectations (form_of_two env m a b self).expects)
+            ≡ option_map expected_types result }
+    {
+        match self {
+            TwoOperands::Equality => None,
+            TwoOperands::Comparison(_) => None,
+            TwoOperands::Arithmetic(_) => Some(Expected::Long),
+            TwoOperands::Contains => None,
+            TwoOperands::ContainsSeveral(_) => Some(Expected::Set),
+        }
+    }
+
+    /// The operator.
+    fn op(self) -> BinaryOp
+        ensures { (env : _) → (m : _) → (a : _) → (b : _) → (k : _) → (x : _) → (y : _)
+            → (form_of_two env m a b self).node k (x ∷ y ∷ []) ≡ binary k result x y }
+    {
+        match self {
+            TwoOperands::Equality => BinaryOp::Eq,
+            TwoOperands::Comparison(op) => op,
+            TwoOperands::Arithmetic(op) => op,
+            TwoOperands::Contains => BinaryOp::Contains,
+            TwoOperands::ContainsSeveral(op) => op,
+        }
+    }
+}
+
+impl SingleEnvTypechecker<'_, '_, '_, '_> {
+    /// A form with two operands, at `loc`.
+    #[cycle(typing)]
+    pub(crate) fn type_two_operands<'a>(
+        &self,
+        prior: &CapabilitySet<'a>,
+        depth: usize,
+        loc: Option<Loc>,
+        form: TwoOperands,
+        left: &'a Expr,
+        right: &'a Expr,
+        errors: &mut Vec<ValidationError>,
+    ) -> Result<TypecheckAnswer<'a>, AllocError>
+        requires { depth ≤ max_nesting }
+        ensures { IfOk result (λ r.
+            infer_two (env_at self.now) (at loc) (written left.now) (written right.now)
+            (caps prior.now) depth form (findings errors.old.items)
+            ≡ (answer_of r, findings errors.new.items)) }
+    {
+        let one = self.typecheck(prior, depth + 1, left, errors)?;
+        let one = self.operand(form.expected_left(), left.loc, one, errors)?;
+        if one.is_none() & !form.goes_on() {
+            return Ok(TypecheckAnswer::RecursionLimit);
+        }
+        let other = self.typecheck(prior, depth + 1, right, errors)?;
+        let other = self.operand(form.expected_right(), right.loc, other, errors)?;
+        let answer = self.two_answer(loc, form, left, right, one, other, errors)?;
+        Ok(answer)
+    }
+
+    /// A form with two operands, at `loc`, where the operands are typed or too deep.
+    fn two_answer<'a>(
+        &self,
+        loc: Option<Loc>,
+        form: TwoOperands,
+        left: &Expr,
+        right: &Expr,
+        one: Option<Part<'a>>,
+        other: Option<Part<'a>>,
+        errors: &mut Vec<ValidationError>,
+    ) -> Result<TypecheckAnswer<'a>, AllocError>
+        ensures { IfOk result (λ r.
+            infer_form (form_of_two (env_at self.now) (at loc) (written left.now) (written right.now) form)
+            (two_parts (option_map part_of one.entry) (option_map part_of other.entry))
+            (findings errors.old.items)
+            ≡ (answer_of r, findings errors.new.items)) }
+    {
+        let Some(one) = one else {
+            return Ok(TypecheckAnswer::RecursionLimit);
+        };
+        let Some(other) = other else {
+            return Ok(TypecheckAnswer::RecursionLimit);
+        };
+        let answer = self.two_parts_answer(loc, form, left, right, one, other, errors)?;
+        Ok(answer)
+    }
+
+    fn two_parts_answer<'a>(
+        &self,
+        loc: Option<Loc>,
+        form: TwoOperands,
+        left: &Expr,
+        right: &Expr,
+        one: Part<'a>,
+        other: Part<'a>,
+        errors: &mut Vec<ValidationError>,
+    ) -> Result<TypecheckAnswer<'a>, AllocError>
+        ensures { IfOk result (λ r.
+            infer_form (form_of_two (env_at self.now) (at loc) (written left.now) (written right.now) form)
+            (two_parts (Some (part_of one.entry)) (Some (part_of other.entry)))
+            (findings errors.old.items)
+            ≡ (answer_of r, findings errors.new.items)) }
+    {
+        let succeeded = other.succeeded & one.succeeded;
+        let found = &one.typed.annotation;
+        match self.decide_two(loc, form, left, right, found, &other.typed.annotation)? {
+            Decision::Gives(ty, capabilities) => {
+                let typed = binary_node(
+                    self.alloc,
+                    loc,
+                    Some(ty),
+                    form.op(),
+                    one.typed,
+                    other.typed,
+                )?;
+                Ok(with_capabilities(succeeded, typed, capabilities))
+            }
+            Decision::Refuses(ty, found) => {
+                let typed = binary_node(self.alloc, loc, ty, form.op(), one.typed, other.typed)?;
+                add_errors(errors, found)?;
+                Ok(TypecheckAnswer::fail(typed))
+            }
+        }
+    }
+
+    /// What the form's table says, by the types of its operands.
+    fn decide_two<'a>(
+        &self,
+        loc: Option<Loc>,
+        form: TwoOperands,
+        left: &Expr,
+        right: &Expr,
+        found: &Option<CedarType>,
+        other: &Option<CedarType>,
+    ) -> Result<Decision<'a>, AllocError>
+        ensures { IfOk result (λ d. decision_of d
+            ≡ (form_of_two (env_at self.now) (at loc) (written left.now) (written right.now) form).decides
+            (option_map ty_of found.now ∷ option_map ty_of other.now ∷ [])) }
+    {
+        match form {
+            TwoOperands::Equality => {
+                self.decide_equality(loc, left, right, found.as_ref(), other.as_ref())
+            }
+            TwoOperands::Comparison(_) => {
+                self.decide_comparison(left.loc, right.loc, found, other)
+            }
+            TwoOperands::Arithmetic(_) => Ok(gives(self.alloc, CedarType::Long)),
+            TwoOperands::Contains => {
+                let member = member_type(found);
+                let errors = self.strict_errors(loc, LubContext::Contains, member, other.as_ref())?;
+                Ok(gives_unless(self.alloc, errors, any_bool()))
+            }
+            TwoOperands::ContainsSeveral(_) => {
+                let context = LubContext::ContainsAnyAll;
+                let errors = self.strict_errors(loc, context, found.as_ref(), other.as_ref())?;
+                Ok(gives_unless(self.alloc, errors, any_bool()))
+            }
+        }
+    }
+}
+
+fn binary_node(
+    alloc: Global,
+    loc: Option<Loc>,
+    ty: Option<CedarType>,
+    op: BinaryOp,
+    left: Expr<Option<CedarType>>,
+    right: Expr<Option<CedarType>>,
+) -> Result<Expr<Option<CedarType>>, AllocError>
+    ensures { IfOk result (λ e. typed_tree e
+        ≡ binary (typed_as (option_map ty_of ty) (at loc)) op (typed_tree left) (typed_tree right)) }
+{
+    let left = Box::new(alloc, left)?;
+    let right = Box::new(alloc, right)?;
+    Ok(Expr {
+        annotation: ty,
+        loc,
+        kind: ExprKind::BinaryApp(op, left, right),
+    })
+}
