@@ -8,7 +8,6 @@ use Rattle.cedar_types.specs.declared.base.expressions.ExprKind.{the_lemmas}
 use Rattle.cedar_types.specs.declared.base.expressions.ExprKind.TheVariants as K
 use Rattle.cedar_types.specs.Tree.{record_of}
 use Rattle.cedar_types.specs.View.{kind_written, fields_written, written}
-use Rattle.cedar_types.specs.Layers as layers
 use Rattle.cedar_typing.specs.Views.{at}
 
 written_by_kind : (e : Expr (Unit {0})) → written e ≡ kind_written e.loc e.kind

@@ -1,9 +1,9 @@
 -- The values of fields, one after another: what those to come make of those so far.
-use Rattle.std.proofs.Common.{◌≡◌, refl, sym, ap, ◌∙◌, ◌+◌, ℕ, ◌&&◌, Bool, true, false, List, [], ◌∷◌, ◌++◌, Some, None, append_assoc, append-nil}
+use Rattle.std.proofs.Common.{◌≡◌, refl, sym, ap, ◌∙◌, ℕ, ◌&&◌, Bool, true, false, List, [], ◌∷◌, ◌++◌, Some, append_assoc}
 use Rattle.std.specs.Prelude.{if◌then◌else◌}
 use Rattle.cedar_types.specs.Errors.{Finding}
 use Rattle.cedar_types.specs.Names.{Text}
-use Rattle.cedar_types.specs.Tree.{Fields, no_fields, field}
+use Rattle.cedar_types.specs.Tree.{Fields, field}
 use Rattle.cedar_types.specs.View.{Written}
 use Rattle.cedar_typing.specs.Capabilities.{Caps}
 use Rattle.cedar_typing.specs.Infer.{infer, infer_fields}
@@ -52,20 +52,6 @@ module _ (env : TypeEnv) (prior : Caps) (d : ℕ) where
       ap (λ o. finish s xs (infer_rest false (part_from o.0) o.1 rest)) h
       ∙ ap (λ q. finish s xs (infer_rest false q es' rest)) g
       ∙ ap (λ z. (z, (rest es').1)) (after_one s xs p (rest es').0)
-
-  -- one whose value is too deep
-  pub is_cut : (k : Text) (e : Source) (fs : Fields Written) (s : Bool) (xs : List TypedTree) (es es' : List Finding) (a : Answer)
-      → infer env e prior d es ≡ (a, es') → part_from a ≡ None
-      → finish s xs (infer_fields env (field k e fs) prior d es) ≡ (cut_after xs, es')
-  is_cut k e fs s xs es es' a h g =
-      let rest : List Finding → OperandsAndErrors = infer_fields env fs prior d in
-      ap (λ o. finish s xs (infer_rest false (part_from o.0) o.1 rest)) h
-      ∙ ap (λ q. finish s xs (infer_rest false q es' rest)) g
-      ∙ ap (λ zs. (cut_after zs, es')) (append-nil xs)
-
-  -- no field is left
-  pub ends : (s : Bool) (xs : List TypedTree) (es : List Finding) → finish s xs (infer_fields env no_fields prior d es) ≡ (all_typed s xs, es)
-  ends s xs es = ap (λ zs. (all_typed s zs, es)) (append-nil xs)
 
 -- of a record that is cut the keys do not count
 by_keys : (m : Written) (ks ls : List Text) (s : Bool) (xs : List TypedTree) (es : List Finding) (b : Bool) → (b ≡ false → ls ≡ ks)

@@ -7,7 +7,7 @@ use Rattle.cedar_types.specs.View.{Written}
 use Rattle.cedar_types.specs.Errors.{Finding}
 use Rattle.cedar_typing.specs.Eager.{Expectation, Form, first_expectation, later_expectations}
 use Rattle.cedar_typing.specs.Infer.Eager.{Operands, all_typed, cut_after, OperandsAndErrors, infer_none, expect_operand, with_operand, infer_rest, infer_one_more, infer_form, infer_two_operands}
-use Rattle.cedar_typing.specs.Infer.Parts.{limit, Part, AnswerAndErrors, PartAndErrors}
+use Rattle.cedar_typing.specs.Infer.Parts.{limit, Part, AnswerAndErrors}
 use Rattle.cedar_typing.specs.TypeEnv.{TypeEnv}
 use Rattle.cedar_typing.specs.TypedExpr.{Source}
 use Rattle.cedar_typing.specs.Views.{part_of, form_of_two, two_parts}
