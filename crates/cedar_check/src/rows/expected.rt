@@ -63,16 +63,16 @@ pub fn policy_id(alloc: Global) -> Result<PolicyID, AllocError> {
 
 impl Expected {
     /// Whether the check came to this, the text of each error included.
-    pub fn is_met_by(&self, alloc: Global, check: PolicyCheck) -> Result<bool, AllocError> {
-        match self {
-            Expected::Success => Ok(matches!(&check, PolicyCheck::Success(_))),
-            Expected::Irrelevant => match &check {
-                PolicyCheck::Irrelevant(errors, _) => Ok(errors.is_empty()),
-                _ => Ok(false),
-            },
-            Expected::Fail(wanted) => match check {
-                PolicyCheck::Fail(errors) => are_wanted(alloc, errors, wanted),
-                _ => Ok(false),
+    pub fn is_met_by(self, alloc: Global, check: PolicyCheck) -> Result<bool, AllocError> {
+        match check {
+            PolicyCheck::Success(_typed) => Ok(matches!(self, Expected::Success)),
+            PolicyCheck::Irrelevant(errors, _typed) => {
+                Ok(errors.is_empty() && matches!(self, Expected::Irrelevant))
+            }
+            PolicyCheck::Fail(errors) => match self {
+                Expected::Fail(wanted) => are_wanted(alloc, errors, wanted),
+                Expected::Success => Ok(false),
+                Expected::Irrelevant => Ok(false),
             },
         }
     }
