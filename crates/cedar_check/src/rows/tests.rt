@@ -7,7 +7,7 @@ use crate::fixtures::schemas::photos_with_options;
 use crate::rows::checks::{Case, compared};
 use crate::rows::expected::{Expected, WantedError, WantedType};
 use cedar_types::base::{ExtensionSchemas, Loc, SchemaError};
-use std::alloc::Global;
+use std::alloc::{AllocError, Global};
 use std::process::Abort;
 use std::test::Fail;
 
@@ -78,7 +78,7 @@ const STRINGS_ARE_COMPARED: [(Expected, bool); 6] = [
 ];
 
 /// Whether this condition's check is taken for what is expected.
-fn is_expected<F: Form + Copy>(
+fn is_expected<F: Form + Copy + Drop>(
     alloc: Global,
     text: &'static str,
     form: F,
@@ -86,12 +86,22 @@ fn is_expected<F: Form + Copy>(
 ) -> Result<bool, SchemaError> {
     let schema = photos_with_options(alloc)?;
     let extensions = ExtensionSchemas::default(alloc);
-    let case = Case {
-        text,
-        form,
-        expected,
-    };
-    Ok(compared(alloc, &schema, &extensions, &[case])?.is_expected)
+    let cases = alone(
+        alloc,
+        Case {
+            text,
+            form,
+            expected,
+        },
+    )?;
+    Ok(compared(alloc, &schema, &extensions, &cases)?.is_expected)
+}
+
+/// The case alone.
+fn alone<F: Drop>(alloc: Global, case: Case<F>) -> Result<Vec<Case<F>>, AllocError> {
+    let mut cases = Vec::new(alloc);
+    cases.push(case)?;
+    Ok(cases)
 }
 
 #[test]
