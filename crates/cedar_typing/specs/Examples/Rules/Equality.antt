@@ -32,7 +32,7 @@ pub record EqualityTyping : Type 0 where
   -- `action` counts as the environment's action, also one that the schema does not declare, which
   -- fails
   pub action_is : IsTyped (equal action (the greet)) (TBool True)
-  pub action_is_not : IsTyped (equal action action) (TBool True)
+  pub action_is_itself : IsTyped (equal action action) (TBool True)
   pub undeclared_action : IsRefusedIn unknown_action (equal action (the wave)) (Some (TBool True)) []
   -- `principal == action`, of disjoint types: False; `principal == context.friend`: Bool
   pub disjoint : IsTyped (equal principal action) (TBool False)
@@ -53,8 +53,9 @@ pub record MemberTyping : Type 0 where
   -- `(1).contains("a")`: an error at the left side alone
   pub no_set : IsRefused (contains one a_text) (Some bool_type)
       (error_at 2 (unexpected_type (TAnySet ∷ []) TLong) ∷ [])
-  -- `[1].containsAll([2])`, `[1].containsAny(["a"])`
+  -- `[1].containsAll([2])`, `[1].containsAny([2])`; `[1].containsAny(["a"])`: no bound
   pub has_members : IsTyped (contains_all (set1 one) (set1 two)) bool_type
+  pub has_some_members : IsTyped (contains_any (set1 one) (set1 two)) bool_type
   pub no_members : IsRefused (contains_any (set1 one) (set1 a_text)) (Some bool_type)
       (error_at 1 (incompatible_types (TSet TLong ∷ TSet TString ∷ []) ContainsAnyAll) ∷ [])
   -- `[1].containsAll(2)`: an error at the right side

@@ -10,7 +10,7 @@ use Rattle.cedar_types.specs.Types.{TBool, TLong, TString, TAnySet, TAnyEntity, 
 use Rattle.cedar_types.specs.Tree.{Shape, var, slot, if_then_else, unary, binary}
 use Rattle.cedar_types.specs.declared.base.slots.SlotId.{SlotId}
 use Rattle.cedar_types.specs.Errors.{unexpected_type}
-use Rattle.cedar_typing.specs.Examples.Expressions.{true_lit, one, two, text, principal, context, dot, is, matching, less, at_most, plus, has_vip, get_rank}
+use Rattle.cedar_typing.specs.Examples.Expressions.{true_lit, one, two, text, set1, principal, context, dot, is, matching, less, at_most, plus, has_vip, get_rank}
 use Rattle.cedar_typing.specs.Examples.Rules.{IsTyped, IsTypedIn, IsRefused, IsRefusedIn, bool_type, error_at, not_a_long, unknown_rank}
 use Rattle.cedar_typing.specs.Examples.World.{sample, hidden, user, group, ip_address}
 
@@ -26,11 +26,12 @@ abbrev pub nope : Shape
 nope = dot principal (codes "nope")
 
 pub record OperatorTyping : Type 0 where
-  -- `-1` of an operand, `-true`: the type stays; `-(principal.rank)`: no other error
+  -- the negation of `1`; of `true`: the type stays; of `principal.rank`: no other error
   pub negation : IsTyped (unary tt UnaryOp.Neg one) TLong
   pub negation_refused : IsRefused (unary tt UnaryOp.Neg true_lit) (Some TLong) (not_a_long 2 (TBool True) ∷ [])
   pub negation_missing : IsRefused (unary tt UnaryOp.Neg get_rank) (Some TLong) (unknown_rank 2 ∷ [])
-  -- `(1).isEmpty()`
+  -- `[1].isEmpty()`, `(1).isEmpty()`
+  pub empty : IsTyped (unary tt UnaryOp.IsEmpty (set1 one)) bool_type
   pub empty_refused : IsRefused (unary tt UnaryOp.IsEmpty one) (Some bool_type)
       (error_at 2 (unexpected_type (TAnySet ∷ []) TLong) ∷ [])
   -- `"a" like "*"`, `1 like "*"`
