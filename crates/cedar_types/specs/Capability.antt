@@ -52,6 +52,10 @@ HasNone f = (q : Cap) → f q ≡ false
 abbrev pub HasJust : Cap → (Cap → Bool) → Type 0
 HasJust c f = (q : Cap) → f q ≡ cap_eq q c
 
+-- h has what f has, and c
+abbrev pub AddsJust : Cap → (Cap → Bool) → (Cap → Bool) → Type 0
+AddsJust c f h = (q : Cap) → h q ≡ (f q || cap_eq q c)
+
 -- h has what either has, or what both have, or what f has
 abbrev pub IsUnionOf : (Cap → Bool) → (Cap → Bool) → (Cap → Bool) → Type 0
 IsUnionOf f g h = (q : Cap) → h q ≡ (f q || g q)

@@ -1,9 +1,10 @@
--- What a type tells of attributes and of entity literals, in a schema.
+-- What a type tells of attributes, of tags and of entity literals, in a schema.
 use Rattle.std.specs.Prelude.{Bool, true, false, ◌&&◌, ◌||◌, List, [], ◌∷◌, Option, Some, None, option_map, is_some, fold, if◌then◌else◌}
-use Rattle.std.specs.List.{list_any}
+use Rattle.std.specs.List.{list_any, flat_map}
 use Rattle.cedar_types.specs.Names.{Text, Path, Uid, is_action_path}
 use Rattle.cedar_types.specs.Types.{ty_of, Ty, TNever, TBool, TLong, TString, TSet, TAnySet, TRecord, TEntity, TAnyEntity, TExtension}
 use Rattle.cedar_types.specs.Bounds.{find_attr, lub}
+use Rattle.cedar_types.specs.TypeOrder.{in_order}
 use Rattle.cedar_types.specs.Schemas.{TypeKind, StandardKind, EnumKind, ExternalKind, DeclaredType, Schema, type_named, declares_type, declares_action, is_open_type}
 use Rattle.cedar_types.specs.declared.base.types.AttributeType.{AttributeType}
 use Rattle.cedar_types.specs.declared.base.types.ValidationMode.TheVariants.{Permissive}
@@ -69,6 +70,34 @@ may_have s (TRecord xs o) a = is_some (find_attr a xs) || o
 may_have s (TEntity ps) a = list_any (may_declare s.types a) ps
 may_have s TAnyEntity a = true
 may_have s (TExtension n) a = false
+
+-- ---- tags
+
+-- only standard types declare tags, all of one type
+abbrev pub kind_tags : TypeKind → List Ty
+kind_tags (StandardKind attrs (Some t)) = t ∷ []
+kind_tags (StandardKind attrs None) = []
+kind_tags (EnumKind ids) = []
+kind_tags ExternalKind = []
+
+abbrev pub declared_tags : Option DeclaredType → List Ty
+declared_tags None = []
+declared_tags (Some t) = kind_tags t.kind
+
+-- what some entity types declare
+abbrev pub tags_of_types : List DeclaredType → List Path → List Ty
+tags_of_types ts ps = flat_map (λ p. declared_tags (type_named ts p)) ps
+
+-- what any type declares
+abbrev pub tags_of_any : List DeclaredType → List Ty
+tags_of_any ts = flat_map (λ t. kind_tags t.kind) ts
+
+-- the types that a tag of a value may have, ascending: of some entity types those that they declare, of
+-- any entity those that any type declares
+abbrev pub tag_types : Schema → Ty → List Ty
+tag_types s (TEntity ps) = in_order (tags_of_types s.types ps)
+tag_types s TAnyEntity = in_order (tags_of_any s.types)
+tag_types s t = []
 
 -- ---- entity literals
 

@@ -40,6 +40,7 @@ mod schemas;
 mod shapes;
 mod slots;
 mod subtypes;
+mod tag_types;
 mod templates;
 mod type_faults;
 pub mod type_laws;

@@ -2,7 +2,7 @@
 ghost use Rattle.std.specs.Prelude.{◌≡◌, IfOk, OnOk};
 ghost use Rattle.cedar_types.specs.Names.{text_of};
 ghost use Rattle.cedar_types.specs.View.{shape};
-ghost use Rattle.cedar_types.specs.Capability.{attribute, tag, cap_of, known_of, caps, HasNone, HasJust, IsUnionOf, IsIntersectionOf, IsSame};
+ghost use Rattle.cedar_types.specs.Capability.{attribute, tag, cap_of, known_of, caps, HasNone, HasJust, AddsJust, IsUnionOf, IsIntersectionOf, IsSame};
 
 use crate::base::{Expr, ExprShapeOnly};
 use std::alloc::{AllocError, Global};
@@ -114,6 +114,14 @@ impl<'a> CapabilitySet<'a> {
         ensures { result ≡ caps self.now (cap_of c.now) }
     {
         self.set.contains(c)
+    }
+
+    /// Adds a capability.
+    pub fn insert(&mut self, c: Capability<'a>) -> Result<(), AllocError>
+        ensures { OnOk result (AddsJust (cap_of c.entry) (caps self.old) (caps self.new)) }
+    {
+        self.set.insert(c)?;
+        Ok(())
     }
 
     /// A copy.
