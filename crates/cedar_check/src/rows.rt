@@ -1,15 +1,21 @@
 // The worked rows.
+mod chains;
 mod checks;
 mod equality;
 mod expected;
 mod guards;
+mod membership;
 mod operators;
+mod tags;
 
-use crate::fixtures::schemas::{photos, photos_with_options};
+use crate::fixtures::schemas::{groups, photos, photos_with_options};
+use crate::rows::chains::CHAINS;
 use crate::rows::checks::compared;
 use crate::rows::equality::{SIDES_WITHOUT_BOUND, TEST_BESIDE_EQUALITY};
 use crate::rows::guards::{CONDITIONAL_GUARDS, GUARDED_ACCESS, GUARDING_FORMS};
+use crate::rows::membership::MEMBERSHIPS;
 use crate::rows::operators::OPERATORS;
+use crate::rows::tags::TAGS;
 use cedar_types::base::{ExtensionSchemas, SchemaError, ValidatorSchema};
 use std::alloc::{AllocError, Global};
 
@@ -50,16 +56,22 @@ pub enum WorkedRow {
     TestBesideEquality,
     /// Sides of types that have no bound are compared, and an empty set is asked.
     SidesWithoutBound,
+    /// A tag is read behind a test, and without one.
+    Tags,
     /// An optional attribute is read beside a test, in forms that guard it and in others.
     GuardingForms,
     /// An optional attribute is read behind a conditional that tests it.
     ConditionalGuards,
     /// Operators are on what they accept, and on other operands.
     Operators,
+    /// Entities and actions are in others.
+    Memberships,
+    /// A chain of attributes is tested.
+    Chains,
 }
 
 /// The rows that are built, in the order in which they run.
-pub const WORKED: [NamedRow<WorkedRow>; 6] = [
+pub const WORKED: [NamedRow<WorkedRow>; 9] = [
     NamedRow {
         name: "10",
         row: WorkedRow::GuardedAccess,
@@ -73,6 +85,10 @@ pub const WORKED: [NamedRow<WorkedRow>; 6] = [
         row: WorkedRow::SidesWithoutBound,
     },
     NamedRow {
+        name: "28",
+        row: WorkedRow::Tags,
+    },
+    NamedRow {
         name: "31",
         row: WorkedRow::GuardingForms,
     },
@@ -84,13 +100,22 @@ pub const WORKED: [NamedRow<WorkedRow>; 6] = [
         name: "33",
         row: WorkedRow::Operators,
     },
+    NamedRow {
+        name: "34",
+        row: WorkedRow::Memberships,
+    },
+    NamedRow {
+        name: "35",
+        row: WorkedRow::Chains,
+    },
 ];
 
 impl WorkedRow {
     /// The schema that the row stands on.
     fn schema(&self, alloc: Global) -> Result<ValidatorSchema, SchemaError> {
         match self {
-            WorkedRow::SidesWithoutBound | WorkedRow::Operators => photos(alloc),
+            WorkedRow::SidesWithoutBound | WorkedRow::Tags | WorkedRow::Operators => photos(alloc),
+            WorkedRow::Memberships => groups(alloc),
             _ => photos_with_options(alloc),
         }
     }
@@ -106,9 +131,12 @@ impl WorkedRow {
             WorkedRow::GuardedAccess => compared(alloc, schema, x1, &GUARDED_ACCESS),
             WorkedRow::TestBesideEquality => compared(alloc, schema, x1, &TEST_BESIDE_EQUALITY),
             WorkedRow::SidesWithoutBound => compared(alloc, schema, x1, &SIDES_WITHOUT_BOUND),
+            WorkedRow::Tags => compared(alloc, schema, x1, &TAGS),
             WorkedRow::GuardingForms => compared(alloc, schema, x1, &GUARDING_FORMS),
             WorkedRow::ConditionalGuards => compared(alloc, schema, x1, &CONDITIONAL_GUARDS),
             WorkedRow::Operators => compared(alloc, schema, x1, &OPERATORS),
+            WorkedRow::Memberships => compared(alloc, schema, x1, &MEMBERSHIPS),
+            WorkedRow::Chains => compared(alloc, schema, x1, &CHAINS),
         }
     }
 }

@@ -2,3 +2,4 @@
 pub mod Values
 pub mod Strict
 pub mod Attributes
+pub mod Lists

@@ -9,7 +9,6 @@ use Rattle.cedar_typing.specs.Infer.Eager.{Operands, OperandsAndErrors, infer_no
 use Rattle.cedar_typing.specs.Infer.Parts.{AnswerAndErrors, Part}
 use Rattle.cedar_typing.specs.Judgments.{Judgment, PartResult, accepted, refused, missing}
 use Rattle.cedar_typing.specs.RuleLaws.{IsPassed, in_any_case, not_cut}
-use Rattle.cedar_typing.specs.Rules.Binary.{binary_rules}
 use Rattle.cedar_typing.specs.Rules.Eager.{Judgments, no_operands, ExpectedOperand, AfterCut, not_visited, all_given, also_cut, broken_here, broken_later, one_more, operand_cut, one_operand_rules, two_operand_rules}
 use Rattle.cedar_typing.specs.TypeEnv.{TypeEnv}
 use Rattle.cedar_typing.specs.TypedExpr.{TypedTree, annotation}
@@ -93,18 +92,8 @@ module _ (env : TypeEnv) (f : Form) (l : Option Loc) (J : Judgment) where
   operand_breaks es h = let b = this_is_cut env f.goes_on (first_expectation f.expects) l J no_operands infer_none none_agrees es h in (_, operand_cut b.2)
 
 module _ (env : TypeEnv) (f : Form) (l l' : Option Loc) (J J' : Judgment) where
-  operands_deep : (P : Type 0) → ((es : List Finding) → J.cuts es → P) → (IsPassed f.goes_on J → (es : List Finding) → J'.cuts es → P) → (es : List Finding) → (two_operand_rules env f l l' J J').cuts es → P
+  pub operands_deep : (P : Type 0) → ((es : List Finding) → J.cuts es → P) → (IsPassed f.goes_on J → (es : List Finding) → J'.cuts es → P) → (es : List Finding) → (two_operand_rules env f l l' J J').cuts es → P
   operands_deep P left right es (operand_cut {xs = xs} {es = fs} b) =
       let q = first_expectation (later_expectations f.expects) in
       one_is_cut env f.goes_on (first_expectation f.expects) l J (one_more env f.goes_on q l' J' no_operands) P left
       (λ p b. one_is_cut env f.goes_on q l' J' no_operands P (right p) (λ p b. absurd b.2) b.0 b.1 b.2) xs fs b
-
--- the same of an operator that may have no form yet
-module _ (env : TypeEnv) where
-  pub binary_deep : (o : Option Form) (l l' l'' : Option Loc) (J J' : Judgment) (P : Type 0) → ((f : Form) → o ≡ Some f → (es : List Finding) → J.cuts es → P) → ((f : Form) → o ≡ Some f → IsPassed f.goes_on J → (es : List Finding) → J'.cuts es → P)
-      → (es : List Finding) → (binary_rules env o l l' l'' J J').cuts es → P
-  binary_deep None l l' l'' J J' P left right es k = absurd k
-  binary_deep (Some f) l l' l'' J J' P left right es k = operands_deep env f l' l'' J J' P (left f refl) (right f refl) es k
-
-  pub binary_breaks : (o : Option Form) (f : Form) → o ≡ Some f → (l l' l'' : Option Loc) (J J' : Judgment) → (es : List Finding) × (two_operand_rules env f l' l'' J J').cuts es → (es : List Finding) × (binary_rules env o l l' l'' J J').cuts es
-  binary_breaks o f e l l' l'' J J' r = subst (λ z. (es : List Finding) × (binary_rules env z l l' l'' J J').cuts es) (sym e) r

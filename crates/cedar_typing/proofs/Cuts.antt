@@ -9,10 +9,11 @@ use Rattle.cedar_typing.specs.Infer.{infer}
 use Rattle.cedar_typing.specs.Infer.Eager.{infer_none}
 use Rattle.cedar_typing.specs.Infer.Parts.{Part, any_part}
 use Rattle.cedar_typing.specs.Judgments.{Cut, CutAt, the_cut, max_nesting, PartResult, Operand, too_deep, by_part}
-use Rattle.cedar_typing.specs.RuleLaws.{IsCut, IsVisited, itself, left_of_and, right_of_and, left_of_or, right_of_or, test_of_if, then_of_if, else_of_if, operand_of_unary, left_of_binary, right_of_binary, base_of_has, base_of_get, operand_of_like, operand_of_is, element_of_set, value_of_record, SomeIsVisited, in_first, in_later, SomeFieldIsVisited, in_first_field, in_later_field, CutIsByDepth}
+use Rattle.cedar_typing.specs.RuleLaws.{IsCut, IsVisited, itself, left_of_and, right_of_and, left_of_or, right_of_or, test_of_if, then_of_if, else_of_if, operand_of_unary, left_of_binary, right_of_binary, base_of_has, base_of_get, base_of_chain, operand_of_like, operand_of_is, element_of_set, value_of_record, SomeIsVisited, in_first, in_later, SomeFieldIsVisited, in_first_field, in_later_field, CutIsByDepth}
 use Rattle.cedar_typing.specs.Rules.{rules, rules_within, rules_all, rules_fields, Cuts}
 use Rattle.cedar_typing.specs.Rules.Attributes.{has_form, get_form}
 use Rattle.cedar_typing.specs.Rules.Binary.{binary_form}
+use Rattle.cedar_typing.specs.Rules.Chains.{chain_form}
 use Rattle.cedar_typing.specs.Rules.Conditional.{if_test_cut, if_true_cut, if_false_cut, if_then_cut, if_else_cut}
 use Rattle.cedar_typing.specs.Rules.Eager.{no_operands, operand_cut}
 use Rattle.cedar_typing.specs.Rules.ShortCircuit.{left_cut, right_cut}
@@ -23,7 +24,7 @@ use Rattle.cedar_typing.specs.TypedExpr.{Source, TypedTree, annotation, place_of
 use Rattle.cedar_typing.proofs.Agreement.Eager.{none_agrees, more_agree}
 use Rattle.cedar_typing.proofs.Agreement.Induction.{agrees, agrees_all, agrees_fields}
 use Rattle.cedar_typing.proofs.Agreement.Parts.{is_given, is_cut, PartAnswer, PartFound, part_found, part_visited}
-use Rattle.cedar_typing.proofs.BrokenOperands.{IsBroken, one_is_cut, this_is_cut, later_is_cut, operand_deep, binary_deep, operand_breaks, binary_breaks}
+use Rattle.cedar_typing.proofs.BrokenOperands.{IsBroken, one_is_cut, this_is_cut, later_is_cut, operand_deep, operands_deep, operand_breaks}
 use Rattle.cedar_typing.proofs.TypeTests.{true_is_not_false, false_is_not_true}
 
 abbrev Deep : TypeEnv → Source → Caps → ℕ → Type 0
@@ -53,9 +54,9 @@ mutual
       operand_deep env (unary_form m o) (place_of a) _ (Deep env (unary m o a) prior d)
       (λ es k. let r = below env a prior (d + 1) (deep_part env a prior (d + 1)) es k in (r.0, r.1, operand_of_unary h r.2)) es k
   deep_part env (binary m o a b) prior d h es k =
-      binary_deep env (binary_form env m a b o) m.place (place_of a) (place_of b) (rules env a prior (d + 1)) (rules env b prior (d + 1)) (Deep env (binary m o a b) prior d)
-      (λ f e es k. let r = below env a prior (d + 1) (deep_part env a prior (d + 1)) es k in (r.0, r.1, left_of_binary f h e r.2))
-      (λ f e p es k. let r = below env b prior (d + 1) (deep_part env b prior (d + 1)) es k in (r.0, r.1, right_of_binary f h e p r.2)) es k
+      operands_deep env (binary_form env m prior a b o) (place_of a) (place_of b) (rules env a prior (d + 1)) (rules env b prior (d + 1)) (Deep env (binary m o a b) prior d)
+      (λ es k. let r = below env a prior (d + 1) (deep_part env a prior (d + 1)) es k in (r.0, r.1, left_of_binary h r.2))
+      (λ p es k. let r = below env b prior (d + 1) (deep_part env b prior (d + 1)) es k in (r.0, r.1, right_of_binary h p r.2)) es k
   deep_part env (call m n ts) prior d h es k = absurd k
   deep_part env (get_attr m e x) prior d h es k =
       operand_deep env (get_form env m prior e x) (place_of e) _ (Deep env (get_attr m e x) prior d)
@@ -63,7 +64,9 @@ mutual
   deep_part env (has_attr m e x) prior d h es k =
       operand_deep env (has_form env m prior e x) (place_of e) _ (Deep env (has_attr m e x) prior d)
       (λ es k. let r = below env e prior (d + 1) (deep_part env e prior (d + 1)) es k in (r.0, r.1, base_of_has h r.2)) es k
-  deep_part env (ext_has_attr m a x xs) prior d h es k = absurd k
+  deep_part env (ext_has_attr m a x xs) prior d h es k =
+      operand_deep env (chain_form env m prior a x xs) (place_of a) _ (Deep env (ext_has_attr m a x xs) prior d)
+      (λ es k. let r = below env a prior (d + 1) (deep_part env a prior (d + 1)) es k in (r.0, r.1, base_of_chain h r.2)) es k
   deep_part env (like m a p) prior d h es k =
       operand_deep env (like_form m p) (place_of a) _ (Deep env (like m a p) prior d)
       (λ es k. let r = below env a prior (d + 1) (deep_part env a prior (d + 1)) es k in (r.0, r.1, operand_of_like h r.2)) es k
@@ -122,23 +125,24 @@ mutual
   cut env (or m a b) prior d k h (left_of_or n l) = let r = cut env a prior (d + 1) k h l in (r.0, by_part n (left_cut r.1))
   cut env (or m a b) prior d k h (right_of_or n o f l) = let r = cut env b prior (d + 1) k h l in (_, by_part n (right_cut o f r.1))
   cut env (unary m o a) prior d k h (operand_of_unary n l) = let r = cut env a prior (d + 1) k h l in let b = operand_breaks env (unary_form m o) (place_of a) _ r.0 r.1 in (b.0, by_part n b.1)
-  cut env (binary m o a b) prior d k h (left_of_binary f n e l) =
+  cut env (binary m o a b) prior d k h (left_of_binary n l) =
+      let f = binary_form env m prior a b o in
       let r = cut env a prior (d + 1) k h l in
       let right = more_agree env f.goes_on (first_expectation (later_expectations f.expects)) (place_of b) _ _ (agrees env b prior (d + 1)) _ _ none_agrees in
       let z = this_is_cut env f.goes_on (first_expectation f.expects) (place_of a) (rules env a prior (d + 1)) _ _ right r.0 r.1 in
-      let c = binary_breaks env _ f e m.place (place_of a) (place_of b) _ _ (_, operand_cut z.2) in
-      (c.0, by_part n c.1)
-  cut env (binary m o a b) prior d k h (right_of_binary f n e p l) =
+      (_, by_part n (operand_cut z.2))
+  cut env (binary m o a b) prior d k h (right_of_binary n p l) =
+      let f = binary_form env m prior a b o in
       let r = cut env b prior (d + 1) k h l in
       let y = this_is_cut env f.goes_on (first_expectation (later_expectations f.expects)) (place_of b) (rules env b prior (d + 1)) no_operands infer_none none_agrees r.0 r.1 in
       let z = later_is_cut env f.goes_on (first_expectation f.expects) (place_of a) (rules env a prior (d + 1)) _ _ (agrees env a prior (d + 1)) p y in
-      let c = binary_breaks env _ f e m.place (place_of a) (place_of b) _ _ (_, operand_cut z.2) in
-      (c.0, by_part n c.1)
+      (_, by_part n (operand_cut z.2))
   cut env (if_then_else m a b e) prior d k h (test_of_if n l) = let r = cut env a prior (d + 1) k h l in (r.0, by_part n (if_test_cut r.1))
   cut env (if_then_else m a b e) prior d k h (then_of_if {c = c} n o f l) = then_cut env m a b e prior d n _ c _ _ _ o refl f (cut env b (union prior c) (d + 1) k h l)
   cut env (if_then_else m a b e) prior d k h (else_of_if n o f l) = else_cut env m a b e prior d n _ _ _ _ _ o f refl (cut env e prior (d + 1) k h l)
   cut env (has_attr m e x) prior d k h (base_of_has n l) = let r = cut env e prior (d + 1) k h l in let b = operand_breaks env (has_form env m prior e x) (place_of e) _ r.0 r.1 in (b.0, by_part n b.1)
   cut env (get_attr m e x) prior d k h (base_of_get n l) = let r = cut env e prior (d + 1) k h l in let b = operand_breaks env (get_form env m prior e x) (place_of e) _ r.0 r.1 in (b.0, by_part n b.1)
+  cut env (ext_has_attr m e x xs) prior d k h (base_of_chain n l) = let r = cut env e prior (d + 1) k h l in let b = operand_breaks env (chain_form env m prior e x xs) (place_of e) _ r.0 r.1 in (b.0, by_part n b.1)
   cut env (like m a p) prior d k h (operand_of_like n l) = let r = cut env a prior (d + 1) k h l in let b = operand_breaks env (like_form m p) (place_of a) _ r.0 r.1 in (b.0, by_part n b.1)
   cut env (is_type m a x) prior d k h (operand_of_is n l) = let r = cut env a prior (d + 1) k h l in let b = operand_breaks env (is_form m x) (place_of a) _ r.0 r.1 in (b.0, by_part n b.1)
   cut env (set_of m ts) prior d k h (element_of_set n l) = let b = cut_all env true ts prior (d + 1) k h l in (_, by_part n (operand_cut b.2))

@@ -1,11 +1,15 @@
 pub mod Basics
 pub mod Sequence
 pub mod Marks
+pub mod Members
 pub mod TypeTests
 pub mod Agreement
 pub mod Operands
+pub mod TypesGiven
+pub mod ChainSteps
 pub mod TwoOperands
 pub mod Elements
+pub mod Ancestors
 pub mod FieldValues
 pub mod FieldsInOrder
 pub mod FieldViews

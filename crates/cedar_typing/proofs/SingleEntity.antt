@@ -4,6 +4,9 @@ pub mod Rules
 pub mod Eager
 pub mod Equality
 pub mod Collections
+pub mod Membership
+pub mod Tags
 pub mod Operators
+pub mod Chains
 pub mod Attributes
 pub mod Induction

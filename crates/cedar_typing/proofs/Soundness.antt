@@ -16,5 +16,8 @@ pub mod Disjunction
 pub mod Unary
 pub mod Conditional
 pub mod Attributes
+pub mod Membership
+pub mod Tags
+pub mod Chains
 pub mod Induction
 pub mod PolicyCheck

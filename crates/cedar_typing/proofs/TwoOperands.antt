@@ -5,6 +5,7 @@ use Rattle.cedar_types.specs.declared.base.location.Loc.{Loc}
 use Rattle.cedar_types.specs.Types.{Ty}
 use Rattle.cedar_types.specs.View.{Written}
 use Rattle.cedar_types.specs.Errors.{Finding}
+use Rattle.cedar_typing.specs.Capabilities.{Caps}
 use Rattle.cedar_typing.specs.Eager.{Expectation, Form, first_expectation, later_expectations}
 use Rattle.cedar_typing.specs.Infer.Eager.{Operands, all_typed, cut_after, OperandsAndErrors, infer_none, expect_operand, with_operand, infer_rest, infer_one_more, infer_form, infer_two_operands}
 use Rattle.cedar_typing.specs.Infer.Parts.{limit, Part, AnswerAndErrors}
@@ -13,26 +14,32 @@ use Rattle.cedar_typing.specs.TypedExpr.{Source}
 use Rattle.cedar_typing.specs.Views.{part_of, form_of_two, two_parts}
 use Rattle.cedar_typing.specs.declared.typecheck.answer.Part.{Part as TypedPart}
 use Rattle.cedar_typing.specs.declared.typecheck.rules.two_operands.TwoOperands.{TwoOperands}
-use Rattle.cedar_typing.specs.declared.typecheck.rules.two_operands.TwoOperands.TheVariants.{Equality, Comparison, Arithmetic, Contains, ContainsSeveral}
+use Rattle.cedar_typing.specs.declared.typecheck.rules.two_operands.TwoOperands.TheVariants.{Equality, Comparison, Arithmetic, Membership, Contains, ContainsSeveral, HasTag, GetTag}
 
 -- ---- what all of these forms have in common
 
-pub form_at : (env : TypeEnv) (m : Written) (a b : Source) (form : TwoOperands) → (form_of_two env m a b form).at ≡ m
-form_at env m a b Equality = refl
-form_at env m a b (Comparison o) = refl
-form_at env m a b (Arithmetic o) = refl
-form_at env m a b Contains = refl
-form_at env m a b (ContainsSeveral o) = refl
+pub form_at : (env : TypeEnv) (m : Written) (prior : Caps) (a b : Source) (form : TwoOperands) → (form_of_two env m prior a b form).at ≡ m
+form_at env m prior a b Equality = refl
+form_at env m prior a b (Comparison o) = refl
+form_at env m prior a b (Arithmetic o) = refl
+form_at env m prior a b Membership = refl
+form_at env m prior a b Contains = refl
+form_at env m prior a b (ContainsSeveral o) = refl
+form_at env m prior a b HasTag = refl
+form_at env m prior a b GetTag = refl
 
-no_errors_at_limit : (env : TypeEnv) (m : Written) (a b : Source) (form : TwoOperands) (ts : List (Option Ty)) → (form_of_two env m a b form).at_limit ts ≡ []
-no_errors_at_limit env m a b Equality ts = refl
-no_errors_at_limit env m a b (Comparison o) ts = refl
-no_errors_at_limit env m a b (Arithmetic o) ts = refl
-no_errors_at_limit env m a b Contains ts = refl
-no_errors_at_limit env m a b (ContainsSeveral o) ts = refl
+no_errors_at_limit : (env : TypeEnv) (m : Written) (prior : Caps) (a b : Source) (form : TwoOperands) (ts : List (Option Ty)) → (form_of_two env m prior a b form).at_limit ts ≡ []
+no_errors_at_limit env m prior a b Equality ts = refl
+no_errors_at_limit env m prior a b (Comparison o) ts = refl
+no_errors_at_limit env m prior a b (Arithmetic o) ts = refl
+no_errors_at_limit env m prior a b Membership ts = refl
+no_errors_at_limit env m prior a b Contains ts = refl
+no_errors_at_limit env m prior a b (ContainsSeveral o) ts = refl
+no_errors_at_limit env m prior a b HasTag ts = refl
+no_errors_at_limit env m prior a b GetTag ts = refl
 
-pub is_limit : (env : TypeEnv) (m : Written) (a b : Source) (form : TwoOperands) (ts : List (Option Ty)) (es : List Finding) → ◌≡◌ {A = AnswerAndErrors} (limit, es ++ (form_of_two env m a b form).at_limit ts) (limit, es)
-is_limit env m a b form ts es = ap (λ fs. (limit, fs)) (ap (λ fs. es ++ fs) (no_errors_at_limit env m a b form ts) ∙ append-nil es)
+pub is_limit : (env : TypeEnv) (m : Written) (prior : Caps) (a b : Source) (form : TwoOperands) (ts : List (Option Ty)) (es : List Finding) → ◌≡◌ {A = AnswerAndErrors} (limit, es ++ (form_of_two env m prior a b form).at_limit ts) (limit, es)
+is_limit env m prior a b form ts es = ap (λ fs. (limit, fs)) (ap (λ fs. es ++ fs) (no_errors_at_limit env m prior a b form ts) ∙ append-nil es)
 
 -- ---- the operands, from left to right
 

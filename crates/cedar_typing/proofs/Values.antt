@@ -2,3 +2,6 @@
 pub mod Equality
 pub mod Laws
 pub mod Attributes
+pub mod Tags
+pub mod Membership
+pub mod Ancestors

@@ -33,6 +33,8 @@ pub record Form : Type 0 where
   pub goes_on : Bool
   -- the table: by the type of each operand, if it has one
   pub decides : List (Option Ty) → Decision
+  -- the type of the whole where an operand failed, by the type that the table gives
+  pub type_if_failed : Ty → Ty
   -- the errors beside an operand that is too deep, by the types of those before it
   pub at_limit : List (Option Ty) → List Finding
   -- the typed whole: its mark, and the typed operands
@@ -87,6 +89,7 @@ on_one m q table node = record {
   expects = q ∷ [];
   goes_on = false;
   decides = λ ts. table (first_type ts);
+  type_if_failed = λ t. t;
   at_limit = λ ts. [];
   node = λ k xs. node k (first_tree xs);
 }
@@ -98,6 +101,7 @@ on_two m q r table node = record {
   expects = q ∷ r ∷ [];
   goes_on = false;
   decides = λ ts. table (first_type ts) (second_type ts);
+  type_if_failed = λ t. t;
   at_limit = λ ts. [];
   node = λ k xs. node k (first_tree xs) (second_tree xs);
 }

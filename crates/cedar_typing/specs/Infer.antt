@@ -6,14 +6,14 @@ use Rattle.cedar_types.specs.View.{Written}
 use Rattle.cedar_types.specs.Errors.{Finding}
 use Rattle.cedar_typing.specs.Capabilities.{Caps}
 use Rattle.cedar_typing.specs.Infer.Conditional.{infer_branches}
-use Rattle.cedar_typing.specs.Infer.Binary.{infer_binary}
-use Rattle.cedar_typing.specs.Infer.Eager.{OperandsAndErrors, infer_none, infer_one_more, infer_eager, infer_one_operand}
+use Rattle.cedar_typing.specs.Infer.Eager.{OperandsAndErrors, infer_none, infer_one_more, infer_eager, infer_one_operand, infer_two_operands}
 use Rattle.cedar_typing.specs.Infer.Leaves.{infer_leaf, infer_unknown, infer_unbuilt}
 use Rattle.cedar_typing.specs.Infer.Parts.{limit, AnswerAndErrors, expect, after}
 use Rattle.cedar_typing.specs.Infer.ShortCircuit.{infer_right}
 use Rattle.cedar_typing.specs.Judgments.{max_nesting}
 use Rattle.cedar_typing.specs.Rules.Attributes.{has_form, get_form}
 use Rattle.cedar_typing.specs.Rules.Binary.{binary_form}
+use Rattle.cedar_typing.specs.Rules.Chains.{chain_form}
 use Rattle.cedar_typing.specs.Rules.Collections.{set_form, field_keys, record_form}
 use Rattle.cedar_typing.specs.Rules.Leaves.{variable_type, slot_ty, type_of_literal}
 use Rattle.cedar_typing.specs.Rules.ShortCircuit.{Connective, conjunction, disjunction}
@@ -26,7 +26,6 @@ pub mod Leaves
 pub mod ShortCircuit
 pub mod Conditional
 pub mod Eager
-pub mod Binary
 
 -- the test of the limit
 abbrev pub unless_too_deep : ℕ → List Finding → AnswerAndErrors → AnswerAndErrors
@@ -58,7 +57,7 @@ abbrev mutual
       infer_one_operand env (unary_form m o) (place_of a)
       (λ es'. unless_too_deep (d + 1) es' (infer_within env a prior (d + 1) es')) es
   infer_within env (binary m o a b) prior d es =
-      infer_binary env (binary_form env m a b o) m.place (place_of a) (place_of b)
+      infer_two_operands env (binary_form env m prior a b o) (place_of a) (place_of b)
       (λ es'. unless_too_deep (d + 1) es' (infer_within env a prior (d + 1) es'))
       (λ es'. unless_too_deep (d + 1) es' (infer_within env b prior (d + 1) es')) es
   infer_within env (call m n ts) prior d es = infer_unbuilt env m.place es
@@ -68,7 +67,9 @@ abbrev mutual
   infer_within env (has_attr m e x) prior d es =
       infer_one_operand env (has_form env m prior e x) (place_of e)
       (λ es'. unless_too_deep (d + 1) es' (infer_within env e prior (d + 1) es')) es
-  infer_within env (ext_has_attr m a x xs) prior d es = infer_unbuilt env m.place es
+  infer_within env (ext_has_attr m a x xs) prior d es =
+      infer_one_operand env (chain_form env m prior a x xs) (place_of a)
+      (λ es'. unless_too_deep (d + 1) es' (infer_within env a prior (d + 1) es')) es
   infer_within env (like m a p) prior d es =
       infer_one_operand env (like_form m p) (place_of a)
       (λ es'. unless_too_deep (d + 1) es' (infer_within env a prior (d + 1) es')) es

@@ -1,15 +1,14 @@
 -- What the rules of typing have in common, and the check of a condition.
-use Rattle.std.specs.Prelude.{◌≡◌, ℕ, ◌+◌, ◌≤◌, ◌<◌, Bool, true, false, List, Some, ◌⊎◌, ◌↔◌}
+use Rattle.std.specs.Prelude.{◌≡◌, ℕ, ◌+◌, ◌≤◌, ◌<◌, Bool, true, false, List, ◌⊎◌, ◌↔◌}
 use Rattle.cedar_types.specs.declared.base.operators.BinaryOp.{BinaryOp}
 use Rattle.cedar_types.specs.declared.base.operators.UnaryOp.{UnaryOp}
 use Rattle.cedar_types.specs.declared.base.patterns.PatternElem.{PatternElem}
 use Rattle.cedar_types.specs.Names.{Text, Path}
 use Rattle.cedar_types.specs.Types.{Ty}
-use Rattle.cedar_types.specs.Tree.{if_then_else, and, or, unary, binary, has_attr, get_attr, like, is_type, set_of, record_of, Trees, tree, Fields, field}
+use Rattle.cedar_types.specs.Tree.{if_then_else, and, or, unary, binary, has_attr, get_attr, ext_has_attr, like, is_type, set_of, record_of, Trees, tree, Fields, field}
 use Rattle.cedar_types.specs.View.{Written}
 use Rattle.cedar_types.specs.Errors.{Finding}
 use Rattle.cedar_typing.specs.Capabilities.{Caps, union}
-use Rattle.cedar_typing.specs.Eager.{Form}
 use Rattle.cedar_typing.specs.Judgments.{Judgment, max_nesting, PartResult, Operand}
 use Rattle.cedar_typing.specs.PolicyCheck.{Verdict, PolicyChecks, SameVerdict}
 use Rattle.cedar_typing.specs.Rules.{rules, Derives, Recovers, Cuts}
@@ -97,20 +96,23 @@ mutual
     operand_of_unary : {m : Written} {o : UnaryOp} {a : Source} {prior : Caps} {d k : ℕ}
         → d ≤ max_nesting → IsVisited env a prior (d + 1) k
         → IsVisited env (unary m o a) prior d k
-    -- operands of an operator that has a form, from left to right
-    left_of_binary : {m : Written} {o : BinaryOp} {a b : Source} {prior : Caps} {d k : ℕ} (f : Form)
-        → d ≤ max_nesting → binary_form env m a b o ≡ Some f → IsVisited env a prior (d + 1) k
+    -- operands of an operator, from left to right
+    left_of_binary : {m : Written} {o : BinaryOp} {a b : Source} {prior : Caps} {d k : ℕ}
+        → d ≤ max_nesting → IsVisited env a prior (d + 1) k
         → IsVisited env (binary m o a b) prior d k
-    right_of_binary : {m : Written} {o : BinaryOp} {a b : Source} {prior : Caps} {d k : ℕ} (f : Form)
-        → d ≤ max_nesting → binary_form env m a b o ≡ Some f
-        → IsPassed f.goes_on (rules env a prior (d + 1)) → IsVisited env b prior (d + 1) k
-        → IsVisited env (binary m o a b) prior d k
+    right_of_binary : {m : Written} {o : BinaryOp} {a b : Source} {prior : Caps} {d k : ℕ}
+        → d ≤ max_nesting
+        → IsPassed (binary_form env m prior a b o).goes_on (rules env a prior (d + 1))
+        → IsVisited env b prior (d + 1) k → IsVisited env (binary m o a b) prior d k
     base_of_has : {m : Written} {e : Source} {x : Text} {prior : Caps} {d k : ℕ}
         → d ≤ max_nesting → IsVisited env e prior (d + 1) k
         → IsVisited env (has_attr m e x) prior d k
     base_of_get : {m : Written} {e : Source} {x : Text} {prior : Caps} {d k : ℕ}
         → d ≤ max_nesting → IsVisited env e prior (d + 1) k
         → IsVisited env (get_attr m e x) prior d k
+    base_of_chain : {m : Written} {e : Source} {x : Text} {xs : List Text} {prior : Caps} {d k : ℕ}
+        → d ≤ max_nesting → IsVisited env e prior (d + 1) k
+        → IsVisited env (ext_has_attr m e x xs) prior d k
     operand_of_like : {m : Written} {a : Source} {p : List PatternElem} {prior : Caps} {d k : ℕ}
         → d ≤ max_nesting → IsVisited env a prior (d + 1) k → IsVisited env (like m a p) prior d k
     operand_of_is : {m : Written} {a : Source} {n : Path} {prior : Caps} {d k : ℕ}

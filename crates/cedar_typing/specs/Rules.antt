@@ -6,10 +6,11 @@ use Rattle.cedar_types.specs.View.{Written}
 use Rattle.cedar_typing.specs.Capabilities.{Caps}
 use Rattle.cedar_typing.specs.Judgments.{Derivation, Recovery, Cut, Judgment, within}
 use Rattle.cedar_typing.specs.Rules.Attributes.{has_form, get_form}
-use Rattle.cedar_typing.specs.Rules.Binary.{binary_form, binary_rules}
+use Rattle.cedar_typing.specs.Rules.Binary.{binary_form}
+use Rattle.cedar_typing.specs.Rules.Chains.{chain_form}
 use Rattle.cedar_typing.specs.Rules.Collections.{set_form, field_keys, record_form}
 use Rattle.cedar_typing.specs.Rules.Conditional.{if_rules}
-use Rattle.cedar_typing.specs.Rules.Eager.{Judgments, no_operands, one_more, eager_rules, one_operand_rules}
+use Rattle.cedar_typing.specs.Rules.Eager.{Judgments, no_operands, one_more, eager_rules, one_operand_rules, two_operand_rules}
 use Rattle.cedar_typing.specs.Rules.Leaves.{variable_type, slot_ty, type_of_literal, leaf_rules, unknown_rules, unbuilt_rules}
 use Rattle.cedar_typing.specs.Rules.ShortCircuit.{conjunction, disjunction, short_circuit_rules}
 use Rattle.cedar_typing.specs.Rules.Unary.{unary_form, like_form, is_form}
@@ -23,7 +24,10 @@ pub mod Unary
 pub mod Attributes
 pub mod Numbers
 pub mod Equality
+pub mod Membership
+pub mod Tags
 pub mod Binary
+pub mod Chains
 pub mod Collections
 
 abbrev mutual
@@ -53,7 +57,7 @@ abbrev mutual
       one_operand_rules env (unary_form m o) (place_of a)
       (within (d + 1) (rules_within env a prior (d + 1)))
   rules_within env (binary m o a b) prior d =
-      binary_rules env (binary_form env m a b o) m.place (place_of a) (place_of b)
+      two_operand_rules env (binary_form env m prior a b o) (place_of a) (place_of b)
       (within (d + 1) (rules_within env a prior (d + 1)))
       (within (d + 1) (rules_within env b prior (d + 1)))
   rules_within env (call m n ts) prior d = unbuilt_rules env m.place
@@ -63,7 +67,9 @@ abbrev mutual
   rules_within env (has_attr m e x) prior d =
       one_operand_rules env (has_form env m prior e x) (place_of e)
       (within (d + 1) (rules_within env e prior (d + 1)))
-  rules_within env (ext_has_attr m a x xs) prior d = unbuilt_rules env m.place
+  rules_within env (ext_has_attr m a x xs) prior d =
+      one_operand_rules env (chain_form env m prior a x xs) (place_of a)
+      (within (d + 1) (rules_within env a prior (d + 1)))
   rules_within env (like m a p) prior d =
       one_operand_rules env (like_form m p) (place_of a)
       (within (d + 1) (rules_within env a prior (d + 1)))

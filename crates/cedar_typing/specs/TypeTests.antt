@@ -3,7 +3,7 @@ use Rattle.std.specs.Prelude.{Bool, true, false, List, [], ◌∷◌, Option, So
 use Rattle.std.specs.List.{list_any}
 use Rattle.cedar_types.specs.declared.base.types.BoolType.TheVariants.{AnyBool, True, False}
 use Rattle.cedar_types.specs.declared.base.types.ValidationMode.TheVariants.{Permissive}
-use Rattle.cedar_types.specs.Types.{Ty, TBool, TLong, TString, TAnySet, TRecord, TAnyEntity, no_attrs}
+use Rattle.cedar_types.specs.Types.{Ty, TBool, TLong, TString, TSet, TAnySet, TRecord, TAnyEntity, no_attrs}
 use Rattle.cedar_types.specs.Bounds.{is_subtype}
 
 -- ---- what an operand may have to be
@@ -28,6 +28,10 @@ set_types = TAnySet ∷ []
 -- any entity
 abbrev pub entity_types : List Ty
 entity_types = TAnyEntity ∷ []
+
+-- any entity, or any set of entities
+abbrev pub ancestor_types : List Ty
+ancestor_types = TSet TAnyEntity ∷ TAnyEntity ∷ []
 
 -- any record or any entity
 abbrev pub object_types : List Ty

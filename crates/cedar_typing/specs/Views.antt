@@ -9,7 +9,7 @@ use Rattle.cedar_types.specs.declared.base.expressions.Expr.{Expr}
 use Rattle.cedar_types.specs.declared.base.types.CedarType.{CedarType}
 use Rattle.cedar_types.specs.Names.{text_of, type_of, Text}
 use Rattle.cedar_types.specs.Types.{Ty, ty_of}
-use Rattle.cedar_types.specs.View.{Written, no_name, of_type}
+use Rattle.cedar_types.specs.View.{Written, no_name, of_type, chain_of, written}
 use Rattle.cedar_types.specs.Capability.{caps, HasNone}
 use Rattle.cedar_types.specs.Errors.{Finding, finding_of}
 use Rattle.cedar_types.specs.declared.types.capability.CapabilitySet.{CapabilitySet}
@@ -23,27 +23,35 @@ use Rattle.cedar_typing.specs.Infer.Eager.{Operands, all_typed, cut_after, infer
 use Rattle.cedar_typing.specs.Infer.Parts.{Answer, success, failure, limit, Part, part_with, AnswerAndErrors, expect, after}
 use Rattle.cedar_typing.specs.Infer.ShortCircuit.{infer_right}
 use Rattle.cedar_typing.specs.Rules.Attributes.{has_form, get_form}
+use Rattle.cedar_typing.specs.Rules.Chains.{Progress, chain_form}
 use Rattle.cedar_typing.specs.Rules.Equality.{equality_form, contains_form, contains_several_form}
+use Rattle.cedar_typing.specs.Rules.Membership.{in_form}
 use Rattle.cedar_typing.specs.Rules.Numbers.{arithmetic_form, comparison_form}
 use Rattle.cedar_typing.specs.Rules.ShortCircuit.{Side, right_ends, left_alone, right_alone, neither, Connective, conjunction, disjunction}
+use Rattle.cedar_typing.specs.Rules.Tags.{has_tag_form, get_tag_form}
 use Rattle.cedar_typing.specs.Rules.Unary.{unary_form, like_form, is_form}
 use Rattle.cedar_typing.specs.TypeEnv.{TypeEnv}
-use Rattle.cedar_typing.specs.TypeTests.{bool_types, long_types, string_types, set_types, entity_types, object_types}
+use Rattle.cedar_typing.specs.TypeTests.{bool_types, long_types, string_types, set_types, entity_types, ancestor_types, object_types}
 use Rattle.cedar_typing.specs.TypedExpr.{Source, typed_tree, place_of, TypedTree}
 use Rattle.cedar_typing.specs.declared.typecheck.answer.TypecheckAnswer.{TypecheckAnswer}
 use Rattle.cedar_typing.specs.declared.typecheck.answer.TypecheckAnswer.TheVariants.{TypecheckSuccess, TypecheckFail, RecursionLimit}
 use Rattle.cedar_typing.specs.declared.typecheck.answer.Part.{Part as TypedPart}
 use Rattle.cedar_typing.specs.declared.typecheck.sequence.Gathered.{Gathered}
 use Rattle.cedar_typing.specs.declared.typecheck.operands.Expected.{Expected}
+use Rattle.cedar_typing.specs.declared.typecheck.rules.chains.Progress.{Progress as TableProgress}
+use Rattle.cedar_typing.specs.declared.typecheck.rules.chains.Step.{Step}
+use Rattle.cedar_typing.specs.declared.typecheck.rules.chains.Step.TheVariants as step
+use Rattle.cedar_typing.specs.declared.typecheck.rules.chains.Link.{Link}
+use Rattle.cedar_typing.specs.declared.typecheck.rules.chains.Link.TheVariants as link
 use Rattle.cedar_typing.specs.declared.typecheck.rules.eager.Decision.{Decision as TableDecision}
 use Rattle.cedar_typing.specs.declared.typecheck.rules.eager.Decision.TheVariants.{Gives, Refuses}
 use Rattle.cedar_typing.specs.declared.typecheck.rules.one_operand.OneOperand.{OneOperand}
-use Rattle.cedar_typing.specs.declared.typecheck.rules.one_operand.OneOperand.TheVariants.{Unary, Has, Get, Like, Is}
+use Rattle.cedar_typing.specs.declared.typecheck.rules.one_operand.OneOperand.TheVariants.{Unary, Has, Get, Like, Is, Chain}
 use Rattle.cedar_typing.specs.declared.typecheck.rules.sets.Elements.{Elements}
 use Rattle.cedar_typing.specs.declared.typecheck.rules.short_circuit.Connective as connective
 use Rattle.cedar_typing.specs.declared.typecheck.rules.short_circuit.Side as side
 use Rattle.cedar_typing.specs.declared.typecheck.rules.two_operands.TwoOperands.{TwoOperands}
-use Rattle.cedar_typing.specs.declared.typecheck.rules.two_operands.TwoOperands.TheVariants.{Equality, Comparison, Arithmetic, Contains, ContainsSeveral}
+use Rattle.cedar_typing.specs.declared.typecheck.rules.two_operands.TwoOperands.TheVariants.{Equality, Comparison, Arithmetic, Membership, Contains, ContainsSeveral, HasTag, GetTag}
 use Rattle.cedar_typing.specs.declared.typecheck.single_env.SingleEnvTypechecker.{SingleEnvTypechecker}
 use Rattle.cedar_typing.specs.declared.typecheck.rules.records.FieldValues.{FieldValues}
 
@@ -69,6 +77,7 @@ expected_types Expected.Long = long_types
 expected_types Expected.String = string_types
 expected_types Expected.Set = set_types
 expected_types Expected.Entity = entity_types
+expected_types Expected.Ancestor = ancestor_types
 expected_types Expected.Object = object_types
 
 -- an answer
@@ -111,6 +120,7 @@ form_of_one env m prior e (Has x) = has_form env m prior e (text_of x.now)
 form_of_one env m prior e (Get x) = get_form env m prior e (text_of x.now)
 form_of_one env m prior e (Like p) = like_form m p.now.items
 form_of_one env m prior e (Is n) = is_form m (type_of n.now)
+form_of_one env m prior e (Chain c) = chain_form env m prior e (chain_of c.now).0 (chain_of c.now).1
 
 abbrev pub mark_of_one : Option Loc → OneOperand → Written
 mark_of_one l (Unary o) = at l
@@ -118,22 +128,26 @@ mark_of_one l (Has x) = at l
 mark_of_one l (Get x) = at l
 mark_of_one l (Like p) = at l
 mark_of_one l (Is n) = record { place = l; names = of_type n.now.loc }
+mark_of_one l (Chain c) = at l
 
 abbrev pub infer_one : TypeEnv → Written → Caps → Source → ℕ → OneOperand → List Finding → AnswerAndErrors
 infer_one env m prior e d form =
     infer_one_operand env (form_of_one env m prior e form) (place_of e) (infer env e prior (d + 1))
 
 -- two operands
-abbrev pub form_of_two : TypeEnv → Written → Source → Source → TwoOperands → Form
-form_of_two env m a b Equality = equality_form env m a b
-form_of_two env m a b (Comparison o) = comparison_form env m (place_of a) (place_of b) o
-form_of_two env m a b (Arithmetic o) = arithmetic_form m o
-form_of_two env m a b Contains = contains_form env m
-form_of_two env m a b (ContainsSeveral o) = contains_several_form env m o
+abbrev pub form_of_two : TypeEnv → Written → Caps → Source → Source → TwoOperands → Form
+form_of_two env m prior a b Equality = equality_form env m a b
+form_of_two env m prior a b (Comparison o) = comparison_form env m (place_of a) (place_of b) o
+form_of_two env m prior a b (Arithmetic o) = arithmetic_form m o
+form_of_two env m prior a b Membership = in_form env m a b
+form_of_two env m prior a b Contains = contains_form env m
+form_of_two env m prior a b (ContainsSeveral o) = contains_several_form env m o
+form_of_two env m prior a b HasTag = has_tag_form env m prior a b
+form_of_two env m prior a b GetTag = get_tag_form env m prior a b
 
 abbrev pub infer_two : TypeEnv → Written → Source → Source → Caps → ℕ → TwoOperands → List Finding → AnswerAndErrors
 infer_two env m a b prior d form =
-    infer_two_operands env (form_of_two env m a b form) (place_of a) (place_of b)
+    infer_two_operands env (form_of_two env m prior a b form) (place_of a) (place_of b)
     (infer env a prior (d + 1)) (infer env b prior (d + 1))
 
 -- two operands that are typed, or too deep
@@ -172,6 +186,24 @@ field_operands f =
 abbrev pub decision_without_errors : Option Ty → Decision
 decision_without_errors (Some t) = gives t no_caps
 decision_without_errors None = refuses None []
+
+-- what the steps of a chain say so far
+abbrev pub progress_of : TableProgress → Progress
+progress_of p = record { earned = caps p.earned; all_true = p.all_true }
+
+-- what a chain comes to by a step, or by a step and an access, where it goes on as `next` says
+abbrev pub by_step : Step → (Progress → Decision) → Decision
+by_step (step.Ends d) next = decision_of d
+by_step (step.GoesOn p) next = next (progress_of p)
+
+abbrev pub by_link : Link → (Ty → Progress → Decision) → Decision
+by_link (link.Ends d) next = decision_of d
+by_link (link.GoesOn r p) next = next (ty_of r.ty) (progress_of p)
+
+-- where it goes on, it has come to e
+abbrev pub GoesOnAt : Source → Link → Type 0
+GoesOnAt e (link.Ends d) = Unit {0}
+GoesOnAt e (link.GoesOn r p) = written r.e ≡ e
 
 -- ---- what answers give
 

@@ -25,18 +25,11 @@ fn is_built(kind: &ExprKind) -> bool {
     match kind {
         ExprKind::Lit(_) | ExprKind::Var(_) | ExprKind::Slot(_) | ExprKind::Unknown(_) => true,
         ExprKind::If { .. } | ExprKind::And(_, _) | ExprKind::Or(_, _) => true,
-        ExprKind::GetAttr(_, _) | ExprKind::HasAttr(_, _) => true,
-        ExprKind::UnaryApp(_, _) | ExprKind::Like(_, _) | ExprKind::Is(_, _) => true,
+        ExprKind::GetAttr(_, _) | ExprKind::HasAttr(_, _) | ExprKind::ExtHasAttr(_, _) => true,
+        ExprKind::UnaryApp(_, _) | ExprKind::BinaryApp(_, _, _) => true,
+        ExprKind::Like(_, _) | ExprKind::Is(_, _) => true,
         ExprKind::Set(_) | ExprKind::Record(_) => true,
-        ExprKind::BinaryApp(operator, _, _) => is_built_operator(*operator),
-        ExprKind::ExtHasAttr(_, _) | ExprKind::ExtensionFunctionApp(_, _) => false,
-    }
-}
-
-fn is_built_operator(operator: BinaryOp) -> bool {
-    match operator {
-        BinaryOp::In | BinaryOp::GetTag | BinaryOp::HasTag => false,
-        _ => true,
+        ExprKind::ExtensionFunctionApp(_, _) => false,
     }
 }
 

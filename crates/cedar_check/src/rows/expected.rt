@@ -1,11 +1,12 @@
 // What a check is to come to, and whether it did.
-use crate::fixtures::declarations::entity;
+use crate::fixtures::declarations::{entity, entity_type};
 use cedar_types::base::{
-    AttributeType, Attributes, CedarType, Loc, LubContext, OpenTag, PolicyID, ValidationError,
-    types_in_order,
+    AttributeType, Attributes, CedarType, EntityLUB, Loc, LubContext, OpenTag, PolicyID,
+    ValidationError, types_in_order,
 };
 use cedar_typing::typecheck::PolicyCheck;
 use std::alloc::{AllocError, Global};
+use std::collections::BTreeSet;
 use std::rc::RcStr;
 
 /// What a check comes to.
@@ -26,6 +27,10 @@ pub enum WantedError {
         at: Loc,
         attr: &'static str,
     },
+    /// A tag of a user is read without a test that it is there.
+    UnguardedTag {
+        at: Loc,
+    },
     /// Two types, in ascending order, have no bound.
     IncompatibleTypes {
         at: Loc,
@@ -36,10 +41,10 @@ pub enum WantedError {
     EmptySet {
         at: Loc,
     },
-    /// One type alone is accepted, and it is another.
+    /// One of some types, in ascending order, is accepted, and it is another.
     UnexpectedType {
         at: Loc,
-        expected: WantedType,
+        expected: &'static [WantedType],
         actual: WantedType,
     },
 }
@@ -47,9 +52,15 @@ pub enum WantedError {
 /// A type that an error names.
 #[derive(Clone, Copy)]
 pub enum WantedType {
+    Bool,
     Long,
     String,
     User,
+    Admins,
+    Bin,
+    /// An open record, without attributes that are known.
+    AnyRecord,
+    AnyEntity,
     /// A closed record with an attribute `a`, a Long.
     RecordOfA,
     /// The same with an attribute `b`, a Long too.
@@ -127,10 +138,12 @@ impl WantedError {
                 let at = Some(*at);
                 Ok(ValidationError::unsafe_optional_attribute_access(at, policy, user, attr))
             }
+            WantedError::UnguardedTag { at } => {
+                let user = EntityLUB::single_entity(alloc, entity_type(alloc, "User")?)?;
+                Ok(ValidationError::unsafe_tag_access(Some(*at), policy, Some(user)))
+            }
             WantedError::IncompatibleTypes { at, types, context } => {
-                let [first, second] = types;
-                let types = vec![in alloc; first.cedar_type(alloc)?, second.cedar_type(alloc)?]?;
-                let types = types_in_order(alloc, types)?;
+                let types = set_of(alloc, types)?;
                 Ok(ValidationError::incompatible_types(Some(*at), policy, types, *context))
             }
             WantedError::EmptySet { at } => {
@@ -141,8 +154,7 @@ impl WantedError {
                 expected,
                 actual,
             } => {
-                let types = vec![in alloc; expected.cedar_type(alloc)?]?;
-                let expected = types_in_order(alloc, types)?;
+                let expected = set_of(alloc, expected)?;
                 let actual = actual.cedar_type(alloc)?;
                 Ok(ValidationError::expected_one_of_types(Some(*at), policy, expected, actual))
             }
@@ -155,14 +167,16 @@ impl WantedError {
             WantedError::UnguardedAccess { at: _at, attr } => {
                 format!(in alloc; "access to optional attribute `{attr}` on `User` is not guarded")
             }
+            WantedError::UnguardedTag { at: _at } => {
+                String::from_str(alloc, "access to a tag of `User` is not guarded")
+            }
             WantedError::IncompatibleTypes {
                 at: _at,
                 types,
                 context: _context,
             } => {
-                let [first, second] = types;
-                let (first, second) = (first.text(), second.text());
-                format!(in alloc; "the types `{first}`, `{second}` are not compatible")
+                let types = texts(alloc, types, "`, `")?;
+                format!(in alloc; "the types `{types}` are not compatible")
             }
             WantedError::EmptySet { at: _at } => {
                 String::from_str(alloc, "empty set literals are forbidden")
@@ -172,7 +186,8 @@ impl WantedError {
                 expected,
                 actual,
             } => {
-                let (expected, actual) = (expected.text(), actual.text());
+                let expected = texts(alloc, expected, "` or `")?;
+                let actual = actual.text();
                 format!(in alloc; "unexpected type: expected `{expected}` but saw `{actual}`")
             }
         }?;
@@ -183,9 +198,14 @@ impl WantedError {
 impl WantedType {
     fn text(self) -> &'static str {
         match self {
+            WantedType::Bool => "Bool",
             WantedType::Long => "Long",
             WantedType::String => "String",
             WantedType::User => "User",
+            WantedType::Admins => "admins",
+            WantedType::Bin => "bin",
+            WantedType::AnyRecord => "{..}",
+            WantedType::AnyEntity => "entity",
             WantedType::RecordOfA => "{a: Long}",
             WantedType::RecordOfAAndB => "{a: Long, b: Long}",
         }
@@ -193,13 +213,36 @@ impl WantedType {
 
     fn cedar_type(self, alloc: Global) -> Result<CedarType, AllocError> {
         match self {
+            WantedType::Bool => Ok(CedarType::primitive_boolean()),
             WantedType::Long => Ok(CedarType::primitive_long()),
             WantedType::String => Ok(CedarType::primitive_string()),
             WantedType::User => entity(alloc, "User"),
+            WantedType::Admins => entity(alloc, "admins"),
+            WantedType::Bin => entity(alloc, "bin"),
+            WantedType::AnyRecord => CedarType::any_record(alloc),
+            WantedType::AnyEntity => Ok(CedarType::any_entity_reference()),
             WantedType::RecordOfA => record_of_longs(alloc, &["a"]),
             WantedType::RecordOfAAndB => record_of_longs(alloc, &["a", "b"]),
         }
     }
+}
+
+/// The set of these types.
+fn set_of(alloc: Global, types: &[WantedType]) -> Result<BTreeSet<CedarType>, AllocError> {
+    let mut all = Vec::new(alloc);
+    for wanted in types {
+        all.push(wanted.cedar_type(alloc)?)?;
+    }
+    types_in_order(alloc, all)
+}
+
+/// The texts of these types, with this between them.
+fn texts(alloc: Global, types: &[WantedType], between: &str) -> Result<String, AllocError> {
+    let mut all = Vec::new(alloc);
+    for wanted in types {
+        all.push(wanted.text())?;
+    }
+    all.as_slice().join(alloc, between)
 }
 
 /// The closed record of attributes with these names, each a Long.

@@ -16,7 +16,7 @@ pub const OPERATORS: [Case<OperatorForm>; 7] = [
         form: OperatorForm::StringLessThanNumber,
         expected: Expected::Fail(&[WantedError::UnexpectedType {
             at: Loc { start: 0, end: 3 },
-            expected: WantedType::Long,
+            expected: &[WantedType::Long],
             actual: WantedType::String,
         }]),
     },
@@ -26,12 +26,12 @@ pub const OPERATORS: [Case<OperatorForm>; 7] = [
         expected: Expected::Fail(&[
             WantedError::UnexpectedType {
                 at: Loc { start: 0, end: 3 },
-                expected: WantedType::Long,
+                expected: &[WantedType::Long],
                 actual: WantedType::String,
             },
             WantedError::UnexpectedType {
                 at: Loc { start: 6, end: 9 },
-                expected: WantedType::Long,
+                expected: &[WantedType::Long],
                 actual: WantedType::String,
             },
         ]),

@@ -32,21 +32,28 @@ const NICKNAME: WantedError = WantedError::UnguardedAccess {
 /// The left side is a string.
 const LEFT: WantedError = WantedError::UnexpectedType {
     at: Loc { start: 0, end: 3 },
-    expected: WantedType::Long,
+    expected: &[WantedType::Long],
     actual: WantedType::String,
 };
 
 /// The right side is a string.
 const RIGHT: WantedError = WantedError::UnexpectedType {
     at: Loc { start: 6, end: 9 },
-    expected: WantedType::Long,
+    expected: &[WantedType::Long],
+    actual: WantedType::String,
+};
+
+/// The same, where a text would be accepted too.
+const RIGHT_OF_EITHER: WantedError = WantedError::UnexpectedType {
+    at: Loc { start: 6, end: 9 },
+    expected: &[WantedType::Long, WantedType::String],
     actual: WantedType::String,
 };
 
 /// The right side is a user.
 const RIGHT_USER: WantedError = WantedError::UnexpectedType {
     at: Loc { start: 6, end: 9 },
-    expected: WantedType::Long,
+    expected: &[WantedType::Long],
     actual: WantedType::User,
 };
 
@@ -68,12 +75,13 @@ const MARK_IS_READ: [(Expected, bool); 6] = [
 ];
 
 /// Whether `"a" < "b"` comes to this.
-const STRINGS_ARE_COMPARED: [(Expected, bool); 6] = [
+const STRINGS_ARE_COMPARED: [(Expected, bool); 7] = [
     (Expected::Fail(&[LEFT, RIGHT]), true),
     (Expected::Fail(&[RIGHT, LEFT]), true),
     (Expected::Fail(&[LEFT, LEFT]), false),
     (Expected::Fail(&[LEFT]), false),
     (Expected::Fail(&[LEFT, RIGHT, RIGHT]), false),
+    (Expected::Fail(&[LEFT, RIGHT_OF_EITHER]), false),
     (Expected::Fail(&[LEFT, RIGHT_USER]), false),
 ];
 

@@ -13,8 +13,14 @@ const USAGE: &[u8] = b"usage: cedar-check [ROW]\n";
 const ROW_33: &[u8] = b"row 33: Success; Fail errors=1; Fail errors=2; Fail errors=1; \
     Irrelevant errors=0; Success; Fail errors=1; ok\n";
 
+const ROW_34: &[u8] = b"row 34: Success; Irrelevant errors=0; Success; Irrelevant errors=0; \
+    Fail errors=0; Fail errors=1; ok\n";
+
+const ROW_35: &[u8] = b"row 35: Success; Fail errors=1; Success; Irrelevant errors=0; \
+    Irrelevant errors=0; Fail errors=1; ok\n";
+
 /// The rows that are built, in order, and the line of each.
-const BUILT: [(&str, &[u8]); 6] = [
+const BUILT: [(&str, &[u8]); 9] = [
     ("10", b"row 10: Success; Fail errors=1; ok\n"),
     ("12", b"row 12: Fail errors=1; ok\n"),
     (
@@ -22,11 +28,17 @@ const BUILT: [(&str, &[u8]); 6] = [
         b"row 17: Irrelevant errors=0; Fail errors=1; Fail errors=1; ok\n",
     ),
     (
+        "28",
+        b"row 28: Success; Fail errors=1; Irrelevant errors=0; ok\n",
+    ),
+    (
         "31",
         b"row 31: Fail errors=1; Success; Fail errors=1; Fail errors=1; Success; ok\n",
     ),
     ("32", b"row 32: Success; Success; Fail errors=1; ok\n"),
     ("33", ROW_33),
+    ("34", ROW_34),
+    ("35", ROW_35),
 ];
 
 /// The ways in which a row can end.

@@ -5,7 +5,7 @@ use Rattle.cedar_types.specs.Types.{Ty}
 use Rattle.cedar_types.specs.Errors.{Finding}
 use Rattle.cedar_typing.specs.Capabilities.{Caps}
 use Rattle.cedar_typing.specs.Eager.{Expectation, meets, Decision, gives, refuses, Form, first_expectation, later_expectations, types_found}
-use Rattle.cedar_typing.specs.Infer.Eager.{Operands, all_typed, cut_after, OperandsAndErrors, infer_none, expect_operand, with_operand, infer_rest, infer_one_more, infer_decided, infer_form, infer_eager, infer_one_operand, infer_two_operands}
+use Rattle.cedar_typing.specs.Infer.Eager.{Operands, all_typed, cut_after, OperandsAndErrors, infer_none, expect_operand, with_operand, infer_rest, infer_one_more, infer_decided, infer_form, infer_eager, infer_one_operand, infer_two_operands, type_given}
 use Rattle.cedar_typing.specs.Infer.Parts.{Answer, success, failure, limit, Part, part_with, AnswerAndErrors, PartAndErrors, answer_if}
 use Rattle.cedar_typing.specs.Judgments.{Judgment, Giving, derived}
 use Rattle.cedar_typing.specs.Rules.Eager.{Judgments, NoneDerived, none_derived, NoneGiven, none_given, no_operands, ExpectedOperand, also_derived, also_given, AfterCut, not_visited, all_given, also_cut, broken_here, broken_later, one_more, eager_typed, operand_failed, table_refused, operand_cut, eager_rules, one_operand_rules, two_operand_rules}
@@ -171,7 +171,7 @@ module _ (f : Form) (node_mark : (k : Mark) (xs : List TypedTree) → mark_of (f
   abbrev Whole : Judgment
   Whole = eager_rules f Js
 
-  whole_given : (succeeded : Bool) (xs : List TypedTree) (added : List Finding) (t : Ty) (c : Caps) → Js.give succeeded xs added → f.decides (types_found xs) ≡ gives t c → Answers Whole (answer_if succeeded (f.node (typed t f.at) xs) c) added
+  whole_given : (succeeded : Bool) (xs : List TypedTree) (added : List Finding) (t : Ty) (c : Caps) → Js.give succeeded xs added → f.decides (types_found xs) ≡ gives t c → Answers Whole (answer_if succeeded (f.node (typed (type_given f succeeded t) f.at) xs) c) added
   whole_given true xs added t c h e =
       let g = base.good true xs added h refl in
       let P : List Finding → Type 0 = λ l. Answers Whole (success (f.node (typed t f.at) xs) c) l in

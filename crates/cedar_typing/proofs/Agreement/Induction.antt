@@ -12,6 +12,7 @@ use Rattle.cedar_typing.specs.Judgments.{Judgment, max_nesting, too_deep, by_par
 use Rattle.cedar_typing.specs.Rules.{rules, rules_within, rules_all, rules_fields}
 use Rattle.cedar_typing.specs.Rules.Attributes.{has_form, get_form}
 use Rattle.cedar_typing.specs.Rules.Binary.{binary_form}
+use Rattle.cedar_typing.specs.Rules.Chains.{chain_form}
 use Rattle.cedar_typing.specs.Rules.Collections.{set_form, field_keys, record_form}
 use Rattle.cedar_typing.specs.Rules.Leaves.{variable_type, slot_ty, type_of_literal}
 use Rattle.cedar_typing.specs.Rules.ShortCircuit.{conjunction, disjunction}
@@ -19,9 +20,9 @@ use Rattle.cedar_typing.specs.Rules.Unary.{unary_form, like_form, is_form}
 use Rattle.cedar_typing.specs.TypeEnv.{TypeEnv}
 use Rattle.cedar_typing.specs.TypedExpr.{Source, place_of}
 use Rattle.cedar_typing.proofs.Agreement.Conditional.{if_agrees}
-use Rattle.cedar_typing.proofs.Agreement.Eager.{AllAgree, none_agrees, more_agree, form_agrees, one_operand_agrees}
+use Rattle.cedar_typing.proofs.Agreement.Eager.{AllAgree, none_agrees, more_agree, form_agrees, one_operand_agrees, two_operands_agree}
 use Rattle.cedar_typing.proofs.Agreement.Leaves.{leaf_agrees, unknown_agrees, unbuilt_agrees}
-use Rattle.cedar_typing.proofs.Agreement.Operators.{unary_marked, binary_marked, binary_agrees}
+use Rattle.cedar_typing.proofs.Agreement.Operators.{unary_marked, binary_marked}
 use Rattle.cedar_typing.proofs.Agreement.Parts.{Answers, a_derived, a_recovered, a_cut, Found, Agrees}
 use Rattle.cedar_typing.proofs.Agreement.ShortCircuit.{short_circuit_agrees}
 
@@ -80,12 +81,12 @@ mutual
       short_circuit_agrees env disjunction (λ k x y. refl) m (place_of a) (place_of b) _ _ prior (infer env a prior (d + 1)) (λ p. infer env b p (d + 1)) (within_agrees (d + 1) _ _ (agrees_within env a prior (d + 1))) (λ p. within_agrees (d + 1) _ _ (agrees_within env b p (d + 1)))
   agrees_within env (unary m o a) prior d = one_operand_agrees env (unary_form m o) (unary_marked m o) (place_of a) _ (infer env a prior (d + 1)) (within_agrees (d + 1) _ _ (agrees_within env a prior (d + 1)))
   agrees_within env (binary m o a b) prior d =
-      binary_agrees env (binary_form env m a b o) (binary_marked env m a b o) m.place (place_of a) (place_of b) _ _ (infer env a prior (d + 1)) (infer env b prior (d + 1))
+      two_operands_agree env (binary_form env m prior a b o) (binary_marked env m prior a b o) (place_of a) (place_of b) _ _ (infer env a prior (d + 1)) (infer env b prior (d + 1))
       (within_agrees (d + 1) _ _ (agrees_within env a prior (d + 1))) (within_agrees (d + 1) _ _ (agrees_within env b prior (d + 1)))
   agrees_within env (call m n ts) prior d = unbuilt_agrees env m.place
   agrees_within env (get_attr m e x) prior d = one_operand_agrees env (get_form env m prior e x) (λ k xs. refl) (place_of e) _ (infer env e prior (d + 1)) (within_agrees (d + 1) _ _ (agrees_within env e prior (d + 1)))
   agrees_within env (has_attr m e x) prior d = one_operand_agrees env (has_form env m prior e x) (λ k xs. refl) (place_of e) _ (infer env e prior (d + 1)) (within_agrees (d + 1) _ _ (agrees_within env e prior (d + 1)))
-  agrees_within env (ext_has_attr m a x xs) prior d = unbuilt_agrees env m.place
+  agrees_within env (ext_has_attr m a x xs) prior d = one_operand_agrees env (chain_form env m prior a x xs) (λ k ys. refl) (place_of a) _ (infer env a prior (d + 1)) (within_agrees (d + 1) _ _ (agrees_within env a prior (d + 1)))
   agrees_within env (like m a p) prior d = one_operand_agrees env (like_form m p) (λ k xs. refl) (place_of a) _ (infer env a prior (d + 1)) (within_agrees (d + 1) _ _ (agrees_within env a prior (d + 1)))
   agrees_within env (is_type m a n) prior d = one_operand_agrees env (is_form m n) (λ k xs. refl) (place_of a) _ (infer env a prior (d + 1)) (within_agrees (d + 1) _ _ (agrees_within env a prior (d + 1)))
   agrees_within env (set_of m ts) prior d = form_agrees (set_form env m) (λ k xs. refl) _ _ (agrees_all env true ts prior (d + 1))

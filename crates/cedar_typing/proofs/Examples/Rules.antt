@@ -1,4 +1,6 @@
 -- The examples of the rules of typing, computed.
+pub mod Entities
+pub mod Nesting
 use Rattle.std.proofs.Common.{◌≡◌, ℕ, false, List, [], Option, Some, refl, sym, ◌∙◌, subst}
 use Rattle.std.specs.Prelude.{codes}
 use Rattle.cedar_types.specs.declared.base.types.BoolType.TheVariants.{AnyBool, False}
@@ -9,14 +11,11 @@ use Rattle.cedar_types.specs.Types.{Ty, TBool}
 use Rattle.cedar_types.specs.Errors.{Finding}
 use Rattle.cedar_typing.specs.Capabilities.{Caps, no_caps}
 use Rattle.cedar_typing.specs.Examples.Expressions.{false_lit, principal, numbered}
-use Rattle.cedar_typing.specs.Examples.Rules.{TypesAsIn, FailsWithIn, IsTypedIn, IsRefusedIn, CutsAt, ChecksAs, HandsOnNeither, typed_false}
-use Rattle.cedar_typing.specs.Examples.Rules.Attributes.{HasTyping, GetTyping}
-use Rattle.cedar_typing.specs.Examples.Rules.Check.{CheckTyping}
+use Rattle.cedar_typing.specs.Examples.Rules.{TypesAsIn, FailsWithIn, IsTypedIn, IsRefusedIn, IsRefusedKnowingIn, CutsAt, ChecksAs, HandsOnNeither, typed_false}
 use Rattle.cedar_typing.specs.Examples.Rules.Collections.{SetTyping, RecordTyping}
 use Rattle.cedar_typing.specs.Examples.Rules.Conditional.{ConditionalTyping}
 use Rattle.cedar_typing.specs.Examples.Rules.Equality.{EqualityTyping, MemberTyping}
 use Rattle.cedar_typing.specs.Examples.Rules.Leaves.{LeafTyping}
-use Rattle.cedar_typing.specs.Examples.Rules.Nesting.{NestingTyping}
 use Rattle.cedar_typing.specs.Examples.Rules.Numbers.{OperatorTyping, NumberTyping}
 use Rattle.cedar_typing.specs.Examples.Rules.ShortCircuit.{AndTyping, OrTyping}
 use Rattle.cedar_typing.specs.Examples.Rules.Unary.{UnaryTyping}
@@ -65,13 +64,13 @@ module _ (env : TypeEnv) (e : Source) (p : Caps) (d : ℕ) where
   pub cuts : (es : List Finding) → infer env e p d [] ≡ (limit, es) → Cuts env e p d es
   cuts es h = of_limit es (by_judge limit es h)
 
-types_as : {env : TypeEnv} {p : Caps} {e : Shape} {t : Ty} {c : Caps} {x : TypedTree} → annotation x ≡ Some t → infer env (numbered e) p 1 [] ≡ (success x c, []) → TypesAsIn env p e t c x
+pub types_as : {env : TypeEnv} {p : Caps} {e : Shape} {t : Ty} {c : Caps} {x : TypedTree} → annotation x ≡ Some t → infer env (numbered e) p 1 [] ≡ (success x c, []) → TypesAsIn env p e t c x
 types_as {env} {p} {e} {t} {c} {x} m h = record { has = has env (numbered e) p 1 t c x m h }
 
-fails_with : {env : TypeEnv} {e : Shape} {x : TypedTree} {es : List Finding} → infer env (numbered e) no_caps 1 [] ≡ (failure x, es) → FailsWithIn env e x es
+pub fails_with : {env : TypeEnv} {e : Shape} {x : TypedTree} {es : List Finding} → infer env (numbered e) no_caps 1 [] ≡ (failure x, es) → FailsWithIn env e x es
 fails_with {env} {e} {x} {es} h = record { recovers = recovers env (numbered e) no_caps 1 x es h }
 
-cuts_at : {d : ℕ} {e : Shape} {es : List Finding} → infer (sample Strict) (numbered e) no_caps d [] ≡ (limit, es) → CutsAt d e es
+pub cuts_at : {d : ℕ} {e : Shape} {es : List Finding} → infer (sample Strict) (numbered e) no_caps d [] ≡ (limit, es) → CutsAt d e es
 cuts_at {d} {e} {es} h = record { cuts = cuts (sample Strict) (numbered e) no_caps d es h }
 
 -- how an expression is typed, whatever comes of it
@@ -83,13 +82,20 @@ copy_of limit = typed_false 1
 abbrev copy_in : TypeEnv → Shape → TypedTree
 copy_in env e = copy_of (infer env (numbered e) no_caps 1 []).0
 
-is_typed : {env : TypeEnv} {e : Shape} {t : Ty} → annotation (copy_in env e) ≡ Some t → infer env (numbered e) no_caps 1 [] ≡ (success (copy_in env e) no_caps, []) → IsTypedIn env e t
+pub is_typed : {env : TypeEnv} {e : Shape} {t : Ty} → annotation (copy_in env e) ≡ Some t → infer env (numbered e) no_caps 1 [] ≡ (success (copy_in env e) no_caps, []) → IsTypedIn env e t
 is_typed {env} {e} {t} m h = record { copy = copy_in env e; has = has env (numbered e) no_caps 1 t no_caps (copy_in env e) m h }
 
-is_refused : {env : TypeEnv} {e : Shape} {t : Option Ty} {es : List Finding} → annotation (copy_in env e) ≡ t → infer env (numbered e) no_caps 1 [] ≡ (failure (copy_in env e), es) → IsRefusedIn env e t es
+pub is_refused : {env : TypeEnv} {e : Shape} {t : Option Ty} {es : List Finding} → annotation (copy_in env e) ≡ t → infer env (numbered e) no_caps 1 [] ≡ (failure (copy_in env e), es) → IsRefusedIn env e t es
 is_refused {env} {e} {t} {es} m h = record { copy = copy_in env e; stays = m; recovers = recovers env (numbered e) no_caps 1 (copy_in env e) es h }
 
-checks_as : {e : Shape} {v : Verdict} → policy_check (sample Strict) (numbered e) ≡ v → ChecksAs e v
+-- the same of a failure, where p is known
+abbrev copy_knowing : TypeEnv → Caps → Shape → TypedTree
+copy_knowing env p e = copy_of (infer env (numbered e) p 1 []).0
+
+pub refused_knowing : {env : TypeEnv} {p : Caps} {e : Shape} {t : Option Ty} {es : List Finding} → annotation (copy_knowing env p e) ≡ t → infer env (numbered e) p 1 [] ≡ (failure (copy_knowing env p e), es) → IsRefusedKnowingIn env p e t es
+refused_knowing {env} {p} {e} {t} {es} m h = record { copy = copy_knowing env p e; stays = m; recovers = recovers env (numbered e) p 1 (copy_knowing env p e) es h }
+
+pub checks_as : {e : Shape} {v : Verdict} → policy_check (sample Strict) (numbered e) ≡ v → ChecksAs e v
 checks_as {e} {v} h = record { checks = subst (PolicyChecks (sample Strict) (numbered e)) h (checked (sample Strict) (numbered e)) }
 
 -- what a success hands on, and how it is typed
@@ -191,35 +197,6 @@ conditional_typing = record {
   if_false_failed = fails_with refl;
 }
 
-pub has_typing : HasTyping
-has_typing = record {
-  has_required = types_as refl refl;
-  has_of_record = types_as refl refl;
-  has_optional = types_as refl refl;
-  has_known = types_as refl refl;
-  has_undeclared = types_as refl refl;
-  has_hidden = types_as refl refl;
-  has_refused = fails_with refl;
-  has_missing = fails_with refl;
-  has_failed = fails_with refl;
-  has_failed_false = fails_with refl;
-}
-
-pub get_typing : GetTyping
-get_typing = record {
-  get_required = types_as refl refl;
-  get_known = types_as refl refl;
-  get_unguarded = fails_with refl;
-  get_undeclared = fails_with refl;
-  get_hidden = types_as refl refl;
-  get_refused = fails_with refl;
-  get_missing = fails_with refl;
-  get_failed = fails_with refl;
-  get_failed_unguarded = fails_with refl;
-  get_failed_undeclared = fails_with refl;
-  get_failed_hidden = fails_with refl;
-}
-
 pub operator_typing : OperatorTyping
 operator_typing = record {
   negation = is_typed refl refl;
@@ -304,51 +281,4 @@ record_typing = record {
   value_failed = is_refused refl refl;
   keys_descend = is_refused refl refl;
   key_twice = is_refused refl refl;
-}
-
-pub nesting_typing : NestingTyping
-nesting_typing = record {
-  at_the_limit = has (sample Strict) (numbered false_lit) no_caps max_nesting (TBool False) no_caps (typed_false 1) refl refl;
-  past_the_limit = cuts_at refl;
-  base_of_has = cuts_at refl;
-  base_of_get = cuts_at refl;
-  base_of_has_counts = cuts_at refl;
-  base_of_get_counts = cuts_at refl;
-  left_of_and = cuts_at refl;
-  left_of_or = cuts_at refl;
-  left_of_and_counts = cuts_at refl;
-  left_of_or_counts = cuts_at refl;
-  right_of_and = cuts_at refl;
-  right_of_or = cuts_at refl;
-  operand_of_not = cuts_at refl;
-  test_of_if = cuts_at refl;
-  branch_of_true = cuts_at refl;
-  branch_of_false = cuts_at refl;
-  then_of_if = cuts_at refl;
-  else_of_if = cuts_at refl;
-  both_of_if = cuts_at refl;
-  left_of_less = cuts_at refl;
-  right_of_less = cuts_at refl;
-  left_of_sum = cuts_at refl;
-  left_of_equal = cuts_at refl;
-  right_of_equal = cuts_at refl;
-  both_of_equal = cuts_at refl;
-  element_of_set = cuts_at refl;
-  bound_before_cut = cuts_at refl;
-  value_of_record = cuts_at refl;
-  later_value_of_record = cuts_at refl;
-}
-
-pub check_typing : CheckTyping
-check_typing = record {
-  succeeded = checks_as refl;
-  never_true = checks_as refl;
-  refused = checks_as refl;
-  untyped = checks_as refl;
-  failed_base_long = checks_as refl;
-  failed_base_bool = checks_as refl;
-  failed_base_of_has = checks_as refl;
-  refused_and_never_true = checks_as refl;
-  failed_base_untyped = checks_as refl;
-  cut = checks_as refl;
 }

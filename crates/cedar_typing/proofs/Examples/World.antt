@@ -5,13 +5,13 @@ use Rattle.cedar_types.specs.declared.base.types.ValidationMode.TheVariants.{Str
 use Rattle.cedar_types.specs.Names.{Path, Uid, uid_eq, path_eq}
 use Rattle.cedar_types.specs.Comparisons.{uid_same}
 use Rattle.cedar_types.specs.Types.{Ty, TExtension}
-use Rattle.cedar_types.specs.Schemas.{is_among, type_named, declares_type, declares_action, descendants_of}
+use Rattle.cedar_types.specs.Schemas.{is_among, uid_is_among, type_named, declares_type, declares_action, descendants_of}
 use Rattle.cedar_types.specs.Values.{Value, Values, HasType}
-use Rattle.cedar_types.specs.Stores.{Entity, Store, entity_at, FitsDeclaration, ConformingStore}
+use Rattle.cedar_types.specs.Stores.{Entity, Store, entity_at, declares_ancestor, FitsDeclaration, ConformingStore}
 use Rattle.cedar_typing.specs.Evaluation.Conformance.{IsOneOf, FitsRequest, KeepsTable}
 use Rattle.cedar_typing.specs.Evaluation.Equality.{same_values}
 use Rattle.cedar_typing.specs.Evaluation.World.{Call, call_value}
-use Rattle.cedar_typing.specs.Examples.World.{user, decimal, bob, greet, a_context, sample_schema, decimal_table, sample, stored_greet, sample_store, sample_functions, greeting}
+use Rattle.cedar_typing.specs.Examples.World.{user, decimal, bob, greet, meet, act, a_context, sample_schema, decimal_table, sample, sample_store, sample_functions, greeting}
 use Rattle.cedar_typing.specs.Soundness.{IsReliable, IsWorldOf}
 use Rattle.cedar_typing.proofs.Basics.{some_is, none_is}
 
@@ -48,34 +48,82 @@ bobs_type v h =
     let P : Uid → Type 0 = λ z. IsTrue (declares_type sample_schema.types z.entity_type && is_among (descendants_of sample_schema.types z.entity_type) user) in
     subst P (sym (uid_same.to v bob (only_one (uid_eq v bob) h))) refl
 
--- no action is an ancestor of the action
-no_ancestor : (v : Uid) → false ≡ ((uid_eq v greet && false) || false)
-no_ancestor v = go (uid_eq v greet)
-  where
-    go : (b : Bool) → false ≡ ((b && false) || false)
-    go true = refl
-    go false = refl
+-- the actions have the ancestors that the schema declares
+abbrev HasDeclaredAncestors : Uid → List Uid → Type 0
+HasDeclaredAncestors u vs = (v : Uid) → uid_is_among vs v ≡ declares_ancestor sample_schema.actions u v
 
--- alice, bob and the action
+ancestors_of_greet : HasDeclaredAncestors greet (meet ∷ act ∷ [])
+ancestors_of_greet v = go (uid_eq v greet) (uid_eq v meet) (uid_eq v act)
+  where
+    go : (a b c : Bool) → (b || (c || false)) ≡ ((a && false) || ((b && true) || ((c && true) || false)))
+    go true true c = refl
+    go true false true = refl
+    go true false false = refl
+    go false true c = refl
+    go false false true = refl
+    go false false false = refl
+
+ancestors_of_meet : HasDeclaredAncestors meet (act ∷ [])
+ancestors_of_meet v = go (uid_eq v greet) (uid_eq v meet) (uid_eq v act)
+  where
+    go : (a b c : Bool) → (c || false) ≡ ((a && false) || ((b && false) || ((c && true) || false)))
+    go true true true = refl
+    go true true false = refl
+    go true false true = refl
+    go true false false = refl
+    go false true true = refl
+    go false true false = refl
+    go false false true = refl
+    go false false false = refl
+
+ancestors_of_act : HasDeclaredAncestors act []
+ancestors_of_act v = go (uid_eq v greet) (uid_eq v meet) (uid_eq v act)
+  where
+    go : (a b c : Bool) → false ≡ ((a && false) || ((b && false) || ((c && false) || false)))
+    go true true true = refl
+    go true true false = refl
+    go true false true = refl
+    go true false false = refl
+    go false true true = refl
+    go false true false = refl
+    go false false true = refl
+    go false false false = refl
+
+-- alice, bob and the actions
 fitting : AllEntities Fitting sample_store
 fitting = (
   record { attributes = ((tt, (refl, (((tt, tt), (refl, tt)), (tt, tt)))), (refl, (refl, (refl, (refl, tt))))); tagged = (tt, tt); ancestors = λ v h. bobs_type v h },
   (
     record { attributes = ((tt, (refl, (refl, (refl, tt)))), (refl, tt)); tagged = tt; ancestors = λ v h. none_among h },
     (
-      (refl, record { attributes = refl; ancestors = λ v. no_ancestor v; tags = refl }),
-      tt,
+      (refl, record { attributes = refl; ancestors = λ v. ancestors_of_greet v; tags = refl }),
+      (
+        (refl, record { attributes = refl; ancestors = λ v. ancestors_of_meet v; tags = refl }),
+        ((refl, record { attributes = refl; ancestors = λ v. ancestors_of_act v; tags = refl }), tt),
+      ),
     ),
   ),
 )
 
-declared_is : (u : Uid) → declares_action sample_schema.actions u ≡ true → u ≡ greet
-declared_is u h = uid_same.to u greet (only_one (uid_eq u greet) h)
+abbrev IsStored : Uid → Type 0
+IsStored u = (e : Entity) × (entity_at sample_store u ≡ Some e)
+
+stored_as : (u v : Uid) → uid_eq u v ≡ true → IsStored v → IsStored u
+stored_as u v q h = subst IsStored (sym (uid_same.to u v q)) h
+
+actions_are_stored : (u : Uid) → declares_action sample_schema.actions u ≡ true → IsStored u
+actions_are_stored u = go (uid_eq u greet) (uid_eq u meet) (uid_eq u act) refl refl refl
+  where
+    go : (a b c : Bool) → uid_eq u greet ≡ a → uid_eq u meet ≡ b → uid_eq u act ≡ c → (a || (b || (c || false))) ≡ true → IsStored u
+    go true b c p q r h = stored_as u greet p (_, refl)
+    go false true c p q r h = stored_as u meet q (_, refl)
+    go false false true p q r h = stored_as u act r (_, refl)
+    go false false false p q r h = none_among h
 
 store_conforms : ConformingStore sample_schema sample_store
 store_conforms = record {
   entities = λ u e h. all_found Fitting sample_store fitting u e h;
-  actions = λ u h. subst (λ v. (e : Entity) × (entity_at sample_store v ≡ Some e)) (sym (declared_is u h)) (stored_greet, refl);
+  actions = λ u h. actions_are_stored u h;
 }
 
 -- ---- the extension function

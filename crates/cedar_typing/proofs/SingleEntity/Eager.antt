@@ -61,7 +61,11 @@ decided_type (refuses t fs) = t
 abbrev pub SingleForm : Form → Type 0
 SingleForm f = (ts : List (Option Ty)) → AllSingle ts → HasSingleEntities (decided_type (f.decides ts))
 
-module _ (f : Form) (node_mark : (k : Mark) (xs : List TypedTree) → mark_of (f.node k xs) ≡ k) (form : SingleForm f) (Js : Judgments) (operands : SingleAll Js) where
+-- the same of the type where an operand failed
+abbrev pub SingleIfFailed : Form → Type 0
+SingleIfFailed f = (t : Ty) → HasSingleEntities (Some t) → HasSingleEntities (Some (f.type_if_failed t))
+
+module _ (f : Form) (node_mark : (k : Mark) (xs : List TypedTree) → mark_of (f.node k xs) ≡ k) (form : SingleForm f) (failed : SingleIfFailed f) (Js : Judgments) (operands : SingleAll Js) where
   abbrev Whole : Judgment
   Whole = eager_rules f Js
 
@@ -75,19 +79,19 @@ module _ (f : Form) (node_mark : (k : Mark) (xs : List TypedTree) → mark_of (f
   at_root k xs h = subst HasSingleEntities (sym (ap (λ (z : Mark). z.ty) (node_mark k xs))) h
 
   form_recovered : (x : TypedTree) (es : List Finding) → Whole.recovers x es → HasSingleEntities (annotation x)
-  form_recovered x es (operand_failed {t = t} {c = c} {xs = xs} h e) = at_root (typed t f.at) xs (by_decision xs (gives t c) (operands.givings false xs es h) e)
+  form_recovered x es (operand_failed {t = t} {c = c} {xs = xs} h e) = at_root (typed (f.type_if_failed t) f.at) xs (failed t (by_decision xs (gives t c) (operands.givings false xs es h) e))
   form_recovered x es (table_refused {succeeded = s} {t = t} {fs = fs} {xs = xs} {es = before} h e) = at_root (typed_as t f.at) xs (by_decision xs (refuses t fs) (operands.givings s xs before h) e)
 
   pub form_single : Marks Whole.derives → SingleEntities Whole
   form_single h = record { derivations = form_derived; recoveries = form_recovered; marks = h }
 
 -- a form with one operand
-pub one_operand_single : (env : TypeEnv) (f : Form) → ((k : Mark) (xs : List TypedTree) → mark_of (f.node k xs) ≡ k) → SingleForm f → (l : Option Loc) (J : Judgment) → SingleEntities J → Marks (one_operand_rules env f l J).derives → SingleEntities (one_operand_rules env f l J)
-one_operand_single env f node_mark form l J s h = form_single f node_mark form _ (more_single env f.goes_on (first_expectation f.expects) l J s no_operands none_single) h
+pub one_operand_single : (env : TypeEnv) (f : Form) → ((k : Mark) (xs : List TypedTree) → mark_of (f.node k xs) ≡ k) → SingleForm f → SingleIfFailed f → (l : Option Loc) (J : Judgment) → SingleEntities J → Marks (one_operand_rules env f l J).derives → SingleEntities (one_operand_rules env f l J)
+one_operand_single env f node_mark form failed l J s h = form_single f node_mark form failed _ (more_single env f.goes_on (first_expectation f.expects) l J s no_operands none_single) h
 
 -- a form with two operands
-pub two_operands_single : (env : TypeEnv) (f : Form) → ((k : Mark) (xs : List TypedTree) → mark_of (f.node k xs) ≡ k) → SingleForm f → (l l' : Option Loc) (J J' : Judgment) → SingleEntities J → SingleEntities J' → Marks (two_operand_rules env f l l' J J').derives
+pub two_operands_single : (env : TypeEnv) (f : Form) → ((k : Mark) (xs : List TypedTree) → mark_of (f.node k xs) ≡ k) → SingleForm f → SingleIfFailed f → (l l' : Option Loc) (J J' : Judgment) → SingleEntities J → SingleEntities J' → Marks (two_operand_rules env f l l' J J').derives
     → SingleEntities (two_operand_rules env f l l' J J')
-two_operands_single env f node_mark form l l' J J' s s' h =
+two_operands_single env f node_mark form failed l l' J J' s s' h =
     let right = more_single env f.goes_on (first_expectation (later_expectations f.expects)) l' J' s' no_operands none_single in
-    form_single f node_mark form _ (more_single env f.goes_on (first_expectation f.expects) l J s _ right) h
+    form_single f node_mark form failed _ (more_single env f.goes_on (first_expectation f.expects) l J s _ right) h

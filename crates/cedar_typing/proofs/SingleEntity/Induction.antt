@@ -1,7 +1,6 @@
 -- In Strict each type that is found names one entity type at most: all expressions.
 use Rattle.std.proofs.Common.{◌≡◌, inl, inr, ℕ, ◌+◌, Bool, true, false, not, List, [], ◌∷◌, ◌++◌, map, Option, Some, None, ◌&&◌, ◌||◌, if◌then◌else◌, refl, sym, subst}
 use Rattle.std.specs.List.{list_all, flat_map}
-use Rattle.cedar_types.specs.declared.base.location.Loc.{Loc}
 use Rattle.cedar_types.specs.declared.base.operators.Var.{Var}
 use Rattle.cedar_types.specs.declared.base.slots.SlotId.{SlotId}
 use Rattle.cedar_types.specs.declared.base.types.BoolType.TheVariants.{AnyBool, True}
@@ -19,12 +18,13 @@ use Rattle.cedar_types.specs.RequestEnvs.{Env, Declared, Undeclared, is_partial}
 use Rattle.cedar_types.specs.Errors.{Finding}
 use Rattle.cedar_types.proofs.Faultless.{faultless}
 use Rattle.cedar_typing.specs.Capabilities.{Caps, no_caps}
-use Rattle.cedar_typing.specs.Eager.{gives, refuses, Form}
+use Rattle.cedar_typing.specs.Eager.{gives, refuses}
 use Rattle.cedar_typing.specs.Evaluation.Conformance.{IsOneOf, IsEnvironmentOf}
 use Rattle.cedar_typing.specs.Judgments.{Judgment, within}
 use Rattle.cedar_typing.specs.Rules.{rules, rules_within, rules_all, rules_fields}
 use Rattle.cedar_typing.specs.Rules.Attributes.{attribute_of, has_decides, get_decides, has_form, get_form}
-use Rattle.cedar_typing.specs.Rules.Binary.{binary_form, binary_rules}
+use Rattle.cedar_typing.specs.Rules.Binary.{binary_form}
+use Rattle.cedar_typing.specs.Rules.Chains.{chain_form}
 use Rattle.cedar_typing.specs.Rules.Collections.{set_form, field_keys, record_form}
 use Rattle.cedar_typing.specs.Rules.Leaves.{leaf_rules, unknown_rules, unbuilt_rules, leaf_missing, unknown_fails, unbuilt, variable_type, slot_ty, linked_ty, type_of_literal, known_entity_type, unknown_entity_type, LeafRule, leaf, LeafRecovery, UnknownRecovery, UnbuiltRecovery}
 use Rattle.cedar_typing.specs.Rules.ShortCircuit.{conjunction, disjunction}
@@ -33,13 +33,14 @@ use Rattle.cedar_typing.specs.TypeEnv.{TypeEnv}
 use Rattle.cedar_typing.specs.TypeTests.{is_record as is_record_type}
 use Rattle.cedar_typing.specs.TypedExpr.{Source, TypedTree, Mark, annotation, place_of}
 use Rattle.cedar_typing.proofs.Agreement.Induction.{agrees_within}
-use Rattle.cedar_typing.proofs.Agreement.Operators.{OnForm, IsMarked, unary_marked, binary_marked}
+use Rattle.cedar_typing.proofs.Agreement.Operators.{unary_marked, binary_marked}
 use Rattle.cedar_typing.proofs.Agreement.Parts.{Marks}
 use Rattle.cedar_typing.proofs.Basics.{not_true}
 use Rattle.cedar_typing.proofs.SingleEntity.Attributes.{attribute_narrow}
+use Rattle.cedar_typing.proofs.SingleEntity.Chains.{chain_single}
 use Rattle.cedar_typing.proofs.SingleEntity.Collections.{set_single, record_single}
 use Rattle.cedar_typing.proofs.SingleEntity.Eager.{SingleForm, SingleAll, none_single, more_single, form_single, decided_type, one_operand_single, two_operands_single}
-use Rattle.cedar_typing.proofs.SingleEntity.Operators.{unary_single, binary_single, like_single, is_single}
+use Rattle.cedar_typing.proofs.SingleEntity.Operators.{unary_single, unary_failed_single, binary_single, binary_failed_single, like_single, is_single}
 use Rattle.cedar_typing.proofs.SingleEntity.Rules.{SingleEntities, pick, short_circuit_single, if_single}
 use Rattle.cedar_typing.proofs.SingleEntity.Types.{has_single_entities, HasSingleEntities, definite_narrow}
 
@@ -178,12 +179,6 @@ unknown_narrow n m x es unknown_fails = tt
 unknown_single : (n : Path) (m : Written) → SingleEntities (unknown_rules n m)
 unknown_single n m = record { derivations = λ t c x h. absurd h; recoveries = unknown_narrow n m; marks = λ t c x h. absurd h }
 
--- an operator that may have no form yet
-binary_rules_single : (env : TypeEnv) (f : Option Form) → OnForm IsMarked f → OnForm SingleForm f → (m : Written) (l l' : Option Loc) (J J' : Judgment) → SingleEntities J → SingleEntities J' → Marks (binary_rules env f m.place l l' J J').derives
-    → SingleEntities (binary_rules env f m.place l l' J J')
-binary_rules_single env None k form m l l' J J' s s' h = unbuilt_single env m
-binary_rules_single env (Some f) k form m l l' J J' s s' h = two_operands_single env f k form l l' J J' s s' h
-
 module _ (env : TypeEnv) (strict : env.mode ≡ Strict) (faults : has_fault env.schema ≡ false) (environment : IsEnvironmentOf env.schema env.request_env) where
   marks_of : (e : Source) (prior : Caps) (d : ℕ) → Marks (rules_within env e prior d).derives
   marks_of e prior d = (agrees_within env e prior d).marks
@@ -201,24 +196,25 @@ module _ (env : TypeEnv) (strict : env.mode ≡ Strict) (faults : has_fault env.
     single_within (or m a b) prior d =
         short_circuit_single env m (place_of a) _ _ prior (within_single (d + 1) _ (single_within a prior (d + 1))) (λ p. within_single (d + 1) _ (single_within b p (d + 1))) disjunction (λ k x y. refl) (place_of b) (marks_of (or m a b) prior d)
     single_within (unary m o a) prior d =
-        one_operand_single env (unary_form m o) (unary_marked m o) (unary_single m o) (place_of a) _ (within_single (d + 1) _ (single_within a prior (d + 1))) (marks_of (unary m o a) prior d)
+        one_operand_single env (unary_form m o) (unary_marked m o) (unary_single m o) (unary_failed_single m o) (place_of a) _ (within_single (d + 1) _ (single_within a prior (d + 1))) (marks_of (unary m o a) prior d)
     single_within (binary m o a b) prior d =
-        binary_rules_single env (binary_form env m a b o) (binary_marked env m a b o) (binary_single env m a b o) m (place_of a) (place_of b) _ _
+        two_operands_single env (binary_form env m prior a b o) (binary_marked env m prior a b o) (binary_single env strict faults m prior a b o) (binary_failed_single env strict faults m prior a b o) (place_of a) (place_of b) _ _
         (within_single (d + 1) _ (single_within a prior (d + 1))) (within_single (d + 1) _ (single_within b prior (d + 1))) (marks_of (binary m o a b) prior d)
     single_within (call m n ts) prior d = unbuilt_single env m
     single_within (get_attr m e x) prior d =
-        one_operand_single env (get_form env m prior e x) (λ k xs. refl) (get_single env faults m prior e x) (place_of e) _ (within_single (d + 1) _ (single_within e prior (d + 1))) (marks_of (get_attr m e x) prior d)
+        one_operand_single env (get_form env m prior e x) (λ k xs. refl) (get_single env faults m prior e x) (λ t h. h) (place_of e) _ (within_single (d + 1) _ (single_within e prior (d + 1))) (marks_of (get_attr m e x) prior d)
     single_within (has_attr m e x) prior d =
-        one_operand_single env (has_form env m prior e x) (λ k xs. refl) (has_single env faults m prior e x) (place_of e) _ (within_single (d + 1) _ (single_within e prior (d + 1))) (marks_of (has_attr m e x) prior d)
-    single_within (ext_has_attr m a x xs) prior d = unbuilt_single env m
+        one_operand_single env (has_form env m prior e x) (λ k xs. refl) (has_single env faults m prior e x) (λ t h. h) (place_of e) _ (within_single (d + 1) _ (single_within e prior (d + 1))) (marks_of (has_attr m e x) prior d)
+    single_within (ext_has_attr m a x xs) prior d =
+        one_operand_single env (chain_form env m prior a x xs) (λ k ys. refl) (chain_single env m prior a x xs) (λ t h. h) (place_of a) _ (within_single (d + 1) _ (single_within a prior (d + 1))) (marks_of (ext_has_attr m a x xs) prior d)
     single_within (like m a p) prior d =
-        one_operand_single env (like_form m p) (λ k xs. refl) (like_single m p) (place_of a) _ (within_single (d + 1) _ (single_within a prior (d + 1))) (marks_of (like m a p) prior d)
+        one_operand_single env (like_form m p) (λ k xs. refl) (like_single m p) (λ t h. h) (place_of a) _ (within_single (d + 1) _ (single_within a prior (d + 1))) (marks_of (like m a p) prior d)
     single_within (is_type m a n) prior d =
-        one_operand_single env (is_form m n) (λ k xs. refl) (is_single m n) (place_of a) _ (within_single (d + 1) _ (single_within a prior (d + 1))) (marks_of (is_type m a n) prior d)
+        one_operand_single env (is_form m n) (λ k xs. refl) (is_single m n) (λ t h. h) (place_of a) _ (within_single (d + 1) _ (single_within a prior (d + 1))) (marks_of (is_type m a n) prior d)
     single_within (set_of m ts) prior d =
-        form_single (set_form env m) (λ k xs. refl) (set_single env strict m) _ (single_all true ts prior (d + 1)) (marks_of (set_of m ts) prior d)
+        form_single (set_form env m) (λ k xs. refl) (set_single env strict m) (λ t h. h) _ (single_all true ts prior (d + 1)) (marks_of (set_of m ts) prior d)
     single_within (record_of m fs) prior d =
-        form_single (record_form m (field_keys fs)) (λ k xs. refl) (record_single m (field_keys fs)) _ (single_fields fs prior (d + 1)) (marks_of (record_of m fs) prior d)
+        form_single (record_form m (field_keys fs)) (λ k xs. refl) (record_single m (field_keys fs)) (λ t h. h) _ (single_fields fs prior (d + 1)) (marks_of (record_of m fs) prior d)
 
     -- expressions one after another
     pub single_all : (goes_on : Bool) (ts : Trees Written) (prior : Caps) (d : ℕ) → SingleAll (rules_all env goes_on ts prior d)

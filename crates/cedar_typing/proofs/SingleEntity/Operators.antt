@@ -6,12 +6,14 @@ use Rattle.cedar_types.specs.declared.base.operators.BinaryOp.{BinaryOp}
 use Rattle.cedar_types.specs.declared.base.operators.UnaryOp.{UnaryOp}
 use Rattle.cedar_types.specs.declared.base.patterns.PatternElem.{PatternElem}
 use Rattle.cedar_types.specs.declared.base.types.BoolType.TheVariants.{AnyBool, True, False}
+use Rattle.cedar_types.specs.declared.base.types.ValidationMode.TheVariants.{Strict}
 use Rattle.cedar_types.specs.Names.{Path}
 use Rattle.cedar_types.specs.Types.{Ty, TNever, TBool, TEntity, sole}
 use Rattle.cedar_types.specs.View.{Written}
-use Rattle.cedar_types.specs.Schemas.{is_among}
+use Rattle.cedar_types.specs.Schemas.{is_among, has_fault}
 use Rattle.cedar_types.specs.Bounds.{ty_eq, is_never}
 use Rattle.cedar_types.specs.Errors.{Finding}
+use Rattle.cedar_typing.specs.Capabilities.{Caps}
 use Rattle.cedar_typing.specs.Eager.{Decision, gives_unless}
 use Rattle.cedar_typing.specs.Rules.Binary.{binary_form}
 use Rattle.cedar_typing.specs.Rules.Numbers.{is_comparable, beside_never, compares, comparison_form}
@@ -19,13 +21,19 @@ use Rattle.cedar_typing.specs.Rules.Unary.{unary_form, like_form, is_type_of, is
 use Rattle.cedar_typing.specs.TypeEnv.{TypeEnv}
 use Rattle.cedar_typing.specs.TypedExpr.{Source}
 use Rattle.cedar_typing.specs.TypeTests.{is_true, is_false}
-use Rattle.cedar_typing.proofs.Agreement.Operators.{OnForm}
-use Rattle.cedar_typing.proofs.SingleEntity.Eager.{decided_type, SingleForm}
+use Rattle.cedar_typing.proofs.SingleEntity.Eager.{decided_type, SingleForm, SingleIfFailed}
 use Rattle.cedar_typing.proofs.SingleEntity.Equality.{equality_single, contains_single, contains_several_single}
+use Rattle.cedar_typing.proofs.SingleEntity.Membership.{in_single, in_failed_single}
 use Rattle.cedar_typing.proofs.SingleEntity.Rules.{pick}
+use Rattle.cedar_typing.proofs.SingleEntity.Tags.{has_tag_single, get_tag_single}
 use Rattle.cedar_typing.proofs.SingleEntity.Types.{has_single_entities, HasSingleEntities}
 
 -- ---- one operand
+
+pub unary_failed_single : (m : Written) (o : UnaryOp) → SingleIfFailed (unary_form m o)
+unary_failed_single m UnaryOp.Not = λ t h. h
+unary_failed_single m UnaryOp.Neg = λ t h. h
+unary_failed_single m UnaryOp.IsEmpty = λ t h. h
 
 pub unary_single : (m : Written) (o : UnaryOp) → SingleForm (unary_form m o)
 unary_single m UnaryOp.Not [] h = refl
@@ -77,16 +85,31 @@ module _ (env : TypeEnv) (l l' : Option Loc) where
 
 -- ---- two operands
 
-pub binary_single : (env : TypeEnv) (m : Written) (a b : Source) (o : BinaryOp) → OnForm SingleForm (binary_form env m a b o)
-binary_single env m a b BinaryOp.Eq = equality_single env m a b
-binary_single env m a b BinaryOp.Less = comparison_single env _ _ m BinaryOp.Less
-binary_single env m a b BinaryOp.LessEq = comparison_single env _ _ m BinaryOp.LessEq
-binary_single env m a b BinaryOp.Add = λ ts h. refl
-binary_single env m a b BinaryOp.Sub = λ ts h. refl
-binary_single env m a b BinaryOp.Mul = λ ts h. refl
-binary_single env m a b BinaryOp.In = tt
-binary_single env m a b BinaryOp.Contains = contains_single env m
-binary_single env m a b BinaryOp.ContainsAll = contains_several_single env m BinaryOp.ContainsAll
-binary_single env m a b BinaryOp.ContainsAny = contains_several_single env m BinaryOp.ContainsAny
-binary_single env m a b BinaryOp.GetTag = tt
-binary_single env m a b BinaryOp.HasTag = tt
+module _ (env : TypeEnv) (strict : env.mode ≡ Strict) (faults : has_fault env.schema ≡ false) (m : Written) (prior : Caps) (a b : Source) where
+  pub binary_single : (o : BinaryOp) → SingleForm (binary_form env m prior a b o)
+  binary_single BinaryOp.Eq = equality_single env m a b
+  binary_single BinaryOp.Less = comparison_single env _ _ m BinaryOp.Less
+  binary_single BinaryOp.LessEq = comparison_single env _ _ m BinaryOp.LessEq
+  binary_single BinaryOp.Add = λ ts h. refl
+  binary_single BinaryOp.Sub = λ ts h. refl
+  binary_single BinaryOp.Mul = λ ts h. refl
+  binary_single BinaryOp.In = in_single env m a b
+  binary_single BinaryOp.Contains = contains_single env m
+  binary_single BinaryOp.ContainsAll = contains_several_single env m BinaryOp.ContainsAll
+  binary_single BinaryOp.ContainsAny = contains_several_single env m BinaryOp.ContainsAny
+  binary_single BinaryOp.GetTag = get_tag_single env strict faults m prior a b
+  binary_single BinaryOp.HasTag = has_tag_single env m prior a b
+
+  pub binary_failed_single : (o : BinaryOp) → SingleIfFailed (binary_form env m prior a b o)
+  binary_failed_single BinaryOp.Eq = λ t h. h
+  binary_failed_single BinaryOp.Less = λ t h. h
+  binary_failed_single BinaryOp.LessEq = λ t h. h
+  binary_failed_single BinaryOp.Add = λ t h. h
+  binary_failed_single BinaryOp.Sub = λ t h. h
+  binary_failed_single BinaryOp.Mul = λ t h. h
+  binary_failed_single BinaryOp.In = in_failed_single env m a b
+  binary_failed_single BinaryOp.Contains = λ t h. h
+  binary_failed_single BinaryOp.ContainsAll = λ t h. h
+  binary_failed_single BinaryOp.ContainsAny = λ t h. h
+  binary_failed_single BinaryOp.GetTag = λ t h. h
+  binary_failed_single BinaryOp.HasTag = λ t h. h

@@ -147,7 +147,7 @@ module _ (env : TypeEnv) (world : World) (conforms : ConformingStore env.schema 
     }
 
   pub has_sound : SoundForm world (has_form env m prior e x) (base ∷ []) (eval world (has_attr m e x))
-  has_sound = record { typed = typed; succeeds = succeeds }
+  has_sound = record { typed = typed; succeeds = succeeds; failed = λ t h. h }
     where
       typed : (ts : List (Option Ty)) → AreTypes (has_form env m prior e x) (base ∷ []) ts → HasFound (decided_type ((has_form env m prior e x).decides ts)) (eval world (has_attr m e x))
       typed [] a = absurd a.have
@@ -181,7 +181,7 @@ module _ (env : TypeEnv) (world : World) (conforms : ConformingStore env.schema 
     get_gift None q = rw total tt
 
   pub get_sound : is_partial env.mode ≡ false → ((s : Ty) → has_single_entities s ≡ true → Joins env.schema s) → SoundForm world (get_form env m prior e x) (base ∷ []) (eval world (get_attr m e x))
-  get_sound total joins = record { typed = typed; succeeds = succeeds }
+  get_sound total joins = record { typed = typed; succeeds = succeeds; failed = λ t h. h }
     where
       typed : (ts : List (Option Ty)) → AreTypes (get_form env m prior e x) (base ∷ []) ts → HasFound (decided_type ((get_form env m prior e x).decides ts)) (eval world (get_attr m e x))
       typed [] a = absurd a.have

@@ -106,7 +106,7 @@ module _ (world : World) (types : List Path) (test : ℤ → ℤ → Bool) (pair
             silent_gift world (o ∷ o' ∷ []) both (TBool AnyBool) (λ k. both_long o o' p p' k.0 k.1.0)
 
     pub comparison_sound : (m : Written) (op : BinaryOp) → SoundForm world (comparison_form env m l l' op) (o ∷ o' ∷ []) both
-    comparison_sound m op = record { typed = stays; succeeds = succeeds }
+    comparison_sound m op = record { typed = stays; succeeds = succeeds; failed = λ t h. h }
       where
         stays : (ts : List (Option Ty)) → AreTypes (comparison_form env m l l' op) (o ∷ o' ∷ []) ts → HasFound (decided_type ((comparison_form env m l l' op).decides ts)) both
         stays [] a = absurd a.have

@@ -69,6 +69,8 @@ GiftIsSound world os o (refuses t fs) = Unit {0}
 pub record SoundForm (world : World) (f : Form) (os : List Outcome) (o : Outcome) : Type 0 where
   pub typed : (ts : List (Option Ty)) → AreTypes f os ts → HasFound (decided_type (f.decides ts)) o
   pub succeeds : (ts : List (Option Ty)) → AreTypes f os ts → AllFound ts → GiftIsSound world os o (f.decides ts)
+  -- the type that stays where an operand failed
+  pub failed : (t : Ty) → HasFound (Some t) o → HasFound (Some (f.type_if_failed t)) o
 
 -- ---- an operand that has to be of certain types, or may be anything
 
@@ -163,7 +165,14 @@ module _ (world : World) (f : Form) (node_mark : (k : Mark) (xs : List TypedTree
         caps_hold_at_true = g.caps_hold_at_true;
       }
 
-  -- what stays where an operand failed or the table refuses
+  -- what stays where the table gives a type and an operand failed
+  failed_stays : (xs : List TypedTree) (es : List Finding) (t : Ty) (c : Caps) → Js.give false xs es → f.decides (types_found xs) ≡ gives t c → Sound world o false (annotation (f.node (typed (f.type_if_failed t) f.at) xs)) no_caps
+  failed_stays xs es t c h e =
+      let a = types_of (types_found xs) (operands.givings false xs es h) in
+      let P : Option Ty → Type 0 = λ y. Sound world o false y no_caps in
+      subst P (sym (at_root (typed (f.type_if_failed t) f.at) xs)) (refused_sound world o (Some (f.type_if_failed t)) (form.failed t (subst (λ y. HasFound (decided_type y) o) e (form.typed (types_found xs) a))))
+
+  -- what stays where the table refuses
   stays : (b : Bool) (xs : List TypedTree) (es : List Finding) (z : Decision) (k : Mark) → Js.give b xs es → f.decides (types_found xs) ≡ z → k.ty ≡ decided_type z → Sound world o false (annotation (f.node k xs)) no_caps
   stays b xs es z k h e m =
       let a = types_of (types_found xs) (operands.givings b xs es h) in
@@ -171,7 +180,7 @@ module _ (world : World) (f : Form) (node_mark : (k : Mark) (xs : List TypedTree
       subst P (sym (at_root k xs)) (subst P (sym m) (refused_sound world o (decided_type z) (subst (λ y. HasFound (decided_type y) o) e (form.typed (types_found xs) a))))
 
   form_recovery : (x : TypedTree) (es : List Finding) → Whole.recovers x es → Sound world o false (annotation x) no_caps
-  form_recovery x es (operand_failed {t = t} {c = c} {xs = xs} h e) = stays false xs es (gives t c) (typed t f.at) h e refl
+  form_recovery x es (operand_failed {t = t} {c = c} {xs = xs} h e) = failed_stays xs es t c h e
   form_recovery x es (table_refused {succeeded = s} {t = t} {fs = fs} {xs = xs} {es = before} h e) = stays s xs before (refuses t fs) (typed_as t f.at) h e refl
 
   form_marks : (t : Ty) (c : Caps) (x : TypedTree) → Whole.derives t c x → annotation x ≡ Some t

@@ -187,7 +187,7 @@ module _ (world : World) (env : TypeEnv) (m : Written) (a b : Source) (o o' : Ou
 
   pub equality_sound : IsLiteral (literal_of env.request_env a) o → IsLiteral (literal_of env.request_env b) o'
       → SoundForm world (equality_form env m a b) (o ∷ o' ∷ []) equal
-  equality_sound left right = record { typed = typed; succeeds = succeeds }
+  equality_sound left right = record { typed = typed; succeeds = succeeds; failed = λ t h. h }
     where
       types_have : (ts : List (Option Ty)) → AllHave ts (o ∷ o' ∷ []) → HasFound (Some (found (first_type ts) (second_type ts))) equal
       types_have [] h = absurd h
@@ -262,7 +262,7 @@ module _ (m : Written) (right : Expectation) (errors : Option Ty → Option Ty �
     whole = on_value o (λ x. on_value o' (operator x))
 
     membership_sound : SoundForm world membership_form (o ∷ o' ∷ []) whole
-    membership_sound = record { typed = typed; succeeds = succeeds }
+    membership_sound = record { typed = typed; succeeds = succeeds; failed = λ t h. h }
       where
         typed : (ts : List (Option Ty)) → AreTypes membership_form (o ∷ o' ∷ []) ts → HasFound (decided_type (membership_form.decides ts)) whole
         typed ts h =

@@ -41,7 +41,7 @@ module _ (ts : List Ty) (t : Ty) (f : Value → Outcome) (typed : (v : Value) �
     one_succeeds (Some s ∷ us) a k = silent_gift world (o ∷ []) (on_value o f) t (λ h. value_safe s o a.meet.0 a.have.0 h.0)
 
     pub one_value_sound : SoundForm world one_form (o ∷ []) (on_value o f)
-    one_value_sound = record { typed = λ us a. value_typed o; succeeds = one_succeeds }
+    one_value_sound = record { typed = λ us a. value_typed o; succeeds = one_succeeds; failed = λ t h. h }
 
 -- ---- two operands
 
@@ -73,4 +73,4 @@ module _ (ts us : List Ty) (t : Ty) (f : Value → Value → Outcome) (typed : (
         silent_gift world (o ∷ o' ∷ []) (both o o') t (λ h. values_safe r s o o' a.meet.0 a.meet.1.0 a.have.0 a.have.1.0 h.0 h.1.0)
 
     pub two_values_sound : SoundForm world two_form (o ∷ o' ∷ []) (both o o')
-    two_values_sound = record { typed = λ xs a. values_typed o o'; succeeds = two_succeed }
+    two_values_sound = record { typed = λ xs a. values_typed o o'; succeeds = two_succeed; failed = λ t h. h }

@@ -1,7 +1,6 @@
 -- What has a type does not go wrong: the induction over expressions.
-use Rattle.std.proofs.Common.{◌≡◌, ℕ, ◌+◌, Bool, true, false, List, [], ◌∷◌, Option, Some, None, refl, ap, subst, sym}
+use Rattle.std.proofs.Common.{◌≡◌, ℕ, ◌+◌, Bool, true, false, List, [], ◌∷◌, refl, ap, subst, sym}
 use Rattle.std.specs.Prelude.{◌+ℤ◌, ◌-ℤ◌, ◌*ℤ◌, int_lt, int_le}
-use Rattle.cedar_types.specs.declared.base.location.Loc.{Loc}
 use Rattle.cedar_types.specs.declared.base.operators.BinaryOp.{BinaryOp}
 use Rattle.cedar_types.specs.declared.base.operators.UnaryOp.{UnaryOp}
 use Rattle.cedar_types.specs.declared.base.types.BoolType.TheVariants.{True}
@@ -15,25 +14,26 @@ use Rattle.cedar_types.specs.RequestEnvs.{is_partial}
 use Rattle.cedar_types.specs.Errors.{Finding}
 use Rattle.cedar_types.specs.Stores.{ConformingStore}
 use Rattle.cedar_typing.specs.Capabilities.{Caps, no_caps}
-use Rattle.cedar_typing.specs.Eager.{Form}
-use Rattle.cedar_typing.specs.Evaluation.Conformance.{Fits, IsEnvironmentOf, SlotsBound, AllSlotsBound, FieldSlotsBound, AllHold}
+use Rattle.cedar_typing.specs.Evaluation.Conformance.{Fits, IsEnvironmentOf, SlotsBound, AllSlotsBound, FieldSlotsBound, has_external, AllHold}
 use Rattle.cedar_typing.specs.Evaluation.Eval.{unary_outcome, eval}
 use Rattle.cedar_typing.specs.Evaluation.World.{World, Outcome}
 use Rattle.cedar_typing.specs.Judgments.{Judgment, within}
 use Rattle.cedar_typing.specs.Rules.{rules, rules_within, rules_all, rules_fields}
 use Rattle.cedar_typing.specs.Rules.Attributes.{has_form, get_form}
-use Rattle.cedar_typing.specs.Rules.Binary.{binary_form, binary_rules}
+use Rattle.cedar_typing.specs.Rules.Binary.{binary_form}
+use Rattle.cedar_typing.specs.Rules.Chains.{chain_form}
 use Rattle.cedar_typing.specs.Rules.Leaves.{UnknownRecovery, unknown_fails, unknown_rules, UnbuiltRecovery, unbuilt, unbuilt_rules}
 use Rattle.cedar_typing.specs.Rules.Unary.{unary_form, like_form, is_form}
 use Rattle.cedar_typing.specs.Soundness.{HasFound, IsSoundAt, TypeSoundness}
 use Rattle.cedar_typing.specs.TypeEnv.{TypeEnv}
 use Rattle.cedar_typing.specs.TypedExpr.{Source, TypedTree, annotation, place_of}
-use Rattle.cedar_typing.proofs.Agreement.Operators.{OnForm, IsMarked, unary_marked, binary_marked}
+use Rattle.cedar_typing.proofs.Agreement.Operators.{unary_marked, binary_marked}
 use Rattle.cedar_typing.proofs.Bounds.Attributes.{Joins}
 use Rattle.cedar_typing.proofs.SingleEntity.Induction.{single_entity_types}
 use Rattle.cedar_typing.proofs.SingleEntity.Rules.{SingleEntities}
 use Rattle.cedar_typing.proofs.SingleEntity.Types.{has_single_entities}
 use Rattle.cedar_typing.proofs.Soundness.Attributes.{has_sound, get_sound}
+use Rattle.cedar_typing.proofs.Soundness.Chains.{chain_sound}
 use Rattle.cedar_typing.proofs.Soundness.Comparison.{comparison_sound}
 use Rattle.cedar_typing.proofs.Soundness.Conditional.{if_sounds}
 use Rattle.cedar_typing.proofs.Soundness.Conjunction.{and_sounds}
@@ -42,10 +42,12 @@ use Rattle.cedar_typing.proofs.Soundness.Eager.{SoundForm, SoundsAll, none_sound
 use Rattle.cedar_typing.proofs.Soundness.Equality.{literal_outcome, equality_sound, contains_sound, contains_all_sound, contains_any_sound}
 use Rattle.cedar_typing.proofs.Soundness.Kinds.{is_empty_sound, like_sound, is_sound}
 use Rattle.cedar_typing.proofs.Soundness.Leaves.{literal_has, variable_has, slot_sound, leaf_sounds, always_sounds}
+use Rattle.cedar_typing.proofs.Soundness.Membership.{in_sound}
 use Rattle.cedar_typing.proofs.Soundness.Numbers.{negation_sound, operator_sound}
 use Rattle.cedar_typing.proofs.Soundness.Parts.{Sound, Sounds, nothing_sound}
 use Rattle.cedar_typing.proofs.Soundness.Records.{field_outcomes, record_sounds}
 use Rattle.cedar_typing.proofs.Soundness.Sets.{outcomes, set_sounds}
+use Rattle.cedar_typing.proofs.Soundness.Tags.{has_tag_sound, get_tag_sound}
 use Rattle.cedar_typing.proofs.Soundness.Unary.{not_sound}
 
 -- ---- forms without a rule, and the limit
@@ -92,36 +94,31 @@ unary_sound world o m UnaryOp.Not = not_sound world o m
 unary_sound world o m UnaryOp.Neg = negation_sound world m o
 unary_sound world o m UnaryOp.IsEmpty = is_empty_sound world m o
 
-module _ (env : TypeEnv) (world : World) (strict : env.mode ≡ Strict) (faults : has_fault env.schema ≡ false) (environment : IsEnvironmentOf env.schema env.request_env) (fits : Fits env.request_env world.request world.slots) (store : ConformingStore env.schema world.store) where
+module _ (env : TypeEnv) (world : World) (strict : env.mode ≡ Strict) (faults : has_fault env.schema ≡ false) (closed : has_external env.schema ≡ false) (environment : IsEnvironmentOf env.schema env.request_env) (fits : Fits env.request_env world.request world.slots) (store : ConformingStore env.schema world.store) where
   partial : is_partial env.mode ≡ false
   partial = ap is_partial strict
 
   single_at : (e : Source) (prior : Caps) (d : ℕ) → SingleEntities (rules env e prior d)
   single_at = single_entity_types env strict faults environment
 
-  -- what an operator on two operands promises, if it has a form yet
-  abbrev OperatorIsSound : Written → Source → Source → BinaryOp → Option Form → Type 0
-  OperatorIsSound m x y o f = OnForm (λ f. SoundForm world f (eval world x ∷ eval world y ∷ []) (eval world (binary m o x y))) f
+  -- what an operator on two operands promises
+  abbrev OperatorIsSound : Written → Caps → Source → Source → BinaryOp → Type 0
+  OperatorIsSound m prior x y o = SoundForm world (binary_form env m prior x y o) (eval world x ∷ eval world y ∷ []) (eval world (binary m o x y))
 
-  binary_sound : (m : Written) (x y : Source) (o : BinaryOp) → OperatorIsSound m x y o (binary_form env m x y o)
-  binary_sound m x y BinaryOp.Eq =
+  binary_sound : (m : Written) (prior : Caps) (x y : Source) (o : BinaryOp) → AllHold world prior → OperatorIsSound m prior x y o
+  binary_sound m prior x y BinaryOp.Eq h =
       equality_sound world env m x y (eval world x) (eval world y) (literal_outcome world env.request_env fits x) (literal_outcome world env.request_env fits y)
-  binary_sound m x y BinaryOp.Less = comparison_sound world world.functions.overloaded_types int_lt world.functions.less (eval world x) (eval world y) env (place_of x) (place_of y) m BinaryOp.Less
-  binary_sound m x y BinaryOp.LessEq = comparison_sound world world.functions.overloaded_types int_le world.functions.less_or_equal (eval world x) (eval world y) env (place_of x) (place_of y) m BinaryOp.LessEq
-  binary_sound m x y BinaryOp.Add = operator_sound (λ a b. a +ℤ b) world m BinaryOp.Add (eval world x) (eval world y)
-  binary_sound m x y BinaryOp.Sub = operator_sound (λ a b. a -ℤ b) world m BinaryOp.Sub (eval world x) (eval world y)
-  binary_sound m x y BinaryOp.Mul = operator_sound (λ a b. a *ℤ b) world m BinaryOp.Mul (eval world x) (eval world y)
-  binary_sound m x y BinaryOp.In = tt
-  binary_sound m x y BinaryOp.Contains = contains_sound world env m (eval world x) (eval world y)
-  binary_sound m x y BinaryOp.ContainsAll = contains_all_sound world env m (eval world x) (eval world y)
-  binary_sound m x y BinaryOp.ContainsAny = contains_any_sound world env m (eval world x) (eval world y)
-  binary_sound m x y BinaryOp.GetTag = tt
-  binary_sound m x y BinaryOp.HasTag = tt
-
-  binary_sounds : (f : Option Form) → OnForm IsMarked f → (m : Written) (l l' : Option Loc) (o o' o'' : Outcome) (J J' : Judgment) → OnForm (λ f. SoundForm world f (o ∷ o' ∷ []) o'') f
-      → Sounds world o J → SingleEntities J → Sounds world o' J' → SingleEntities J' → Sounds world o'' (binary_rules env f m.place l l' J J')
-  binary_sounds None k m l l' o o' o'' J J' form s n s' n' = unbuilt_sounds world o'' env m
-  binary_sounds (Some f) k m l l' o o' o'' J J' form s n s' n' = two_operands_sound world env f k l l' o o' o'' J J' form s n s' n'
+  binary_sound m prior x y BinaryOp.Less h = comparison_sound world world.functions.overloaded_types int_lt world.functions.less (eval world x) (eval world y) env (place_of x) (place_of y) m BinaryOp.Less
+  binary_sound m prior x y BinaryOp.LessEq h = comparison_sound world world.functions.overloaded_types int_le world.functions.less_or_equal (eval world x) (eval world y) env (place_of x) (place_of y) m BinaryOp.LessEq
+  binary_sound m prior x y BinaryOp.Add h = operator_sound (λ a b. a +ℤ b) world m BinaryOp.Add (eval world x) (eval world y)
+  binary_sound m prior x y BinaryOp.Sub h = operator_sound (λ a b. a -ℤ b) world m BinaryOp.Sub (eval world x) (eval world y)
+  binary_sound m prior x y BinaryOp.Mul h = operator_sound (λ a b. a *ℤ b) world m BinaryOp.Mul (eval world x) (eval world y)
+  binary_sound m prior x y BinaryOp.In h = in_sound env world faults fits store m x y
+  binary_sound m prior x y BinaryOp.Contains h = contains_sound world env m (eval world x) (eval world y)
+  binary_sound m prior x y BinaryOp.ContainsAll h = contains_all_sound world env m (eval world x) (eval world y)
+  binary_sound m prior x y BinaryOp.ContainsAny h = contains_any_sound world env m (eval world x) (eval world y)
+  binary_sound m prior x y BinaryOp.GetTag h = get_tag_sound env world strict closed store m prior h x y
+  binary_sound m prior x y BinaryOp.HasTag h = has_tag_sound env world closed store m prior h x y
 
   mutual
     sounds_within : (e : Source) → SlotsBound world.slots e → (prior : Caps) (d : ℕ) → AllHold world prior → Sounds world (eval world e) (rules_within env e prior d)
@@ -138,7 +135,7 @@ module _ (env : TypeEnv) (world : World) (strict : env.mode ≡ Strict) (faults 
     sounds_within (unary m o x) b prior d h =
         one_operand_sounds world env (unary_form m o) (unary_marked m o) (place_of x) (eval world x) _ _ (unary_sound world (eval world x) m o) (within_sounds world _ (d + 1) _ (sounds_within x b prior (d + 1) h)) (single_at x prior (d + 1))
     sounds_within (binary m o x y) b prior d h =
-        binary_sounds (binary_form env m x y o) (binary_marked env m x y o) m (place_of x) (place_of y) (eval world x) (eval world y) _ _ _ (binary_sound m x y o)
+        two_operands_sound world env (binary_form env m prior x y o) (binary_marked env m prior x y o) (place_of x) (place_of y) (eval world x) (eval world y) _ _ _ (binary_sound m prior x y o h)
         (within_sounds world _ (d + 1) _ (sounds_within x b.0 prior (d + 1) h)) (single_at x prior (d + 1))
         (within_sounds world _ (d + 1) _ (sounds_within y b.1 prior (d + 1) h)) (single_at y prior (d + 1))
     sounds_within (call m n ts) b prior d h = unbuilt_sounds world _ env m
@@ -146,7 +143,8 @@ module _ (env : TypeEnv) (world : World) (strict : env.mode ≡ Strict) (faults 
         one_operand_sounds world env (get_form env m prior x a) (λ k xs. refl) (place_of x) (eval world x) _ _ (get_sound env world store m prior h x a partial (single_joins env.schema)) (within_sounds world _ (d + 1) _ (sounds_within x b prior (d + 1) h)) (single_at x prior (d + 1))
     sounds_within (has_attr m x a) b prior d h =
         one_operand_sounds world env (has_form env m prior x a) (λ k xs. refl) (place_of x) (eval world x) _ _ (has_sound env world store m prior h x a) (within_sounds world _ (d + 1) _ (sounds_within x b prior (d + 1) h)) (single_at x prior (d + 1))
-    sounds_within (ext_has_attr m x a xs) b prior d h = unbuilt_sounds world _ env m
+    sounds_within (ext_has_attr m x a xs) b prior d h =
+        one_operand_sounds world env (chain_form env m prior x a xs) (λ k ys. refl) (place_of x) (eval world x) _ _ (chain_sound env world store m prior h x a xs faults partial (single_joins env.schema)) (within_sounds world _ (d + 1) _ (sounds_within x b prior (d + 1) h)) (single_at x prior (d + 1))
     sounds_within (like m x p) b prior d h =
         one_operand_sounds world env (like_form m p) (λ k xs. refl) (place_of x) (eval world x) _ _ (like_sound world m p (eval world x)) (within_sounds world _ (d + 1) _ (sounds_within x b prior (d + 1) h)) (single_at x prior (d + 1))
     sounds_within (is_type m x n) b prior d h =
@@ -181,4 +179,4 @@ module _ (env : TypeEnv) (world : World) (strict : env.mode ≡ Strict) (faults 
       }
 
 pub type_soundness : TypeSoundness
-type_soundness env t world f r i e b prior d h = sound_at env world r.mode f r.environment i.environment i.store e b prior d h
+type_soundness env t world f r i e b prior d h = sound_at env world r.mode f r.closed r.environment i.environment i.store e b prior d h

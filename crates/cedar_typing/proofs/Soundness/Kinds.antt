@@ -30,12 +30,12 @@ set_value (TSet t) v a h = absurd h
 set_value TAnySet v a h = h
 set_value t v a h = absurd (true≢false (sym a))
 
-string_value : (t : Ty) (v : Value) → accepts string_types t ≡ true → HasType t v → IsString v
+pub string_value : (t : Ty) (v : Value) → accepts string_types t ≡ true → HasType t v → IsString v
 string_value TNever v a h = absurd h
 string_value TString v a h = h
 string_value t v a h = absurd (true≢false (sym a))
 
-entity_value : (t : Ty) (v : Value) → accepts entity_types t ≡ true → HasType t v → OnEntity (λ u. Unit {0}) v
+pub entity_value : (t : Ty) (v : Value) → accepts entity_types t ≡ true → HasType t v → OnEntity (λ u. Unit {0}) v
 entity_value TNever v a h = absurd h
 entity_value (TEntity ps) (VEntity u) a h = tt
 entity_value (TEntity ps) v a h = absurd h
@@ -134,7 +134,7 @@ module _ (world : World) (m : Written) (n : Path) (o : Outcome) where
   gift s f = silent_gift world (o ∷ []) (on_value o (is_of n)) _ (λ h. f h.0)
 
   pub is_sound : SoundForm world (is_form m n) (o ∷ []) (on_value o (is_of n))
-  is_sound = record { typed = typed; succeeds = succeeds }
+  is_sound = record { typed = typed; succeeds = succeeds; failed = λ t h. h }
     where
       typed : (ts : List (Option Ty)) → AreTypes (is_form m n) (o ∷ []) ts → HasFound (decided_type ((is_form m n).decides ts)) (on_value o (is_of n))
       typed [] a = absurd a.have

@@ -65,4 +65,4 @@ module _ (env : TypeEnv) (e : Source) (world : World) (s : Sounds world (eval wo
   promised v (check_cut c p) = tt
 
 pub check_sound : (env : TypeEnv) (t : Table) (e : Source) (v : Verdict) → has_fault env.schema ≡ false → PolicyChecks env e v → IsSoundPolicyCheck env t e v
-check_sound env t e v f c r world i b = promised env e world (sounds env world r.mode f r.environment i.environment i.store e b no_caps 1 (hold_none world)) v c
+check_sound env t e v f c r world i b = promised env e world (sounds env world r.mode f r.closed r.environment i.environment i.store e b no_caps 1 (hold_none world)) v c

@@ -161,7 +161,7 @@ module _ (world : World) (m : Written) (ks : List Text) (os : List Outcome) wher
   types_gift (Some us) = keys_gift (texts_ascending ks) us
 
   record_sound : SoundForm world (record_form m ks) os whole
-  record_sound = record { typed = λ ts a. types_typed ts (all_types ts) a.have refl; succeeds = λ ts a f. types_gift (all_types ts) }
+  record_sound = record { typed = λ ts a. types_typed ts (all_types ts) a.have refl; succeeds = λ ts a f. types_gift (all_types ts); failed = λ t h. h }
 
 -- ---- evaluation
 

@@ -1,14 +1,15 @@
 -- Sets do not go wrong.
-use Rattle.std.proofs.Common.{◌≡◌, Bool, true, false, List, [], ◌∷◌, Option, Some, None, if◌then◌else◌, refl, ap, subst}
+use Rattle.std.proofs.Common.{◌≡◌, inl, inr, Bool, true, false, List, [], ◌∷◌, Option, Some, None, if◌then◌else◌, refl, ap, subst}
 use Rattle.cedar_types.specs.declared.base.types.ValidationMode.{ValidationMode}
 use Rattle.cedar_types.specs.declared.base.types.ValidationMode.TheVariants.{Strict}
 use Rattle.cedar_types.specs.Types.{Ty, TSet}
 use Rattle.cedar_types.specs.Tree.{set_of, Trees, no_trees, tree}
 use Rattle.cedar_types.specs.View.{Written}
-use Rattle.cedar_types.specs.Bounds.{is_strict, lub, go_on, fold_lub, list_lub}
+use Rattle.cedar_types.specs.Bounds.{is_strict, list_lub}
 use Rattle.cedar_types.specs.Errors.{empty_set_forbidden}
 use Rattle.cedar_types.specs.Values.{Value, VSet, no_values, AllValues, HasType}
 use Rattle.cedar_typing.specs.Eager.{Decision, refuses}
+use Rattle.cedar_typing.specs.Evaluation.Conformance.{IsOneOf}
 use Rattle.cedar_typing.specs.Evaluation.Eval.{eval, eval_all}
 use Rattle.cedar_typing.specs.Evaluation.Outcomes.{Outcomes, GiveAll, FailAt, more_outcomes, on_values}
 use Rattle.cedar_typing.specs.Evaluation.World.{World, Outcome, Gives, Fails}
@@ -17,8 +18,7 @@ use Rattle.cedar_typing.specs.Rules.Eager.{Judgments, eager_rules}
 use Rattle.cedar_typing.specs.Soundness.{HasFound, IsAllowed, IsSafe}
 use Rattle.cedar_typing.specs.TypeEnv.{TypeEnv, finding}
 use Rattle.cedar_typing.proofs.Basics.{some_is}
-use Rattle.cedar_typing.proofs.Bounds.Strict.{lub_right_strict}
-use Rattle.cedar_typing.proofs.Bounds.Values.{lub_left}
+use Rattle.cedar_typing.proofs.Bounds.Lists.{bound_has}
 use Rattle.cedar_typing.proofs.SingleEntity.Eager.{decided_type}
 use Rattle.cedar_typing.proofs.Soundness.Capabilities.{hold_none}
 use Rattle.cedar_typing.proofs.Soundness.Eager.{AllHave, AllSafe, GiftIsSound, SoundForm, SoundsAll, form_sounds}
@@ -53,42 +53,18 @@ abbrev AllOf : Ty → List Outcome → Type 0
 AllOf u [] = Unit {0}
 AllOf u (o ∷ os) = HasFound (Some u) o × AllOf u os
 
--- a bound that was gone on with
-went_on : (bound : Option Ty) (u : Ty) (P : Type 0) (next : Ty → Option Ty) → ((z : Ty) → bound ≡ Some z → next z ≡ Some u → P)
-    → go_on bound next ≡ Some u → P
-went_on None u P next f e = cc
-went_on (Some z) u P next f e = f z refl e
+has_also : (s u : Ty) → ((v : Value) → HasType s v → HasType u v) → (o : Outcome) → HasFound (Some s) o → HasFound (Some u) o
+has_also s u f (Gives v) h = f v h
+has_also s u f (Fails g) h = tt
 
-module _ (m : ValidationMode) (strict : is_strict m ≡ true) where
-  -- a value of the first type has the bound
-  value_first : (t u : Ty) (ts : List Ty) → fold_lub m t ts ≡ Some u → (v : Value) → HasType t v → HasType u v
-  value_first t u [] e v h = subst (λ z. HasType z v) (some_is e) h
-  value_first t u (s ∷ ts) e v h =
-      went_on (lub m t s) u (HasType u v) (λ z. fold_lub m z ts) (λ z f k. value_first z u ts k v (lub_left m t s z f v h)) e
+each_has : (u : Ty) (ts : List Ty) → ((s : Ty) → IsOneOf s ts → (v : Value) → HasType s v → HasType u v) → (os : List Outcome) → AllTyped ts os → AllOf u os
+each_has u [] f [] h = tt
+each_has u [] f (o ∷ os) h = absurd h
+each_has u (t ∷ ts) f [] h = absurd h
+each_has u (t ∷ ts) f (o ∷ os) h = (has_also t u (f t (inl refl)) o h.0, each_has u ts (λ s i. f s (inr i)) os h.1)
 
-  first_has : (t u : Ty) (ts : List Ty) → fold_lub m t ts ≡ Some u → (o : Outcome) → HasFound (Some t) o → HasFound (Some u) o
-  first_has t u ts e (Gives v) h = value_first t u ts e v h
-  first_has t u ts e (Fails f) h = tt
-
-  -- and so has a value of the next one
-  next_has : (t s z u : Ty) (ts : List Ty) → lub m t s ≡ Some z → fold_lub m z ts ≡ Some u
-      → (o : Outcome) → HasFound (Some s) o → HasFound (Some u) o
-  next_has t s z u ts f e (Gives v) h = value_first z u ts e v (lub_right_strict m t s z strict f v h)
-  next_has t s z u ts f e (Fails g) h = tt
-
-  others_have : (t u : Ty) (ts : List Ty) → fold_lub m t ts ≡ Some u → (os : List Outcome) → AllTyped ts os → AllOf u os
-  others_have t u [] e [] h = tt
-  others_have t u [] e (o ∷ os) h = absurd h
-  others_have t u (s ∷ ts) e [] h = absurd h
-  others_have t u (s ∷ ts) e (o ∷ os) h =
-      went_on (lub m t s) u (AllOf u (o ∷ os)) (λ z. fold_lub m z ts)
-      (λ z f k. (next_has t s z u ts f k o h.0, others_have z u ts k os h.1)) e
-
-  all_have : (u : Ty) (ts : List Ty) → list_lub m ts ≡ Some u → (os : List Outcome) → AllTyped ts os → AllOf u os
-  all_have u [] e [] h = tt
-  all_have u [] e (o ∷ os) h = absurd h
-  all_have u (t ∷ ts) e [] h = absurd h
-  all_have u (t ∷ ts) e (o ∷ os) h = (first_has t u ts e o h.0, others_have t u ts e os h.1)
+all_have : (m : ValidationMode) → is_strict m ≡ true → (u : Ty) (ts : List Ty) → list_lub m ts ≡ Some u → (os : List Outcome) → AllTyped ts os → AllOf u os
+all_have m strict u ts e os h = each_has u ts (λ s i v. bound_has m strict v ts u s e i) os h
 
 -- ---- what the elements come to
 
@@ -195,7 +171,7 @@ module _ (world : World) (env : TypeEnv) (strict : env.mode ≡ Strict) (m : Wri
   decided_gift (t ∷ ts) = types_gift (all_types (t ∷ ts))
 
   set_sound : SoundForm world (set_form env m) os whole
-  set_sound = record { typed = λ ts a. decided_typed ts a.have; succeeds = λ ts a f. decided_gift ts }
+  set_sound = record { typed = λ ts a. decided_typed ts a.have; succeeds = λ ts a f. decided_gift ts; failed = λ t h. h }
 
 -- ---- evaluation
 

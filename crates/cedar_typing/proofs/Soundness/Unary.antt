@@ -41,7 +41,7 @@ module _ (world : World) (o : Outcome) where
       of_test_safe (not_test (test_of o)) (not_safe (test_of o) (test_safe k.0 o (subst P k.1 h) g))
 
   pub not_sound : (m : Written) → SoundForm world (not_form m) (o ∷ []) opposite
-  not_sound m = record { typed = typed; succeeds = succeeds }
+  not_sound m = record { typed = typed; succeeds = succeeds; failed = λ t h. h }
     where
       typed : (ts : List (Option Ty)) → AreTypes (not_form m) (o ∷ []) ts → HasFound (decided_type ((not_form m).decides ts)) opposite
       typed [] a = absurd a.have

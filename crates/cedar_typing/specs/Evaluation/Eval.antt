@@ -49,13 +49,13 @@ negation v = Fails TypeFailure
 -- an operator on two longs
 abbrev pub on_longs : (ℤ → ℤ → Outcome) → Value → Value → Outcome
 on_longs f (VLong m) (VLong n) = f m n
-on_longs f v world = Fails TypeFailure
+on_longs f v w = Fails TypeFailure
 
 -- `<` or `<=`: of two longs by the test, of two values of one overloaded type by the pairs
 abbrev pub compared : List Path → (ℤ → ℤ → Bool) → List (Value × Value) → Value → Value → Outcome
 compared types test pairs (VLong m) (VLong n) = Gives (VBool (test m n))
 compared types test pairs (VExtension n s) (VExtension m t) = if path_eq n m && list_any (path_eq n) types then Gives (VBool (has_pair pairs (VExtension n s) (VExtension m t))) else Fails TypeFailure
-compared types test pairs v world = Fails TypeFailure
+compared types test pairs v w = Fails TypeFailure
 
 -- ---- sets
 
@@ -66,20 +66,20 @@ is_empty v = Fails TypeFailure
 
 -- the set has the member
 abbrev pub has_member : Values → Value → Bool
-has_member vs world = any_value (same_value world) vs
+has_member vs w = any_value (same_value w) vs
 
 abbrev pub contains : Value → Value → Outcome
-contains (VSet vs) world = Gives (VBool (has_member vs world))
-contains v world = Fails TypeFailure
+contains (VSet vs) w = Gives (VBool (has_member vs w))
+contains v w = Fails TypeFailure
 
 -- all members of the right set, or some of them
 abbrev pub contains_all : Value → Value → Outcome
 contains_all (VSet vs) (VSet ws) = Gives (VBool (all_values (has_member vs) ws))
-contains_all v world = Fails TypeFailure
+contains_all v w = Fails TypeFailure
 
 abbrev pub contains_any : Value → Value → Outcome
 contains_any (VSet vs) (VSet ws) = Gives (VBool (any_value (has_member vs) ws))
-contains_any v world = Fails TypeFailure
+contains_any v w = Fails TypeFailure
 
 -- ---- entities
 
@@ -94,7 +94,7 @@ is_in store u v = uid_eq u v || has_ancestor (entity_at store u) v
 -- the same of a value that is an entity
 abbrev pub is_in_entity : Store → Uid → Value → Bool
 is_in_entity store u (VEntity v) = is_in store u v
-is_in_entity store u world = false
+is_in_entity store u w = false
 
 abbrev pub is_some_entity : Value → Bool
 is_some_entity (VEntity u) = true
@@ -104,11 +104,11 @@ is_some_entity v = false
 abbrev pub entity_in : Store → Uid → Value → Outcome
 entity_in store u (VEntity v) = Gives (VBool (is_in store u v))
 entity_in store u (VSet vs) = if all_values is_some_entity vs then Gives (VBool (any_value (is_in_entity store u) vs)) else Fails TypeFailure
-entity_in store u world = Fails TypeFailure
+entity_in store u w = Fails TypeFailure
 
 abbrev pub value_in : Store → Value → Value → Outcome
-value_in store (VEntity u) world = entity_in store u world
-value_in store v world = Fails TypeFailure
+value_in store (VEntity u) w = entity_in store u w
+value_in store v w = Fails TypeFailure
 
 -- whether the store has the entity with the attribute
 abbrev pub entity_has : Option Entity → Text → Bool
@@ -146,7 +146,7 @@ entity_has_tag (Some e) x = is_some (entry_at x e.tags)
 
 abbrev pub has_tag : Store → Value → Value → Test
 has_tag store (VEntity u) (VString x) = Says (entity_has_tag (entity_at store u) x)
-has_tag store v world = Stops TypeFailure
+has_tag store v w = Stops TypeFailure
 
 abbrev pub tag_value : Option Value → Outcome
 tag_value None = Fails AbsentTag
@@ -158,7 +158,7 @@ entity_tag (Some e) x = tag_value (entry_at x e.tags)
 
 abbrev pub get_tag : Store → Value → Value → Outcome
 get_tag store (VEntity u) (VString x) = entity_tag (entity_at store u) x
-get_tag store v world = Fails TypeFailure
+get_tag store v w = Fails TypeFailure
 
 -- `is`
 abbrev pub is_of : Path → Value → Outcome
@@ -204,18 +204,18 @@ unary_outcome UnaryOp.IsEmpty o = on_value o is_empty
 
 -- an operator on two values
 abbrev pub binary_outcome : Store → Interpretation → BinaryOp → Value → Value → Outcome
-binary_outcome store i BinaryOp.Eq v world = Gives (VBool (same_value v world))
-binary_outcome store i BinaryOp.Less v world = compared i.overloaded_types int_lt i.less v world
-binary_outcome store i BinaryOp.LessEq v world = compared i.overloaded_types int_le i.less_or_equal v world
-binary_outcome store i BinaryOp.Add v world = on_longs (λ m n. in_range (m +ℤ n)) v world
-binary_outcome store i BinaryOp.Sub v world = on_longs (λ m n. in_range (m -ℤ n)) v world
-binary_outcome store i BinaryOp.Mul v world = on_longs (λ m n. in_range (m *ℤ n)) v world
-binary_outcome store i BinaryOp.In v world = value_in store v world
-binary_outcome store i BinaryOp.Contains v world = contains v world
-binary_outcome store i BinaryOp.ContainsAll v world = contains_all v world
-binary_outcome store i BinaryOp.ContainsAny v world = contains_any v world
-binary_outcome store i BinaryOp.HasTag v world = of_test (has_tag store v world)
-binary_outcome store i BinaryOp.GetTag v world = get_tag store v world
+binary_outcome store i BinaryOp.Eq v w = Gives (VBool (same_value v w))
+binary_outcome store i BinaryOp.Less v w = compared i.overloaded_types int_lt i.less v w
+binary_outcome store i BinaryOp.LessEq v w = compared i.overloaded_types int_le i.less_or_equal v w
+binary_outcome store i BinaryOp.Add v w = on_longs (λ m n. in_range (m +ℤ n)) v w
+binary_outcome store i BinaryOp.Sub v w = on_longs (λ m n. in_range (m -ℤ n)) v w
+binary_outcome store i BinaryOp.Mul v w = on_longs (λ m n. in_range (m *ℤ n)) v w
+binary_outcome store i BinaryOp.In v w = value_in store v w
+binary_outcome store i BinaryOp.Contains v w = contains v w
+binary_outcome store i BinaryOp.ContainsAll v w = contains_all v w
+binary_outcome store i BinaryOp.ContainsAny v w = contains_any v w
+binary_outcome store i BinaryOp.HasTag v w = of_test (has_tag store v w)
+binary_outcome store i BinaryOp.GetTag v w = get_tag store v w
 
 abbrev pub called : Option Value → Outcome
 called None = Fails ExtensionFailure

@@ -137,6 +137,16 @@ contains_all a b = binary tt BinaryOp.ContainsAll a b
 abbrev pub contains_any : Shape → Shape → Shape
 contains_any a b = binary tt BinaryOp.ContainsAny a b
 
+-- `a in b`, `a.hasTag(b)`, `a.getTag(b)`
+abbrev pub is_in : Shape → Shape → Shape
+is_in a b = binary tt BinaryOp.In a b
+
+abbrev pub has_tag : Shape → Shape → Shape
+has_tag a b = binary tt BinaryOp.HasTag a b
+
+abbrev pub get_tag : Shape → Shape → Shape
+get_tag a b = binary tt BinaryOp.GetTag a b
+
 -- `decimal(a)`
 abbrev pub to_decimal : Shape → Shape
 to_decimal a = call tt decimal (tree a no_trees)

@@ -8,6 +8,9 @@ pub mod Conditional
 pub mod Attributes
 pub mod Numbers
 pub mod Equality
+pub mod Membership
+pub mod Tags
+pub mod Chains
 pub mod Collections
 pub mod Nesting
 pub mod Check
@@ -65,6 +68,16 @@ pub record IsRefusedIn (env : TypeEnv) (e : Shape) (t : Option Ty) (es : List Fi
 
 abbrev pub IsRefused : Shape → Option Ty → List Finding → Type 0
 IsRefused = IsRefusedIn (sample Strict)
+
+-- the same where p is known
+pub record IsRefusedKnowingIn (env : TypeEnv) (p : Caps) (e : Shape) (t : Option Ty)
+    (es : List Finding) : Type 0 where
+  pub copy : TypedTree
+  pub stays : annotation copy ≡ t
+  pub recovers : Recovers env (numbered e) p 1 copy es
+
+abbrev pub IsRefusedKnowing : Caps → Shape → Option Ty → List Finding → Type 0
+IsRefusedKnowing = IsRefusedKnowingIn (sample Strict)
 
 -- at the depth d a part of e is too deep, and these errors were found
 pub record CutsAt (d : ℕ) (e : Shape) (es : List Finding) : Type 0 where

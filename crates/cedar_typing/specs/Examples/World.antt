@@ -1,6 +1,6 @@
 -- The world of the computed examples: a schema, what expressions are typed in, and what they are
 -- evaluated in.
-use Rattle.std.specs.Prelude.{ℤ, pos, true, false, [], ◌∷◌, Some, None, codes}
+use Rattle.std.specs.Prelude.{ℤ, pos, true, false, List, [], ◌∷◌, Some, None, codes}
 use Rattle.cedar_types.specs.declared.base.slots.SlotId.{SlotId}
 use Rattle.cedar_types.specs.declared.base.types.BoolType.TheVariants.{AnyBool}
 use Rattle.cedar_types.specs.declared.base.types.ValidationMode.{ValidationMode}
@@ -27,6 +27,10 @@ user = named (codes "User")
 
 abbrev pub group : Path
 group = named (codes "Group")
+
+-- `Robot`, which the schema declares too
+abbrev pub robot : Path
+robot = named (codes "Robot")
 
 -- two extension types; the function that makes the values of the first has its name
 abbrev pub decimal : Path
@@ -58,6 +62,17 @@ greet = an_action_named (codes "greet")
 
 abbrev pub wave : Uid
 wave = an_action_named (codes "wave")
+
+-- `Action::"meet"`, of which greet is a descendant, and `Social::Action::"act"`, of another
+-- namespace, of which both are
+abbrev pub meet : Uid
+meet = an_action_named (codes "meet")
+
+abbrev pub act : Uid
+act = record {
+  entity_type = record { path = codes "Social" ∷ []; basename = codes "Action" };
+  eid = codes "act";
+}
 
 -- ---- the schema
 
@@ -92,6 +107,11 @@ declared_user = record {
   kind = StandardKind user_attributes (Some TString);
 }
 
+-- robots have tags that are numbers, and nothing else
+abbrev pub declared_robot : DeclaredType
+declared_robot =
+    record { name = robot; descendants = []; kind = StandardKind no_attrs (Some TLong) }
+
 -- users greet users
 abbrev pub declared_greet : DeclaredAction
 declared_greet = record {
@@ -101,8 +121,24 @@ declared_greet = record {
       Some (record { principals = user ∷ []; resources = user ∷ []; context = a_context });
 }
 
+-- an action that stands for others, and is not requested itself
+abbrev pub declared_group : Uid → List Uid → DeclaredAction
+declared_group u us = record {
+  name = u;
+  descendants = us;
+  applies_to =
+      Some (record { principals = []; resources = []; context = TRecord no_attrs false });
+}
+
 abbrev pub sample_schema : Schema
-sample_schema = record { types = declared_user ∷ []; actions = declared_greet ∷ [] }
+sample_schema = record {
+  types = declared_user ∷ declared_robot ∷ [];
+  actions =
+      declared_greet
+      ∷ declared_group meet (greet ∷ [])
+      ∷ declared_group act (meet ∷ greet ∷ [])
+      ∷ [];
+}
 
 -- the one extension function, to decimals, which are compared by `<` and `<=`
 abbrev pub decimal_table : Table
@@ -182,12 +218,18 @@ stored_bob = record {
   tags = no_entries;
 }
 
--- of the action nothing is stored but that it is there
-abbrev pub stored_greet : Entity
-stored_greet = record { attributes = no_entries; ancestors = []; tags = no_entries }
+-- of an action nothing is stored but its ancestors
+abbrev pub stored_action : List Uid → Entity
+stored_action us = record { attributes = no_entries; ancestors = us; tags = no_entries }
 
 abbrev pub sample_store : Store
-sample_store = (alice, stored_alice) ∷ (bob, stored_bob) ∷ (greet, stored_greet) ∷ []
+sample_store =
+    (alice, stored_alice)
+    ∷ (bob, stored_bob)
+    ∷ (greet, stored_action (meet ∷ act ∷ []))
+    ∷ (meet, stored_action (act ∷ []))
+    ∷ (act, stored_action [])
+    ∷ []
 
 -- `?resource` is bound to bob, and `?principal` is not bound
 abbrev pub sample_slots : Slots

@@ -1,6 +1,7 @@
 -- Inference for all forms whose operands are typed first.
 use Rattle.std.specs.Prelude.{Bool, true, false, ◌&&◌, List, [], ◌∷◌, ◌++◌, Option, Some, None}
 use Rattle.cedar_types.specs.declared.base.location.Loc.{Loc}
+use Rattle.cedar_types.specs.Types.{Ty}
 use Rattle.cedar_types.specs.Errors.{Finding}
 use Rattle.cedar_typing.specs.Eager.{Expectation, Decision, gives, refuses, Form, first_expectation, later_expectations, types_found}
 use Rattle.cedar_typing.specs.Infer.Parts.{failure, limit, Part, AnswerAndErrors, PartAndErrors, answer_if, expect, any_part}
@@ -44,9 +45,15 @@ infer_one_more env goes_on q l first rest es =
 
 -- ---- the whole
 
+-- the type of the whole, by whether all operands succeeded and the type that the table gives
+abbrev pub type_given : Form → Bool → Ty → Ty
+type_given f true t = t
+type_given f false t = f.type_if_failed t
+
 -- by what the table decides
 abbrev pub infer_decided : Form → Bool → List TypedTree → List Finding → Decision → AnswerAndErrors
-infer_decided f succeeded xs es (gives t c) = (answer_if succeeded (f.node (typed t f.at) xs) c, es)
+infer_decided f succeeded xs es (gives t c) =
+    (answer_if succeeded (f.node (typed (type_given f succeeded t) f.at) xs) c, es)
 infer_decided f succeeded xs es (refuses t fs) = (failure (f.node (typed_as t f.at) xs), es ++ fs)
 
 -- by what the operands result in

@@ -54,6 +54,7 @@ set_form env m = record {
   expects = [];
   goes_on = true;
   decides = set_decides env m.place;
+  type_if_failed = λ t. t;
   at_limit = λ ts. errors_of (set_of_types env m.place (all_types ts));
   node = λ k xs. set_of k (trees_of xs);
 }
@@ -89,6 +90,7 @@ record_form m ks = record {
   expects = [];
   goes_on = false;
   decides = λ ts. record_of_types ks (all_types ts);
+  type_if_failed = λ t. t;
   at_limit = λ ts. [];
   node = λ k xs. record_of k (fields_from ks xs);
 }

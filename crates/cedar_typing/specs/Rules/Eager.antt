@@ -86,10 +86,10 @@ module _ (f : Form) (Js : Judgments) where
         → EagerRule t c (f.node (typed t f.at) xs)
 
   pub data EagerRecovery : TypedTree → List Finding → Type 0 where
-    -- an operand failed: the type that the table gives all the same
+    -- an operand failed: by the type that the table gives all the same
     operand_failed : {t : Ty} {c : Caps} {xs : List TypedTree} {es : List Finding}
         → Js.give false xs es → f.decides (types_found xs) ≡ gives t c
-        → EagerRecovery (f.node (typed t f.at) xs) es
+        → EagerRecovery (f.node (typed (f.type_if_failed t) f.at) xs) es
     -- the table refuses: the type that stays, and its errors after those of the operands
     table_refused : {succeeded : Bool} {t : Option Ty} {fs : List Finding} {xs : List TypedTree} {es : List Finding}
         → Js.give succeeded xs es → f.decides (types_found xs) ≡ refuses t fs

@@ -68,6 +68,7 @@ equality_form env m a b = record {
       equality_decides env m.place
       (equality_type (literal_of env.request_env a) (literal_of env.request_env b) (first_type ts) (second_type ts))
       (first_type ts) (second_type ts);
+  type_if_failed = λ t. t;
   at_limit = λ ts. [];
   node = λ k xs. binary k BinaryOp.Eq (first_tree xs) (second_tree xs);
 }

@@ -56,12 +56,10 @@ impl SingleEnvTypechecker<'_, '_, '_, '_> {
             ExprKind::UnaryApp(op, operand) => {
                 self.type_one_operand(prior, depth, e.loc, OneOperand::Unary(*op), operand, errors)
             }
-            ExprKind::BinaryApp(op, left, right) => match TwoOperands::of(*op) {
-                Some(form) => self.type_two_operands(
-                    prior, depth, e.loc, form, left, right, errors,
-                ),
-                None => self.type_unbuilt(e.loc, errors),
-            },
+            ExprKind::BinaryApp(op, left, right) => {
+                let form = TwoOperands::of(*op);
+                self.type_two_operands(prior, depth, e.loc, form, left, right, errors)
+            }
             ExprKind::HasAttr(base, attr) => {
                 self.type_one_operand(prior, depth, e.loc, OneOperand::Has(attr), base, errors)
             }
@@ -82,7 +80,9 @@ impl SingleEnvTypechecker<'_, '_, '_, '_> {
                 self.type_one_operand(prior, depth, e.loc, OneOperand::Is(named), operand, errors)
             }
             ExprKind::ExtensionFunctionApp(_, _) => self.type_unbuilt(e.loc, errors),
-            ExprKind::ExtHasAttr(_, _) => self.type_unbuilt(e.loc, errors),
+            ExprKind::ExtHasAttr(base, chain) => {
+                self.type_one_operand(prior, depth, e.loc, OneOperand::Chain(chain), base, errors)
+            }
             ExprKind::Set(elements) => {
                 let elements = self.type_elements(prior, depth, elements, errors)?;
                 let answer = self.set_answer(e.loc, elements, errors)?;

@@ -6,14 +6,17 @@ ghost use Rattle.cedar_typing.specs.Examples.Evaluation.Leaves.{LeafExamples, Te
 ghost use Rattle.cedar_typing.specs.Examples.Evaluation.Operators.{NumberExamples, EqualityExamples, SetExamples};
 ghost use Rattle.cedar_typing.specs.Examples.Premises.{PremisesAreMet, PremisesCanFail};
 ghost use Rattle.cedar_typing.specs.Examples.Rules.Attributes.{HasTyping, GetTyping};
+ghost use Rattle.cedar_typing.specs.Examples.Rules.Chains.{ChainTyping};
 ghost use Rattle.cedar_typing.specs.Examples.Rules.Check.{CheckTyping};
 ghost use Rattle.cedar_typing.specs.Examples.Rules.Collections.{SetTyping, RecordTyping};
 ghost use Rattle.cedar_typing.specs.Examples.Rules.Conditional.{ConditionalTyping};
 ghost use Rattle.cedar_typing.specs.Examples.Rules.Equality.{EqualityTyping, MemberTyping};
 ghost use Rattle.cedar_typing.specs.Examples.Rules.Leaves.{LeafTyping};
+ghost use Rattle.cedar_typing.specs.Examples.Rules.Membership.{ActionMembershipTyping, MembershipTyping};
 ghost use Rattle.cedar_typing.specs.Examples.Rules.Nesting.{NestingTyping};
 ghost use Rattle.cedar_typing.specs.Examples.Rules.Numbers.{OperatorTyping, NumberTyping};
 ghost use Rattle.cedar_typing.specs.Examples.Rules.ShortCircuit.{AndTyping, OrTyping};
+ghost use Rattle.cedar_typing.specs.Examples.Rules.Tags.{HasTagTyping, GetTagTyping};
 ghost use Rattle.cedar_typing.specs.Examples.Rules.Unary.{UnaryTyping};
 ghost use Rattle.cedar_typing.specs.RuleLaws.{TypingIsAFunction, RecoveryIsAFunction, CutIsAFunction, OneOfThreeAtMost, OneOfThreeAtLeast, CutIsByDepth, OneVerdictAtMost, OneVerdictAtLeast, ErrorsInAnyOrder};
 ghost use Rattle.cedar_typing.specs.Soundness.{TypeSoundness};
@@ -68,6 +71,11 @@ pub fn examples_of_rules()
     ensures conditionals { ConditionalTyping }
     ensures has_attribute { HasTyping }
     ensures get_attribute { GetTyping }
+    ensures chains { ChainTyping }
+    ensures action_memberships { ActionMembershipTyping }
+    ensures memberships { MembershipTyping }
+    ensures has_tag { HasTagTyping }
+    ensures get_tag { GetTagTyping }
     ensures operators { OperatorTyping }
     ensures numbers { NumberTyping }
     ensures equality { EqualityTyping }

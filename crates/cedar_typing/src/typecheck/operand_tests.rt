@@ -1,7 +1,7 @@
 // What types operands may have.
 ghost use Rattle.std.specs.Prelude.{◌≡◌};
 ghost use Rattle.cedar_types.specs.Types.{ty_of};
-ghost use Rattle.cedar_typing.specs.TypeTests.{accepts, bool_types, long_types, string_types, set_types, entity_types, object_types};
+ghost use Rattle.cedar_typing.specs.TypeTests.{accepts, bool_types, long_types, string_types, set_types, entity_types, ancestor_types, object_types};
 
 use cedar_types::base::CedarType;
 
@@ -95,6 +95,26 @@ pub(crate) fn is_entity_operand(ty: &CedarType) -> bool
         CedarType::Long => false,
         CedarType::String => false,
         CedarType::Set(_) => false,
+        CedarType::AnySet => false,
+        CedarType::Record {
+            attributes: _attributes,
+            is_open: _open,
+        } => false,
+        CedarType::Entity(_) => true,
+        CedarType::Extension(_) => false,
+    }
+}
+
+/// Whether an operand of this type is accepted where an entity or a set of entities is required.
+pub(crate) fn is_ancestor_operand(ty: &CedarType) -> bool
+    ensures { result ≡ accepts ancestor_types (ty_of ty.now) }
+{
+    match ty {
+        CedarType::Never => true,
+        CedarType::Bool(_) => false,
+        CedarType::Long => false,
+        CedarType::String => false,
+        CedarType::Set(element) => is_entity_operand(element),
         CedarType::AnySet => false,
         CedarType::Record {
             attributes: _attributes,

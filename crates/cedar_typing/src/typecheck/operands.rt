@@ -12,8 +12,8 @@ ghost use Rattle.cedar_typing.specs.Views.{env_at, answer_of, part_of, expected_
 use crate::typecheck::answer::{Part, TypecheckAnswer};
 use crate::typecheck::capabilities::no_capabilities;
 use crate::typecheck::operand_tests::{
-    is_bool_operand, is_entity_operand, is_long_operand, is_object_operand, is_set_operand,
-    is_string_operand,
+    is_ancestor_operand, is_bool_operand, is_entity_operand, is_long_operand, is_object_operand,
+    is_set_operand, is_string_operand,
 };
 use crate::typecheck::single_env::SingleEnvTypechecker;
 use cedar_types::base::{
@@ -21,6 +21,7 @@ use cedar_types::base::{
 };
 use std::alloc::{AllocError, Global};
 use std::collections::BTreeSet;
+use std::rc::Rc;
 
 /// What a part has to be.
 #[derive(Clone, Copy, Debug)]
@@ -30,6 +31,8 @@ pub(crate) enum Expected {
     String,
     Set,
     Entity,
+    /// An entity or a set of entities.
+    Ancestor,
     /// A record or an entity.
     Object,
 }
@@ -44,6 +47,7 @@ impl Expected {
             Expected::String => is_string_operand(ty),
             Expected::Set => is_set_operand(ty),
             Expected::Entity => is_entity_operand(ty),
+            Expected::Ancestor => is_ancestor_operand(ty),
             Expected::Object => is_object_operand(ty),
         }
     }
@@ -58,6 +62,11 @@ impl Expected {
             Expected::String => types.push(CedarType::String)?,
             Expected::Set => types.push(CedarType::AnySet)?,
             Expected::Entity => types.push(CedarType::Entity(EntityKind::AnyEntity))?,
+            Expected::Ancestor => {
+                let entity = CedarType::Entity(EntityKind::AnyEntity);
+                types.push(CedarType::Set(Rc::new(alloc, entity)?))?;
+                types.push(CedarType::Entity(EntityKind::AnyEntity))?;
+            }
             Expected::Object => {
                 types.push(CedarType::any_record(alloc)?)?;
                 types.push(CedarType::Entity(EntityKind::AnyEntity))?;
@@ -168,7 +177,7 @@ impl SingleEnvTypechecker<'_, '_, '_, '_> {
         }
     }
 
-    fn unexpected(
+    pub(crate) fn unexpected(
         &self,
         expected: Expected,
         loc: Option<Loc>,

@@ -2,17 +2,20 @@
 use Rattle.std.specs.Prelude.{◌+◌, [], ◌∷◌, codes}
 use Rattle.cedar_types.specs.declared.base.errors.type_errors.LubContext.TheVariants.{Set}
 use Rattle.cedar_types.specs.declared.base.operators.UnaryOp.{UnaryOp}
-use Rattle.cedar_types.specs.declared.base.types.BoolType.TheVariants.{False}
+use Rattle.cedar_types.specs.declared.base.types.BoolType.TheVariants.{AnyBool, False}
 use Rattle.cedar_types.specs.declared.base.types.ValidationMode.TheVariants.{Strict}
 use Rattle.cedar_types.specs.Types.{TBool, TLong, TString}
-use Rattle.cedar_types.specs.Tree.{Shape, if_then_else, and, or, unary}
+use Rattle.cedar_types.specs.Tree.{Shape, if_then_else, and, or, unary, ext_has_attr}
+use Rattle.cedar_types.specs.Capability.{attribute}
 use Rattle.cedar_types.specs.Errors.{incompatible_types}
-use Rattle.cedar_typing.specs.Capabilities.{no_caps}
-use Rattle.cedar_typing.specs.Examples.Expressions.{true_lit, false_lit, one, text, dot, has, has_vip, get_boss, equal, less, plus, set3, record2, numbered}
-use Rattle.cedar_typing.specs.Examples.Rules.{CutsAt, typed_false, error_at, not_a_bool, unguarded_boss}
+use Rattle.cedar_typing.specs.Capabilities.{Caps, no_caps, single, union}
+use Rattle.cedar_typing.specs.Examples.Expressions.{true_lit, false_lit, one, text, principal, dot, has, has2, has_vip, get_boss, equal, less, plus, is_in, has_tag, get_tag, set3, record2, numbered}
+use Rattle.cedar_typing.specs.Examples.Rules.{CutsAt, typed_false, bool_at, typed_principal, error_at, not_a_bool, unguarded_boss}
+use Rattle.cedar_typing.specs.Examples.Rules.Chains.{has3}
 use Rattle.cedar_typing.specs.Examples.World.{sample}
 use Rattle.cedar_typing.specs.Judgments.{max_nesting}
 use Rattle.cedar_typing.specs.Rules.{Derives}
+use Rattle.cedar_typing.specs.TypedExpr.{TypedTree}
 
 -- `!(principal has vip)`, of which `principal` is too deep where the whole has the depth 399
 abbrev pub deep : Shape
@@ -21,6 +24,21 @@ deep = unary tt UnaryOp.Not has_vip
 -- `1 && principal has vip`, which is as deep, and has an error at its left side
 abbrev pub refused_deep : Shape
 refused_deep = and tt one has_vip
+
+-- `principal has boss.boss.boss`: what it says, and how it is typed
+abbrev pub bosses : Shape
+bosses = has3 principal (codes "boss") (codes "boss") (codes "boss")
+
+abbrev pub boss_of : Shape → Caps
+boss_of e = single (attribute e (codes "boss"))
+
+abbrev pub with_bosses : Caps
+with_bosses =
+    union (union (boss_of principal) (boss_of get_boss)) (boss_of (dot get_boss (codes "boss")))
+
+abbrev pub typed_bosses : TypedTree
+typed_bosses =
+    ext_has_attr (bool_at 1) (typed_principal 2) (codes "boss") (codes "boss" ∷ codes "boss" ∷ [])
 
 pub record NestingTyping : Type 0 where
   -- `false` is looked at at depth 400, and no deeper
@@ -71,6 +89,24 @@ pub record NestingTyping : Type 0 where
   pub left_of_equal : CutsAt 398 (equal deep get_boss) (unguarded_boss 5 ∷ [])
   pub right_of_equal : CutsAt 398 (equal get_boss deep) (unguarded_boss 2 ∷ [])
   pub both_of_equal : CutsAt 398 (equal deep deep) []
+  -- and of `in`
+  pub left_of_in : CutsAt 398 (is_in deep get_boss) (unguarded_boss 5 ∷ [])
+  pub right_of_in : CutsAt 398 (is_in get_boss deep) (unguarded_boss 2 ∷ [])
+  pub both_of_in : CutsAt 398 (is_in deep deep) []
+  -- nothing is typed after an entity that is cut, of which a tag is wanted; the error of the entity
+  -- counts where the name is cut
+  pub left_of_has_tag : CutsAt 398 (has_tag deep get_boss) []
+  pub right_of_has_tag : CutsAt 398 (has_tag get_boss deep) (unguarded_boss 2 ∷ [])
+  pub left_of_get_tag : CutsAt 398 (get_tag deep get_boss) []
+  pub right_of_get_tag : CutsAt 398 (get_tag get_boss deep) (unguarded_boss 2 ∷ [])
+  -- `principal.boss has vip.age`: the base is cut; `(1 && principal has vip) has vip.age`: an error
+  -- that was found in it counts
+  pub base_of_chain : CutsAt 399 (has2 get_boss (codes "vip") (codes "age")) []
+  pub base_of_chain_counts : CutsAt 398 (has2 refused_deep (codes "vip") (codes "age"))
+      (not_a_bool 3 ∷ [])
+  -- `principal has boss.boss.boss` at depth 399: its steps are no deeper than it
+  pub steps_are_no_deeper : Derives (sample Strict) (numbered bosses) no_caps 399 (TBool AnyBool)
+      with_bosses typed_bosses
   -- `[principal.boss, !(principal has vip), principal.boss]`: all elements are typed in any case
   pub element_of_set : CutsAt 398 (set3 get_boss deep get_boss)
       (unguarded_boss 2 ∷ unguarded_boss 7 ∷ [])

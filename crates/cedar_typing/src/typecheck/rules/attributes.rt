@@ -7,7 +7,7 @@ ghost use Rattle.cedar_types.specs.View.{written};
 ghost use Rattle.cedar_types.specs.Capability.{caps, cap_of};
 ghost use Rattle.cedar_types.specs.Lookups.{attribute_type};
 ghost use Rattle.cedar_types.specs.Errors.{unsafe_optional_attribute_access};
-ghost use Rattle.cedar_typing.specs.Rules.Attributes.{attribute_of, declared_has, undeclared_has, has_table, get_table, undeclared_get};
+ghost use Rattle.cedar_typing.specs.Rules.Attributes.{attribute_of, declared_has, undeclared_has, has_table, get_decides, get_table, undeclared_get};
 ghost use Rattle.cedar_typing.specs.TypeEnv.{finding};
 ghost use Rattle.cedar_typing.specs.TypedExpr.{typed_as, typed_tree};
 ghost use Rattle.cedar_typing.specs.Views.{env_at, at, decision_of, findings};
@@ -60,7 +60,11 @@ impl SingleEnvTypechecker<'_, '_, '_, '_> {
     }
 
     /// Whether the type requires the attribute, if it declares it.
-    fn required(&self, owner: &CedarType, attr: &RcStr) -> Result<Option<bool>, AllocError>
+    pub(crate) fn required(
+        &self,
+        owner: &CedarType,
+        attr: &RcStr,
+    ) -> Result<Option<bool>, AllocError>
         ensures { IfOk result (λ o. o
             ≡ option_map (λ t. t.1) (attribute_type (env_at self.now).schema (ty_of owner.now) (text_of attr.now))) }
     {
@@ -74,7 +78,7 @@ impl SingleEnvTypechecker<'_, '_, '_, '_> {
         }
     }
 
-    fn undeclared_type(&self, owner: &CedarType, attr: &RcStr) -> CedarType
+    pub(crate) fn undeclared_type(&self, owner: &CedarType, attr: &RcStr) -> CedarType
         ensures { ty_of result
             ≡ undeclared_has (env_at self.now).schema (ty_of owner.now) (text_of attr.now) }
     {
@@ -101,13 +105,30 @@ impl SingleEnvTypechecker<'_, '_, '_, '_> {
         let Some(owner) = found else {
             return Ok(Decision::Refuses(None, Vec::new(self.alloc)));
         };
+        let is_known = prior.contains(&attribute_of(base, attr)?);
+        let decision = self.decide_access(loc, attr, owner, is_known)?;
+        Ok(decision)
+    }
+
+    /// The same of a base of this type, where it is known or not that the attribute is there.
+    pub(crate) fn decide_access<'a>(
+        &self,
+        loc: Option<Loc>,
+        attr: &RcStr,
+        owner: &CedarType,
+        is_known: bool,
+    ) -> Result<Decision<'a>, AllocError>
+        ensures { IfOk result (λ d. decision_of d
+            ≡ get_decides (env_at self.now) loc (text_of attr.now) is_known (ty_of owner.now)
+            (attribute_type (env_at self.now).schema (ty_of owner.now) (text_of attr.now))) }
+    {
         match CedarType::lookup_attribute_type(self.alloc, self.schema, owner, attr)? {
             None => {
                 let decision = self.decide_undeclared(loc, attr, owner)?;
                 Ok(decision)
             }
             Some(found) => {
-                if found.is_required | prior.contains(&attribute_of(base, attr)?) {
+                if found.is_required | is_known {
                     return Ok(Decision::Gives(found.attr_type, no_capabilities(self.alloc)));
                 }
                 let errors = self.unguarded(loc, attr, owner)?;
@@ -166,7 +187,7 @@ impl SingleEnvTypechecker<'_, '_, '_, '_> {
     }
 }
 
-fn declared_type(owner: &CedarType, is_required: bool, is_known: bool) -> CedarType
+pub(crate) fn declared_type(owner: &CedarType, is_required: bool, is_known: bool) -> CedarType
     ensures { ty_of result ≡ declared_has (ty_of owner.now) is_required is_known }
 {
     if is_known {

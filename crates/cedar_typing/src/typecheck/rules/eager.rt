@@ -1,8 +1,9 @@
 // Forms whose operands are all typed before a table decides: what tables say.
-ghost use Rattle.std.specs.Prelude.{◌≡◌, ◌++◌, IfOk};
+ghost use Rattle.std.specs.Prelude.{◌≡◌, [], ◌∷◌, ◌++◌, IfOk, option_map};
+ghost use Rattle.cedar_types.specs.Errors.{finding_of};
 ghost use Rattle.cedar_types.specs.Types.{ty_of};
 ghost use Rattle.cedar_typing.specs.Capabilities.{no_caps};
-ghost use Rattle.cedar_typing.specs.Eager.{gives, gives_unless};
+ghost use Rattle.cedar_typing.specs.Eager.{gives, refuses, gives_unless};
 ghost use Rattle.cedar_typing.specs.Views.{decision_of, findings};
 
 use crate::typecheck::capabilities::no_capabilities;
@@ -38,6 +39,20 @@ pub(crate) fn gives_unless<'a>(
         return gives(alloc, ty);
     }
     Decision::Refuses(Some(ty), errors)
+}
+
+/// A failure with this error, where this type stays, if one does.
+pub(crate) fn refuses_with<'a>(
+    alloc: Global,
+    ty: Option<CedarType>,
+    error: ValidationError,
+) -> Result<Decision<'a>, AllocError>
+    ensures { IfOk result (λ d.
+        decision_of d ≡ refuses (option_map ty_of ty) (finding_of error ∷ [])) }
+{
+    let mut errors = Vec::new(alloc);
+    errors.push(error)?;
+    Ok(Decision::Refuses(ty, errors))
 }
 
 /// Adds errors to those so far.

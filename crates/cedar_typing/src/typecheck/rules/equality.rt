@@ -44,7 +44,7 @@ impl SingleEnvTypechecker<'_, '_, '_, '_> {
     }
 
     /// The literal that an expression is. The variable `action` counts as the environment's action.
-    fn literal_of(&self, e: &Expr) -> Result<Option<Literal>, AllocError>
+    pub(crate) fn literal_of(&self, e: &Expr) -> Result<Option<Literal>, AllocError>
         ensures { IfOk result (λ o.
             option_map lit_of o
             ≡ literal_of (env_at self.now).request_env (written e.now)) }

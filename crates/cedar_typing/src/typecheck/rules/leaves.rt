@@ -169,7 +169,7 @@ fn linked_type(alloc: Global, linked: Option<&EntityType>) -> Result<CedarType, 
     }
 }
 
-fn bool_type(b: bool) -> CedarType
+pub(crate) fn bool_type(b: bool) -> CedarType
     ensures { ty_of result ≡ bool_ty b }
 {
     if b {

@@ -12,12 +12,15 @@ ghost use Rattle.cedar_typing.specs.Views.{env_at, expected_types, answer_of, pa
 use crate::typecheck::answer::{Part, TypecheckAnswer};
 use crate::typecheck::operands::Expected;
 use crate::typecheck::rules::attributes::{get_node, has_node};
+use crate::typecheck::rules::chains::chain_node;
 use crate::typecheck::rules::eager::{Decision, add_errors, gives};
 use crate::typecheck::rules::unary::{decide_is, decide_not, is_node, like_node, unary_node};
 use crate::typecheck::single_env::SingleEnvTypechecker;
 use crate::typecheck::type_tests::any_bool;
 use crate::typecheck::typed_nodes::with_capabilities;
-use cedar_types::base::{CedarType, EntityType, Expr, Loc, PatternElem, UnaryOp, ValidationError};
+use cedar_types::base::{
+    AttrChain, CedarType, EntityType, Expr, Loc, PatternElem, UnaryOp, ValidationError,
+};
 use cedar_types::types::capability::CapabilitySet;
 use std::alloc::{AllocError, Global};
 use std::rc::RcStr;
@@ -30,6 +33,8 @@ pub(crate) enum OneOperand<'x> {
     Get(&'x RcStr),
     Like(&'x Vec<PatternElem>),
     Is(&'x EntityType),
+    /// Extended `has`.
+    Chain(&'x AttrChain),
 }
 
 impl OneOperand<'_> {
@@ -47,6 +52,7 @@ impl OneOperand<'_> {
             OneOperand::Get(_) => Expected::Object,
             OneOperand::Like(_) => Expected::String,
             OneOperand::Is(_) => Expected::Entity,
+            OneOperand::Chain(_) => Expected::Object,
         }
     }
 
@@ -74,6 +80,7 @@ impl OneOperand<'_> {
             OneOperand::Get(attr) => get_node(alloc, loc, ty, operand, attr),
             OneOperand::Like(pattern) => like_node(alloc, loc, ty, operand, pattern),
             OneOperand::Is(entity_type) => is_node(alloc, loc, ty, operand, entity_type),
+            OneOperand::Chain(chain) => chain_node(alloc, loc, ty, operand, chain),
         }
     }
 }
@@ -156,6 +163,7 @@ impl SingleEnvTypechecker<'_, '_, '_, '_> {
             OneOperand::Get(attr) => self.decide_get(prior, loc, operand, attr, found),
             OneOperand::Like(_) => Ok(gives(self.alloc, any_bool())),
             OneOperand::Is(entity_type) => Ok(decide_is(self.alloc, entity_type, found)),
+            OneOperand::Chain(chain) => self.decide_chain(prior, loc, operand, chain, found),
         }
     }
 }

@@ -1,11 +1,12 @@
 // Operators on two operands.
-ghost use Rattle.std.specs.Prelude.{◌≡◌, ◌≤◌, [], ◌∷◌, Some, IfOk, option_map};
-ghost use Rattle.cedar_types.specs.Types.{ty_of};
+ghost use Rattle.std.specs.Prelude.{◌≡◌, ◌≤◌, [], ◌∷◌, Some, IfOk, option_map, if◌then◌else◌};
+ghost use Rattle.cedar_types.specs.declared.base.types.BoolType.TheVariants.{AnyBool};
+ghost use Rattle.cedar_types.specs.Types.{ty_of, TBool};
 ghost use Rattle.cedar_types.specs.Tree.{binary};
 ghost use Rattle.cedar_types.specs.View.{written};
 ghost use Rattle.cedar_types.specs.Capability.{caps};
 ghost use Rattle.cedar_typing.specs.Eager.{first_expectation, later_expectations};
-ghost use Rattle.cedar_typing.specs.Infer.Eager.{infer_decided, infer_form};
+ghost use Rattle.cedar_typing.specs.Infer.Eager.{infer_form, type_given};
 ghost use Rattle.cedar_typing.specs.Judgments.{max_nesting};
 ghost use Rattle.cedar_typing.specs.Rules.Binary.{binary_form};
 ghost use Rattle.cedar_typing.specs.TypedExpr.{annotation, typed_as, typed_tree};
@@ -31,89 +32,129 @@ pub(crate) enum TwoOperands {
     Comparison(BinaryOp),
     /// `+`, `-` and `*`.
     Arithmetic(BinaryOp),
+    /// `in`.
+    Membership,
     /// `contains`.
     Contains,
     /// `containsAll` and `containsAny`.
     ContainsSeveral(BinaryOp),
+    HasTag,
+    GetTag,
+}
+
+/// The operands, as they were written.
+#[derive(Clone, Copy, Debug)]
+struct Operands<'a> {
+    left: &'a Expr,
+    right: &'a Expr,
 }
 
 impl TwoOperands {
-    /// The form of an operator, if it has a rule yet.
-    pub(crate) fn of(op: BinaryOp) -> Option<TwoOperands>
-        ensures { (env : _) → (m : _) → (a : _) → (b : _)
-            → option_map (form_of_two env m a b) result ≡ binary_form env m a b op }
+    /// The form of an operator.
+    pub(crate) fn of(op: BinaryOp) -> TwoOperands
+        ensures { (env : _) → (m : _) → (prior : _) → (a : _) → (b : _)
+            → form_of_two env m prior a b result ≡ binary_form env m prior a b op }
     {
         match op {
-            BinaryOp::Eq => Some(TwoOperands::Equality),
-            BinaryOp::Less => Some(TwoOperands::Comparison(BinaryOp::Less)),
-            BinaryOp::LessEq => Some(TwoOperands::Comparison(BinaryOp::LessEq)),
-            BinaryOp::Add => Some(TwoOperands::Arithmetic(BinaryOp::Add)),
-            BinaryOp::Sub => Some(TwoOperands::Arithmetic(BinaryOp::Sub)),
-            BinaryOp::Mul => Some(TwoOperands::Arithmetic(BinaryOp::Mul)),
-            BinaryOp::Contains => Some(TwoOperands::Contains),
-            BinaryOp::ContainsAll => Some(TwoOperands::ContainsSeveral(BinaryOp::ContainsAll)),
-            BinaryOp::ContainsAny => Some(TwoOperands::ContainsSeveral(BinaryOp::ContainsAny)),
-            BinaryOp::In => None,
-            BinaryOp::GetTag => None,
-            BinaryOp::HasTag => None,
+            BinaryOp::Eq => TwoOperands::Equality,
+            BinaryOp::Less => TwoOperands::Comparison(BinaryOp::Less),
+            BinaryOp::LessEq => TwoOperands::Comparison(BinaryOp::LessEq),
+            BinaryOp::Add => TwoOperands::Arithmetic(BinaryOp::Add),
+            BinaryOp::Sub => TwoOperands::Arithmetic(BinaryOp::Sub),
+            BinaryOp::Mul => TwoOperands::Arithmetic(BinaryOp::Mul),
+            BinaryOp::Contains => TwoOperands::Contains,
+            BinaryOp::ContainsAll => TwoOperands::ContainsSeveral(BinaryOp::ContainsAll),
+            BinaryOp::ContainsAny => TwoOperands::ContainsSeveral(BinaryOp::ContainsAny),
+            BinaryOp::In => TwoOperands::Membership,
+            BinaryOp::GetTag => TwoOperands::GetTag,
+            BinaryOp::HasTag => TwoOperands::HasTag,
         }
     }
 
     /// Whether the right operand is still typed after a left one that is too deep.
     fn goes_on(self) -> bool
-        ensures { (env : _) → (m : _) → (a : _) → (b : _)
-            → (form_of_two env m a b self).goes_on ≡ result }
+        ensures { (env : _) → (m : _) → (prior : _) → (a : _) → (b : _)
+            → (form_of_two env m prior a b self).goes_on ≡ result }
     {
         match self {
             TwoOperands::Equality => true,
             TwoOperands::Comparison(_) => false,
             TwoOperands::Arithmetic(_) => false,
+            TwoOperands::Membership => true,
             TwoOperands::Contains => false,
             TwoOperands::ContainsSeveral(_) => false,
+            TwoOperands::HasTag => false,
+            TwoOperands::GetTag => false,
         }
     }
 
     /// What the left operand has to be, if anything.
     fn expected_left(self) -> Option<Expected>
-        ensures { (env : _) → (m : _) → (a : _) → (b : _)
-            → first_expectation (form_of_two env m a b self).expects
+        ensures { (env : _) → (m : _) → (prior : _) → (a : _) → (b : _)
+            → first_expectation (form_of_two env m prior a b self).expects
             ≡ option_map expected_types result }
     {
         match self {
             TwoOperands::Equality => None,
             TwoOperands::Comparison(_) => None,
             TwoOperands::Arithmetic(_) => Some(Expected::Long),
+            TwoOperands::Membership => Some(Expected::Entity),
             TwoOperands::Contains => Some(Expected::Set),
             TwoOperands::ContainsSeveral(_) => Some(Expected::Set),
+            TwoOperands::HasTag => Some(Expected::Entity),
+            TwoOperands::GetTag => Some(Expected::Entity),
         }
     }
 
     /// What the right operand has to be, if anything.
     fn expected_right(self) -> Option<Expected>
-        ensures { (env : _) → (m : _) → (a : _) → (b : _)
-            → first_expectation (later_expectations (form_of_two env m a b self).expects)
+        ensures { (env : _) → (m : _) → (prior : _) → (a : _) → (b : _)
+            → first_expectation (later_expectations (form_of_two env m prior a b self).expects)
             ≡ option_map expected_types result }
     {
         match self {
             TwoOperands::Equality => None,
             TwoOperands::Comparison(_) => None,
             TwoOperands::Arithmetic(_) => Some(Expected::Long),
+            TwoOperands::Membership => Some(Expected::Ancestor),
             TwoOperands::Contains => None,
             TwoOperands::ContainsSeveral(_) => Some(Expected::Set),
+            TwoOperands::HasTag => Some(Expected::String),
+            TwoOperands::GetTag => Some(Expected::String),
         }
     }
 
     /// The operator.
     fn op(self) -> BinaryOp
-        ensures { (env : _) → (m : _) → (a : _) → (b : _) → (k : _) → (x : _) → (y : _)
-            → (form_of_two env m a b self).node k (x ∷ y ∷ []) ≡ binary k result x y }
+        ensures { (env : _) → (m : _) → (prior : _) → (a : _) → (b : _) → (k : _) → (x : _) → (y : _)
+            → (form_of_two env m prior a b self).node k (x ∷ y ∷ []) ≡ binary k result x y }
     {
         match self {
             TwoOperands::Equality => BinaryOp::Eq,
             TwoOperands::Comparison(op) => op,
             TwoOperands::Arithmetic(op) => op,
+            TwoOperands::Membership => BinaryOp::In,
             TwoOperands::Contains => BinaryOp::Contains,
             TwoOperands::ContainsSeveral(op) => op,
+            TwoOperands::HasTag => BinaryOp::HasTag,
+            TwoOperands::GetTag => BinaryOp::GetTag,
+        }
+    }
+
+    /// The type of the whole, by whether both operands succeeded and the type that the table gives.
+    fn type_given(self, succeeded: bool, ty: CedarType) -> CedarType
+        ensures { (env : _) → (m : _) → (prior : _) → (a : _) → (b : _)
+            → ty_of result ≡ type_given (form_of_two env m prior a b self) succeeded (ty_of ty) }
+    {
+        match self {
+            TwoOperands::Equality => ty,
+            TwoOperands::Comparison(_) => ty,
+            TwoOperands::Arithmetic(_) => ty,
+            TwoOperands::Membership => bool_unless(succeeded, ty),
+            TwoOperands::Contains => ty,
+            TwoOperands::ContainsSeveral(_) => ty,
+            TwoOperands::HasTag => ty,
+            TwoOperands::GetTag => ty,
         }
     }
 }
@@ -144,23 +185,26 @@ impl SingleEnvTypechecker<'_, '_, '_, '_> {
         }
         let other = self.typecheck(prior, depth + 1, right, errors)?;
         let other = self.operand(form.expected_right(), right.loc, other, errors)?;
-        let answer = self.two_answer(loc, form, left, right, one, other, errors)?;
+        let operands = Operands { left, right };
+        let answer = self.two_answer(prior, loc, form, operands, one, other, errors)?;
         Ok(answer)
     }
 
     /// A form with two operands, at `loc`, where the operands are typed or too deep.
     fn two_answer<'a>(
         &self,
+        prior: &CapabilitySet<'a>,
         loc: Option<Loc>,
         form: TwoOperands,
-        left: &Expr,
-        right: &Expr,
+        operands: Operands<'a>,
         one: Option<Part<'a>>,
         other: Option<Part<'a>>,
         errors: &mut Vec<ValidationError>,
     ) -> Result<TypecheckAnswer<'a>, AllocError>
         ensures { IfOk result (λ r.
-            infer_form (form_of_two (env_at self.now) (at loc) (written left.now) (written right.now) form)
+            infer_form
+            (form_of_two (env_at self.now) (at loc) (caps prior.now)
+            (written operands.entry.left.now) (written operands.entry.right.now) form)
             (two_parts (option_map part_of one.entry) (option_map part_of other.entry))
             (findings errors.old.items)
             ≡ (answer_of r, findings errors.new.items)) }
@@ -171,30 +215,33 @@ impl SingleEnvTypechecker<'_, '_, '_, '_> {
         let Some(other) = other else {
             return Ok(TypecheckAnswer::RecursionLimit);
         };
-        let answer = self.two_parts_answer(loc, form, left, right, one, other, errors)?;
+        let answer = self.two_parts_answer(prior, loc, form, operands, one, other, errors)?;
         Ok(answer)
     }
 
     fn two_parts_answer<'a>(
         &self,
+        prior: &CapabilitySet<'a>,
         loc: Option<Loc>,
         form: TwoOperands,
-        left: &Expr,
-        right: &Expr,
+        operands: Operands<'a>,
         one: Part<'a>,
         other: Part<'a>,
         errors: &mut Vec<ValidationError>,
     ) -> Result<TypecheckAnswer<'a>, AllocError>
         ensures { IfOk result (λ r.
-            infer_form (form_of_two (env_at self.now) (at loc) (written left.now) (written right.now) form)
+            infer_form
+            (form_of_two (env_at self.now) (at loc) (caps prior.now)
+            (written operands.entry.left.now) (written operands.entry.right.now) form)
             (two_parts (Some (part_of one.entry)) (Some (part_of other.entry)))
             (findings errors.old.items)
             ≡ (answer_of r, findings errors.new.items)) }
     {
         let succeeded = other.succeeded & one.succeeded;
         let found = &one.typed.annotation;
-        match self.decide_two(loc, form, left, right, found, &other.typed.annotation)? {
+        match self.decide_two(prior, loc, form, operands, found, &other.typed.annotation)? {
             Decision::Gives(ty, capabilities) => {
+                let ty = form.type_given(succeeded, ty);
                 let typed = binary_node(
                     self.alloc,
                     loc,
@@ -216,17 +263,20 @@ impl SingleEnvTypechecker<'_, '_, '_, '_> {
     /// What the form's table says, by the types of its operands.
     fn decide_two<'a>(
         &self,
+        prior: &CapabilitySet<'a>,
         loc: Option<Loc>,
         form: TwoOperands,
-        left: &Expr,
-        right: &Expr,
+        operands: Operands<'a>,
         found: &Option<CedarType>,
         other: &Option<CedarType>,
     ) -> Result<Decision<'a>, AllocError>
         ensures { IfOk result (λ d. decision_of d
-            ≡ (form_of_two (env_at self.now) (at loc) (written left.now) (written right.now) form).decides
+            ≡ (form_of_two (env_at self.now) (at loc) (caps prior.now)
+            (written operands.entry.left.now) (written operands.entry.right.now) form).decides
             (option_map ty_of found.now ∷ option_map ty_of other.now ∷ [])) }
     {
+        let left = operands.left;
+        let right = operands.right;
         match form {
             TwoOperands::Equality => {
                 self.decide_equality(loc, left, right, found.as_ref(), other.as_ref())
@@ -235,6 +285,7 @@ impl SingleEnvTypechecker<'_, '_, '_, '_> {
                 self.decide_comparison(left.loc, right.loc, found, other)
             }
             TwoOperands::Arithmetic(_) => Ok(gives(self.alloc, CedarType::Long)),
+            TwoOperands::Membership => self.decide_in(left, right, found, other),
             TwoOperands::Contains => {
                 let member = member_type(found);
                 let errors = self.strict_errors(loc, LubContext::Contains, member, other.as_ref())?;
@@ -245,8 +296,20 @@ impl SingleEnvTypechecker<'_, '_, '_, '_> {
                 let errors = self.strict_errors(loc, context, found.as_ref(), other.as_ref())?;
                 Ok(gives_unless(self.alloc, errors, any_bool()))
             }
+            TwoOperands::HasTag => self.decide_has_tag(prior, loc, left, right, found),
+            TwoOperands::GetTag => self.decide_get_tag(prior, loc, left, right, found),
         }
     }
+}
+
+/// The type, or Bool where an operand failed.
+fn bool_unless(succeeded: bool, ty: CedarType) -> CedarType
+    ensures { ty_of result ≡ if succeeded then ty_of ty else TBool AnyBool }
+{
+    if succeeded {
+        return ty;
+    }
+    any_bool()
 }
 
 fn binary_node(

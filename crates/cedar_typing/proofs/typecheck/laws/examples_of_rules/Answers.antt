@@ -1,4 +1,6 @@
-use Rattle.cedar_typing.proofs.Examples.Rules.{leaf_typing, and_typing, or_typing, unary_typing, conditional_typing, has_typing, get_typing, operator_typing, number_typing, equality_typing, member_typing, set_typing, record_typing, nesting_typing, check_typing}
+use Rattle.cedar_typing.proofs.Examples.Rules.{leaf_typing, and_typing, or_typing, unary_typing, conditional_typing, operator_typing, number_typing, equality_typing, member_typing, set_typing, record_typing}
+use Rattle.cedar_typing.proofs.Examples.Rules.Entities.{has_typing, get_typing, chain_typing, action_membership_typing, membership_typing, has_tag_typing, get_tag_typing}
+use Rattle.cedar_typing.proofs.Examples.Rules.Nesting.{nesting_typing, check_typing}
 use Rattle.cedar_typing.proofs.typecheck.laws.examples_of_rules.Goals as goal
 
 pub returns : goal.returns
@@ -10,6 +12,11 @@ returns c = record {
   conditionals = conditional_typing;
   has_attribute = has_typing;
   get_attribute = get_typing;
+  chains = chain_typing;
+  action_memberships = action_membership_typing;
+  memberships = membership_typing;
+  has_tag = has_tag_typing;
+  get_tag = get_tag_typing;
   operators = operator_typing;
   numbers = number_typing;
   equality = equality_typing;

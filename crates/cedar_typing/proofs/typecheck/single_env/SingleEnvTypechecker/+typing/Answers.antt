@@ -4,8 +4,8 @@ use Rattle.std.specs.List.Sorted.{IsStrictlySortedBy}
 use Rattle.std.specs.Map.{keys_of}
 use Rattle.cedar_types.specs.declared.base.expressions.ExprKind.TheVariants as K
 use Rattle.cedar_types.specs.Names.{text_of, type_of}
-use Rattle.cedar_types.specs.Tree.{and, or, has_attr, get_attr, unary, binary, like, is_type}
-use Rattle.cedar_types.specs.View.{written, Written, of_type, fields_written}
+use Rattle.cedar_types.specs.Tree.{and, or, has_attr, get_attr, ext_has_attr, unary, binary, like, is_type}
+use Rattle.cedar_types.specs.View.{written, Written, of_type, fields_written, chain_of}
 use Rattle.cedar_types.specs.Capability.{caps}
 use Rattle.cedar_types.proofs.Entries.{Entry}
 use Rattle.cedar_types.proofs.Records.{key_cmp}
@@ -14,9 +14,7 @@ use Rattle.cedar_typing.specs.Infer.Parts.{AnswerAndErrors, expect}
 use Rattle.cedar_typing.specs.TypedExpr.{Source, place_of}
 use Rattle.cedar_typing.specs.Views.{env_at, expected_types, answer_of, findings, operands_of, at, part_of, form_of_two, keys_in, trees_in}
 use Rattle.cedar_typing.specs.Eager.{Form}
-use Rattle.cedar_typing.specs.Infer.Binary.{infer_binary}
-use Rattle.cedar_typing.specs.Infer.Eager.{expect_operand, infer_form}
-use Rattle.cedar_typing.specs.Rules.Binary.{binary_form}
+use Rattle.cedar_typing.specs.Infer.Eager.{expect_operand, infer_form, infer_two_operands}
 use Rattle.cedar_typing.specs.Rules.Collections.{field_keys, record_form}
 use Rattle.cedar_typing.proofs.Agreement.Induction.{below_limit}
 use Rattle.cedar_typing.proofs.Elements.{resumed, all_inferred, next_item, one_element}
@@ -123,40 +121,36 @@ typecheck-returns-in-Is t c =
     let Q : Source → Type 0 = λ e. P (infer_within env e prior d es) in
     subst P (sym (below_limit d es _ c.if-depth-gt-MAX_NESTING.false)) (subst Q (sym tree) c.type_one_operand-in-Is.ensures)
 
-pub typecheck-returns-in-Some : goal.typecheck-returns-in-Some
-typecheck-returns-in-Some t c =
+pub typecheck-returns-in-BinaryApp : goal.typecheck-returns-in-BinaryApp
+typecheck-returns-in-BinaryApp t c =
     let env = env_at c.args.self.now in
     let prior = caps c.args.prior.now in
     let d = c.args.depth in
     let es = findings c.args.errors.now.items in
     let m = at c.args.e.now.loc in
     let o = c.in-BinaryApp.op in
-    let a = written c.deref-in-Some.result.now in
-    let b = written c.deref-in-Some-2.result.now in
+    let a = written c.deref-in-BinaryApp.result.now in
+    let b = written c.deref-in-BinaryApp-2.result.now in
     let tree : written c.args.e.now ≡ binary m o a b =
-    written_as c.args.e.now (K.BinaryApp o c.in-BinaryApp.left c.in-BinaryApp.right) c.in-BinaryApp.is ∙ (λ i. binary m o (written (sym c.deref-in-Some.ensures i)) (written (sym c.deref-in-Some-2.ensures i))) in
-    let form : Some (form_of_two env m a b c.in-Some.form) ≡ binary_form env m a b o = sym (ap (option_map (form_of_two env m a b)) c.in-Some.is) ∙ c.of.ensures env m a b in
+    written_as c.args.e.now (K.BinaryApp o c.in-BinaryApp.left c.in-BinaryApp.right) c.in-BinaryApp.is ∙ (λ i. binary m o (written (sym c.deref-in-BinaryApp.ensures i)) (written (sym c.deref-in-BinaryApp-2.ensures i))) in
     let P : AnswerAndErrors → Type 0 = λ z. IfOk c.type_two_operands.result (λ r. z ≡ (answer_of r, findings c.type_two_operands.new.errors.items)) in
     let Q : Source → Type 0 = λ e. P (infer_within env e prior d es) in
-    let R : Option Form → Type 0 = λ f. P (infer_binary env f m.place (place_of a) (place_of b) (infer env a prior (d + 1)) (infer env b prior (d + 1)) es) in
-    subst P (sym (below_limit d es _ c.if-depth-gt-MAX_NESTING.false)) (subst Q (sym tree) (subst R form c.type_two_operands.ensures))
+    let R : Form → Type 0 = λ f. P (infer_two_operands env f (place_of a) (place_of b) (infer env a prior (d + 1)) (infer env b prior (d + 1)) es) in
+    subst P (sym (below_limit d es _ c.if-depth-gt-MAX_NESTING.false)) (subst Q (sym tree) (subst R (c.of-form.ensures env m prior a b) c.type_two_operands.ensures))
 
-pub typecheck-returns-in-None : goal.typecheck-returns-in-None
-typecheck-returns-in-None t c =
+pub typecheck-returns-in-ExtHasAttr : goal.typecheck-returns-in-ExtHasAttr
+typecheck-returns-in-ExtHasAttr t c =
     let env = env_at c.args.self.now in
     let prior = caps c.args.prior.now in
     let d = c.args.depth in
     let es = findings c.args.errors.now.items in
     let m = at c.args.e.now.loc in
-    let o = c.in-BinaryApp.op in
-    let a = written c.in-BinaryApp.left.value in
-    let b = written c.in-BinaryApp.right.value in
-    let tree : written c.args.e.now ≡ binary m o a b = written_as c.args.e.now (K.BinaryApp o c.in-BinaryApp.left c.in-BinaryApp.right) c.in-BinaryApp.is in
-    let form : None ≡ binary_form env m a b o = sym (ap (option_map (form_of_two env m a b)) c.in-None.is) ∙ c.of.ensures env m a b in
-    let P : AnswerAndErrors → Type 0 = λ z. IfOk c.type_unbuilt.result (λ r. z ≡ (answer_of r, findings c.type_unbuilt.new.errors.items)) in
+    let chain = c.in-ExtHasAttr.chain in
+    let tree : written c.args.e.now ≡ ext_has_attr m (written c.deref-in-ExtHasAttr.result.now) (chain_of chain).0 (chain_of chain).1 =
+    written_as c.args.e.now (K.ExtHasAttr c.in-ExtHasAttr.base chain) c.in-ExtHasAttr.is ∙ (λ i. ext_has_attr m (written (sym c.deref-in-ExtHasAttr.ensures i)) (chain_of chain).0 (chain_of chain).1) in
+    let P : AnswerAndErrors → Type 0 = λ z. IfOk c.type_one_operand-in-ExtHasAttr.result (λ r. z ≡ (answer_of r, findings c.type_one_operand-in-ExtHasAttr.new.errors.items)) in
     let Q : Source → Type 0 = λ e. P (infer_within env e prior d es) in
-    let R : Option Form → Type 0 = λ f. P (infer_binary env f m.place (place_of a) (place_of b) (infer env a prior (d + 1)) (infer env b prior (d + 1)) es) in
-    subst P (sym (below_limit d es _ c.if-depth-gt-MAX_NESTING.false)) (subst Q (sym tree) (subst R form c.type_unbuilt.ensures))
+    subst P (sym (below_limit d es _ c.if-depth-gt-MAX_NESTING.false)) (subst Q (sym tree) c.type_one_operand-in-ExtHasAttr.ensures)
 
 pub type_two_operands-returns-then-is_none-goes_on : goal.type_two_operands-returns-then-is_none-goes_on
 type_two_operands-returns-then-is_none-goes_on t c =
@@ -166,15 +160,15 @@ type_two_operands-returns-then-is_none-goes_on t c =
     let m = at c.args.loc in
     let a = written c.args.left.now in
     let b = written c.args.right.now in
-    let f = form_of_two env m a b c.args.form in
+    let f = form_of_two env m prior a b c.args.form in
     let es = findings c.args.errors.now.items in
     let es' = findings c.operand.new.errors.items in
     let q = option_map expected_types c.expected_left.result in
     let left : expect_operand env q (place_of a) (infer env a prior (d + 1) es) ≡ (option_map part_of c.in_ok-one-2.one, es') =
     (λ i. expect_operand env q (place_is c.args.left.now i) (c.in_ok-one.ensures i)) ∙ c.in_ok-one-2.ensures in
-    two_stopped env f (place_of a) (place_of b) (infer env a prior (d + 1)) (infer env b prior (d + 1)) q _ (c.expected_left.ensures env m a b) refl _ es es'
-    (stops c.is_none.result c.goes_on.result f.goes_on c.in_ok-one-2.one c.is_none.ensures (c.goes_on.ensures env m a b) c.if-is_none-goes_on.true) left
-    ∙ is_limit env m a b c.args.form [] es'
+    two_stopped env f (place_of a) (place_of b) (infer env a prior (d + 1)) (infer env b prior (d + 1)) q _ (c.expected_left.ensures env m prior a b) refl _ es es'
+    (stops c.is_none.result c.goes_on.result f.goes_on c.in_ok-one-2.one c.is_none.ensures (c.goes_on.ensures env m prior a b) c.if-is_none-goes_on.true) left
+    ∙ is_limit env m prior a b c.args.form [] es'
 
 pub type_two_operands-returns : goal.type_two_operands-returns
 type_two_operands-returns t c =
@@ -184,7 +178,7 @@ type_two_operands-returns t c =
     let m = at c.args.loc in
     let a = written c.args.left.now in
     let b = written c.args.right.now in
-    let f = form_of_two env m a b c.args.form in
+    let f = form_of_two env m prior a b c.args.form in
     let es = findings c.args.errors.now.items in
     let es' = findings c.operand.new.errors.items in
     let es'' = findings c.operand-2.new.errors.items in
@@ -194,8 +188,8 @@ type_two_operands-returns t c =
     (λ i. expect_operand env q (place_is c.args.left.now i) (c.in_ok-one.ensures i)) ∙ c.in_ok-one-2.ensures in
     let right : expect_operand env q' (place_of b) (infer env b prior (d + 1) es') ≡ (option_map part_of c.in_ok-other-2.other, es'') =
     (λ i. expect_operand env q' (place_is c.args.right.now i) (c.in_ok-other.ensures i)) ∙ c.in_ok-other-2.ensures in
-    two_typed env f (place_of a) (place_of b) (infer env a prior (d + 1)) (infer env b prior (d + 1)) q q' (c.expected_left.ensures env m a b) (c.expected_right.ensures env m a b) _ _ es es' es''
-    (typed_on c.is_none.result c.goes_on.result f.goes_on c.in_ok-one-2.one c.is_none.ensures (c.goes_on.ensures env m a b) c.if-is_none-goes_on.false) left right
+    two_typed env f (place_of a) (place_of b) (infer env a prior (d + 1)) (infer env b prior (d + 1)) q q' (c.expected_left.ensures env m prior a b) (c.expected_right.ensures env m prior a b) _ _ es es' es''
+    (typed_on c.is_none.result c.goes_on.result f.goes_on c.in_ok-one-2.one c.is_none.ensures (c.goes_on.ensures env m prior a b) c.if-is_none-goes_on.false) left right
     ∙ c.in_ok-answer.ensures
 
 pub type_elements-loop-element-preserved : goal.type_elements-loop-element-preserved

@@ -7,6 +7,7 @@ use Rattle.cedar_typing.specs.Infer.Eager.{infer_decided}
 use Rattle.cedar_typing.specs.Infer.Parts.{failure, answer_if}
 use Rattle.cedar_typing.specs.TypedExpr.{annotation, typed_tree}
 use Rattle.cedar_typing.specs.Views.{env_at, answer_of, findings, decision_of, form_of_one, mark_of_one}
+use Rattle.cedar_typing.proofs.TypesGiven.{given_is, one_keeps}
 use Rattle.cedar_typing.proofs.TypedViews.{annotation_is}
 use Rattle.cedar_typing.proofs.typecheck.single_env.SingleEnvTypechecker.one_answer.Goals as goal
 
@@ -21,6 +22,7 @@ returns-in-Gives c =
     let d : f.decides (annotation x ∷ []) ≡ gives (ty_of c.in-Gives.ty) (caps c.in-Gives.capabilities) =
     ap (λ a. f.decides (a ∷ [])) (annotation_is c.args.part.typed) ∙ sym c.in_ok-ty.ensures ∙ ap decision_of c.in-Gives.is in
     ap (infer_decided f c.args.part.succeeded (x ∷ []) es) d
+    ∙ given_is f (one_keeps env (mark_of_one c.args.loc c.args.form) prior e c.args.form) c.args.part.succeeded (x ∷ []) es _ _
     ∙ (λ i. (answer_if c.args.part.succeeded (sym (c.in_ok-typed-in-Gives.ensures env prior e) i) (caps c.in-Gives.capabilities), es))
     ∙ ap (λ a. (a, es)) (sym c.with_capabilities.ensures)
 

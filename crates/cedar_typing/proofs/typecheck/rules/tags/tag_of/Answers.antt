@@ -1,0 +1,7 @@
+use Rattle.std.proofs.Common.{◌∙◌}
+use Rattle.cedar_types.specs.Capability.{tag}
+use Rattle.cedar_types.specs.Marks.{shape-written}
+use Rattle.cedar_typing.proofs.typecheck.rules.tags.tag_of.Goals as goal
+
+pub returns : goal.returns
+returns c = c.new_borrowed_tag.ensures ∙ (λ i. tag (shape-written c.args.left.now i) (shape-written c.args.right.now i))
