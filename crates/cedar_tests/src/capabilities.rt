@@ -67,3 +67,18 @@ fn sets_are_united_and_intersected(rt: HostRuntime) -> Result<(), Fail> {
     }
     Ok(())
 }
+
+#[test]
+fn a_set_has_what_is_put_in(rt: HostRuntime) -> Result<(), Fail> {
+    let alloc = rt.alloc();
+    let base = variable(1, Var::Principal);
+    let name = Expr::val(Literal::from_string(alloc, "x")?);
+    let has_x = Capability::new_attribute(&base, text(alloc, "x")?);
+    let has_tag = Capability::new_borrowed_tag(&base, &name);
+    let mut set = CapabilitySet::singleton(alloc, Capability::new_borrowed_tag(&base, &name))?;
+    assert!(rt; !set.contains(&has_x));
+    set.insert(Capability::new_attribute(&base, text(alloc, "x")?))?;
+    assert!(rt; set.contains(&has_x) && set.contains(&has_tag));
+    assert!(rt; !set.contains(&Capability::new_attribute(&base, text(alloc, "y")?)));
+    Ok(())
+}

@@ -2,8 +2,8 @@
 use crate::declarations::{Declared, Kind, declare, schema, standard};
 use crate::parts::{entity, entity_type, lub, text, uid};
 use cedar_types::base::{
-    AttributeType, CedarType, EntityType, EntityUID, ValidatorEntityType, ValidatorEntityTypeKind,
-    ValidatorSchema, memberships_are_allowed,
+    AttributeType, CedarType, EntityKind, EntityType, EntityUID, ValidatorEntityType,
+    ValidatorEntityTypeKind, ValidatorSchema, memberships_are_allowed,
 };
 use std::alloc::{AllocError, Global};
 use std::collections::BTreeSet;
@@ -155,5 +155,33 @@ fn types_tell_of_attributes_and_literals(rt: HostRuntime) -> Result<(), Fail> {
     let near = uid(alloc, "Near", "n")?;
     let found = CedarType::euid_literal(alloc, &near, &schema)?;
     assert!(rt; found == Some(entity(alloc, &["Near"])?));
+    Ok(())
+}
+
+#[test]
+fn types_tell_of_tags(rt: HostRuntime) -> Result<(), Fail> {
+    let alloc = rt.alloc();
+    let mut types = Vec::new(alloc);
+    for (name, tags) in [
+        ("user", Some(CedarType::String)),
+        ("admins", Some(CedarType::Long)),
+        ("bin", None),
+    ] {
+        types.push(declare(alloc, name, standard(alloc, Vec::new(alloc), tags)?)?)?;
+    }
+    let schema = ValidatorSchema::new(alloc, types, Vec::new(alloc))?;
+    for (names, want) in [
+        (&["user"][..], &[CedarType::String][..]),
+        (&["bin"][..], &[][..]),
+        (
+            &["admins", "bin", "user"][..],
+            &[CedarType::Long, CedarType::String][..],
+        ),
+    ] {
+        let found = schema.tag_types(alloc, &EntityKind::Entity(lub(alloc, names)?))?;
+        assert!(rt; found.iter().eq(want));
+    }
+    let all = schema.tag_types(alloc, &EntityKind::AnyEntity)?;
+    assert!(rt; all.iter().eq(&[CedarType::Long, CedarType::String]));
     Ok(())
 }

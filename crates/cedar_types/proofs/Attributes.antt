@@ -12,6 +12,10 @@ use Rattle.cedar_types.specs.declared.base.types.CedarType.TheOpen as layer
 use Rattle.cedar_types.specs.declared.base.types.CedarType.TheVariants.{Record, rolls-Record}
 use Rattle.cedar_types.specs.Names.{text_of}
 use Rattle.cedar_types.specs.Types.{TRecord, is_open_tag, Ty, Attrs, attr, ty_step, attribute_step, attributes_step, ty_of, attribute_of, attributes_of, attrs_of, entries_of}
+pub mod Entries
+pub mod Records
+pub mod FindAttrs
+pub mod Listed
 
 on_values : (es : List (RcStr Global × AttributeType)) → attrs_of (map (λ e. (e.0, attribute_of e.1)) es) ≡ entries_of es
 on_values [] = refl

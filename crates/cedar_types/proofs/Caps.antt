@@ -10,9 +10,9 @@ use Rattle.cedar_types.specs.declared.types.capability.Known.{Known}
 use Rattle.cedar_types.specs.contracts.types.capability.CapabilityOrd.TheImpl.Laws as ord_laws
 use Rattle.cedar_types.specs.contracts.types.capability.KnownPartialEq.TheImpl as known_eq
 use Rattle.cedar_types.specs.TreeEq.{tree_eq}
-use Rattle.cedar_types.specs.Comparisons.{text_same, and_left, and_right, and_both}
+use Rattle.cedar_types.specs.Lemmas.Comparisons.{text_same, and_left, and_right, and_both}
 use Rattle.cedar_types.specs.Names.{text_eq, text_of}
-use Rattle.cedar_types.specs.TreeSame.{tree_same}
+use Rattle.cedar_types.specs.Lemmas.TreeSame.{tree_same}
 use Rattle.cedar_types.specs.Tree.{Shape}
 use Rattle.cedar_types.specs.ShapeOnly.{shape_of}
 use Rattle.cedar_types.specs.Capability.{Cap, attribute, tag, cap_eq, cap_of, known_of, among, capability_eq, capability_cmp}
@@ -31,6 +31,7 @@ known_is a s t x y e = and_false a
 
 -- the derived `==` and order of capabilities compare what they stand for
 pub cap_is : (c d : Capability) → capability_eq c d ≡ cap_eq (cap_of c) (cap_of d)
+unfolding cap_of
 cap_is c d = known_is (tree_eq (shape_of c.on_expr) (shape_of d.on_expr)) (shape_of c.on_expr) (shape_of d.on_expr) c.known d.known refl
 
 pub at_is : (c d : Capability) → is_eq (cmp c d) ≡ cap_eq (cap_of c) (cap_of d)

@@ -5,9 +5,9 @@ use Rattle.std.specs.Ordering.{is_eq}
 use Rattle.std.specs.BTreeMap.{is_at}
 use Rattle.std.specs.Map.{lookup}
 use Rattle.std.specs.declared.cmp.Ordering.{Ordering}
-use Rattle.cedar_types.specs.contracts.base.slots.SlotIdOrd.TheImpl as slot_order
-use Rattle.cedar_types.specs.declared.base.entities.EntityUID.{EntityUID}
-use Rattle.cedar_types.specs.declared.base.slots.SlotId.{SlotId}
+use Rattle.cedar_types.specs.contracts.base.names.slots.SlotIdOrd.TheImpl as slot_order
+use Rattle.cedar_types.specs.declared.base.names.entities.EntityUID.{EntityUID}
+use Rattle.cedar_types.specs.declared.base.names.slots.SlotId.{SlotId}
 use Rattle.cedar_types.specs.TreeEq.{slot_eq}
 use Rattle.cedar_types.specs.RequestEnvs.{bound_to}
 

@@ -1,7 +1,7 @@
 -- What a check of arguments answers.
 use Rattle.std.specs.Prelude.{Option, Some, None, Result, Ok, Err}
 use Rattle.cedar_types.specs.Names.{Text, text_of}
-use Rattle.cedar_types.specs.declared.base.extensions.ArgumentError.{ArgumentError}
+use Rattle.cedar_types.specs.declared.base.expressions.extensions.ArgumentError.{ArgumentError}
 
 -- the message of a refusal, if it is one
 abbrev pub refusal_of : Result (Unit {0}) ArgumentError → Option Text

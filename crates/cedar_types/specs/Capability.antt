@@ -26,7 +26,7 @@ abbrev pub known_of : Shape → Known → Cap
 known_of s (Known.Attribute x) = attribute s (text_of x)
 known_of s (Known.Tag x) = tag s (shape_of x)
 
-abbrev pub cap_of : Capability → Cap
+unfoldable pub cap_of : Capability → Cap
 cap_of c = known_of (shape_of c.on_expr) c.known
 
 -- the derived `==` and the derived order

@@ -4,14 +4,14 @@ use Rattle.std.specs.BTreeSet.{BTreeSet}
 use Rattle.cedar_types.specs.Names.{Uid, text_of, type_of, uid_of}
 use Rattle.cedar_types.specs.Types.{types_of, ty_of, attributes_of}
 use Rattle.cedar_types.specs.Schemas.{TypeKind, StandardKind, EnumKind, ExternalKind, DeclaredType, Application, DeclaredAction, Schema}
-use Rattle.cedar_types.specs.declared.base.entities.EntityUID.{EntityUID}
-use Rattle.cedar_types.specs.declared.base.schema_entity_types.ValidatorEntityType.{ValidatorEntityType}
-use Rattle.cedar_types.specs.declared.base.schema_entity_types.ValidatorEntityTypeKind.{ValidatorEntityTypeKind}
-use Rattle.cedar_types.specs.declared.base.schema_entity_types.ValidatorEntityTypeKind.TheVariants.{Standard, Enum, External}
-use Rattle.cedar_types.specs.declared.base.schema_actions.ValidatorActionId.{ValidatorActionId}
-use Rattle.cedar_types.specs.declared.base.schema_actions.ValidatorApplySpec.{ValidatorApplySpec}
-use Rattle.cedar_types.specs.declared.base.schema_actions.ValidatorActionKind.{ValidatorActionKind}
-use Rattle.cedar_types.specs.declared.base.schema_actions.ValidatorActionKind.TheVariants as action
+use Rattle.cedar_types.specs.declared.base.names.entities.EntityUID.{EntityUID}
+use Rattle.cedar_types.specs.declared.base.schema.entity_types.ValidatorEntityType.{ValidatorEntityType}
+use Rattle.cedar_types.specs.declared.base.schema.entity_types.ValidatorEntityTypeKind.{ValidatorEntityTypeKind}
+use Rattle.cedar_types.specs.declared.base.schema.entity_types.ValidatorEntityTypeKind.TheVariants.{Standard, Enum, External}
+use Rattle.cedar_types.specs.declared.base.schema.actions.ValidatorActionId.{ValidatorActionId}
+use Rattle.cedar_types.specs.declared.base.schema.actions.ValidatorApplySpec.{ValidatorApplySpec}
+use Rattle.cedar_types.specs.declared.base.schema.actions.ValidatorActionKind.{ValidatorActionKind}
+use Rattle.cedar_types.specs.declared.base.schema.actions.ValidatorActionKind.TheVariants as action
 
 abbrev pub type_kind : ValidatorEntityTypeKind → TypeKind
 type_kind (Standard s) = StandardKind (attributes_of s.attributes) (option_map ty_of s.tags)

@@ -4,7 +4,7 @@ use Rattle.std.specs.List.{flat_map}
 use Rattle.cedar_types.specs.Names.{Path, Uid, type_of, uid_of}
 use Rattle.cedar_types.specs.Types.{Ty, ty_of}
 use Rattle.cedar_types.specs.Schemas.{Application, DeclaredAction}
-use Rattle.cedar_types.specs.declared.base.environments.UnlinkedRequestEnv.{UnlinkedRequestEnv}
+use Rattle.cedar_types.specs.declared.base.schema.request_environments.UnlinkedRequestEnv.{UnlinkedRequestEnv}
 
 -- what a request may be about, without slots
 pub record DeclaredEnv : Type 0 where

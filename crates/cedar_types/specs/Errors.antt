@@ -1,7 +1,7 @@
 -- Errors and warnings of validation as plain data.
 use Rattle.std.specs.Prelude.{ℕ, Bool, List, Option, map, option_map}
 use Rattle.cedar_types.specs.declared.base.location.Loc.{Loc}
-use Rattle.cedar_types.specs.declared.base.policy_ids.PolicyID.{PolicyID}
+use Rattle.cedar_types.specs.declared.base.names.policy_ids.PolicyID.{PolicyID}
 use Rattle.cedar_types.specs.declared.base.errors.type_errors.LubContext.{LubContext}
 use Rattle.cedar_types.specs.declared.base.errors.validation_errors.ValidationError.{ValidationError}
 use Rattle.cedar_types.specs.declared.base.errors.validation_errors.ValidationError.TheVariants as error

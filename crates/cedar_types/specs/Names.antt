@@ -8,8 +8,8 @@ use Rattle.std.specs.declared.alloc.Global.{Global}
 use Rattle.std.specs.declared.rc.RcStr.{RcStr}
 use Rattle.cedar_types.specs.declared.base.location.Loc.{Loc}
 use Rattle.cedar_types.specs.declared.base.names.Name.{Name}
-use Rattle.cedar_types.specs.declared.base.entities.EntityType.{EntityType}
-use Rattle.cedar_types.specs.declared.base.entities.EntityUID.{EntityUID}
+use Rattle.cedar_types.specs.declared.base.names.entities.EntityType.{EntityType}
+use Rattle.cedar_types.specs.declared.base.names.entities.EntityUID.{EntityUID}
 
 -- a text, as its bytes
 abbrev pub Text : Type 0

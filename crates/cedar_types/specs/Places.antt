@@ -2,10 +2,10 @@
 use Rattle.std.specs.Prelude.{◌≡◌, ℕ, suc, Bool, List, [], ◌∷◌, Option, Some, None, option_map, if◌then◌else◌}
 use Rattle.std.specs.Map.{lookup}
 use Rattle.cedar_types.specs.Names.{Path, Uid, type_of, uid_of, path_eq, uid_eq}
-use Rattle.cedar_types.specs.declared.base.entities.EntityType.{EntityType}
-use Rattle.cedar_types.specs.declared.base.entities.EntityUID.{EntityUID}
-use Rattle.cedar_types.specs.declared.base.schema_entity_types.ValidatorEntityType.{ValidatorEntityType}
-use Rattle.cedar_types.specs.declared.base.schema_actions.ValidatorActionId.{ValidatorActionId}
+use Rattle.cedar_types.specs.declared.base.names.entities.EntityType.{EntityType}
+use Rattle.cedar_types.specs.declared.base.names.entities.EntityUID.{EntityUID}
+use Rattle.cedar_types.specs.declared.base.schema.entity_types.ValidatorEntityType.{ValidatorEntityType}
+use Rattle.cedar_types.specs.declared.base.schema.actions.ValidatorActionId.{ValidatorActionId}
 
 -- the place of the first element that passes
 abbrev pub place_in : {X : Type 0} → (X → Bool) → List X → Option ℕ

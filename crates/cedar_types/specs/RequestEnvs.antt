@@ -7,9 +7,9 @@ use Rattle.cedar_types.specs.TreeEq.{slot_eq}
 use Rattle.cedar_types.specs.Schemas.{Schema}
 use Rattle.cedar_types.specs.Lookups.{literal_type}
 use Rattle.cedar_types.specs.Environments.{DeclaredEnv, declared_env, environments_of}
-use Rattle.cedar_types.specs.declared.base.entities.EntityType.{EntityType}
-use Rattle.cedar_types.specs.declared.base.entities.EntityUID.{EntityUID}
-use Rattle.cedar_types.specs.declared.base.slots.SlotId.{SlotId}
+use Rattle.cedar_types.specs.declared.base.names.entities.EntityType.{EntityType}
+use Rattle.cedar_types.specs.declared.base.names.entities.EntityUID.{EntityUID}
+use Rattle.cedar_types.specs.declared.base.names.slots.SlotId.{SlotId}
 use Rattle.cedar_types.specs.declared.base.types.RequestType.{RequestType}
 use Rattle.cedar_types.specs.declared.base.types.ValidationMode.{ValidationMode}
 use Rattle.cedar_types.specs.declared.base.types.ValidationMode.TheVariants.{Strict, Permissive, Partial}

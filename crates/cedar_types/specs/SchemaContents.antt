@@ -3,10 +3,10 @@ use Rattle.std.specs.Prelude.{List, map}
 use Rattle.cedar_types.specs.Schemas.{Schema}
 use Rattle.cedar_types.specs.Tables.{schema_in}
 use Rattle.cedar_types.specs.Environments.{DeclaredEnv, declared_env}
-use Rattle.cedar_types.specs.declared.base.schemas.ValidatorSchema.{ValidatorSchema}
+use Rattle.cedar_types.specs.declared.base.schema.ValidatorSchema.{ValidatorSchema}
 
 -- its declarations
-abbrev pub schema_of : ValidatorSchema → Schema
+unfoldable pub schema_of : ValidatorSchema → Schema
 schema_of s = schema_in s.types s.actions
 
 -- the environments that it keeps

@@ -6,8 +6,8 @@ use Rattle.cedar_types.specs.Names.{Text, Path, Uid, is_action_path, uid_eq, pat
 use Rattle.cedar_types.specs.Types.{Ty, TNever, TBool, TLong, TString, TSet, TAnySet, TRecord, TEntity, TAnyEntity, TExtension, Attrs, no_attrs, attr}
 use Rattle.cedar_types.specs.declared.base.types.BoolType.{BoolType}
 use Rattle.cedar_types.specs.declared.base.types.BoolType.TheVariants.{AnyBool, True, False}
-use Rattle.cedar_types.specs.declared.base.schema_errors.SchemaError.{SchemaError}
-use Rattle.cedar_types.specs.declared.base.schema_errors.SchemaError.TheVariants.{DuplicateEntityType, DuplicateAction, ActionTypeDeclared, NotAnActionType, EmptyEnum, UnknownType, UnknownActionDescendant, VagueType, DescendantsNotClosed}
+use Rattle.cedar_types.specs.declared.base.schema.errors.SchemaError.{SchemaError}
+use Rattle.cedar_types.specs.declared.base.schema.errors.SchemaError.TheVariants.{DuplicateEntityType, DuplicateAction, ActionTypeDeclared, NotAnActionType, EmptyEnum, UnknownType, UnknownActionDescendant, VagueType, DescendantsNotClosed}
 
 -- ---- declarations
 

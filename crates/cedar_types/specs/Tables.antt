@@ -2,8 +2,8 @@
 use Rattle.std.specs.Prelude.{List, map}
 use Rattle.cedar_types.specs.Schemas.{DeclaredType, DeclaredAction, Schema}
 use Rattle.cedar_types.specs.Declarations.{declared_type, declared_action}
-use Rattle.cedar_types.specs.declared.base.schema_action_tables.ActionTable.{ActionTable}
-use Rattle.cedar_types.specs.declared.base.schema_type_tables.EntityTypeTable.{EntityTypeTable}
+use Rattle.cedar_types.specs.declared.base.schema.action_tables.ActionTable.{ActionTable}
+use Rattle.cedar_types.specs.declared.base.schema.type_tables.EntityTypeTable.{EntityTypeTable}
 
 abbrev pub types_in : EntityTypeTable → List DeclaredType
 types_in t = map declared_type t.declared.items

@@ -1,13 +1,13 @@
 -- Templates as plain data, and the condition of one.
 use Rattle.std.specs.Prelude.{true, List, Option, Some, None, map, option_map}
 use Rattle.cedar_types.specs.declared.base.location.Loc.{Loc}
-use Rattle.cedar_types.specs.declared.base.slots.SlotId.{SlotId}
-use Rattle.cedar_types.specs.declared.base.operators.Var.{Var}
-use Rattle.cedar_types.specs.declared.base.operators.BinaryOp.TheVariants as BinaryOp
-use Rattle.cedar_types.specs.declared.base.constraints.EntityReference.{EntityReference}
-use Rattle.cedar_types.specs.declared.base.constraints.PrincipalOrResourceConstraint.{PrincipalOrResourceConstraint}
-use Rattle.cedar_types.specs.declared.base.constraints.PrincipalOrResourceConstraint.TheVariants as Constraint
-use Rattle.cedar_types.specs.declared.base.constraints.ActionConstraint.{ActionConstraint}
+use Rattle.cedar_types.specs.declared.base.names.slots.SlotId.{SlotId}
+use Rattle.cedar_types.specs.declared.base.expressions.operators.Var.{Var}
+use Rattle.cedar_types.specs.declared.base.expressions.operators.BinaryOp.TheVariants as BinaryOp
+use Rattle.cedar_types.specs.declared.base.templates.constraints.EntityReference.{EntityReference}
+use Rattle.cedar_types.specs.declared.base.templates.constraints.PrincipalOrResourceConstraint.{PrincipalOrResourceConstraint}
+use Rattle.cedar_types.specs.declared.base.templates.constraints.PrincipalOrResourceConstraint.TheVariants as Constraint
+use Rattle.cedar_types.specs.declared.base.templates.constraints.ActionConstraint.{ActionConstraint}
 use Rattle.cedar_types.specs.declared.base.templates.Template.{Template}
 use Rattle.cedar_types.specs.Names.{Text, PlacedType, PlacedUid, text_of, placed_type, placed_uid}
 use Rattle.cedar_types.specs.Tree.{bool, entity, Tree, lit, var, slot, and, binary, is_type, set_of}

@@ -1,11 +1,11 @@
 -- Expressions as plain trees: the whole of the syntax, with a mark of type D at each node.
 use Rattle.std.specs.Prelude.{ℤ, Bool, List}
 use Rattle.cedar_types.specs.Names.{Text, Path, Uid}
-use Rattle.cedar_types.specs.declared.base.operators.Var.{Var}
-use Rattle.cedar_types.specs.declared.base.operators.UnaryOp.{UnaryOp}
-use Rattle.cedar_types.specs.declared.base.operators.BinaryOp.{BinaryOp}
-use Rattle.cedar_types.specs.declared.base.patterns.PatternElem.{PatternElem}
-use Rattle.cedar_types.specs.declared.base.slots.SlotId.{SlotId}
+use Rattle.cedar_types.specs.declared.base.expressions.operators.Var.{Var}
+use Rattle.cedar_types.specs.declared.base.expressions.operators.UnaryOp.{UnaryOp}
+use Rattle.cedar_types.specs.declared.base.expressions.operators.BinaryOp.{BinaryOp}
+use Rattle.cedar_types.specs.declared.base.expressions.patterns.PatternElem.{PatternElem}
+use Rattle.cedar_types.specs.declared.base.names.slots.SlotId.{SlotId}
 
 pub data Lit : Type 0 where
   bool : Bool → Lit

@@ -2,16 +2,16 @@
 use Rattle.std.specs.Prelude.{Bool, true, false, ◌&&◌, List}
 use Rattle.std.specs.Cmp.Lexicographic.{pointwise}
 use Rattle.std.specs.Ordering.{int_eq}
-use Rattle.cedar_types.specs.declared.base.operators.Var.{Var}
-use Rattle.cedar_types.specs.declared.base.operators.UnaryOp.{UnaryOp}
-use Rattle.cedar_types.specs.declared.base.operators.BinaryOp.{BinaryOp}
-use Rattle.cedar_types.specs.declared.base.patterns.PatternElem.{PatternElem}
-use Rattle.cedar_types.specs.declared.base.slots.SlotId.{SlotId}
-use Rattle.cedar_types.specs.contracts.base.operators.VarPartialEq.TheImpl as var_impl
-use Rattle.cedar_types.specs.contracts.base.operators.UnaryOpPartialEq.TheImpl as unary_impl
-use Rattle.cedar_types.specs.contracts.base.operators.BinaryOpPartialEq.TheImpl as binary_impl
-use Rattle.cedar_types.specs.contracts.base.patterns.PatternElemPartialEq.TheImpl as pattern_impl
-use Rattle.cedar_types.specs.contracts.base.slots.SlotIdPartialEq.TheImpl as slot_impl
+use Rattle.cedar_types.specs.declared.base.expressions.operators.Var.{Var}
+use Rattle.cedar_types.specs.declared.base.expressions.operators.UnaryOp.{UnaryOp}
+use Rattle.cedar_types.specs.declared.base.expressions.operators.BinaryOp.{BinaryOp}
+use Rattle.cedar_types.specs.declared.base.expressions.patterns.PatternElem.{PatternElem}
+use Rattle.cedar_types.specs.declared.base.names.slots.SlotId.{SlotId}
+use Rattle.cedar_types.specs.contracts.base.expressions.operators.VarPartialEq.TheImpl as var_impl
+use Rattle.cedar_types.specs.contracts.base.expressions.operators.UnaryOpPartialEq.TheImpl as unary_impl
+use Rattle.cedar_types.specs.contracts.base.expressions.operators.BinaryOpPartialEq.TheImpl as binary_impl
+use Rattle.cedar_types.specs.contracts.base.expressions.patterns.PatternElemPartialEq.TheImpl as pattern_impl
+use Rattle.cedar_types.specs.contracts.base.names.slots.SlotIdPartialEq.TheImpl as slot_impl
 use Rattle.cedar_types.specs.Comparisons.{bool_eq}
 use Rattle.cedar_types.specs.Names.{text_eq, texts_eq, path_eq, uid_eq}
 use Rattle.cedar_types.specs.Tree.{Lit, bool, long, string, entity, Tree, lit, var, slot, unknown, if_then_else, and, or, unary, binary, call, get_attr, has_attr, ext_has_attr, like, is_type, set_of, record_of, Trees, no_trees, tree, Fields, no_fields, field}

@@ -5,8 +5,8 @@ use Rattle.std.specs.declared.alloc.Global.{Global}
 use Rattle.std.specs.declared.rc.RcStr.{RcStr}
 use Rattle.cedar_types.specs.Names.{Text, Path, text_of, path_of, type_of}
 use Rattle.cedar_types.specs.Ascending.{has_members, texts_ascending, paths_ascending}
-use Rattle.cedar_types.specs.declared.base.entities.EntityType.{EntityType}
-use Rattle.cedar_types.specs.declared.base.entity_sets.EntityLUB.{EntityLUB}
+use Rattle.cedar_types.specs.declared.base.names.entities.EntityType.{EntityType}
+use Rattle.cedar_types.specs.declared.base.types.entity_sets.EntityLUB.{EntityLUB}
 use Rattle.cedar_types.specs.declared.base.types.BoolType.{BoolType}
 use Rattle.cedar_types.specs.declared.base.types.EntityKind.{EntityKind}
 use Rattle.cedar_types.specs.declared.base.types.EntityKind.TheVariants as kind
@@ -48,7 +48,7 @@ abbrev pub types_of : BTreeSet EntityType → List Path
 types_of s = map type_of s.keys
 
 -- the same of a set that is never empty
-abbrev pub lub_of : EntityLUB → List Path
+unfoldable pub lub_of : EntityLUB → List Path
 lub_of s = types_of s.lub_elements.value
 
 abbrev pub kind_of : EntityKind → Ty

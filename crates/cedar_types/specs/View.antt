@@ -3,8 +3,8 @@ use Rattle.std.specs.Prelude.{List, [], ◌∷◌, Option, map}
 use Rattle.std.specs.declared.alloc.Global.{Global}
 use Rattle.std.specs.declared.rc.RcStr.{RcStr}
 use Rattle.cedar_types.specs.declared.base.location.Loc.{Loc}
-use Rattle.cedar_types.specs.declared.base.literals.Literal.{Literal}
-use Rattle.cedar_types.specs.declared.base.attr_chains.AttrChain.{AttrChain}
+use Rattle.cedar_types.specs.declared.base.expressions.literals.Literal.{Literal}
+use Rattle.cedar_types.specs.declared.base.expressions.attr_chains.AttrChain.{AttrChain}
 use Rattle.cedar_types.specs.declared.base.expressions.Expr.{Expr, fold-Expr}
 use Rattle.cedar_types.specs.declared.base.expressions.ExprKind.{ExprKind, fold-ExprKind}
 use Rattle.cedar_types.specs.declared.base.expressions.ExprKind.TheOpen.{ExprKind-F, Expr-F}

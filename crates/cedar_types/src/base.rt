@@ -1,62 +1,15 @@
-//! The data that typing stands on, one file for each subject.
-mod attr_chains;
-mod attributes;
-mod bounds;
-mod conditions;
-mod constraint_makers;
-mod constraints;
-mod copies;
-mod entities;
-mod entity_sets;
-mod entity_unions;
-mod environments;
+//! The data that typing stands on, one folder for each subject.
 mod errors;
-mod expression_makers;
 mod expressions;
-mod extensions;
-mod flat_bounds;
 pub mod laws;
 mod levels;
-mod literals;
 mod location;
-mod lookups;
-mod memberships;
 mod names;
-mod operator_makers;
-mod operators;
-mod patterns;
-mod policy_ids;
-mod record_parts;
-mod schema_action_tables;
-mod schema_actions;
-mod schema_closures;
-mod schema_entity_types;
-mod schema_environments;
-mod schema_errors;
-mod schema_faults;
-mod schema_queries;
-mod schema_type_tables;
-mod schemas;
-mod shapes;
-mod slots;
-mod subtypes;
-mod tag_types;
+mod schema;
 mod templates;
-mod type_faults;
 pub mod type_laws;
-mod type_makers;
-mod type_sets;
-mod type_texts;
 mod types;
 
-pub use attr_chains::AttrChain;
-pub use constraints::{
-    ActionConstraint, EntityReference, PrincipalConstraint, PrincipalOrResourceConstraint,
-    ResourceConstraint,
-};
-pub use entities::{EntityType, EntityUID};
-pub use entity_sets::EntityLUB;
-pub use environments::UnlinkedRequestEnv;
 pub use errors::{
     EmptySetForbidden, FunctionArgumentValidation, ImpossiblePolicy, IncompatibleTypes,
     InternalInvariantViolation, InvalidActionApplication, InvalidEnumEntity,
@@ -65,28 +18,36 @@ pub use errors::{
     UnrecognizedEntityType, UnsafeAttributeAccess, UnsafeOptionalAttributeAccess, UnsafeTagAccess,
     ValidationError, ValidationWarning, WrongNumberArguments,
 };
-pub use expressions::{Expr, ExprKind};
-pub use extensions::{
+pub use expressions::attr_chains::AttrChain;
+pub use expressions::extensions::{
     ArgumentCheck, ArgumentError, ExtensionFunctionType, ExtensionSchemas, ExtensionTableError,
 };
+pub use expressions::literals::Literal;
+pub use expressions::operators::{BinaryOp, UnaryOp, Var};
+pub use expressions::patterns::PatternElem;
+pub use expressions::shapes::ExprShapeOnly;
+pub use expressions::{Expr, ExprKind};
 pub use levels::EntityDerefLevel;
-pub use literals::Literal;
 pub use location::Loc;
-pub use memberships::memberships_are_allowed;
 pub use names::Name;
-pub use operators::{BinaryOp, UnaryOp, Var};
-pub use patterns::PatternElem;
-pub use policy_ids::PolicyID;
-pub use schema_actions::{ValidatorActionId, ValidatorActionKind, ValidatorApplySpec};
-pub use schema_entity_types::{
+pub use names::entities::{EntityType, EntityUID};
+pub use names::policy_ids::PolicyID;
+pub use names::slots::{SlotEnv, SlotId};
+pub use schema::ValidatorSchema;
+pub use schema::actions::{ValidatorActionId, ValidatorActionKind, ValidatorApplySpec};
+pub use schema::entity_types::{
     StandardValidatorEntityType, ValidatorEntityType, ValidatorEntityTypeKind,
 };
-pub use schema_errors::SchemaError;
-pub use schemas::ValidatorSchema;
-pub use shapes::ExprShapeOnly;
-pub use slots::{SlotEnv, SlotId};
+pub use schema::errors::SchemaError;
+pub use schema::memberships::memberships_are_allowed;
+pub use schema::request_environments::UnlinkedRequestEnv;
+pub use templates::constraints::{
+    ActionConstraint, EntityReference, PrincipalConstraint, PrincipalOrResourceConstraint,
+    ResourceConstraint,
+};
 pub use templates::{Policy, Template};
-pub use type_sets::types_in_order;
+pub use types::entity_sets::EntityLUB;
+pub use types::type_sets::types_in_order;
 pub use types::{
     AttributeType, Attributes, BoolType, CedarType, EntityKind, OpenTag, RequestType, Type,
     ValidationMode,

@@ -1,12 +1,22 @@
 // Expressions.
-use crate::base::attr_chains::AttrChain;
-use crate::base::entities::EntityType;
-use crate::base::literals::Literal;
+pub(crate) mod attr_chains;
+mod copies;
+pub(crate) mod extensions;
+pub(crate) mod literals;
+mod makers;
+mod operator_makers;
+pub(crate) mod operators;
+pub(crate) mod patterns;
+pub(crate) mod shapes;
+
+use crate::base::expressions::attr_chains::AttrChain;
+use crate::base::expressions::literals::Literal;
+use crate::base::expressions::operators::{BinaryOp, UnaryOp, Var};
+use crate::base::expressions::patterns::PatternElem;
 use crate::base::location::Loc;
 use crate::base::names::Name;
-use crate::base::operators::{BinaryOp, UnaryOp, Var};
-use crate::base::patterns::PatternElem;
-use crate::base::slots::SlotId;
+use crate::base::names::entities::EntityType;
+use crate::base::names::slots::SlotId;
 use std::collections::BTreeMap;
 use std::rc::{Rc, RcStr};
 

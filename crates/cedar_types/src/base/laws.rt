@@ -1,10 +1,14 @@
 //! Laws of the data, each on a function that does nothing.
-ghost use Rattle.std.specs.Prelude.{◌≡◌, IsTrue, ◌↔◌};
+ghost use Rattle.std.specs.Prelude.{◌≡◌, IsTrue, ◌↔◌, None};
 ghost use Rattle.cedar_types.specs.Names.{path_of, type_of, uid_of, path_cmp, uid_cmp};
 ghost use Rattle.cedar_types.specs.Comparisons.{name_eq, entity_type_eq, entity_uid_eq, name_cmp, entity_type_cmp, entity_uid_cmp};
+ghost use Rattle.cedar_types.specs.ExtensionFunctions.{table_fault};
+ghost use Rattle.cedar_types.specs.Extensions.{functions_of};
 ghost use Rattle.cedar_types.specs.declared.base.names.Name.{Name};
-ghost use Rattle.cedar_types.specs.declared.base.entities.EntityType.{EntityType};
-ghost use Rattle.cedar_types.specs.declared.base.entities.EntityUID.{EntityUID};
+ghost use Rattle.cedar_types.specs.declared.base.names.entities.EntityType.{EntityType};
+ghost use Rattle.cedar_types.specs.declared.base.names.entities.EntityUID.{EntityUID};
+
+use crate::base::expressions::extensions::ExtensionSchemas;
 
 /// Names, entity types and ids are equal exactly where their texts are, wherever they stand.
 pub fn equality_of_names()
@@ -19,4 +23,9 @@ pub fn order_of_names()
     ensures names { (x y : Name) → name_cmp x y ≡ path_cmp (path_of x) (path_of y) }
     ensures types { (x y : EntityType) → entity_type_cmp x y ≡ path_cmp (type_of x) (type_of y) }
     ensures ids { (x y : EntityUID) → entity_uid_cmp x y ≡ uid_cmp (uid_of x) (uid_of y) }
+{}
+
+/// A table of extension functions has no fault, whatever its checks mean.
+pub fn extension_tables_are_faultless<C>(s: &ExtensionSchemas<C>)
+    ensures { (meaning : _) → table_fault (functions_of meaning s.now) ≡ None }
 {}

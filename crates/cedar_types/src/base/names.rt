@@ -2,6 +2,10 @@
 ghost use Rattle.std.specs.Prelude.{◌≡◌, [], IfOk, map};
 ghost use Rattle.cedar_types.specs.Names.{text_of, path_of};
 
+pub(crate) mod entities;
+pub(crate) mod policy_ids;
+pub(crate) mod slots;
+
 use std::alloc::{AllocError, Global};
 use std::fmt;
 use std::rc::RcStr;

@@ -4,11 +4,17 @@ ghost use Rattle.cedar_types.specs.Names.{text_of};
 ghost use Rattle.cedar_types.specs.View.{written};
 ghost use Rattle.cedar_types.specs.Templates.{template_of, scope_of, action_scope_of};
 
-use crate::base::constraints::{ActionConstraint, PrincipalConstraint, ResourceConstraint};
+mod conditions;
+mod constraint_makers;
+pub(crate) mod constraints;
+
 use crate::base::expressions::Expr;
 use crate::base::location::Loc;
-use crate::base::policy_ids::PolicyID;
-use crate::base::slots::SlotEnv;
+use crate::base::names::policy_ids::PolicyID;
+use crate::base::names::slots::SlotEnv;
+use crate::base::templates::constraints::{
+    ActionConstraint, PrincipalConstraint, ResourceConstraint,
+};
 use std::alloc::{AllocError, Global};
 use std::rc::Rc;
 

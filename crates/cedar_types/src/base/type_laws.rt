@@ -1,10 +1,11 @@
 //! Laws of types, each on a function: of bounds and subtypes, of equality and order, of form.
 ghost use Rattle.std.specs.Prelude.{◌≡◌, IsTrue, ◌↔◌, true};
 ghost use Rattle.std.specs.declared.cmp.Ordering.TheVariants.{Equal};
-ghost use Rattle.cedar_types.specs.Types.{ty_of, attributes_of, attr_names, is_well_formed, are_well_formed};
-ghost use Rattle.cedar_types.specs.Ascending.{texts_ascending};
+ghost use Rattle.cedar_types.specs.Types.{ty_of, lub_of, attributes_of, attr_names, is_well_formed, are_well_formed};
+ghost use Rattle.cedar_types.specs.Ascending.{has_members, texts_ascending, paths_ascending};
 ghost use Rattle.cedar_types.specs.TypeOrder.{ty_cmp};
 ghost use Rattle.cedar_types.specs.BoundLaws.{BoundIsIdempotent, BoundIsSymmetric, BoundIsUpper, BoundKeepsForm, SubtypingIsReflexive, SubtypingIsTransitive, SubtypeIsByBound};
+ghost use Rattle.cedar_types.specs.declared.base.types.entity_sets.EntityLUB.{EntityLUB};
 
 use crate::base::types::{Attributes, CedarType};
 use std::cmp::Ordering;
@@ -62,6 +63,7 @@ pub fn compare_types(ty0: &CedarType, ty1: &CedarType) -> Ordering
 
 /// Every type is well-formed: this walks a type to show it, and does nothing else.
 #[cycle(form)]
+#[tactic(auto, unfolding(crate::specs::Types::lub_of))]
 pub fn types_are_well_formed(ty: &CedarType)
     ensures { is_well_formed (ty_of ty.now) ≡ true }
 {
@@ -88,3 +90,9 @@ pub fn attributes_are_well_formed(attributes: &Attributes)
         types_are_well_formed(&attribute.attr_type);
     }
 }
+
+/// Every set of entity types has a member, and its types ascend.
+pub fn entity_sets_are_well_formed()
+    ensures members { (s : EntityLUB) → has_members (lub_of s) ≡ true }
+    ensures ascend { (s : EntityLUB) → paths_ascending (lub_of s) ≡ true }
+{}

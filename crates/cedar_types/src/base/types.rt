@@ -1,9 +1,20 @@
 // The types that expressions, attributes and tags have.
 ghost use Rattle.std.specs.Prelude.{◌≡◌};
 
-use crate::base::entities::{EntityType, EntityUID};
-use crate::base::entity_sets::EntityLUB;
+mod bounds;
+pub(crate) mod entity_sets;
+mod entity_unions;
+mod flat_bounds;
+mod makers;
+mod record_attributes;
+mod record_parts;
+mod subtypes;
+mod texts;
+pub(crate) mod type_sets;
+
 use crate::base::names::Name;
+use crate::base::names::entities::{EntityType, EntityUID};
+use crate::base::types::entity_sets::EntityLUB;
 use std::alloc::AllocError;
 use std::collections::BTreeMap;
 use std::rc::{Rc, RcStr};
@@ -102,6 +113,7 @@ pub struct RequestType {
     pub resource: EntityType,
 }
 
+#[tactic(auto, unfolding(crate::specs::Types::lub_of))]
 impl Clone for EntityKind {
     ghost use Rattle.std.specs.Prelude.{◌≡◌};
     ghost use Rattle.cedar_types.specs.Types.{kind_of};

@@ -23,6 +23,7 @@ pub struct Capability<'a> {
     known: Known<'a>,
 }
 
+#[tactic(auto, unfolding(crate::specs::Capability::cap_of))]
 impl<'a> Capability<'a> {
     /// That `on_expr` has the attribute `attr`.
     pub fn new_attribute(on_expr: &'a Expr, attr: RcStr) -> Capability<'a>

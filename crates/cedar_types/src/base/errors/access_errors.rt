@@ -1,11 +1,11 @@
 // Attributes and tags that may not be there.
-use crate::base::entities::EntityType;
-use crate::base::entity_sets::EntityLUB;
 use crate::base::errors::shown_types::OrAnyEntity;
 use crate::base::errors::validation_errors::ValidationError;
 use crate::base::location::Loc;
-use crate::base::policy_ids::PolicyID;
+use crate::base::names::entities::EntityType;
+use crate::base::names::policy_ids::PolicyID;
 use crate::base::types::CedarType;
+use crate::base::types::entity_sets::EntityLUB;
 use std::rc::RcStr;
 use thiserror::Error;
 

@@ -2,7 +2,7 @@
 use crate::base::errors::validation_errors::ValidationError;
 use crate::base::location::Loc;
 use crate::base::names::Name;
-use crate::base::policy_ids::PolicyID;
+use crate::base::names::policy_ids::PolicyID;
 use std::rc::RcStr;
 use thiserror::Error;
 

@@ -2,7 +2,7 @@
 use crate::base::errors::validation_errors::ValidationError;
 use crate::base::levels::EntityDerefLevel;
 use crate::base::location::Loc;
-use crate::base::policy_ids::PolicyID;
+use crate::base::names::policy_ids::PolicyID;
 use thiserror::Error;
 
 /// A policy dereferences entities at a level above the allowed one.
@@ -23,9 +23,8 @@ pub struct LiteralDereferenceTarget {
     pub policy_id: PolicyID,
 }
 
-/// A form was met that has no rule. Typing reports it of each form that is not built yet, and will of `hasTag` and
-/// `getTag` on what is Never, which comes up in Partial alone; the level pass, on a base that is neither an entity of
-/// known types nor a record.
+/// A form was met that has no rule. Typing reports it of `hasTag` and `getTag` on what is Never, which comes up in
+/// Partial alone; the level pass will, on a base that is neither an entity of known types nor a record.
 #[derive(PartialEq, Eq, Hash, Debug, Drop, Error)]
 #[error("for policy `{policy_id}`, internal invariant violated")]
 pub struct InternalInvariantViolation {

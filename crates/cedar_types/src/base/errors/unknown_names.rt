@@ -1,8 +1,8 @@
 // Names of types, actions and entities that the schema does not have.
-use crate::base::entities::{EntityType, EntityUID};
 use crate::base::errors::validation_errors::ValidationError;
 use crate::base::location::Loc;
-use crate::base::policy_ids::PolicyID;
+use crate::base::names::entities::{EntityType, EntityUID};
+use crate::base::names::policy_ids::PolicyID;
 use thiserror::Error;
 
 /// A policy names an entity type that the schema does not know.

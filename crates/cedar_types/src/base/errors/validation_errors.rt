@@ -13,7 +13,7 @@ use crate::base::errors::unknown_names::{
     InvalidEnumEntity, UnrecognizedActionId, UnrecognizedEntityType,
 };
 use crate::base::location::Loc;
-use crate::base::policy_ids::PolicyID;
+use crate::base::names::policy_ids::PolicyID;
 use thiserror::Error;
 
 /// What makes a policy invalid, with the policy's id and the place that it is about.

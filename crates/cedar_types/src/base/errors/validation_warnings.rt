@@ -1,6 +1,6 @@
 // Warnings of validation.
 use crate::base::location::Loc;
-use crate::base::policy_ids::PolicyID;
+use crate::base::names::policy_ids::PolicyID;
 use thiserror::Error;
 
 /// A policy is false in every environment.

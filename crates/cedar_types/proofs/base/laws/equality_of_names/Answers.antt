@@ -1,6 +1,6 @@
 use Rattle.std.proofs.Common.{◌∙◌, sym}
 use Rattle.cedar_types.specs.Names.{path_of, type_of, uid_of}
-use Rattle.cedar_types.specs.Comparisons.{name_is, entity_type_is, uid_is, path_eq-Decides, uid_eq-Decides}
+use Rattle.cedar_types.specs.Lemmas.Comparisons.{name_is, entity_type_is, uid_is, path_eq-Decides, uid_eq-Decides}
 use Rattle.cedar_types.proofs.base.laws.equality_of_names.Goals as goal
 
 pub returns : goal.returns

@@ -1,4 +1,4 @@
-use Rattle.cedar_types.specs.Comparisons.{name_cmp_is, entity_type_cmp_is, uid_cmp_is}
+use Rattle.cedar_types.specs.Lemmas.Comparisons.{name_cmp_is, entity_type_cmp_is, uid_cmp_is}
 use Rattle.cedar_types.proofs.base.laws.order_of_names.Goals as goal
 
 pub returns : goal.returns

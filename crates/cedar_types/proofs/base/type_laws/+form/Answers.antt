@@ -1,7 +1,7 @@
 use Rattle.std.proofs.Common.{◌∙◌, sym, ap}
 use Rattle.cedar_types.specs.Types.{entries_of, are_well_formed}
 use Rattle.cedar_types.proofs.Attributes.{attributes_are}
-use Rattle.cedar_types.proofs.Records.{attributes_ascend}
+use Rattle.cedar_types.proofs.Attributes.Records.{attributes_ascend}
 use Rattle.cedar_types.proofs.base.type_laws.+form.Goals as goal
 
 pub attributes_are_well_formed-loop-attribute-init : goal.attributes_are_well_formed-loop-attribute-init

@@ -1,4 +1,4 @@
-use Rattle.cedar_types.proofs.Laws.{idempotent}
+use Rattle.cedar_types.proofs.Bounds.Laws.{idempotent}
 use Rattle.cedar_types.proofs.base.type_laws.bound_is_idempotent.Goals as goal
 
 pub returns : goal.returns

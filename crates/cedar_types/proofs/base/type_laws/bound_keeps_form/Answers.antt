@@ -1,4 +1,4 @@
-use Rattle.cedar_types.proofs.Laws.{bound_form}
+use Rattle.cedar_types.proofs.Bounds.Laws.{bound_form}
 use Rattle.cedar_types.proofs.base.type_laws.bound_keeps_form.Goals as goal
 
 pub returns : goal.returns

@@ -4,9 +4,9 @@ use Rattle.std.specs.Cmp.{Equal-is}
 use Rattle.cedar_types.specs.contracts.base.types.CedarTypeOrd.TheImpl as ord_impl
 use Rattle.cedar_types.specs.contracts.base.types.CedarTypeOrd.TheImpl.Laws as ord_laws
 use Rattle.cedar_types.specs.Types.{ty_of}
-use Rattle.cedar_types.proofs.Equality.{types_same}
-use Rattle.cedar_types.proofs.SameTypes.{ty_decides}
-use Rattle.cedar_types.proofs.TypeOrder.{types_order}
+use Rattle.cedar_types.proofs.Comparisons.Types.{types_same}
+use Rattle.cedar_types.proofs.Comparisons.SameTypes.{ty_decides}
+use Rattle.cedar_types.proofs.Comparisons.TypeOrder.{types_order}
 use Rattle.cedar_types.proofs.base.type_laws.compare_types.Goals as goal
 
 pub returns-clause-order : goal.returns-clause-order

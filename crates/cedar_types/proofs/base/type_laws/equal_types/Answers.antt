@@ -1,7 +1,7 @@
 use Rattle.std.proofs.Common.{◌∙◌, sym}
 use Rattle.cedar_types.specs.Types.{ty_of}
-use Rattle.cedar_types.proofs.Equality.{types_same}
-use Rattle.cedar_types.proofs.SameTypes.{ty_decides}
+use Rattle.cedar_types.proofs.Comparisons.Types.{types_same}
+use Rattle.cedar_types.proofs.Comparisons.SameTypes.{ty_decides}
 use Rattle.cedar_types.proofs.base.type_laws.equal_types.Goals as goal
 
 pub returns : goal.returns

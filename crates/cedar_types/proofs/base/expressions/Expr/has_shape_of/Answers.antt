@@ -1,7 +1,7 @@
 use Rattle.std.proofs.Common.{◌∙◌, sym}
 use Rattle.cedar_types.specs.View.{shape}
-use Rattle.cedar_types.specs.TreeSame.{tree_eq-Decides}
-use Rattle.cedar_types.specs.Same.{expr_is}
+use Rattle.cedar_types.specs.Lemmas.TreeSame.{tree_eq-Decides}
+use Rattle.cedar_types.specs.Lemmas.Same.{expr_is}
 use Rattle.cedar_types.proofs.base.expressions.Expr.has_shape_of.Goals as goal
 
 pub returns : goal.returns

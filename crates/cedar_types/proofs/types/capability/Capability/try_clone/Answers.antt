@@ -1,10 +1,11 @@
 use Rattle.std.proofs.Common.{ap, ◌∙◌}
-use Rattle.cedar_types.specs.Capability.{known_of}
-use Rattle.cedar_types.specs.Marks.{one_shape}
+use Rattle.cedar_types.specs.Capability.{known_of, cap_of}
+use Rattle.cedar_types.proofs.Expressions.Marks.{one_shape}
 use Rattle.cedar_types.specs.ShapeOnly.{expr_of, shape_of}
 use Rattle.cedar_types.proofs.types.capability.Capability.try_clone.Goals as goal
 
 pub returns : goal.returns
+unfolding cap_of
 returns c =
     c.in_ok-known.ensures (shape_of c.in_ok-on_expr.on_expr)
     ∙ ap (λ s. known_of s c.args.self.now.known) (one_shape (expr_of c.in_ok-on_expr.on_expr) (expr_of c.args.self.now.on_expr) c.in_ok-on_expr.ensures)

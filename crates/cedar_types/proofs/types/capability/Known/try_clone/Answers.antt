@@ -1,6 +1,6 @@
 use Rattle.std.proofs.Common.{ap, sym, ◌∙◌}
 use Rattle.cedar_types.specs.Capability.{tag, known_of}
-use Rattle.cedar_types.specs.Marks.{one_shape}
+use Rattle.cedar_types.proofs.Expressions.Marks.{one_shape}
 use Rattle.cedar_types.specs.ShapeOnly.{expr_of}
 use Rattle.cedar_types.proofs.types.capability.Known.try_clone.Goals as goal
 

@@ -1,7 +1,7 @@
 use Rattle.std.proofs.Common.{◌∙◌, sym}
 use Rattle.cedar_types.specs.Errors.{finding_of}
-use Rattle.cedar_types.proofs.FindingsDecided.{finding_eq-Decides}
-use Rattle.cedar_types.proofs.ErrorEquality.{error_is}
+use Rattle.cedar_types.proofs.Comparisons.ErrorsDecided.{finding_eq-Decides}
+use Rattle.cedar_types.proofs.Comparisons.Errors.{error_is}
 use Rattle.cedar_types.proofs.base.errors.validation_errors.ValidationError.is_same_finding.Goals as goal
 
 pub returns : goal.returns

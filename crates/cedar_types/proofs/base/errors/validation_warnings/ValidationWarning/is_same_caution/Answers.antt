@@ -1,7 +1,7 @@
 use Rattle.std.proofs.Common.{◌∙◌, sym}
 use Rattle.cedar_types.specs.Errors.{caution_of}
-use Rattle.cedar_types.proofs.FindingsDecided.{caution_eq-Decides}
-use Rattle.cedar_types.proofs.ErrorEquality.{warning_is}
+use Rattle.cedar_types.proofs.Comparisons.ErrorsDecided.{caution_eq-Decides}
+use Rattle.cedar_types.proofs.Comparisons.Errors.{warning_is}
 use Rattle.cedar_types.proofs.base.errors.validation_warnings.ValidationWarning.is_same_caution.Goals as goal
 
 pub returns : goal.returns

@@ -1,0 +1,5 @@
+-- Views of expressions as trees.
+pub mod PlacedTrees
+pub mod Marks
+pub mod ExtensionTables
+pub mod SortedTables

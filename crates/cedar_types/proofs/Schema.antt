@@ -1,0 +1,7 @@
+-- What schemas keep, list and allow.
+pub mod Listings
+pub mod Faultless
+pub mod Memberships
+pub mod Places
+pub mod Faults
+pub mod KeptEnvironments

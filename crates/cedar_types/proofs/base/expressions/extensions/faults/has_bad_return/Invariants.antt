@@ -1,0 +1,10 @@
+use Rattle.std.proofs.Common.{◌≡◌, None, drop}
+use Rattle.std.specs.List.{list_any}
+use Rattle.cedar_types.specs.ExtensionFunctions.{function_of, has_bad_return}
+use Rattle.cedar_types.proofs.base.expressions.extensions.faults.has_bad_return.Given as goal
+
+-- what is left decides
+abbrev pub invariant-loop-function : goal.invariant-loop-function
+invariant-loop-function g l =
+    list_any (λ f. has_bad_return (function_of (λ check args. None) f)) (drop l.function-index l.functions)
+    ≡ list_any (λ f. has_bad_return (function_of (λ check args. None) f)) l.fn.functions

@@ -1,0 +1,7 @@
+use Rattle.std.proofs.Common.{rules}
+use Rattle.cedar_types.specs.ShapeOnly.{shape_cmp}
+use Rattle.cedar_types.proofs.base.expressions.shapes.ExprShapeOnlyOrd.cmp.Goals as goal
+
+pub returns : goal.returns
+unfolding shape_cmp
+returns c = search rules

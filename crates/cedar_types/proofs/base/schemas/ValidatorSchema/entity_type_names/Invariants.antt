@@ -1,8 +1,0 @@
-use Rattle.std.proofs.Common.{◌≡◌, take, map}
-use Rattle.cedar_types.specs.Names.{type_of}
-use Rattle.cedar_types.specs.Declarations.{declared_type}
-use Rattle.cedar_types.proofs.base.schemas.ValidatorSchema.entity_type_names.Given as goal
-
--- those so far
-abbrev pub invariant-loop-entity_type : goal.invariant-loop-entity_type
-invariant-loop-entity_type l = map (λ t. type_of t.now) l.listed.items ≡ map (λ t. t.name) (map declared_type (take l.entity_type-index l.entity_type-items))

@@ -1,8 +1,0 @@
-use Rattle.std.proofs.Common.{◌≡◌, ◌∷◌, ◌++◌, map}
-use Rattle.cedar_types.specs.Names.{type_of}
-use Rattle.cedar_types.proofs.Listings.{others}
-use Rattle.cedar_types.proofs.base.schemas.ValidatorSchema.get_entity_types_in.Given as goal
-
--- what is there, and then what is left
-abbrev pub invariant-loop-descendant : goal.invariant-loop-descendant
-invariant-loop-descendant l = map (λ t. type_of t.now) l.within.items ++ others (type_of l.entity_type) (map type_of l.descendant-iterator) ≡ type_of l.fn.entity_type ∷ others (type_of l.fn.entity_type) (map type_of l.initial.descendant-iterator)

@@ -1,8 +1,0 @@
-use Rattle.std.proofs.Common.{◌∙◌}
-use Rattle.cedar_types.specs.RequestEnvs.{envs_left}
-use Rattle.cedar_types.proofs.KeptEnvironments.{all_left, tells_partial}
-use Rattle.cedar_types.proofs.base.schemas.ValidatorSchema.unlinked_request_envs.Goals as goal
-
-pub returns : goal.returns
-unfolding envs_left
-returns c = all_left c.args.self.now c.deref.result.now c.eq.result _ c.deref.ensures.value (c.eq.ensures ∙ tells_partial c.args.mode)

@@ -1,0 +1,8 @@
+use Rattle.std.proofs.Common.{◌≡◌, map}
+use Rattle.cedar_types.specs.Types.{ty_of}
+use Rattle.cedar_types.specs.TypeOrder.{in_order, insert_tys}
+use Rattle.cedar_types.proofs.base.types.type_sets.types_in_order.Given as goal
+
+-- what is left goes to its place among what is there
+abbrev pub invariant-loop-shown : goal.invariant-loop-shown
+invariant-loop-shown l = insert_tys (map ty_of l.all.keys) (map ty_of l.shown-iterator.rest.items) ≡ in_order (map ty_of l.fn.types.items)

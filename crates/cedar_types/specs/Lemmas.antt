@@ -1,0 +1,6 @@
+-- Lemmas of the definitions: what need not be read to believe the rest.
+pub mod Layers
+pub mod TreeSame
+pub mod Same
+pub mod Comparisons
+pub mod ShapeOnly

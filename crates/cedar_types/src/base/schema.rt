@@ -1,0 +1,76 @@
+// Schemas: what they declare, without faults.
+ghost use Rattle.std.specs.Prelude.{◌≡◌, false, map};
+ghost use Rattle.cedar_types.specs.Schemas.{has_fault};
+ghost use Rattle.cedar_types.specs.Tables.{schema_in, actions_in};
+ghost use Rattle.cedar_types.specs.Environments.{declared_env, environments_of};
+
+mod action_tables;
+pub(crate) mod actions;
+mod closures;
+pub(crate) mod entity_types;
+mod environments;
+pub(crate) mod errors;
+mod faults;
+mod lookups;
+pub(crate) mod memberships;
+mod queries;
+pub(crate) mod request_environments;
+mod tag_types;
+mod type_faults;
+mod type_tables;
+
+use crate::base::schema::action_tables::ActionTable;
+use crate::base::schema::actions::ValidatorActionId;
+use crate::base::schema::entity_types::ValidatorEntityType;
+use crate::base::schema::environments::declared_environments;
+use crate::base::schema::errors::SchemaError;
+use crate::base::schema::faults::find_fault;
+use crate::base::schema::request_environments::UnlinkedRequestEnv;
+use crate::base::schema::type_tables::EntityTypeTable;
+use std::alloc::Global;
+
+/// The declarations of a schema, which have no fault, and the environments of its actions.
+#[derive(Debug, Drop)]
+pub struct ValidatorSchema {
+    pub(crate) types: EntityTypeTable,
+    pub(crate) actions: ActionTable,
+    pub(crate) environments: Vec<UnlinkedRequestEnv>,
+    pub ghost faultless: { has_fault (schema_in types actions) ≡ false },
+    pub ghost listed: { ∥ map declared_env environments.items ≡ environments_of (actions_in actions) ∥₁ },
+}
+
+#[tactic(auto, unfolding(crate::specs::SchemaContents::schema_of))]
+impl ValidatorSchema {
+    ghost use Rattle.std.specs.Prelude.{◌⊎◌, [], IfOk, IfErr, Some, None, alloc_error};
+    ghost use Rattle.cedar_types.specs.Schemas.{first_fault};
+    ghost use Rattle.cedar_types.specs.Declarations.{declared};
+    ghost use Rattle.cedar_types.specs.SchemaContents.{schema_of};
+
+    /// The schema of these declarations, or the first of their faults. Where memory is refused, the answer is
+    /// `SchemaError::Memory`, whatever faults there are.
+    pub fn new(
+        alloc: Global,
+        entity_types: Vec<ValidatorEntityType>,
+        actions: Vec<ValidatorActionId>,
+    ) -> Result<ValidatorSchema, SchemaError>
+        ensures made { IfOk result (λ s. schema_of s ≡ declared entity_types.items actions.items) }
+        ensures faultless { IfOk result (λ s. first_fault (declared entity_types.items actions.items) ≡ None) }
+        ensures refused { IfErr result (λ e. (e ≡ SchemaError.Memory alloc_error) ⊎ (first_fault (declared entity_types.items actions.items) ≡ Some e)) }
+    {
+        let Some(types) = EntityTypeTable::new(alloc, entity_types)? else {
+            return Err(SchemaError::DuplicateEntityType);
+        };
+        let Some(actions) = ActionTable::new(alloc, actions)? else {
+            return Err(SchemaError::DuplicateAction);
+        };
+        if let Some(fault) = find_fault(&types, &actions) {
+            return Err(fault);
+        }
+        let environments = declared_environments(alloc, &actions)?;
+        Ok(ValidatorSchema {
+            types,
+            actions,
+            environments,
+        })
+    }
+}

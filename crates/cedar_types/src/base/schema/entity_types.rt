@@ -1,0 +1,32 @@
+// The entity types that a schema declares.
+use crate::base::names::entities::EntityType;
+use crate::base::types::{Attributes, CedarType};
+use std::collections::BTreeSet;
+use std::rc::RcStr;
+
+/// An entity type that a schema declares.
+#[derive(Debug, Drop)]
+pub struct ValidatorEntityType {
+    pub name: EntityType,
+    /// The types whose entities may be in entities of this type, at any distance.
+    pub descendants: BTreeSet<EntityType>,
+    pub kind: ValidatorEntityTypeKind,
+}
+
+/// What is known of the entities of a type.
+#[derive(Debug, Drop)]
+pub enum ValidatorEntityTypeKind {
+    /// Its attributes are declared, and the type of its tags, if it may have any.
+    Standard(StandardValidatorEntityType),
+    /// The ids that its entities have, and no others.
+    Enum(Vec<RcStr>),
+    /// Declared elsewhere: neither attributes nor tags are known.
+    External,
+}
+
+/// The attributes of a type's entities, and the type of their tags if they may have any.
+#[derive(Debug, Drop)]
+pub struct StandardValidatorEntityType {
+    pub attributes: Attributes,
+    pub tags: Option<CedarType>,
+}

@@ -1,0 +1,14 @@
+// What requests may be about.
+use crate::base::names::entities::{EntityType, EntityUID};
+use crate::base::types::CedarType;
+use std::rc::Rc;
+
+/// An action with one of its principal types and one of its resource types. Nothing is said of slots.
+#[derive(Debug, Drop)]
+pub struct UnlinkedRequestEnv {
+    pub principal: EntityType,
+    pub action: EntityUID,
+    pub resource: EntityType,
+    /// The type of the action's context, shared with the schema's declaration.
+    pub context: Rc<CedarType>,
+}

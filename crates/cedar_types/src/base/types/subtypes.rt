@@ -1,0 +1,87 @@
+// What rests on the bounds of types: bounds of lists, subtypes. Disjointness of types.
+ghost use Rattle.std.specs.Prelude.{◌≡◌, IfOk, option_map, map};
+ghost use Rattle.cedar_types.specs.Types.{ty_of, lub_of};
+ghost use Rattle.cedar_types.specs.Bounds.{fold_lub, list_lub, is_subtype, are_disjoint};
+
+use crate::base::types::flat_bounds::is_same;
+use crate::base::types::{CedarType, EntityKind, ValidationMode};
+use std::alloc::{AllocError, Global};
+
+impl CedarType {
+    /// The bound of some types, folded from the first in the order given: Never if there are none.
+    pub fn reduce_to_least_upper_bound(
+        alloc: Global,
+        tys: &[&CedarType],
+        mode: ValidationMode,
+    ) -> Result<Option<CedarType>, AllocError>
+        ensures { IfOk result (λ o. option_map ty_of o ≡ list_lub mode (map (λ t. ty_of t.now) tys.now)) }
+    {
+        match tys {
+            [] => Ok(Some(CedarType::Never)),
+            [first, rest @ ..] => fold_bound(alloc, first, rest, mode),
+        }
+    }
+
+    /// Whether the first type is a subtype of the second in a mode: whether their bound is the second.
+    pub fn is_subtype(
+        alloc: Global,
+        ty0: &CedarType,
+        ty1: &CedarType,
+        mode: ValidationMode,
+    ) -> Result<bool, AllocError>
+        ensures { IfOk result (λ r. r ≡ is_subtype mode (ty_of ty0.now) (ty_of ty1.now)) }
+    {
+        match CedarType::least_upper_bound(alloc, ty0, ty1, mode)? {
+            Some(bound) => Ok(is_same(&bound, ty1)),
+            None => Ok(false),
+        }
+    }
+
+    /// Whether no value can have both types, as far as entity types tell.
+    pub fn are_types_disjoint(ty0: &CedarType, ty1: &CedarType) -> bool
+        ensures { result ≡ are_disjoint (ty_of ty0.now) (ty_of ty1.now) }
+    {
+        match ty0 {
+            CedarType::Entity(EntityKind::Entity(xs)) => match ty1 {
+                CedarType::Entity(EntityKind::Entity(ys)) => xs.is_disjoint(ys),
+                CedarType::Entity(EntityKind::AnyEntity)
+                | CedarType::Never
+                | CedarType::Bool(_)
+                | CedarType::Long
+                | CedarType::String
+                | CedarType::Set(_)
+                | CedarType::AnySet
+                | CedarType::Record { .. }
+                | CedarType::Extension(_) => false,
+            },
+            CedarType::Entity(EntityKind::AnyEntity)
+            | CedarType::Never
+            | CedarType::Bool(_)
+            | CedarType::Long
+            | CedarType::String
+            | CedarType::Set(_)
+            | CedarType::AnySet
+            | CedarType::Record { .. }
+            | CedarType::Extension(_) => false,
+        }
+    }
+}
+
+/// The bound of a type with others, one after another.
+fn fold_bound(
+    alloc: Global,
+    first: &CedarType,
+    rest: &[&CedarType],
+    mode: ValidationMode,
+) -> Result<Option<CedarType>, AllocError>
+    ensures { IfOk result (λ o. option_map ty_of o ≡ fold_lub mode (ty_of first.now) (map (λ t. ty_of t.now) rest.now)) }
+{
+    let mut bound = first.clone()?;
+    for ty in rest {
+        let Some(next) = CedarType::least_upper_bound(alloc, &bound, ty, mode)? else {
+            return Ok(None);
+        };
+        bound = next;
+    }
+    Ok(Some(bound))
+}
