@@ -4,5 +4,6 @@ mod columns;
 mod files;
 mod report;
 
+pub use answers::Rules;
 pub use files::{CaseFile, FileFault};
 pub use report::{Tally, run_cases};

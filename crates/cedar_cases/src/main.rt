@@ -5,10 +5,15 @@ mod cases;
 mod reading;
 mod run;
 mod shown;
+mod tables;
 
+use cedar_types::base::ExtensionSchemas;
 use run::run;
+use std::collections::BTreeSet;
 use std::env;
 use std::process::ExitCode;
+use tables::addresses::RefusesEmptyAddress;
+use tables::{Tables, addresses_alone, functions};
 
 fn main(rt: HostRuntime) -> ExitCode {
     let alloc = rt.alloc();
@@ -21,7 +26,29 @@ fn main(rt: HostRuntime) -> ExitCode {
             return ExitCode::FAILURE;
         };
     }
+    let Ok(check) = Box::new(alloc, RefusesEmptyAddress { alloc }) else {
+        return ExitCode::FAILURE;
+    };
+    let Ok(listed) = functions(alloc, check) else {
+        return ExitCode::FAILURE;
+    };
+    let Ok(plain) = ExtensionSchemas::new(listed, BTreeSet::new(alloc)) else {
+        unreachable!()
+    };
+    let Ok(check) = Box::new(alloc, RefusesEmptyAddress { alloc }) else {
+        return ExitCode::FAILURE;
+    };
+    let (Ok(listed), Ok(compared)) = (functions(alloc, check), addresses_alone(alloc)) else {
+        return ExitCode::FAILURE;
+    };
+    let Ok(ordered) = ExtensionSchemas::new(listed, compared) else {
+        unreachable!()
+    };
+    let tables = Tables {
+        plain: &plain,
+        ordered: &ordered,
+    };
     let mut out = rt.stdout();
     let mut err = rt.stderr();
-    ExitCode::from(run(&rt, files.as_slice(), &mut out, &mut err))
+    ExitCode::from(run(&rt, files.as_slice(), tables, &mut out, &mut err))
 }

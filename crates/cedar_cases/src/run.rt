@@ -1,6 +1,7 @@
 // What the program does, over any files and any two writers.
-use crate::cases::{CaseFile, FileFault, Tally, run_cases};
+use crate::cases::{CaseFile, FileFault, Rules, Tally, run_cases};
 use crate::reading::{Fault, MAX_LENGTH, ReadError, SchemaReadError, schema};
+use crate::tables::Tables;
 use cedar_types::base::ValidatorSchema;
 use std::alloc::{AllocError, Global};
 use std::io::Write;
@@ -14,6 +15,7 @@ const USAGE: &str = "usage: cedar-cases FILE..\n";
 pub fn run<R: Files + AllocGlobal, O: Write, E: Write>(
     rt: &R,
     files: &[String],
+    tables: Tables<'_>,
     out: &mut O,
     err: &mut E,
 ) -> u8 {
@@ -23,7 +25,7 @@ pub fn run<R: Files + AllocGlobal, O: Write, E: Write>(
             Err(_) => 1,
         };
     }
-    match run_files(rt, files, out) {
+    match run_files(rt, files, tables, out) {
         Ok(true) => 0,
         _ => 1,
     }
@@ -32,18 +34,24 @@ pub fn run<R: Files + AllocGlobal, O: Write, E: Write>(
 fn run_files<R: Files + AllocGlobal, O: Write>(
     rt: &R,
     files: &[String],
+    tables: Tables<'_>,
     out: &mut O,
 ) -> io::Result<bool> {
     let mut all_agree = true;
     for file in files {
-        let agrees = run_file(rt, file.as_str(), out)?;
+        let agrees = run_file(rt, file.as_str(), tables, out)?;
         all_agree = all_agree && agrees;
     }
     Ok(all_agree)
 }
 
 /// Runs the cases of a file, and answers whether all that ran agree.
-fn run_file<R: Files + AllocGlobal, O: Write>(rt: &R, name: &str, out: &mut O) -> io::Result<bool> {
+fn run_file<R: Files + AllocGlobal, O: Write>(
+    rt: &R,
+    name: &str,
+    tables: Tables<'_>,
+    out: &mut O,
+) -> io::Result<bool> {
     let alloc = rt.alloc();
     let Some(text) = read(rt, name, out)? else {
         return Ok(false);
@@ -62,8 +70,12 @@ fn run_file<R: Files + AllocGlobal, O: Write>(rt: &R, name: &str, out: &mut O) -
     let Some(schema) = read_schema(alloc, schema_name.as_str(), schema_text.as_str(), out)? else {
         return Ok(false);
     };
-    let tally = run_cases(alloc, name, &file, &schema, out)?;
-    write_tally(out, name, &tally)?;
+    let rules = Rules {
+        schema: &schema,
+        extensions: tables.where_ordered(file.has_ordered_addresses),
+    };
+    let tally = run_cases(alloc, name, &file, rules, out)?;
+    writeln!(out, "{name}: {} ran, {} differ", tally.ran, tally.wrong)?;
     Ok(tally.wrong == 0)
 }
 
@@ -102,6 +114,7 @@ fn write_file_fault<O: Write>(out: &mut O, name: &str, fault: FileFault) -> io::
                 "{name}:1:1: `schema`, a tab and the name of a file are expected"
             )
         }
+        FileFault::NoOrder => writeln!(out, "{name}:1:3: `ordered ipaddr` is expected"),
         FileFault::NoColumn(column) => {
             writeln!(out, "{name}:2:{column}: the name of a column is expected")
         }
@@ -130,20 +143,4 @@ fn read_schema<O: Write>(
             Ok(None)
         }
     }
-}
-
-/// A line with how many cases ran and differ, and how many were skipped, by form.
-fn write_tally<O: Write>(out: &mut O, name: &str, tally: &Tally) -> io::Result<()> {
-    write!(out, "{name}: {} ran, {} differ", tally.ran, tally.wrong)?;
-    let mut is_first = true;
-    for (form, count) in &tally.skipped {
-        if is_first {
-            write!(out, "; skipped for want of a rule: ")?;
-        } else {
-            write!(out, ", ")?;
-        }
-        write!(out, "{count} `{form}`")?;
-        is_first = false;
-    }
-    writeln!(out)
 }

@@ -5,6 +5,5 @@ mod outcomes;
 mod places;
 mod typed;
 
-pub use forms::unbuilt_form;
 pub use outcomes::outcome;
 pub use typed::typed_condition;

@@ -1,10 +1,14 @@
 // What the rows are made of: one file for each subject.
+pub mod addresses;
+pub mod calls;
 pub mod chains;
 pub mod conditions;
 pub mod declarations;
 pub mod equality;
+pub mod faulty_functions;
 pub mod guards;
 pub mod membership;
 pub mod operators;
 pub mod schemas;
+pub mod tables;
 pub mod tags;

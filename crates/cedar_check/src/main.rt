@@ -6,7 +6,10 @@ mod rows;
 mod run;
 
 use cedar_types::base::ExtensionSchemas;
+use fixtures::addresses::RefusesEmptyAddress;
+use fixtures::tables::{address_functions, addresses_alone, functions_with_sum};
 use run::run;
+use std::collections::BTreeSet;
 use std::env;
 use std::process::ExitCode;
 
@@ -21,8 +24,25 @@ fn main(rt: HostRuntime) -> ExitCode {
             return ExitCode::FAILURE;
         };
     }
-    let x1 = ExtensionSchemas::default(alloc);
-    let x2 = ExtensionSchemas::default(alloc);
+    let Ok(check) = Box::new(alloc, RefusesEmptyAddress { alloc }) else {
+        return ExitCode::FAILURE;
+    };
+    let Ok(functions) = address_functions(alloc, check) else {
+        return ExitCode::FAILURE;
+    };
+    let Ok(x1) = ExtensionSchemas::new(functions, BTreeSet::new(alloc)) else {
+        unreachable!()
+    };
+    let Ok(check) = Box::new(alloc, RefusesEmptyAddress { alloc }) else {
+        return ExitCode::FAILURE;
+    };
+    let (Ok(functions), Ok(ordered)) = (functions_with_sum(alloc, check), addresses_alone(alloc))
+    else {
+        return ExitCode::FAILURE;
+    };
+    let Ok(x2) = ExtensionSchemas::new(functions, ordered) else {
+        unreachable!()
+    };
     let mut out = rt.stdout();
     let mut err = rt.stderr();
     let status = run(alloc, words.as_slice(), &x1, &x2, &mut out, &mut err);

@@ -2,6 +2,7 @@
 #![tactic(auto)]
 
 pub mod admission;
+pub mod functions;
 pub mod policies;
 pub mod safety;
 pub mod schemas;

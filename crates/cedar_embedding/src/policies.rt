@@ -1,6 +1,7 @@
 //! Policies, as the trees that a host's own parser would make of their texts.
 use cedar_types::base::{
-    ActionConstraint, Expr, Loc, PolicyID, PrincipalConstraint, ResourceConstraint, Template, Var,
+    ActionConstraint, Expr, Literal, Loc, Name, PolicyID, PrincipalConstraint, ResourceConstraint,
+    Template, Var,
 };
 use std::alloc::{AllocError, Global};
 
@@ -13,6 +14,14 @@ pub const UNGUARDED: &str = "permit(principal, action, resource) when { principa
 
 /// No user has an attribute of this name.
 pub const MISSPELT: &str = "permit(principal, action, resource) when { principal has vlp };";
+
+/// Users whose address is in a range.
+pub const FROM_RANGE: &str =
+    "permit(principal, action, resource) when { principal.address.isInRange(ip(\"10.0.0.0/8\")) };";
+
+/// The range is no address.
+pub const FROM_NOWHERE: &str =
+    "permit(principal, action, resource) when { principal.address.isInRange(ip(\"\")) };";
 
 /// The place at which the text first has this part.
 fn place_in(text: &str, part: &str) -> Option<Loc> {
@@ -51,4 +60,34 @@ pub fn unguarded(alloc: Global) -> Result<Template, AllocError> {
 pub fn misspelt(alloc: Global) -> Result<Template, AllocError> {
     let test = Expr::has_attr(alloc, Expr::var(Var::Principal), "vlp")?;
     permit_when(alloc, MISSPELT, test)
+}
+
+/// `principal.address.isInRange(ip("10.0.0.0/8"))`
+pub fn from_range(alloc: Global) -> Result<Template, AllocError> {
+    permit_when(
+        alloc,
+        FROM_RANGE,
+        is_in_range(alloc, ip(alloc, "10.0.0.0/8")?)?,
+    )
+}
+
+/// `principal.address.isInRange(ip(""))`, where the call of `ip` is at its place
+pub fn from_nowhere(alloc: Global) -> Result<Template, AllocError> {
+    let place = place_in(FROM_NOWHERE, "ip(\"\")");
+    let range = ip(alloc, "")?.with_maybe_source_loc(place);
+    permit_when(alloc, FROM_NOWHERE, is_in_range(alloc, range)?)
+}
+
+/// The call of `ip` with this text.
+fn ip(alloc: Global, text: &str) -> Result<Expr, AllocError> {
+    let address = Expr::val(Literal::from_string(alloc, text)?);
+    let name = Name::unqualified_name(alloc, "ip")?;
+    Ok(Expr::call_extension_fn(name, vec![in alloc; address]?))
+}
+
+/// `principal.address.isInRange`, with this range
+fn is_in_range(alloc: Global, range: Expr) -> Result<Expr, AllocError> {
+    let address = Expr::get_attr(alloc, Expr::var(Var::Principal), "address")?;
+    let name = Name::unqualified_name(alloc, "isInRange")?;
+    Ok(Expr::call_extension_fn(name, vec![in alloc; address, range]?))
 }

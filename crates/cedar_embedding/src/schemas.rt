@@ -30,6 +30,19 @@ fn optional_mark(alloc: Global, name: &str) -> Result<Attributes, AllocError> {
     Attributes::from_list(alloc, listed)
 }
 
+/// The extension type of addresses.
+pub fn address(alloc: Global) -> Result<CedarType, AllocError> {
+    CedarType::extension(alloc, Name::unqualified_name(alloc, "ipaddr")?)
+}
+
+/// The attributes of users: an address, and the mark `vip`, which may be absent.
+fn user_attributes(alloc: Global) -> Result<Attributes, AllocError> {
+    let address = AttributeType::required_attribute(address(alloc)?);
+    let vip = AttributeType::optional_attribute(CedarType::primitive_boolean());
+    let listed = vec![in alloc; ("address", address), ("vip", vip)]?;
+    Attributes::from_list(alloc, listed)
+}
+
 /// A type of entities with these attributes, which are in no others and have no tags.
 fn entities(
     alloc: Global,
@@ -62,9 +75,9 @@ fn action(alloc: Global, eid: &str, context: Attributes) -> Result<ValidatorActi
     })
 }
 
-/// Users, who may have the mark `vip`, and documents.
+/// Users and documents.
 fn types(alloc: Global) -> Result<Vec<ValidatorEntityType>, AllocError> {
-    let users = entities(alloc, "User", optional_mark(alloc, "vip")?)?;
+    let users = entities(alloc, "User", user_attributes(alloc)?)?;
     let documents = entities(alloc, "Document", no_attributes(alloc)?)?;
     Ok(vec![in alloc; users, documents]?)
 }

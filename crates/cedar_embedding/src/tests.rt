@@ -1,7 +1,9 @@
 // What the host does with policies of each kind.
 use crate::admission::{Admission, admit};
+use crate::functions::{RefusesEmptyAddress, ip, is_in_range};
 use crate::policies::{
-    APPROVED_SHARING, MISSPELT, UNGUARDED, approved_sharing, misspelt, permit_when, unguarded,
+    APPROVED_SHARING, FROM_NOWHERE, FROM_RANGE, MISSPELT, UNGUARDED, approved_sharing,
+    from_nowhere, from_range, misspelt, permit_when, unguarded,
 };
 use crate::safety::is_safe_in;
 use crate::schemas::documents;
@@ -10,12 +12,22 @@ use cedar_types::base::{
 };
 use cedar_typing::typecheck::Typechecker;
 use std::alloc::Global;
+use std::collections::BTreeSet;
 use std::process::Abort;
 use std::test::Fail;
 
 fn admitted(alloc: Global, policy: &Template, text: &str) -> Result<Admission, Fail> {
     let schema = documents(alloc)?;
     let extensions = ExtensionSchemas::default(alloc);
+    Ok(admit(alloc, &schema, &extensions, policy, text)?)
+}
+
+/// The same by a table with `ip`, whose check is made here, and `isInRange`.
+fn admitted_with_calls(alloc: Global, policy: &Template, text: &str) -> Result<Admission, Fail> {
+    let schema = documents(alloc)?;
+    let ip = ip(alloc, Box::new(alloc, RefusesEmptyAddress { alloc })?)?;
+    let functions = vec![in alloc; ip, is_in_range(alloc)?]?;
+    let extensions = ExtensionSchemas::new(functions, BTreeSet::new(alloc))?;
     Ok(admit(alloc, &schema, &extensions, policy, text)?)
 }
 
@@ -106,5 +118,43 @@ fn a_policy_is_safe_where_it_is_a_success(rt: HostRuntime) -> Result<(), Fail> {
         assert!(rt; !is_safe_in(alloc, &typechecker, &refused, &env)?);
     }
     assert_eq!(rt; safe, 1);
+    Ok(())
+}
+
+#[test]
+fn a_policy_that_calls_functions_of_the_table_is_admitted(rt: HostRuntime) -> Result<(), Fail> {
+    let alloc = rt.alloc();
+    let policy = from_range(alloc)?;
+    let found = admitted_with_calls(alloc, &policy, FROM_RANGE)?;
+    assert!(rt; matches!(found, Admission::Admitted));
+    Ok(())
+}
+
+#[test]
+fn what_a_check_refuses_is_refused_at_its_place(rt: HostRuntime) -> Result<(), Fail> {
+    let alloc = rt.alloc();
+    let policy = from_nowhere(alloc)?;
+    let found = admitted_with_calls(alloc, &policy, FROM_NOWHERE)?;
+    is_refused(
+        &rt,
+        found,
+        "71..77 `ip(\"\")`: for policy `policy0`, invalid argument: empty address",
+    )
+}
+
+#[test]
+fn a_policy_that_calls_functions_is_safe(rt: HostRuntime) -> Result<(), Fail> {
+    let alloc = rt.alloc();
+    let schema = documents(alloc)?;
+    let ip = ip(alloc, Box::new(alloc, RefusesEmptyAddress { alloc })?)?;
+    let functions = vec![in alloc; ip, is_in_range(alloc)?]?;
+    let extensions = ExtensionSchemas::new(functions, BTreeSet::new(alloc))?;
+    let typechecker = Typechecker::new(&schema, &extensions, ValidationMode::Strict);
+    let policy = from_range(alloc)?;
+    let refused = from_nowhere(alloc)?;
+    for env in schema.unlinked_request_envs(ValidationMode::Strict) {
+        assert!(rt; is_safe_in(alloc, &typechecker, &policy, &env)?);
+        assert!(rt; !is_safe_in(alloc, &typechecker, &refused, &env)?);
+    }
     Ok(())
 }

@@ -1,6 +1,6 @@
 -- Entities that stand as they are: those that are found so far, and those that are left.
 use Rattle.std.proofs.Common.{◌≡◌, List, [], ◌∷◌, ◌++◌, map, Option, Some, None, option_map, refl, sym, ◌∙◌, ap, append_assoc}
-use Rattle.cedar_types.specs.declared.base.entities.EntityUID.{EntityUID}
+use Rattle.cedar_types.specs.declared.base.names.entities.EntityUID.{EntityUID}
 use Rattle.cedar_types.specs.declared.base.expressions.Expr.{Expr}
 use Rattle.cedar_types.specs.Names.{Uid, uid_of}
 use Rattle.cedar_types.specs.RequestEnvs.{Env}

@@ -17,7 +17,7 @@ use Rattle.cedar_types.specs.Names.{Text, text_of, text_cmp}
 use Rattle.cedar_types.specs.Types.{Ty, TRecord, Attrs, no_attrs, attr, join_attrs}
 use Rattle.cedar_types.specs.Tree.{field}
 use Rattle.cedar_types.specs.View.{fields_of, fields_written}
-use Rattle.cedar_types.proofs.Records.{key_cmp, Ascends, below_next}
+use Rattle.cedar_types.proofs.Attributes.Records.{key_cmp, Ascends, below_next}
 use Rattle.cedar_typing.specs.Capabilities.{no_caps}
 use Rattle.cedar_typing.specs.Eager.{gives, refuses, types_found}
 use Rattle.cedar_typing.specs.Rules.Collections.{all_types, with_type, field_keys, fields_from, required_attrs, record_of_types}

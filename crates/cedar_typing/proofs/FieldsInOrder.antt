@@ -10,7 +10,7 @@ use Rattle.cedar_typing.specs.Infer.{infer, infer_fields}
 use Rattle.cedar_typing.specs.Infer.Eager.{Operands, all_typed, cut_after, OperandsAndErrors, with_operand, infer_rest, infer_form}
 use Rattle.cedar_typing.specs.Infer.Parts.{Answer, Part, part_from}
 use Rattle.cedar_typing.specs.Rules.Collections.{record_form}
-use Rattle.cedar_typing.specs.TypeEnv.{TypeEnv}
+use Rattle.cedar_typing.specs.Setting.{Setting}
 use Rattle.cedar_typing.specs.TypedExpr.{Source, TypedTree}
 use Rattle.cedar_typing.specs.Views.{field_operands, keys_in, trees_in}
 use Rattle.cedar_typing.specs.declared.typecheck.rules.records.FieldValues.{FieldValues}
@@ -42,13 +42,13 @@ after_one : (s : Bool) (xs : List TypedTree) (p : Part) (o : Operands) → after
 after_one s xs p (all_typed later ys) = λ i. all_typed (and_assoc later p.succeeded s i) (sym (append_assoc xs (p.tree ∷ []) ys) i)
 after_one s xs p (cut_after ys) = ap cut_after (sym (append_assoc xs (p.tree ∷ []) ys))
 
-module _ (env : TypeEnv) (prior : Caps) (d : ℕ) where
+module _ (setting : Setting) (prior : Caps) (d : ℕ) where
   -- a field whose value is typed
   pub goes_on : (k : Text) (e : Source) (fs : Fields Written) (s : Bool) (xs : List TypedTree) (es es' : List Finding) (a : Answer) (p : Part)
-      → infer env e prior d es ≡ (a, es') → part_from a ≡ Some p
-      → finish s xs (infer_fields env (field k e fs) prior d es) ≡ finish (p.succeeded && s) (xs ++ p.tree ∷ []) (infer_fields env fs prior d es')
+      → infer setting e prior d es ≡ (a, es') → part_from a ≡ Some p
+      → finish s xs (infer_fields setting (field k e fs) prior d es) ≡ finish (p.succeeded && s) (xs ++ p.tree ∷ []) (infer_fields setting fs prior d es')
   goes_on k e fs s xs es es' a p h g =
-      let rest : List Finding → OperandsAndErrors = infer_fields env fs prior d in
+      let rest : List Finding → OperandsAndErrors = infer_fields setting fs prior d in
       ap (λ o. finish s xs (infer_rest false (part_from o.0) o.1 rest)) h
       ∙ ap (λ q. finish s xs (infer_rest false q es' rest)) g
       ∙ ap (λ z. (z, (rest es').1)) (after_one s xs p (rest es').0)

@@ -9,6 +9,7 @@ pub mod TypesGiven
 pub mod ChainSteps
 pub mod TwoOperands
 pub mod Elements
+pub mod OperandLists
 pub mod Ancestors
 pub mod FieldValues
 pub mod FieldsInOrder
@@ -17,6 +18,9 @@ pub mod TypedViews
 pub mod PartViews
 pub mod PolicyCheck
 pub mod BrokenOperands
+pub mod CallErrors
+pub mod CallTyping
+pub mod Comparables
 pub mod Cuts
 pub mod RuleLaws
 pub mod Verdicts

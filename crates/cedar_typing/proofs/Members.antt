@@ -1,7 +1,7 @@
 -- What is one of a list: of lists put together, and by tests of all or of some.
 use Rattle.std.proofs.Common.{◌≡◌, inl, inr, Bool, true, false, cond, List, [], ◌∷◌, ◌++◌, Option, Some, refl, sym, subst}
 use Rattle.std.specs.List.{list_all, list_any, find, flat_map}
-use Rattle.cedar_types.specs.Comparisons.{and_left, and_right, path_same}
+use Rattle.cedar_types.specs.Lemmas.Comparisons.{and_left, and_right, path_same}
 use Rattle.cedar_types.specs.Names.{Path, path_eq}
 use Rattle.cedar_types.specs.Schemas.{is_among}
 use Rattle.cedar_typing.specs.Evaluation.Conformance.{IsOneOf}

@@ -4,6 +4,7 @@ pub mod Rules
 pub mod Eager
 pub mod Equality
 pub mod Collections
+pub mod Calls
 pub mod Membership
 pub mod Tags
 pub mod Operators

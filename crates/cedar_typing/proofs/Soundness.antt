@@ -11,6 +11,7 @@ pub mod Kinds
 pub mod Equality
 pub mod Sets
 pub mod Records
+pub mod Calls
 pub mod Conjunction
 pub mod Disjunction
 pub mod Unary

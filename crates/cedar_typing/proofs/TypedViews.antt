@@ -7,7 +7,7 @@ use Rattle.cedar_types.specs.declared.base.expressions.ExprKind.TheVariants as K
 use Rattle.cedar_types.specs.declared.base.types.CedarType.{CedarType}
 use Rattle.cedar_types.specs.Types.{Ty, ty_of}
 use Rattle.cedar_types.specs.View.{Places, Written, written}
-use Rattle.cedar_types.specs.Layers as layers
+use Rattle.cedar_types.specs.Lemmas.Layers as layers
 use Rattle.cedar_typing.specs.TypedExpr.{Mark, annotation, place_of, typed_tree}
 
 abbrev Type' : Type 0

@@ -1,6 +1,6 @@
 -- The type of the whole is the one that the table gives, where the form keeps it beside a failed operand.
 use Rattle.std.proofs.Common.{◌≡◌, Bool, true, false, List, refl, ap}
-use Rattle.cedar_types.specs.declared.base.operators.UnaryOp.{UnaryOp}
+use Rattle.cedar_types.specs.declared.base.expressions.operators.UnaryOp.{UnaryOp}
 use Rattle.cedar_types.specs.Types.{Ty}
 use Rattle.cedar_types.specs.View.{Written}
 use Rattle.cedar_types.specs.Errors.{Finding}

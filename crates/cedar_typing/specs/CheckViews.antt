@@ -1,16 +1,22 @@
 -- What the checker of the program and its answers stand for.
 use Rattle.std.specs.Prelude.{map}
+use Rattle.std.specs.Borrow.{Bor}
+use Rattle.cedar_types.specs.declared.base.expressions.extensions.ExtensionSchemas.{ExtensionSchemas}
+use Rattle.cedar_types.specs.declared.base.schema.ValidatorSchema.{ValidatorSchema}
 use Rattle.cedar_types.specs.declared.base.templates.Template.{Template}
+use Rattle.cedar_types.specs.declared.base.types.ValidationMode.{ValidationMode}
 use Rattle.cedar_types.specs.declared.types.request_env.RequestEnv.{RequestEnv}
 use Rattle.cedar_types.specs.Names.{text_of}
 use Rattle.cedar_types.specs.SchemaContents.{schema_of}
 use Rattle.cedar_types.specs.RequestEnvs.{env_of}
 use Rattle.cedar_types.specs.Errors.{finding_of}
+use Rattle.cedar_types.specs.ExtensionFunctions.{Refusals}
+use Rattle.cedar_types.specs.Extensions.{functions_of, overloaded_types_of}
 use Rattle.cedar_typing.specs.declared.typecheck.typechecker.PolicyCheck.{PolicyCheck}
 use Rattle.cedar_typing.specs.declared.typecheck.typechecker.PolicyCheck.TheVariants.{Success, Irrelevant, Fail}
 use Rattle.cedar_typing.specs.declared.typecheck.typechecker.Typechecker.{Typechecker}
 use Rattle.cedar_typing.specs.PolicyCheck.{Verdict, succeeds, irrelevant, fails}
-use Rattle.cedar_typing.specs.TypeEnv.{TypeEnv}
+use Rattle.cedar_typing.specs.Setting.{Setting}
 use Rattle.cedar_typing.specs.TypedExpr.{typed_tree}
 
 abbrev pub verdict_of : PolicyCheck → Verdict
@@ -18,11 +24,26 @@ verdict_of (Success e) = succeeds (typed_tree e)
 verdict_of (Irrelevant es e) = irrelevant (map finding_of es.items) (typed_tree e)
 verdict_of (Fail es) = fails (map finding_of es.items)
 
--- what a template is typed in
-abbrev pub env_for : {X : Type 0} {P : X → Type 0} → Typechecker X P → Template → RequestEnv → TypeEnv
-env_for c t env = record {
-  schema = schema_of c.schema.now;
-  mode = c.mode;
-  request_env = env_of env;
-  policy = text_of t.id.text;
-}
+module _ {C : Type 0} where
+  -- what a checker types by: the schema, the extension functions and the mode
+  unfoldable pub schema_by : Typechecker C → Bor ValidatorSchema
+  schema_by c = c.schema
+
+  unfoldable pub extensions_by : Typechecker C → Bor (ExtensionSchemas C)
+  extensions_by c = c.extensions
+
+  unfoldable pub mode_by : Typechecker C → ValidationMode
+  mode_by c = c.mode
+
+  -- what a template is typed in; `meaning` says what each check of arguments means
+  abbrev pub setting_for : (C → Refusals) → Typechecker C → Template → RequestEnv → Setting
+  setting_for meaning c t env = record {
+    env = record {
+      schema = schema_of (schema_by c).now;
+      mode = mode_by c;
+      request_env = env_of env;
+      overloaded_types = overloaded_types_of (extensions_by c).now;
+      policy = text_of t.id.text;
+    };
+    functions = functions_of meaning (extensions_by c).now;
+  }

@@ -1,5 +1,6 @@
 -- Computed examples: what the rules and evaluation say of small expressions, all in one world.
 pub mod World
+pub mod Greeting
 pub mod Expressions
 pub mod Rules
 pub mod Evaluation

@@ -1,4 +1,5 @@
 pub mod TypeEnv
+pub mod Setting
 pub mod Capabilities
 pub mod TypeTests
 pub mod TypedExpr
@@ -9,6 +10,8 @@ pub mod Joins
 pub mod Rules
 pub mod Infer
 pub mod Views
+pub mod SettingViews
+pub mod CallViews
 pub mod PolicyCheck
 pub mod CheckViews
 pub mod RuleLaws

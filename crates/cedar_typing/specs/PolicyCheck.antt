@@ -8,7 +8,7 @@ use Rattle.cedar_typing.specs.Infer.{infer}
 use Rattle.cedar_typing.specs.Infer.Parts.{Part, PartAndErrors, expect}
 use Rattle.cedar_typing.specs.Judgments.{Operand}
 use Rattle.cedar_typing.specs.Rules.{rules, Derives, Cuts}
-use Rattle.cedar_typing.specs.TypeEnv.{TypeEnv}
+use Rattle.cedar_typing.specs.Setting.{Setting}
 use Rattle.cedar_typing.specs.TypeTests.{accepts, bool_types, is_false, annotation_passes}
 use Rattle.cedar_typing.specs.TypedExpr.{Source, TypedTree, annotation, place_of}
 
@@ -19,30 +19,30 @@ pub data Verdict : Type 0 where
   fails : List Finding → Verdict
 
 -- a refused condition as it is gone on with: a condition has to be a Boolean
-abbrev pub RefusedCondition : TypeEnv → Source → TypedTree → List Finding → Type 0
-RefusedCondition env e e' es =
-    (c : Caps) × Operand env bool_types (place_of e) (rules env e no_caps 1) false c e' es
+abbrev pub RefusedCondition : Setting → Source → TypedTree → List Finding → Type 0
+RefusedCondition s e e' es =
+    (c : Caps) × Operand s.env bool_types (place_of e) (rules s e no_caps 1) false c e' es
 
 -- the check of a condition, at depth 1 and without prior capabilities; the errors count as often as they are found, and their
 -- order does not
-pub data PolicyChecks (env : TypeEnv) (e : Source) : Verdict → Type 0 where
+pub data PolicyChecks (s : Setting) (e : Source) : Verdict → Type 0 where
   -- it has a Boolean type other than False
   check_true : (t : Ty) (c : Caps) {e' : TypedTree}
-      → Derives env e no_caps 1 t c e' → accepts bool_types t ≡ true → is_false t ≡ false
-      → PolicyChecks env e (succeeds e')
+      → Derives s e no_caps 1 t c e' → accepts bool_types t ≡ true → is_false t ≡ false
+      → PolicyChecks s e (succeeds e')
   -- it has the type False
   check_false : (c : Caps) {e' : TypedTree}
-      → Derives env e no_caps 1 (TBool False) c e' → PolicyChecks env e (irrelevant [] e')
+      → Derives s e no_caps 1 (TBool False) c e' → PolicyChecks s e (irrelevant [] e')
   -- it is refused, and False all the same
   check_refused_false : {e' : TypedTree} {es es' : List Finding}
-      → RefusedCondition env e e' es → annotation_passes is_false (annotation e') ≡ true
-      → IsPermutation es es' → PolicyChecks env e (irrelevant es' e')
+      → RefusedCondition s e e' es → annotation_passes is_false (annotation e') ≡ true
+      → IsPermutation es es' → PolicyChecks s e (irrelevant es' e')
   -- it is refused, with another type or with none
   check_refused : {e' : TypedTree} {es es' : List Finding}
-      → RefusedCondition env e e' es → annotation_passes is_false (annotation e') ≡ false
-      → IsPermutation es es' → PolicyChecks env e (fails es')
+      → RefusedCondition s e e' es → annotation_passes is_false (annotation e') ≡ false
+      → IsPermutation es es' → PolicyChecks s e (fails es')
   -- a part is too deep
-  check_cut : {es es' : List Finding} → Cuts env e no_caps 1 es → IsPermutation es es' → PolicyChecks env e (fails es')
+  check_cut : {es es' : List Finding} → Cuts s e no_caps 1 es → IsPermutation es es' → PolicyChecks s e (fails es')
 
 -- the same verdict: of the same kind and with the same typed condition, its errors in any order
 pub data SameVerdict : Verdict → Verdict → Type 0 where
@@ -62,5 +62,5 @@ part_verdict (Some p) es = if annotation_passes is_false (annotation p.tree) the
 abbrev pub out_verdict : PartAndErrors → Verdict
 out_verdict o = part_verdict o.0 o.1
 
-abbrev pub policy_check : TypeEnv → Source → Verdict
-policy_check env e = out_verdict (expect env bool_types (place_of e) (infer env e no_caps 1 []))
+abbrev pub policy_check : Setting → Source → Verdict
+policy_check s e = out_verdict (expect s.env bool_types (place_of e) (infer s e no_caps 1 []))

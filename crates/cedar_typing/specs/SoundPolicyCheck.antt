@@ -1,12 +1,12 @@
 -- What the check of a policy promises of its evaluation.
 use Rattle.std.specs.Prelude.{not, IsTrue}
 use Rattle.cedar_types.specs.Values.{Value, OnBool}
-use Rattle.cedar_typing.specs.Evaluation.Conformance.{SlotsBound, Table}
+use Rattle.cedar_typing.specs.Evaluation.Conformance.{SlotsBound}
 use Rattle.cedar_typing.specs.Evaluation.Eval.{eval}
 use Rattle.cedar_typing.specs.Evaluation.World.{World, Outcome}
 use Rattle.cedar_typing.specs.PolicyCheck.{Verdict, succeeds, irrelevant, fails}
+use Rattle.cedar_typing.specs.Setting.{Setting}
 use Rattle.cedar_typing.specs.Soundness.{OnValue, IsSafe, IsReliable, IsWorldOf}
-use Rattle.cedar_typing.specs.TypeEnv.{TypeEnv}
 use Rattle.cedar_typing.specs.TypedExpr.{Source}
 
 abbrev pub IsBoolean : Value → Type 0
@@ -25,5 +25,5 @@ Promises (irrelevant es e) o = OnValue IsFalse o
 Promises (fails es) o = Unit {0}
 
 -- the promise is kept in each world of a reliable setting in which the slots of the condition are bound
-abbrev pub IsSoundPolicyCheck : TypeEnv → Table → Source → Verdict → Type 0
-IsSoundPolicyCheck env t e v = IsReliable env → (world : World) → IsWorldOf env t world → SlotsBound world.slots e → Promises v (eval world e)
+abbrev pub IsSoundPolicyCheck : Setting → Source → Verdict → Type 0
+IsSoundPolicyCheck s e v = IsReliable s → (world : World) → IsWorldOf s world → SlotsBound world.slots e → Promises v (eval world e)

@@ -4,15 +4,16 @@ use Rattle.cedar_types.specs.declared.base.types.BoolType.TheVariants.{True}
 use Rattle.cedar_types.specs.declared.base.types.ValidationMode.TheVariants.{Strict}
 use Rattle.cedar_types.specs.Types.{Ty, TBool}
 use Rattle.cedar_types.specs.Errors.{Finding}
+use Rattle.cedar_types.specs.ExtensionFunctions.{table_fault}
 use Rattle.cedar_types.specs.Schemas.{has_fault}
 use Rattle.cedar_types.specs.Values.{Value, OnBool, HasType}
 use Rattle.cedar_types.specs.Stores.{ConformingStore}
 use Rattle.cedar_typing.specs.Capabilities.{Caps}
-use Rattle.cedar_typing.specs.Evaluation.Conformance.{Fits, IsEnvironmentOf, SlotsBound, has_external, Table, KeepsTable, AllHold}
+use Rattle.cedar_typing.specs.Evaluation.Conformance.{Fits, IsEnvironmentOf, SlotsBound, has_external, KeepsTable, AllHold}
 use Rattle.cedar_typing.specs.Evaluation.Eval.{eval}
 use Rattle.cedar_typing.specs.Evaluation.World.{World, Failure, TypeFailure, AbsentAttribute, AbsentTag, MissingEntity, Overflow, ExtensionFailure, UnlinkedSlot, UnknownValue, Outcome, Gives, Fails}
 use Rattle.cedar_typing.specs.Rules.{Derives, Recovers}
-use Rattle.cedar_typing.specs.TypeEnv.{TypeEnv}
+use Rattle.cedar_typing.specs.Setting.{Setting, table}
 use Rattle.cedar_typing.specs.TypedExpr.{Source, TypedTree, annotation}
 
 -- ---- outcomes
@@ -50,31 +51,31 @@ IsTrueOutcome (Fails f) = ⊥
 -- ---- type soundness with capabilities
 
 -- what is promised of an expression in a world, where some capabilities are known
-pub record IsSoundAt (env : TypeEnv) (world : World) (e : Source) (prior : Caps) (d : ℕ) : Type 0 where
+pub record IsSoundAt (s : Setting) (world : World) (e : Source) (prior : Caps) (d : ℕ) : Type 0 where
   -- a value has the type that was found, also that of a refused expression
-  pub typed : (t : Ty) (c : Caps) (x : TypedTree) → Derives env e prior d t c x → HasFound (annotation x) (eval world e)
-  pub recovered : (x : TypedTree) (es : List Finding) → Recovers env e prior d x es → HasFound (annotation x) (eval world e)
+  pub typed : (t : Ty) (c : Caps) (x : TypedTree) → Derives s e prior d t c x → HasFound (annotation x) (eval world e)
+  pub recovered : (x : TypedTree) (es : List Finding) → Recovers s e prior d x es → HasFound (annotation x) (eval world e)
   -- what has a type gives a value or fails in an allowed way
-  pub safe : (t : Ty) (c : Caps) (x : TypedTree) → Derives env e prior d t c x → IsSafe (eval world e)
+  pub safe : (t : Ty) (c : Caps) (x : TypedTree) → Derives s e prior d t c x → IsSafe (eval world e)
   -- what it hands on holds where it is true
-  pub caps_hold_if_true : (t : Ty) (c : Caps) (x : TypedTree) → Derives env e prior d t c x → IsTrueOutcome (eval world e) → AllHold world c
+  pub caps_hold_if_true : (t : Ty) (c : Caps) (x : TypedTree) → Derives s e prior d t c x → IsTrueOutcome (eval world e) → AllHold world c
   -- what an expression of the type True hands on holds whether or not it is evaluated
-  pub caps_hold_at_true : (c : Caps) (x : TypedTree) → Derives env e prior d (TBool True) c x → AllHold world c
+  pub caps_hold_at_true : (c : Caps) (x : TypedTree) → Derives s e prior d (TBool True) c x → AllHold world c
 
--- a world in which typing by this setting and table can be relied on
-pub record IsWorldOf (env : TypeEnv) (t : Table) (world : World) : Type 0 where
-  pub environment : Fits env.request_env world.request world.slots
-  pub store : ConformingStore env.schema world.store
-  pub functions : KeepsTable t world.functions
+-- a world in which typing by this setting can be relied on
+pub record IsWorldOf (s : Setting) (world : World) : Type 0 where
+  pub environment : Fits s.env.request_env world.request world.slots
+  pub store : ConformingStore s.env.schema world.store
+  pub functions : KeepsTable (table s) world.functions
 
 -- typing by this setting promises something of evaluation: in Strict, by a schema without external declarations, in one
 -- of its environments
-pub record IsReliable (env : TypeEnv) : Type 0 where
-  pub mode : env.mode ≡ Strict
-  pub closed : has_external env.schema ≡ false
-  pub environment : IsEnvironmentOf env.schema env.request_env
+pub record IsReliable (s : Setting) : Type 0 where
+  pub mode : s.env.mode ≡ Strict
+  pub closed : has_external s.env.schema ≡ false
+  pub environment : IsEnvironmentOf s.env.schema s.env.request_env
 
--- what has a type does not go wrong, by a schema without faults
+-- what has a type does not go wrong, by a schema and a table without faults
 abbrev pub TypeSoundness : Type 0
 TypeSoundness =
-    (env : TypeEnv) (t : Table) (world : World) → has_fault env.schema ≡ false → IsReliable env → IsWorldOf env t world → (e : Source) → SlotsBound world.slots e → (prior : Caps) (d : ℕ) → AllHold world prior → IsSoundAt env world e prior d
+    (s : Setting) (world : World) → has_fault s.env.schema ≡ false → table_fault s.functions ≡ None → IsReliable s → IsWorldOf s world → (e : Source) → SlotsBound world.slots e → (prior : Caps) (d : ℕ) → AllHold world prior → IsSoundAt s world e prior d

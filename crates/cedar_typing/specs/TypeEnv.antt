@@ -1,17 +1,19 @@
 -- What an expression is typed in.
-use Rattle.std.specs.Prelude.{Option}
+use Rattle.std.specs.Prelude.{List, Option}
 use Rattle.cedar_types.specs.declared.base.location.Loc.{Loc}
 use Rattle.cedar_types.specs.declared.base.types.ValidationMode.{ValidationMode}
-use Rattle.cedar_types.specs.Names.{Text}
+use Rattle.cedar_types.specs.Names.{Text, Path}
 use Rattle.cedar_types.specs.Schemas.{Schema}
 use Rattle.cedar_types.specs.RequestEnvs.{Env}
 use Rattle.cedar_types.specs.Errors.{Fault, Finding}
 
--- the schema, the mode, the request environment, and the policy that errors name
+-- the schema, the mode, the request environment, the extension types that `<` and `<=` compare, and
+-- the policy that errors name
 pub record TypeEnv : Type 0 where
   pub schema : Schema
   pub mode : ValidationMode
   pub request_env : Env
+  pub overloaded_types : List Path
   pub policy : Text
 
 -- an error of that policy at a place

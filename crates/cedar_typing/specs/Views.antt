@@ -7,8 +7,8 @@ use Rattle.cedar_types.specs.declared.base.errors.validation_errors.ValidationEr
 use Rattle.cedar_types.specs.declared.base.location.Loc.{Loc}
 use Rattle.cedar_types.specs.declared.base.expressions.Expr.{Expr}
 use Rattle.cedar_types.specs.declared.base.types.CedarType.{CedarType}
-use Rattle.cedar_types.specs.Names.{text_of, type_of, Text}
-use Rattle.cedar_types.specs.Types.{Ty, ty_of}
+use Rattle.cedar_types.specs.Names.{text_of, path_of, type_of, Text, Path}
+use Rattle.cedar_types.specs.Types.{Ty, TExtension, ty_of}
 use Rattle.cedar_types.specs.View.{Written, no_name, of_type, chain_of, written}
 use Rattle.cedar_types.specs.Capability.{caps, HasNone}
 use Rattle.cedar_types.specs.Errors.{Finding, finding_of}
@@ -17,11 +17,9 @@ use Rattle.cedar_types.specs.RequestEnvs.{env_of}
 use Rattle.cedar_types.specs.SchemaContents.{schema_of}
 use Rattle.cedar_typing.specs.Answer.{Answered, AreHanded, none_failed, Taken}
 use Rattle.cedar_typing.specs.Capabilities.{Caps, no_caps}
-use Rattle.cedar_typing.specs.Eager.{Decision, gives, refuses, Form}
-use Rattle.cedar_typing.specs.Infer.{infer}
-use Rattle.cedar_typing.specs.Infer.Eager.{Operands, all_typed, cut_after, infer_one_operand, infer_two_operands}
-use Rattle.cedar_typing.specs.Infer.Parts.{Answer, success, failure, limit, Part, part_with, AnswerAndErrors, expect, after}
-use Rattle.cedar_typing.specs.Infer.ShortCircuit.{infer_right}
+use Rattle.cedar_typing.specs.Eager.{Expectation, Decision, gives, refuses, Form}
+use Rattle.cedar_typing.specs.Infer.Eager.{Operands, all_typed, cut_after}
+use Rattle.cedar_typing.specs.Infer.Parts.{Answer, success, failure, limit, Part, part_with}
 use Rattle.cedar_typing.specs.Rules.Attributes.{has_form, get_form}
 use Rattle.cedar_typing.specs.Rules.Chains.{Progress, chain_form}
 use Rattle.cedar_typing.specs.Rules.Equality.{equality_form, contains_form, contains_several_form}
@@ -47,20 +45,21 @@ use Rattle.cedar_typing.specs.declared.typecheck.rules.eager.Decision.{Decision 
 use Rattle.cedar_typing.specs.declared.typecheck.rules.eager.Decision.TheVariants.{Gives, Refuses}
 use Rattle.cedar_typing.specs.declared.typecheck.rules.one_operand.OneOperand.{OneOperand}
 use Rattle.cedar_typing.specs.declared.typecheck.rules.one_operand.OneOperand.TheVariants.{Unary, Has, Get, Like, Is, Chain}
-use Rattle.cedar_typing.specs.declared.typecheck.rules.sets.Elements.{Elements}
+use Rattle.cedar_typing.specs.declared.typecheck.rules.operand_list.OperandList.{OperandList}
 use Rattle.cedar_typing.specs.declared.typecheck.rules.short_circuit.Connective as connective
 use Rattle.cedar_typing.specs.declared.typecheck.rules.short_circuit.Side as side
 use Rattle.cedar_typing.specs.declared.typecheck.rules.two_operands.TwoOperands.{TwoOperands}
 use Rattle.cedar_typing.specs.declared.typecheck.rules.two_operands.TwoOperands.TheVariants.{Equality, Comparison, Arithmetic, Membership, Contains, ContainsSeveral, HasTag, GetTag}
-use Rattle.cedar_typing.specs.declared.typecheck.single_env.SingleEnvTypechecker.{SingleEnvTypechecker}
+use Rattle.cedar_typing.specs.declared.typecheck.type_env.TypeEnv.{TypeEnv as CheckerEnv}
 use Rattle.cedar_typing.specs.declared.typecheck.rules.records.FieldValues.{FieldValues}
 
 -- what is typed in
-abbrev pub env_at : SingleEnvTypechecker → TypeEnv
+abbrev pub env_at : CheckerEnv → TypeEnv
 env_at c = record {
   schema = schema_of c.schema.now;
   mode = c.mode;
-  request_env = env_of c.env.now;
+  request_env = env_of c.request_env.now;
+  overloaded_types = map path_of c.overloaded_types.now.keys;
   policy = text_of c.policy_id.now.text;
 }
 
@@ -79,6 +78,18 @@ expected_types Expected.Set = set_types
 expected_types Expected.Entity = entity_types
 expected_types Expected.Ancestor = ancestor_types
 expected_types Expected.Object = object_types
+expected_types (Expected.Exactly t) = ty_of t.now ∷ []
+
+-- what the first operand has to be, where all have to be of some types, and the types of the others: the
+-- last type stays
+abbrev pub first_wanted : List Ty → Expectation
+first_wanted [] = None
+first_wanted (t ∷ ts) = Some (t ∷ [])
+
+abbrev pub later_types : List Ty → List Ty
+later_types [] = []
+later_types (t ∷ []) = t ∷ []
+later_types (t ∷ u ∷ ts) = u ∷ ts
 
 -- an answer
 abbrev pub answer_of : TypecheckAnswer → Answer
@@ -89,6 +100,11 @@ answer_of RecursionLimit = limit
 -- a part
 abbrev pub part_of : TypedPart → Part
 part_of p = part_with p.succeeded (caps p.capabilities) (typed_tree p.typed)
+
+-- the name of an extension type
+abbrev pub extension_named : Ty → Option Path
+extension_named (TExtension n) = Some n
+extension_named t = None
 
 -- ---- `&&` and `||`
 
@@ -101,11 +117,6 @@ side_seen side.Side.RightEnds = right_ends
 side_seen side.Side.LeftAlone = left_alone
 side_seen side.Side.RightAlone = right_alone
 side_seen side.Side.Neither = neither
-
-abbrev pub infer_connective : TypeEnv → Connective → Written → Source → Source → Caps → ℕ → List Finding → AnswerAndErrors
-infer_connective env f m a b prior d es =
-    after (expect env bool_types (place_of a) (infer env a prior (d + 1) es))
-    (λ p es'. infer_right env f m (place_of b) prior p es' (λ known. infer env b known (d + 1)))
 
 -- ---- forms whose operands are all typed first
 
@@ -130,10 +141,6 @@ mark_of_one l (Like p) = at l
 mark_of_one l (Is n) = record { place = l; names = of_type n.now.loc }
 mark_of_one l (Chain c) = at l
 
-abbrev pub infer_one : TypeEnv → Written → Caps → Source → ℕ → OneOperand → List Finding → AnswerAndErrors
-infer_one env m prior e d form =
-    infer_one_operand env (form_of_one env m prior e form) (place_of e) (infer env e prior (d + 1))
-
 -- two operands
 abbrev pub form_of_two : TypeEnv → Written → Caps → Source → Source → TwoOperands → Form
 form_of_two env m prior a b Equality = equality_form env m a b
@@ -145,19 +152,14 @@ form_of_two env m prior a b (ContainsSeveral o) = contains_several_form env m o
 form_of_two env m prior a b HasTag = has_tag_form env m prior a b
 form_of_two env m prior a b GetTag = get_tag_form env m prior a b
 
-abbrev pub infer_two : TypeEnv → Written → Source → Source → Caps → ℕ → TwoOperands → List Finding → AnswerAndErrors
-infer_two env m a b prior d form =
-    infer_two_operands env (form_of_two env m prior a b form) (place_of a) (place_of b)
-    (infer env a prior (d + 1)) (infer env b prior (d + 1))
-
 -- two operands that are typed, or too deep
 abbrev pub two_parts : Option Part → Option Part → Operands
 two_parts None q = cut_after []
 two_parts (Some p) None = cut_after (p.tree ∷ [])
 two_parts (Some p) (Some q) = all_typed (q.succeeded && p.succeeded) (p.tree ∷ q.tree ∷ [])
 
--- elements, one after another
-abbrev pub operands_of : Elements → Operands
+-- operands of any number, one after another
+abbrev pub operands_of : OperandList → Operands
 operands_of e =
     if e.is_cut then cut_after (map typed_tree e.typed.items)
     else all_typed e.succeeded (map typed_tree e.typed.items)

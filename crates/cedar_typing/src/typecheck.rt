@@ -9,6 +9,7 @@ mod operands;
 mod rules;
 mod sequence;
 mod single_env;
+mod type_env;
 mod type_tests;
 mod typechecker;
 mod typed_nodes;

@@ -143,11 +143,11 @@ fn under_a_test_that_decides_both_branches_are_one_tree(rt: HostRuntime) -> Resu
 }
 
 #[test]
-fn a_form_without_a_rule_is_an_error(rt: HostRuntime) -> Result<(), Fail> {
+fn a_call_of_an_unknown_function_is_an_error(rt: HostRuntime) -> Result<(), Fail> {
     let alloc = rt.alloc();
     let name = Name::unqualified_name(alloc, "f")?;
     let call = Expr::call_extension_fn(name, Vec::new(alloc));
     let found = outcome(alloc, &checked(alloc, call)?)?;
-    assert_eq!(rt; found.as_str(), "failure; internal invariant violated");
+    assert_eq!(rt; found.as_str(), "failure; undefined extension function `f`");
     Ok(())
 }

@@ -1,6 +1,6 @@
 // Checks of conditions that are nested as deep as allowed, and deeper.
 use crate::checks::{checked, outcome};
-use cedar_types::base::{Expr, Literal, Var};
+use cedar_types::base::{AttrChain, Expr, Literal, Var};
 use std::alloc::{AllocError, Global};
 use std::test::Fail;
 
@@ -144,5 +144,19 @@ fn a_part_deeper_than_400_is_a_failure_where_it_is_visited(rt: HostRuntime) -> R
             assert_eq!(rt; found.as_str(), *want, "{form:?}");
         }
     }
+    Ok(())
+}
+
+#[test]
+fn a_chain_of_300_attributes_is_typed(rt: HostRuntime) -> Result<(), Fail> {
+    let alloc = rt.alloc();
+    let mut rest = Vec::new(alloc);
+    for _ in 1..300 {
+        rest.push("boss")?;
+    }
+    let chain = AttrChain::new(alloc, "boss", rest.as_slice())?;
+    let bosses = Expr::extended_has_attr(alloc, Expr::var(Var::Principal), chain)?;
+    let found = outcome(alloc, &checked(alloc, bosses)?)?;
+    assert_eq!(rt; found.as_str(), "success");
     Ok(())
 }

@@ -8,18 +8,24 @@ use std::alloc::{AllocError, Global};
 /// What stands between the environments of a field.
 const BETWEEN: &str = " | ";
 
+/// What policies are typed by.
+#[derive(Clone, Copy)]
+pub struct Rules<'a> {
+    pub schema: &'a ValidatorSchema,
+    pub extensions: &'a ExtensionSchemas,
+}
+
 /// What is shown of a policy's check in each environment of the schema, with ` | ` between them, sorted by bytes.
 pub fn answers(
     alloc: Global,
-    schema: &ValidatorSchema,
+    rules: Rules<'_>,
     policy: &Template,
     source: &str,
     asked: Wanted,
 ) -> Result<String, AllocError> {
-    let extensions = ExtensionSchemas::default(alloc);
-    let typechecker = Typechecker::new(schema, &extensions, asked.mode);
+    let typechecker = Typechecker::new(rules.schema, rules.extensions, asked.mode);
     let mut shown = Vec::new(alloc);
-    for env in schema.unlinked_request_envs(asked.mode) {
+    for env in rules.schema.unlinked_request_envs(asked.mode) {
         let check = typechecker.typecheck_by_single_request_env(alloc, policy, &env)?;
         shown.push(match asked.subject {
             Subject::Outcome => outcome(alloc, &check, source)?,

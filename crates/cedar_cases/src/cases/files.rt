@@ -25,6 +25,8 @@ pub struct Case<'a> {
 pub struct CaseFile<'a> {
     /// The name of the schema's file, which lies beside it.
     pub schema: &'a str,
+    /// Whether `<` and `<=` compare addresses.
+    pub has_ordered_addresses: bool,
     pub columns: Vec<Column>,
     /// The lines after the names of the columns.
     pub lines: &'a str,
@@ -33,11 +35,16 @@ pub struct CaseFile<'a> {
 /// What is wrong with the first two lines of a case file.
 #[derive(Clone, Copy, Debug, PartialEq, Eq)]
 pub enum FileFault {
-    /// The first line is not `schema`, a tab and a name.
+    /// The first line does not begin with `schema`, a tab and a name.
     NoSchema,
+    /// The first line has a third field, which is another than the one that there is.
+    NoOrder,
     /// The second line has a name that no column has, as its field of this number, from 1 on.
     NoColumn(usize),
 }
+
+/// The third field of the first line, where addresses are ordered.
+const ORDERED: &str = "ordered ipaddr";
 
 /// What a field says that asks nothing.
 const NOT_ASKED: &str = "?";
@@ -46,15 +53,20 @@ const NOT_ASKED: &str = "?";
 const HEAD: usize = 2;
 
 impl<'a> CaseFile<'a> {
-    /// Reads the first two lines: the schema, and the names of the columns.
+    /// Reads the first two lines: the schema and what is ordered, and the names of the columns.
     pub fn new(
         alloc: Global,
         text: &'a str,
     ) -> Result<Result<CaseFile<'a>, FileFault>, AllocError> {
         let (first, rest) = text.split_once('\n').unwrap_or((text, ""));
         let (names, lines) = rest.split_once('\n').unwrap_or((rest, ""));
-        let Some(schema) = first.strip_prefix("schema\t") else {
+        let Some(named) = first.strip_prefix("schema\t") else {
             return Ok(Err(FileFault::NoSchema));
+        };
+        let (schema, has_ordered_addresses) = match named.split_once('\t') {
+            None => (named, false),
+            Some((schema, ORDERED)) => (schema, true),
+            Some(_) => return Ok(Err(FileFault::NoOrder)),
         };
         let mut columns = Vec::new(alloc);
         for name in names.split('\t') {
@@ -66,6 +78,7 @@ impl<'a> CaseFile<'a> {
         }
         Ok(Ok(CaseFile {
             schema,
+            has_ordered_addresses,
             columns,
             lines,
         }))

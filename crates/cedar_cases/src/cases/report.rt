@@ -1,31 +1,19 @@
 // What came of the cases of a file.
-use crate::cases::answers::{answers, in_order};
+use crate::cases::answers::{Rules, answers, in_order};
 use crate::cases::files::{Case, CaseFile, Field};
 use crate::reading::{Fault, ReadError, condition, policy, scope_alone};
-use crate::shown::unbuilt_form;
-use cedar_types::base::{Template, ValidatorSchema};
+use cedar_types::base::Template;
 use std::alloc::{AllocError, Global};
-use std::collections::BTreeMap;
 use std::io;
 use std::io::Write;
 
 /// How many cases of a file ended how.
-#[derive(Drop)]
+#[derive(Clone, Copy, PartialEq, Eq, Debug)]
 pub struct Tally {
     /// Those that ran.
     pub ran: usize,
     /// Those of them that differ, and those that cannot be read.
     pub wrong: usize,
-    /// Those that were skipped, by the form that has no rule yet.
-    pub skipped: BTreeMap<&'static str, usize>,
-}
-
-/// What came of a case.
-#[derive(Clone, Copy, PartialEq, Eq, Debug)]
-enum End {
-    Agrees,
-    Wrong,
-    Skipped(&'static str),
 }
 
 /// Runs each case of a file, and writes those that differ or cannot be read.
@@ -33,69 +21,47 @@ pub fn run_cases<W: Write>(
     alloc: Global,
     name: &str,
     file: &CaseFile<'_>,
-    schema: &ValidatorSchema,
+    rules: Rules<'_>,
     out: &mut W,
 ) -> io::Result<Tally> {
-    let mut tally = Tally {
-        ran: 0,
-        wrong: 0,
-        skipped: BTreeMap::new(alloc),
-    };
+    let mut tally = Tally { ran: 0, wrong: 0 };
     for case in file.cases(alloc)? {
-        match run_case(alloc, name, &case, schema, out)? {
-            End::Agrees => tally.ran = tally.ran.saturating_add(1),
-            End::Wrong => {
-                tally.ran = tally.ran.saturating_add(1);
-                tally.wrong = tally.wrong.saturating_add(1);
-            }
-            End::Skipped(form) => {
-                let count = tally.skipped.entry(form)?.or_insert(0);
-                *count = count.saturating_add(1);
-            }
+        tally.ran = tally.ran.saturating_add(1);
+        if !run_case(alloc, name, &case, rules, out)? {
+            tally.wrong = tally.wrong.saturating_add(1);
         }
     }
     Ok(tally)
 }
 
+/// Runs a case, and answers whether it agrees.
 fn run_case<W: Write>(
     alloc: Global,
     name: &str,
     case: &Case<'_>,
-    schema: &ValidatorSchema,
+    rules: Rules<'_>,
     out: &mut W,
-) -> io::Result<End> {
+) -> io::Result<bool> {
     let policy = match policy_of(alloc, case)? {
         Ok(policy) => policy,
         Err((at, fault)) => {
             let column = column_at(case.line, at);
             writeln!(out, "{name}:{}:{column}: {fault}", case.number)?;
-            return Ok(End::Wrong);
+            return Ok(false);
         }
     };
-    if let Some(form) = unbuilt_in(alloc, &policy)? {
-        return Ok(End::Skipped(form));
-    }
-    let mut end = End::Agrees;
+    let mut agrees = true;
     for (asked, wanted) in &case.wanted {
         let wanted = in_order(alloc, wanted)?;
-        let got = answers(alloc, schema, &policy, case.condition.text, *asked)?;
+        let got = answers(alloc, rules, &policy, case.condition.text, *asked)?;
         if got != wanted {
             let column = asked.name();
             writeln!(out, "{name}:{}: {column}: wanted {wanted}", case.number)?;
             writeln!(out, "{name}:{}: {column}: got {got}", case.number)?;
-            end = End::Wrong;
+            agrees = false;
         }
     }
-    Ok(end)
-}
-
-/// The name of a form in a policy's condition that has no rule of typing yet.
-fn unbuilt_in(alloc: Global, policy: &Template) -> Result<Option<&'static str>, AllocError> {
-    let found = unbuilt_form(alloc, &policy.scope_condition(alloc)?)?;
-    match &policy.non_scope_constraints {
-        Some(rest) if found.is_none() => unbuilt_form(alloc, rest),
-        _ => Ok(found),
-    }
+    Ok(agrees)
 }
 
 /// The policy of a case, or the byte of its line at which it cannot be read.

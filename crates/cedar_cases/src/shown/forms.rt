@@ -1,37 +1,5 @@
-// The forms of expressions by name, and which of them have a rule of typing.
-use crate::shown::nodes::parts;
-use cedar_types::base::{BinaryOp, Expr, ExprKind, UnaryOp};
-use std::alloc::{AllocError, Global};
-
-/// The name of a form in an expression that has no rule of typing yet. `None` where each has one.
-pub fn unbuilt_form(alloc: Global, expr: &Expr) -> Result<Option<&'static str>, AllocError> {
-    let mut left = vec![in alloc; expr]?;
-    for _ in 0..usize::MAX {
-        let Some(node) = left.pop() else {
-            break;
-        };
-        if !is_built(&node.kind) {
-            return Ok(Some(form_name(&node.kind)));
-        }
-        for part in parts(alloc, node)? {
-            left.push(part)?;
-        }
-    }
-    Ok(None)
-}
-
-/// Whether typing has a rule for this form.
-fn is_built(kind: &ExprKind) -> bool {
-    match kind {
-        ExprKind::Lit(_) | ExprKind::Var(_) | ExprKind::Slot(_) | ExprKind::Unknown(_) => true,
-        ExprKind::If { .. } | ExprKind::And(_, _) | ExprKind::Or(_, _) => true,
-        ExprKind::GetAttr(_, _) | ExprKind::HasAttr(_, _) | ExprKind::ExtHasAttr(_, _) => true,
-        ExprKind::UnaryApp(_, _) | ExprKind::BinaryApp(_, _, _) => true,
-        ExprKind::Like(_, _) | ExprKind::Is(_, _) => true,
-        ExprKind::Set(_) | ExprKind::Record(_) => true,
-        ExprKind::ExtensionFunctionApp(_, _) => false,
-    }
-}
+// The forms of expressions by name.
+use cedar_types::base::{BinaryOp, ExprKind, UnaryOp};
 
 /// The name of a form, as a condition writes it.
 pub fn form_name<T>(kind: &ExprKind<T>) -> &'static str {

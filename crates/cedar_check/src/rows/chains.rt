@@ -1,7 +1,9 @@
 // The row on tests of a chain of attributes.
 use crate::fixtures::chains::ChainForm;
 use crate::rows::checks::Case;
-use crate::rows::expected::{Expected, WantedError, WantedType};
+use crate::rows::expected::Expected;
+use crate::rows::wanted_errors::WantedError;
+use crate::rows::wanted_types::WantedType;
 use cedar_types::base::Loc;
 
 /// A chain goes on from records and entities alone, and it is False where an attribute is not

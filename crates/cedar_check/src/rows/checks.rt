@@ -64,17 +64,12 @@ fn all_checked<F: Form>(
     env: &RequestEnv<'_>,
     cases: &[Case<F>],
 ) -> Result<Report, AllocError> {
-    let mut outcomes = Vec::new(alloc);
-    let mut is_expected = true;
+    let mut report = Report::new(alloc);
     for case in cases {
-        let (outcome, is_case_expected) = checked(alloc, checker, env, case)?;
-        outcomes.push(outcome)?;
-        is_expected = is_expected && is_case_expected;
+        let (outcome, is_expected) = checked(alloc, checker, env, case)?;
+        report.add(outcome, is_expected)?;
     }
-    Ok(Report {
-        outcomes,
-        is_expected,
-    })
+    Ok(report)
 }
 
 /// Checks each condition in the strict mode and the first environment of the schema.

@@ -1,7 +1,9 @@
 // The rows on `==`, on sides that have no bound and beside a test.
 use crate::fixtures::equality::EqualityForm;
 use crate::rows::checks::Case;
-use crate::rows::expected::{Expected, WantedError, WantedType};
+use crate::rows::expected::Expected;
+use crate::rows::wanted_errors::WantedError;
+use crate::rows::wanted_types::WantedType;
 use cedar_types::base::{Loc, LubContext};
 
 /// A side reads an optional attribute where the test that it is there fails.

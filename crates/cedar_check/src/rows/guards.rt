@@ -1,7 +1,8 @@
 // The rows on reads of an optional attribute, and what guards them.
 use crate::fixtures::guards::GuardForm;
 use crate::rows::checks::Case;
-use crate::rows::expected::{Expected, WantedError};
+use crate::rows::expected::Expected;
+use crate::rows::wanted_errors::WantedError;
 use cedar_types::base::Loc;
 
 /// With a test that it is there, and without one.

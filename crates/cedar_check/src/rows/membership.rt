@@ -1,7 +1,9 @@
 // The row on `in`.
 use crate::fixtures::membership::MembershipForm;
 use crate::rows::checks::Case;
-use crate::rows::expected::{Expected, WantedError, WantedType};
+use crate::rows::expected::Expected;
+use crate::rows::wanted_errors::WantedError;
+use crate::rows::wanted_types::WantedType;
 use cedar_types::base::{Loc, LubContext};
 
 /// Entities are in others as far as their types allow it, and actions as the schema says.

@@ -1,7 +1,9 @@
 // The row on operators.
 use crate::fixtures::operators::OperatorForm;
 use crate::rows::checks::Case;
-use crate::rows::expected::{Expected, WantedError, WantedType};
+use crate::rows::expected::Expected;
+use crate::rows::wanted_errors::WantedError;
+use crate::rows::wanted_types::WantedType;
 use cedar_types::base::{Loc, LubContext};
 
 /// Operators on what they accept, and on other operands.

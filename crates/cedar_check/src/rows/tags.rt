@@ -1,7 +1,8 @@
 // The row on tags.
 use crate::fixtures::tags::TagForm;
 use crate::rows::checks::Case;
-use crate::rows::expected::{Expected, WantedError};
+use crate::rows::expected::Expected;
+use crate::rows::wanted_errors::WantedError;
 use cedar_types::base::Loc;
 
 /// A tag is read behind a test that it is there, and without one. Where a type declares no tags,

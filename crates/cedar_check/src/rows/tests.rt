@@ -1,13 +1,21 @@
 // Whether a check that came to this is taken for what is expected of it.
+use crate::fixtures::addresses::RefusesEmptyAddress;
+use crate::fixtures::calls::CallForm;
 use crate::fixtures::conditions::Form;
 use crate::fixtures::equality::EqualityForm;
 use crate::fixtures::guards::GuardForm;
 use crate::fixtures::operators::OperatorForm;
 use crate::fixtures::schemas::photos_with_options;
+use crate::fixtures::tables::address_functions;
+use crate::rows::Report;
 use crate::rows::checks::{Case, compared};
-use crate::rows::expected::{Expected, WantedError, WantedType};
+use crate::rows::expected::Expected;
+use crate::rows::wanted_calls::WantedCallError;
+use crate::rows::wanted_errors::WantedError;
+use crate::rows::wanted_types::WantedType;
 use cedar_types::base::{ExtensionSchemas, Loc, SchemaError};
 use std::alloc::{AllocError, Global};
+use std::collections::BTreeSet;
 use std::process::Abort;
 use std::test::Fail;
 
@@ -85,15 +93,94 @@ const STRINGS_ARE_COMPARED: [(Expected, bool); 7] = [
     (Expected::Fail(&[LEFT, RIGHT_USER]), false),
 ];
 
-/// Whether this condition's check is taken for what is expected.
+/// Whether `ip("")` and `== principal.ip` come to this.
+const EMPTY_ADDRESS: [(Expected, bool); 5] = [
+    (Expected::Fail(&[REFUSED]), true),
+    (Expected::Fail(&[REFUSED_ELSEWHERE]), false),
+    (Expected::Fail(&[REFUSED_FOR_NOTHING]), false),
+    (Expected::Fail(&[NO_ARGUMENT]), false),
+    (Expected::Success, false),
+];
+
+/// Whether `ip()` and `== principal.ip` come to this.
+const ADDRESS_OF_NOTHING: [(Expected, bool); 4] = [
+    (Expected::Fail(&[NO_ARGUMENT]), true),
+    (Expected::Fail(&[ONE_ARGUMENT_TOO_MANY]), false),
+    (Expected::Fail(&[UNDEFINED]), false),
+    (Expected::Fail(&[]), false),
+];
+
+/// The check refuses what stands here.
+const REFUSED: WantedError = WantedError::Call {
+    at: Loc { start: 0, end: 6 },
+    error: WantedCallError::Refused {
+        msg: "empty address",
+    },
+};
+
+/// The same at another place.
+const REFUSED_ELSEWHERE: WantedError = WantedError::Call {
+    at: Loc { start: 0, end: 22 },
+    error: WantedCallError::Refused {
+        msg: "empty address",
+    },
+};
+
+/// The same without a reason.
+const REFUSED_FOR_NOTHING: WantedError = WantedError::Call {
+    at: Loc { start: 0, end: 6 },
+    error: WantedCallError::Refused { msg: "" },
+};
+
+/// There is no argument where there should be one.
+const NO_ARGUMENT: WantedError = WantedError::Call {
+    at: Loc { start: 0, end: 4 },
+    error: WantedCallError::WrongNumber {
+        expected: 1,
+        actual: 0,
+    },
+};
+
+/// There is one where there should be none.
+const ONE_ARGUMENT_TOO_MANY: WantedError = WantedError::Call {
+    at: Loc { start: 0, end: 4 },
+    error: WantedCallError::WrongNumber {
+        expected: 0,
+        actual: 1,
+    },
+};
+
+/// There is no function `ip`.
+const UNDEFINED: WantedError = WantedError::Call {
+    at: Loc { start: 0, end: 4 },
+    error: WantedCallError::Undefined { name: "ip" },
+};
+
+/// Whether this condition's check is taken for what is expected, where there are no functions.
 fn is_expected<F: Form + Copy + Drop>(
     alloc: Global,
     text: &'static str,
     form: F,
     expected: Expected,
 ) -> Result<bool, SchemaError> {
+    is_expected_by(
+        alloc,
+        &ExtensionSchemas::default(alloc),
+        text,
+        form,
+        expected,
+    )
+}
+
+/// Whether it is by this table.
+fn is_expected_by<F: Form + Copy + Drop>(
+    alloc: Global,
+    extensions: &ExtensionSchemas,
+    text: &'static str,
+    form: F,
+    expected: Expected,
+) -> Result<bool, SchemaError> {
     let schema = photos_with_options(alloc)?;
-    let extensions = ExtensionSchemas::default(alloc);
     let cases = alone(
         alloc,
         Case {
@@ -102,7 +189,7 @@ fn is_expected<F: Form + Copy + Drop>(
             expected,
         },
     )?;
-    Ok(compared(alloc, &schema, &extensions, &cases)?.is_expected)
+    Ok(compared(alloc, &schema, extensions, &cases)?.is_expected)
 }
 
 /// The case alone.
@@ -138,6 +225,42 @@ fn errors_come_in_any_order_each_as_often(rt: HostRuntime) -> Result<(), Fail> {
     for (expected, is_met) in STRINGS_ARE_COMPARED {
         let form = OperatorForm::StringLessThanString;
         assert_eq!(rt; is_expected(rt.alloc(), text, form, expected)?, is_met);
+    }
+    Ok(())
+}
+
+#[test]
+fn an_error_of_a_call_has_its_place_and_fields(rt: HostRuntime) -> Result<(), Fail> {
+    let alloc = rt.alloc();
+    let check = Box::new(alloc, RefusesEmptyAddress { alloc })?;
+    let x1 = ExtensionSchemas::new(address_functions(alloc, check)?, BTreeSet::new(alloc))?;
+    let text = "ip(\"\") == principal.ip";
+    for (expected, is_met) in EMPTY_ADDRESS {
+        let form = CallForm::AddressOfEmptyText;
+        assert_eq!(rt; is_expected_by(alloc, &x1, text, form, expected)?, is_met);
+    }
+    let text = "ip() == principal.ip";
+    for (expected, is_met) in ADDRESS_OF_NOTHING {
+        let form = CallForm::AddressOfNothing;
+        assert_eq!(rt; is_expected_by(alloc, &x1, text, form, expected)?, is_met);
+    }
+    Ok(())
+}
+
+#[test]
+fn a_report_that_is_added_counts(rt: HostRuntime) -> Result<(), Fail> {
+    let alloc = rt.alloc();
+    for (first, second) in [(true, true), (true, false), (false, true)] {
+        let mut report = Report::new(alloc);
+        report.add(String::from_str(alloc, "a")?, first)?;
+        let mut other = Report::new(alloc);
+        other.add(String::from_str(alloc, "b")?, second)?;
+        report.append(other)?;
+        assert_eq!(rt; report.is_expected, first && second);
+        assert_eq!(rt;
+            report.outcomes.as_slice().join(alloc, " ")?.as_str(),
+            "a b"
+        );
     }
     Ok(())
 }

@@ -1,8 +1,11 @@
 // The frame, over sample rows and over writers in memory.
 use super::{run, run_among};
+use crate::fixtures::addresses::RefusesEmptyAddress;
+use crate::fixtures::tables::{address_functions, addresses_alone, functions_with_sum};
 use crate::rows::{NamedRow, Report, Row};
 use cedar_types::base::ExtensionSchemas;
 use std::alloc::{AllocError, Global};
+use std::collections::BTreeSet;
 use std::io;
 use std::io::{ErrorKind, Write};
 use std::process::Abort;
@@ -19,13 +22,23 @@ const ROW_34: &[u8] = b"row 34: Success; Irrelevant errors=0; Success; Irrelevan
 const ROW_35: &[u8] = b"row 35: Success; Fail errors=1; Success; Irrelevant errors=0; \
     Irrelevant errors=0; Fail errors=1; ok\n";
 
+const ROW_36: &[u8] = b"row 36: BadReturnType; VariadicWithoutArguments; DuplicateFunction; \
+    VariadicWithoutArguments; ok\n";
+
+const ROW_37: &[u8] = b"row 37: Success; Success; Fail errors=1; Fail errors=1; Success; \
+    Fail errors=2; ok\n";
+
 /// The rows that are built, in order, and the line of each.
-const BUILT: [(&str, &[u8]); 9] = [
+const BUILT: [(&str, &[u8]); 12] = [
     ("10", b"row 10: Success; Fail errors=1; ok\n"),
     ("12", b"row 12: Fail errors=1; ok\n"),
     (
         "17",
         b"row 17: Irrelevant errors=0; Fail errors=1; Fail errors=1; ok\n",
+    ),
+    (
+        "27",
+        b"row 27: Fail errors=1; Fail errors=1; Fail errors=1; Fail errors=1; ok\n",
     ),
     (
         "28",
@@ -39,6 +52,8 @@ const BUILT: [(&str, &[u8]); 9] = [
     ("33", ROW_33),
     ("34", ROW_34),
     ("35", ROW_35),
+    ("36", ROW_36),
+    ("37", ROW_37),
 ];
 
 /// The ways in which a row can end.
@@ -119,10 +134,12 @@ struct Answer {
 }
 
 /// What the rows that are built answer to these words.
-fn answer_to(alloc: Global, words: &[&str]) -> Result<Answer, AllocError> {
+fn answer_to(alloc: Global, words: &[&str]) -> Result<Answer, Fail> {
     let words = texts(alloc, words)?;
-    let x1 = ExtensionSchemas::default(alloc);
-    let x2 = ExtensionSchemas::default(alloc);
+    let check = Box::new(alloc, RefusesEmptyAddress { alloc })?;
+    let x1 = ExtensionSchemas::new(address_functions(alloc, check)?, BTreeSet::new(alloc))?;
+    let check = Box::new(alloc, RefusesEmptyAddress { alloc })?;
+    let x2 = ExtensionSchemas::new(functions_with_sum(alloc, check)?, addresses_alone(alloc)?)?;
     let mut out = Vec::new(alloc);
     let mut err = Vec::new(alloc);
     let status = run(alloc, words.as_slice(), &x1, &x2, &mut out, &mut err);

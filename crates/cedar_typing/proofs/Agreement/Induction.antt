@@ -6,22 +6,24 @@ use Rattle.cedar_types.specs.Tree.{lit, var, slot, unknown, if_then_else, and, o
 use Rattle.cedar_types.specs.View.{Written}
 use Rattle.cedar_types.specs.Errors.{Finding}
 use Rattle.cedar_typing.specs.Capabilities.{Caps}
+use Rattle.cedar_typing.specs.Eager.{Expectation, first_expectation, later_expectations}
 use Rattle.cedar_typing.specs.Infer.{unless_too_deep, infer, infer_within, infer_all, infer_fields}
 use Rattle.cedar_typing.specs.Infer.Parts.{Answer, limit, AnswerAndErrors}
 use Rattle.cedar_typing.specs.Judgments.{Judgment, max_nesting, too_deep, by_part, within}
 use Rattle.cedar_typing.specs.Rules.{rules, rules_within, rules_all, rules_fields}
 use Rattle.cedar_typing.specs.Rules.Attributes.{has_form, get_form}
 use Rattle.cedar_typing.specs.Rules.Binary.{binary_form}
+use Rattle.cedar_typing.specs.Rules.Calls.{arguments, call_form}
 use Rattle.cedar_typing.specs.Rules.Chains.{chain_form}
 use Rattle.cedar_typing.specs.Rules.Collections.{set_form, field_keys, record_form}
 use Rattle.cedar_typing.specs.Rules.Leaves.{variable_type, slot_ty, type_of_literal}
 use Rattle.cedar_typing.specs.Rules.ShortCircuit.{conjunction, disjunction}
 use Rattle.cedar_typing.specs.Rules.Unary.{unary_form, like_form, is_form}
-use Rattle.cedar_typing.specs.TypeEnv.{TypeEnv}
+use Rattle.cedar_typing.specs.Setting.{Setting}
 use Rattle.cedar_typing.specs.TypedExpr.{Source, place_of}
 use Rattle.cedar_typing.proofs.Agreement.Conditional.{if_agrees}
 use Rattle.cedar_typing.proofs.Agreement.Eager.{AllAgree, none_agrees, more_agree, form_agrees, one_operand_agrees, two_operands_agree}
-use Rattle.cedar_typing.proofs.Agreement.Leaves.{leaf_agrees, unknown_agrees, unbuilt_agrees}
+use Rattle.cedar_typing.proofs.Agreement.Leaves.{leaf_agrees, unknown_agrees}
 use Rattle.cedar_typing.proofs.Agreement.Operators.{unary_marked, binary_marked}
 use Rattle.cedar_typing.proofs.Agreement.Parts.{Answers, a_derived, a_recovered, a_cut, Found, Agrees}
 use Rattle.cedar_typing.proofs.Agreement.ShortCircuit.{short_circuit_agrees}
@@ -68,41 +70,45 @@ module _ (d : ℕ) (J : Judgment) where
 -- ---- all expressions
 
 mutual
-  pub agrees_within : (env : TypeEnv) (e : Source) (prior : Caps) (d : ℕ) → Agrees (infer_within env e prior d) (rules_within env e prior d)
-  agrees_within env (lit m x) prior d = leaf_agrees m (λ k. lit k x) (λ k. refl) (type_of_literal env x)
-  agrees_within env (var m x) prior d = leaf_agrees m (λ k. var k x) (λ k. refl) (variable_type env x)
-  agrees_within env (slot m s) prior d = leaf_agrees m (λ k. slot k s) (λ k. refl) (Some (slot_ty env.request_env s))
-  agrees_within env (unknown m n) prior d = unknown_agrees n m
-  agrees_within env (if_then_else m a b e) prior d =
-      if_agrees env m (place_of a) _ _ _ prior (infer env a prior (d + 1)) (λ p. infer env b p (d + 1)) (infer env e prior (d + 1)) (within_agrees (d + 1) _ _ (agrees_within env a prior (d + 1))) (λ p. within_agrees (d + 1) _ _ (agrees_within env b p (d + 1))) (within_agrees (d + 1) _ _ (agrees_within env e prior (d + 1)))
-  agrees_within env (and m a b) prior d =
-      short_circuit_agrees env conjunction (λ k x y. refl) m (place_of a) (place_of b) _ _ prior (infer env a prior (d + 1)) (λ p. infer env b p (d + 1)) (within_agrees (d + 1) _ _ (agrees_within env a prior (d + 1))) (λ p. within_agrees (d + 1) _ _ (agrees_within env b p (d + 1)))
-  agrees_within env (or m a b) prior d =
-      short_circuit_agrees env disjunction (λ k x y. refl) m (place_of a) (place_of b) _ _ prior (infer env a prior (d + 1)) (λ p. infer env b p (d + 1)) (within_agrees (d + 1) _ _ (agrees_within env a prior (d + 1))) (λ p. within_agrees (d + 1) _ _ (agrees_within env b p (d + 1)))
-  agrees_within env (unary m o a) prior d = one_operand_agrees env (unary_form m o) (unary_marked m o) (place_of a) _ (infer env a prior (d + 1)) (within_agrees (d + 1) _ _ (agrees_within env a prior (d + 1)))
-  agrees_within env (binary m o a b) prior d =
-      two_operands_agree env (binary_form env m prior a b o) (binary_marked env m prior a b o) (place_of a) (place_of b) _ _ (infer env a prior (d + 1)) (infer env b prior (d + 1))
-      (within_agrees (d + 1) _ _ (agrees_within env a prior (d + 1))) (within_agrees (d + 1) _ _ (agrees_within env b prior (d + 1)))
-  agrees_within env (call m n ts) prior d = unbuilt_agrees env m.place
-  agrees_within env (get_attr m e x) prior d = one_operand_agrees env (get_form env m prior e x) (λ k xs. refl) (place_of e) _ (infer env e prior (d + 1)) (within_agrees (d + 1) _ _ (agrees_within env e prior (d + 1)))
-  agrees_within env (has_attr m e x) prior d = one_operand_agrees env (has_form env m prior e x) (λ k xs. refl) (place_of e) _ (infer env e prior (d + 1)) (within_agrees (d + 1) _ _ (agrees_within env e prior (d + 1)))
-  agrees_within env (ext_has_attr m a x xs) prior d = one_operand_agrees env (chain_form env m prior a x xs) (λ k ys. refl) (place_of a) _ (infer env a prior (d + 1)) (within_agrees (d + 1) _ _ (agrees_within env a prior (d + 1)))
-  agrees_within env (like m a p) prior d = one_operand_agrees env (like_form m p) (λ k xs. refl) (place_of a) _ (infer env a prior (d + 1)) (within_agrees (d + 1) _ _ (agrees_within env a prior (d + 1)))
-  agrees_within env (is_type m a n) prior d = one_operand_agrees env (is_form m n) (λ k xs. refl) (place_of a) _ (infer env a prior (d + 1)) (within_agrees (d + 1) _ _ (agrees_within env a prior (d + 1)))
-  agrees_within env (set_of m ts) prior d = form_agrees (set_form env m) (λ k xs. refl) _ _ (agrees_all env true ts prior (d + 1))
-  agrees_within env (record_of m fs) prior d = form_agrees (record_form m (field_keys fs)) (λ k xs. refl) _ _ (agrees_fields env fs prior (d + 1))
+  pub agrees_within : (s : Setting) (e : Source) (prior : Caps) (d : ℕ) → Agrees (infer_within s e prior d) (rules_within s e prior d)
+  agrees_within s (lit m x) prior d = leaf_agrees m (λ k. lit k x) (λ k. refl) (type_of_literal s.env x)
+  agrees_within s (var m x) prior d = leaf_agrees m (λ k. var k x) (λ k. refl) (variable_type s.env x)
+  agrees_within s (slot m x) prior d = leaf_agrees m (λ k. slot k x) (λ k. refl) (Some (slot_ty s.env.request_env x))
+  agrees_within s (unknown m n) prior d = unknown_agrees n m
+  agrees_within s (if_then_else m a b e) prior d =
+      if_agrees s.env m (place_of a) _ _ _ prior (infer s a prior (d + 1)) (λ p. infer s b p (d + 1)) (infer s e prior (d + 1)) (within_agrees (d + 1) _ _ (agrees_within s a prior (d + 1))) (λ p. within_agrees (d + 1) _ _ (agrees_within s b p (d + 1))) (within_agrees (d + 1) _ _ (agrees_within s e prior (d + 1)))
+  agrees_within s (and m a b) prior d =
+      short_circuit_agrees s.env conjunction (λ k x y. refl) m (place_of a) (place_of b) _ _ prior (infer s a prior (d + 1)) (λ p. infer s b p (d + 1)) (within_agrees (d + 1) _ _ (agrees_within s a prior (d + 1))) (λ p. within_agrees (d + 1) _ _ (agrees_within s b p (d + 1)))
+  agrees_within s (or m a b) prior d =
+      short_circuit_agrees s.env disjunction (λ k x y. refl) m (place_of a) (place_of b) _ _ prior (infer s a prior (d + 1)) (λ p. infer s b p (d + 1)) (within_agrees (d + 1) _ _ (agrees_within s a prior (d + 1))) (λ p. within_agrees (d + 1) _ _ (agrees_within s b p (d + 1)))
+  agrees_within s (unary m o a) prior d = one_operand_agrees s.env (unary_form m o) (unary_marked m o) (place_of a) _ (infer s a prior (d + 1)) (within_agrees (d + 1) _ _ (agrees_within s a prior (d + 1)))
+  agrees_within s (binary m o a b) prior d =
+      two_operands_agree s.env (binary_form s.env m prior a b o) (binary_marked s.env m prior a b o) (place_of a) (place_of b) _ _ (infer s a prior (d + 1)) (infer s b prior (d + 1))
+      (within_agrees (d + 1) _ _ (agrees_within s a prior (d + 1))) (within_agrees (d + 1) _ _ (agrees_within s b prior (d + 1)))
+  agrees_within s (call m n ts) prior d =
+      let f = call_form s.env s.functions m n (arguments ts) in
+      form_agrees f (λ k xs. refl) _ _ (agrees_all s f.goes_on f.expects ts prior (d + 1))
+  agrees_within s (get_attr m e x) prior d = one_operand_agrees s.env (get_form s.env m prior e x) (λ k xs. refl) (place_of e) _ (infer s e prior (d + 1)) (within_agrees (d + 1) _ _ (agrees_within s e prior (d + 1)))
+  agrees_within s (has_attr m e x) prior d = one_operand_agrees s.env (has_form s.env m prior e x) (λ k xs. refl) (place_of e) _ (infer s e prior (d + 1)) (within_agrees (d + 1) _ _ (agrees_within s e prior (d + 1)))
+  agrees_within s (ext_has_attr m a x xs) prior d = one_operand_agrees s.env (chain_form s.env m prior a x xs) (λ k ys. refl) (place_of a) _ (infer s a prior (d + 1)) (within_agrees (d + 1) _ _ (agrees_within s a prior (d + 1)))
+  agrees_within s (like m a p) prior d = one_operand_agrees s.env (like_form m p) (λ k xs. refl) (place_of a) _ (infer s a prior (d + 1)) (within_agrees (d + 1) _ _ (agrees_within s a prior (d + 1)))
+  agrees_within s (is_type m a n) prior d = one_operand_agrees s.env (is_form m n) (λ k xs. refl) (place_of a) _ (infer s a prior (d + 1)) (within_agrees (d + 1) _ _ (agrees_within s a prior (d + 1)))
+  agrees_within s (set_of m ts) prior d =
+      let f = set_form s.env m in
+      form_agrees f (λ k xs. refl) _ _ (agrees_all s f.goes_on f.expects ts prior (d + 1))
+  agrees_within s (record_of m fs) prior d = form_agrees (record_form m (field_keys fs)) (λ k xs. refl) _ _ (agrees_fields s fs prior (d + 1))
 
   -- expressions one after another
-  pub agrees_all : (env : TypeEnv) (goes_on : Bool) (ts : Trees Written) (prior : Caps) (d : ℕ) → AllAgree (infer_all env goes_on ts prior d) (rules_all env goes_on ts prior d)
-  agrees_all env goes_on no_trees prior d = none_agrees
-  agrees_all env goes_on (tree e ts) prior d =
-      more_agree env goes_on None (place_of e) _ (infer env e prior d) (within_agrees d _ _ (agrees_within env e prior d)) _ _ (agrees_all env goes_on ts prior d)
+  pub agrees_all : (s : Setting) (goes_on : Bool) (qs : List Expectation) (ts : Trees Written) (prior : Caps) (d : ℕ) → AllAgree (infer_all s goes_on qs ts prior d) (rules_all s goes_on qs ts prior d)
+  agrees_all s goes_on qs no_trees prior d = none_agrees
+  agrees_all s goes_on qs (tree e ts) prior d =
+      more_agree s.env goes_on (first_expectation qs) (place_of e) _ (infer s e prior d) (within_agrees d _ _ (agrees_within s e prior d)) _ _ (agrees_all s goes_on (later_expectations qs) ts prior d)
 
   -- the values of fields
-  pub agrees_fields : (env : TypeEnv) (fs : Fields Written) (prior : Caps) (d : ℕ) → AllAgree (infer_fields env fs prior d) (rules_fields env fs prior d)
-  agrees_fields env no_fields prior d = none_agrees
-  agrees_fields env (field k e fs) prior d =
-      more_agree env false None (place_of e) _ (infer env e prior d) (within_agrees d _ _ (agrees_within env e prior d)) _ _ (agrees_fields env fs prior d)
+  pub agrees_fields : (s : Setting) (fs : Fields Written) (prior : Caps) (d : ℕ) → AllAgree (infer_fields s fs prior d) (rules_fields s fs prior d)
+  agrees_fields s no_fields prior d = none_agrees
+  agrees_fields s (field k e fs) prior d =
+      more_agree s.env false None (place_of e) _ (infer s e prior d) (within_agrees d _ _ (agrees_within s e prior d)) _ _ (agrees_fields s fs prior d)
 
-pub agrees : (env : TypeEnv) (e : Source) (prior : Caps) (d : ℕ) → Agrees (infer env e prior d) (rules env e prior d)
-agrees env e prior d = within_agrees d _ _ (agrees_within env e prior d)
+pub agrees : (s : Setting) (e : Source) (prior : Caps) (d : ℕ) → Agrees (infer s e prior d) (rules s e prior d)
+agrees s e prior d = within_agrees d _ _ (agrees_within s e prior d)

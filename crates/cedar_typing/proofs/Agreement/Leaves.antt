@@ -1,16 +1,14 @@
--- Expressions without parts, and forms without a rule yet, are inferred by their rules.
-use Rattle.std.proofs.Common.{◌≡◌, List, [], ◌∷◌, ◌++◌, Option, Some, None, refl, sym, ◌∙◌, ap, append-nil}
-use Rattle.cedar_types.specs.declared.base.location.Loc.{Loc}
+-- Expressions without parts are inferred by their rules.
+use Rattle.std.proofs.Common.{◌≡◌, List, [], ◌++◌, Option, Some, None, refl, sym, ◌∙◌, ap, append-nil}
 use Rattle.cedar_types.specs.Names.{Path}
 use Rattle.cedar_types.specs.Types.{Ty}
 use Rattle.cedar_types.specs.View.{Written}
-use Rattle.cedar_types.specs.Errors.{Finding, internal_invariant_violation}
+use Rattle.cedar_types.specs.Errors.{Finding}
 use Rattle.cedar_typing.specs.Capabilities.{Caps}
-use Rattle.cedar_typing.specs.Infer.Leaves.{infer_leaf, infer_unknown, infer_unbuilt}
+use Rattle.cedar_typing.specs.Infer.Leaves.{infer_leaf, infer_unknown}
 use Rattle.cedar_typing.specs.Infer.Parts.{Answer, success, failure, AnswerAndErrors}
 use Rattle.cedar_typing.specs.Judgments.{Judgment}
-use Rattle.cedar_typing.specs.Rules.Leaves.{leaf, leaf_missing, leaf_rules, unknown_fails, unknown_rules, nameless, unbuilt, unbuilt_rules}
-use Rattle.cedar_typing.specs.TypeEnv.{TypeEnv, finding}
+use Rattle.cedar_typing.specs.Rules.Leaves.{leaf, leaf_missing, leaf_rules, unknown_fails, unknown_rules}
 use Rattle.cedar_typing.specs.TypedExpr.{TypedTree, Mark, mark_of}
 use Rattle.cedar_typing.proofs.Agreement.Parts.{Answers, a_derived, a_recovered, a_cut, Found, Marks, Agrees}
 
@@ -49,16 +47,3 @@ unknown_only n m es a added (a_cut h) = absurd h
 
 pub unknown_agrees : (n : Path) (m : Written) → Agrees (λ es. (infer_unknown n m, es)) (unknown_rules n m)
 unknown_agrees n m = record { found = λ es. silent _ _ es (a_recovered unknown_fails); only = unknown_only n m; marks = λ t c e h. absurd h }
-
-module _ (env : TypeEnv) (l : Option Loc) where
-  unbuilt_only : (es : List Finding) (a : Answer) (added : List Finding) → Answers (unbuilt_rules env l) a added → infer_unbuilt env l es ≡ (a, es ++ added)
-  unbuilt_only es a added (a_derived h) = absurd h
-  unbuilt_only es a added (a_recovered unbuilt) = refl
-  unbuilt_only es a added (a_cut h) = absurd h
-
-  pub unbuilt_agrees : Agrees (infer_unbuilt env l) (unbuilt_rules env l)
-  unbuilt_agrees = record {
-    found = λ es. record { answer = failure (nameless l); added = finding env l internal_invariant_violation ∷ []; is = refl; rules = a_recovered unbuilt };
-    only = unbuilt_only;
-    marks = λ t c e h. absurd h;
-  }

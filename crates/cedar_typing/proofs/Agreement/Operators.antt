@@ -1,7 +1,7 @@
 -- The nodes of operators are marked as their forms say.
 use Rattle.std.proofs.Common.{◌≡◌, List, refl}
-use Rattle.cedar_types.specs.declared.base.operators.BinaryOp.{BinaryOp}
-use Rattle.cedar_types.specs.declared.base.operators.UnaryOp.{UnaryOp}
+use Rattle.cedar_types.specs.declared.base.expressions.operators.BinaryOp.{BinaryOp}
+use Rattle.cedar_types.specs.declared.base.expressions.operators.UnaryOp.{UnaryOp}
 use Rattle.cedar_types.specs.View.{Written}
 use Rattle.cedar_typing.specs.Capabilities.{Caps}
 use Rattle.cedar_typing.specs.Eager.{Form}

@@ -13,7 +13,7 @@ use Rattle.cedar_types.specs.Types.{Ty, TNever, TBool, TLong, TString, TSet, TAn
 use Rattle.cedar_types.specs.TypeOrder.{bool_rank, open_rank, required_rank, ty_cmp, attrs_cmp, insert_ty, insert_tys, in_order}
 use Rattle.cedar_types.specs.Bounds.{is_strict, lub, go_on, fold_lub, list_lub}
 use Rattle.cedar_types.specs.Values.{Value, HasType}
-use Rattle.cedar_types.proofs.Unions.{tied_paths}
+use Rattle.cedar_types.proofs.Names.Unions.{tied_paths}
 use Rattle.cedar_typing.specs.Evaluation.Conformance.{IsOneOf}
 use Rattle.cedar_typing.proofs.Basics.{some_is}
 use Rattle.cedar_typing.proofs.Bounds.Strict.{lub_right_strict}

@@ -89,8 +89,10 @@ number_examples = record {
   less_decimal_itself = refl;
   at_most_decimal = refl;
   at_most_decimal_back = refl;
+  at_most_duration = refl;
   less_address = refl;
   at_most_two_types = refl;
+  less_two_types = refl;
   less_long_decimal = refl;
   at_most_decimal_long = refl;
   less_texts = refl;
@@ -253,7 +255,14 @@ call_examples = record {
   call_no_argument = refl;
   call_more = refl;
   call_unknown = refl;
+  call_other_path = refl;
+  call_two = refl;
+  call_two_back = refl;
+  call_sum = refl;
+  call_sum_one = refl;
+  call_sum_three = refl;
   call_fails = refl;
+  call_later_fails = refl;
   call_first_failure = refl;
 }
 

@@ -1,16 +1,17 @@
 -- The examples of the rules of typing, computed.
 pub mod Entities
+pub mod Calls
 pub mod Nesting
 use Rattle.std.proofs.Common.{◌≡◌, ℕ, false, List, [], Option, Some, refl, sym, ◌∙◌, subst}
 use Rattle.std.specs.Prelude.{codes}
-use Rattle.cedar_types.specs.declared.base.types.BoolType.TheVariants.{AnyBool, False}
+use Rattle.cedar_types.specs.declared.base.types.BoolType.TheVariants.{AnyBool}
 use Rattle.cedar_types.specs.declared.base.types.ValidationMode.TheVariants.{Strict}
 use Rattle.cedar_types.specs.Tree.{Shape}
 use Rattle.cedar_types.specs.Capability.{attribute}
 use Rattle.cedar_types.specs.Types.{Ty, TBool}
 use Rattle.cedar_types.specs.Errors.{Finding}
 use Rattle.cedar_typing.specs.Capabilities.{Caps, no_caps}
-use Rattle.cedar_typing.specs.Examples.Expressions.{false_lit, principal, numbered}
+use Rattle.cedar_typing.specs.Examples.Expressions.{principal, numbered}
 use Rattle.cedar_typing.specs.Examples.Rules.{TypesAsIn, FailsWithIn, IsTypedIn, IsRefusedIn, IsRefusedKnowingIn, CutsAt, ChecksAs, HandsOnNeither, typed_false}
 use Rattle.cedar_typing.specs.Examples.Rules.Collections.{SetTyping, RecordTyping}
 use Rattle.cedar_typing.specs.Examples.Rules.Conditional.{ConditionalTyping}
@@ -22,53 +23,52 @@ use Rattle.cedar_typing.specs.Examples.Rules.Unary.{UnaryTyping}
 use Rattle.cedar_typing.specs.Examples.World.{sample}
 use Rattle.cedar_typing.specs.Infer.{infer}
 use Rattle.cedar_typing.specs.Infer.Parts.{success, failure, limit, Answer, AnswerAndErrors}
-use Rattle.cedar_typing.specs.Judgments.{max_nesting}
 use Rattle.cedar_typing.specs.PolicyCheck.{Verdict, PolicyChecks, policy_check}
 use Rattle.cedar_typing.specs.Rules.{rules, Derives, Recovers, Cuts}
-use Rattle.cedar_typing.specs.TypeEnv.{TypeEnv}
+use Rattle.cedar_typing.specs.Setting.{Setting}
 use Rattle.cedar_typing.specs.TypedExpr.{Source, TypedTree, annotation}
 use Rattle.cedar_typing.proofs.Agreement.Induction.{agrees}
 use Rattle.cedar_typing.proofs.Agreement.Parts.{Answers, a_derived, a_recovered, a_cut}
 use Rattle.cedar_typing.proofs.Basics.{some_is}
 use Rattle.cedar_typing.proofs.PolicyCheck.{checked}
 
-module _ (env : TypeEnv) (e : Source) (p : Caps) (d : ℕ) where
+module _ (s : Setting) (e : Source) (p : Caps) (d : ℕ) where
   abbrev Rules : Answer → List Finding → Type 0
-  Rules = Answers (rules env e p d)
+  Rules = Answers (rules s e p d)
 
-  by_judge : (a : Answer) (es : List Finding) → infer env e p d [] ≡ (a, es) → Rules a es
+  by_judge : (a : Answer) (es : List Finding) → infer s e p d [] ≡ (a, es) → Rules a es
   by_judge a es h =
-      let f = (agrees env e p d).found [] in
+      let f = (agrees s e p d).found [] in
       let q : ◌≡◌ {A = AnswerAndErrors} (f.answer, f.added) (a, es) = sym f.is ∙ h in
       let P : AnswerAndErrors → Type 0 = λ o. Rules o.0 o.1 in
       subst P q f.rules
 
-  of_success : (t : Ty) (c : Caps) (x : TypedTree) (es : List Finding) → annotation x ≡ Some t → Rules (success x c) es → Derives env e p d t c x
+  of_success : (t : Ty) (c : Caps) (x : TypedTree) (es : List Finding) → annotation x ≡ Some t → Rules (success x c) es → Derives s e p d t c x
   of_success t c x es m (a_derived {t = u} h) =
-      let same : u ≡ t = some_is (sym ((agrees env e p d).marks u c x h) ∙ m) in
-      let P : Ty → Type 0 = λ s. Derives env e p d s c x in
+      let same : u ≡ t = some_is (sym ((agrees s e p d).marks u c x h) ∙ m) in
+      let P : Ty → Type 0 = λ u. Derives s e p d u c x in
       subst P same h
 
-  of_failure : (x : TypedTree) (es : List Finding) → Rules (failure x) es → Recovers env e p d x es
+  of_failure : (x : TypedTree) (es : List Finding) → Rules (failure x) es → Recovers s e p d x es
   of_failure x es (a_recovered h) = h
 
-  of_limit : (es : List Finding) → Rules limit es → Cuts env e p d es
+  of_limit : (es : List Finding) → Rules limit es → Cuts s e p d es
   of_limit es (a_cut h) = h
 
-  pub has : (t : Ty) (c : Caps) (x : TypedTree) → annotation x ≡ Some t → infer env e p d [] ≡ (success x c, []) → Derives env e p d t c x
+  pub has : (t : Ty) (c : Caps) (x : TypedTree) → annotation x ≡ Some t → infer s e p d [] ≡ (success x c, []) → Derives s e p d t c x
   has t c x m h = of_success t c x [] m (by_judge (success x c) [] h)
 
-  pub recovers : (x : TypedTree) (es : List Finding) → infer env e p d [] ≡ (failure x, es) → Recovers env e p d x es
+  pub recovers : (x : TypedTree) (es : List Finding) → infer s e p d [] ≡ (failure x, es) → Recovers s e p d x es
   recovers x es h = of_failure x es (by_judge (failure x) es h)
 
-  pub cuts : (es : List Finding) → infer env e p d [] ≡ (limit, es) → Cuts env e p d es
+  pub cuts : (es : List Finding) → infer s e p d [] ≡ (limit, es) → Cuts s e p d es
   cuts es h = of_limit es (by_judge limit es h)
 
-pub types_as : {env : TypeEnv} {p : Caps} {e : Shape} {t : Ty} {c : Caps} {x : TypedTree} → annotation x ≡ Some t → infer env (numbered e) p 1 [] ≡ (success x c, []) → TypesAsIn env p e t c x
-types_as {env} {p} {e} {t} {c} {x} m h = record { has = has env (numbered e) p 1 t c x m h }
+pub types_as : {s : Setting} {p : Caps} {e : Shape} {t : Ty} {c : Caps} {x : TypedTree} → annotation x ≡ Some t → infer s (numbered e) p 1 [] ≡ (success x c, []) → TypesAsIn s p e t c x
+types_as {s} {p} {e} {t} {c} {x} m h = record { has = has s (numbered e) p 1 t c x m h }
 
-pub fails_with : {env : TypeEnv} {e : Shape} {x : TypedTree} {es : List Finding} → infer env (numbered e) no_caps 1 [] ≡ (failure x, es) → FailsWithIn env e x es
-fails_with {env} {e} {x} {es} h = record { recovers = recovers env (numbered e) no_caps 1 x es h }
+pub fails_with : {s : Setting} {e : Shape} {x : TypedTree} {es : List Finding} → infer s (numbered e) no_caps 1 [] ≡ (failure x, es) → FailsWithIn s e x es
+fails_with {s} {e} {x} {es} h = record { recovers = recovers s (numbered e) no_caps 1 x es h }
 
 pub cuts_at : {d : ℕ} {e : Shape} {es : List Finding} → infer (sample Strict) (numbered e) no_caps d [] ≡ (limit, es) → CutsAt d e es
 cuts_at {d} {e} {es} h = record { cuts = cuts (sample Strict) (numbered e) no_caps d es h }
@@ -79,21 +79,21 @@ copy_of (success x c) = x
 copy_of (failure x) = x
 copy_of limit = typed_false 1
 
-abbrev copy_in : TypeEnv → Shape → TypedTree
-copy_in env e = copy_of (infer env (numbered e) no_caps 1 []).0
+abbrev copy_in : Setting → Shape → TypedTree
+copy_in s e = copy_of (infer s (numbered e) no_caps 1 []).0
 
-pub is_typed : {env : TypeEnv} {e : Shape} {t : Ty} → annotation (copy_in env e) ≡ Some t → infer env (numbered e) no_caps 1 [] ≡ (success (copy_in env e) no_caps, []) → IsTypedIn env e t
-is_typed {env} {e} {t} m h = record { copy = copy_in env e; has = has env (numbered e) no_caps 1 t no_caps (copy_in env e) m h }
+pub is_typed : {s : Setting} {e : Shape} {t : Ty} → annotation (copy_in s e) ≡ Some t → infer s (numbered e) no_caps 1 [] ≡ (success (copy_in s e) no_caps, []) → IsTypedIn s e t
+is_typed {s} {e} {t} m h = record { copy = copy_in s e; has = has s (numbered e) no_caps 1 t no_caps (copy_in s e) m h }
 
-pub is_refused : {env : TypeEnv} {e : Shape} {t : Option Ty} {es : List Finding} → annotation (copy_in env e) ≡ t → infer env (numbered e) no_caps 1 [] ≡ (failure (copy_in env e), es) → IsRefusedIn env e t es
-is_refused {env} {e} {t} {es} m h = record { copy = copy_in env e; stays = m; recovers = recovers env (numbered e) no_caps 1 (copy_in env e) es h }
+pub is_refused : {s : Setting} {e : Shape} {t : Option Ty} {es : List Finding} → annotation (copy_in s e) ≡ t → infer s (numbered e) no_caps 1 [] ≡ (failure (copy_in s e), es) → IsRefusedIn s e t es
+is_refused {s} {e} {t} {es} m h = record { copy = copy_in s e; stays = m; recovers = recovers s (numbered e) no_caps 1 (copy_in s e) es h }
 
 -- the same of a failure, where p is known
-abbrev copy_knowing : TypeEnv → Caps → Shape → TypedTree
-copy_knowing env p e = copy_of (infer env (numbered e) p 1 []).0
+abbrev copy_knowing : Setting → Caps → Shape → TypedTree
+copy_knowing s p e = copy_of (infer s (numbered e) p 1 []).0
 
-pub refused_knowing : {env : TypeEnv} {p : Caps} {e : Shape} {t : Option Ty} {es : List Finding} → annotation (copy_knowing env p e) ≡ t → infer env (numbered e) p 1 [] ≡ (failure (copy_knowing env p e), es) → IsRefusedKnowingIn env p e t es
-refused_knowing {env} {p} {e} {t} {es} m h = record { copy = copy_knowing env p e; stays = m; recovers = recovers env (numbered e) p 1 (copy_knowing env p e) es h }
+pub refused_knowing : {s : Setting} {p : Caps} {e : Shape} {t : Option Ty} {es : List Finding} → annotation (copy_knowing s p e) ≡ t → infer s (numbered e) p 1 [] ≡ (failure (copy_knowing s p e), es) → IsRefusedKnowingIn s p e t es
+refused_knowing {s} {p} {e} {t} {es} m h = record { copy = copy_knowing s p e; stays = m; recovers = recovers s (numbered e) p 1 (copy_knowing s p e) es h }
 
 pub checks_as : {e : Shape} {v : Verdict} → policy_check (sample Strict) (numbered e) ≡ v → ChecksAs e v
 checks_as {e} {v} h = record { checks = subst (PolicyChecks (sample Strict) (numbered e)) h (checked (sample Strict) (numbered e)) }
@@ -177,7 +177,6 @@ unary_typing = record {
   not_refused = fails_with refl;
   not_failed = fails_with refl;
   not_missing = fails_with refl;
-  without_rule = fails_with refl;
 }
 
 pub conditional_typing : ConditionalTyping
@@ -226,11 +225,22 @@ number_typing = record {
   compared_at_most = is_typed refl refl;
   left_is_long = is_refused refl refl;
   right_is_long = is_refused refl refl;
-  neither_is_long = is_refused refl refl;
+  decimal_and_long = is_refused refl refl;
+  long_and_decimal = is_refused refl refl;
+  decimals = is_typed refl refl;
+  decimals_at_most = is_typed refl refl;
+  left_is_decimal = is_refused refl refl;
+  right_is_decimal = is_refused refl refl;
+  decimal_and_duration = is_refused refl refl;
+  neither_compared = is_refused refl refl;
   addresses = is_refused refl refl;
+  in_order = is_refused refl refl;
+  decimal_failed = is_refused refl refl;
   side_missing = is_refused refl refl;
   never_and_long = is_typed refl refl;
   long_and_never = is_typed refl refl;
+  never_and_decimal = is_typed refl refl;
+  duration_and_never = is_typed refl refl;
   never_and_text = is_refused refl refl;
   text_and_never = is_refused refl refl;
   two_nevers = is_refused refl refl;

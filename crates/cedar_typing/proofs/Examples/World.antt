@@ -1,17 +1,19 @@
 -- The world of the examples conforms.
-use Rattle.std.proofs.Common.{◌≡◌, inl, inr, Bool, true, false, ◌&&◌, ◌||◌, if◌then◌else◌, List, [], ◌∷◌, Option, Some, true≢false, refl, sym, ap, subst}
+use Rattle.std.proofs.Common.{◌≡◌, inl, Bool, true, false, ◌&&◌, ◌||◌, if◌then◌else◌, List, [], ◌∷◌, Option, Some, None, true≢false, refl, sym, subst}
 use Rattle.std.specs.Prelude.{IsTrue}
 use Rattle.cedar_types.specs.declared.base.types.ValidationMode.TheVariants.{Strict}
 use Rattle.cedar_types.specs.Names.{Path, Uid, uid_eq, path_eq}
-use Rattle.cedar_types.specs.Comparisons.{uid_same}
-use Rattle.cedar_types.specs.Types.{Ty, TExtension}
+use Rattle.cedar_types.specs.ExtensionFunctions.{ExtensionFunction, function_named}
+use Rattle.cedar_types.specs.Lemmas.Comparisons.{path_same, uid_same}
 use Rattle.cedar_types.specs.Schemas.{is_among, uid_is_among, type_named, declares_type, declares_action, descendants_of}
 use Rattle.cedar_types.specs.Values.{Value, Values, HasType}
 use Rattle.cedar_types.specs.Stores.{Entity, Store, entity_at, declares_ancestor, FitsDeclaration, ConformingStore}
-use Rattle.cedar_typing.specs.Evaluation.Conformance.{IsOneOf, FitsRequest, KeepsTable}
+use Rattle.cedar_typing.specs.Evaluation.Conformance.{FitsRequest, KeepsTable}
 use Rattle.cedar_typing.specs.Evaluation.Equality.{same_values}
 use Rattle.cedar_typing.specs.Evaluation.World.{Call, call_value}
-use Rattle.cedar_typing.specs.Examples.World.{user, decimal, bob, greet, meet, act, a_context, sample_schema, decimal_table, sample, sample_store, sample_functions, greeting}
+use Rattle.cedar_typing.specs.Examples.Greeting.{sample_store, sample_functions, greeting}
+use Rattle.cedar_typing.specs.Examples.World.{user, bob, greet, meet, act, a_context, sample_schema, extension_functions, sample}
+use Rattle.cedar_typing.specs.Setting.{table}
 use Rattle.cedar_typing.specs.Soundness.{IsReliable, IsWorldOf}
 use Rattle.cedar_typing.proofs.Basics.{some_is, none_is}
 
@@ -34,7 +36,7 @@ module _ (P : Uid → Entity → Type 0) where
 abbrev Fitting : Uid → Entity → Type 0
 Fitting u e = FitsDeclaration sample_schema u (type_named sample_schema.types u.entity_type) e
 
-none_among : {P : Type 0} → false ≡ true → P
+pub none_among : {P : Type 0} → false ≡ true → P
 none_among h = absurd (true≢false (sym h))
 
 -- the one member of a list
@@ -120,37 +122,45 @@ actions_are_stored u = go (uid_eq u greet) (uid_eq u meet) (uid_eq u act) refl r
     go false false true p q r h = stored_as u act r (_, refl)
     go false false false p q r h = none_among h
 
-store_conforms : ConformingStore sample_schema sample_store
+pub store_conforms : ConformingStore sample_schema sample_store
 store_conforms = record {
   entities = λ u e h. all_found Fitting sample_store fitting u e h;
   actions = λ u h. actions_are_stored u h;
 }
 
--- ---- the extension function
+-- ---- the extension functions
 
--- what holds of the value of each call holds of what is found
-module _ (P : Value → Type 0) where
+-- what holds of each call holds of what is found
+module _ (P : Path → Value → Type 0) where
   abbrev AllCalls : List Call → Type 0
   AllCalls [] = Unit {0}
-  AllCalls (c ∷ cs) = P c.value × AllCalls cs
+  AllCalls (c ∷ cs) = P c.function c.value × AllCalls cs
 
-  first_call : (b : Bool) (v w : Value) (rest : Option Value) → P w → (rest ≡ Some v → P v) → (if b then Some w else rest) ≡ Some v → P v
-  first_call true v w rest h f n = subst P (some_is n) h
-  first_call false v w rest h f n = f n
+  first_call : (a b : Bool) (n m : Path) (v w : Value) (rest : Option Value) → path_eq n m ≡ a → P m w → (rest ≡ Some v → P n v) → (if a && b then Some w else rest) ≡ Some v → P n v
+  first_call true true n m v w rest q h f e = subst (λ z. P z v) (sym (path_same.to n m q)) (subst (P m) (some_is e) h)
+  first_call true false n m v w rest q h f e = f e
+  first_call false b n m v w rest q h f e = f e
 
-  all_calls : (cs : List Call) → AllCalls cs → (f : Path) (vs : Values) (v : Value) → call_value cs f vs ≡ Some v → P v
-  all_calls [] h f vs v n = absurd (none_is n)
-  all_calls (c ∷ cs) h f vs v n = first_call (path_eq f c.function && same_values vs c.arguments) v c.value (call_value cs f vs) h.0 (all_calls cs h.1 f vs v) n
+  all_calls : (cs : List Call) → AllCalls cs → (n : Path) (vs : Values) (v : Value) → call_value cs n vs ≡ Some v → P n v
+  all_calls [] h n vs v e = absurd (none_is e)
+  all_calls (c ∷ cs) h n vs v e = first_call (path_eq n c.function) (same_values vs c.arguments) n c.function v c.value (call_value cs n vs) refl h.0 (all_calls cs h.1 n vs v) e
 
-only_function : (f : Path) (u : Ty) → IsOneOf (f, u) decimal_table.returns → u ≡ TExtension decimal
-only_function f u (inl e) = ap (λ (p : Path × Ty). p.1) e
-only_function f u (inr h) = absurd h
+-- a value is of the function's return type, if there is one
+abbrev HasReturnType : Option ExtensionFunction → Value → Type 0
+HasReturnType None v = Unit {0}
+HasReturnType (Some f) v = HasType f.return_type v
 
-table_kept : KeepsTable decimal_table sample_functions
-table_kept = record {
-  returns = λ f u h vs v e. subst (λ t. HasType t v) (sym (only_function f u h)) (all_calls (HasType (TExtension decimal)) sample_functions.calls (refl, (refl, (refl, (refl, tt)))) f vs v e);
-  overloaded_types = λ p. refl;
-}
+abbrev IsReturned : Path → Value → Type 0
+IsReturned n v = HasReturnType (function_named n extension_functions) v
+
+calls_fit : AllCalls IsReturned sample_functions.calls
+calls_fit = (refl, (refl, (refl, (refl, (tt, (tt, (refl, tt)))))))
+
+pub values_fit : (n : Path) (f : ExtensionFunction) → function_named n extension_functions ≡ Some f → (vs : Values) (v : Value) → call_value sample_functions.calls n vs ≡ Some v → HasType f.return_type v
+values_fit n f h vs v e = subst (λ o. HasReturnType o v) h (all_calls IsReturned sample_functions.calls calls_fit n vs v e)
+
+table_kept : KeepsTable (table (sample Strict)) sample_functions
+table_kept = record { returns = values_fit; overloaded_types = λ p. refl }
 
 -- ---- the request
 
@@ -160,5 +170,5 @@ greets = record { principal = refl; action = refl; resource = refl; context = ((
 pub sample_reliable : IsReliable (sample Strict)
 sample_reliable = record { mode = refl; closed = refl; environment = inl refl }
 
-pub greeting_conforms : IsWorldOf (sample Strict) decimal_table greeting
+pub greeting_conforms : IsWorldOf (sample Strict) greeting
 greeting_conforms = record { environment = (greets, tt, refl); store = store_conforms; functions = table_kept }

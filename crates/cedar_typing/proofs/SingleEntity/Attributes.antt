@@ -2,11 +2,11 @@
 use Rattle.std.proofs.Common.{◌≡◌, Bool, true, false, true≢false, cond, not, List, [], ◌∷◌, Option, Some, None, refl, sym, subst}
 use Rattle.std.specs.List.{list_all, find}
 use Rattle.cedar_types.specs.Names.{Text, path_eq}
-use Rattle.cedar_types.specs.Comparisons.{and_left, and_right}
+use Rattle.cedar_types.specs.Lemmas.Comparisons.{and_left, and_right}
 use Rattle.cedar_types.specs.Types.{Ty, TNever, TBool, TLong, TString, TSet, TAnySet, TRecord, TEntity, TAnyEntity, TExtension}
 use Rattle.cedar_types.specs.Schemas.{Schema, DeclaredType, TypeKind, StandardKind, EnumKind, ExternalKind, has_fault, type_named, are_vague, kind_is_definite, tags_pass, is_vague}
 use Rattle.cedar_types.specs.Lookups.{declared_kind_attribute, kind_attribute, attribute_type}
-use Rattle.cedar_types.proofs.Faultless.{faultless}
+use Rattle.cedar_types.proofs.Schema.Faultless.{faultless}
 use Rattle.cedar_typing.proofs.Basics.{some_is, not_true}
 use Rattle.cedar_typing.proofs.SingleEntity.Types.{has_single_entities, definite_attrs, narrow_attr}
 

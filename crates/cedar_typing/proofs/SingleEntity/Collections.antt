@@ -2,7 +2,7 @@
 use Rattle.std.proofs.Common.{◌≡◌, Bool, true, false, List, [], ◌∷◌, Option, Some, None, if◌then◌else◌, refl, sym, subst}
 use Rattle.cedar_types.specs.declared.base.types.ValidationMode.TheVariants.{Strict}
 use Rattle.cedar_types.specs.Ascending.{texts_ascending}
-use Rattle.cedar_types.specs.Comparisons.{and_both}
+use Rattle.cedar_types.specs.Lemmas.Comparisons.{and_both}
 use Rattle.cedar_types.specs.Names.{Text}
 use Rattle.cedar_types.specs.Types.{Ty, TRecord}
 use Rattle.cedar_types.specs.View.{Written}

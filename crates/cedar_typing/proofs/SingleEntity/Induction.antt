@@ -1,13 +1,13 @@
 -- In Strict each type that is found names one entity type at most: all expressions.
 use Rattle.std.proofs.Common.{◌≡◌, inl, inr, ℕ, ◌+◌, Bool, true, false, not, List, [], ◌∷◌, ◌++◌, map, Option, Some, None, ◌&&◌, ◌||◌, if◌then◌else◌, refl, sym, subst}
 use Rattle.std.specs.List.{list_all, flat_map}
-use Rattle.cedar_types.specs.declared.base.operators.Var.{Var}
-use Rattle.cedar_types.specs.declared.base.slots.SlotId.{SlotId}
+use Rattle.cedar_types.specs.declared.base.expressions.operators.Var.{Var}
+use Rattle.cedar_types.specs.declared.base.names.slots.SlotId.{SlotId}
 use Rattle.cedar_types.specs.declared.base.types.BoolType.TheVariants.{AnyBool, True}
 use Rattle.cedar_types.specs.declared.base.types.ValidationMode.{ValidationMode}
 use Rattle.cedar_types.specs.declared.base.types.ValidationMode.TheVariants.{Strict}
 use Rattle.cedar_types.specs.Names.{Text, Path, Uid}
-use Rattle.cedar_types.specs.Comparisons.{and_left, and_right}
+use Rattle.cedar_types.specs.Lemmas.Comparisons.{and_left, and_right}
 use Rattle.cedar_types.specs.Types.{Ty, TNever, TBool, TEntity}
 use Rattle.cedar_types.specs.Tree.{Lit, bool, long, string, entity, lit, var, slot, unknown, if_then_else, and, or, unary, binary, call, get_attr, has_attr, ext_has_attr, like, is_type, set_of, record_of, Trees, no_trees, tree, Fields, no_fields, field}
 use Rattle.cedar_types.specs.View.{Written}
@@ -16,19 +16,22 @@ use Rattle.cedar_types.specs.Lookups.{declares_entity, literal_type, attribute_t
 use Rattle.cedar_types.specs.Environments.{DeclaredEnv, principal_environments, action_environments, environments_of}
 use Rattle.cedar_types.specs.RequestEnvs.{Env, Declared, Undeclared, is_partial}
 use Rattle.cedar_types.specs.Errors.{Finding}
-use Rattle.cedar_types.proofs.Faultless.{faultless}
+use Rattle.cedar_types.specs.ExtensionFunctions.{table_fault}
+use Rattle.cedar_types.proofs.Schema.Faultless.{faultless}
 use Rattle.cedar_typing.specs.Capabilities.{Caps, no_caps}
-use Rattle.cedar_typing.specs.Eager.{gives, refuses}
+use Rattle.cedar_typing.specs.Eager.{Expectation, gives, refuses, first_expectation, later_expectations}
 use Rattle.cedar_typing.specs.Evaluation.Conformance.{IsOneOf, IsEnvironmentOf}
 use Rattle.cedar_typing.specs.Judgments.{Judgment, within}
 use Rattle.cedar_typing.specs.Rules.{rules, rules_within, rules_all, rules_fields}
 use Rattle.cedar_typing.specs.Rules.Attributes.{attribute_of, has_decides, get_decides, has_form, get_form}
 use Rattle.cedar_typing.specs.Rules.Binary.{binary_form}
+use Rattle.cedar_typing.specs.Rules.Calls.{arguments, call_form}
 use Rattle.cedar_typing.specs.Rules.Chains.{chain_form}
 use Rattle.cedar_typing.specs.Rules.Collections.{set_form, field_keys, record_form}
-use Rattle.cedar_typing.specs.Rules.Leaves.{leaf_rules, unknown_rules, unbuilt_rules, leaf_missing, unknown_fails, unbuilt, variable_type, slot_ty, linked_ty, type_of_literal, known_entity_type, unknown_entity_type, LeafRule, leaf, LeafRecovery, UnknownRecovery, UnbuiltRecovery}
+use Rattle.cedar_typing.specs.Rules.Leaves.{leaf_rules, unknown_rules, leaf_missing, unknown_fails, variable_type, slot_ty, linked_ty, type_of_literal, known_entity_type, unknown_entity_type, LeafRule, leaf, LeafRecovery, UnknownRecovery}
 use Rattle.cedar_typing.specs.Rules.ShortCircuit.{conjunction, disjunction}
 use Rattle.cedar_typing.specs.Rules.Unary.{unary_form, like_form, is_form}
+use Rattle.cedar_typing.specs.Setting.{Setting}
 use Rattle.cedar_typing.specs.TypeEnv.{TypeEnv}
 use Rattle.cedar_typing.specs.TypeTests.{is_record as is_record_type}
 use Rattle.cedar_typing.specs.TypedExpr.{Source, TypedTree, Mark, annotation, place_of}
@@ -37,6 +40,7 @@ use Rattle.cedar_typing.proofs.Agreement.Operators.{unary_marked, binary_marked}
 use Rattle.cedar_typing.proofs.Agreement.Parts.{Marks}
 use Rattle.cedar_typing.proofs.Basics.{not_true}
 use Rattle.cedar_typing.proofs.SingleEntity.Attributes.{attribute_narrow}
+use Rattle.cedar_typing.proofs.SingleEntity.Calls.{call_single}
 use Rattle.cedar_typing.proofs.SingleEntity.Chains.{chain_single}
 use Rattle.cedar_typing.proofs.SingleEntity.Collections.{set_single, record_single}
 use Rattle.cedar_typing.proofs.SingleEntity.Eager.{SingleForm, SingleAll, none_single, more_single, form_single, decided_type, one_operand_single, two_operands_single}
@@ -104,10 +108,10 @@ literal_narrow env e (entity u) =
     go (Some t) h = h
 
 variable_narrow : (env : TypeEnv) → has_fault env.schema ≡ false → (r : Env) → env.request_env ≡ r → IsEnvironmentOf env.schema r → (x : Var) → HasSingleEntities (variable_type env x)
-variable_narrow env f (Declared d ps rs) e i Var.Principal = subst (λ v. HasSingleEntities (variable_type (record { schema = env.schema; mode = env.mode; request_env = v; policy = env.policy }) Var.Principal)) (sym e) refl
-variable_narrow env f (Declared d ps rs) e i Var.Action = subst (λ v. HasSingleEntities (variable_type (record { schema = env.schema; mode = env.mode; request_env = v; policy = env.policy }) Var.Action)) (sym e) (entity_narrow env.schema d.action)
-variable_narrow env f (Declared d ps rs) e i Var.Resource = subst (λ v. HasSingleEntities (variable_type (record { schema = env.schema; mode = env.mode; request_env = v; policy = env.policy }) Var.Resource)) (sym e) refl
-variable_narrow env f (Declared d ps rs) e i Var.Context = subst (λ v. HasSingleEntities (variable_type (record { schema = env.schema; mode = env.mode; request_env = v; policy = env.policy }) Var.Context)) (sym e) (context_narrow env.schema f d i)
+variable_narrow env f (Declared d ps rs) e i Var.Principal = subst (λ v. HasSingleEntities (variable_type (record { schema = env.schema; mode = env.mode; request_env = v; overloaded_types = env.overloaded_types; policy = env.policy }) Var.Principal)) (sym e) refl
+variable_narrow env f (Declared d ps rs) e i Var.Action = subst (λ v. HasSingleEntities (variable_type (record { schema = env.schema; mode = env.mode; request_env = v; overloaded_types = env.overloaded_types; policy = env.policy }) Var.Action)) (sym e) (entity_narrow env.schema d.action)
+variable_narrow env f (Declared d ps rs) e i Var.Resource = subst (λ v. HasSingleEntities (variable_type (record { schema = env.schema; mode = env.mode; request_env = v; overloaded_types = env.overloaded_types; policy = env.policy }) Var.Resource)) (sym e) refl
+variable_narrow env f (Declared d ps rs) e i Var.Context = subst (λ v. HasSingleEntities (variable_type (record { schema = env.schema; mode = env.mode; request_env = v; overloaded_types = env.overloaded_types; policy = env.policy }) Var.Context)) (sym e) (context_narrow env.schema f d i)
 variable_narrow env f Undeclared e i x = absurd i
 
 linked_narrow : (p : Option Path) → has_single_entities (linked_ty p) ≡ true
@@ -167,66 +171,62 @@ within_single d J s = record {
   marks = λ t c x h. s.marks t c x h.1;
 }
 
-unbuilt_narrow : (env : TypeEnv) (m : Written) (x : TypedTree) (es : List Finding) → UnbuiltRecovery env m.place x es → HasSingleEntities (annotation x)
-unbuilt_narrow env m x es unbuilt = tt
-
-unbuilt_single : (env : TypeEnv) (m : Written) → SingleEntities (unbuilt_rules env m.place)
-unbuilt_single env m = record { derivations = λ t c x h. absurd h; recoveries = unbuilt_narrow env m; marks = λ t c x h. absurd h }
-
 unknown_narrow : (n : Path) (m : Written) (x : TypedTree) (es : List Finding) → UnknownRecovery n m x es → HasSingleEntities (annotation x)
 unknown_narrow n m x es unknown_fails = tt
 
 unknown_single : (n : Path) (m : Written) → SingleEntities (unknown_rules n m)
 unknown_single n m = record { derivations = λ t c x h. absurd h; recoveries = unknown_narrow n m; marks = λ t c x h. absurd h }
 
-module _ (env : TypeEnv) (strict : env.mode ≡ Strict) (faults : has_fault env.schema ≡ false) (environment : IsEnvironmentOf env.schema env.request_env) where
-  marks_of : (e : Source) (prior : Caps) (d : ℕ) → Marks (rules_within env e prior d).derives
-  marks_of e prior d = (agrees_within env e prior d).marks
+module _ (s : Setting) (strict : s.env.mode ≡ Strict) (faults : has_fault s.env.schema ≡ false) (table_faults : table_fault s.functions ≡ None) (environment : IsEnvironmentOf s.env.schema s.env.request_env) where
+  marks_of : (e : Source) (prior : Caps) (d : ℕ) → Marks (rules_within s e prior d).derives
+  marks_of e prior d = (agrees_within s e prior d).marks
 
   mutual
-    single_within : (e : Source) (prior : Caps) (d : ℕ) → SingleEntities (rules_within env e prior d)
-    single_within (lit m x) prior d = leaf_single m (λ k. lit k x) (λ k. refl) _ (literal_narrow env strict x) (marks_of (lit m x) prior d)
-    single_within (var m x) prior d = leaf_single m (λ k. var k x) (λ k. refl) _ (variable_narrow env faults env.request_env refl environment x) (marks_of (var m x) prior d)
-    single_within (slot m s) prior d = leaf_single m (λ k. slot k s) (λ k. refl) _ (slot_narrow env.request_env s) (marks_of (slot m s) prior d)
+    single_within : (e : Source) (prior : Caps) (d : ℕ) → SingleEntities (rules_within s e prior d)
+    single_within (lit m x) prior d = leaf_single m (λ k. lit k x) (λ k. refl) _ (literal_narrow s.env strict x) (marks_of (lit m x) prior d)
+    single_within (var m x) prior d = leaf_single m (λ k. var k x) (λ k. refl) _ (variable_narrow s.env faults s.env.request_env refl environment x) (marks_of (var m x) prior d)
+    single_within (slot m x) prior d = leaf_single m (λ k. slot k x) (λ k. refl) _ (slot_narrow s.env.request_env x) (marks_of (slot m x) prior d)
     single_within (unknown m n) prior d = unknown_single n m
     single_within (if_then_else m a b e) prior d =
-        if_single env m (place_of a) _ _ prior (within_single (d + 1) _ (single_within a prior (d + 1))) (λ p. within_single (d + 1) _ (single_within b p (d + 1))) strict _ (within_single (d + 1) _ (single_within e prior (d + 1))) (marks_of (if_then_else m a b e) prior d)
+        if_single s.env m (place_of a) _ _ prior (within_single (d + 1) _ (single_within a prior (d + 1))) (λ p. within_single (d + 1) _ (single_within b p (d + 1))) strict _ (within_single (d + 1) _ (single_within e prior (d + 1))) (marks_of (if_then_else m a b e) prior d)
     single_within (and m a b) prior d =
-        short_circuit_single env m (place_of a) _ _ prior (within_single (d + 1) _ (single_within a prior (d + 1))) (λ p. within_single (d + 1) _ (single_within b p (d + 1))) conjunction (λ k x y. refl) (place_of b) (marks_of (and m a b) prior d)
+        short_circuit_single s.env m (place_of a) _ _ prior (within_single (d + 1) _ (single_within a prior (d + 1))) (λ p. within_single (d + 1) _ (single_within b p (d + 1))) conjunction (λ k x y. refl) (place_of b) (marks_of (and m a b) prior d)
     single_within (or m a b) prior d =
-        short_circuit_single env m (place_of a) _ _ prior (within_single (d + 1) _ (single_within a prior (d + 1))) (λ p. within_single (d + 1) _ (single_within b p (d + 1))) disjunction (λ k x y. refl) (place_of b) (marks_of (or m a b) prior d)
+        short_circuit_single s.env m (place_of a) _ _ prior (within_single (d + 1) _ (single_within a prior (d + 1))) (λ p. within_single (d + 1) _ (single_within b p (d + 1))) disjunction (λ k x y. refl) (place_of b) (marks_of (or m a b) prior d)
     single_within (unary m o a) prior d =
-        one_operand_single env (unary_form m o) (unary_marked m o) (unary_single m o) (unary_failed_single m o) (place_of a) _ (within_single (d + 1) _ (single_within a prior (d + 1))) (marks_of (unary m o a) prior d)
+        one_operand_single s.env (unary_form m o) (unary_marked m o) (unary_single m o) (unary_failed_single m o) (place_of a) _ (within_single (d + 1) _ (single_within a prior (d + 1))) (marks_of (unary m o a) prior d)
     single_within (binary m o a b) prior d =
-        two_operands_single env (binary_form env m prior a b o) (binary_marked env m prior a b o) (binary_single env strict faults m prior a b o) (binary_failed_single env strict faults m prior a b o) (place_of a) (place_of b) _ _
+        two_operands_single s.env (binary_form s.env m prior a b o) (binary_marked s.env m prior a b o) (binary_single s.env strict faults m prior a b o) (binary_failed_single s.env strict faults m prior a b o) (place_of a) (place_of b) _ _
         (within_single (d + 1) _ (single_within a prior (d + 1))) (within_single (d + 1) _ (single_within b prior (d + 1))) (marks_of (binary m o a b) prior d)
-    single_within (call m n ts) prior d = unbuilt_single env m
+    single_within (call m n ts) prior d =
+        let f = call_form s.env s.functions m n (arguments ts) in
+        form_single f (λ k xs. refl) (call_single s.env s.functions table_faults m n (arguments ts)) (λ t h. h) _ (single_all f.goes_on f.expects ts prior (d + 1)) (marks_of (call m n ts) prior d)
     single_within (get_attr m e x) prior d =
-        one_operand_single env (get_form env m prior e x) (λ k xs. refl) (get_single env faults m prior e x) (λ t h. h) (place_of e) _ (within_single (d + 1) _ (single_within e prior (d + 1))) (marks_of (get_attr m e x) prior d)
+        one_operand_single s.env (get_form s.env m prior e x) (λ k xs. refl) (get_single s.env faults m prior e x) (λ t h. h) (place_of e) _ (within_single (d + 1) _ (single_within e prior (d + 1))) (marks_of (get_attr m e x) prior d)
     single_within (has_attr m e x) prior d =
-        one_operand_single env (has_form env m prior e x) (λ k xs. refl) (has_single env faults m prior e x) (λ t h. h) (place_of e) _ (within_single (d + 1) _ (single_within e prior (d + 1))) (marks_of (has_attr m e x) prior d)
+        one_operand_single s.env (has_form s.env m prior e x) (λ k xs. refl) (has_single s.env faults m prior e x) (λ t h. h) (place_of e) _ (within_single (d + 1) _ (single_within e prior (d + 1))) (marks_of (has_attr m e x) prior d)
     single_within (ext_has_attr m a x xs) prior d =
-        one_operand_single env (chain_form env m prior a x xs) (λ k ys. refl) (chain_single env m prior a x xs) (λ t h. h) (place_of a) _ (within_single (d + 1) _ (single_within a prior (d + 1))) (marks_of (ext_has_attr m a x xs) prior d)
+        one_operand_single s.env (chain_form s.env m prior a x xs) (λ k ys. refl) (chain_single s.env m prior a x xs) (λ t h. h) (place_of a) _ (within_single (d + 1) _ (single_within a prior (d + 1))) (marks_of (ext_has_attr m a x xs) prior d)
     single_within (like m a p) prior d =
-        one_operand_single env (like_form m p) (λ k xs. refl) (like_single m p) (λ t h. h) (place_of a) _ (within_single (d + 1) _ (single_within a prior (d + 1))) (marks_of (like m a p) prior d)
+        one_operand_single s.env (like_form m p) (λ k xs. refl) (like_single m p) (λ t h. h) (place_of a) _ (within_single (d + 1) _ (single_within a prior (d + 1))) (marks_of (like m a p) prior d)
     single_within (is_type m a n) prior d =
-        one_operand_single env (is_form m n) (λ k xs. refl) (is_single m n) (λ t h. h) (place_of a) _ (within_single (d + 1) _ (single_within a prior (d + 1))) (marks_of (is_type m a n) prior d)
+        one_operand_single s.env (is_form m n) (λ k xs. refl) (is_single m n) (λ t h. h) (place_of a) _ (within_single (d + 1) _ (single_within a prior (d + 1))) (marks_of (is_type m a n) prior d)
     single_within (set_of m ts) prior d =
-        form_single (set_form env m) (λ k xs. refl) (set_single env strict m) (λ t h. h) _ (single_all true ts prior (d + 1)) (marks_of (set_of m ts) prior d)
+        form_single (set_form s.env m) (λ k xs. refl) (set_single s.env strict m) (λ t h. h) _ (single_all true [] ts prior (d + 1)) (marks_of (set_of m ts) prior d)
     single_within (record_of m fs) prior d =
         form_single (record_form m (field_keys fs)) (λ k xs. refl) (record_single m (field_keys fs)) (λ t h. h) _ (single_fields fs prior (d + 1)) (marks_of (record_of m fs) prior d)
 
     -- expressions one after another
-    pub single_all : (goes_on : Bool) (ts : Trees Written) (prior : Caps) (d : ℕ) → SingleAll (rules_all env goes_on ts prior d)
-    single_all goes_on no_trees prior d = none_single
-    single_all goes_on (tree e ts) prior d =
-        more_single env goes_on None (place_of e) _ (within_single d _ (single_within e prior d)) _ (single_all goes_on ts prior d)
+    pub single_all : (goes_on : Bool) (qs : List Expectation) (ts : Trees Written) (prior : Caps) (d : ℕ) → SingleAll (rules_all s goes_on qs ts prior d)
+    single_all goes_on qs no_trees prior d = none_single
+    single_all goes_on qs (tree e ts) prior d =
+        more_single s.env goes_on (first_expectation qs) (place_of e) _ (within_single d _ (single_within e prior d)) _ (single_all goes_on (later_expectations qs) ts prior d)
 
     -- the values of fields
-    pub single_fields : (fs : Fields Written) (prior : Caps) (d : ℕ) → SingleAll (rules_fields env fs prior d)
+    pub single_fields : (fs : Fields Written) (prior : Caps) (d : ℕ) → SingleAll (rules_fields s fs prior d)
     single_fields no_fields prior d = none_single
     single_fields (field k e fs) prior d =
-        more_single env false None (place_of e) _ (within_single d _ (single_within e prior d)) _ (single_fields fs prior d)
+        more_single s.env false None (place_of e) _ (within_single d _ (single_within e prior d)) _ (single_fields fs prior d)
 
-  pub single_entity_types : (e : Source) (prior : Caps) (d : ℕ) → SingleEntities (rules env e prior d)
+  pub single_entity_types : (e : Source) (prior : Caps) (d : ℕ) → SingleEntities (rules s e prior d)
   single_entity_types e prior d = within_single d _ (single_within e prior d)

@@ -2,9 +2,9 @@
 use Rattle.std.proofs.Common.{◌≡◌, Bool, true, false, ◌&&◌, not, List, [], ◌∷◌, Option, Some, None, if◌then◌else◌, refl, sym, subst}
 use Rattle.std.specs.Prelude.{is_some}
 use Rattle.cedar_types.specs.declared.base.location.Loc.{Loc}
-use Rattle.cedar_types.specs.declared.base.operators.BinaryOp.{BinaryOp}
-use Rattle.cedar_types.specs.declared.base.operators.UnaryOp.{UnaryOp}
-use Rattle.cedar_types.specs.declared.base.patterns.PatternElem.{PatternElem}
+use Rattle.cedar_types.specs.declared.base.expressions.operators.BinaryOp.{BinaryOp}
+use Rattle.cedar_types.specs.declared.base.expressions.operators.UnaryOp.{UnaryOp}
+use Rattle.cedar_types.specs.declared.base.expressions.patterns.PatternElem.{PatternElem}
 use Rattle.cedar_types.specs.declared.base.types.BoolType.TheVariants.{AnyBool, True, False}
 use Rattle.cedar_types.specs.declared.base.types.ValidationMode.TheVariants.{Strict}
 use Rattle.cedar_types.specs.Names.{Path}
@@ -74,7 +74,7 @@ module _ (env : TypeEnv) (l l' : Option Loc) where
       if_is (is_never s && is_never t) _ _ refl
       (if_is (is_never s) _ _ (unless_is (beside_never env l' t))
       (if_is (is_never t) _ _ (unless_is (beside_never env l s))
-      (if_is (is_comparable s && ty_eq s t) _ _ refl refl)))
+      (if_is (is_comparable env s && ty_eq s t) _ _ refl refl)))
 
   comparison_single : (m : Written) (o : BinaryOp) → SingleForm (comparison_form env m l l' o)
   comparison_single m o [] h = refl

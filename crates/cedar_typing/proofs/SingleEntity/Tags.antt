@@ -3,7 +3,7 @@ use Rattle.std.proofs.Common.{◌≡◌, inl, inr, Bool, true, false, not, List,
 use Rattle.std.specs.List.{list_all}
 use Rattle.cedar_types.specs.declared.base.types.BoolType.TheVariants.{AnyBool, True}
 use Rattle.cedar_types.specs.declared.base.types.ValidationMode.TheVariants.{Strict}
-use Rattle.cedar_types.specs.Comparisons.{and_left, and_right}
+use Rattle.cedar_types.specs.Lemmas.Comparisons.{and_left, and_right}
 use Rattle.cedar_types.specs.Names.{Path, path_eq}
 use Rattle.cedar_types.specs.Types.{Ty, TNever, TBool, TEntity, TAnyEntity}
 use Rattle.cedar_types.specs.View.{Written}
@@ -11,7 +11,7 @@ use Rattle.cedar_types.specs.Bounds.{lub, list_lub}
 use Rattle.cedar_types.specs.Schemas.{Schema, DeclaredType, TypeKind, StandardKind, EnumKind, ExternalKind, has_fault, type_named, are_vague, is_vague, kind_is_definite}
 use Rattle.cedar_types.specs.Lookups.{kind_tags, declared_tags, tags_of_types, tags_of_any, tag_types}
 use Rattle.cedar_types.specs.Errors.{Finding}
-use Rattle.cedar_types.proofs.Faultless.{faultless}
+use Rattle.cedar_types.proofs.Schema.Faultless.{faultless}
 use Rattle.cedar_typing.specs.Capabilities.{Caps}
 use Rattle.cedar_typing.specs.Eager.{refuses}
 use Rattle.cedar_typing.specs.Rules.Tags.{tag_of, has_tag_type, has_tag_table, has_tag_form, tag_by_bound, get_known_tag, get_tag_table, get_tag_form}

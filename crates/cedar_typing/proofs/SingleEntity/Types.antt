@@ -4,7 +4,7 @@ use Rattle.std.specs.Prelude.{length}
 use Rattle.std.proofs.lemmas.Grind.{common_steps}
 use Rattle.cedar_types.specs.declared.base.types.ValidationMode.TheVariants.{Strict}
 use Rattle.cedar_types.specs.Names.{Text, Path, text_eq}
-use Rattle.cedar_types.specs.Comparisons.{and_left, and_right, and_both}
+use Rattle.cedar_types.specs.Lemmas.Comparisons.{and_left, and_right, and_both}
 use Rattle.cedar_types.specs.Types.{Ty, TNever, TBool, TLong, TString, TSet, TAnySet, TRecord, TEntity, TAnyEntity, TExtension, Attrs, no_attrs, attr}
 use Rattle.cedar_types.specs.Schemas.{is_vague, are_vague}
 use Rattle.cedar_types.specs.Bounds.{mark_eq, ty_eq, is_never, bool_lub, any_set_lub, entity_lub, any_entity_lub, with_both, apart_lub, both_attrs, lub, find_attr}

@@ -1,15 +1,17 @@
 -- `<` and `<=` do not go wrong.
-use Rattle.std.proofs.Common.{◌≡◌, Bool, true, false, ◌&&◌, List, [], ◌∷◌, Option, Some, None, if◌then◌else◌, ℤ, refl, sym, subst, true≢false}
+use Rattle.std.proofs.Common.{◌≡◌, Bool, true, false, ◌&&◌, ◌||◌, List, [], ◌∷◌, map, Option, Some, None, if◌then◌else◌, ℤ, refl, sym, ◌∙◌, ap, subst, true≢false}
+use Rattle.std.specs.List.{list_any}
 use Rattle.cedar_types.specs.declared.base.location.Loc.{Loc}
-use Rattle.cedar_types.specs.declared.base.operators.BinaryOp.{BinaryOp}
+use Rattle.cedar_types.specs.declared.base.expressions.operators.BinaryOp.{BinaryOp}
 use Rattle.cedar_types.specs.declared.base.types.BoolType.TheVariants.{AnyBool}
-use Rattle.cedar_types.specs.Names.{Path}
-use Rattle.cedar_types.specs.Comparisons.{and_left, and_right}
-use Rattle.cedar_types.specs.Types.{Ty, TNever, TBool, TLong}
+use Rattle.cedar_types.specs.Names.{Path, path_eq}
+use Rattle.cedar_types.specs.Lemmas.Comparisons.{and_left, and_right, and_both, path_same}
+use Rattle.cedar_types.specs.Types.{Ty, TNever, TBool, TLong, TExtension}
 use Rattle.cedar_types.specs.View.{Written}
 use Rattle.cedar_types.specs.Bounds.{ty_eq, is_never}
 use Rattle.cedar_types.specs.Errors.{Finding}
-use Rattle.cedar_types.specs.Values.{Value, VBool, VLong, VExtension, IsLong}
+use Rattle.cedar_types.specs.Values.{Value, VBool, VLong, VExtension, IsLong, HasType}
+use Rattle.cedar_types.proofs.Comparisons.SameTypes.{ty_to}
 use Rattle.cedar_typing.specs.Capabilities.{no_caps}
 use Rattle.cedar_typing.specs.Eager.{Decision, gives, gives_unless}
 use Rattle.cedar_typing.specs.Evaluation.Eval.{compared}
@@ -45,19 +47,40 @@ module _ (types : List Path) (test : ℤ → ℤ → Bool) (pairs : List (Value 
   longs_compared (VLong m) w h k = absurd k
   longs_compared v w h k = absurd h
 
+  extension_safe : (b : Bool) (v w : Value) → b ≡ true → IsSafe (if b then Gives (VBool (has_pair pairs v w)) else Fails TypeFailure)
+  extension_safe true v w h = tt
+  extension_safe false v w h = cc
+
+  -- two values of one overloaded type
+  extensions_compared : (p : Path) → list_any (path_eq p) types ≡ true → (v w : Value) → HasType (TExtension p) v → HasType (TExtension p) w → IsSafe (compared types test pairs v w)
+  extensions_compared p e (VExtension n x) (VExtension m y) h k =
+      let same = subst (λ z. path_eq n z ≡ true) (h ∙ sym k) (path_same.itself n) in
+      let known = subst (λ z. list_any (path_eq z) types ≡ true) (sym h) e in
+      extension_safe _ (VExtension n x) (VExtension m y) (and_both (path_eq n m) (list_any (path_eq n) types) same known)
+  extensions_compared p e (VExtension n x) w h k = absurd k
+  extensions_compared p e v w h k = absurd h
+
 -- ---- types that pass
 
 never_is : (t : Ty) → is_never t ≡ true → t ≡ TNever
 never_is TNever h = refl
 never_is t h = absurd (true≢false (sym h))
 
-comparable_is : (t : Ty) → is_comparable t ≡ true → t ≡ TLong
-comparable_is TLong h = refl
-comparable_is t h = absurd (true≢false (sym h))
+-- an extension type is compared where it is overloaded, and no other type is but Long
+extension_is : (p : Path) (ps : List Path) → list_any (ty_eq (TExtension p)) (map TExtension ps) ≡ list_any (path_eq p) ps
+extension_is p [] = refl
+extension_is p (q ∷ qs) = ap (λ b. path_eq p q || b) (extension_is p qs)
 
-same_as_long : (t : Ty) → ty_eq TLong t ≡ true → t ≡ TLong
-same_as_long TLong h = refl
-same_as_long t h = absurd (true≢false (sym h))
+no_extension : (t : Ty) → ((p : Path) → ty_eq t (TExtension p) ≡ false) → (ps : List Path) → list_any (ty_eq t) (map TExtension ps) ≡ false
+no_extension t f [] = refl
+no_extension t f (p ∷ ps) = λ i. f p i || no_extension t f ps i
+
+-- two values of one type that is compared
+module _ (env : TypeEnv) (types : List Path) (same_types : (p : Path) → list_any (path_eq p) types ≡ list_any (path_eq p) env.overloaded_types) (test : ℤ → ℤ → Bool) (pairs : List (Value × Value)) where
+  values_compared : (t : Ty) → is_comparable env t ≡ true → (v w : Value) → HasType t v → HasType t w → IsSafe (compared types test pairs v w)
+  values_compared TLong c v w h k = longs_compared types test pairs v w h k
+  values_compared (TExtension p) c v w h k = extensions_compared types test pairs p (same_types p ∙ sym (extension_is p env.overloaded_types) ∙ c) v w h k
+  values_compared t c v w h k = absurd (true≢false (sym c ∙ no_extension t (λ p. refl) env.overloaded_types))
 
 module _ (world : World) (types : List Path) (test : ℤ → ℤ → Bool) (pairs : List (Value × Value)) (o o' : Outcome) where
   abbrev both : Outcome
@@ -72,11 +95,6 @@ module _ (world : World) (types : List Path) (test : ℤ → ℤ → Bool) (pair
   right_never (Gives v) (Fails g) h k k' = k'
   right_never (Fails g) z' h k k' = k
 
-  both_long : (z z' : Outcome) → HasFound (Some TLong) z → HasFound (Some TLong) z' → IsSafe z → IsSafe z' → IsSafe (on_value z (λ v. on_value z' (compared types test pairs v)))
-  both_long (Gives v) (Gives w) h h' k k' = longs_compared types test pairs v w h h'
-  both_long (Gives v) (Fails g) h h' k k' = k'
-  both_long (Fails g) z' h h' k k' = k
-
   abbrev Gift : Decision → Type 0
   Gift = GiftIsSound world (o ∷ o' ∷ []) both
 
@@ -88,7 +106,12 @@ module _ (world : World) (types : List Path) (test : ℤ → ℤ → Bool) (pair
   gift_if true d d' f g = f refl
   gift_if false d d' f g = g
 
-  module _ (env : TypeEnv) (l l' : Option Loc) where
+  module _ (env : TypeEnv) (same_types : (p : Path) → list_any (path_eq p) types ≡ list_any (path_eq p) env.overloaded_types) (l l' : Option Loc) where
+    both_safe : (t : Ty) → is_comparable env t ≡ true → (z z' : Outcome) → HasFound (Some t) z → HasFound (Some t) z' → IsSafe z → IsSafe z' → IsSafe (on_value z (λ v. on_value z' (compared types test pairs v)))
+    both_safe t c (Gives v) (Gives w) h h' k k' = values_compared env types same_types test pairs t c v w h h'
+    both_safe t c (Gives v) (Fails g) h h' k k' = k'
+    both_safe t c (Fails g) z' h h' k k' = k
+
     compares_gift : (s t : Ty) → HasFound (Some s) o → HasFound (Some t) o' → Gift (compares env l l' s t)
     compares_gift s t h h' =
         gift_if (is_never s && is_never t) _ _ (λ e. tt)
@@ -96,14 +119,12 @@ module _ (world : World) (types : List Path) (test : ℤ → ℤ → Bool) (pair
         (λ e. gift_unless (beside_never env l' t) (λ k k'. left_never o (subst (λ z. HasFound (Some z) o) (never_is s e) h) k))
         (gift_if (is_never t) _ _
         (λ e. gift_unless (beside_never env l s) (λ k k'. right_never o o' (subst (λ z. HasFound (Some z) o') (never_is t e) h') k k'))
-        (gift_if (is_comparable s && ty_eq s t) _ _ (λ e. same s t h h' (comparable_is s (and_left (is_comparable s) (ty_eq s t) e)) (and_right (is_comparable s) (ty_eq s t) e)) tt)))
+        (gift_if (is_comparable env s && ty_eq s t) _ _ (λ e. one_type s t h h' (and_left (is_comparable env s) (ty_eq s t) e) (and_right (is_comparable env s) (ty_eq s t) e)) tt)))
       where
-        same : (s t : Ty) → HasFound (Some s) o → HasFound (Some t) o' → s ≡ TLong → ty_eq s t ≡ true → Gift (gives (TBool AnyBool) no_caps)
-        same s t h h' e f =
-            let q = same_as_long t (subst (λ z. ty_eq z t ≡ true) e f) in
-            let p = subst (λ z. HasFound (Some z) o) e h in
-            let p' = subst (λ z. HasFound (Some z) o') q h' in
-            silent_gift world (o ∷ o' ∷ []) both (TBool AnyBool) (λ k. both_long o o' p p' k.0 k.1.0)
+        one_type : (s t : Ty) → HasFound (Some s) o → HasFound (Some t) o' → is_comparable env s ≡ true → ty_eq s t ≡ true → Gift (gives (TBool AnyBool) no_caps)
+        one_type s t h h' c e =
+            let p' = subst (λ z. HasFound (Some z) o') (sym (ty_to s t e)) h' in
+            silent_gift world (o ∷ o' ∷ []) both (TBool AnyBool) (λ k. both_safe s c o o' h p' k.0 k.1.0)
 
     pub comparison_sound : (m : Written) (op : BinaryOp) → SoundForm world (comparison_form env m l l' op) (o ∷ o' ∷ []) both
     comparison_sound m op = record { typed = stays; succeeds = succeeds; failed = λ t h. h }

@@ -4,7 +4,7 @@ use Rattle.cedar_types.specs.declared.base.location.Loc.{Loc}
 use Rattle.cedar_types.specs.declared.base.types.ValidationMode.{ValidationMode}
 use Rattle.cedar_types.specs.declared.base.types.ValidationMode.TheVariants.{Strict}
 use Rattle.cedar_types.specs.Names.{Path}
-use Rattle.cedar_types.proofs.SameTypes.{ty_to}
+use Rattle.cedar_types.proofs.Comparisons.SameTypes.{ty_to}
 use Rattle.cedar_types.specs.Types.{Attrs, Ty, TNever, TBool, TLong, TString, TSet, TAnySet, TRecord, TEntity, TAnyEntity, TExtension}
 use Rattle.cedar_types.specs.View.{Written}
 use Rattle.cedar_types.specs.Bounds.{is_never, ty_eq, lub, apart_lub, bool_lub, set_lub, any_set_lub, entity_lub, any_entity_lub, record_lub, both_attrs, common_attrs}

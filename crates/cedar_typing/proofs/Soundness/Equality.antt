@@ -1,12 +1,12 @@
 -- `==`, `contains`, `containsAll` and `containsAny` do not go wrong.
 use Rattle.std.proofs.Common.{◌≡◌, Bool, true, false, true≢false, ◌||◌, not, List, [], ◌∷◌, Option, Some, None, if◌then◌else◌, refl, sym, ◌∙◌, ap, subst}
 use Rattle.std.specs.List.{list_any}
-use Rattle.cedar_types.specs.declared.base.operators.Var.{Var}
-use Rattle.cedar_types.specs.declared.base.operators.BinaryOp.{BinaryOp}
+use Rattle.cedar_types.specs.declared.base.expressions.operators.Var.{Var}
+use Rattle.cedar_types.specs.declared.base.expressions.operators.BinaryOp.{BinaryOp}
 use Rattle.cedar_types.specs.declared.base.errors.type_errors.LubContext.TheVariants.{Equality, Contains, ContainsAnyAll}
 use Rattle.cedar_types.specs.declared.base.types.BoolType.TheVariants.{AnyBool, False}
 use Rattle.cedar_types.specs.Names.{Path, Uid, path_eq, uid_eq}
-use Rattle.cedar_types.specs.Comparisons.{path_same, uid_same}
+use Rattle.cedar_types.specs.Lemmas.Comparisons.{path_same, uid_same}
 use Rattle.cedar_types.specs.Types.{Ty, TNever, TBool, TSet, TAnySet, TEntity}
 use Rattle.cedar_types.specs.Tree.{Lit, bool, long, string, entity, lit, var, binary}
 use Rattle.cedar_types.specs.TreeEq.{lit_eq}

@@ -1,8 +1,8 @@
 -- What has a type does not go wrong: the induction over expressions.
-use Rattle.std.proofs.Common.{◌≡◌, ℕ, ◌+◌, Bool, true, false, List, [], ◌∷◌, refl, ap, subst, sym}
+use Rattle.std.proofs.Common.{◌≡◌, ℕ, ◌+◌, Bool, true, false, List, [], ◌∷◌, None, refl, ap, subst, sym}
 use Rattle.std.specs.Prelude.{◌+ℤ◌, ◌-ℤ◌, ◌*ℤ◌, int_lt, int_le}
-use Rattle.cedar_types.specs.declared.base.operators.BinaryOp.{BinaryOp}
-use Rattle.cedar_types.specs.declared.base.operators.UnaryOp.{UnaryOp}
+use Rattle.cedar_types.specs.declared.base.expressions.operators.BinaryOp.{BinaryOp}
+use Rattle.cedar_types.specs.declared.base.expressions.operators.UnaryOp.{UnaryOp}
 use Rattle.cedar_types.specs.declared.base.types.BoolType.TheVariants.{True}
 use Rattle.cedar_types.specs.declared.base.types.ValidationMode.TheVariants.{Strict}
 use Rattle.cedar_types.specs.Names.{Path}
@@ -12,20 +12,23 @@ use Rattle.cedar_types.specs.View.{Written}
 use Rattle.cedar_types.specs.Schemas.{Schema, has_fault}
 use Rattle.cedar_types.specs.RequestEnvs.{is_partial}
 use Rattle.cedar_types.specs.Errors.{Finding}
+use Rattle.cedar_types.specs.ExtensionFunctions.{table_fault}
 use Rattle.cedar_types.specs.Stores.{ConformingStore}
 use Rattle.cedar_typing.specs.Capabilities.{Caps, no_caps}
-use Rattle.cedar_typing.specs.Evaluation.Conformance.{Fits, IsEnvironmentOf, SlotsBound, AllSlotsBound, FieldSlotsBound, has_external, AllHold}
+use Rattle.cedar_typing.specs.Eager.{Expectation, later_expectations}
+use Rattle.cedar_typing.specs.Evaluation.Conformance.{Fits, IsEnvironmentOf, SlotsBound, AllSlotsBound, FieldSlotsBound, has_external, KeepsTable, AllHold}
 use Rattle.cedar_typing.specs.Evaluation.Eval.{unary_outcome, eval}
 use Rattle.cedar_typing.specs.Evaluation.World.{World, Outcome}
 use Rattle.cedar_typing.specs.Judgments.{Judgment, within}
 use Rattle.cedar_typing.specs.Rules.{rules, rules_within, rules_all, rules_fields}
 use Rattle.cedar_typing.specs.Rules.Attributes.{has_form, get_form}
 use Rattle.cedar_typing.specs.Rules.Binary.{binary_form}
+use Rattle.cedar_typing.specs.Rules.Calls.{arguments, call_form}
 use Rattle.cedar_typing.specs.Rules.Chains.{chain_form}
-use Rattle.cedar_typing.specs.Rules.Leaves.{UnknownRecovery, unknown_fails, unknown_rules, UnbuiltRecovery, unbuilt, unbuilt_rules}
+use Rattle.cedar_typing.specs.Rules.Leaves.{UnknownRecovery, unknown_fails, unknown_rules}
 use Rattle.cedar_typing.specs.Rules.Unary.{unary_form, like_form, is_form}
+use Rattle.cedar_typing.specs.Setting.{Setting, table}
 use Rattle.cedar_typing.specs.Soundness.{HasFound, IsSoundAt, TypeSoundness}
-use Rattle.cedar_typing.specs.TypeEnv.{TypeEnv}
 use Rattle.cedar_typing.specs.TypedExpr.{Source, TypedTree, annotation, place_of}
 use Rattle.cedar_typing.proofs.Agreement.Operators.{unary_marked, binary_marked}
 use Rattle.cedar_typing.proofs.Bounds.Attributes.{Joins}
@@ -33,6 +36,7 @@ use Rattle.cedar_typing.proofs.SingleEntity.Induction.{single_entity_types}
 use Rattle.cedar_typing.proofs.SingleEntity.Rules.{SingleEntities}
 use Rattle.cedar_typing.proofs.SingleEntity.Types.{has_single_entities}
 use Rattle.cedar_typing.proofs.Soundness.Attributes.{has_sound, get_sound}
+use Rattle.cedar_typing.proofs.Soundness.Calls.{call_sounds}
 use Rattle.cedar_typing.proofs.Soundness.Chains.{chain_sound}
 use Rattle.cedar_typing.proofs.Soundness.Comparison.{comparison_sound}
 use Rattle.cedar_typing.proofs.Soundness.Conditional.{if_sounds}
@@ -50,15 +54,9 @@ use Rattle.cedar_typing.proofs.Soundness.Sets.{outcomes, set_sounds}
 use Rattle.cedar_typing.proofs.Soundness.Tags.{has_tag_sound, get_tag_sound}
 use Rattle.cedar_typing.proofs.Soundness.Unary.{not_sound}
 
--- ---- forms without a rule, and the limit
+-- ---- unknowns, and the limit
 
 module _ (world : World) (o : Outcome) where
-  unbuilt_recovered : (env : TypeEnv) (m : Written) (x : TypedTree) (es : List Finding) → UnbuiltRecovery env m.place x es → Sound world o false (annotation x) no_caps
-  unbuilt_recovered env m x es unbuilt = nothing_sound world o
-
-  unbuilt_sounds : (env : TypeEnv) (m : Written) → Sounds world o (unbuilt_rules env m.place)
-  unbuilt_sounds env m = record { derivations = λ t c x h. absurd h; recoveries = unbuilt_recovered env m; marks = λ t c x h. absurd h }
-
   unknown_recovered : (n : Path) (m : Written) (x : TypedTree) (es : List Finding) → UnknownRecovery n m x es → Sound world o false (annotation x) no_caps
   unknown_recovered n m x es unknown_fails = nothing_sound world o
 
@@ -94,89 +92,91 @@ unary_sound world o m UnaryOp.Not = not_sound world o m
 unary_sound world o m UnaryOp.Neg = negation_sound world m o
 unary_sound world o m UnaryOp.IsEmpty = is_empty_sound world m o
 
-module _ (env : TypeEnv) (world : World) (strict : env.mode ≡ Strict) (faults : has_fault env.schema ≡ false) (closed : has_external env.schema ≡ false) (environment : IsEnvironmentOf env.schema env.request_env) (fits : Fits env.request_env world.request world.slots) (store : ConformingStore env.schema world.store) where
-  partial : is_partial env.mode ≡ false
+module _ (s : Setting) (world : World) (strict : s.env.mode ≡ Strict) (faults : has_fault s.env.schema ≡ false) (table_faults : table_fault s.functions ≡ None) (closed : has_external s.env.schema ≡ false) (environment : IsEnvironmentOf s.env.schema s.env.request_env) (fits : Fits s.env.request_env world.request world.slots) (store : ConformingStore s.env.schema world.store) (keeps : KeepsTable (table s) world.functions) where
+  partial : is_partial s.env.mode ≡ false
   partial = ap is_partial strict
 
-  single_at : (e : Source) (prior : Caps) (d : ℕ) → SingleEntities (rules env e prior d)
-  single_at = single_entity_types env strict faults environment
+  single_at : (e : Source) (prior : Caps) (d : ℕ) → SingleEntities (rules s e prior d)
+  single_at = single_entity_types s strict faults table_faults environment
 
   -- what an operator on two operands promises
   abbrev OperatorIsSound : Written → Caps → Source → Source → BinaryOp → Type 0
-  OperatorIsSound m prior x y o = SoundForm world (binary_form env m prior x y o) (eval world x ∷ eval world y ∷ []) (eval world (binary m o x y))
+  OperatorIsSound m prior x y o = SoundForm world (binary_form s.env m prior x y o) (eval world x ∷ eval world y ∷ []) (eval world (binary m o x y))
 
   binary_sound : (m : Written) (prior : Caps) (x y : Source) (o : BinaryOp) → AllHold world prior → OperatorIsSound m prior x y o
   binary_sound m prior x y BinaryOp.Eq h =
-      equality_sound world env m x y (eval world x) (eval world y) (literal_outcome world env.request_env fits x) (literal_outcome world env.request_env fits y)
-  binary_sound m prior x y BinaryOp.Less h = comparison_sound world world.functions.overloaded_types int_lt world.functions.less (eval world x) (eval world y) env (place_of x) (place_of y) m BinaryOp.Less
-  binary_sound m prior x y BinaryOp.LessEq h = comparison_sound world world.functions.overloaded_types int_le world.functions.less_or_equal (eval world x) (eval world y) env (place_of x) (place_of y) m BinaryOp.LessEq
+      equality_sound world s.env m x y (eval world x) (eval world y) (literal_outcome world s.env.request_env fits x) (literal_outcome world s.env.request_env fits y)
+  binary_sound m prior x y BinaryOp.Less h = comparison_sound world world.functions.overloaded_types int_lt world.functions.less (eval world x) (eval world y) s.env keeps.overloaded_types (place_of x) (place_of y) m BinaryOp.Less
+  binary_sound m prior x y BinaryOp.LessEq h = comparison_sound world world.functions.overloaded_types int_le world.functions.less_or_equal (eval world x) (eval world y) s.env keeps.overloaded_types (place_of x) (place_of y) m BinaryOp.LessEq
   binary_sound m prior x y BinaryOp.Add h = operator_sound (λ a b. a +ℤ b) world m BinaryOp.Add (eval world x) (eval world y)
   binary_sound m prior x y BinaryOp.Sub h = operator_sound (λ a b. a -ℤ b) world m BinaryOp.Sub (eval world x) (eval world y)
   binary_sound m prior x y BinaryOp.Mul h = operator_sound (λ a b. a *ℤ b) world m BinaryOp.Mul (eval world x) (eval world y)
-  binary_sound m prior x y BinaryOp.In h = in_sound env world faults fits store m x y
-  binary_sound m prior x y BinaryOp.Contains h = contains_sound world env m (eval world x) (eval world y)
-  binary_sound m prior x y BinaryOp.ContainsAll h = contains_all_sound world env m (eval world x) (eval world y)
-  binary_sound m prior x y BinaryOp.ContainsAny h = contains_any_sound world env m (eval world x) (eval world y)
-  binary_sound m prior x y BinaryOp.GetTag h = get_tag_sound env world strict closed store m prior h x y
-  binary_sound m prior x y BinaryOp.HasTag h = has_tag_sound env world closed store m prior h x y
+  binary_sound m prior x y BinaryOp.In h = in_sound s.env world faults fits store m x y
+  binary_sound m prior x y BinaryOp.Contains h = contains_sound world s.env m (eval world x) (eval world y)
+  binary_sound m prior x y BinaryOp.ContainsAll h = contains_all_sound world s.env m (eval world x) (eval world y)
+  binary_sound m prior x y BinaryOp.ContainsAny h = contains_any_sound world s.env m (eval world x) (eval world y)
+  binary_sound m prior x y BinaryOp.GetTag h = get_tag_sound s.env world strict closed store m prior h x y
+  binary_sound m prior x y BinaryOp.HasTag h = has_tag_sound s.env world closed store m prior h x y
 
   mutual
-    sounds_within : (e : Source) → SlotsBound world.slots e → (prior : Caps) (d : ℕ) → AllHold world prior → Sounds world (eval world e) (rules_within env e prior d)
-    sounds_within (lit m x) b prior d h = leaf_sounds world m (λ k. lit k x) (λ k. refl) _ _ (literal_has env x)
-    sounds_within (var m x) b prior d h = leaf_sounds world m (λ k. var k x) (λ k. refl) _ _ (variable_has env.schema env.mode env.request_env env.policy world.request world.slots fits x)
-    sounds_within (slot m s) b prior d h = always_sounds world m (λ k. slot k s) (λ k. refl) _ _ (slot_sound world env.request_env world.request world.slots fits s b)
+    sounds_within : (e : Source) → SlotsBound world.slots e → (prior : Caps) (d : ℕ) → AllHold world prior → Sounds world (eval world e) (rules_within s e prior d)
+    sounds_within (lit m x) b prior d h = leaf_sounds world m (λ k. lit k x) (λ k. refl) _ _ (literal_has s.env x)
+    sounds_within (var m x) b prior d h = leaf_sounds world m (λ k. var k x) (λ k. refl) _ _ (variable_has s.env.schema s.env.mode s.env.request_env s.env.overloaded_types s.env.policy world.request world.slots fits x)
+    sounds_within (slot m x) b prior d h = always_sounds world m (λ k. slot k x) (λ k. refl) _ _ (slot_sound world s.env.request_env world.request world.slots fits x b)
     sounds_within (unknown m n) b prior d h = unknown_sounds world _ n m
     sounds_within (if_then_else m x y z) b prior d h =
-        if_sounds world env strict m (place_of x) _ _ _ _ _ _ prior h (within_sounds world _ (d + 1) _ (sounds_within x b.0 prior (d + 1) h)) (λ p k. within_sounds world _ (d + 1) _ (sounds_within y b.1 p (d + 1) k)) (within_sounds world _ (d + 1) _ (sounds_within z b.2 prior (d + 1) h))
+        if_sounds world s.env strict m (place_of x) _ _ _ _ _ _ prior h (within_sounds world _ (d + 1) _ (sounds_within x b.0 prior (d + 1) h)) (λ p k. within_sounds world _ (d + 1) _ (sounds_within y b.1 p (d + 1) k)) (within_sounds world _ (d + 1) _ (sounds_within z b.2 prior (d + 1) h))
     sounds_within (and m x y) b prior d h =
-        and_sounds world env m (place_of x) (place_of y) _ _ _ _ prior h (within_sounds world _ (d + 1) _ (sounds_within x b.0 prior (d + 1) h)) (λ p k. within_sounds world _ (d + 1) _ (sounds_within y b.1 p (d + 1) k))
+        and_sounds world s.env m (place_of x) (place_of y) _ _ _ _ prior h (within_sounds world _ (d + 1) _ (sounds_within x b.0 prior (d + 1) h)) (λ p k. within_sounds world _ (d + 1) _ (sounds_within y b.1 p (d + 1) k))
     sounds_within (or m x y) b prior d h =
-        or_sounds world env m (place_of x) (place_of y) _ _ _ _ prior (within_sounds world _ (d + 1) _ (sounds_within x b.0 prior (d + 1) h)) (within_sounds world _ (d + 1) _ (sounds_within y b.1 prior (d + 1) h))
+        or_sounds world s.env m (place_of x) (place_of y) _ _ _ _ prior (within_sounds world _ (d + 1) _ (sounds_within x b.0 prior (d + 1) h)) (within_sounds world _ (d + 1) _ (sounds_within y b.1 prior (d + 1) h))
     sounds_within (unary m o x) b prior d h =
-        one_operand_sounds world env (unary_form m o) (unary_marked m o) (place_of x) (eval world x) _ _ (unary_sound world (eval world x) m o) (within_sounds world _ (d + 1) _ (sounds_within x b prior (d + 1) h)) (single_at x prior (d + 1))
+        one_operand_sounds world s.env (unary_form m o) (unary_marked m o) (place_of x) (eval world x) _ _ (unary_sound world (eval world x) m o) (within_sounds world _ (d + 1) _ (sounds_within x b prior (d + 1) h)) (single_at x prior (d + 1))
     sounds_within (binary m o x y) b prior d h =
-        two_operands_sound world env (binary_form env m prior x y o) (binary_marked env m prior x y o) (place_of x) (place_of y) (eval world x) (eval world y) _ _ _ (binary_sound m prior x y o h)
+        two_operands_sound world s.env (binary_form s.env m prior x y o) (binary_marked s.env m prior x y o) (place_of x) (place_of y) (eval world x) (eval world y) _ _ _ (binary_sound m prior x y o h)
         (within_sounds world _ (d + 1) _ (sounds_within x b.0 prior (d + 1) h)) (single_at x prior (d + 1))
         (within_sounds world _ (d + 1) _ (sounds_within y b.1 prior (d + 1) h)) (single_at y prior (d + 1))
-    sounds_within (call m n ts) b prior d h = unbuilt_sounds world _ env m
+    sounds_within (call m n ts) b prior d h =
+        let f = call_form s.env s.functions m n (arguments ts) in
+        call_sounds s world keeps n m ts _ (all_sound f.goes_on f.expects ts b prior (d + 1) h)
     sounds_within (get_attr m x a) b prior d h =
-        one_operand_sounds world env (get_form env m prior x a) (λ k xs. refl) (place_of x) (eval world x) _ _ (get_sound env world store m prior h x a partial (single_joins env.schema)) (within_sounds world _ (d + 1) _ (sounds_within x b prior (d + 1) h)) (single_at x prior (d + 1))
+        one_operand_sounds world s.env (get_form s.env m prior x a) (λ k xs. refl) (place_of x) (eval world x) _ _ (get_sound s.env world store m prior h x a partial (single_joins s.env.schema)) (within_sounds world _ (d + 1) _ (sounds_within x b prior (d + 1) h)) (single_at x prior (d + 1))
     sounds_within (has_attr m x a) b prior d h =
-        one_operand_sounds world env (has_form env m prior x a) (λ k xs. refl) (place_of x) (eval world x) _ _ (has_sound env world store m prior h x a) (within_sounds world _ (d + 1) _ (sounds_within x b prior (d + 1) h)) (single_at x prior (d + 1))
+        one_operand_sounds world s.env (has_form s.env m prior x a) (λ k xs. refl) (place_of x) (eval world x) _ _ (has_sound s.env world store m prior h x a) (within_sounds world _ (d + 1) _ (sounds_within x b prior (d + 1) h)) (single_at x prior (d + 1))
     sounds_within (ext_has_attr m x a xs) b prior d h =
-        one_operand_sounds world env (chain_form env m prior x a xs) (λ k ys. refl) (place_of x) (eval world x) _ _ (chain_sound env world store m prior h x a xs faults partial (single_joins env.schema)) (within_sounds world _ (d + 1) _ (sounds_within x b prior (d + 1) h)) (single_at x prior (d + 1))
+        one_operand_sounds world s.env (chain_form s.env m prior x a xs) (λ k ys. refl) (place_of x) (eval world x) _ _ (chain_sound s.env world store m prior h x a xs faults partial (single_joins s.env.schema)) (within_sounds world _ (d + 1) _ (sounds_within x b prior (d + 1) h)) (single_at x prior (d + 1))
     sounds_within (like m x p) b prior d h =
-        one_operand_sounds world env (like_form m p) (λ k xs. refl) (place_of x) (eval world x) _ _ (like_sound world m p (eval world x)) (within_sounds world _ (d + 1) _ (sounds_within x b prior (d + 1) h)) (single_at x prior (d + 1))
+        one_operand_sounds world s.env (like_form m p) (λ k xs. refl) (place_of x) (eval world x) _ _ (like_sound world m p (eval world x)) (within_sounds world _ (d + 1) _ (sounds_within x b prior (d + 1) h)) (single_at x prior (d + 1))
     sounds_within (is_type m x n) b prior d h =
-        one_operand_sounds world env (is_form m n) (λ k xs. refl) (place_of x) (eval world x) _ _ (is_sound world m n (eval world x)) (within_sounds world _ (d + 1) _ (sounds_within x b prior (d + 1) h)) (single_at x prior (d + 1))
-    sounds_within (set_of m ts) b prior d h = set_sounds world env strict m ts _ (all_sound true ts b prior (d + 1) h)
+        one_operand_sounds world s.env (is_form m n) (λ k xs. refl) (place_of x) (eval world x) _ _ (is_sound world m n (eval world x)) (within_sounds world _ (d + 1) _ (sounds_within x b prior (d + 1) h)) (single_at x prior (d + 1))
+    sounds_within (set_of m ts) b prior d h = set_sounds world s.env strict m ts _ (all_sound true [] ts b prior (d + 1) h)
     sounds_within (record_of m fs) b prior d h = record_sounds world m fs _ (fields_sound fs b prior (d + 1) h)
 
     -- expressions one after another
-    all_sound : (goes_on : Bool) (ts : Trees Written) → AllSlotsBound world.slots ts → (prior : Caps) (d : ℕ) → AllHold world prior → SoundsAll world [] (outcomes world ts) (rules_all env goes_on ts prior d)
-    all_sound goes_on no_trees b prior d h = none_sounds world []
-    all_sound goes_on (tree e ts) b prior d h =
-        more_sounds world env goes_on [] (place_of e) (eval world e) _ (within_sounds world _ d _ (sounds_within e b.0 prior d h)) (single_at e prior d) (outcomes world ts) _ (all_sound goes_on ts b.1 prior d h)
+    all_sound : (goes_on : Bool) (qs : List Expectation) (ts : Trees Written) → AllSlotsBound world.slots ts → (prior : Caps) (d : ℕ) → AllHold world prior → SoundsAll world qs (outcomes world ts) (rules_all s goes_on qs ts prior d)
+    all_sound goes_on qs no_trees b prior d h = none_sounds world qs
+    all_sound goes_on qs (tree e ts) b prior d h =
+        more_sounds world s.env goes_on qs (place_of e) (eval world e) _ (within_sounds world _ d _ (sounds_within e b.0 prior d h)) (single_at e prior d) (outcomes world ts) _ (all_sound goes_on (later_expectations qs) ts b.1 prior d h)
 
     -- the values of fields
-    fields_sound : (fs : Fields Written) → FieldSlotsBound world.slots fs → (prior : Caps) (d : ℕ) → AllHold world prior → SoundsAll world [] (field_outcomes world fs) (rules_fields env fs prior d)
+    fields_sound : (fs : Fields Written) → FieldSlotsBound world.slots fs → (prior : Caps) (d : ℕ) → AllHold world prior → SoundsAll world [] (field_outcomes world fs) (rules_fields s fs prior d)
     fields_sound no_fields b prior d h = none_sounds world []
     fields_sound (field k e fs) b prior d h =
-        more_sounds world env false [] (place_of e) (eval world e) _ (within_sounds world _ d _ (sounds_within e b.0 prior d h)) (single_at e prior d) (field_outcomes world fs) _ (fields_sound fs b.1 prior d h)
+        more_sounds world s.env false [] (place_of e) (eval world e) _ (within_sounds world _ d _ (sounds_within e b.0 prior d h)) (single_at e prior d) (field_outcomes world fs) _ (fields_sound fs b.1 prior d h)
 
-  pub sounds : (e : Source) → SlotsBound world.slots e → (prior : Caps) (d : ℕ) → AllHold world prior → Sounds world (eval world e) (rules env e prior d)
+  pub sounds : (e : Source) → SlotsBound world.slots e → (prior : Caps) (d : ℕ) → AllHold world prior → Sounds world (eval world e) (rules s e prior d)
   sounds e b prior d h = within_sounds world _ d _ (sounds_within e b prior d h)
 
-  sound_at : (e : Source) → SlotsBound world.slots e → (prior : Caps) (d : ℕ) → AllHold world prior → IsSoundAt env world e prior d
+  sound_at : (e : Source) → SlotsBound world.slots e → (prior : Caps) (d : ℕ) → AllHold world prior → IsSoundAt s world e prior d
   sound_at e b prior d h =
-      let s = sounds e b prior d h in
+      let r = sounds e b prior d h in
       record {
-        typed = λ t c x r. subst (λ a. HasFound a (eval world e)) (sym (s.marks t c x r)) (s.derivations t c x r).typed;
-        recovered = λ x es r. (s.recoveries x es r).typed;
-        safe = λ t c x r. (s.derivations t c x r).safe refl;
-        caps_hold_if_true = λ t c x r. (s.derivations t c x r).caps_hold_if_true;
-        caps_hold_at_true = λ c x r. (s.derivations (TBool True) c x r).caps_hold_at_true tt;
+        typed = λ t c x k. subst (λ a. HasFound a (eval world e)) (sym (r.marks t c x k)) (r.derivations t c x k).typed;
+        recovered = λ x es k. (r.recoveries x es k).typed;
+        safe = λ t c x k. (r.derivations t c x k).safe refl;
+        caps_hold_if_true = λ t c x k. (r.derivations t c x k).caps_hold_if_true;
+        caps_hold_at_true = λ c x k. (r.derivations (TBool True) c x k).caps_hold_at_true tt;
       }
 
 pub type_soundness : TypeSoundness
-type_soundness env t world f r i e b prior d h = sound_at env world r.mode f r.closed r.environment i.environment i.store e b prior d h
+type_soundness s world f t r i e b prior d h = sound_at s world r.mode f t r.closed r.environment i.environment i.store i.functions e b prior d h

@@ -1,11 +1,11 @@
 -- Expressions without parts do not go wrong.
 use Rattle.std.proofs.Common.{◌≡◌, Bool, true, false, List, [], ◌∷◌, Option, Some, None, if◌then◌else◌, refl, sym, ap, subst}
 use Rattle.std.specs.Prelude.{IsTrue}
-use Rattle.cedar_types.specs.declared.base.operators.Var.{Var}
-use Rattle.cedar_types.specs.declared.base.slots.SlotId.{SlotId}
+use Rattle.cedar_types.specs.declared.base.expressions.operators.Var.{Var}
+use Rattle.cedar_types.specs.declared.base.names.slots.SlotId.{SlotId}
 use Rattle.cedar_types.specs.declared.base.types.ValidationMode.{ValidationMode}
-use Rattle.cedar_types.specs.Names.{Path, Uid, path_eq}
-use Rattle.cedar_types.specs.Comparisons.{path_same}
+use Rattle.cedar_types.specs.Names.{Text, Path, Uid, path_eq}
+use Rattle.cedar_types.specs.Lemmas.Comparisons.{path_same}
 use Rattle.cedar_types.specs.Types.{Ty, TEntity}
 use Rattle.cedar_types.specs.Tree.{Lit, bool, long, string, entity}
 use Rattle.cedar_types.specs.View.{Written}
@@ -61,12 +61,12 @@ variable_in s env Var.Action = action_ty s env
 variable_in s env Var.Resource = Some (resource_ty env)
 variable_in s env Var.Context = Some (context_ty env)
 
-pub variable_has : (s : Schema) (m : ValidationMode) (env : Env) (p : List _) (r : Request) (b : Slots) → Fits env r b → (x : Var) → HasFound (variable_type (record { schema = s; mode = m; request_env = env; policy = p }) x) (Gives (variable_value r x))
-variable_has s m (Declared d ps rs) p r b f Var.Principal = own_type d.principal r.principal f.0.principal
-variable_has s m (Declared d ps rs) p r b f Var.Action = literal_type_has s d.action r.action f.0.action
-variable_has s m (Declared d ps rs) p r b f Var.Resource = own_type d.resource r.resource f.0.resource
-variable_has s m (Declared d ps rs) p r b f Var.Context = f.0.context
-variable_has s m Undeclared p r b f x = absurd f
+pub variable_has : (s : Schema) (m : ValidationMode) (env : Env) (ts : List Path) (p : Text) (r : Request) (b : Slots) → Fits env r b → (x : Var) → HasFound (variable_type (record { schema = s; mode = m; request_env = env; overloaded_types = ts; policy = p }) x) (Gives (variable_value r x))
+variable_has s m (Declared d ps rs) ts p r b f Var.Principal = own_type d.principal r.principal f.0.principal
+variable_has s m (Declared d ps rs) ts p r b f Var.Action = literal_type_has s d.action r.action f.0.action
+variable_has s m (Declared d ps rs) ts p r b f Var.Resource = own_type d.resource r.resource f.0.resource
+variable_has s m (Declared d ps rs) ts p r b f Var.Context = f.0.context
+variable_has s m Undeclared ts p r b f x = absurd f
 
 -- ---- slots
 

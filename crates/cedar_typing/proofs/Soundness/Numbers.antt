@@ -1,8 +1,8 @@
 -- Negation, `+`, `-` and `*` do not go wrong.
 use Rattle.std.proofs.Common.{◌≡◌, Bool, true, false, ◌&&◌, [], ◌∷◌, Some, if◌then◌else◌, ℤ, sym, true≢false}
 use Rattle.std.specs.Prelude.{neg_ℤ, int_le, int_lt}
-use Rattle.cedar_types.specs.declared.base.operators.BinaryOp.{BinaryOp}
-use Rattle.cedar_types.specs.declared.base.operators.UnaryOp.{UnaryOp}
+use Rattle.cedar_types.specs.declared.base.expressions.operators.BinaryOp.{BinaryOp}
+use Rattle.cedar_types.specs.declared.base.expressions.operators.UnaryOp.{UnaryOp}
 use Rattle.cedar_types.specs.Types.{Ty, TNever, TLong}
 use Rattle.cedar_types.specs.Tree.{unary, binary}
 use Rattle.cedar_types.specs.View.{Written}

@@ -2,17 +2,17 @@
 use Rattle.std.proofs.Common.{◌≡◌, true, false, Option, Some, None, refl, subst}
 use Rattle.cedar_types.specs.declared.base.types.BoolType.TheVariants.{False}
 use Rattle.cedar_types.specs.Types.{Ty, TBool}
+use Rattle.cedar_types.specs.ExtensionFunctions.{table_fault}
 use Rattle.cedar_types.specs.Schemas.{has_fault}
 use Rattle.cedar_types.specs.Values.{Value, VBool, HasType}
 use Rattle.cedar_typing.specs.Capabilities.{no_caps}
-use Rattle.cedar_typing.specs.Evaluation.Conformance.{Table}
 use Rattle.cedar_typing.specs.Evaluation.Eval.{eval}
 use Rattle.cedar_typing.specs.Evaluation.World.{World, Outcome, Gives, Fails}
 use Rattle.cedar_typing.specs.PolicyCheck.{Verdict, PolicyChecks, check_true, check_false, check_refused_false, check_refused, check_cut}
 use Rattle.cedar_typing.specs.Rules.{rules}
+use Rattle.cedar_typing.specs.Setting.{Setting}
 use Rattle.cedar_typing.specs.SoundPolicyCheck.{IsBoolean, IsFalse, Promises, IsSoundPolicyCheck}
 use Rattle.cedar_typing.specs.Soundness.{OnValue, HasFound}
-use Rattle.cedar_typing.specs.TypeEnv.{TypeEnv}
 use Rattle.cedar_typing.specs.TypeTests.{accepts, bool_types, is_false, annotation_passes}
 use Rattle.cedar_typing.specs.TypedExpr.{Source, annotation, place_of}
 use Rattle.cedar_typing.proofs.Soundness.Capabilities.{hold_none}
@@ -54,15 +54,15 @@ false_found : (x : Option Ty) (o : Outcome) → annotation_passes is_false x ≡
 false_found None o n h = cc
 false_found (Some t) o n h = false_value o (subst (λ u. OnValue (HasType u) o) (false_type t n) h)
 
-module _ (env : TypeEnv) (e : Source) (world : World) (s : Sounds world (eval world e) (rules env e no_caps 1)) where
-  promised : (v : Verdict) → PolicyChecks env e v → Promises v (eval world e)
+module _ (s : Setting) (e : Source) (world : World) (sound : Sounds world (eval world e) (rules s e no_caps 1)) where
+  promised : (v : Verdict) → PolicyChecks s e v → Promises v (eval world e)
   promised v (check_true t c d a n) =
-      let r = s.derivations t c _ d in
+      let r = sound.derivations t c _ d in
       (r.safe refl, boolean t a (eval world e) r.typed)
-  promised v (check_false c d) = false_value (eval world e) (s.derivations _ c _ d).typed
-  promised v (check_refused_false {e' = x} {es = es} (c, o) n p) = false_found (annotation x) (eval world e) n (operand_sound world (eval world e) _ s env bool_types (place_of e) false c x es o).typed
+  promised v (check_false c d) = false_value (eval world e) (sound.derivations _ c _ d).typed
+  promised v (check_refused_false {e' = x} {es = es} (c, o) n p) = false_found (annotation x) (eval world e) n (operand_sound world (eval world e) _ sound s.env bool_types (place_of e) false c x es o).typed
   promised v (check_refused o n p) = tt
   promised v (check_cut c p) = tt
 
-pub check_sound : (env : TypeEnv) (t : Table) (e : Source) (v : Verdict) → has_fault env.schema ≡ false → PolicyChecks env e v → IsSoundPolicyCheck env t e v
-check_sound env t e v f c r world i b = promised env e world (sounds env world r.mode f r.closed r.environment i.environment i.store e b no_caps 1 (hold_none world)) v c
+pub check_sound : (s : Setting) (e : Source) (v : Verdict) → has_fault s.env.schema ≡ false → table_fault s.functions ≡ None → PolicyChecks s e v → IsSoundPolicyCheck s e v
+check_sound s e v f t c r world i b = promised s e world (sounds s world r.mode f t r.closed r.environment i.environment i.store i.functions e b no_caps 1 (hold_none world)) v c

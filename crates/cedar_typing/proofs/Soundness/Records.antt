@@ -8,7 +8,7 @@ use Rattle.std.specs.declared.cmp.Ordering.{Ordering}
 use Rattle.std.specs.declared.cmp.Ordering.TheVariants.{Less, Equal, Greater}
 use Rattle.cedar_types.specs.Names.{Text, text_cmp, text_eq}
 use Rattle.cedar_types.specs.Ascending.{texts_ascending}
-use Rattle.cedar_types.specs.Comparisons.{and_left, and_right, text_same}
+use Rattle.cedar_types.specs.Lemmas.Comparisons.{and_left, and_right, text_same}
 use Rattle.cedar_types.specs.Types.{Ty, TRecord, attr_names}
 use Rattle.cedar_types.specs.Tree.{record_of, Fields, no_fields, field}
 use Rattle.cedar_types.specs.View.{Written}

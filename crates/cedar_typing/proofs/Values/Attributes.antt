@@ -3,7 +3,7 @@ use Rattle.std.proofs.Common.{◌≡◌, Bool, true, false, ◌||◌, not, List,
 use Rattle.std.specs.Prelude.{IsTrue}
 use Rattle.std.specs.List.{list_any}
 use Rattle.cedar_types.specs.Names.{Text, Path, Uid, path_eq}
-use Rattle.cedar_types.specs.Comparisons.{path_same}
+use Rattle.cedar_types.specs.Lemmas.Comparisons.{path_same}
 use Rattle.cedar_types.specs.Types.{Ty, TNever, TBool, TLong, TString, TSet, TAnySet, TRecord, TEntity, TAnyEntity, TExtension, Attrs, attr_names}
 use Rattle.cedar_types.specs.Bounds.{find_attr}
 use Rattle.cedar_types.specs.Schemas.{TypeKind, StandardKind, EnumKind, ExternalKind, DeclaredType, Schema, is_among, is_external, knows_type, type_named}

@@ -3,7 +3,7 @@ use Rattle.std.proofs.Common.{◌≡◌, refl, sym, ap, ◌∙◌, subst, ◌⊎
 use Rattle.std.specs.Prelude.{if◌then◌else◌}
 use Rattle.std.specs.List.{list_all}
 use Rattle.cedar_types.specs.Names.{Text, text_eq}
-use Rattle.cedar_types.specs.Comparisons.{and_left, and_right, and_both, text_same}
+use Rattle.cedar_types.specs.Lemmas.Comparisons.{and_left, and_right, and_both, text_same}
 use Rattle.cedar_types.specs.Values.{Value, VSet, VRecord, Values, no_values, more_values, Entries, no_entries, more_entries, entry_at, entry_keys, AllValues, AllEntries}
 use Rattle.cedar_typing.specs.Evaluation.Equality.{all_values, any_value, passes_any, test_at, agree, agree_at, same_value, members_tests, entries_tests}
 use Rattle.cedar_typing.proofs.Basics.{or_right}

@@ -2,7 +2,7 @@
 use Rattle.std.proofs.Common.{◌≡◌, refl, sym, ap, subst, Bool, true, false, Option, Some, None, true≢false}
 use Rattle.std.specs.Prelude.{ℤ}
 use Rattle.cedar_types.specs.Names.{Text, Path, Uid, text_eq, path_eq}
-use Rattle.cedar_types.specs.Comparisons.{and_left, and_right, and_both, text_same, path_same, uid_same, int_same, bool_same}
+use Rattle.cedar_types.specs.Lemmas.Comparisons.{and_left, and_right, and_both, text_same, path_same, uid_same, int_same, bool_same}
 use Rattle.cedar_types.specs.Values.{Value, VBool, VLong, VString, VEntity, VSet, VRecord, VExtension, Values, no_values, more_values, Entries, no_entries, more_entries, entry_at, AllValues, AllEntries}
 use Rattle.cedar_typing.specs.Evaluation.Equality.{is_bool, is_long, is_string, is_entity, is_extension, same_value, EqualityIsAnEquivalence, EqualityHasNoOrder}
 use Rattle.cedar_typing.proofs.Values.Equality.{member_has, sets_to, sets_from, agree_values, records_to, records_from, OnSome, entry_has}

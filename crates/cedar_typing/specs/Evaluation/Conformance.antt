@@ -1,16 +1,15 @@
 -- Requests and interpretations that conform, and what it is that a capability holds.
-use Rattle.std.specs.Prelude.{◌≡◌, Bool, not, ◌||◌, List, [], ◌∷◌, ◌⊎◌, Option, Some, None, is_some, map, IsTrue}
+use Rattle.std.specs.Prelude.{◌≡◌, Bool, not, ◌||◌, List, [], ◌∷◌, ◌⊎◌, Option, Some, None, is_some, IsTrue}
 use Rattle.std.specs.List.{list_any}
-use Rattle.cedar_types.specs.declared.base.slots.SlotId.{SlotId}
-use Rattle.cedar_types.specs.declared.base.extensions.ExtensionSchemas.{ExtensionSchemas}
-use Rattle.cedar_types.specs.Names.{Text, Path, Uid, path_of, path_eq}
-use Rattle.cedar_types.specs.Types.{Ty, ty_of}
+use Rattle.cedar_types.specs.declared.base.names.slots.SlotId.{SlotId}
+use Rattle.cedar_types.specs.Names.{Text, Path, Uid, path_eq}
 use Rattle.cedar_types.specs.Tree.{Tree, lit, var, slot, unknown, if_then_else, and, or, unary, binary, call, get_attr, has_attr, ext_has_attr, like, is_type, set_of, record_of, Trees, no_trees, tree, Fields, no_fields, field}
 use Rattle.cedar_types.specs.Capability.{Cap, attribute, tag}
 use Rattle.cedar_types.specs.Schemas.{DeclaredType, DeclaredAction, Schema, is_external_kind}
 use Rattle.cedar_types.specs.Environments.{DeclaredEnv, environments_of}
 use Rattle.cedar_types.specs.RequestEnvs.{Env, Declared, Undeclared}
-use Rattle.cedar_types.specs.Extensions.{overloaded_types_of}
+use Rattle.cedar_types.specs.ExtensionFunctions.{ExtensionFunction, function_named}
+use Rattle.cedar_types.specs.Extensions.{ExtensionTable}
 use Rattle.cedar_types.specs.Values.{Value, VString, VRecord, Values, HasType}
 use Rattle.cedar_types.specs.Stores.{Store}
 use Rattle.cedar_typing.specs.Capabilities.{Caps}
@@ -94,18 +93,10 @@ abbrev mutual
 abbrev pub has_external : Schema → Bool
 has_external s = list_any (λ (t : DeclaredType). is_external_kind t.kind) s.types || list_any (λ (a : DeclaredAction). not (is_some a.applies_to)) s.actions
 
--- the functions of a table: the name and the type of the answer of each, and the types that `<` and `<=` compare
-pub record Table : Type 0 where
-  pub returns : List (Path × Ty)
-  pub overloaded_types : List Path
-
-abbrev pub table_of : {V : Type 0} {O : V → Type 0} → ExtensionSchemas V O → Table
-table_of s = record { returns = map (λ f. (path_of f.name, ty_of f.return_type)) s.functions.items; overloaded_types = overloaded_types_of s }
-
--- whatever the arguments, a value that a function of the table gives is of its declared type; and the same types are
--- compared by `<` and `<=`
-pub record KeepsTable (t : Table) (i : Interpretation) : Type 0 where
-  pub returns : (f : Path) (u : Ty) → IsOneOf (f, u) t.returns → (vs : Values) (v : Value) → call_value i.calls f vs ≡ Some v → HasType u v
+-- whatever the arguments, a value that a function of the table gives is of its return type; and the same types are compared
+-- by `<` and `<=`
+pub record KeepsTable (t : ExtensionTable) (i : Interpretation) : Type 0 where
+  pub returns : (n : Path) (f : ExtensionFunction) → function_named n t.functions ≡ Some f → (vs : Values) (v : Value) → call_value i.calls n vs ≡ Some v → HasType f.return_type v
   pub overloaded_types : (p : Path) → list_any (path_eq p) i.overloaded_types ≡ list_any (path_eq p) t.overloaded_types
 
 -- ---- capabilities

@@ -1,10 +1,10 @@
 -- Evaluation of expressions. It knows nothing of types, of typing, and of how deep an expression is nested.
 use Rattle.std.specs.Prelude.{Bool, true, false, ◌&&◌, ◌||◌, List, [], ◌∷◌, Option, Some, None, is_some, ℤ, pos, neg_ℤ, ◌+ℤ◌, ◌-ℤ◌, ◌*ℤ◌, int_lt, int_le, ◌^◌, nat_eq, encode_utf8, if◌then◌else◌}
 use Rattle.std.specs.List.{list_any}
-use Rattle.cedar_types.specs.declared.base.operators.Var.{Var}
-use Rattle.cedar_types.specs.declared.base.operators.UnaryOp.{UnaryOp}
-use Rattle.cedar_types.specs.declared.base.operators.BinaryOp.{BinaryOp}
-use Rattle.cedar_types.specs.declared.base.patterns.PatternElem.{PatternElem}
+use Rattle.cedar_types.specs.declared.base.expressions.operators.Var.{Var}
+use Rattle.cedar_types.specs.declared.base.expressions.operators.UnaryOp.{UnaryOp}
+use Rattle.cedar_types.specs.declared.base.expressions.operators.BinaryOp.{BinaryOp}
+use Rattle.cedar_types.specs.declared.base.expressions.patterns.PatternElem.{PatternElem}
 use Rattle.cedar_types.specs.Names.{Text, Path, Uid, path_eq, uid_eq}
 use Rattle.cedar_types.specs.Tree.{Lit, bool, long, string, entity, Tree, lit, var, slot, unknown, if_then_else, and, or, unary, binary, call, get_attr, has_attr, ext_has_attr, like, is_type, set_of, record_of, Trees, no_trees, tree, Fields, no_fields, field}
 use Rattle.cedar_types.specs.Schemas.{uid_is_among}

@@ -2,7 +2,7 @@
 -- evaluation comes to.
 use Rattle.std.specs.Prelude.{Bool, ◌&&◌, List, [], ◌∷◌, Option, Some, None, if◌then◌else◌}
 use Rattle.std.specs.List.{list_any}
-use Rattle.cedar_types.specs.declared.base.slots.SlotId.{SlotId}
+use Rattle.cedar_types.specs.declared.base.names.slots.SlotId.{SlotId}
 use Rattle.cedar_types.specs.Names.{Path, Uid, path_eq}
 use Rattle.cedar_types.specs.Values.{Value, Values, Entries}
 use Rattle.cedar_types.specs.Stores.{Store}

@@ -9,7 +9,7 @@ use Rattle.cedar_types.specs.Tree.{Shape}
 use Rattle.cedar_types.specs.Values.{Value, VBool}
 use Rattle.cedar_typing.specs.Evaluation.Eval.{eval}
 use Rattle.cedar_typing.specs.Evaluation.World.{Failure, Gives, Fails}
-use Rattle.cedar_typing.specs.Examples.World.{greeting}
+use Rattle.cedar_typing.specs.Examples.Greeting.{greeting}
 
 -- e evaluates to v
 abbrev pub Yields : Shape → Value → Type 0

@@ -2,13 +2,13 @@
 -- where it is typed, its nodes stand at the places 1, 2 and so on, in the order in which they are
 -- written.
 use Rattle.std.specs.Prelude.{ℕ, ◌+◌, ℤ, pos, neg_ℤ, true, false, List, [], ◌∷◌, Some, codes}
-use Rattle.cedar_types.specs.declared.base.operators.Var.{Var}
-use Rattle.cedar_types.specs.declared.base.operators.BinaryOp.{BinaryOp}
-use Rattle.cedar_types.specs.declared.base.patterns.PatternElem.{PatternElem}
+use Rattle.cedar_types.specs.declared.base.expressions.operators.Var.{Var}
+use Rattle.cedar_types.specs.declared.base.expressions.operators.BinaryOp.{BinaryOp}
+use Rattle.cedar_types.specs.declared.base.expressions.patterns.PatternElem.{PatternElem}
 use Rattle.cedar_types.specs.Names.{Text, Path, Uid}
 use Rattle.cedar_types.specs.Tree.{bool, long, string, entity, Shape, lit, var, slot, unknown, if_then_else, and, or, unary, binary, call, get_attr, has_attr, ext_has_attr, like, is_type, set_of, record_of, Trees, no_trees, tree, Fields, no_fields, field}
 use Rattle.cedar_types.specs.View.{Written, no_name}
-use Rattle.cedar_typing.specs.Examples.World.{decimal, gone}
+use Rattle.cedar_typing.specs.Examples.World.{decimal, duration, gone}
 use Rattle.cedar_typing.specs.TypedExpr.{Source}
 
 -- ---- literals and variables
@@ -147,9 +147,32 @@ has_tag a b = binary tt BinaryOp.HasTag a b
 abbrev pub get_tag : Shape → Shape → Shape
 get_tag a b = binary tt BinaryOp.GetTag a b
 
--- `decimal(a)`
+-- `f()`, `f(a)`, `f(a, b)`, `f(a, b, c)`
+abbrev pub call0 : Path → Shape
+call0 f = call tt f no_trees
+
+abbrev pub call1 : Path → Shape → Shape
+call1 f a = call tt f (tree a no_trees)
+
+abbrev pub call2 : Path → Shape → Shape → Shape
+call2 f a b = call tt f (tree a (tree b no_trees))
+
+abbrev pub call3 : Path → Shape → Shape → Shape → Shape
+call3 f a b c = call tt f (tree a (tree b (tree c no_trees)))
+
+-- `decimal(a)`; `decimal("1.0")`, `decimal("2.0")`
 abbrev pub to_decimal : Shape → Shape
-to_decimal a = call tt decimal (tree a no_trees)
+to_decimal a = call1 decimal a
+
+abbrev pub decimal_one : Shape
+decimal_one = to_decimal (text (codes "1.0"))
+
+abbrev pub decimal_two : Shape
+decimal_two = to_decimal (text (codes "2.0"))
+
+-- `duration(decimal("1.0"), 1)`
+abbrev pub a_duration : Shape
+a_duration = call2 duration decimal_one one
 
 -- `a like p`, `a is T`
 abbrev pub matching : Shape → List PatternElem → Shape

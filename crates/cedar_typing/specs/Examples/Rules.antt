@@ -12,10 +12,11 @@ pub mod Membership
 pub mod Tags
 pub mod Chains
 pub mod Collections
+pub mod Calls
 pub mod Nesting
 pub mod Check
 use Rattle.std.specs.Prelude.{◌≡◌, ℕ, pos, true, false, List, [], ◌∷◌, Option, codes}
-use Rattle.cedar_types.specs.declared.base.operators.Var.{Var}
+use Rattle.cedar_types.specs.declared.base.expressions.operators.Var.{Var}
 use Rattle.cedar_types.specs.declared.base.types.BoolType.TheVariants.{AnyBool, True, False}
 use Rattle.cedar_types.specs.declared.base.types.ValidationMode.TheVariants.{Strict}
 use Rattle.cedar_types.specs.Names.{Text}
@@ -25,56 +26,57 @@ use Rattle.cedar_types.specs.Capability.{attribute}
 use Rattle.cedar_types.specs.Errors.{Finding, Fault, unexpected_type, unsafe_attribute_access, unsafe_optional_attribute_access}
 use Rattle.cedar_typing.specs.Capabilities.{Caps, no_caps, single}
 use Rattle.cedar_typing.specs.Examples.Expressions.{principal, context, node, numbered}
-use Rattle.cedar_typing.specs.Examples.World.{a_user, a_context, sample}
+use Rattle.cedar_typing.specs.Examples.World.{a_user, a_context, sample_env, sample}
 use Rattle.cedar_typing.specs.PolicyCheck.{Verdict, PolicyChecks}
-use Rattle.cedar_typing.specs.Rules.{rules, Derives, Recovers, Cuts}
-use Rattle.cedar_typing.specs.TypeEnv.{TypeEnv, finding}
+use Rattle.cedar_typing.specs.Rules.{Derives, Recovers, Cuts}
+use Rattle.cedar_typing.specs.Setting.{Setting}
+use Rattle.cedar_typing.specs.TypeEnv.{finding}
 use Rattle.cedar_typing.specs.TypedExpr.{TypedTree, Mark, typed, untyped, annotation}
 
 -- ---- what an example says
 
 -- where p is known, e has that type, hands on c, and is typed as x
-pub record TypesAsIn (env : TypeEnv) (p : Caps) (e : Shape) (t : Ty) (c : Caps) (x : TypedTree) :
+pub record TypesAsIn (s : Setting) (p : Caps) (e : Shape) (t : Ty) (c : Caps) (x : TypedTree) :
     Type 0 where
-  pub has : Derives env (numbered e) p 1 t c x
+  pub has : Derives s (numbered e) p 1 t c x
 
 -- the same in Strict, where nothing is known
 abbrev pub TypesAs : Shape → Ty → Caps → TypedTree → Type 0
 TypesAs = TypesAsIn (sample Strict) no_caps
 
 -- e has no type by the rules, and is typed as x all the same, with these errors
-pub record FailsWithIn (env : TypeEnv) (e : Shape) (x : TypedTree) (es : List Finding) :
+pub record FailsWithIn (s : Setting) (e : Shape) (x : TypedTree) (es : List Finding) :
     Type 0 where
-  pub recovers : Recovers env (numbered e) no_caps 1 x es
+  pub recovers : Recovers s (numbered e) no_caps 1 x es
 
 -- the same in Strict
 abbrev pub FailsWith : Shape → TypedTree → List Finding → Type 0
 FailsWith = FailsWithIn (sample Strict)
 
 -- e has that type, and hands on nothing
-pub record IsTypedIn (env : TypeEnv) (e : Shape) (t : Ty) : Type 0 where
+pub record IsTypedIn (s : Setting) (e : Shape) (t : Ty) : Type 0 where
   pub copy : TypedTree
-  pub has : Derives env (numbered e) no_caps 1 t no_caps copy
+  pub has : Derives s (numbered e) no_caps 1 t no_caps copy
 
 abbrev pub IsTyped : Shape → Ty → Type 0
 IsTyped = IsTypedIn (sample Strict)
 
 -- e fails with these errors, and this type stays, if one does
-pub record IsRefusedIn (env : TypeEnv) (e : Shape) (t : Option Ty) (es : List Finding) :
+pub record IsRefusedIn (s : Setting) (e : Shape) (t : Option Ty) (es : List Finding) :
     Type 0 where
   pub copy : TypedTree
   pub stays : annotation copy ≡ t
-  pub recovers : Recovers env (numbered e) no_caps 1 copy es
+  pub recovers : Recovers s (numbered e) no_caps 1 copy es
 
 abbrev pub IsRefused : Shape → Option Ty → List Finding → Type 0
 IsRefused = IsRefusedIn (sample Strict)
 
 -- the same where p is known
-pub record IsRefusedKnowingIn (env : TypeEnv) (p : Caps) (e : Shape) (t : Option Ty)
+pub record IsRefusedKnowingIn (s : Setting) (p : Caps) (e : Shape) (t : Option Ty)
     (es : List Finding) : Type 0 where
   pub copy : TypedTree
   pub stays : annotation copy ≡ t
-  pub recovers : Recovers env (numbered e) p 1 copy es
+  pub recovers : Recovers s (numbered e) p 1 copy es
 
 abbrev pub IsRefusedKnowing : Caps → Shape → Option Ty → List Finding → Type 0
 IsRefusedKnowing = IsRefusedKnowingIn (sample Strict)
@@ -180,7 +182,7 @@ bool_type = TBool AnyBool
 -- ---- errors
 
 abbrev pub error_at : ℕ → Fault → Finding
-error_at n f = finding (sample Strict) (node n).place f
+error_at n f = finding (sample_env Strict) (node n).place f
 
 -- a Boolean is wanted, and any record or any entity, and a long is there
 abbrev pub not_a_bool : ℕ → Finding

@@ -1,19 +1,17 @@
--- The world of the computed examples: a schema, what expressions are typed in, and what they are
--- evaluated in.
-use Rattle.std.specs.Prelude.{ℤ, pos, true, false, List, [], ◌∷◌, Some, None, codes}
-use Rattle.cedar_types.specs.declared.base.slots.SlotId.{SlotId}
+-- What the expressions of the computed examples are typed in: a schema and extension functions.
+use Rattle.std.specs.Prelude.{true, false, List, [], ◌∷◌, Option, Some, None, codes}
 use Rattle.cedar_types.specs.declared.base.types.BoolType.TheVariants.{AnyBool}
 use Rattle.cedar_types.specs.declared.base.types.ValidationMode.{ValidationMode}
 use Rattle.cedar_types.specs.declared.base.types.ValidationMode.TheVariants.{Strict, Partial}
 use Rattle.cedar_types.specs.Names.{Text, Path, Uid}
 use Rattle.cedar_types.specs.Types.{Ty, TBool, TLong, TString, TRecord, TEntity, TExtension, Attrs, no_attrs, attr}
+use Rattle.cedar_types.specs.Tree.{string, lit}
+use Rattle.cedar_types.specs.ExtensionFunctions.{ExtensionFunction}
 use Rattle.cedar_types.specs.Schemas.{StandardKind, DeclaredType, DeclaredAction, Schema}
 use Rattle.cedar_types.specs.RequestEnvs.{Declared, Undeclared}
-use Rattle.cedar_types.specs.Values.{Value, VBool, VLong, VString, VEntity, VSet, VRecord, VExtension, Values, no_values, more_values, no_entries, more_entries}
-use Rattle.cedar_types.specs.Stores.{Entity, Store}
-use Rattle.cedar_typing.specs.Evaluation.Conformance.{Table}
-use Rattle.cedar_typing.specs.Evaluation.World.{Call, Interpretation, Slots, World}
+use Rattle.cedar_typing.specs.Setting.{Setting}
 use Rattle.cedar_typing.specs.TypeEnv.{TypeEnv}
+use Rattle.cedar_typing.specs.TypedExpr.{Source}
 
 -- ---- names
 
@@ -32,12 +30,26 @@ group = named (codes "Group")
 abbrev pub robot : Path
 robot = named (codes "Robot")
 
--- two extension types; the function that makes the values of the first has its name
+-- three extension types; the functions that make the values of the first two have their names
 abbrev pub decimal : Path
 decimal = named (codes "decimal")
 
+abbrev pub duration : Path
+duration = named (codes "duration")
+
 abbrev pub ip_address : Path
 ip_address = named (codes "ipaddr")
+
+-- `Social::decimal`, which names no function
+abbrev pub social_decimal : Path
+social_decimal = record { path = codes "Social" ∷ []; basename = codes "decimal" }
+
+-- two further functions: a test of two decimals, and the sum of some numbers
+abbrev pub less_than : Path
+less_than = named (codes "lessThan")
+
+abbrev pub sum : Path
+sum = named (codes "sum")
 
 -- `User::"x"`, `Action::"x"`
 abbrev pub user_named : Text → Uid
@@ -140,136 +152,94 @@ sample_schema = record {
       ∷ [];
 }
 
--- the one extension function, to decimals, which are compared by `<` and `<=`
-abbrev pub decimal_table : Table
-decimal_table = record {
-  returns = (decimal, TExtension decimal) ∷ [];
-  overloaded_types = decimal ∷ [];
+-- ---- the extension functions
+
+abbrev pub decimal_type : Ty
+decimal_type = TExtension decimal
+
+abbrev pub duration_type : Ty
+duration_type = TExtension duration
+
+-- a check that refuses a first argument that is the text literal without a character
+abbrev pub refuses_empty : List Source → Option Text
+refuses_empty (lit m (string []) ∷ es) = Some (codes "empty")
+refuses_empty es = None
+
+-- `decimal` of a text, with that check
+abbrev pub decimal_function : ExtensionFunction
+decimal_function = record {
+  name = decimal;
+  argument_types = TString ∷ [];
+  is_variadic = false;
+  return_type = decimal_type;
+  check = Some refuses_empty;
 }
+
+-- `lessThan` of two decimals
+abbrev pub less_than_function : ExtensionFunction
+less_than_function = record {
+  name = less_than;
+  argument_types = decimal_type ∷ decimal_type ∷ [];
+  is_variadic = false;
+  return_type = TBool AnyBool;
+  check = None;
+}
+
+-- `sum` of one number or more
+abbrev pub sum_function : ExtensionFunction
+sum_function = record {
+  name = sum;
+  argument_types = TLong ∷ [];
+  is_variadic = true;
+  return_type = TLong;
+  check = None;
+}
+
+-- `duration` of a decimal, and of one number or more that are added to it
+abbrev pub duration_function : ExtensionFunction
+duration_function = record {
+  name = duration;
+  argument_types = decimal_type ∷ TLong ∷ [];
+  is_variadic = true;
+  return_type = duration_type;
+  check = None;
+}
+
+abbrev pub extension_functions : List ExtensionFunction
+extension_functions =
+    decimal_function ∷ less_than_function ∷ sum_function ∷ duration_function ∷ []
 
 -- ---- what expressions are typed in
 
--- users greet users; `?resource` is linked to a user, and `?principal` is not linked
-abbrev pub sample : ValidationMode → TypeEnv
-sample m = record {
+-- users greet users; `?resource` is linked to a user, and `?principal` is not linked; of the
+-- extension types decimals and durations are compared by `<` and `<=`
+abbrev pub sample_env : ValidationMode → TypeEnv
+sample_env m = record {
   schema = sample_schema;
   mode = m;
   request_env =
       Declared (record { principal = user; action = greet; resource = user; context = a_context })
       None (Some user);
+  overloaded_types = decimal ∷ duration ∷ [];
   policy = codes "policy0";
 }
 
+-- the same with the extension functions
+abbrev pub sample : ValidationMode → Setting
+sample m = record { env = sample_env m; functions = extension_functions }
+
 -- the same, of an action that the schema does not declare
-abbrev pub unknown_action : TypeEnv
+abbrev pub unknown_action : Setting
 unknown_action = record (sample Strict) {
-  request_env =
-      Declared (record { principal = user; action = wave; resource = user; context = a_context })
-      None (Some user);
+  env = record (sample_env Strict) {
+    request_env =
+        Declared (record { principal = user; action = wave; resource = user; context = a_context })
+        None (Some user);
+  };
 }
 
 -- the environment of undeclared actions, in Partial
-abbrev pub hidden : TypeEnv
-hidden = record {
-  schema = sample_schema;
-  mode = Partial;
-  request_env = Undeclared;
-  policy = codes "policy0";
-}
-
--- ---- values
-
-abbrev pub number : ℤ → Value
-number n = VLong n
-
-abbrev pub words : Text → Value
-words t = VString t
-
-abbrev pub one_value : Value → Values
-one_value v = more_values v no_values
-
-abbrev pub two_values : Value → Value → Values
-two_values v env = more_values v (one_value env)
-
--- the values of the type `decimal`
-abbrev pub a_decimal : Text → Value
-a_decimal t = VExtension decimal t
-
--- ---- what expressions are evaluated in
-
--- alice is in bob, is 30, has bob as her boss, lives in Bern, and has the mark and the tag `role`
-abbrev pub stored_alice : Entity
-stored_alice = record {
-  attributes =
-      more_entries (codes "age") (number (pos 30))
-      (more_entries (codes "boss") (VEntity bob)
-      (more_entries (codes "home")
-      (VRecord (more_entries (codes "city") (words (codes "Bern")) no_entries))
-      (more_entries (codes "vip") (VBool true) no_entries)));
-  ancestors = bob ∷ [];
-  tags = more_entries (codes "role") (words (codes "admin")) no_entries;
-}
-
--- bob is 40, and has nothing else
-abbrev pub stored_bob : Entity
-stored_bob = record {
-  attributes = more_entries (codes "age") (number (pos 40)) no_entries;
-  ancestors = [];
-  tags = no_entries;
-}
-
--- of an action nothing is stored but its ancestors
-abbrev pub stored_action : List Uid → Entity
-stored_action us = record { attributes = no_entries; ancestors = us; tags = no_entries }
-
-abbrev pub sample_store : Store
-sample_store =
-    (alice, stored_alice)
-    ∷ (bob, stored_bob)
-    ∷ (greet, stored_action (meet ∷ act ∷ []))
-    ∷ (meet, stored_action (act ∷ []))
-    ∷ (act, stored_action [])
-    ∷ []
-
--- `?resource` is bound to bob, and `?principal` is not bound
-abbrev pub sample_slots : Slots
-sample_slots SlotId.Principal = None
-sample_slots SlotId.Resource = Some bob
-
--- a call of `decimal` with one argument, and the decimal of the text t
-abbrev pub decimal_call : Value → Text → Call
-decimal_call v t = record { function = decimal; arguments = one_value v; value = a_decimal t }
-
--- `decimal` knows two texts, one of them twice, and one set of numbers; of 1.0 and 2.0 it is known
--- how they compare
-abbrev pub sample_functions : Interpretation
-sample_functions = record {
-  calls =
-      decimal_call (words (codes "1.0")) (codes "1.0")
-      ∷ decimal_call (words (codes "2.0")) (codes "2.0")
-      ∷ decimal_call (words (codes "1.0")) (codes "9.0")
-      ∷ decimal_call (VSet (two_values (number (pos 1)) (number (pos 2)))) (codes "1.2")
-      ∷ [];
-  overloaded_types = decimal ∷ [];
-  less = (a_decimal (codes "1.0"), a_decimal (codes "2.0")) ∷ [];
-  less_or_equal =
-      (a_decimal (codes "1.0"), a_decimal (codes "2.0"))
-      ∷ (a_decimal (codes "1.0"), a_decimal (codes "1.0"))
-      ∷ [];
-}
-
--- alice greets bob, and her friend is an entity that is not in the store
-abbrev pub greeting : World
-greeting = record {
-  request = record {
-    principal = alice;
-    action = greet;
-    resource = bob;
-    context =
-        more_entries (codes "address") (VExtension ip_address (codes "::1"))
-        (more_entries (codes "friend") (VEntity gone) no_entries);
-  };
-  slots = sample_slots;
-  store = sample_store;
-  functions = sample_functions;
+abbrev pub hidden : Setting
+hidden = record (sample Partial) {
+  env = record (sample_env Partial) { request_env = Undeclared };
 }

@@ -76,3 +76,7 @@ infer_two_operands env f l l' left right =
     infer_eager f
     (infer_one_more env f.goes_on (first_expectation f.expects) l left
     (infer_one_more env f.goes_on (first_expectation (later_expectations f.expects)) l' right infer_none))
+
+-- a form with any number of operands
+abbrev pub infer_operand_list : Form → (Bool → List Expectation → List Finding → OperandsAndErrors) → List Finding → AnswerAndErrors
+infer_operand_list f operands = infer_eager f (operands f.goes_on f.expects)

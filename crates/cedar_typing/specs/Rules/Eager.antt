@@ -113,3 +113,8 @@ two_operand_rules env f l l' J J' =
     eager_rules f
     (one_more env f.goes_on (first_expectation f.expects) l J
     (one_more env f.goes_on (first_expectation (later_expectations f.expects)) l' J' no_operands))
+
+-- a form with any number of operands, by the rules of these, which are visited or not after one that
+-- is too deep, and have to be what is expected
+abbrev pub operand_list_rules : Form → (Bool → List Expectation → Judgments) → Judgment
+operand_list_rules f operands = eager_rules f (operands f.goes_on f.expects)

@@ -1,8 +1,8 @@
 -- `==`, `contains`, `containsAll` and `containsAny`.
 use Rattle.std.specs.Prelude.{Bool, true, false, [], Option, Some, None, if◌then◌else◌}
 use Rattle.cedar_types.specs.declared.base.location.Loc.{Loc}
-use Rattle.cedar_types.specs.declared.base.operators.Var.{Var}
-use Rattle.cedar_types.specs.declared.base.operators.BinaryOp.{BinaryOp}
+use Rattle.cedar_types.specs.declared.base.expressions.operators.Var.{Var}
+use Rattle.cedar_types.specs.declared.base.expressions.operators.BinaryOp.{BinaryOp}
 use Rattle.cedar_types.specs.declared.base.errors.type_errors.LubContext.TheVariants.{Equality, Contains, ContainsAnyAll}
 use Rattle.cedar_types.specs.declared.base.types.BoolType.TheVariants.{AnyBool, False}
 use Rattle.cedar_types.specs.Types.{Ty, TBool, TSet}

@@ -1,20 +1,19 @@
--- Expressions without parts: literals, variables, slots and unknowns; and forms without a rule yet.
+-- Expressions without parts: literals, variables, slots and unknowns.
 use Rattle.std.specs.Prelude.{◌≡◌, Bool, true, false, List, [], ◌∷◌, Option, Some, None, if◌then◌else◌}
-use Rattle.cedar_types.specs.declared.base.location.Loc.{Loc}
-use Rattle.cedar_types.specs.declared.base.operators.Var.{Var}
-use Rattle.cedar_types.specs.declared.base.slots.SlotId.{SlotId}
+use Rattle.cedar_types.specs.declared.base.expressions.operators.Var.{Var}
+use Rattle.cedar_types.specs.declared.base.names.slots.SlotId.{SlotId}
 use Rattle.cedar_types.specs.declared.base.types.BoolType.TheVariants.{True, False}
 use Rattle.cedar_types.specs.declared.base.types.ValidationMode.{ValidationMode}
 use Rattle.cedar_types.specs.Names.{Path, Uid}
 use Rattle.cedar_types.specs.Types.{Ty, TBool, TLong, TString, TEntity, TAnyEntity}
 use Rattle.cedar_types.specs.Tree.{Lit, bool, long, string, entity, unknown}
-use Rattle.cedar_types.specs.View.{Written, no_name}
+use Rattle.cedar_types.specs.View.{Written}
 use Rattle.cedar_types.specs.Lookups.{literal_type}
 use Rattle.cedar_types.specs.RequestEnvs.{Env, Declared, Undeclared, principal_ty, resource_ty, action_ty, context_ty, is_partial}
-use Rattle.cedar_types.specs.Errors.{Finding, internal_invariant_violation}
+use Rattle.cedar_types.specs.Errors.{Finding}
 use Rattle.cedar_typing.specs.Capabilities.{Caps, no_caps}
 use Rattle.cedar_typing.specs.Judgments.{Judgment, NoDerivation, NoCut}
-use Rattle.cedar_typing.specs.TypeEnv.{TypeEnv, finding}
+use Rattle.cedar_typing.specs.TypeEnv.{TypeEnv}
 use Rattle.cedar_typing.specs.TypedExpr.{TypedTree, Mark, typed, untyped}
 
 -- ---- the tables
@@ -83,16 +82,3 @@ pub data UnknownRecovery (n : Path) (m : Written) : TypedTree → List Finding �
 abbrev pub unknown_rules : Path → Written → Judgment
 unknown_rules n m =
     record { derives = NoDerivation; recovers = UnknownRecovery n m; cuts = NoCut }
-
--- what stands for a form without a rule yet: an unknown without a name, at its place
-abbrev pub nameless : Option Loc → TypedTree
-nameless l =
-    unknown (untyped (record { place = l; names = no_name })) (record { path = []; basename = [] })
-
--- a form without a rule yet: an error at the whole, and no type
-pub data UnbuiltRecovery (env : TypeEnv) (l : Option Loc) : TypedTree → List Finding → Type 0 where
-  unbuilt : UnbuiltRecovery env l (nameless l) (finding env l internal_invariant_violation ∷ [])
-
-abbrev pub unbuilt_rules : TypeEnv → Option Loc → Judgment
-unbuilt_rules env l =
-    record { derives = NoDerivation; recovers = UnbuiltRecovery env l; cuts = NoCut }

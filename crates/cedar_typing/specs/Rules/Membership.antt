@@ -1,7 +1,7 @@
 -- `in`.
 use Rattle.std.specs.Prelude.{Bool, true, ◌||◌, List, [], ◌∷◌, Option, Some, None, option_map, if◌then◌else◌}
 use Rattle.std.specs.List.{list_any, list_all}
-use Rattle.cedar_types.specs.declared.base.operators.BinaryOp.{BinaryOp}
+use Rattle.cedar_types.specs.declared.base.expressions.operators.BinaryOp.{BinaryOp}
 use Rattle.cedar_types.specs.declared.base.types.BoolType.TheVariants.{AnyBool, False}
 use Rattle.cedar_types.specs.Names.{Path, Uid, uid_eq, is_action_path}
 use Rattle.cedar_types.specs.Types.{Ty, TBool, TSet, TEntity}

@@ -1,10 +1,10 @@
 -- `+`, `-`, `*`, `<` and `<=`.
-use Rattle.std.specs.Prelude.{Bool, ◌&&◌, List, [], ◌∷◌, Option, Some, None, if◌then◌else◌}
+use Rattle.std.specs.Prelude.{Bool, ◌&&◌, List, [], ◌∷◌, map, Option, Some, None, if◌then◌else◌}
 use Rattle.std.specs.List.{list_any}
 use Rattle.cedar_types.specs.declared.base.location.Loc.{Loc}
-use Rattle.cedar_types.specs.declared.base.operators.BinaryOp.{BinaryOp}
+use Rattle.cedar_types.specs.declared.base.expressions.operators.BinaryOp.{BinaryOp}
 use Rattle.cedar_types.specs.declared.base.types.BoolType.TheVariants.{AnyBool}
-use Rattle.cedar_types.specs.Types.{Ty, TBool, TLong}
+use Rattle.cedar_types.specs.Types.{Ty, TBool, TLong, TExtension}
 use Rattle.cedar_types.specs.Tree.{binary}
 use Rattle.cedar_types.specs.View.{Written}
 use Rattle.cedar_types.specs.TypeOrder.{in_order}
@@ -22,12 +22,12 @@ arithmetic_form m o =
 
 -- ---- `<` and `<=`
 
--- the types that are compared
-abbrev pub comparable_types : List Ty
-comparable_types = TLong ∷ []
+-- the types that are compared: Longs, and the overloaded extension types
+abbrev pub comparable_types : TypeEnv → List Ty
+comparable_types env = TLong ∷ map TExtension env.overloaded_types
 
-abbrev pub is_comparable : Ty → Bool
-is_comparable t = list_any (ty_eq t) comparable_types
+abbrev pub is_comparable : TypeEnv → Ty → Bool
+is_comparable env t = list_any (ty_eq t) (comparable_types env)
 
 -- an error at l, where one of the types ts is expected
 abbrev pub expected_at : TypeEnv → Option Loc → List Ty → Ty → Finding
@@ -36,7 +36,7 @@ expected_at env l ts t = finding env l (unexpected_type (in_order ts) t)
 -- a type beside Never has to be comparable
 abbrev pub beside_never : TypeEnv → Option Loc → Ty → List Finding
 beside_never env l t =
-    if is_comparable t then [] else expected_at env l comparable_types t ∷ []
+    if is_comparable env t then [] else expected_at env l (comparable_types env) t ∷ []
 
 -- two types that are not one comparable type: the other side has to be a Long where one is, or else
 -- to be of the type of the one that is comparable; where neither is, both sides are wrong
@@ -44,9 +44,9 @@ abbrev pub incomparable : TypeEnv → Option Loc → Option Loc → Ty → Ty �
 incomparable env l l' s t =
     if ty_eq s TLong then expected_at env l' (TLong ∷ []) t ∷ []
     else if ty_eq t TLong then expected_at env l (TLong ∷ []) s ∷ []
-    else if is_comparable s then expected_at env l' (s ∷ []) t ∷ []
-    else if is_comparable t then expected_at env l (t ∷ []) s ∷ []
-    else expected_at env l comparable_types s ∷ expected_at env l' comparable_types t ∷ []
+    else if is_comparable env s then expected_at env l' (s ∷ []) t ∷ []
+    else if is_comparable env t then expected_at env l (t ∷ []) s ∷ []
+    else expected_at env l (comparable_types env) s ∷ expected_at env l' (comparable_types env) t ∷ []
 
 -- two Nevers fail without an error, and Bool stays; one comparable type passes
 abbrev pub compares : TypeEnv → Option Loc → Option Loc → Ty → Ty → Decision
@@ -54,7 +54,7 @@ compares env l l' s t =
     if is_never s && is_never t then refuses (Some (TBool AnyBool)) []
     else if is_never s then gives_unless (beside_never env l' t) (TBool AnyBool)
     else if is_never t then gives_unless (beside_never env l s) (TBool AnyBool)
-    else if is_comparable s && ty_eq s t then gives (TBool AnyBool) no_caps
+    else if is_comparable env s && ty_eq s t then gives (TBool AnyBool) no_caps
     else refuses (Some (TBool AnyBool)) (incomparable env l l' s t)
 
 -- a type that is missing is no other error

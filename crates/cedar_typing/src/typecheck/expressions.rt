@@ -5,7 +5,8 @@ ghost use Rattle.cedar_types.specs.Capability.{caps};
 ghost use Rattle.cedar_typing.specs.Infer.{infer};
 ghost use Rattle.cedar_typing.specs.Infer.Parts.{expect};
 ghost use Rattle.cedar_typing.specs.TypedExpr.{place_of};
-ghost use Rattle.cedar_typing.specs.Views.{env_at, expected_types, answer_of, part_of, findings};
+ghost use Rattle.cedar_typing.specs.SettingViews.{setting_at};
+ghost use Rattle.cedar_typing.specs.Views.{expected_types, answer_of, part_of, findings};
 
 use crate::typecheck::answer::{Part, TypecheckAnswer};
 use crate::typecheck::operands::Expected;
@@ -13,14 +14,14 @@ use crate::typecheck::rules::one_operand::OneOperand;
 use crate::typecheck::rules::short_circuit::Connective;
 use crate::typecheck::rules::two_operands::TwoOperands;
 use crate::typecheck::single_env::SingleEnvTypechecker;
-use cedar_types::base::{Expr, ExprKind, ValidationError};
+use cedar_types::base::{ArgumentCheck, Expr, ExprKind, ValidationError};
 use cedar_types::types::capability::CapabilitySet;
 use std::alloc::AllocError;
 
 /// The greatest depth at which an expression is visited. A condition has depth 1, and each part one more than the whole.
 pub const MAX_NESTING: usize = 400;
 
-impl SingleEnvTypechecker<'_, '_, '_, '_> {
+impl<C: ArgumentCheck> SingleEnvTypechecker<'_, '_, '_, '_, C> {
     /// Types an expression at this depth, with these prior capabilities, and adds its errors.
     #[cycle(typing)]
     pub(crate) fn typecheck<'a>(
@@ -31,17 +32,17 @@ impl SingleEnvTypechecker<'_, '_, '_, '_> {
         errors: &mut Vec<ValidationError>,
     ) -> Result<TypecheckAnswer<'a>, AllocError>
         ensures { IfOk result (λ r.
-            infer (env_at self.now) (written e.now) (caps prior.now) depth (findings errors.old.items)
+            infer (setting_at C.refusal self.now) (written e.now) (caps prior.now) depth (findings errors.old.items)
             ≡ (answer_of r, findings errors.new.items)) }
     {
         if depth > MAX_NESTING {
             return Ok(TypecheckAnswer::RecursionLimit);
         }
         match &e.kind {
-            ExprKind::Lit(literal) => self.check_literal(e.loc, literal),
-            ExprKind::Var(variable) => self.type_variable(e.loc, *variable),
-            ExprKind::Slot(slot) => self.type_slot(e.loc, *slot),
-            ExprKind::Unknown(name) => self.type_unknown(name),
+            ExprKind::Lit(literal) => self.env.check_literal(e.loc, literal),
+            ExprKind::Var(variable) => self.env.type_variable(e.loc, *variable),
+            ExprKind::Slot(slot) => self.env.type_slot(e.loc, *slot),
+            ExprKind::Unknown(name) => self.env.type_unknown(name),
             ExprKind::And(left, right) => {
                 self.type_short_circuit(prior, depth, e.loc, Connective::And, left, right, errors)
             }
@@ -79,13 +80,19 @@ impl SingleEnvTypechecker<'_, '_, '_, '_> {
             ExprKind::Is(operand, named) => {
                 self.type_one_operand(prior, depth, e.loc, OneOperand::Is(named), operand, errors)
             }
-            ExprKind::ExtensionFunctionApp(_, _) => self.type_unbuilt(e.loc, errors),
+            ExprKind::ExtensionFunctionApp(name, arguments) => {
+                let call = self.call_of(e.loc, name, arguments)?;
+                let types = call.argument_types;
+                let typed = self.type_operands(prior, depth, false, types, arguments, errors)?;
+                let answer = self.env.call_answer(e.loc, name, call, typed, errors)?;
+                Ok(answer)
+            }
             ExprKind::ExtHasAttr(base, chain) => {
                 self.type_one_operand(prior, depth, e.loc, OneOperand::Chain(chain), base, errors)
             }
             ExprKind::Set(elements) => {
-                let elements = self.type_elements(prior, depth, elements, errors)?;
-                let answer = self.set_answer(e.loc, elements, errors)?;
+                let typed = self.type_operands(prior, depth, true, &[], elements, errors)?;
+                let answer = self.env.set_answer(e.loc, typed, errors)?;
                 Ok(answer)
             }
             ExprKind::Record(fields) => self.type_record(prior, depth, e.loc, fields, errors),
@@ -98,17 +105,17 @@ impl SingleEnvTypechecker<'_, '_, '_, '_> {
         &self,
         prior: &CapabilitySet<'a>,
         depth: usize,
-        expected: Expected,
+        expected: Expected<'_>,
         e: &'a Expr,
         errors: &mut Vec<ValidationError>,
     ) -> Result<Option<Part<'a>>, AllocError>
         ensures { IfOk result (λ p.
-            expect (env_at self.now) (expected_types expected) (place_of (written e.now))
-            (infer (env_at self.now) (written e.now) (caps prior.now) depth (findings errors.old.items))
+            expect (setting_at C.refusal self.now).env (expected_types expected.entry) (place_of (written e.now))
+            (infer (setting_at C.refusal self.now) (written e.now) (caps prior.now) depth (findings errors.old.items))
             ≡ (option_map part_of p, findings errors.new.items)) }
     {
         let answer = self.typecheck(prior, depth, e, errors)?;
-        let part = self.expect(expected, e.loc, answer, errors)?;
+        let part = self.env.expect(expected, e.loc, answer, errors)?;
         Ok(part)
     }
 }

@@ -8,13 +8,13 @@ ghost use Rattle.cedar_typing.specs.Joins.{bound_errors, join_errors, strict_err
 ghost use Rattle.cedar_typing.specs.TypeEnv.{finding};
 ghost use Rattle.cedar_typing.specs.Views.{env_at, findings};
 
-use crate::typecheck::single_env::SingleEnvTypechecker;
+use crate::typecheck::type_env::TypeEnv;
 use cedar_types::base::{
     CedarType, Loc, LubContext, ValidationError, ValidationMode, types_in_order,
 };
 use std::alloc::AllocError;
 
-impl SingleEnvTypechecker<'_, '_, '_, '_> {
+impl TypeEnv<'_, '_, '_, '_> {
     /// An error at `loc` where Strict finds no bound of two types. Of a type that is missing there is none.
     pub(crate) fn strict_errors(
         &self,

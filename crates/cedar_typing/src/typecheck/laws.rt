@@ -6,6 +6,7 @@ ghost use Rattle.cedar_typing.specs.Examples.Evaluation.Leaves.{LeafExamples, Te
 ghost use Rattle.cedar_typing.specs.Examples.Evaluation.Operators.{NumberExamples, EqualityExamples, SetExamples};
 ghost use Rattle.cedar_typing.specs.Examples.Premises.{PremisesAreMet, PremisesCanFail};
 ghost use Rattle.cedar_typing.specs.Examples.Rules.Attributes.{HasTyping, GetTyping};
+ghost use Rattle.cedar_typing.specs.Examples.Rules.Calls.{CallTyping, ArgumentTyping};
 ghost use Rattle.cedar_typing.specs.Examples.Rules.Chains.{ChainTyping};
 ghost use Rattle.cedar_typing.specs.Examples.Rules.Check.{CheckTyping};
 ghost use Rattle.cedar_typing.specs.Examples.Rules.Collections.{SetTyping, RecordTyping};
@@ -49,7 +50,7 @@ pub fn type_soundness()
     ensures { TypeSoundness }
 {}
 
-/// The premises of type soundness hold of some schema, policy, request and store, and four of them fail of other data.
+/// The premises of type soundness hold of some schema, policy, request and store, and five of them fail of other data.
 pub fn premises_are_met()
     ensures met { PremisesAreMet }
     ensures unmet { PremisesCanFail }
@@ -82,6 +83,8 @@ pub fn examples_of_rules()
     ensures members { MemberTyping }
     ensures sets { SetTyping }
     ensures records { RecordTyping }
+    ensures calls { CallTyping }
+    ensures arguments { ArgumentTyping }
     ensures nesting { NestingTyping }
     ensures checks { CheckTyping }
 {}

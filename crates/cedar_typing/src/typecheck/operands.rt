@@ -15,9 +15,9 @@ use crate::typecheck::operand_tests::{
     is_ancestor_operand, is_bool_operand, is_entity_operand, is_long_operand, is_object_operand,
     is_set_operand, is_string_operand,
 };
-use crate::typecheck::single_env::SingleEnvTypechecker;
+use crate::typecheck::type_env::TypeEnv;
 use cedar_types::base::{
-    BoolType, CedarType, EntityKind, Expr, Loc, ValidationError, types_in_order,
+    BoolType, CedarType, EntityKind, Expr, Loc, ValidationError, ValidationMode, types_in_order,
 };
 use std::alloc::{AllocError, Global};
 use std::collections::BTreeSet;
@@ -25,7 +25,7 @@ use std::rc::Rc;
 
 /// What a part has to be.
 #[derive(Clone, Copy, Debug)]
-pub(crate) enum Expected {
+pub(crate) enum Expected<'t> {
     Bool,
     Long,
     String,
@@ -35,25 +35,30 @@ pub(crate) enum Expected {
     Ancestor,
     /// A record or an entity.
     Object,
+    /// This very type.
+    Exactly(&'t CedarType),
 }
 
-impl Expected {
-    fn accepts(self, ty: &CedarType) -> bool
-        ensures { result ≡ accepts (expected_types self) (ty_of ty.now) }
+impl Expected<'_> {
+    fn accepts(self, alloc: Global, ty: &CedarType) -> Result<bool, AllocError>
+        ensures { IfOk result (λ b. b ≡ accepts (expected_types self.entry) (ty_of ty.now)) }
     {
         match self {
-            Expected::Bool => is_bool_operand(ty),
-            Expected::Long => is_long_operand(ty),
-            Expected::String => is_string_operand(ty),
-            Expected::Set => is_set_operand(ty),
-            Expected::Entity => is_entity_operand(ty),
-            Expected::Ancestor => is_ancestor_operand(ty),
-            Expected::Object => is_object_operand(ty),
+            Expected::Bool => Ok(is_bool_operand(ty)),
+            Expected::Long => Ok(is_long_operand(ty)),
+            Expected::String => Ok(is_string_operand(ty)),
+            Expected::Set => Ok(is_set_operand(ty)),
+            Expected::Entity => Ok(is_entity_operand(ty)),
+            Expected::Ancestor => Ok(is_ancestor_operand(ty)),
+            Expected::Object => Ok(is_object_operand(ty)),
+            Expected::Exactly(wanted) => {
+                CedarType::is_subtype(alloc, ty, wanted, ValidationMode::Permissive)
+            }
         }
     }
 
     fn types(self, alloc: Global) -> Result<BTreeSet<CedarType>, AllocError>
-        ensures { IfOk result (λ s. map ty_of s.keys ≡ in_order (expected_types self)) }
+        ensures { IfOk result (λ s. map ty_of s.keys ≡ in_order (expected_types self.entry)) }
     {
         let mut types = Vec::new(alloc);
         match self {
@@ -71,6 +76,7 @@ impl Expected {
                 types.push(CedarType::any_record(alloc)?)?;
                 types.push(CedarType::Entity(EntityKind::AnyEntity))?;
             }
+            Expected::Exactly(wanted) => types.push(wanted.clone()?)?,
         }
         types_in_order(alloc, types)
     }
@@ -112,18 +118,18 @@ pub(crate) fn any_part<'a>(alloc: Global, answer: TypecheckAnswer<'a>) -> Option
     answer.into_part(alloc)
 }
 
-impl SingleEnvTypechecker<'_, '_, '_, '_> {
+impl TypeEnv<'_, '_, '_, '_> {
     /// The part that an answer hands on where it has to be of one of these types, and an error at `loc` where its type is
     /// none of them. On the limit there is none.
     pub(crate) fn expect<'a>(
         &self,
-        expected: Expected,
+        expected: Expected<'_>,
         loc: Option<Loc>,
         answer: TypecheckAnswer<'a>,
         errors: &mut Vec<ValidationError>,
     ) -> Result<Option<Part<'a>>, AllocError>
         ensures { IfOk result (λ p.
-            expect (env_at self.now) (expected_types expected) loc
+            expect (env_at self.now) (expected_types expected.entry) loc
             (answer_of answer.entry, findings errors.old.items)
             ≡ (option_map part_of p, findings errors.new.items)) }
     {
@@ -136,13 +142,13 @@ impl SingleEnvTypechecker<'_, '_, '_, '_> {
     /// The same of an operand, which may be anything where nothing is expected.
     pub(crate) fn operand<'a>(
         &self,
-        expected: Option<Expected>,
+        expected: Option<Expected<'_>>,
         loc: Option<Loc>,
         answer: TypecheckAnswer<'a>,
         errors: &mut Vec<ValidationError>,
     ) -> Result<Option<Part<'a>>, AllocError>
         ensures { IfOk result (λ p.
-            expect_operand (env_at self.now) (option_map expected_types expected) loc
+            expect_operand (env_at self.now) (option_map expected_types expected.entry) loc
             (answer_of answer.entry, findings errors.old.items)
             ≡ (option_map part_of p, findings errors.new.items)) }
     {
@@ -155,20 +161,20 @@ impl SingleEnvTypechecker<'_, '_, '_, '_> {
 
     fn expect_part<'a>(
         &self,
-        expected: Expected,
+        expected: Expected<'_>,
         loc: Option<Loc>,
         part: Part<'a>,
         errors: &mut Vec<ValidationError>,
     ) -> Result<Part<'a>, AllocError>
         ensures { IfOk result (λ p.
-            expect_type (env_at self.now) (expected_types expected) loc (part_of part.entry)
+            expect_type (env_at self.now) (expected_types expected.entry) loc (part_of part.entry)
             (findings errors.old.items) (option_map ty_of part.entry.typed.annotation)
             ≡ (Some (part_of p), findings errors.new.items)) }
     {
         match &part.typed.annotation {
             None => Ok(part.as_failed(self.alloc)),
             Some(found) => {
-                if expected.accepts(found) {
+                if expected.accepts(self.alloc, found)? {
                     return Ok(part);
                 }
                 errors.push(self.unexpected(expected, loc, found)?)?;
@@ -179,14 +185,14 @@ impl SingleEnvTypechecker<'_, '_, '_, '_> {
 
     pub(crate) fn unexpected(
         &self,
-        expected: Expected,
+        expected: Expected<'_>,
         loc: Option<Loc>,
         found: &CedarType,
     ) -> Result<ValidationError, AllocError>
         ensures { IfOk result (λ e.
             finding_of e
             ≡ finding (env_at self.now) loc
-            (unexpected_type (in_order (expected_types expected)) (ty_of found.now))) }
+            (unexpected_type (in_order (expected_types expected.entry)) (ty_of found.now))) }
     {
         let policy_id = self.policy_id.clone()?;
         let types = expected.types(self.alloc)?;

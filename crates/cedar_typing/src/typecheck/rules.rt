@@ -1,5 +1,6 @@
 // The rules of typing, form by form.
 pub(crate) mod attributes;
+pub(crate) mod calls;
 mod chains;
 mod conditional;
 pub(crate) mod eager;
@@ -8,6 +9,7 @@ mod leaves;
 mod membership;
 mod numbers;
 pub(crate) mod one_operand;
+pub(crate) mod operand_list;
 pub(crate) mod records;
 pub(crate) mod sets;
 pub(crate) mod short_circuit;

@@ -1,14 +1,10 @@
-// What an expression is typed in.
-use cedar_types::base::{PolicyID, ValidationMode, ValidatorSchema};
-use cedar_types::types::request_env::RequestEnv;
-use std::alloc::Global;
+// The checker of one policy in one environment.
+use crate::typecheck::type_env::TypeEnv;
+use cedar_types::base::ExtensionSchemas;
 
-/// Types the expressions of one policy in one environment.
-#[derive(Debug, Drop)]
-pub(crate) struct SingleEnvTypechecker<'s, 'r, 'e, 'p> {
-    pub alloc: Global,
-    pub schema: &'s ValidatorSchema,
-    pub mode: ValidationMode,
-    pub env: &'r RequestEnv<'e>,
-    pub policy_id: &'p PolicyID,
+/// Types the expressions of one policy in one environment, parts before the whole.
+#[derive(Drop)]
+pub(crate) struct SingleEnvTypechecker<'s, 'r, 'e, 'p, C> {
+    pub env: TypeEnv<'s, 'r, 'e, 'p>,
+    pub extensions: &'s ExtensionSchemas<C>,
 }

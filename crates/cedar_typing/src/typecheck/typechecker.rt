@@ -3,10 +3,10 @@ ghost use Rattle.std.specs.Prelude.{◌≡◌, IfOk, map, option_map};
 ghost use Rattle.cedar_types.specs.View.{written};
 ghost use Rattle.cedar_types.specs.Errors.{finding_of};
 ghost use Rattle.cedar_types.specs.Templates.{template_of, condition_of, with_rest};
-ghost use Rattle.cedar_typing.specs.CheckViews.{verdict_of, env_for};
-ghost use Rattle.cedar_typing.specs.Evaluation.Conformance.{table_of};
+ghost use Rattle.cedar_typing.specs.CheckViews.{verdict_of, schema_by, extensions_by, mode_by, setting_for};
 ghost use Rattle.cedar_typing.specs.PolicyCheck.{PolicyChecks, policy_check, part_verdict};
 ghost use Rattle.cedar_typing.specs.SoundPolicyCheck.{IsSoundPolicyCheck};
+ghost use Rattle.cedar_typing.specs.SettingViews.{setting_at};
 ghost use Rattle.cedar_typing.specs.Views.{env_at, part_of};
 
 use crate::typecheck::answer::Part;
@@ -14,10 +14,11 @@ use crate::typecheck::capabilities::no_capabilities;
 use crate::typecheck::operands::Expected;
 use crate::typecheck::rules::short_circuit::Connective;
 use crate::typecheck::single_env::SingleEnvTypechecker;
+use crate::typecheck::type_env::TypeEnv;
 use crate::typecheck::type_tests::is_typed_false;
 use cedar_types::base::{
-    CedarType, Expr, ExtensionSchemas, Loc, Template, ValidationError, ValidationMode,
-    ValidatorSchema,
+    ArgumentCheck, CedarType, Expr, ExtensionSchemas, Loc, Template, ValidationError,
+    ValidationMode, ValidatorSchema,
 };
 use cedar_types::types::request_env::RequestEnv;
 use std::alloc::{AllocError, Global};
@@ -40,23 +41,25 @@ pub enum PolicyCheck {
 
 /// Types policies by a schema and some extension functions, in a mode.
 #[derive(Drop)]
-pub struct Typechecker<'a> {
+pub struct Typechecker<'a, C = Box<dyn ArgumentCheck>> {
     pub(crate) schema: &'a ValidatorSchema,
-    pub(crate) extensions: &'a ExtensionSchemas,
+    pub(crate) extensions: &'a ExtensionSchemas<C>,
     pub(crate) mode: ValidationMode,
 }
 
-impl<'a> Typechecker<'a> {
+impl<'a, C: ArgumentCheck> Typechecker<'a, C> {
     ghost use Rattle.std.specs.Prelude.{◌≡◌};
 
     /// Types by this schema and these functions, in this mode.
+    #[tactic(auto, unfolding(crate::specs::CheckViews::schema_by, crate::specs::CheckViews::extensions_by, crate::specs::CheckViews::mode_by))]
     pub fn new(
         schema: &'a ValidatorSchema,
-        extensions: &'a ExtensionSchemas,
+        extensions: &'a ExtensionSchemas<C>,
         mode: ValidationMode,
-    ) -> Typechecker<'a>
-        ensures { result
-            ≡ record { schema = schema.entry; extensions = extensions.entry; mode = mode } }
+    ) -> Typechecker<'a, C>
+        ensures schema { schema_by result ≡ schema.entry }
+        ensures extensions { extensions_by result ≡ extensions.entry }
+        ensures mode { mode_by result ≡ mode }
     {
         Typechecker {
             schema,
@@ -87,26 +90,30 @@ impl<'a> Typechecker<'a> {
         env: &RequestEnv<'_>,
     ) -> Result<PolicyCheck, AllocError>
         ensures exact { IfOk result (λ r.
-            PolicyChecks (env_for self.now t.now env.now) (condition_of (template_of t.now))
-            (verdict_of r)) }
+            PolicyChecks (setting_for C.refusal self.now t.now env.now)
+            (condition_of (template_of t.now)) (verdict_of r)) }
         ensures sound { IfOk result (λ r.
-            IsSoundPolicyCheck (env_for self.now t.now env.now)
-            (table_of self.now.extensions.now) (condition_of (template_of t.now)) (verdict_of r)) }
+            IsSoundPolicyCheck (setting_for C.refusal self.now t.now env.now)
+            (condition_of (template_of t.now)) (verdict_of r)) }
     {
         let scope = t.scope_condition(alloc)?;
         let checker = SingleEnvTypechecker {
-            alloc,
-            schema: self.schema,
-            mode: self.mode,
-            env,
-            policy_id: &t.id,
+            env: TypeEnv {
+                alloc,
+                schema: self.schema,
+                mode: self.mode,
+                request_env: env,
+                overloaded_types: self.extensions.overloaded_types(),
+                policy_id: &t.id,
+            },
+            extensions: self.extensions,
         };
         let check = checker.check_rest(t.loc, &scope, &t.non_scope_constraints)?;
         Ok(check)
     }
 }
 
-impl SingleEnvTypechecker<'_, '_, '_, '_> {
+impl<C: ArgumentCheck> SingleEnvTypechecker<'_, '_, '_, '_, C> {
     /// The check of the scope's condition and the rest of the policy, which is typed where it stands: no copy of it is made,
     /// and no part of it beyond the limit is visited.
     fn check_rest(
@@ -117,11 +124,11 @@ impl SingleEnvTypechecker<'_, '_, '_, '_> {
     ) -> Result<PolicyCheck, AllocError>
         ensures { IfOk result (λ r.
             verdict_of r
-            ≡ policy_check (env_at self.now)
+            ≡ policy_check (setting_at C.refusal self.now)
             (with_rest loc (written scope.now) (option_map written rest.now))) }
     {
-        let mut errors = Vec::new(self.alloc);
-        let known = no_capabilities(self.alloc);
+        let mut errors = Vec::new(self.env.alloc);
+        let known = no_capabilities(self.env.alloc);
         match rest {
             None => {
                 let part = self.type_part(&known, 1, Expected::Bool, scope, &mut errors)?;
@@ -137,7 +144,7 @@ impl SingleEnvTypechecker<'_, '_, '_, '_> {
                     rest,
                     &mut errors,
                 )?;
-                let part = self.expect(Expected::Bool, loc, answer, &mut errors)?;
+                let part = self.env.expect(Expected::Bool, loc, answer, &mut errors)?;
                 Ok(verdict(part, errors))
             }
         }

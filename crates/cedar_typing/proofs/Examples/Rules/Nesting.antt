@@ -53,6 +53,11 @@ nesting_typing = record {
   bound_before_cut = cuts_at refl;
   value_of_record = cuts_at refl;
   later_value_of_record = cuts_at refl;
+  only_argument = cuts_at refl;
+  argument_of_call = cuts_at refl;
+  later_argument_of_call = cuts_at refl;
+  argument_of_unknown = cuts_at refl;
+  argument_of_refused = cuts_at refl;
 }
 
 pub check_typing : CheckTyping

@@ -5,7 +5,7 @@ use Rattle.cedar_types.specs.declared.base.location.Loc.{Loc}
 use Rattle.cedar_types.specs.declared.base.types.BoolType.{BoolType}
 use Rattle.cedar_types.specs.declared.base.types.BoolType.TheVariants.{AnyBool, True, False}
 use Rattle.cedar_types.specs.Names.{Text}
-use Rattle.cedar_types.specs.Comparisons.{and_left, and_right}
+use Rattle.cedar_types.specs.Lemmas.Comparisons.{and_left, and_right}
 use Rattle.cedar_types.specs.Types.{Ty, TBool, TRecord, TEntity, TAnyEntity}
 use Rattle.cedar_types.specs.Lookups.{attribute_type, may_have}
 use Rattle.cedar_types.specs.Stores.{ConformingStore}

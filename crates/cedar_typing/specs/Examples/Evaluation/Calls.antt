@@ -1,14 +1,15 @@
 -- What `like` and calls of extension functions come to, and which failure comes first.
-use Rattle.std.specs.Prelude.{[], ◌∷◌, codes}
-use Rattle.cedar_types.specs.declared.base.operators.UnaryOp.{UnaryOp}
-use Rattle.cedar_types.specs.declared.base.operators.BinaryOp.{BinaryOp}
-use Rattle.cedar_types.specs.declared.base.patterns.PatternElem.{PatternElem}
+use Rattle.std.specs.Prelude.{pos, [], ◌∷◌, codes}
+use Rattle.cedar_types.specs.declared.base.expressions.operators.UnaryOp.{UnaryOp}
+use Rattle.cedar_types.specs.declared.base.expressions.operators.BinaryOp.{BinaryOp}
+use Rattle.cedar_types.specs.declared.base.expressions.patterns.PatternElem.{PatternElem}
 use Rattle.cedar_types.specs.Names.{Text}
-use Rattle.cedar_types.specs.Tree.{unary, binary, call, no_trees, tree}
+use Rattle.cedar_types.specs.Tree.{unary, binary}
 use Rattle.cedar_typing.specs.Evaluation.World.{TypeFailure, MissingEntity, Overflow, ExtensionFailure}
 use Rattle.cedar_typing.specs.Examples.Evaluation.{Yields, YieldsTrue, YieldsFalse, FailsAs}
-use Rattle.cedar_typing.specs.Examples.Expressions.{one, two, text, set3, to_decimal, matching, missing, mistyped, too_great}
-use Rattle.cedar_typing.specs.Examples.World.{named, decimal, a_decimal}
+use Rattle.cedar_typing.specs.Examples.Expressions.{one, two, three, text, set3, call0, call1, call2, call3, to_decimal, decimal_one, decimal_two, matching, missing, mistyped, too_great}
+use Rattle.cedar_typing.specs.Examples.Greeting.{number, a_decimal}
+use Rattle.cedar_typing.specs.Examples.World.{named, decimal, social_decimal, less_than, sum}
 
 -- the characters `a`, `b` and `é`, the wildcard, and the text of `é`, which has two bytes
 abbrev pub char_a : PatternElem
@@ -72,19 +73,25 @@ pub record CallExamples : Type 0 where
   pub call_no_value : FailsAs (to_decimal (text (codes "x"))) ExtensionFailure
   -- `decimal(1)`, `decimal()`: not a type failure
   pub call_long : FailsAs (to_decimal one) ExtensionFailure
-  pub call_no_argument : FailsAs (call tt decimal no_trees) ExtensionFailure
+  pub call_no_argument : FailsAs (call0 decimal) ExtensionFailure
   -- `decimal("1.0", "2.0")`: more arguments
-  pub call_more : FailsAs
-      (call tt decimal (tree (text (codes "1.0")) (tree (text (codes "2.0")) no_trees)))
+  pub call_more : FailsAs (call2 decimal (text (codes "1.0")) (text (codes "2.0")))
       ExtensionFailure
-  -- `ip("1.0")`: an unknown function
-  pub call_unknown : FailsAs (call tt (named (codes "ip")) (tree (text (codes "1.0")) no_trees))
-      ExtensionFailure
-  -- `decimal(User::"gone".age)`: a failure of an argument
+  -- `ip("1.0")`, `Social::decimal("1.0")`: an unknown function
+  pub call_unknown : FailsAs (call1 (named (codes "ip")) (text (codes "1.0"))) ExtensionFailure
+  pub call_other_path : FailsAs (call1 social_decimal (text (codes "1.0"))) ExtensionFailure
+  -- `lessThan(decimal("1.0"), decimal("2.0"))`, and the other way round: arguments in their order
+  pub call_two : YieldsTrue (call2 less_than decimal_one decimal_two)
+  pub call_two_back : FailsAs (call2 less_than decimal_two decimal_one) ExtensionFailure
+  -- `sum(1, 2)`, `sum(1)`, `sum(1, 2, 3)`: what is listed of so many arguments
+  pub call_sum : Yields (call2 sum one two) (number (pos 3))
+  pub call_sum_one : FailsAs (call1 sum one) ExtensionFailure
+  pub call_sum_three : FailsAs (call3 sum one two three) ExtensionFailure
+  -- `decimal(User::"gone".age)`, `sum(1, User::"gone".age)`: a failure of an argument
   pub call_fails : FailsAs (to_decimal missing) MissingEntity
+  pub call_later_fails : FailsAs (call2 sum one missing) MissingEntity
   -- `ip(1 + true, User::"gone".age)`: the first one, before the function is looked for
-  pub call_first_failure : FailsAs
-      (call tt (named (codes "ip")) (tree mistyped (tree missing no_trees))) TypeFailure
+  pub call_first_failure : FailsAs (call2 (named (codes "ip")) mistyped missing) TypeFailure
 
 pub record OrderExamples : Type 0 where
   -- `"a" + User::"gone".age`, `User::"gone".age + "a"`

@@ -1,12 +1,13 @@
 -- What `in`, `is`, attributes and tags come to.
 use Rattle.std.specs.Prelude.{pos, [], ◌∷◌, codes}
-use Rattle.cedar_types.specs.declared.base.operators.BinaryOp.{BinaryOp}
+use Rattle.cedar_types.specs.declared.base.expressions.operators.BinaryOp.{BinaryOp}
 use Rattle.cedar_types.specs.Tree.{binary, ext_has_attr}
 use Rattle.cedar_types.specs.Values.{VEntity}
 use Rattle.cedar_typing.specs.Evaluation.World.{TypeFailure, AbsentAttribute, AbsentTag, MissingEntity}
 use Rattle.cedar_typing.specs.Examples.Evaluation.{Yields, YieldsTrue, YieldsFalse, FailsAs}
 use Rattle.cedar_typing.specs.Examples.Expressions.{one, text, the, principal, context, dot, has, has2, set0, set2, record1, is, missing, mistyped}
-use Rattle.cedar_typing.specs.Examples.World.{user, group, alice, bob, gone, number, words}
+use Rattle.cedar_typing.specs.Examples.Greeting.{number, words}
+use Rattle.cedar_typing.specs.Examples.World.{user, group, alice, bob, gone}
 
 pub record MembershipExamples : Type 0 where
   -- `User::"alice" in User::"alice"`: itself

@@ -1,14 +1,15 @@
 -- What leaves and tests come to.
 use Rattle.std.specs.Prelude.{pos, true, codes}
-use Rattle.cedar_types.specs.declared.base.operators.Var.{Var}
-use Rattle.cedar_types.specs.declared.base.operators.UnaryOp.{UnaryOp}
-use Rattle.cedar_types.specs.declared.base.slots.SlotId.{SlotId}
+use Rattle.cedar_types.specs.declared.base.expressions.operators.Var.{Var}
+use Rattle.cedar_types.specs.declared.base.expressions.operators.UnaryOp.{UnaryOp}
+use Rattle.cedar_types.specs.declared.base.names.slots.SlotId.{SlotId}
 use Rattle.cedar_types.specs.Tree.{var, slot, unknown, if_then_else, and, or, unary, record_of, no_fields}
 use Rattle.cedar_types.specs.Values.{VBool, VEntity, VSet, VRecord, VExtension, no_values, no_entries, more_entries}
 use Rattle.cedar_typing.specs.Evaluation.World.{TypeFailure, MissingEntity, UnlinkedSlot, UnknownValue}
 use Rattle.cedar_typing.specs.Examples.Evaluation.{Yields, YieldsTrue, YieldsFalse, FailsAs}
 use Rattle.cedar_typing.specs.Examples.Expressions.{true_lit, false_lit, one, two, text, the, principal, context, set0, set2, set3, record2, missing, mistyped}
-use Rattle.cedar_typing.specs.Examples.World.{named, ip_address, alice, bob, gone, greet, number, words, two_values}
+use Rattle.cedar_typing.specs.Examples.Greeting.{number, words, two_values}
+use Rattle.cedar_typing.specs.Examples.World.{named, ip_address, alice, bob, gone, greet}
 
 pub record LeafExamples : Type 0 where
   -- `true`

@@ -1,12 +1,13 @@
 -- What operators on numbers, on any values and on sets come to.
 use Rattle.std.specs.Prelude.{pos, neg_ℤ, codes}
-use Rattle.cedar_types.specs.declared.base.operators.UnaryOp.{UnaryOp}
-use Rattle.cedar_types.specs.declared.base.operators.BinaryOp.{BinaryOp}
+use Rattle.cedar_types.specs.declared.base.expressions.operators.UnaryOp.{UnaryOp}
+use Rattle.cedar_types.specs.declared.base.expressions.operators.BinaryOp.{BinaryOp}
 use Rattle.cedar_types.specs.Tree.{unary, binary, record_of, no_fields}
 use Rattle.cedar_typing.specs.Evaluation.World.{TypeFailure, MissingEntity, Overflow}
 use Rattle.cedar_typing.specs.Examples.Evaluation.{Yields, YieldsTrue, YieldsFalse, FailsAs}
-use Rattle.cedar_typing.specs.Examples.Expressions.{true_lit, false_lit, num, one, two, three, least, greatest, text, the, principal, context, dot, set0, set1, set2, set3, record1, record2, to_decimal, missing, too_great}
-use Rattle.cedar_typing.specs.Examples.World.{group, alice, bob, number}
+use Rattle.cedar_typing.specs.Examples.Expressions.{true_lit, false_lit, num, one, two, three, least, greatest, text, the, principal, context, dot, set0, set1, set2, set3, record1, record2, decimal_one, decimal_two, a_duration, missing, too_great}
+use Rattle.cedar_typing.specs.Examples.Greeting.{number}
+use Rattle.cedar_typing.specs.Examples.World.{group, alice, bob}
 
 pub record NumberExamples : Type 0 where
   -- `-(1)`
@@ -63,34 +64,28 @@ pub record NumberExamples : Type 0 where
   -- `2 <= 1`
   pub at_most_smaller : YieldsFalse (binary tt BinaryOp.LessEq two one)
   -- `decimal("1.0") < decimal("2.0")`, and the other way round
-  pub less_decimal : YieldsTrue
-      (binary tt BinaryOp.Less (to_decimal (text (codes "1.0"))) (to_decimal (text (codes "2.0"))))
-  pub less_decimal_back : YieldsFalse
-      (binary tt BinaryOp.Less (to_decimal (text (codes "2.0"))) (to_decimal (text (codes "1.0"))))
+  pub less_decimal : YieldsTrue (binary tt BinaryOp.Less decimal_one decimal_two)
+  pub less_decimal_back : YieldsFalse (binary tt BinaryOp.Less decimal_two decimal_one)
   -- `decimal("1.0") < decimal("1.0")`: the pairs of `<` count
-  pub less_decimal_itself : YieldsFalse
-      (binary tt BinaryOp.Less (to_decimal (text (codes "1.0"))) (to_decimal (text (codes "1.0"))))
+  pub less_decimal_itself : YieldsFalse (binary tt BinaryOp.Less decimal_one decimal_one)
   -- `decimal("1.0") <= decimal("1.0")`: the pairs of `<=` count
-  pub at_most_decimal : YieldsTrue
-      (binary tt BinaryOp.LessEq (to_decimal (text (codes "1.0")))
-      (to_decimal (text (codes "1.0"))))
+  pub at_most_decimal : YieldsTrue (binary tt BinaryOp.LessEq decimal_one decimal_one)
   -- `decimal("2.0") <= decimal("1.0")`
-  pub at_most_decimal_back : YieldsFalse
-      (binary tt BinaryOp.LessEq (to_decimal (text (codes "2.0")))
-      (to_decimal (text (codes "1.0"))))
+  pub at_most_decimal_back : YieldsFalse (binary tt BinaryOp.LessEq decimal_two decimal_one)
+  -- `duration(decimal("1.0"), 1) <= duration(decimal("1.0"), 1)`: a type that is compared, of which
+  -- no pair is listed
+  pub at_most_duration : YieldsFalse (binary tt BinaryOp.LessEq a_duration a_duration)
   -- `context.address < context.address`: a type that is not compared
   pub less_address : FailsAs
       (binary tt BinaryOp.Less (dot context (codes "address")) (dot context (codes "address")))
       TypeFailure
-  -- `decimal("1.0") <= context.address`: two types
+  -- `decimal("1.0") <= context.address`, `decimal("1.0") < duration(decimal("1.0"), 1)`: two types
   pub at_most_two_types : FailsAs
-      (binary tt BinaryOp.LessEq (to_decimal (text (codes "1.0"))) (dot context (codes "address")))
-      TypeFailure
+      (binary tt BinaryOp.LessEq decimal_one (dot context (codes "address"))) TypeFailure
+  pub less_two_types : FailsAs (binary tt BinaryOp.Less decimal_one a_duration) TypeFailure
   -- `1 < decimal("2.0")`, `decimal("1.0") <= 2`
-  pub less_long_decimal : FailsAs (binary tt BinaryOp.Less one (to_decimal (text (codes "2.0"))))
-      TypeFailure
-  pub at_most_decimal_long : FailsAs
-      (binary tt BinaryOp.LessEq (to_decimal (text (codes "1.0"))) two) TypeFailure
+  pub less_long_decimal : FailsAs (binary tt BinaryOp.Less one decimal_two) TypeFailure
+  pub at_most_decimal_long : FailsAs (binary tt BinaryOp.LessEq decimal_one two) TypeFailure
   -- `"a" < "b"`, `1 <= "b"`
   pub less_texts : FailsAs (binary tt BinaryOp.Less (text (codes "a")) (text (codes "b")))
       TypeFailure
@@ -140,15 +135,12 @@ pub record EqualityExamples : Type 0 where
   pub record_more : YieldsFalse
       (binary tt BinaryOp.Eq (record2 (codes "a") one (codes "b") two) (record1 (codes "a") one))
   -- `decimal("1.0") == decimal("1.0")`, `decimal("1.0") == decimal("2.0")`
-  pub extension_equal : YieldsTrue
-      (binary tt BinaryOp.Eq (to_decimal (text (codes "1.0"))) (to_decimal (text (codes "1.0"))))
-  pub extension_other : YieldsFalse
-      (binary tt BinaryOp.Eq (to_decimal (text (codes "1.0"))) (to_decimal (text (codes "2.0"))))
+  pub extension_equal : YieldsTrue (binary tt BinaryOp.Eq decimal_one decimal_one)
+  pub extension_other : YieldsFalse (binary tt BinaryOp.Eq decimal_one decimal_two)
   -- `decimal("1.0") == context.address`, `decimal("1.0") == "1.0"`
   pub extension_other_type : YieldsFalse
-      (binary tt BinaryOp.Eq (to_decimal (text (codes "1.0"))) (dot context (codes "address")))
-  pub extension_and_text : YieldsFalse
-      (binary tt BinaryOp.Eq (to_decimal (text (codes "1.0"))) (text (codes "1.0")))
+      (binary tt BinaryOp.Eq decimal_one (dot context (codes "address")))
+  pub extension_and_text : YieldsFalse (binary tt BinaryOp.Eq decimal_one (text (codes "1.0")))
   -- `1 == "1"`, `[] == {}`, `[1] == 1`: kinds that differ are no failure
   pub other_kind : YieldsFalse (binary tt BinaryOp.Eq one (text (codes "1")))
   pub set_and_record : YieldsFalse (binary tt BinaryOp.Eq set0 (record_of tt no_fields))

@@ -1,6 +1,6 @@
 -- Typing of extended `has`.
 use Rattle.std.specs.Prelude.{ℕ, true, false, [], ◌∷◌, Some, None, codes}
-use Rattle.cedar_types.specs.declared.base.operators.Var.{Var}
+use Rattle.cedar_types.specs.declared.base.expressions.operators.Var.{Var}
 use Rattle.cedar_types.specs.declared.base.types.BoolType.TheVariants.{True, False}
 use Rattle.cedar_types.specs.declared.base.types.ValidationMode.TheVariants.{Strict}
 use Rattle.cedar_types.specs.Names.{Text}
@@ -15,8 +15,8 @@ use Rattle.cedar_typing.specs.Examples.Rules.{TypesAs, TypesAsIn, IsTyped, IsTyp
 use Rattle.cedar_typing.specs.Examples.Rules.Equality.{friend}
 use Rattle.cedar_typing.specs.Examples.Rules.Numbers.{nope}
 use Rattle.cedar_typing.specs.Examples.Rules.Tags.{anyone}
-use Rattle.cedar_typing.specs.Examples.World.{user, group, greet, a_context, sample, hidden}
-use Rattle.cedar_typing.specs.TypeEnv.{TypeEnv}
+use Rattle.cedar_typing.specs.Examples.World.{user, group, greet, a_context, sample_env, sample, hidden}
+use Rattle.cedar_typing.specs.Setting.{Setting}
 use Rattle.cedar_typing.specs.TypeTests.{object_types}
 use Rattle.cedar_typing.specs.TypedExpr.{TypedTree, typed}
 
@@ -59,17 +59,19 @@ abbrev pub typed_context : ℕ → TypedTree
 typed_context n = var (typed a_context (node n)) Var.Context
 
 -- a context with a team, of which the schema says nothing
-abbrev pub in_team : TypeEnv
+abbrev pub in_team : Setting
 in_team = record (sample Strict) {
-  request_env =
-      Declared
-      (record {
-        principal = user;
-        action = greet;
-        resource = user;
-        context = TRecord (attr (codes "team") (TEntity (group ∷ [])) true no_attrs) false;
-      })
-      None None;
+  env = record (sample_env Strict) {
+    request_env =
+        Declared
+        (record {
+          principal = user;
+          action = greet;
+          resource = user;
+          context = TRecord (attr (codes "team") (TEntity (group ∷ [])) true no_attrs) false;
+        })
+        None None;
+  };
 }
 
 -- an attribute that the schema does not declare, and that may be there

@@ -1,6 +1,6 @@
 -- Typing of `==`, `contains`, `containsAll` and `containsAny`.
 use Rattle.std.specs.Prelude.{[], ◌∷◌, Some, codes}
-use Rattle.cedar_types.specs.declared.base.operators.Var.{Var}
+use Rattle.cedar_types.specs.declared.base.expressions.operators.Var.{Var}
 use Rattle.cedar_types.specs.declared.base.errors.type_errors.LubContext.TheVariants.{Equality, Contains, ContainsAnyAll}
 use Rattle.cedar_types.specs.declared.base.types.BoolType.TheVariants.{True, False}
 use Rattle.cedar_types.specs.declared.base.types.ValidationMode.TheVariants.{Permissive}

@@ -1,7 +1,7 @@
 -- Typing of literals, variables, slots and unknowns.
 use Rattle.std.specs.Prelude.{[], ◌∷◌, None, codes}
-use Rattle.cedar_types.specs.declared.base.operators.Var.{Var}
-use Rattle.cedar_types.specs.declared.base.slots.SlotId.{SlotId}
+use Rattle.cedar_types.specs.declared.base.expressions.operators.Var.{Var}
+use Rattle.cedar_types.specs.declared.base.names.slots.SlotId.{SlotId}
 use Rattle.cedar_types.specs.declared.base.types.BoolType.TheVariants.{False}
 use Rattle.cedar_types.specs.declared.base.types.ValidationMode.TheVariants.{Partial}
 use Rattle.cedar_types.specs.Names.{Uid}

@@ -1,7 +1,7 @@
 -- Typing of `in`.
 use Rattle.std.specs.Prelude.{[], ◌∷◌, Some}
 use Rattle.cedar_types.specs.declared.base.errors.type_errors.LubContext.TheVariants.{Set}
-use Rattle.cedar_types.specs.declared.base.slots.SlotId.{SlotId}
+use Rattle.cedar_types.specs.declared.base.names.slots.SlotId.{SlotId}
 use Rattle.cedar_types.specs.declared.base.types.BoolType.TheVariants.{True, False}
 use Rattle.cedar_types.specs.declared.base.types.ValidationMode.TheVariants.{Permissive, Partial}
 use Rattle.cedar_types.specs.Types.{TBool, TLong, TSet, TAnyEntity}

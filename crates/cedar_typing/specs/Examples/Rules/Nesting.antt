@@ -1,18 +1,19 @@
 -- Typing at the limit of depth: what is too deep, and which errors were found before or beside it.
 use Rattle.std.specs.Prelude.{◌+◌, [], ◌∷◌, codes}
 use Rattle.cedar_types.specs.declared.base.errors.type_errors.LubContext.TheVariants.{Set}
-use Rattle.cedar_types.specs.declared.base.operators.UnaryOp.{UnaryOp}
-use Rattle.cedar_types.specs.declared.base.types.BoolType.TheVariants.{AnyBool, False}
+use Rattle.cedar_types.specs.declared.base.expressions.operators.UnaryOp.{UnaryOp}
+use Rattle.cedar_types.specs.declared.base.types.BoolType.TheVariants.{AnyBool, True, False}
 use Rattle.cedar_types.specs.declared.base.types.ValidationMode.TheVariants.{Strict}
 use Rattle.cedar_types.specs.Types.{TBool, TLong, TString}
 use Rattle.cedar_types.specs.Tree.{Shape, if_then_else, and, or, unary, ext_has_attr}
 use Rattle.cedar_types.specs.Capability.{attribute}
-use Rattle.cedar_types.specs.Errors.{incompatible_types}
+use Rattle.cedar_types.specs.Errors.{incompatible_types, undefined_function}
 use Rattle.cedar_typing.specs.Capabilities.{Caps, no_caps, single, union}
-use Rattle.cedar_typing.specs.Examples.Expressions.{true_lit, false_lit, one, text, principal, dot, has, has2, has_vip, get_boss, equal, less, plus, is_in, has_tag, get_tag, set3, record2, numbered}
-use Rattle.cedar_typing.specs.Examples.Rules.{CutsAt, typed_false, bool_at, typed_principal, error_at, not_a_bool, unguarded_boss}
+use Rattle.cedar_typing.specs.Examples.Expressions.{true_lit, false_lit, one, text, principal, dot, has, has2, has_vip, get_boss, equal, less, plus, is_in, has_tag, get_tag, set3, record2, call1, call2, call3, numbered}
+use Rattle.cedar_typing.specs.Examples.Rules.{CutsAt, typed_false, bool_at, typed_principal, error_at, not_a_bool, not_a_long, unguarded_boss}
+use Rattle.cedar_typing.specs.Examples.Rules.Calls.{find, wrong_number, refused_by_check, no_literal}
 use Rattle.cedar_typing.specs.Examples.Rules.Chains.{has3}
-use Rattle.cedar_typing.specs.Examples.World.{sample}
+use Rattle.cedar_typing.specs.Examples.World.{decimal, sum, sample}
 use Rattle.cedar_typing.specs.Judgments.{max_nesting}
 use Rattle.cedar_typing.specs.Rules.{Derives}
 use Rattle.cedar_typing.specs.TypedExpr.{TypedTree}
@@ -117,3 +118,16 @@ pub record NestingTyping : Type 0 where
   pub value_of_record : CutsAt 398 (record2 (codes "x") deep (codes "y") get_boss) []
   pub later_value_of_record : CutsAt 398 (record2 (codes "x") get_boss (codes "y") deep)
       (unguarded_boss 2 ∷ [])
+  -- `sum(1)` at depth 400: an argument is one deeper
+  pub only_argument : CutsAt max_nesting (call1 sum one) []
+  -- `sum(!(principal has vip), true)`: nothing is typed after an argument that is cut; the other
+  -- way round the error of the earlier one counts
+  pub argument_of_call : CutsAt 398 (call2 sum deep true_lit) []
+  pub later_argument_of_call : CutsAt 398 (call2 sum true_lit deep)
+      (not_a_long 2 (TBool True) ∷ [])
+  -- `find(principal.boss, !(principal has vip), principal.boss)`, `decimal("", !(principal has
+  -- vip))`: the errors of the call count too
+  pub argument_of_unknown : CutsAt 398 (call3 find get_boss deep get_boss)
+      (unguarded_boss 2 ∷ error_at 1 (undefined_function find) ∷ [])
+  pub argument_of_refused : CutsAt 398 (call2 decimal (text []) deep)
+      (wrong_number 1 2 ∷ refused_by_check ∷ no_literal ∷ [])

@@ -1,35 +1,60 @@
 -- Typing of negation, `isEmpty`, `like`, `is`, `+`, `-`, `*`, `<` and `<=`.
-use Rattle.std.specs.Prelude.{[], ◌∷◌, Some, codes}
-use Rattle.cedar_types.specs.declared.base.operators.BinaryOp.{BinaryOp}
-use Rattle.cedar_types.specs.declared.base.operators.UnaryOp.{UnaryOp}
-use Rattle.cedar_types.specs.declared.base.operators.Var.{Var}
-use Rattle.cedar_types.specs.declared.base.patterns.PatternElem.{PatternElem}
+use Rattle.std.specs.Prelude.{ℕ, List, [], ◌∷◌, Some, codes}
+use Rattle.cedar_types.specs.declared.base.expressions.operators.BinaryOp.{BinaryOp}
+use Rattle.cedar_types.specs.declared.base.expressions.operators.UnaryOp.{UnaryOp}
+use Rattle.cedar_types.specs.declared.base.expressions.operators.Var.{Var}
+use Rattle.cedar_types.specs.declared.base.expressions.patterns.PatternElem.{PatternElem}
 use Rattle.cedar_types.specs.declared.base.types.BoolType.TheVariants.{True, False}
-use Rattle.cedar_types.specs.declared.base.types.ValidationMode.TheVariants.{Permissive}
-use Rattle.cedar_types.specs.Types.{TBool, TLong, TString, TAnySet, TAnyEntity, TExtension}
+use Rattle.cedar_types.specs.declared.base.types.ValidationMode.TheVariants.{Strict, Permissive}
+use Rattle.cedar_types.specs.Types.{Ty, TBool, TLong, TString, TAnySet, TAnyEntity, TExtension}
 use Rattle.cedar_types.specs.Tree.{Shape, var, slot, if_then_else, unary, binary}
-use Rattle.cedar_types.specs.declared.base.slots.SlotId.{SlotId}
-use Rattle.cedar_types.specs.Errors.{unexpected_type}
-use Rattle.cedar_typing.specs.Examples.Expressions.{true_lit, one, two, text, set1, principal, context, dot, is, matching, less, at_most, plus, has_vip, get_rank}
+use Rattle.cedar_types.specs.declared.base.names.slots.SlotId.{SlotId}
+use Rattle.cedar_types.specs.Errors.{Finding, unexpected_type, function_argument_validation}
+use Rattle.cedar_typing.specs.Examples.Expressions.{true_lit, one, two, text, set1, principal, context, dot, is, matching, less, at_most, plus, has_vip, get_rank, to_decimal, decimal_one, decimal_two, a_duration}
 use Rattle.cedar_typing.specs.Examples.Rules.{IsTyped, IsTypedIn, IsRefused, IsRefusedIn, bool_type, error_at, not_a_long, unknown_rank}
-use Rattle.cedar_typing.specs.Examples.World.{sample, hidden, user, group, ip_address}
+use Rattle.cedar_typing.specs.Examples.World.{sample_env, sample, hidden, user, group, decimal, duration, ip_address, decimal_type, duration_type}
+use Rattle.cedar_typing.specs.Setting.{Setting}
 
 -- `if principal has vip then principal else action`, of two entity types in Permissive
 abbrev pub user_or_action : Shape
 user_or_action = if_then_else tt has_vip principal (var tt Var.Action)
 
--- `context.address`, of an extension type; `principal.nope`, of Never in Partial
+-- `context.address`, of an extension type that is not compared; `principal.nope`, of Never in
+-- Partial
 abbrev pub address : Shape
 address = dot context (codes "address")
+
+abbrev pub address_type : Ty
+address_type = TExtension ip_address
 
 abbrev pub nope : Shape
 nope = dot principal (codes "nope")
 
+-- the same setting, which lists the extension types that are compared the other way round
+abbrev pub listed_back : Setting
+listed_back = record (sample Strict) {
+  env = record (sample_env Strict) { overloaded_types = duration ∷ decimal ∷ [] };
+}
+
+-- the types that are compared: Long, and then those of the extensions
+abbrev pub compared_types : List Ty
+compared_types = TLong ∷ decimal_type ∷ duration_type ∷ []
+
+-- one of them is wanted, and a type t is there
+abbrev pub not_compared : ℕ → Ty → Finding
+not_compared n t = error_at n (unexpected_type compared_types t)
+
+-- a decimal is wanted, and a type t is there
+abbrev pub not_a_decimal : ℕ → Ty → Finding
+not_a_decimal n t = error_at n (unexpected_type (decimal_type ∷ []) t)
+
 pub record OperatorTyping : Type 0 where
   -- the negation of `1`; of `true`: the type stays; of `principal.rank`: no other error
   pub negation : IsTyped (unary tt UnaryOp.Neg one) TLong
-  pub negation_refused : IsRefused (unary tt UnaryOp.Neg true_lit) (Some TLong) (not_a_long 2 (TBool True) ∷ [])
-  pub negation_missing : IsRefused (unary tt UnaryOp.Neg get_rank) (Some TLong) (unknown_rank 2 ∷ [])
+  pub negation_refused : IsRefused (unary tt UnaryOp.Neg true_lit) (Some TLong)
+      (not_a_long 2 (TBool True) ∷ [])
+  pub negation_missing : IsRefused (unary tt UnaryOp.Neg get_rank) (Some TLong)
+      (unknown_rank 2 ∷ [])
   -- `[1].isEmpty()`, `(1).isEmpty()`
   pub empty : IsTyped (unary tt UnaryOp.IsEmpty (set1 one)) bool_type
   pub empty_refused : IsRefused (unary tt UnaryOp.IsEmpty one) (Some bool_type)
@@ -68,20 +93,42 @@ pub record NumberTyping : Type 0 where
       (not_a_long 3 (TBool True) ∷ [])
   pub right_is_long : IsRefused (less true_lit one) (Some bool_type)
       (not_a_long 2 (TBool True) ∷ [])
-  -- neither is: an error at each; an extension type is none that is compared yet
-  pub neither_is_long : IsRefused (less true_lit (text (codes "a"))) (Some bool_type)
-      (not_a_long 2 (TBool True) ∷ not_a_long 3 TString ∷ [])
+  pub decimal_and_long : IsRefused (less decimal_one one) (Some bool_type)
+      (not_a_long 2 decimal_type ∷ [])
+  pub long_and_decimal : IsRefused (less one decimal_one) (Some bool_type)
+      (not_a_long 3 decimal_type ∷ [])
+  -- `decimal("1.0") < decimal("2.0")`, `decimal("1.0") <= decimal("2.0")`
+  pub decimals : IsTyped (less decimal_one decimal_two) bool_type
+  pub decimals_at_most : IsTyped (at_most decimal_one decimal_two) bool_type
+  -- one side is a decimal: an error at the other, also of another extension type that is compared
+  pub left_is_decimal : IsRefused (less decimal_one (text (codes "a"))) (Some bool_type)
+      (not_a_decimal 4 TString ∷ [])
+  pub right_is_decimal : IsRefused (less address decimal_one) (Some bool_type)
+      (not_a_decimal 2 address_type ∷ [])
+  pub decimal_and_duration : IsRefused (less decimal_one a_duration) (Some bool_type)
+      (not_a_decimal 4 duration_type ∷ [])
+  -- neither is of a type that is compared: an error at each, also of one extension type
+  pub neither_compared : IsRefused (less true_lit (text (codes "a"))) (Some bool_type)
+      (not_compared 2 (TBool True) ∷ not_compared 3 TString ∷ [])
   pub addresses : IsRefused (less address address) (Some bool_type)
-      (not_a_long 2 (TExtension ip_address) ∷ not_a_long 4 (TExtension ip_address) ∷ [])
+      (not_compared 2 address_type ∷ not_compared 4 address_type ∷ [])
+  -- the types that are expected ascend, however they are listed
+  pub in_order : IsRefusedIn listed_back (less address address) (Some bool_type)
+      (not_compared 2 address_type ∷ not_compared 4 address_type ∷ [])
+  -- `decimal("") < decimal("1.0")`: a side that failed with a type
+  pub decimal_failed : IsRefused (less (to_decimal (text [])) decimal_one) (Some bool_type)
+      (error_at 2 (function_argument_validation (codes "empty")) ∷ [])
   -- `principal.rank < "a"`: a side without a type is no other error
   pub side_missing : IsRefused (less get_rank (text (codes "a"))) (Some bool_type)
       (unknown_rank 2 ∷ [])
-  -- in Partial, beside Never: a Long passes, another type is an error there; two Nevers fail
-  -- without one
+  -- in Partial, beside Never: a type that is compared passes, another one is an error there; two
+  -- Nevers fail without one
   pub never_and_long : IsTypedIn hidden (less nope one) bool_type
   pub long_and_never : IsTypedIn hidden (less one nope) bool_type
+  pub never_and_decimal : IsTypedIn hidden (less nope decimal_one) bool_type
+  pub duration_and_never : IsTypedIn hidden (less a_duration nope) bool_type
   pub never_and_text : IsRefusedIn hidden (less nope (text (codes "a"))) (Some bool_type)
-      (not_a_long 4 TString ∷ [])
+      (not_compared 4 TString ∷ [])
   pub text_and_never : IsRefusedIn hidden (less (text (codes "a")) nope) (Some bool_type)
-      (not_a_long 2 TString ∷ [])
+      (not_compared 2 TString ∷ [])
   pub two_nevers : IsRefusedIn hidden (less nope nope) (Some bool_type) []

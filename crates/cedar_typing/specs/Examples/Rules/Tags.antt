@@ -1,9 +1,9 @@
 -- Typing of `hasTag` and `getTag`.
 use Rattle.std.specs.Prelude.{ℕ, [], ◌∷◌, Some, None, codes}
 use Rattle.cedar_types.specs.declared.base.errors.type_errors.LubContext.TheVariants.{GetTag}
-use Rattle.cedar_types.specs.declared.base.operators.BinaryOp.{BinaryOp}
-use Rattle.cedar_types.specs.declared.base.operators.Var.{Var}
-use Rattle.cedar_types.specs.declared.base.slots.SlotId.{SlotId}
+use Rattle.cedar_types.specs.declared.base.expressions.operators.BinaryOp.{BinaryOp}
+use Rattle.cedar_types.specs.declared.base.expressions.operators.Var.{Var}
+use Rattle.cedar_types.specs.declared.base.names.slots.SlotId.{SlotId}
 use Rattle.cedar_types.specs.declared.base.types.BoolType.TheVariants.{True, False}
 use Rattle.cedar_types.specs.declared.base.types.ValidationMode.TheVariants.{Strict, Permissive}
 use Rattle.cedar_types.specs.Types.{Ty, TBool, TLong, TString, TEntity, TAnyEntity}
@@ -15,13 +15,15 @@ use Rattle.cedar_typing.specs.Examples.Expressions.{one, text, principal, equal,
 use Rattle.cedar_typing.specs.Examples.Rules.{TypesAs, TypesAsIn, IsRefused, IsRefusedIn, IsRefusedKnowing, IsRefusedKnowingIn, bool_type, bool_at, true_at, false_at, typed_principal, typed_has_vip, error_at, unguarded_boss, unknown_rank}
 use Rattle.cedar_typing.specs.Examples.Rules.Equality.{action}
 use Rattle.cedar_typing.specs.Examples.Rules.Numbers.{user_or_action, nope}
-use Rattle.cedar_typing.specs.Examples.World.{sample_schema, sample, hidden, user, greet, an_action}
-use Rattle.cedar_typing.specs.TypeEnv.{TypeEnv}
+use Rattle.cedar_typing.specs.Examples.World.{sample_schema, sample_env, sample, hidden, user, greet, an_action}
+use Rattle.cedar_typing.specs.Setting.{Setting}
 use Rattle.cedar_typing.specs.TypedExpr.{TypedTree, typed}
 
 -- a schema without entity types
-abbrev pub untagged : TypeEnv
-untagged = record (sample Strict) { schema = record sample_schema { types = [] } }
+abbrev pub untagged : Setting
+untagged = record (sample Strict) {
+  env = record (sample_env Strict) { schema = record sample_schema { types = [] } };
+}
 
 -- `"role"`, and as it is typed
 abbrev pub role : Shape

@@ -1,14 +1,12 @@
--- Typing of `!`, and of a form without a rule.
-use Rattle.std.specs.Prelude.{[], ◌∷◌, codes}
-use Rattle.cedar_types.specs.declared.base.operators.UnaryOp.{UnaryOp}
+-- Typing of `!`.
+use Rattle.std.specs.Prelude.{[], ◌∷◌}
+use Rattle.cedar_types.specs.declared.base.expressions.operators.UnaryOp.{UnaryOp}
 use Rattle.cedar_types.specs.declared.base.types.BoolType.TheVariants.{AnyBool, True, False}
 use Rattle.cedar_types.specs.Types.{TBool}
 use Rattle.cedar_types.specs.Tree.{and, unary}
-use Rattle.cedar_types.specs.Errors.{internal_invariant_violation}
 use Rattle.cedar_typing.specs.Capabilities.{no_caps}
-use Rattle.cedar_typing.specs.Examples.Expressions.{true_lit, false_lit, one, text, to_decimal, has_vip, get_vip, get_rank, node}
-use Rattle.cedar_typing.specs.Examples.Rules.{TypesAs, FailsWith, bool_at, true_at, false_at, typed_true, typed_false, refused_one, typed_has_vip, typed_get_vip, untyped_get_rank, error_at, not_a_bool, unguarded_vip, unknown_rank}
-use Rattle.cedar_typing.specs.Rules.Leaves.{nameless}
+use Rattle.cedar_typing.specs.Examples.Expressions.{true_lit, false_lit, one, has_vip, get_vip, get_rank}
+use Rattle.cedar_typing.specs.Examples.Rules.{TypesAs, FailsWith, bool_at, true_at, false_at, typed_true, typed_false, refused_one, typed_has_vip, typed_get_vip, untyped_get_rank, not_a_bool, unguarded_vip, unknown_rank}
 
 pub record UnaryTyping : Type 0 where
   -- `!true`, `!false`: True and False change places; `!(principal has vip)`: Bool; nothing is
@@ -29,6 +27,3 @@ pub record UnaryTyping : Type 0 where
   -- `!(principal.rank)`: an operand without a type is no other error, and the whole is Bool
   pub not_missing : FailsWith (unary tt UnaryOp.Not get_rank)
       (unary (bool_at 1) UnaryOp.Not (untyped_get_rank 2 3)) (unknown_rank 2 ∷ [])
-  -- `decimal("1.0")`, which has no rule yet
-  pub without_rule : FailsWith (to_decimal (text (codes "1.0")))
-      (nameless (node 1).place) (error_at 1 internal_invariant_violation ∷ [])

@@ -14,7 +14,7 @@ ghost use Rattle.cedar_typing.specs.Views.{env_at, at, decision_of, findings};
 
 use crate::typecheck::capabilities::{no_capabilities, one_capability};
 use crate::typecheck::rules::eager::Decision;
-use crate::typecheck::single_env::SingleEnvTypechecker;
+use crate::typecheck::type_env::TypeEnv;
 use crate::typecheck::type_tests::{any_bool, is_record_type};
 use cedar_types::base::{
     BoolType, CedarType, Expr, ExprKind, Loc, ValidationError, ValidationMode,
@@ -30,7 +30,7 @@ fn attribute_of<'a>(base: &'a Expr, attr: &RcStr) -> Result<Capability<'a>, Allo
     Ok(Capability::new_attribute(base, attr.clone()?))
 }
 
-impl SingleEnvTypechecker<'_, '_, '_, '_> {
+impl TypeEnv<'_, '_, '_, '_> {
     /// The type of `base has attr` by that of the base, and that the attribute is there, where it is declared.
     pub(crate) fn decide_has<'a>(
         &self,

@@ -17,7 +17,7 @@ use crate::typecheck::operands::Expected;
 use crate::typecheck::rules::attributes::declared_type;
 use crate::typecheck::rules::eager::{Decision, gives, refuses_with};
 use crate::typecheck::rules::leaves::bool_type;
-use crate::typecheck::single_env::SingleEnvTypechecker;
+use crate::typecheck::type_env::TypeEnv;
 use crate::typecheck::type_tests::{any_bool, is_false_type, is_true_type};
 use cedar_types::base::{AttrChain, BoolType, CedarType, Expr, ExprKind, Loc};
 use cedar_types::types::capability::{Capability, CapabilitySet};
@@ -114,7 +114,7 @@ fn knows<'a>(prior: &CapabilitySet<'a>, progress: &Progress<'a>, there: &Capabil
     prior.contains(there) | progress.earned.contains(there)
 }
 
-impl SingleEnvTypechecker<'_, '_, '_, '_> {
+impl TypeEnv<'_, '_, '_, '_> {
     /// The type of `base has x.y` by that of the base, and what it earns. Errors of the first attribute stand at the base,
     /// those of later ones at `loc`.
     pub(crate) fn decide_chain<'a>(

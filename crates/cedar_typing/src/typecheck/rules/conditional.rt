@@ -13,20 +13,24 @@ ghost use Rattle.cedar_typing.specs.Infer.Parts.{part_from};
 ghost use Rattle.cedar_typing.specs.Joins.{joined, join_errors, bound_errors};
 ghost use Rattle.cedar_typing.specs.Judgments.{max_nesting};
 ghost use Rattle.cedar_typing.specs.TypedExpr.{annotation, typed_tree, typed_as};
+ghost use Rattle.cedar_typing.specs.SettingViews.{setting_at};
 ghost use Rattle.cedar_typing.specs.Views.{env_at, answer_of, part_of, findings, at};
 
 use crate::typecheck::answer::{Part, TypecheckAnswer};
 use crate::typecheck::capabilities::{intersection_of, union_of};
 use crate::typecheck::operands::{Expected, any_part};
 use crate::typecheck::single_env::SingleEnvTypechecker;
+use crate::typecheck::type_env::TypeEnv;
 use crate::typecheck::type_tests::{is_typed_false, is_typed_true};
 use crate::typecheck::typed_nodes::with_capabilities;
-use cedar_types::base::{CedarType, Expr, ExprKind, Loc, LubContext, ValidationError};
+use cedar_types::base::{
+    ArgumentCheck, CedarType, Expr, ExprKind, Loc, LubContext, ValidationError,
+};
 use cedar_types::types::capability::CapabilitySet;
 use std::alloc::{AllocError, Global};
 use std::rc::Rc;
 
-impl SingleEnvTypechecker<'_, '_, '_, '_> {
+impl<C: ArgumentCheck> SingleEnvTypechecker<'_, '_, '_, '_, C> {
     #[cycle(typing)]
     pub(crate) fn type_if<'a>(
         &self,
@@ -40,7 +44,7 @@ impl SingleEnvTypechecker<'_, '_, '_, '_> {
     ) -> Result<TypecheckAnswer<'a>, AllocError>
         requires { depth ≤ max_nesting }
         ensures { IfOk result (λ r.
-            infer_within (env_at self.now)
+            infer_within (setting_at C.refusal self.now)
             (if_then_else (at loc) (written test.now) (written then_expr.now)
             (written else_expr.now)) (caps prior.now) depth (findings errors.old.items)
             ≡ (answer_of r, findings errors.new.items)) }
@@ -49,29 +53,31 @@ impl SingleEnvTypechecker<'_, '_, '_, '_> {
             return Ok(TypecheckAnswer::RecursionLimit);
         };
         if is_typed_true(&test.typed) {
-            let known = union_of(self.alloc, prior, &test.capabilities)?;
+            let known = union_of(self.env.alloc, prior, &test.capabilities)?;
             let branch = self.typecheck(&known, depth + 1, then_expr, errors)?;
-            let Some(branch) = any_part(self.alloc, branch) else {
+            let Some(branch) = any_part(self.env.alloc, branch) else {
                 return Ok(TypecheckAnswer::RecursionLimit);
             };
-            let answer = true_test_answer(self.alloc, loc, test, branch)?;
+            let answer = true_test_answer(self.env.alloc, loc, test, branch)?;
             return Ok(answer);
         }
         if is_typed_false(&test.typed) {
             let branch = self.typecheck(prior, depth + 1, else_expr, errors)?;
-            let Some(branch) = any_part(self.alloc, branch) else {
+            let Some(branch) = any_part(self.env.alloc, branch) else {
                 return Ok(TypecheckAnswer::RecursionLimit);
             };
-            let answer = false_test_answer(self.alloc, loc, test, branch)?;
+            let answer = false_test_answer(self.env.alloc, loc, test, branch)?;
             return Ok(answer);
         }
-        let known = union_of(self.alloc, prior, &test.capabilities)?;
+        let known = union_of(self.env.alloc, prior, &test.capabilities)?;
         let one = self.typecheck(&known, depth + 1, then_expr, errors)?;
         let other = self.typecheck(prior, depth + 1, else_expr, errors)?;
-        let answer = self.open_test_answer(loc, test, one, other, errors)?;
+        let answer = self.env.open_test_answer(loc, test, one, other, errors)?;
         Ok(answer)
     }
+}
 
+impl TypeEnv<'_, '_, '_, '_> {
     /// `if` at `loc`, where the test is open and both branches were typed.
     fn open_test_answer<'a>(
         &self,

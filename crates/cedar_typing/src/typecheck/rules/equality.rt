@@ -7,14 +7,14 @@ ghost use Rattle.cedar_typing.specs.Rules.Equality.{action_literal, literal_of, 
 ghost use Rattle.cedar_typing.specs.Views.{env_at, decision_of};
 
 use crate::typecheck::rules::eager::{Decision, gives, gives_unless};
-use crate::typecheck::single_env::SingleEnvTypechecker;
+use crate::typecheck::type_env::TypeEnv;
 use crate::typecheck::type_tests::{any_bool, is_any_bool_type};
 use cedar_types::base::{
     BoolType, CedarType, EntityUID, Expr, ExprKind, Literal, Loc, LubContext, Var,
 };
 use std::alloc::AllocError;
 
-impl SingleEnvTypechecker<'_, '_, '_, '_> {
+impl TypeEnv<'_, '_, '_, '_> {
     /// What `left == right` has for a type by theirs.
     pub(crate) fn decide_equality<'a>(
         &self,
@@ -77,7 +77,7 @@ impl SingleEnvTypechecker<'_, '_, '_, '_> {
         ensures { IfOk result (λ o.
             option_map lit_of o ≡ action_literal (env_at self.now).request_env) }
     {
-        match self.env.action_entity_uid() {
+        match self.request_env.action_entity_uid() {
             Some(action) => Ok(Some(Literal::EntityUID(EntityUID::clone(action)?))),
             None => Ok(None),
         }

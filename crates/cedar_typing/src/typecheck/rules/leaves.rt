@@ -1,15 +1,15 @@
-// Expressions without parts: literals, variables, slots, unknowns, and forms without a rule yet.
+// Expressions without parts: literals, variables, slots and unknowns.
 ghost use Rattle.std.specs.Prelude.{◌≡◌, IfOk, None, Some, option_map};
 ghost use Rattle.cedar_types.specs.Names.{type_of, uid_of, path_of};
 ghost use Rattle.cedar_types.specs.Types.{ty_of};
 ghost use Rattle.cedar_types.specs.Tree.{entity, lit, var, slot as slot_tree};
 ghost use Rattle.cedar_types.specs.View.{lit_of, lit_places};
-ghost use Rattle.cedar_typing.specs.Infer.Leaves.{infer_leaf, infer_unknown, infer_unbuilt};
+ghost use Rattle.cedar_typing.specs.Infer.Leaves.{infer_leaf, infer_unknown};
 ghost use Rattle.cedar_typing.specs.Rules.Leaves.{bool_ty, linked_ty, slot_ty, type_of_literal, variable_type};
 ghost use Rattle.cedar_typing.specs.Views.{env_at, answer_of, findings, at};
 
 use crate::typecheck::answer::TypecheckAnswer;
-use crate::typecheck::single_env::SingleEnvTypechecker;
+use crate::typecheck::type_env::TypeEnv;
 use crate::typecheck::typed_nodes::without_capabilities;
 use cedar_types::base::{
     BoolType, CedarType, EntityKind, EntityType, EntityUID, Expr, ExprKind, Literal, Loc, Name,
@@ -18,7 +18,7 @@ use cedar_types::base::{
 use std::alloc::{AllocError, Global};
 use std::rc::RcStr;
 
-impl SingleEnvTypechecker<'_, '_, '_, '_> {
+impl TypeEnv<'_, '_, '_, '_> {
     pub(crate) fn check_literal<'a>(
         &self,
         loc: Option<Loc>,
@@ -65,10 +65,10 @@ impl SingleEnvTypechecker<'_, '_, '_, '_> {
         ensures { IfOk result (λ o. option_map ty_of o ≡ variable_type (env_at self.now) variable) }
     {
         match variable {
-            Var::Principal => Ok(Some(self.env.principal_type(self.alloc)?)),
-            Var::Action => self.env.action_type(self.alloc, self.schema),
-            Var::Resource => Ok(Some(self.env.resource_type(self.alloc)?)),
-            Var::Context => Ok(Some(self.env.context_type(self.alloc)?)),
+            Var::Principal => Ok(Some(self.request_env.principal_type(self.alloc)?)),
+            Var::Action => self.request_env.action_type(self.alloc, self.schema),
+            Var::Resource => Ok(Some(self.request_env.resource_type(self.alloc)?)),
+            Var::Context => Ok(Some(self.request_env.context_type(self.alloc)?)),
         }
     }
 
@@ -83,8 +83,8 @@ impl SingleEnvTypechecker<'_, '_, '_, '_> {
             (λ k. slot_tree k slot)) }
     {
         let linked = match slot {
-            SlotId::Principal => self.env.principal_slot(),
-            SlotId::Resource => self.env.resource_slot(),
+            SlotId::Principal => self.request_env.principal_slot(),
+            SlotId::Resource => self.request_env.resource_slot(),
         };
         let typed = Expr {
             annotation: Some(linked_type(self.alloc, linked)?),
@@ -102,29 +102,6 @@ impl SingleEnvTypechecker<'_, '_, '_, '_> {
             annotation: None,
             loc: None,
             kind: ExprKind::Unknown(name.clone()?),
-        }))
-    }
-
-    /// A form without a rule yet: an error, and no type.
-    pub(crate) fn type_unbuilt<'a>(
-        &self,
-        loc: Option<Loc>,
-        errors: &mut Vec<ValidationError>,
-    ) -> Result<TypecheckAnswer<'a>, AllocError>
-        ensures { IfOk result (λ r.
-            infer_unbuilt (env_at self.now) loc (findings errors.old.items)
-            ≡ (answer_of r, findings errors.new.items)) }
-    {
-        let policy_id = self.policy_id.clone()?;
-        let nameless = Name {
-            path: Vec::new(self.alloc),
-            basename: RcStr::from_str(self.alloc, "")?,
-        };
-        errors.push(ValidationError::internal_invariant_violation(loc, policy_id))?;
-        Ok(TypecheckAnswer::fail(Expr {
-            annotation: None,
-            loc,
-            kind: ExprKind::Unknown(nameless),
         }))
     }
 

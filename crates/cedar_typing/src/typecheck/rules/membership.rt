@@ -11,7 +11,7 @@ ghost use Rattle.cedar_typing.specs.Views.{env_at, decision_of};
 
 use crate::typecheck::rules::eager::{Decision, gives};
 use crate::typecheck::rules::leaves::bool_type;
-use crate::typecheck::single_env::SingleEnvTypechecker;
+use crate::typecheck::type_env::TypeEnv;
 use crate::typecheck::type_tests::any_bool;
 use cedar_types::base::{
     BoolType, CedarType, EntityKind, EntityLUB, EntityUID, Expr, ExprKind, Literal, ValidationMode,
@@ -19,7 +19,7 @@ use cedar_types::base::{
 use std::alloc::{AllocError, Global};
 use std::collections::BTreeSet;
 
-impl SingleEnvTypechecker<'_, '_, '_, '_> {
+impl TypeEnv<'_, '_, '_, '_> {
     /// What `left in right` has for a type: of an action in entities that all stand as they are by the schema's actions,
     /// else by the types of both.
     pub(crate) fn decide_in<'a>(

@@ -1,17 +1,22 @@
 // `<` and `<=`.
-ghost use Rattle.std.specs.Prelude.{◌≡◌, [], ◌∷◌, IfOk, option_map};
+ghost use Rattle.std.specs.Prelude.{◌≡◌, IfOk, map, option_map};
+ghost use Rattle.cedar_types.specs.Bounds.{ty_eq};
 ghost use Rattle.cedar_types.specs.Types.{ty_of, TLong};
+ghost use Rattle.std.specs.List.{list_any};
+ghost use Rattle.cedar_types.specs.Names.{path_eq, path_of};
 ghost use Rattle.cedar_types.specs.Errors.{finding_of};
 ghost use Rattle.cedar_typing.specs.Rules.Numbers.{comparable_types, is_comparable, expected_at, beside_never, incomparable, compares, compare_decides};
-ghost use Rattle.cedar_typing.specs.Views.{env_at, decision_of, findings};
+ghost use Rattle.cedar_typing.specs.Views.{env_at, decision_of, extension_named, findings};
 
+use crate::typecheck::operands::Expected;
 use crate::typecheck::rules::eager::{Decision, gives, gives_unless};
-use crate::typecheck::single_env::SingleEnvTypechecker;
+use crate::typecheck::type_env::TypeEnv;
 use crate::typecheck::type_tests::{any_bool, is_never_type};
-use cedar_types::base::{CedarType, Loc, ValidationError, types_in_order};
+use cedar_types::base::{CedarType, Loc, Name, ValidationError, types_in_order};
 use std::alloc::AllocError;
+use std::rc::Rc;
 
-impl SingleEnvTypechecker<'_, '_, '_, '_> {
+impl TypeEnv<'_, '_, '_, '_> {
     /// What a comparison of operands at these places has for a type by theirs.
     pub(crate) fn decide_comparison<'a>(
         &self,
@@ -55,7 +60,7 @@ impl SingleEnvTypechecker<'_, '_, '_, '_> {
             let errors = self.beside_never(left_loc, left)?;
             return Ok(gives_unless(self.alloc, errors, any_bool()));
         }
-        if is_comparable(left) & is_comparable(right) {
+        if self.is_comparable(left) && is_same_type(left, right) {
             return Ok(gives(self.alloc, any_bool()));
         }
         let errors = self.incomparable(left_loc, right_loc, left, right)?;
@@ -72,10 +77,10 @@ impl SingleEnvTypechecker<'_, '_, '_, '_> {
             findings v.items ≡ beside_never (env_at self.now) loc (ty_of ty.now)) }
     {
         let mut errors = Vec::new(self.alloc);
-        if is_comparable(ty) {
+        if self.is_comparable(ty) {
             return Ok(errors);
         }
-        errors.push(self.expected_long(loc, ty)?)?;
+        errors.push(self.expected_comparable(loc, ty)?)?;
         Ok(errors)
     }
 
@@ -92,36 +97,70 @@ impl SingleEnvTypechecker<'_, '_, '_, '_> {
             ≡ incomparable (env_at self.now) left_loc right_loc (ty_of left.now) (ty_of right.now)) }
     {
         let mut errors = Vec::new(self.alloc);
-        if is_comparable(left) {
-            errors.push(self.expected_long(right_loc, right)?)?;
-            return Ok(errors);
+        if is_long(left) {
+            errors.push(self.unexpected(Expected::Long, right_loc, right)?)?;
+        } else if is_long(right) {
+            errors.push(self.unexpected(Expected::Long, left_loc, left)?)?;
+        } else if self.is_comparable(left) {
+            errors.push(self.unexpected(Expected::Exactly(left), right_loc, right)?)?;
+        } else if self.is_comparable(right) {
+            errors.push(self.unexpected(Expected::Exactly(right), left_loc, left)?)?;
+        } else {
+            errors.push(self.expected_comparable(left_loc, left)?)?;
+            errors.push(self.expected_comparable(right_loc, right)?)?;
         }
-        if is_comparable(right) {
-            errors.push(self.expected_long(left_loc, left)?)?;
-            return Ok(errors);
-        }
-        errors.push(self.expected_long(left_loc, left)?)?;
-        errors.push(self.expected_long(right_loc, right)?)?;
         Ok(errors)
     }
 
-    /// That a Long is expected at `loc`, the only type that is compared.
-    fn expected_long(&self, loc: Option<Loc>, ty: &CedarType) -> Result<ValidationError, AllocError>
+    /// That one of the types that are compared is expected at `loc`.
+    fn expected_comparable(
+        &self,
+        loc: Option<Loc>,
+        ty: &CedarType,
+    ) -> Result<ValidationError, AllocError>
         ensures { IfOk result (λ e.
-            finding_of e ≡ expected_at (env_at self.now) loc comparable_types (ty_of ty.now)) }
+            finding_of e
+            ≡ expected_at (env_at self.now) loc (comparable_types (env_at self.now)) (ty_of ty.now)) }
     {
         let policy_id = self.policy_id.clone()?;
-        let mut types = Vec::new(self.alloc);
-        types.push(CedarType::Long)?;
-        let types = types_in_order(self.alloc, types)?;
+        let types = types_in_order(self.alloc, self.comparable_types()?)?;
         let actual = ty.clone()?;
         Ok(ValidationError::expected_one_of_types(loc, policy_id, types, actual))
     }
+
+    /// The types that are compared: Longs, and the overloaded extension types.
+    fn comparable_types(&self) -> Result<Vec<CedarType>, AllocError>
+        ensures { IfOk result (λ v. map ty_of v.items ≡ comparable_types (env_at self.now)) }
+    {
+        let mut types = Vec::new(self.alloc);
+        types.push(CedarType::Long)?;
+        for name in self.overloaded_types.iter() {
+            let name = Rc::new(self.alloc, name.clone()?)?;
+            types.push(CedarType::Extension(name))?;
+        }
+        Ok(types)
+    }
+
+    /// Whether `<` and `<=` compare values of this type.
+    fn is_comparable(&self, ty: &CedarType) -> bool
+        ensures { result ≡ is_comparable (env_at self.now) (ty_of ty.now) }
+    {
+        match extension_name(ty) {
+            Some(name) => self.is_overloaded(name),
+            None => is_long(ty),
+        }
+    }
+
+    /// Whether values of this extension type are compared.
+    fn is_overloaded(&self, name: &Name) -> bool
+        ensures { result ≡ list_any (path_eq (path_of name.now)) (env_at self.now).overloaded_types }
+    {
+        self.overloaded_types.contains(name)
+    }
 }
 
-/// Whether `<` and `<=` compare values of this type: Longs alone.
-fn is_comparable(ty: &CedarType) -> bool
-    ensures { result ≡ is_comparable (ty_of ty.now) }
+fn is_long(ty: &CedarType) -> bool
+    ensures { result ≡ ty_eq (ty_of ty.now) TLong }
 {
     match ty {
         CedarType::Long => true,
@@ -137,4 +176,30 @@ fn is_comparable(ty: &CedarType) -> bool
         CedarType::Entity(_) => false,
         CedarType::Extension(_) => false,
     }
+}
+
+/// The name of an extension type.
+fn extension_name(ty: &CedarType) -> Option<&Name>
+    ensures { option_map (λ n. path_of n.now) result ≡ extension_named (ty_of ty.now) }
+{
+    match ty {
+        CedarType::Extension(name) => Some(name),
+        CedarType::Never => None,
+        CedarType::Bool(_) => None,
+        CedarType::Long => None,
+        CedarType::String => None,
+        CedarType::Set(_) => None,
+        CedarType::AnySet => None,
+        CedarType::Record {
+            attributes: _attributes,
+            is_open: _open,
+        } => None,
+        CedarType::Entity(_) => None,
+    }
+}
+
+fn is_same_type(one: &CedarType, other: &CedarType) -> bool
+    ensures { result ≡ ty_eq (ty_of one.now) (ty_of other.now) }
+{
+    *one == *other
 }

@@ -7,7 +7,8 @@ ghost use Rattle.cedar_typing.specs.Eager.{first_expectation};
 ghost use Rattle.cedar_typing.specs.Infer.Eager.{infer_decided};
 ghost use Rattle.cedar_typing.specs.Judgments.{max_nesting};
 ghost use Rattle.cedar_typing.specs.TypedExpr.{annotation, typed_as, typed_tree};
-ghost use Rattle.cedar_typing.specs.Views.{env_at, expected_types, answer_of, part_of, findings, decision_of, form_of_one, mark_of_one, infer_one};
+ghost use Rattle.cedar_typing.specs.SettingViews.{setting_at, infer_one};
+ghost use Rattle.cedar_typing.specs.Views.{env_at, expected_types, answer_of, part_of, findings, decision_of, form_of_one, mark_of_one};
 
 use crate::typecheck::answer::{Part, TypecheckAnswer};
 use crate::typecheck::operands::Expected;
@@ -16,10 +17,12 @@ use crate::typecheck::rules::chains::chain_node;
 use crate::typecheck::rules::eager::{Decision, add_errors, gives};
 use crate::typecheck::rules::unary::{decide_is, decide_not, is_node, like_node, unary_node};
 use crate::typecheck::single_env::SingleEnvTypechecker;
+use crate::typecheck::type_env::TypeEnv;
 use crate::typecheck::type_tests::any_bool;
 use crate::typecheck::typed_nodes::with_capabilities;
 use cedar_types::base::{
-    AttrChain, CedarType, EntityType, Expr, Loc, PatternElem, UnaryOp, ValidationError,
+    ArgumentCheck, AttrChain, CedarType, EntityType, Expr, Loc, PatternElem, UnaryOp,
+    ValidationError,
 };
 use cedar_types::types::capability::CapabilitySet;
 use std::alloc::{AllocError, Global};
@@ -39,7 +42,7 @@ pub(crate) enum OneOperand<'x> {
 
 impl OneOperand<'_> {
     /// What the operand has to be.
-    fn expected(self) -> Expected
+    fn expected(self) -> Expected<'static>
         ensures { (env : _) → (m : _) → (prior : _) → (e : _)
             → first_expectation (form_of_one env m prior e self.entry).expects
             ≡ Some (expected_types result) }
@@ -85,7 +88,7 @@ impl OneOperand<'_> {
     }
 }
 
-impl SingleEnvTypechecker<'_, '_, '_, '_> {
+impl<C: ArgumentCheck> SingleEnvTypechecker<'_, '_, '_, '_, C> {
     /// A form with one operand, at `loc`.
     #[cycle(typing)]
     pub(crate) fn type_one_operand<'a>(
@@ -99,7 +102,7 @@ impl SingleEnvTypechecker<'_, '_, '_, '_> {
     ) -> Result<TypecheckAnswer<'a>, AllocError>
         requires { depth ≤ max_nesting }
         ensures { IfOk result (λ r.
-            infer_one (env_at self.now) (mark_of_one loc form.entry) (caps prior.now) (written operand.now) depth form.entry
+            infer_one (setting_at C.refusal self.now) (mark_of_one loc form.entry) (caps prior.now) (written operand.now) depth form.entry
             (findings errors.old.items)
             ≡ (answer_of r, findings errors.new.items)) }
     {
@@ -108,10 +111,14 @@ impl SingleEnvTypechecker<'_, '_, '_, '_> {
         let Some(part) = part else {
             return Ok(TypecheckAnswer::RecursionLimit);
         };
-        let answer = self.one_answer(prior, loc, form, operand, part, errors)?;
+        let answer = self
+            .env
+            .one_answer(prior, loc, form, operand, part, errors)?;
         Ok(answer)
     }
+}
 
+impl TypeEnv<'_, '_, '_, '_> {
     /// A form with one operand, at `loc`, where the operand is typed.
     fn one_answer<'a>(
         &self,

@@ -10,14 +10,17 @@ ghost use Rattle.cedar_typing.specs.Infer.Eager.{infer_decided, infer_eager, inf
 ghost use Rattle.cedar_typing.specs.Judgments.{max_nesting};
 ghost use Rattle.cedar_typing.specs.Rules.Collections.{all_types, field_keys, fields_from, record_form, record_of_types};
 ghost use Rattle.cedar_typing.specs.TypedExpr.{typed_as, typed_tree};
-ghost use Rattle.cedar_typing.specs.Views.{answer_of, at, decision_without_errors, env_at, field_operands, findings, keys_in, trees_in};
+ghost use Rattle.cedar_typing.specs.SettingViews.{setting_at};
+ghost use Rattle.cedar_typing.specs.Views.{answer_of, at, decision_without_errors, field_operands, findings, keys_in, trees_in};
 
 use crate::typecheck::answer::TypecheckAnswer;
 use crate::typecheck::operands::any_part;
 use crate::typecheck::single_env::SingleEnvTypechecker;
+use crate::typecheck::type_env::TypeEnv;
 use crate::typecheck::typed_nodes::without_capabilities;
 use cedar_types::base::{
-    AttributeType, Attributes, CedarType, Expr, ExprKind, Loc, OpenTag, ValidationError,
+    ArgumentCheck, AttributeType, Attributes, CedarType, Expr, ExprKind, Loc, OpenTag,
+    ValidationError,
 };
 use cedar_types::types::capability::CapabilitySet;
 use std::alloc::{AllocError, Global};
@@ -35,7 +38,7 @@ pub(crate) struct FieldValues {
     is_cut: bool,
 }
 
-impl SingleEnvTypechecker<'_, '_, '_, '_> {
+impl<C: ArgumentCheck> SingleEnvTypechecker<'_, '_, '_, '_, C> {
     /// A record, at `loc`.
     #[cycle(typing)]
     pub(crate) fn type_record<'a>(
@@ -49,12 +52,12 @@ impl SingleEnvTypechecker<'_, '_, '_, '_> {
         requires { depth ≤ max_nesting }
         ensures { IfOk result (λ r.
             infer_eager (record_form (at loc) (field_keys (fields_written fields.now.entries)))
-            (infer_fields (env_at self.now) (fields_written fields.now.entries) (caps prior.now)
+            (infer_fields (setting_at C.refusal self.now) (fields_written fields.now.entries) (caps prior.now)
             (depth + 1)) (findings errors.old.items)
             ≡ (answer_of r, findings errors.new.items)) }
     {
         let values = self.type_fields(prior, depth, fields, errors)?;
-        let answer = self.record_answer(loc, values)?;
+        let answer = self.env.record_answer(loc, values)?;
         Ok(answer)
     }
 
@@ -70,17 +73,17 @@ impl SingleEnvTypechecker<'_, '_, '_, '_> {
     ) -> Result<FieldValues, AllocError>
         requires { depth ≤ max_nesting }
         ensures typed { IfOk result (λ r.
-            infer_fields (env_at self.now) (fields_written fields.now.entries) (caps prior.now)
+            infer_fields (setting_at C.refusal self.now) (fields_written fields.now.entries) (caps prior.now)
             (depth + 1) (findings errors.old.items)
             ≡ (field_operands r, findings errors.new.items)) }
         ensures keys { IfOk result (λ r. r.is_cut ≡ false
             → keys_in r.typed.entries ≡ field_keys (fields_written fields.now.entries)) }
     {
-        let mut typed = BTreeMap::new(self.alloc);
+        let mut typed = BTreeMap::new(self.env.alloc);
         let mut succeeded = true;
         for (key, value) in fields.iter() {
             let answer = self.typecheck(prior, depth + 1, value, errors)?;
-            let Some(part) = any_part(self.alloc, answer) else {
+            let Some(part) = any_part(self.env.alloc, answer) else {
                 return Ok(FieldValues {
                     typed,
                     succeeded,
@@ -96,7 +99,9 @@ impl SingleEnvTypechecker<'_, '_, '_, '_> {
             is_cut: false,
         })
     }
+}
 
+impl TypeEnv<'_, '_, '_, '_> {
     /// A record at `loc`, where the values of its fields are typed. It adds no error.
     fn record_answer<'a>(
         &self,

@@ -1,4 +1,4 @@
-// Sets: the elements one after another, and what is said of the whole by their types.
+// Sets: what is said of the whole by the types of the elements.
 ghost use Rattle.std.specs.Prelude.{◌≡◌, ◌≤◌, ◌+◌, true, [], IfOk, map, option_map};
 ghost use Rattle.cedar_types.specs.declared.base.errors.type_errors.LubContext.TheVariants as context;
 ghost use Rattle.cedar_types.specs.Capability.{caps};
@@ -20,7 +20,8 @@ use crate::typecheck::answer::{Part, TypecheckAnswer};
 use crate::typecheck::capabilities::no_capabilities;
 use crate::typecheck::operands::any_part;
 use crate::typecheck::rules::eager::{Decision, add_errors};
-use crate::typecheck::single_env::SingleEnvTypechecker;
+use crate::typecheck::rules::operand_list::OperandList;
+use crate::typecheck::type_env::TypeEnv;
 use crate::typecheck::typed_nodes::with_capabilities;
 use cedar_types::base::{
     CedarType, Expr, ExprKind, Loc, LubContext, ValidationError, types_in_order,
@@ -29,87 +30,12 @@ use cedar_types::types::capability::CapabilitySet;
 use std::alloc::{AllocError, Global};
 use std::rc::Rc;
 
-/// What elements, one after another, resulted in.
-#[derive(Debug, Drop)]
-pub(crate) struct Elements {
-    /// The typed copies, of those before the first that is too deep.
-    typed: Vec<Expr<Option<CedarType>>>,
-    /// Whether all of these succeeded.
-    succeeded: bool,
-    /// Whether an element is too deep.
-    is_cut: bool,
-}
-
-impl Elements {
-    /// No element.
-    fn none(alloc: Global) -> Elements
-        ensures { operands_of result ≡ all_typed true [] }
-    {
-        Elements {
-            typed: Vec::new(alloc),
-            succeeded: true,
-            is_cut: false,
-        }
-    }
-
-    /// One more element, which is too deep where it has no part. After such a one no copy is kept:
-    /// the set has none.
-    fn with(self, element: Option<Part<'_>>) -> Result<Elements, AllocError>
-        ensures { IfOk result (λ r. operands_of r
-            ≡ with_element (operands_of self) (option_map part_of element.entry)) }
-    {
-        if self.is_cut {
-            return Ok(self);
-        }
-        let mut typed = self.typed;
-        match element {
-            Some(part) => {
-                typed.push(part.typed)?;
-                Ok(Elements {
-                    typed,
-                    succeeded: part.succeeded & self.succeeded,
-                    is_cut: false,
-                })
-            }
-            None => Ok(Elements {
-                typed,
-                succeeded: self.succeeded,
-                is_cut: true,
-            }),
-        }
-    }
-}
-
-impl SingleEnvTypechecker<'_, '_, '_, '_> {
-    /// Types the elements of a set at this depth. All are typed, for their errors, also after one
-    /// that is too deep.
-    #[cycle(typing)]
-    pub(crate) fn type_elements<'a>(
-        &self,
-        prior: &CapabilitySet<'a>,
-        depth: usize,
-        elements: &'a Vec<Expr>,
-        errors: &mut Vec<ValidationError>,
-    ) -> Result<Elements, AllocError>
-        requires { depth ≤ max_nesting }
-        ensures { IfOk result (λ r.
-            infer_all (env_at self.now) true (trees_of (map written elements.now.items))
-            (caps prior.now) (depth + 1) (findings errors.old.items)
-            ≡ (operands_of r, findings errors.new.items)) }
-    {
-        let mut all = Elements::none(self.alloc);
-        for element in elements {
-            let answer = self.typecheck(prior, depth + 1, element, errors)?;
-            all = all.with(any_part(self.alloc, answer))?;
-        }
-        Ok(all)
-    }
-
+impl TypeEnv<'_, '_, '_, '_> {
     /// A set at `loc`, where the elements are typed.
     pub(crate) fn set_answer<'a>(
         &self,
         loc: Option<Loc>,
-        elements: Elements,
+        elements: OperandList,
         errors: &mut Vec<ValidationError>,
     ) -> Result<TypecheckAnswer<'a>, AllocError>
         ensures { IfOk result (λ r.

@@ -9,7 +9,8 @@ ghost use Rattle.cedar_typing.specs.Judgments.{max_nesting};
 ghost use Rattle.cedar_typing.specs.Rules.ShortCircuit.{side_of, type_of_side};
 ghost use Rattle.cedar_typing.specs.TypeTests.{annotation_passes};
 ghost use Rattle.cedar_typing.specs.TypedExpr.{annotation, at_place, typed, typed_tree};
-ghost use Rattle.cedar_typing.specs.Views.{env_at, answer_of, part_of, findings, at, connective_of, side_seen, infer_connective};
+ghost use Rattle.cedar_typing.specs.SettingViews.{setting_at, infer_connective};
+ghost use Rattle.cedar_typing.specs.Views.{answer_of, part_of, findings, at, connective_of, side_seen};
 
 use crate::typecheck::answer::{Part, TypecheckAnswer};
 use crate::typecheck::capabilities::{
@@ -17,9 +18,10 @@ use crate::typecheck::capabilities::{
 };
 use crate::typecheck::operands::Expected;
 use crate::typecheck::single_env::SingleEnvTypechecker;
+use crate::typecheck::type_env::TypeEnv;
 use crate::typecheck::type_tests::{any_bool, is_false_type, is_true_type};
 use crate::typecheck::typed_nodes::{at_place, with_capabilities};
-use cedar_types::base::{CedarType, Expr, ExprKind, Loc, ValidationError};
+use cedar_types::base::{ArgumentCheck, CedarType, Expr, ExprKind, Loc, ValidationError};
 use cedar_types::types::capability::CapabilitySet;
 use std::alloc::{AllocError, Global};
 
@@ -164,7 +166,7 @@ impl Connective {
     }
 }
 
-impl SingleEnvTypechecker<'_, '_, '_, '_> {
+impl<C: ArgumentCheck> SingleEnvTypechecker<'_, '_, '_, '_, C> {
     /// `&&` or `||` at `loc`.
     #[cycle(typing)]
     pub(crate) fn type_short_circuit<'a>(
@@ -179,7 +181,7 @@ impl SingleEnvTypechecker<'_, '_, '_, '_> {
     ) -> Result<TypecheckAnswer<'a>, AllocError>
         requires { depth ≤ max_nesting }
         ensures { IfOk result (λ r.
-            infer_connective (env_at self.now) (connective_of connective) (at loc) (written left.now)
+            infer_connective (setting_at C.refusal self.now) (connective_of connective) (at loc) (written left.now)
             (written right.now) (caps prior.now) depth (findings errors.old.items)
             ≡ (answer_of r, findings errors.new.items)) }
     {
@@ -187,17 +189,19 @@ impl SingleEnvTypechecker<'_, '_, '_, '_> {
             return Ok(TypecheckAnswer::RecursionLimit);
         };
         if connective.ends_with(&left.typed) {
-            return Ok(self.ended_answer(loc, connective, left));
+            return Ok(self.env.ended_answer(loc, connective, left));
         }
-        let known = connective.known_on_right(self.alloc, prior, &left.capabilities)?;
+        let known = connective.known_on_right(self.env.alloc, prior, &left.capabilities)?;
         let part = self.type_part(&known, depth + 1, Expected::Bool, right, errors)?;
         let Some(right) = part else {
             return Ok(TypecheckAnswer::RecursionLimit);
         };
-        let answer = self.sides_answer(loc, connective, left, right)?;
+        let answer = self.env.sides_answer(loc, connective, left, right)?;
         Ok(answer)
     }
+}
 
+impl TypeEnv<'_, '_, '_, '_> {
     /// The left side, which ends the whole, at the place of the whole.
     fn ended_answer<'a>(
         &self,

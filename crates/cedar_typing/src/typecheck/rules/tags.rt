@@ -15,7 +15,7 @@ ghost use Rattle.cedar_typing.specs.Views.{env_at, decision_of};
 use crate::typecheck::capabilities::one_capability;
 use crate::typecheck::rules::eager::{Decision, gives, refuses_with};
 use crate::typecheck::rules::membership::named_types;
-use crate::typecheck::single_env::SingleEnvTypechecker;
+use crate::typecheck::type_env::TypeEnv;
 use crate::typecheck::type_tests::{any_bool, is_never_type};
 use cedar_types::base::{
     BoolType, CedarType, EntityLUB, EntityType, Expr, Loc, LubContext, ValidationError,
@@ -31,7 +31,7 @@ fn tag_of<'a>(left: &'a Expr, right: &'a Expr) -> Capability<'a>
     Capability::new_borrowed_tag(left, right)
 }
 
-impl SingleEnvTypechecker<'_, '_, '_, '_> {
+impl TypeEnv<'_, '_, '_, '_> {
     /// The type of `left.hasTag(right)` by that of the left, and that the tag is there.
     pub(crate) fn decide_has_tag<'a>(
         &self,

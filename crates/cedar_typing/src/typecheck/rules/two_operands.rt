@@ -10,16 +10,20 @@ ghost use Rattle.cedar_typing.specs.Infer.Eager.{infer_form, type_given};
 ghost use Rattle.cedar_typing.specs.Judgments.{max_nesting};
 ghost use Rattle.cedar_typing.specs.Rules.Binary.{binary_form};
 ghost use Rattle.cedar_typing.specs.TypedExpr.{annotation, typed_as, typed_tree};
-ghost use Rattle.cedar_typing.specs.Views.{env_at, expected_types, answer_of, part_of, findings, at, decision_of, form_of_two, two_parts, infer_two};
+ghost use Rattle.cedar_typing.specs.SettingViews.{setting_at, infer_two};
+ghost use Rattle.cedar_typing.specs.Views.{env_at, expected_types, answer_of, part_of, findings, at, decision_of, form_of_two, two_parts};
 
 use crate::typecheck::answer::{Part, TypecheckAnswer};
 use crate::typecheck::operands::Expected;
 use crate::typecheck::rules::eager::{Decision, add_errors, gives, gives_unless};
 use crate::typecheck::rules::equality::member_type;
 use crate::typecheck::single_env::SingleEnvTypechecker;
+use crate::typecheck::type_env::TypeEnv;
 use crate::typecheck::type_tests::any_bool;
 use crate::typecheck::typed_nodes::with_capabilities;
-use cedar_types::base::{BinaryOp, CedarType, Expr, ExprKind, Loc, LubContext, ValidationError};
+use cedar_types::base::{
+    ArgumentCheck, BinaryOp, CedarType, Expr, ExprKind, Loc, LubContext, ValidationError,
+};
 use cedar_types::types::capability::CapabilitySet;
 use std::alloc::{AllocError, Global};
 
@@ -89,7 +93,7 @@ impl TwoOperands {
     }
 
     /// What the left operand has to be, if anything.
-    fn expected_left(self) -> Option<Expected>
+    fn expected_left(self) -> Option<Expected<'static>>
         ensures { (env : _) → (m : _) → (prior : _) → (a : _) → (b : _)
             → first_expectation (form_of_two env m prior a b self).expects
             ≡ option_map expected_types result }
@@ -107,7 +111,7 @@ impl TwoOperands {
     }
 
     /// What the right operand has to be, if anything.
-    fn expected_right(self) -> Option<Expected>
+    fn expected_right(self) -> Option<Expected<'static>>
         ensures { (env : _) → (m : _) → (prior : _) → (a : _) → (b : _)
             → first_expectation (later_expectations (form_of_two env m prior a b self).expects)
             ≡ option_map expected_types result }
@@ -159,7 +163,7 @@ impl TwoOperands {
     }
 }
 
-impl SingleEnvTypechecker<'_, '_, '_, '_> {
+impl<C: ArgumentCheck> SingleEnvTypechecker<'_, '_, '_, '_, C> {
     /// A form with two operands, at `loc`.
     #[cycle(typing)]
     pub(crate) fn type_two_operands<'a>(
@@ -174,22 +178,30 @@ impl SingleEnvTypechecker<'_, '_, '_, '_> {
     ) -> Result<TypecheckAnswer<'a>, AllocError>
         requires { depth ≤ max_nesting }
         ensures { IfOk result (λ r.
-            infer_two (env_at self.now) (at loc) (written left.now) (written right.now)
+            infer_two (setting_at C.refusal self.now) (at loc) (written left.now) (written right.now)
             (caps prior.now) depth form (findings errors.old.items)
             ≡ (answer_of r, findings errors.new.items)) }
     {
         let one = self.typecheck(prior, depth + 1, left, errors)?;
-        let one = self.operand(form.expected_left(), left.loc, one, errors)?;
+        let one = self
+            .env
+            .operand(form.expected_left(), left.loc, one, errors)?;
         if one.is_none() & !form.goes_on() {
             return Ok(TypecheckAnswer::RecursionLimit);
         }
         let other = self.typecheck(prior, depth + 1, right, errors)?;
-        let other = self.operand(form.expected_right(), right.loc, other, errors)?;
+        let other = self
+            .env
+            .operand(form.expected_right(), right.loc, other, errors)?;
         let operands = Operands { left, right };
-        let answer = self.two_answer(prior, loc, form, operands, one, other, errors)?;
+        let answer = self
+            .env
+            .two_answer(prior, loc, form, operands, one, other, errors)?;
         Ok(answer)
     }
+}
 
+impl TypeEnv<'_, '_, '_, '_> {
     /// A form with two operands, at `loc`, where the operands are typed or too deep.
     fn two_answer<'a>(
         &self,

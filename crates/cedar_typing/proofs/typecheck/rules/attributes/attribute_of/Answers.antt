@@ -1,6 +1,6 @@
 use Rattle.std.proofs.Common.{◌∙◌}
 use Rattle.cedar_types.specs.Capability.{attribute}
-use Rattle.cedar_types.specs.Marks.{shape-written}
+use Rattle.cedar_types.proofs.Expressions.Marks.{shape-written}
 use Rattle.cedar_typing.proofs.typecheck.rules.attributes.attribute_of.Goals as goal
 
 pub returns : goal.returns

@@ -1,6 +1,6 @@
 use Rattle.std.proofs.Common.{◌∙◌, ap}
 use Rattle.cedar_types.specs.Capability.{attribute}
-use Rattle.cedar_types.specs.Marks.{shape-written}
+use Rattle.cedar_types.proofs.Expressions.Marks.{shape-written}
 use Rattle.cedar_typing.specs.TypedExpr.{form_of}
 use Rattle.cedar_typing.proofs.typecheck.rules.chains.owned_attribute.Goals as goal
 

@@ -1,6 +1,6 @@
 use Rattle.std.proofs.Common.{◌∙◌}
 use Rattle.cedar_types.specs.Names.{uid_of}
-use Rattle.cedar_types.proofs.Ids.{contained_id, uids_cmp}
+use Rattle.cedar_types.proofs.Names.Ids.{contained_id, uids_cmp}
 use Rattle.cedar_typing.proofs.typecheck.rules.membership.has_action.Goals as goal
 
 pub returns : goal.returns

@@ -1,5 +1,5 @@
 use Rattle.std.proofs.Common.{◌∙◌}
-use Rattle.cedar_types.specs.Comparisons.{uid_is}
+use Rattle.cedar_types.specs.Lemmas.Comparisons.{uid_is}
 use Rattle.cedar_typing.proofs.typecheck.rules.membership.is_same_entity.Goals as goal
 
 pub returns : goal.returns

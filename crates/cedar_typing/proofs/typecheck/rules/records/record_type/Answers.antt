@@ -5,7 +5,7 @@ use Rattle.std.specs.Map.{keys_of}
 use Rattle.std.specs.declared.cmp.Ordering.TheVariants.{Less}
 use Rattle.cedar_types.specs.Names.{text_of, text_cmp}
 use Rattle.cedar_types.specs.Types.{ty_of, no_attrs, attr, join_attrs, entries_of, TRecord}
-use Rattle.cedar_types.proofs.Records.{key_cmp, pushed_attrs}
+use Rattle.cedar_types.proofs.Attributes.Records.{key_cmp, pushed_attrs}
 use Rattle.cedar_typing.specs.Capabilities.{no_caps}
 use Rattle.cedar_typing.specs.Eager.{gives, types_found}
 use Rattle.cedar_typing.specs.Rules.Collections.{all_types, record_of_types}

@@ -1,6 +1,6 @@
 use Rattle.std.proofs.Common.{◌∙◌}
 use Rattle.cedar_types.specs.Capability.{tag}
-use Rattle.cedar_types.specs.Marks.{shape-written}
+use Rattle.cedar_types.proofs.Expressions.Marks.{shape-written}
 use Rattle.cedar_typing.proofs.typecheck.rules.tags.tag_of.Goals as goal
 
 pub returns : goal.returns

@@ -1,23 +1,29 @@
-use Rattle.std.proofs.Common.{◌≡◌, ◌<◌, ◌+◌, ◌∙◌, length, drop, arith, sym, ap, subst, true, ◌&&◌, [], ◌∷◌, ◌++◌, option_map, append_assoc, append-nil, Option, Some, None, refl}
+use Rattle.std.proofs.Common.{◌≡◌, ◌<◌, ◌+◌, ◌∙◌, length, map, drop, arith, sym, ap, subst, true, ◌&&◌, [], ◌∷◌, ◌++◌, option_map, append_assoc, append-nil, Option, Some, None, refl}
 use Rattle.std.specs.Prelude.{IfOk}
 use Rattle.std.specs.List.Sorted.{IsStrictlySortedBy}
 use Rattle.std.specs.Map.{keys_of}
 use Rattle.cedar_types.specs.declared.base.expressions.ExprKind.TheVariants as K
-use Rattle.cedar_types.specs.Names.{text_of, type_of}
+use Rattle.cedar_types.specs.Names.{path_of, text_of, type_of}
 use Rattle.cedar_types.specs.Tree.{and, or, has_attr, get_attr, ext_has_attr, unary, binary, like, is_type}
 use Rattle.cedar_types.specs.View.{written, Written, of_type, fields_written, chain_of}
 use Rattle.cedar_types.specs.Capability.{caps}
-use Rattle.cedar_types.proofs.Entries.{Entry}
-use Rattle.cedar_types.proofs.Records.{key_cmp}
+use Rattle.cedar_types.specs.Types.{ty_of}
+use Rattle.cedar_types.proofs.Attributes.Entries.{Entry}
+use Rattle.cedar_types.proofs.Attributes.Records.{key_cmp}
 use Rattle.cedar_typing.specs.Infer.{infer_within, infer, infer_fields}
 use Rattle.cedar_typing.specs.Infer.Parts.{AnswerAndErrors, expect}
 use Rattle.cedar_typing.specs.TypedExpr.{Source, place_of}
-use Rattle.cedar_typing.specs.Views.{env_at, expected_types, answer_of, findings, operands_of, at, part_of, form_of_two, keys_in, trees_in}
+use Rattle.cedar_typing.specs.CallViews.{IsCallOf}
+use Rattle.cedar_typing.specs.SettingViews.{setting_at}
+use Rattle.cedar_typing.specs.Views.{expected_types, first_wanted, answer_of, findings, operands_of, at, part_of, form_of_two, keys_in, trees_in}
 use Rattle.cedar_typing.specs.Eager.{Form}
 use Rattle.cedar_typing.specs.Infer.Eager.{expect_operand, infer_form, infer_two_operands}
+use Rattle.cedar_typing.specs.Rules.Calls.{expected_arguments}
 use Rattle.cedar_typing.specs.Rules.Collections.{field_keys, record_form}
+use Rattle.cedar_typing.proofs.CallTyping.{written_call, call_inferred}
 use Rattle.cedar_typing.proofs.Agreement.Induction.{below_limit}
-use Rattle.cedar_typing.proofs.Elements.{resumed, all_inferred, next_item, one_element}
+use Rattle.cedar_typing.proofs.Elements.{next_item}
+use Rattle.cedar_typing.proofs.OperandLists.{resumed, all_inferred, one_operand, last_operand, goes_further, goes_no_further}
 use Rattle.cedar_typing.proofs.TypedViews.{written_as, place_is}
 use Rattle.cedar_typing.proofs.FieldValues.{goes_last, key_is_last, keys_with_last, keys_written, trees_append}
 use Rattle.cedar_typing.proofs.FieldsInOrder.{finish, starts, goes_on, by_keys_typed}
@@ -26,13 +32,13 @@ use Rattle.cedar_typing.proofs.TwoOperands.{is_limit, stops, typed_on, two_stopp
 use Rattle.cedar_typing.proofs.typecheck.single_env.SingleEnvTypechecker.+typing.Goals as goal
 
 pub type_part-returns : goal.type_part-returns
-type_part-returns t c =
-    (λ i. expect (env_at c.args.self.now) (expected_types c.args.expected) (place_is c.args.e.now i) (c.in_ok-answer.ensures i))
+type_part-returns g t c =
+    (λ i. expect (setting_at g.C.ArgumentCheck.refusal c.args.self.now).env (expected_types c.args.expected) (place_is c.args.e.now i) (c.in_ok-answer.ensures i))
     ∙ c.in_ok-part.ensures
 
 pub typecheck-returns-in-And : goal.typecheck-returns-in-And
-typecheck-returns-in-And t c =
-    let env = env_at c.args.self.now in
+typecheck-returns-in-And g t c =
+    let s = setting_at g.C.ArgumentCheck.refusal c.args.self.now in
     let prior = caps c.args.prior.now in
     let d = c.args.depth in
     let es = findings c.args.errors.now.items in
@@ -40,12 +46,12 @@ typecheck-returns-in-And t c =
     let tree : written c.args.e.now ≡ and m (written c.deref.result.now) (written c.deref-in-And.result.now) =
     written_as c.args.e.now (K.And c.in-And.left c.in-And.right) c.in-And.is ∙ (λ i. and m (written (sym c.deref.ensures i)) (written (sym c.deref-in-And.ensures i))) in
     let P : AnswerAndErrors → Type 0 = λ z. IfOk c.type_short_circuit.result (λ r. z ≡ (answer_of r, findings c.type_short_circuit.new.errors.items)) in
-    let Q : Source → Type 0 = λ e. P (infer_within env e prior d es) in
+    let Q : Source → Type 0 = λ e. P (infer_within s e prior d es) in
     subst P (sym (below_limit d es _ c.if-depth-gt-MAX_NESTING.false)) (subst Q (sym tree) c.type_short_circuit.ensures)
 
 pub typecheck-returns-in-Or : goal.typecheck-returns-in-Or
-typecheck-returns-in-Or t c =
-    let env = env_at c.args.self.now in
+typecheck-returns-in-Or g t c =
+    let s = setting_at g.C.ArgumentCheck.refusal c.args.self.now in
     let prior = caps c.args.prior.now in
     let d = c.args.depth in
     let es = findings c.args.errors.now.items in
@@ -53,12 +59,12 @@ typecheck-returns-in-Or t c =
     let tree : written c.args.e.now ≡ or m (written c.deref-in-Or.result.now) (written c.deref-in-Or-2.result.now) =
     written_as c.args.e.now (K.Or c.in-Or.left c.in-Or.right) c.in-Or.is ∙ (λ i. or m (written (sym c.deref-in-Or.ensures i)) (written (sym c.deref-in-Or-2.ensures i))) in
     let P : AnswerAndErrors → Type 0 = λ z. IfOk c.type_short_circuit-in-Or.result (λ r. z ≡ (answer_of r, findings c.type_short_circuit-in-Or.new.errors.items)) in
-    let Q : Source → Type 0 = λ e. P (infer_within env e prior d es) in
+    let Q : Source → Type 0 = λ e. P (infer_within s e prior d es) in
     subst P (sym (below_limit d es _ c.if-depth-gt-MAX_NESTING.false)) (subst Q (sym tree) c.type_short_circuit-in-Or.ensures)
 
 pub typecheck-returns-in-HasAttr : goal.typecheck-returns-in-HasAttr
-typecheck-returns-in-HasAttr t c =
-    let env = env_at c.args.self.now in
+typecheck-returns-in-HasAttr g t c =
+    let s = setting_at g.C.ArgumentCheck.refusal c.args.self.now in
     let prior = caps c.args.prior.now in
     let d = c.args.depth in
     let es = findings c.args.errors.now.items in
@@ -66,12 +72,12 @@ typecheck-returns-in-HasAttr t c =
     let tree : written c.args.e.now ≡ has_attr m (written c.deref-in-HasAttr.result.now) (text_of c.in-HasAttr.attr) =
     written_as c.args.e.now (K.HasAttr c.in-HasAttr.base c.in-HasAttr.attr) c.in-HasAttr.is ∙ (λ i. has_attr m (written (sym c.deref-in-HasAttr.ensures i)) (text_of c.in-HasAttr.attr)) in
     let P : AnswerAndErrors → Type 0 = λ z. IfOk c.type_one_operand-in-HasAttr.result (λ r. z ≡ (answer_of r, findings c.type_one_operand-in-HasAttr.new.errors.items)) in
-    let Q : Source → Type 0 = λ e. P (infer_within env e prior d es) in
+    let Q : Source → Type 0 = λ e. P (infer_within s e prior d es) in
     subst P (sym (below_limit d es _ c.if-depth-gt-MAX_NESTING.false)) (subst Q (sym tree) c.type_one_operand-in-HasAttr.ensures)
 
 pub typecheck-returns-in-GetAttr : goal.typecheck-returns-in-GetAttr
-typecheck-returns-in-GetAttr t c =
-    let env = env_at c.args.self.now in
+typecheck-returns-in-GetAttr g t c =
+    let s = setting_at g.C.ArgumentCheck.refusal c.args.self.now in
     let prior = caps c.args.prior.now in
     let d = c.args.depth in
     let es = findings c.args.errors.now.items in
@@ -79,12 +85,12 @@ typecheck-returns-in-GetAttr t c =
     let tree : written c.args.e.now ≡ get_attr m (written c.deref-in-GetAttr.result.now) (text_of c.in-GetAttr.attr) =
     written_as c.args.e.now (K.GetAttr c.in-GetAttr.base c.in-GetAttr.attr) c.in-GetAttr.is ∙ (λ i. get_attr m (written (sym c.deref-in-GetAttr.ensures i)) (text_of c.in-GetAttr.attr)) in
     let P : AnswerAndErrors → Type 0 = λ z. IfOk c.type_one_operand-in-GetAttr.result (λ r. z ≡ (answer_of r, findings c.type_one_operand-in-GetAttr.new.errors.items)) in
-    let Q : Source → Type 0 = λ e. P (infer_within env e prior d es) in
+    let Q : Source → Type 0 = λ e. P (infer_within s e prior d es) in
     subst P (sym (below_limit d es _ c.if-depth-gt-MAX_NESTING.false)) (subst Q (sym tree) c.type_one_operand-in-GetAttr.ensures)
 
 pub typecheck-returns-in-UnaryApp : goal.typecheck-returns-in-UnaryApp
-typecheck-returns-in-UnaryApp t c =
-    let env = env_at c.args.self.now in
+typecheck-returns-in-UnaryApp g t c =
+    let s = setting_at g.C.ArgumentCheck.refusal c.args.self.now in
     let prior = caps c.args.prior.now in
     let d = c.args.depth in
     let es = findings c.args.errors.now.items in
@@ -92,12 +98,12 @@ typecheck-returns-in-UnaryApp t c =
     let tree : written c.args.e.now ≡ unary m c.in-UnaryApp.op (written c.deref-in-UnaryApp.result.now) =
     written_as c.args.e.now (K.UnaryApp c.in-UnaryApp.op c.in-UnaryApp.operand) c.in-UnaryApp.is ∙ (λ i. unary m c.in-UnaryApp.op (written (sym c.deref-in-UnaryApp.ensures i))) in
     let P : AnswerAndErrors → Type 0 = λ z. IfOk c.type_one_operand.result (λ r. z ≡ (answer_of r, findings c.type_one_operand.new.errors.items)) in
-    let Q : Source → Type 0 = λ e. P (infer_within env e prior d es) in
+    let Q : Source → Type 0 = λ e. P (infer_within s e prior d es) in
     subst P (sym (below_limit d es _ c.if-depth-gt-MAX_NESTING.false)) (subst Q (sym tree) c.type_one_operand.ensures)
 
 pub typecheck-returns-in-Like : goal.typecheck-returns-in-Like
-typecheck-returns-in-Like t c =
-    let env = env_at c.args.self.now in
+typecheck-returns-in-Like g t c =
+    let s = setting_at g.C.ArgumentCheck.refusal c.args.self.now in
     let prior = caps c.args.prior.now in
     let d = c.args.depth in
     let es = findings c.args.errors.now.items in
@@ -105,12 +111,12 @@ typecheck-returns-in-Like t c =
     let tree : written c.args.e.now ≡ like m (written c.deref-in-Like.result.now) c.in-Like.pattern.items =
     written_as c.args.e.now (K.Like c.in-Like.operand c.in-Like.pattern) c.in-Like.is ∙ (λ i. like m (written (sym c.deref-in-Like.ensures i)) c.in-Like.pattern.items) in
     let P : AnswerAndErrors → Type 0 = λ z. IfOk c.type_one_operand-in-Like.result (λ r. z ≡ (answer_of r, findings c.type_one_operand-in-Like.new.errors.items)) in
-    let Q : Source → Type 0 = λ e. P (infer_within env e prior d es) in
+    let Q : Source → Type 0 = λ e. P (infer_within s e prior d es) in
     subst P (sym (below_limit d es _ c.if-depth-gt-MAX_NESTING.false)) (subst Q (sym tree) c.type_one_operand-in-Like.ensures)
 
 pub typecheck-returns-in-Is : goal.typecheck-returns-in-Is
-typecheck-returns-in-Is t c =
-    let env = env_at c.args.self.now in
+typecheck-returns-in-Is g t c =
+    let s = setting_at g.C.ArgumentCheck.refusal c.args.self.now in
     let prior = caps c.args.prior.now in
     let d = c.args.depth in
     let es = findings c.args.errors.now.items in
@@ -118,12 +124,12 @@ typecheck-returns-in-Is t c =
     let tree : written c.args.e.now ≡ is_type m (written c.deref-in-Is.result.now) (type_of c.in-Is.named) =
     written_as c.args.e.now (K.Is c.in-Is.operand c.in-Is.named) c.in-Is.is ∙ (λ i. is_type m (written (sym c.deref-in-Is.ensures i)) (type_of c.in-Is.named)) in
     let P : AnswerAndErrors → Type 0 = λ z. IfOk c.type_one_operand-in-Is.result (λ r. z ≡ (answer_of r, findings c.type_one_operand-in-Is.new.errors.items)) in
-    let Q : Source → Type 0 = λ e. P (infer_within env e prior d es) in
+    let Q : Source → Type 0 = λ e. P (infer_within s e prior d es) in
     subst P (sym (below_limit d es _ c.if-depth-gt-MAX_NESTING.false)) (subst Q (sym tree) c.type_one_operand-in-Is.ensures)
 
 pub typecheck-returns-in-BinaryApp : goal.typecheck-returns-in-BinaryApp
-typecheck-returns-in-BinaryApp t c =
-    let env = env_at c.args.self.now in
+typecheck-returns-in-BinaryApp g t c =
+    let s = setting_at g.C.ArgumentCheck.refusal c.args.self.now in
     let prior = caps c.args.prior.now in
     let d = c.args.depth in
     let es = findings c.args.errors.now.items in
@@ -134,13 +140,13 @@ typecheck-returns-in-BinaryApp t c =
     let tree : written c.args.e.now ≡ binary m o a b =
     written_as c.args.e.now (K.BinaryApp o c.in-BinaryApp.left c.in-BinaryApp.right) c.in-BinaryApp.is ∙ (λ i. binary m o (written (sym c.deref-in-BinaryApp.ensures i)) (written (sym c.deref-in-BinaryApp-2.ensures i))) in
     let P : AnswerAndErrors → Type 0 = λ z. IfOk c.type_two_operands.result (λ r. z ≡ (answer_of r, findings c.type_two_operands.new.errors.items)) in
-    let Q : Source → Type 0 = λ e. P (infer_within env e prior d es) in
-    let R : Form → Type 0 = λ f. P (infer_two_operands env f (place_of a) (place_of b) (infer env a prior (d + 1)) (infer env b prior (d + 1)) es) in
-    subst P (sym (below_limit d es _ c.if-depth-gt-MAX_NESTING.false)) (subst Q (sym tree) (subst R (c.of-form.ensures env m prior a b) c.type_two_operands.ensures))
+    let Q : Source → Type 0 = λ e. P (infer_within s e prior d es) in
+    let R : Form → Type 0 = λ f. P (infer_two_operands s.env f (place_of a) (place_of b) (infer s a prior (d + 1)) (infer s b prior (d + 1)) es) in
+    subst P (sym (below_limit d es _ c.if-depth-gt-MAX_NESTING.false)) (subst Q (sym tree) (subst R (c.of-form.ensures s.env m prior a b) c.type_two_operands.ensures))
 
 pub typecheck-returns-in-ExtHasAttr : goal.typecheck-returns-in-ExtHasAttr
-typecheck-returns-in-ExtHasAttr t c =
-    let env = env_at c.args.self.now in
+typecheck-returns-in-ExtHasAttr g t c =
+    let s = setting_at g.C.ArgumentCheck.refusal c.args.self.now in
     let prior = caps c.args.prior.now in
     let d = c.args.depth in
     let es = findings c.args.errors.now.items in
@@ -149,77 +155,120 @@ typecheck-returns-in-ExtHasAttr t c =
     let tree : written c.args.e.now ≡ ext_has_attr m (written c.deref-in-ExtHasAttr.result.now) (chain_of chain).0 (chain_of chain).1 =
     written_as c.args.e.now (K.ExtHasAttr c.in-ExtHasAttr.base chain) c.in-ExtHasAttr.is ∙ (λ i. ext_has_attr m (written (sym c.deref-in-ExtHasAttr.ensures i)) (chain_of chain).0 (chain_of chain).1) in
     let P : AnswerAndErrors → Type 0 = λ z. IfOk c.type_one_operand-in-ExtHasAttr.result (λ r. z ≡ (answer_of r, findings c.type_one_operand-in-ExtHasAttr.new.errors.items)) in
-    let Q : Source → Type 0 = λ e. P (infer_within env e prior d es) in
+    let Q : Source → Type 0 = λ e. P (infer_within s e prior d es) in
     subst P (sym (below_limit d es _ c.if-depth-gt-MAX_NESTING.false)) (subst Q (sym tree) c.type_one_operand-in-ExtHasAttr.ensures)
 
 pub type_two_operands-returns-then-is_none-goes_on : goal.type_two_operands-returns-then-is_none-goes_on
-type_two_operands-returns-then-is_none-goes_on t c =
-    let env = env_at c.args.self.now in
+type_two_operands-returns-then-is_none-goes_on g t c =
+    let s = setting_at g.C.ArgumentCheck.refusal c.args.self.now in
     let prior = caps c.args.prior.now in
     let d = c.args.depth in
     let m = at c.args.loc in
     let a = written c.args.left.now in
     let b = written c.args.right.now in
-    let f = form_of_two env m prior a b c.args.form in
+    let f = form_of_two s.env m prior a b c.args.form in
     let es = findings c.args.errors.now.items in
     let es' = findings c.operand.new.errors.items in
     let q = option_map expected_types c.expected_left.result in
-    let left : expect_operand env q (place_of a) (infer env a prior (d + 1) es) ≡ (option_map part_of c.in_ok-one-2.one, es') =
-    (λ i. expect_operand env q (place_is c.args.left.now i) (c.in_ok-one.ensures i)) ∙ c.in_ok-one-2.ensures in
-    two_stopped env f (place_of a) (place_of b) (infer env a prior (d + 1)) (infer env b prior (d + 1)) q _ (c.expected_left.ensures env m prior a b) refl _ es es'
-    (stops c.is_none.result c.goes_on.result f.goes_on c.in_ok-one-2.one c.is_none.ensures (c.goes_on.ensures env m prior a b) c.if-is_none-goes_on.true) left
-    ∙ is_limit env m prior a b c.args.form [] es'
+    let left : expect_operand s.env q (place_of a) (infer s a prior (d + 1) es) ≡ (option_map part_of c.in_ok-one-2.one, es') =
+    (λ i. expect_operand s.env q (place_is c.args.left.now i) (c.in_ok-one.ensures i)) ∙ c.in_ok-one-2.ensures in
+    two_stopped s.env f (place_of a) (place_of b) (infer s a prior (d + 1)) (infer s b prior (d + 1)) q _ (c.expected_left.ensures s.env m prior a b) refl _ es es'
+    (stops c.is_none.result c.goes_on.result f.goes_on c.in_ok-one-2.one c.is_none.ensures (c.goes_on.ensures s.env m prior a b) c.if-is_none-goes_on.true) left
+    ∙ is_limit s.env m prior a b c.args.form [] es'
 
 pub type_two_operands-returns : goal.type_two_operands-returns
-type_two_operands-returns t c =
-    let env = env_at c.args.self.now in
+type_two_operands-returns g t c =
+    let s = setting_at g.C.ArgumentCheck.refusal c.args.self.now in
     let prior = caps c.args.prior.now in
     let d = c.args.depth in
     let m = at c.args.loc in
     let a = written c.args.left.now in
     let b = written c.args.right.now in
-    let f = form_of_two env m prior a b c.args.form in
+    let f = form_of_two s.env m prior a b c.args.form in
     let es = findings c.args.errors.now.items in
     let es' = findings c.operand.new.errors.items in
     let es'' = findings c.operand-2.new.errors.items in
     let q = option_map expected_types c.expected_left.result in
     let q' = option_map expected_types c.expected_right.result in
-    let left : expect_operand env q (place_of a) (infer env a prior (d + 1) es) ≡ (option_map part_of c.in_ok-one-2.one, es') =
-    (λ i. expect_operand env q (place_is c.args.left.now i) (c.in_ok-one.ensures i)) ∙ c.in_ok-one-2.ensures in
-    let right : expect_operand env q' (place_of b) (infer env b prior (d + 1) es') ≡ (option_map part_of c.in_ok-other-2.other, es'') =
-    (λ i. expect_operand env q' (place_is c.args.right.now i) (c.in_ok-other.ensures i)) ∙ c.in_ok-other-2.ensures in
-    two_typed env f (place_of a) (place_of b) (infer env a prior (d + 1)) (infer env b prior (d + 1)) q q' (c.expected_left.ensures env m prior a b) (c.expected_right.ensures env m prior a b) _ _ es es' es''
-    (typed_on c.is_none.result c.goes_on.result f.goes_on c.in_ok-one-2.one c.is_none.ensures (c.goes_on.ensures env m prior a b) c.if-is_none-goes_on.false) left right
+    let left : expect_operand s.env q (place_of a) (infer s a prior (d + 1) es) ≡ (option_map part_of c.in_ok-one-2.one, es') =
+    (λ i. expect_operand s.env q (place_is c.args.left.now i) (c.in_ok-one.ensures i)) ∙ c.in_ok-one-2.ensures in
+    let right : expect_operand s.env q' (place_of b) (infer s b prior (d + 1) es') ≡ (option_map part_of c.in_ok-other-2.other, es'') =
+    (λ i. expect_operand s.env q' (place_is c.args.right.now i) (c.in_ok-other.ensures i)) ∙ c.in_ok-other-2.ensures in
+    two_typed s.env f (place_of a) (place_of b) (infer s a prior (d + 1)) (infer s b prior (d + 1)) q q' (c.expected_left.ensures s.env m prior a b) (c.expected_right.ensures s.env m prior a b) _ _ es es' es''
+    (typed_on c.is_none.result c.goes_on.result f.goes_on c.in_ok-one-2.one c.is_none.ensures (c.goes_on.ensures s.env m prior a b) c.if-is_none-goes_on.false) left right
     ∙ c.in_ok-answer.ensures
 
-pub type_elements-loop-element-preserved : goal.type_elements-loop-element-preserved
-type_elements-loop-element-preserved t c =
-    let env = env_at c.args.self.now in
+pub type_operands-loop-operand-preserved : goal.type_operands-loop-operand-preserved
+type_operands-loop-operand-preserved g t c =
+    let l = c.loop-operand in
+    let s = setting_at g.C.ArgumentCheck.refusal c.args.self.now in
+    let b = c.args.goes_on in
     let prior = caps c.args.prior.now in
     let d = c.args.depth + 1 in
-    let xs = c.deref-element-items.result.now in
-    let i = c.loop-element.element-index in
-    let x = c.element-item.result in
-    let here : i < length xs = omega arith in
-    let before = operands_of c.loop-element.all in
-    let es = findings c.loop-element.errors.items in
-    one_element env prior d before _ x (drop (i + 1) xs) es _ _ _ c.in_ok-answer.ensures c.any_part.ensures c.in_ok-all.ensures
-    ∙ ap (λ ys. resumed before (all_inferred env prior d ys es)) (sym (next_item xs i x here c.element-item.is))
-    ∙ c.loop-element.invariant
+    let items = c.deref-operand-items.result.now in
+    let i = l.operand-index in
+    let x = c.operand-item.result in
+    let here : i < length items = omega arith in
+    let before = operands_of l.all in
+    let ts = map ty_of l.left.now in
+    let es = findings l.errors.items in
+    let typed : expect_operand s.env (first_wanted ts) (place_of (written x)) (infer s (written x) prior d es) ≡ (option_map part_of c.in_ok-part.part, _) =
+    (λ k. expect_operand s.env (sym c.first_of-expected.ensures k) (place_is x k) (c.in_ok-answer.ensures k)) ∙ c.in_ok-part.ensures in
+    one_operand s b ts _ prior d before _ x (drop (i + 1) items) es _ _ typed
+    (goes_further c.is_none.result b c.in_ok-part.part c.is_none.ensures c.if-is_none-goes_on.false) c.in_ok-all.ensures c.later_types-left.ensures
+    ∙ ap (λ ys. resumed before (all_inferred s b ts prior d ys es)) (sym (next_item items i x here c.operand-item.is))
+    ∙ l.invariant
+
+pub type_operands-returns-then-is_none-goes_on : goal.type_operands-returns-then-is_none-goes_on
+type_operands-returns-then-is_none-goes_on g t c =
+    let l = c.loop-operand in
+    let s = setting_at g.C.ArgumentCheck.refusal c.args.self.now in
+    let b = c.args.goes_on in
+    let prior = caps c.args.prior.now in
+    let d = c.args.depth + 1 in
+    let items = c.deref-operand-items.result.now in
+    let i = l.operand-index in
+    let x = c.operand-item.result in
+    let here : i < length items = omega arith in
+    let before = operands_of l.all in
+    let ts = map ty_of l.left.now in
+    let es = findings l.errors.items in
+    let typed : expect_operand s.env (first_wanted ts) (place_of (written x)) (infer s (written x) prior d es) ≡ (option_map part_of c.in_ok-part.part, _) =
+    (λ k. expect_operand s.env (sym c.first_of-expected.ensures k) (place_is x k) (c.in_ok-answer.ensures k)) ∙ c.in_ok-part.ensures in
+    sym l.invariant
+    ∙ ap (λ ys. resumed before (all_inferred s b ts prior d ys es)) (next_item items i x here c.operand-item.is)
+    ∙ last_operand s b ts prior d before _ x (drop (i + 1) items) es _ _ typed
+    (goes_no_further c.is_none.result b c.in_ok-part.part c.is_none.ensures c.if-is_none-goes_on.true) c.in_ok-cut.ensures
+
+pub typecheck-returns-in_ok-answer-in-ExtensionFunctionApp : goal.typecheck-returns-in_ok-answer-in-ExtensionFunctionApp
+typecheck-returns-in_ok-answer-in-ExtensionFunctionApp g t c =
+    let s = setting_at g.C.ArgumentCheck.refusal c.args.self.now in
+    let prior = caps c.args.prior.now in
+    let d = c.args.depth in
+    let es = findings c.args.errors.now.items in
+    let m = at c.args.e.now.loc in
+    let name = c.in-ExtensionFunctionApp.name in
+    let xs = map written c.in-ExtensionFunctionApp.arguments.items in
+    let call = c.in_ok-call-in-ExtensionFunctionApp.call in
+    let known = subst (λ ys. IsCallOf s c.args.e.now.loc (path_of name) (map written ys) call) c.deref-in-ExtensionFunctionApp.ensures.value c.in_ok-call-in-ExtensionFunctionApp.ensures in
+    below_limit d es _ c.if-depth-gt-MAX_NESTING.false
+    ∙ ap (λ e. infer_within s e prior d es) (written_call c.args.e.now name c.in-ExtensionFunctionApp.arguments c.in-ExtensionFunctionApp.is)
+    ∙ call_inferred s m (path_of name) xs prior d es _ call _ known c.in_ok-typed-in-ExtensionFunctionApp.ensures
+    ∙ c.in_ok-answer-in-ExtensionFunctionApp.ensures (expected_arguments (map ty_of call.argument_types.now) xs)
 
 pub typecheck-returns-in-Record : goal.typecheck-returns-in-Record
-typecheck-returns-in-Record t c =
-    let env = env_at c.args.self.now in
+typecheck-returns-in-Record g t c =
+    let s = setting_at g.C.ArgumentCheck.refusal c.args.self.now in
     let prior = caps c.args.prior.now in
     let d = c.args.depth in
     let es = findings c.args.errors.now.items in
     let tree = written_record c.args.e.now c.in-Record.fields c.in-Record.is in
     let P : AnswerAndErrors → Type 0 = λ z. IfOk c.type_record.result (λ r. z ≡ (answer_of r, findings c.type_record.new.errors.items)) in
-    let Q : Source → Type 0 = λ e. P (infer_within env e prior d es) in
+    let Q : Source → Type 0 = λ e. P (infer_within s e prior d es) in
     subst P (sym (below_limit d es _ c.if-depth-gt-MAX_NESTING.false)) (subst Q (sym tree) c.type_record.ensures)
 
 pub type_record-returns : goal.type_record-returns
-type_record-returns t c =
+type_record-returns g t c =
     let m = at c.args.loc in
     let ks = field_keys (fields_written c.args.fields.now.entries) in
     let values = c.in_ok-values.values in
@@ -229,9 +278,9 @@ type_record-returns t c =
     ∙ c.in_ok-answer.ensures es
 
 pub type_fields-loop-key-preserved : goal.type_fields-loop-key-preserved
-type_fields-loop-key-preserved t c =
+type_fields-loop-key-preserved g t c =
     let l = c.loop-key in
-    let env = env_at c.args.self.now in
+    let s = setting_at g.C.ArgumentCheck.refusal c.args.self.now in
     let prior = caps c.args.prior.now in
     let d = c.args.depth + 1 in
     let done = l.invariant.0 in
@@ -248,15 +297,15 @@ type_fields-loop-key-preserved t c =
       done ++ e ∷ [],
       all ∙ sym (append_assoc done (e ∷ []) left),
       ap keys_in entries ∙ keys_with_last l.typed.entries done e key _ l.invariant.2 named,
-      ap (λ zs. finish (p.succeeded && l.succeeded) zs (infer_fields env (fields_written left) prior d es')) (ap trees_in entries ∙ trees_append l.typed.entries ((key, p.typed) ∷ []))
-          ∙ sym (goes_on env prior d (text_of e.0) (written e.1) (fields_written left) l.succeeded (trees_in l.typed.entries) es es' _ (part_of p) c.in_ok-answer.ensures (sym c.any_part.ensures ∙ ap (option_map part_of) c.in-Some-any_part.is))
-          ∙ ap (λ rest. finish l.succeeded (trees_in l.typed.entries) (infer_fields env (fields_written rest) prior d es)) (sym c.in-Some.ensures.steps)
+      ap (λ zs. finish (p.succeeded && l.succeeded) zs (infer_fields s (fields_written left) prior d es')) (ap trees_in entries ∙ trees_append l.typed.entries ((key, p.typed) ∷ []))
+          ∙ sym (goes_on s prior d (text_of e.0) (written e.1) (fields_written left) l.succeeded (trees_in l.typed.entries) es es' _ (part_of p) c.in_ok-answer.ensures (sym c.any_part.ensures ∙ ap (option_map part_of) c.in-Some-any_part.is))
+          ∙ ap (λ rest. finish l.succeeded (trees_in l.typed.entries) (infer_fields s (fields_written rest) prior d es)) (sym c.in-Some.ensures.steps)
           ∙ l.invariant.3,
     )
 
 pub type_fields-loop-key-init : goal.type_fields-loop-key-init
-type_fields-loop-key-init t c =
-    let env = env_at c.args.self.now in
+type_fields-loop-key-init g t c =
+    let s = setting_at g.C.ArgumentCheck.refusal c.args.self.now in
     let prior = caps c.args.prior.now in
     let d = c.args.depth + 1 in
     let es = findings c.args.errors.now.items in
@@ -264,13 +313,13 @@ type_fields-loop-key-init t c =
       [],
       sym given,
       ap keys_in c.new-typed.ensures.empty,
-      ap (λ typed. finish true (trees_in typed) (infer_fields env (fields_written c.into_iter-key-iterator.result) prior d es)) c.new-typed.ensures.empty
+      ap (λ typed. finish true (trees_in typed) (infer_fields s (fields_written c.into_iter-key-iterator.result) prior d es)) c.new-typed.ensures.empty
           ∙ starts _
-          ∙ ap (λ fields. infer_fields env (fields_written fields) prior d es) given,
+          ∙ ap (λ fields. infer_fields s (fields_written fields) prior d es) given,
     )
 
 pub type_fields-returns-clause-keys : goal.type_fields-returns-clause-keys
-type_fields-returns-clause-keys t c not_cut =
+type_fields-returns-clause-keys g t c not_cut =
     let l = c.loop-key in
     let all : c.args.fields.now.entries ≡ l.invariant.0 = l.invariant.1 ∙ ap (λ es. l.invariant.0 ++ es) c.in-None.ensures.steps.0 ∙ append-nil l.invariant.0 in
     l.invariant.2 ∙ ap keys_in (sym all) ∙ sym (keys_written c.args.fields.now.entries)

@@ -8,17 +8,18 @@ use Rattle.cedar_typing.specs.Infer.Parts.{expect}
 use Rattle.cedar_typing.specs.PolicyCheck.{out_verdict, policy_check}
 use Rattle.cedar_typing.specs.TypeTests.{bool_types}
 use Rattle.cedar_typing.specs.TypedExpr.{Source}
-use Rattle.cedar_typing.specs.Views.{env_at, answer_of, findings, at}
+use Rattle.cedar_typing.specs.SettingViews.{setting_at}
+use Rattle.cedar_typing.specs.Views.{answer_of, findings, at}
 use Rattle.cedar_typing.proofs.typecheck.single_env.SingleEnvTypechecker.check_rest.Goals as goal
 
 pub returns : goal.returns
-returns c =
-    let env = env_at c.args.self.now in
+returns g c =
+    let s = setting_at g.C.ArgumentCheck.refusal c.args.self.now in
     let l = c.args.loc in
     let a = written c.args.scope.now in
     let b = written c.in-Some.rest in
-    let typed : infer env (and (at l) a b) no_caps 1 [] ≡ (answer_of c.in_ok-answer-in-Some.answer, findings c.type_short_circuit.new.errors.items) =
-    (λ i. infer env (and (at l) a b) (sym c.no_capabilities-known.ensures i) 1 (findings (sym c.new-errors.ensures.items i))) ∙ c.in_ok-answer-in-Some.ensures in
+    let typed : infer s (and (at l) a b) no_caps 1 [] ≡ (answer_of c.in_ok-answer-in-Some.answer, findings c.type_short_circuit.new.errors.items) =
+    (λ i. infer s (and (at l) a b) (sym c.no_capabilities-known.ensures i) 1 (findings (sym c.new-errors.ensures.items i))) ∙ c.in_ok-answer-in-Some.ensures in
     c.verdict-in-Some.ensures
-    ∙ ap out_verdict (sym (ap (expect env bool_types l) typed ∙ c.in_ok-part-in-Some.ensures))
-    ∙ ap (λ r. policy_check env (with_rest l a r)) (sym (ap (option_map {U = Source} written) c.in-Some.is))
+    ∙ ap out_verdict (sym (ap (expect s.env bool_types l) typed ∙ c.in_ok-part-in-Some.ensures))
+    ∙ ap (λ r. policy_check s (with_rest l a r)) (sym (ap (option_map {U = Source} written) c.in-Some.is))

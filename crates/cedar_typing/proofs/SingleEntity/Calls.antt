@@ -1,0 +1,73 @@
+-- In Strict calls name no entity type, as no function of a table without faults returns an entity.
+use Rattle.std.proofs.Common.{◌≡◌, Bool, true, false, not, List, [], ◌∷◌, Option, Some, None, if◌then◌else◌, refl, sym, subst}
+use Rattle.std.specs.List.{list_any}
+use Rattle.cedar_types.specs.declared.base.expressions.extensions.ExtensionTableError.{ExtensionTableError}
+use Rattle.cedar_types.specs.Names.{Path, path_eq}
+use Rattle.cedar_types.specs.Types.{Ty, TNever, TBool, TLong, TString, TSet, TAnySet, TRecord, TEntity, TAnyEntity, TExtension}
+use Rattle.cedar_types.specs.View.{Written}
+use Rattle.cedar_types.specs.Errors.{Finding}
+use Rattle.cedar_types.specs.ExtensionFunctions.{ExtensionFunction, function_named, is_plain_type, may_be_returned, has_bad_return, table_fault}
+use Rattle.cedar_typing.specs.Rules.Calls.{return_type, call_decides, call_errors, call_form}
+use Rattle.cedar_typing.specs.TypeEnv.{TypeEnv}
+use Rattle.cedar_typing.specs.TypedExpr.{Source}
+use Rattle.cedar_typing.proofs.Basics.{some_is, neither_left, neither_right}
+use Rattle.cedar_typing.proofs.SingleEntity.Eager.{decided_type, SingleForm}
+use Rattle.cedar_typing.proofs.SingleEntity.Types.{has_single_entities, HasSingleEntities}
+
+-- ---- what a function of a table without faults returns
+
+not_bad : (f : ExtensionFunction) → has_bad_return f ≡ false → may_be_returned f.return_type ≡ true
+not_bad f h = settle (may_be_returned f.return_type) h
+  where
+    settle : (b : Bool) → not b ≡ false → b ≡ true
+    settle true h = refl
+    settle false h = cc
+
+named_returns : (n : Path) (fs : List ExtensionFunction) (f : ExtensionFunction) → list_any has_bad_return fs ≡ false → function_named n fs ≡ Some f → may_be_returned f.return_type ≡ true
+named_returns n [] f h e = cc
+named_returns n (g ∷ gs) f h e = by_name (path_eq n g.name) e (named_returns n gs f (neither_right (has_bad_return g) (list_any has_bad_return gs) h))
+  where
+    by_name : (b : Bool) → (if b then Some g else function_named n gs) ≡ Some f → (function_named n gs ≡ Some f → may_be_returned f.return_type ≡ true) → may_be_returned f.return_type ≡ true
+    by_name true e k = subst (λ z. may_be_returned z.return_type ≡ true) (some_is e) (not_bad g (neither_left (has_bad_return g) (list_any has_bad_return gs) h))
+    by_name false e k = k e
+
+no_fault : (b : Bool) (x : ExtensionTableError) (r : Option ExtensionTableError) → (if b then Some x else r) ≡ None → b ≡ false
+no_fault true x r h = cc
+no_fault false x r h = refl
+
+pub function_returns : (n : Path) (fs : List ExtensionFunction) (f : ExtensionFunction) → function_named n fs ≡ Some f → table_fault fs ≡ None → may_be_returned f.return_type ≡ true
+function_returns n fs f e h = named_returns n fs f (no_fault (list_any has_bad_return fs) _ _ h) e
+
+plain_single : (t : Ty) → is_plain_type t ≡ true → has_single_entities t ≡ true
+plain_single TNever h = refl
+plain_single (TBool k) h = refl
+plain_single TLong h = refl
+plain_single TString h = refl
+plain_single (TSet t) h = cc
+plain_single TAnySet h = refl
+plain_single (TRecord xs o) h = cc
+plain_single (TEntity ps) h = cc
+plain_single TAnyEntity h = refl
+plain_single (TExtension n) h = refl
+
+returned_single : (t : Ty) → may_be_returned t ≡ true → has_single_entities t ≡ true
+returned_single (TSet t) h = plain_single t h
+returned_single t h = plain_single t h
+
+-- ---- calls
+
+-- the return type stays, whatever is decided
+pub call_type : (t : Option Ty) (es : List Finding) → decided_type (call_decides t es) ≡ t
+call_type None es = refl
+call_type (Some t) [] = refl
+call_type (Some t) (e ∷ es) = refl
+
+module _ (env : TypeEnv) (fs : List ExtensionFunction) (faults : table_fault fs ≡ None) (m : Written) (n : Path) (xs : List Source) where
+  return_single : (f : Option ExtensionFunction) → function_named n fs ≡ f → HasSingleEntities (return_type f)
+  return_single None e = tt
+  return_single (Some f) e = returned_single f.return_type (function_returns n fs f e faults)
+
+  pub call_single : SingleForm (call_form env fs m n xs)
+  call_single ts h =
+      let f = function_named n fs in
+      subst HasSingleEntities (sym (call_type (return_type f) (call_errors env m.place f n xs))) (return_single f refl)

@@ -1,0 +1,41 @@
+use Rattle.std.proofs.Common.{◌≡◌, [], ◌∷◌, ◌∙◌, sym, ap, option_map}
+use Rattle.cedar_types.specs.Types.{ty_of}
+use Rattle.cedar_types.specs.View.{written}
+use Rattle.cedar_types.specs.Capability.{caps}
+use Rattle.cedar_typing.specs.Eager.{gives, refuses}
+use Rattle.cedar_typing.specs.Infer.Eager.{infer_decided}
+use Rattle.cedar_typing.specs.Infer.Parts.{failure, answer_if}
+use Rattle.cedar_typing.specs.TypedExpr.{annotation, typed_tree}
+use Rattle.cedar_typing.specs.Views.{env_at, answer_of, findings, decision_of, form_of_one, mark_of_one}
+use Rattle.cedar_typing.proofs.TypesGiven.{given_is, one_keeps}
+use Rattle.cedar_typing.proofs.TypedViews.{annotation_is}
+use Rattle.cedar_typing.proofs.typecheck.type_env.TypeEnv.one_answer.Goals as goal
+
+pub returns-in-Gives : goal.returns-in-Gives
+returns-in-Gives c =
+    let env = env_at c.args.self.now in
+    let prior = caps c.args.prior.now in
+    let e = written c.args.operand.now in
+    let f = form_of_one env (mark_of_one c.args.loc c.args.form) prior e c.args.form in
+    let x = typed_tree c.args.part.typed in
+    let es = findings c.args.errors.now.items in
+    let d : f.decides (annotation x ∷ []) ≡ gives (ty_of c.in-Gives.ty) (caps c.in-Gives.capabilities) =
+    ap (λ a. f.decides (a ∷ [])) (annotation_is c.args.part.typed) ∙ sym c.in_ok-ty.ensures ∙ ap decision_of c.in-Gives.is in
+    ap (infer_decided f c.args.part.succeeded (x ∷ []) es) d
+    ∙ given_is f (one_keeps env (mark_of_one c.args.loc c.args.form) prior e c.args.form) c.args.part.succeeded (x ∷ []) es _ _
+    ∙ (λ i. (answer_if c.args.part.succeeded (sym (c.in_ok-typed-in-Gives.ensures env prior e) i) (caps c.in-Gives.capabilities), es))
+    ∙ ap (λ a. (a, es)) (sym c.with_capabilities.ensures)
+
+pub returns : goal.returns
+returns c =
+    let env = env_at c.args.self.now in
+    let prior = caps c.args.prior.now in
+    let e = written c.args.operand.now in
+    let f = form_of_one env (mark_of_one c.args.loc c.args.form) prior e c.args.form in
+    let x = typed_tree c.args.part.typed in
+    let es = findings c.args.errors.now.items in
+    let d : f.decides (annotation x ∷ []) ≡ refuses (option_map ty_of c.in-Refuses.ty) (findings c.in-Refuses.found.items) =
+    ap (λ a. f.decides (a ∷ [])) (annotation_is c.args.part.typed) ∙ sym c.in_ok-ty.ensures ∙ ap decision_of c.in-Refuses.is in
+    ap (infer_decided f c.args.part.succeeded (x ∷ []) es) d
+    ∙ (λ i. (failure (sym (c.in_ok-typed-in-Refuses.ensures env prior e) i), sym c.in_ok-add_errors-in-Refuses.ensures i))
+    ∙ ap (λ a. (answer_of a, findings c.add_errors.new.errors.items)) (sym c.fail.ensures)

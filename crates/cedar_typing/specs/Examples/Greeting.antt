@@ -1,0 +1,120 @@
+-- What the expressions of the computed examples are evaluated in.
+use Rattle.std.specs.Prelude.{ℤ, pos, true, List, [], ◌∷◌, Some, None, codes}
+use Rattle.cedar_types.specs.declared.base.names.slots.SlotId.{SlotId}
+use Rattle.cedar_types.specs.Names.{Text, Uid}
+use Rattle.cedar_types.specs.Values.{Value, VBool, VLong, VString, VEntity, VSet, VRecord, VExtension, Values, no_values, more_values, no_entries, more_entries}
+use Rattle.cedar_types.specs.Stores.{Entity, Store}
+use Rattle.cedar_typing.specs.Evaluation.World.{Call, Interpretation, Slots, World}
+use Rattle.cedar_typing.specs.Examples.World.{decimal, duration, ip_address, less_than, sum, alice, bob, gone, greet, meet, act}
+
+-- ---- values
+
+abbrev pub number : ℤ → Value
+number n = VLong n
+
+abbrev pub words : Text → Value
+words t = VString t
+
+abbrev pub one_value : Value → Values
+one_value v = more_values v no_values
+
+abbrev pub two_values : Value → Value → Values
+two_values v w = more_values v (one_value w)
+
+-- the values of the type `decimal`
+abbrev pub a_decimal : Text → Value
+a_decimal t = VExtension decimal t
+
+-- ---- what expressions are evaluated in
+
+-- alice is in bob, is 30, has bob as her boss, lives in Bern, and has the mark and the tag `role`
+abbrev pub stored_alice : Entity
+stored_alice = record {
+  attributes =
+      more_entries (codes "age") (number (pos 30))
+      (more_entries (codes "boss") (VEntity bob)
+      (more_entries (codes "home")
+      (VRecord (more_entries (codes "city") (words (codes "Bern")) no_entries))
+      (more_entries (codes "vip") (VBool true) no_entries)));
+  ancestors = bob ∷ [];
+  tags = more_entries (codes "role") (words (codes "admin")) no_entries;
+}
+
+-- bob is 40, and has nothing else
+abbrev pub stored_bob : Entity
+stored_bob = record {
+  attributes = more_entries (codes "age") (number (pos 40)) no_entries;
+  ancestors = [];
+  tags = no_entries;
+}
+
+-- of an action nothing is stored but its ancestors
+abbrev pub stored_action : List Uid → Entity
+stored_action us = record { attributes = no_entries; ancestors = us; tags = no_entries }
+
+abbrev pub sample_store : Store
+sample_store =
+    (alice, stored_alice)
+    ∷ (bob, stored_bob)
+    ∷ (greet, stored_action (meet ∷ act ∷ []))
+    ∷ (meet, stored_action (act ∷ []))
+    ∷ (act, stored_action [])
+    ∷ []
+
+-- `?resource` is bound to bob, and `?principal` is not bound
+abbrev pub sample_slots : Slots
+sample_slots SlotId.Principal = None
+sample_slots SlotId.Resource = Some bob
+
+-- a call of `decimal` with one argument, and the decimal of the text t
+abbrev pub decimal_call : Value → Text → Call
+decimal_call v t = record { function = decimal; arguments = one_value v; value = a_decimal t }
+
+-- `decimal` knows two texts, one of them twice, and one set of numbers; each other function knows one
+-- call; of 1.0 and 2.0 it is known how they compare
+abbrev pub sample_functions : Interpretation
+sample_functions = record {
+  calls =
+      decimal_call (words (codes "1.0")) (codes "1.0")
+      ∷ decimal_call (words (codes "2.0")) (codes "2.0")
+      ∷ decimal_call (words (codes "1.0")) (codes "9.0")
+      ∷ decimal_call (VSet (two_values (number (pos 1)) (number (pos 2)))) (codes "1.2")
+      ∷ record {
+        function = less_than;
+        arguments = two_values (a_decimal (codes "1.0")) (a_decimal (codes "2.0"));
+        value = VBool true;
+      }
+      ∷ record {
+        function = sum;
+        arguments = two_values (number (pos 1)) (number (pos 2));
+        value = number (pos 3);
+      }
+      ∷ record {
+        function = duration;
+        arguments = two_values (a_decimal (codes "1.0")) (number (pos 1));
+        value = VExtension duration (codes "2.0");
+      }
+      ∷ [];
+  overloaded_types = decimal ∷ duration ∷ [];
+  less = (a_decimal (codes "1.0"), a_decimal (codes "2.0")) ∷ [];
+  less_or_equal =
+      (a_decimal (codes "1.0"), a_decimal (codes "2.0"))
+      ∷ (a_decimal (codes "1.0"), a_decimal (codes "1.0"))
+      ∷ [];
+}
+
+-- alice greets bob, and her friend is an entity that is not in the store
+abbrev pub greeting : World
+greeting = record {
+  request = record {
+    principal = alice;
+    action = greet;
+    resource = bob;
+    context =
+        more_entries (codes "address") (VExtension ip_address (codes "::1"))
+        (more_entries (codes "friend") (VEntity gone) no_entries);
+  };
+  slots = sample_slots;
+  store = sample_store;
+  functions = sample_functions;
+}

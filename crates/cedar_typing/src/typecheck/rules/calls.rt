@@ -1,0 +1,311 @@
+// Calls of extension functions.
+ghost use Rattle.std.specs.Prelude.{◌≡◌, ◌∷◌, ◌++◌, length, IfOk, Some, map, option_map};
+ghost use Rattle.std.specs.List.{list_all};
+ghost use Rattle.cedar_types.specs.Errors.{finding_of, wrong_number_arguments};
+ghost use Rattle.cedar_types.specs.ExtensionFunctions.{function_of};
+ghost use Rattle.cedar_types.specs.Names.{path_of};
+ghost use Rattle.cedar_types.specs.Tree.{call};
+ghost use Rattle.cedar_types.specs.Types.{ty_of};
+ghost use Rattle.cedar_types.specs.View.{trees_of, written};
+ghost use Rattle.cedar_typing.specs.CallViews.{IsCallOf, added_at, shape_of};
+ghost use Rattle.cedar_typing.specs.Infer.Eager.{infer_form};
+ghost use Rattle.cedar_typing.specs.Rules.Calls.{call_decides, call_errors, check_faults, form_of_call, is_literal, literal_faults, number_faults, takes, types_wanted};
+ghost use Rattle.cedar_typing.specs.SettingViews.{setting_at};
+ghost use Rattle.cedar_typing.specs.TypeEnv.{finding};
+ghost use Rattle.cedar_typing.specs.TypedExpr.{typed_as, typed_tree};
+ghost use Rattle.cedar_typing.specs.Views.{answer_of, at, decision_of, env_at, findings, operands_of};
+
+use crate::typecheck::answer::TypecheckAnswer;
+use crate::typecheck::rules::eager::{Decision, add_errors, gives_unless};
+use crate::typecheck::rules::operand_list::OperandList;
+use crate::typecheck::single_env::SingleEnvTypechecker;
+use crate::typecheck::type_env::TypeEnv;
+use crate::typecheck::typed_nodes::with_capabilities;
+use cedar_types::base::{
+    ArgumentCheck, CedarType, Expr, ExprKind, ExtensionFunctionType, Loc, Name, ValidationError,
+    ValidationMode,
+};
+use std::alloc::{AllocError, Global};
+
+/// What is known of a call before its arguments are typed.
+#[derive(Debug, Drop)]
+pub(crate) struct Call<'f> {
+    /// The type of the answer, where there is a function of the name.
+    return_type: Option<&'f CedarType>,
+    /// The types that the arguments have to be of. Beside an error of the call there are none.
+    pub argument_types: &'f [CedarType],
+    /// The errors of the call itself.
+    errors: Vec<ValidationError>,
+}
+
+impl<C: ArgumentCheck> SingleEnvTypechecker<'_, '_, '_, '_, C> {
+    /// The call of the function of this name, if there is one, at `loc`.
+    pub(crate) fn call_of(
+        &self,
+        loc: Option<Loc>,
+        name: &Name,
+        arguments: &[Expr],
+    ) -> Result<Call<'_>, AllocError>
+        ensures { IfOk result (λ c.
+            IsCallOf (setting_at C.refusal self.now) loc (path_of name.now)
+            (map written arguments.now) c) }
+    {
+        let Some(function) = self.extensions.func_type(name) else {
+            let errors = self.env.unknown_function(loc, name)?;
+            return Ok(Call {
+                return_type: None,
+                argument_types: &[],
+                errors,
+            });
+        };
+        let errors = self.env.call_errors(loc, function, arguments)?;
+        let argument_types = types_wanted(function, &errors);
+        Ok(Call {
+            return_type: Some(&function.return_type),
+            argument_types,
+            errors,
+        })
+    }
+}
+
+impl TypeEnv<'_, '_, '_, '_> {
+    /// The error of a name without a function.
+    fn unknown_function(
+        &self,
+        loc: Option<Loc>,
+        name: &Name,
+    ) -> Result<Vec<ValidationError>, AllocError>
+        ensures { (xs : _) → IfOk result (λ v.
+            findings v.items ≡ call_errors (env_at self.now) loc None (path_of name.now) xs) }
+    {
+        let policy_id = self.policy_id.clone()?;
+        let mut errors = Vec::new(self.alloc);
+        errors.push(ValidationError::undefined_extension(loc, policy_id, name.clone()?))?;
+        Ok(errors)
+    }
+
+    /// The errors of a call of this function with these arguments: each that applies.
+    fn call_errors<C: ArgumentCheck>(
+        &self,
+        loc: Option<Loc>,
+        function: &ExtensionFunctionType<C>,
+        arguments: &[Expr],
+    ) -> Result<Vec<ValidationError>, AllocError>
+        ensures { (n : _) → IfOk result (λ v.
+            findings v.items
+            ≡ call_errors (env_at self.now) loc (Some (function_of C.refusal function.now)) n
+            (map written arguments.now)) }
+    {
+        let mut errors = Vec::new(self.alloc);
+        self.add_number_error(loc, function, arguments.len(), &mut errors)?;
+        self.add_refusal(loc, &function.check_arguments, arguments, &mut errors)?;
+        self.add_literal_error(loc, &function.check_arguments, arguments, &mut errors)?;
+        Ok(errors)
+    }
+
+    fn add_number_error<C>(
+        &self,
+        loc: Option<Loc>,
+        function: &ExtensionFunctionType<C>,
+        count: usize,
+        errors: &mut Vec<ValidationError>,
+    ) -> Result<(), AllocError>
+        ensures { (meaning : _) (xs : _) → length xs ≡ count → IfOk result (λ u.
+            findings errors.new.items
+            ≡ findings errors.old.items
+            ++ added_at (env_at self.now) loc
+            (number_faults (function_of meaning function.now) xs)) }
+    {
+        if takes(function, count) {
+            return Ok(());
+        }
+        errors.push(self.number_error(loc, function.argument_types.len(), count)?)?;
+        Ok(())
+    }
+
+    fn number_error(
+        &self,
+        loc: Option<Loc>,
+        expected: usize,
+        actual: usize,
+    ) -> Result<ValidationError, AllocError>
+        ensures { IfOk result (λ e.
+            finding_of e
+            ≡ finding (env_at self.now) loc (wrong_number_arguments expected actual)) }
+    {
+        let policy_id = self.policy_id.clone()?;
+        Ok(ValidationError::wrong_number_args(loc, policy_id, expected, actual))
+    }
+
+    /// Asks the check, where there is one.
+    fn add_refusal<C: ArgumentCheck>(
+        &self,
+        loc: Option<Loc>,
+        check: &Option<C>,
+        arguments: &[Expr],
+        errors: &mut Vec<ValidationError>,
+    ) -> Result<(), AllocError>
+        ensures { IfOk result (λ u.
+            findings errors.new.items
+            ≡ findings errors.old.items
+            ++ added_at (env_at self.now) loc
+            (check_faults (option_map C.refusal check.now) (map written arguments.now))) }
+    {
+        let Some(check) = check else {
+            return Ok(());
+        };
+        if let Err(refused) = check.check(arguments)? {
+            let policy_id = self.policy_id.clone()?;
+            let error = ValidationError::function_argument_validation(loc, policy_id, refused.msg);
+            errors.push(error)?;
+        }
+        Ok(())
+    }
+
+    /// In Strict a function with a check takes literals alone.
+    fn add_literal_error<C>(
+        &self,
+        loc: Option<Loc>,
+        check: &Option<C>,
+        arguments: &[Expr],
+        errors: &mut Vec<ValidationError>,
+    ) -> Result<(), AllocError>
+        ensures { (meaning : _) → IfOk result (λ u.
+            findings errors.new.items
+            ≡ findings errors.old.items
+            ++ added_at (env_at self.now) loc
+            (literal_faults self.now.mode (option_map meaning check.now)
+            (map written arguments.now))) }
+    {
+        let is_checked = check.is_some();
+        let is_strict = self.mode == ValidationMode::Strict;
+        if !(is_strict & is_checked) || all_literals(arguments) {
+            return Ok(());
+        }
+        let policy_id = self.policy_id.clone()?;
+        errors.push(ValidationError::non_lit_ext_constructor(loc, policy_id))?;
+        Ok(())
+    }
+
+    /// A call at `loc`, where the arguments are typed or one is too deep. Its own errors are kept.
+    pub(crate) fn call_answer<'a>(
+        &self,
+        loc: Option<Loc>,
+        name: &Name,
+        call: Call<'_>,
+        arguments: OperandList,
+        errors: &mut Vec<ValidationError>,
+    ) -> Result<TypecheckAnswer<'a>, AllocError>
+        ensures { (qs : _) → IfOk result (λ r.
+            infer_form (shape_of (at loc) (path_of name.now) qs call.entry) (operands_of arguments)
+            (findings errors.old.items)
+            ≡ (answer_of r, findings errors.new.items)) }
+    {
+        if arguments.is_cut {
+            add_errors(errors, call.errors)?;
+            return Ok(TypecheckAnswer::RecursionLimit);
+        }
+        match decide_call(self.alloc, call)? {
+            Decision::Gives(ty, capabilities) => {
+                let typed = call_node(loc, name, Some(ty), arguments.typed)?;
+                Ok(with_capabilities(arguments.succeeded, typed, capabilities))
+            }
+            Decision::Refuses(ty, found) => {
+                let typed = call_node(loc, name, ty, arguments.typed)?;
+                add_errors(errors, found)?;
+                Ok(TypecheckAnswer::fail(typed))
+            }
+        }
+    }
+}
+
+/// The types that the arguments have to be of, beside these errors of the call.
+fn types_wanted<'f, C>(
+    function: &'f ExtensionFunctionType<C>,
+    errors: &[ValidationError],
+) -> &'f [CedarType]
+    ensures { (meaning : _) → map ty_of result.now
+        ≡ types_wanted (Some (function_of meaning function.now)) (findings errors.now) }
+{
+    match errors {
+        [] => &function.argument_types,
+        [_, ..] => &[],
+    }
+}
+
+/// Whether the function takes as many arguments.
+fn takes<C>(function: &ExtensionFunctionType<C>, count: usize) -> bool
+    ensures { (meaning : _) → result ≡ takes (function_of meaning function.now) count }
+{
+    if function.is_variadic {
+        count >= function.argument_types.len()
+    } else {
+        count == function.argument_types.len()
+    }
+}
+
+fn all_literals(arguments: &[Expr]) -> bool
+    ensures { result ≡ list_all is_literal (map written arguments.now) }
+{
+    each_is_literal(arguments)
+}
+
+fn each_is_literal(arguments: &[Expr]) -> bool
+    ensures { result ≡ list_all (λ e. is_literal (written e)) arguments.now }
+{
+    arguments.iter().all(|argument| is_literal(argument))
+}
+
+fn is_literal(e: &Expr) -> bool
+    ensures { result ≡ is_literal (written e.now) }
+{
+    match &e.kind {
+        ExprKind::Lit(_) => true,
+        ExprKind::Var(_) => false,
+        ExprKind::Slot(_) => false,
+        ExprKind::Unknown(_) => false,
+        ExprKind::If { .. } => false,
+        ExprKind::And(_, _) => false,
+        ExprKind::Or(_, _) => false,
+        ExprKind::UnaryApp(_, _) => false,
+        ExprKind::BinaryApp(_, _, _) => false,
+        ExprKind::ExtensionFunctionApp(_, _) => false,
+        ExprKind::GetAttr(_, _) => false,
+        ExprKind::HasAttr(_, _) => false,
+        ExprKind::ExtHasAttr(_, _) => false,
+        ExprKind::Like(_, _) => false,
+        ExprKind::Is(_, _) => false,
+        ExprKind::Set(_) => false,
+        ExprKind::Record(_) => false,
+    }
+}
+
+/// The type of the answer, or the errors of the call.
+fn decide_call<'a>(alloc: Global, call: Call<'_>) -> Result<Decision<'a>, AllocError>
+    ensures { IfOk result (λ d. decision_of d
+        ≡ call_decides (option_map (λ t. ty_of t.now) call.entry.return_type)
+        (findings call.entry.errors.items)) }
+{
+    match call.return_type {
+        Some(ty) => Ok(gives_unless(alloc, call.errors, ty.clone()?)),
+        None => Ok(Decision::Refuses(None, call.errors)),
+    }
+}
+
+fn call_node(
+    loc: Option<Loc>,
+    name: &Name,
+    ty: Option<CedarType>,
+    arguments: Vec<Expr<Option<CedarType>>>,
+) -> Result<Expr<Option<CedarType>>, AllocError>
+    ensures { IfOk result (λ e. typed_tree e
+        ≡ call (typed_as (option_map ty_of ty) (at loc)) (path_of name.now)
+        (trees_of (map typed_tree arguments.items))) }
+{
+    let kind = ExprKind::ExtensionFunctionApp(name.clone()?, arguments);
+    Ok(Expr {
+        annotation: ty,
+        loc,
+        kind,
+    })
+}
