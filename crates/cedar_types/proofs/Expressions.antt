@@ -3,3 +3,4 @@ pub mod PlacedTrees
 pub mod Marks
 pub mod ExtensionTables
 pub mod SortedTables
+pub mod Parts

@@ -7,3 +7,5 @@ pub mod Tests
 pub mod Schema
 pub mod Slots
 pub mod Expressions
+pub mod Linking
+pub mod FallibleIterators

@@ -3,10 +3,8 @@ use Rattle.std.specs.Prelude.{Bool, true, false, ◌&&◌, List, [], ◌∷◌, 
 use Rattle.std.specs.List.{list_all}
 use Rattle.std.specs.Ordering.{is_lt}
 use Rattle.std.specs.declared.cmp.Ordering.{Ordering}
-use Rattle.std.specs.declared.alloc.Global.{Global}
-use Rattle.std.specs.declared.rc.RcStr.{RcStr}
 use Rattle.cedar_types.specs.declared.base.names.entities.EntityType.{EntityType}
-use Rattle.cedar_types.specs.Names.{Text, Path, text_of, type_of, text_cmp, path_cmp}
+use Rattle.cedar_types.specs.Names.{Text, Path, type_of, text_cmp, path_cmp}
 
 -- each is below all that follow it
 abbrev pub is_ascending : {A : Type 0} → (A → A → Ordering) → List A → Bool

@@ -2,8 +2,10 @@ pub mod Names
 pub mod Comparisons
 pub mod Tree
 pub mod View
+pub mod FallibleIterators
 pub mod Lemmas
 pub mod TreeEq
+pub mod Parts
 pub mod ShapeOnly
 pub mod Templates
 pub mod Ascending
@@ -28,3 +30,6 @@ pub mod Schemas
 pub mod Lookups
 pub mod RequestEnvs
 pub mod Makers
+pub mod Findings
+pub mod Linking
+pub mod LinkViews

@@ -26,6 +26,7 @@ pub use expressions::literals::Literal;
 pub use expressions::operators::{BinaryOp, UnaryOp, Var};
 pub use expressions::patterns::PatternElem;
 pub use expressions::shapes::ExprShapeOnly;
+pub use expressions::subexpressions::ExprIterator;
 pub use expressions::{Expr, ExprKind};
 pub use levels::EntityDerefLevel;
 pub use location::Loc;

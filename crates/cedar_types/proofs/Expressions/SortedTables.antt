@@ -1,5 +1,5 @@
 -- Tables of extension functions that ascend by name: their faults, and what is found in them.
-use Rattle.std.proofs.Common.{◌≡◌, refl, sym, ap, subst, ◌∙◌, ◌⊎◌, inl, inr, ⊎_elim, ℕ, suc, ◌+◌, ◌<◌, ◌≤◌, arith, Bool, true, false, not, cond, ◌||◌, List, [], ◌∷◌, map, length, get_or, drop, Option, Some, None, is_some, true≢false, Ordering, Less, Equal, Greater, is_lt, is_eq, Global}
+use Rattle.std.proofs.Common.{◌≡◌, refl, sym, ap, subst, ◌∙◌, ◌⊎◌, inl, inr, ⊎_elim, ℕ, suc, ◌+◌, ◌<◌, ◌≤◌, arith, Bool, true, false, not, cond, ◌||◌, List, [], ◌∷◌, map, length, get_or, drop, Option, Some, None, is_some, true≢false, Ordering, Less, Equal, Greater, is_lt, is_eq}
 use Rattle.std.specs.Ordering.{ordering_reverse, ordering_index}
 use Rattle.std.specs.Cmp.{on_total}
 use Rattle.std.specs.List.{list_any, AllByRecursion, AllAdjacentBelow, AllWithin, IsDistinct}

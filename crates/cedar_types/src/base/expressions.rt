@@ -8,6 +8,7 @@ mod operator_makers;
 pub(crate) mod operators;
 pub(crate) mod patterns;
 pub(crate) mod shapes;
+pub(crate) mod subexpressions;
 
 use crate::base::expressions::attr_chains::AttrChain;
 use crate::base::expressions::literals::Literal;

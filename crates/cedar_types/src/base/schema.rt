@@ -15,6 +15,7 @@ mod lookups;
 pub(crate) mod memberships;
 mod queries;
 pub(crate) mod request_environments;
+mod slot_links;
 mod tag_types;
 mod type_faults;
 mod type_tables;

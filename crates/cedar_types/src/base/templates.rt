@@ -7,6 +7,7 @@ ghost use Rattle.cedar_types.specs.Templates.{template_of, scope_of, action_scop
 mod conditions;
 mod constraint_makers;
 pub(crate) mod constraints;
+mod slots;
 
 use crate::base::expressions::Expr;
 use crate::base::location::Loc;

@@ -1,4 +1,4 @@
-use Rattle.std.proofs.Common.{◌≡◌, ℕ, suc, ◌+◌, ◌<◌, List, [], ◌∷◌, ◌++◌, length, get_or, map, drop, add-one, drop-cons, append_assoc, arith, ap, sym, ◌∙◌}
+use Rattle.std.proofs.Common.{◌≡◌, ℕ, suc, ◌+◌, ◌<◌, List, ◌∷◌, ◌++◌, length, get_or, map, drop, add-one, drop-cons, append_assoc, arith, ap, sym, ◌∙◌}
 use Rattle.cedar_types.specs.Declarations.{declared_type, type_kind}
 use Rattle.cedar_types.specs.Types.{ty_of}
 use Rattle.cedar_types.specs.Lookups.{kind_tags, tags_of_any}

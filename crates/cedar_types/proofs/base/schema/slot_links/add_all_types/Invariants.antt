@@ -1,0 +1,11 @@
+use Rattle.std.proofs.Common.{◌≡◌, ◌++◌, map, drop, Some}
+use Rattle.cedar_types.specs.Declarations.{declared_type}
+use Rattle.cedar_types.specs.Linking.{type_names}
+use Rattle.cedar_types.specs.LinkViews.{link_of}
+use Rattle.cedar_types.proofs.base.schema.slot_links.add_all_types.Given as goal
+
+-- what was added, and the types that are left
+abbrev pub invariant-loop-declared : goal.invariant-loop-declared
+invariant-loop-declared l =
+    map link_of l.links.items ++ map (λ p. Some p) (type_names (map declared_type (drop l.declared-index l.declared-items)))
+    ≡ map link_of l.initial.links.items ++ map (λ p. Some p) (type_names (map declared_type l.initial.schema.types.declared.items))

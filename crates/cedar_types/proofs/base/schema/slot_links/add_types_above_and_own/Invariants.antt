@@ -1,0 +1,12 @@
+use Rattle.std.proofs.Common.{◌≡◌, ◌++◌, ◌∷◌, [], map, drop, Some}
+use Rattle.cedar_types.specs.Declarations.{declared_type}
+use Rattle.cedar_types.specs.Linking.{types_above}
+use Rattle.cedar_types.specs.LinkViews.{link_of}
+use Rattle.cedar_types.specs.Names.{type_of}
+use Rattle.cedar_types.proofs.base.schema.slot_links.add_types_above_and_own.Given as goal
+
+-- what was added, and those above among the types that are left
+abbrev pub invariant-loop-declared : goal.invariant-loop-declared
+invariant-loop-declared l =
+    map link_of l.links.items ++ map (λ p. Some p) (types_above (map declared_type (drop l.declared-index l.declared-items)) (type_of l.own))
+    ≡ map link_of l.initial.links.items ++ map (λ p. Some p) (types_above (map declared_type l.initial.schema.types.declared.items) (type_of l.own))

@@ -1,0 +1,101 @@
+// All ways to link the two slots of one environment.
+ghost use Rattle.std.specs.Prelude.{◌≤◌, ◌-◌, length};
+
+use crate::base::{CedarType, EntityType, EntityUID};
+use crate::types::request_env::RequestEnv;
+use std::alloc::{AllocError, Global};
+
+/// A declared environment without its slots.
+#[derive(Clone, Copy, Debug)]
+pub(crate) struct Place<'a> {
+    pub(crate) principal: &'a EntityType,
+    pub(crate) action: &'a EntityUID,
+    pub(crate) resource: &'a EntityType,
+    pub(crate) context: &'a CedarType,
+}
+
+/// The ways that are still to come to link both slots: those of the principal's link at hand from that of the resource
+/// at hand on, and all of its later ones.
+#[derive(Drop, Debug)]
+pub(crate) struct LinkPairs<'a> {
+    pub(crate) place: Place<'a>,
+    pub(crate) principals: Vec<Option<&'a EntityType>>,
+    pub(crate) resources: Vec<Option<&'a EntityType>>,
+    pub(crate) principal_at: usize,
+    pub(crate) resource_at: usize,
+    pub(crate) ghost in_row: { resource_at ≤ length resources.items - 1 },
+}
+
+impl<'a> LinkPairs<'a> {
+    ghost use Rattle.std.specs.Prelude.{◌≡◌, IfOk, MatchOption, [], ◌∷◌, option_map};
+    ghost use Rattle.cedar_types.specs.Names.{type_of};
+    ghost use Rattle.cedar_types.specs.RequestEnvs.{env_of};
+    ghost use Rattle.cedar_types.specs.LinkViews.{link_of, pairs_left};
+
+    pub(crate) fn new(
+        place: Place<'a>,
+        principals: Vec<Option<&'a EntityType>>,
+        resources: Vec<Option<&'a EntityType>>,
+    ) -> LinkPairs<'a>
+        ensures place { result.place ≡ place.entry }
+        ensures principals { result.principals ≡ principals.entry }
+        ensures resources { result.resources ≡ resources.entry }
+        ensures principal_at { result.principal_at ≡ 0 }
+        ensures resource_at { result.resource_at ≡ 0 }
+    {
+        LinkPairs {
+            place,
+            principals,
+            resources,
+            principal_at: 0,
+            resource_at: 0,
+        }
+    }
+
+    /// The next environment; `None` after the last. Where memory is refused, it is still to come.
+    pub(crate) fn next_env(&mut self, _alloc: Global) -> Result<Option<RequestEnv<'a>>, AllocError>
+        ensures { IfOk result (λ o. MatchOption o
+            ((pairs_left self.old ≡ []) × (pairs_left self.new ≡ []))
+            (λ e. pairs_left self.old ≡ env_of e ∷ pairs_left self.new)) }
+    {
+        let principal_at = self.principal_at;
+        let resource_at = self.resource_at;
+        if principal_at >= self.principals.len() {
+            return Ok(None);
+        }
+        if resource_at >= self.resources.len() {
+            return Ok(None);
+        }
+        let principal_slot = LinkPairs::copy_link(self.principals[principal_at])?;
+        let resource_slot = LinkPairs::copy_link(self.resources[resource_at])?;
+        if self.resource_at + 1 < self.resources.len() {
+            self.resource_at += 1;
+        } else {
+            self.resource_at = 0;
+            self.principal_at += 1;
+        }
+        let Place {
+            principal,
+            action,
+            resource,
+            context,
+        } = self.place;
+        Ok(Some(RequestEnv::DeclaredAction {
+            principal,
+            action,
+            resource,
+            context,
+            principal_slot,
+            resource_slot,
+        }))
+    }
+
+    fn copy_link(link: Option<&EntityType>) -> Result<Option<EntityType>, AllocError>
+        ensures { IfOk result (λ o. option_map type_of o ≡ link_of link.entry) }
+    {
+        match link {
+            None => Ok(None),
+            Some(entity_type) => Ok(Some(entity_type.clone()?)),
+        }
+    }
+}

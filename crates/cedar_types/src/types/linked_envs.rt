@@ -1,0 +1,167 @@
+// The environments that a template is checked in.
+ghost use Rattle.std.specs.Prelude.{◌≡◌, false, [], ◌∷◌, None, IfOk, MatchOption};
+ghost use Rattle.cedar_types.specs.FallibleIterators.{YieldsOrEnds, calls_left};
+ghost use Rattle.cedar_types.specs.Linking.{checked_envs, has_slot, linked_by};
+ghost use Rattle.cedar_types.specs.LinkViews.{place_env, pairs_left, held_left, linked_to_come, linked_left, linked_is_over};
+ghost use Rattle.cedar_types.specs.RequestEnvs.{Declared, env_of};
+ghost use Rattle.cedar_types.specs.SchemaContents.{schema_of};
+ghost use Rattle.cedar_types.specs.Templates.{template_of};
+
+use crate::base::{SlotId, Template, ValidationMode, ValidatorSchema};
+use crate::types::link_pairs::{LinkPairs, Place};
+use crate::types::request_env::RequestEnv;
+use crate::types::unlinked_envs::UnlinkedRequestEnvs;
+use std::alloc::{AllocError, Global};
+
+/// The environments that a template is checked in, one at a time: those of the schema, each with the template's slots
+/// linked in all ways.
+///
+/// A slot that does not occur in the template is not linked. One that does is linked to the type of its variable where
+/// the scope says `==`; where it says `in`, to each declared type that has this type as a descendant and then to the type
+/// itself, so a type below itself comes twice; where it says neither, to each declared type. It holds the links of one
+/// environment at a time.
+///
+/// Where memory is refused, an item is an `AllocError`, and there is none after it.
+#[derive(Drop, Debug)]
+pub struct LinkedRequestEnvs<'a> {
+    alloc: Global,
+    schema: &'a ValidatorSchema,
+    template: &'a Template,
+    has_principal_slot: bool,
+    has_resource_slot: bool,
+    unlinked: UnlinkedRequestEnvs<'a>,
+    /// Those still to come of the environment of the schema at hand.
+    links: Option<LinkPairs<'a>>,
+    ended: bool,
+}
+
+impl ValidatorSchema {
+    /// The environments that this template is checked in. Where memory is refused, the answer is an `AllocError`.
+    #[tactic(auto, unfolding(crate::specs::LinkViews::linked_left, crate::specs::LinkViews::linked_is_over))]
+    pub fn linked_request_envs<'a>(
+        &'a self,
+        alloc: Global,
+        mode: ValidationMode,
+        t: &'a Template,
+    ) -> Result<LinkedRequestEnvs<'a>, AllocError>
+        ensures left { IfOk result (λ l.
+            linked_left l ≡ checked_envs (schema_of self.now) mode (template_of t.now)) }
+        ensures begun { IfOk result (λ l. linked_is_over l ≡ false) }
+    {
+        let has_principal_slot = t.mentions_slot(alloc, SlotId::Principal)?;
+        let has_resource_slot = t.mentions_slot(alloc, SlotId::Resource)?;
+        Ok(LinkedRequestEnvs {
+            alloc,
+            schema: self,
+            template: t,
+            has_principal_slot,
+            has_resource_slot,
+            unlinked: self.unlinked_request_envs(mode),
+            links: None,
+            ended: false,
+        })
+    }
+}
+
+impl<'a> Iterator for LinkedRequestEnvs<'a> {
+    type Item = Result<RequestEnv<'a>, AllocError>;
+
+    ghost next_gives = { YieldsOrEnds linked_left linked_is_over env_of };
+
+    ghost remaining = { calls_left linked_left linked_is_over };
+
+    #[tactic(auto, unfolding(crate::specs::LinkViews::linked_left, crate::specs::LinkViews::linked_is_over))]
+    fn next(&mut self) -> Option<Result<RequestEnv<'a>, AllocError>> {
+        if self.ended {
+            return None;
+        }
+        match self.next_env() {
+            Ok(Some(env)) => Some(Ok(env)),
+            Ok(None) => {
+                self.ended = true;
+                None
+            }
+            Err(refused) => {
+                self.ended = true;
+                Some(Err(refused))
+            }
+        }
+    }
+}
+
+impl<'a> LinkedRequestEnvs<'a> {
+    /// The next environment; `None` after the last. An environment of the schema may have no link at all.
+    fn next_env(&mut self) -> Result<Option<RequestEnv<'a>>, AllocError>
+        ensures next { IfOk result (λ o. MatchOption o
+            (linked_to_come self.old ≡ [])
+            (λ e. linked_to_come self.old ≡ env_of e ∷ linked_to_come self.new)) }
+        ensures ended { self.new.ended ≡ self.old.ended }
+    {
+        loop {
+            if let Some(env) = next_pair(self.alloc, &mut self.links)? {
+                return Ok(Some(env));
+            }
+            match self.unlinked.next() {
+                None => return Ok(None),
+                Some(RequestEnv::UndeclaredAction) => {
+                    return Ok(Some(RequestEnv::UndeclaredAction));
+                }
+                Some(
+                    RequestEnv::DeclaredAction {
+                        principal,
+                        action,
+                        resource,
+                        context,
+                        ..
+                    },
+                ) => {
+                    let place = Place {
+                        principal,
+                        action,
+                        resource,
+                        context,
+                    };
+                    self.links = Some(self.links_at(place)?);
+                }
+            }
+        }
+    }
+
+    /// The ways to link both slots in this environment.
+    fn links_at(&self, place: Place<'a>) -> Result<LinkPairs<'a>, AllocError>
+        ensures { IfOk result (λ l.
+            pairs_left l
+            ≡ linked_by self.now.has_principal_slot self.now.has_resource_slot
+            (schema_of self.now.schema.now) (template_of self.now.template.now)
+            (Declared (place_env place.entry) None None)) }
+    {
+        let principals = self.schema.slot_links(
+            self.alloc,
+            self.has_principal_slot,
+            &self.template.principal_constraint.constraint,
+            place.principal,
+        )?;
+        let resources = self.schema.slot_links(
+            self.alloc,
+            self.has_resource_slot,
+            &self.template.resource_constraint.constraint,
+            place.resource,
+        )?;
+        Ok(LinkPairs::new(place, principals, resources))
+    }
+}
+
+/// The next environment of these, if there are any.
+fn next_pair<'a>(
+    alloc: Global,
+    links: &mut Option<LinkPairs<'a>>,
+) -> Result<Option<RequestEnv<'a>>, AllocError>
+    ensures { IfOk result (λ o. MatchOption o
+        ((held_left links.old ≡ []) × (held_left links.new ≡ []))
+        (λ e. held_left links.old ≡ env_of e ∷ held_left links.new)) }
+{
+    match links {
+        None => Ok(None),
+        Some(pairs) => pairs.next_env(alloc),
+    }
+}
