@@ -3,3 +3,4 @@ pub mod World
 pub mod Rules
 pub mod Evaluation
 pub mod Premises
+pub mod Composition

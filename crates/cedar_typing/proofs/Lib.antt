@@ -28,4 +28,8 @@ pub mod Values
 pub mod Bounds
 pub mod SingleEntity
 pub mod Soundness
+pub mod Composition
 pub mod Examples
+pub mod Gains
+pub mod Tallies
+pub mod ChecksLeft

@@ -1,5 +1,5 @@
 -- What is one of a list: of lists put together, and by tests of all or of some.
-use Rattle.std.proofs.Common.{◌≡◌, inl, inr, Bool, true, false, cond, List, [], ◌∷◌, ◌++◌, Option, Some, refl, sym, subst}
+use Rattle.std.proofs.Common.{◌≡◌, inl, inr, Bool, true, false, cond, List, [], ◌∷◌, ◌++◌, map, Option, Some, refl, sym, ap, subst}
 use Rattle.std.specs.List.{list_all, list_any, find, flat_map}
 use Rattle.cedar_types.specs.Lemmas.Comparisons.{and_left, and_right, path_same}
 use Rattle.cedar_types.specs.Names.{Path, path_eq}
@@ -14,12 +14,12 @@ AreAll {A} P xs = (x : A) → IsOneOf x xs → P x
 -- ---- lists put together
 
 module _ {A : Type 0} where
-  in_left : (x : A) (xs ys : List A) → IsOneOf x xs → IsOneOf x (xs ++ ys)
+  pub in_left : (x : A) (xs ys : List A) → IsOneOf x xs → IsOneOf x (xs ++ ys)
   in_left x [] ys h = absurd h
   in_left x (y ∷ xs) ys (inl e) = inl e
   in_left x (y ∷ xs) ys (inr h) = inr (in_left x xs ys h)
 
-  in_right : (x : A) (xs ys : List A) → IsOneOf x ys → IsOneOf x (xs ++ ys)
+  pub in_right : (x : A) (xs ys : List A) → IsOneOf x ys → IsOneOf x (xs ++ ys)
   in_right x [] ys h = h
   in_right x (y ∷ xs) ys h = inr (in_right x xs ys h)
 
@@ -27,6 +27,12 @@ module _ {A : Type 0} where
   all_joined P [] ys f g x h = g x h
   all_joined P (y ∷ xs) ys f g x (inl e) = f x (inl e)
   all_joined P (y ∷ xs) ys f g x (inr h) = all_joined P xs ys (λ z k. f z (inr k)) g x h
+
+  -- one of a list, under a function
+  pub in_mapped : {B : Type 0} (f : B → A) (b : B) (bs : List B) → IsOneOf b bs → IsOneOf (f b) (map f bs)
+  in_mapped f b [] h = absurd h
+  in_mapped f b (c ∷ bs) (inl e) = inl (ap f e)
+  in_mapped f b (c ∷ bs) (inr h) = inr (in_mapped f b bs h)
 
   module _ {B : Type 0} (f : B → List A) where
     -- one of the list that belongs to one

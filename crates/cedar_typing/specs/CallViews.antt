@@ -4,7 +4,7 @@ use Rattle.cedar_types.specs.declared.base.location.Loc.{Loc}
 use Rattle.cedar_types.specs.Errors.{Fault, Finding}
 use Rattle.cedar_types.specs.ExtensionFunctions.{function_named}
 use Rattle.cedar_types.specs.Names.{Path}
-use Rattle.cedar_types.specs.Types.{Ty, ty_of}
+use Rattle.cedar_types.specs.Types.{ty_of}
 use Rattle.cedar_types.specs.View.{Written}
 use Rattle.cedar_typing.specs.Eager.{Expectation, Form}
 use Rattle.cedar_typing.specs.Rules.Calls.{call_errors, form_of_call, return_type, types_wanted}

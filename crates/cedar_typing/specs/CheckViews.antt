@@ -8,7 +8,7 @@ use Rattle.cedar_types.specs.declared.base.types.ValidationMode.{ValidationMode}
 use Rattle.cedar_types.specs.declared.types.request_env.RequestEnv.{RequestEnv}
 use Rattle.cedar_types.specs.Names.{text_of}
 use Rattle.cedar_types.specs.SchemaContents.{schema_of}
-use Rattle.cedar_types.specs.RequestEnvs.{env_of}
+use Rattle.cedar_types.specs.RequestEnvs.{Env, env_of}
 use Rattle.cedar_types.specs.Errors.{finding_of}
 use Rattle.cedar_types.specs.ExtensionFunctions.{Refusals}
 use Rattle.cedar_types.specs.Extensions.{functions_of, overloaded_types_of}
@@ -36,14 +36,17 @@ module _ {C : Type 0} where
   mode_by c = c.mode
 
   -- what a template is typed in; `meaning` says what each check of arguments means
-  abbrev pub setting_for : (C → Refusals) → Typechecker C → Template → RequestEnv → Setting
-  setting_for meaning c t env = record {
+  abbrev pub setting_within : (C → Refusals) → Typechecker C → Template → Env → Setting
+  setting_within meaning c t env = record {
     env = record {
       schema = schema_of (schema_by c).now;
       mode = mode_by c;
-      request_env = env_of env;
+      request_env = env;
       overloaded_types = overloaded_types_of (extensions_by c).now;
       policy = text_of t.id.text;
     };
     functions = functions_of meaning (extensions_by c).now;
   }
+
+  abbrev pub setting_for : (C → Refusals) → Typechecker C → Template → RequestEnv → Setting
+  setting_for meaning c t env = setting_within meaning c t (env_of env)

@@ -5,3 +5,4 @@ pub mod Expressions
 pub mod Rules
 pub mod Evaluation
 pub mod Premises
+pub mod Composition

@@ -18,4 +18,8 @@ pub mod RuleLaws
 pub mod Evaluation
 pub mod Soundness
 pub mod SoundPolicyCheck
+pub mod Composition
 pub mod Examples
+pub mod PolicyOutcome
+pub mod EnvironmentChecks
+pub mod PolicyViews

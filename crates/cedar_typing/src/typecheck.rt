@@ -1,13 +1,17 @@
 //! Typing, and what it answers.
 pub mod answer;
 mod capabilities;
+pub mod composition;
 mod expressions;
 mod joins;
 pub mod laws;
 mod operand_tests;
 mod operands;
+mod policy;
+mod request_env_checks;
 mod rules;
 mod sequence;
+mod sets;
 mod single_env;
 mod type_env;
 mod type_tests;
@@ -15,4 +19,5 @@ mod typechecker;
 mod typed_nodes;
 
 pub use expressions::MAX_NESTING;
+pub use request_env_checks::RequestEnvChecks;
 pub use typechecker::{PolicyCheck, Typechecker};

@@ -97,6 +97,24 @@ impl<'a, C: ArgumentCheck> Typechecker<'a, C> {
             (condition_of (template_of t.now)) (verdict_of r)) }
     {
         let scope = t.scope_condition(alloc)?;
+        let check = self.check_with_scope(alloc, t, &scope, env)?;
+        Ok(check)
+    }
+
+    /// The same where it is known what the scope makes of the condition.
+    pub(crate) fn check_with_scope(
+        &self,
+        alloc: Global,
+        t: &Template,
+        scope: &Expr,
+        env: &RequestEnv<'_>,
+    ) -> Result<PolicyCheck, AllocError>
+        ensures { IfOk result (λ r.
+            verdict_of r
+            ≡ policy_check (setting_for C.refusal self.now t.now env.now)
+            (with_rest t.now.loc (written scope.now)
+            (option_map written t.now.non_scope_constraints))) }
+    {
         let checker = SingleEnvTypechecker {
             env: TypeEnv {
                 alloc,
@@ -108,7 +126,7 @@ impl<'a, C: ArgumentCheck> Typechecker<'a, C> {
             },
             extensions: self.extensions,
         };
-        let check = checker.check_rest(t.loc, &scope, &t.non_scope_constraints)?;
+        let check = checker.check_rest(t.loc, scope, &t.non_scope_constraints)?;
         Ok(check)
     }
 }

@@ -1,4 +1,4 @@
-use Rattle.std.proofs.Common.{◌≡◌, ◌<◌, ◌+◌, ◌∙◌, length, map, drop, arith, sym, ap, subst, true, ◌&&◌, [], ◌∷◌, ◌++◌, option_map, append_assoc, append-nil, Option, Some, None, refl}
+use Rattle.std.proofs.Common.{◌≡◌, ◌<◌, ◌+◌, ◌∙◌, length, map, drop, arith, sym, ap, subst, true, ◌&&◌, [], ◌∷◌, ◌++◌, option_map, append_assoc, append-nil, refl}
 use Rattle.std.specs.Prelude.{IfOk}
 use Rattle.std.specs.List.Sorted.{IsStrictlySortedBy}
 use Rattle.std.specs.Map.{keys_of}

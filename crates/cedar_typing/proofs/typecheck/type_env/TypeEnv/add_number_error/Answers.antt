@@ -1,4 +1,4 @@
-use Rattle.std.proofs.Common.{◌≡◌, ◌∙◌, ap, sym, true, false, length, [], ◌∷◌, ◌++◌, append-nil}
+use Rattle.std.proofs.Common.{◌∙◌, ap, sym, true, false, [], ◌∷◌, ◌++◌, append-nil}
 use Rattle.std.proofs.lemmas.List.{map-append}
 use Rattle.cedar_types.specs.Errors.{finding_of, wrong_number_arguments}
 use Rattle.cedar_typing.specs.CallViews.{added_at}

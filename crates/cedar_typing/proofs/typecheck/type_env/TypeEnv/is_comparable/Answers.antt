@@ -1,5 +1,5 @@
-use Rattle.std.proofs.Common.{◌≡◌, ◌∙◌, ap, sym, map, Option, Some, None, option_map}
-use Rattle.cedar_types.specs.Names.{Path, path_of}
+use Rattle.std.proofs.Common.{◌≡◌, ◌∙◌, ap, sym, Some, None, option_map}
+use Rattle.cedar_types.specs.Names.{path_of}
 use Rattle.cedar_types.specs.Types.{ty_of}
 use Rattle.cedar_typing.specs.Views.{env_at, extension_named}
 use Rattle.cedar_typing.proofs.Comparables.{comparable_if}

@@ -1,0 +1,11 @@
+-- What the checks of a template in its environments say together.
+pub mod Links
+pub mod SlotTests
+pub mod Slots
+pub mod OwnBinding
+pub mod NeverTrue
+pub mod SameLiterals
+pub mod SameForms
+pub mod SlotFree
+pub mod Coverage
+pub mod ScopeValues

@@ -1,0 +1,90 @@
+-- What the check in the own environment says of each world of the request.
+use Rattle.std.proofs.Common.{◌≡◌, Bool, true, false, true≢false, Some, sym}
+use Rattle.cedar_types.specs.declared.base.names.slots.SlotId.{SlotId}
+use Rattle.cedar_types.specs.Names.{Path, Uid}
+use Rattle.cedar_types.specs.Environments.{DeclaredEnv, environments_of}
+use Rattle.cedar_types.specs.Templates.{PlainTemplate, condition_of}
+use Rattle.cedar_types.specs.Values.{VBool}
+use Rattle.cedar_types.specs.Stores.{ConformingStore}
+use Rattle.cedar_types.specs.Linking.{has_slot}
+use Rattle.cedar_typing.specs.Composition.{in_env, SlotsInScopeAlone, own_link, own_env, IsFaultless, IsIrrelevant, NeverTrue, OwnSuccessIsKept}
+use Rattle.cedar_typing.specs.Evaluation.Conformance.{IsOneOf, FitsRequest, FitsSlot, KeepsTable, IsBound, SlotsBound}
+use Rattle.cedar_typing.specs.Evaluation.Eval.{eval}
+use Rattle.cedar_typing.specs.Evaluation.World.{World, Outcome, Gives, Fails}
+use Rattle.cedar_typing.specs.PolicyCheck.{Verdict, succeeds, irrelevant, fails, PolicyChecks, policy_check}
+use Rattle.cedar_typing.specs.Setting.{Setting, table}
+use Rattle.cedar_typing.specs.SoundPolicyCheck.{Promises}
+use Rattle.cedar_typing.specs.Soundness.{IsTrueOutcome}
+use Rattle.cedar_typing.specs.TypedExpr.{TypedTree}
+use Rattle.cedar_typing.proofs.PolicyCheck.{checked}
+use Rattle.cedar_typing.proofs.Soundness.PolicyCheck.{check_sound}
+use Rattle.cedar_typing.proofs.Composition.Links.{own_env_is_checked}
+use Rattle.cedar_typing.proofs.Composition.Slots.{slots_bound}
+use Rattle.cedar_typing.proofs.Composition.OwnBinding.{own_slots, own_world, IsAtMost, itself, is_false, unlinked, condition_most}
+
+-- ---- outcomes
+
+-- what is at most another is true only where that is
+true_most : (U : Type 0) (o o' : Outcome) → IsAtMost U o o' → IsTrueOutcome o → IsTrueOutcome o'
+true_most U o o' itself h = h
+true_most U o o' is_false h = absurd (true≢false (sym h))
+true_most U o o' (unlinked u) h = absurd h
+
+-- and keeps the promise of a success that that keeps
+kept_most : (x : TypedTree) (o o' : Outcome) → IsAtMost ⊥ o o' → Promises (succeeds x) o' → Promises (succeeds x) o
+kept_most x o o' itself h = h
+kept_most x o o' is_false h = (tt, tt)
+kept_most x o o' (unlinked u) h = absurd u
+
+not_true : (v : Verdict) (o : Outcome) → IsIrrelevant v → Promises v o → IsTrueOutcome o → ⊥
+not_true (irrelevant es x) (Gives (VBool true)) i h k = true≢false (sym h)
+not_true (irrelevant es x) (Gives (VBool false)) i h k = true≢false (sym k)
+not_true (irrelevant es x) (Gives v) i h k = k
+not_true (irrelevant es x) (Fails f) i h k = k
+not_true (succeeds x) o i h k = i
+not_true (fails es) o i h k = i
+
+-- ---- the own environment, and the world with own slots
+
+own_fits : (b : Bool) (own : Path) (u : Uid) → u.entity_type ≡ own → FitsSlot (own_link b own) (Some u)
+own_fits true own u e = e
+own_fits false own u e = tt
+
+module _ (s : Setting) (t : PlainTemplate) (f : IsFaultless s) (d : DeclaredEnv) (one : IsOneOf d (environments_of s.env.schema.actions))
+    (world : World) (fits : FitsRequest d world.request) (store : ConformingStore s.env.schema world.store) (keeps : KeepsTable (table s) world.functions) where
+  both_bound : (x : SlotId) → IsBound (own_slots world.request x)
+  both_bound SlotId.Principal = tt
+  both_bound SlotId.Resource = tt
+
+  -- what the check promises there
+  own_promise : (v : Verdict) → PolicyChecks (in_env s (own_env t d)) (condition_of t) v → Promises v (eval (own_world world) (condition_of t))
+  own_promise v c =
+      check_sound (in_env s (own_env t d)) (condition_of t) v f.schema f.functions c (record { mode = f.mode; closed = f.closed; environment = one }) (own_world world)
+      (record {
+        environment =
+            (fits, own_fits (has_slot SlotId.Principal t) d.principal world.request.principal fits.principal, own_fits (has_slot SlotId.Resource t) d.resource world.request.resource fits.resource);
+        store = store;
+        functions = keeps;
+      })
+      (slots_bound (own_slots world.request) both_bound (condition_of t))
+
+  -- irrelevant there is never true
+  own_never : SlotsInScopeAlone t → (v : Verdict) → IsIrrelevant v → PolicyChecks (in_env s (own_env t d)) (condition_of t) v → IsTrueOutcome (eval world (condition_of t)) → ⊥
+  own_never h v i c k =
+      let U : Type 0 = Unit {0} in
+      not_true v (eval (own_world world) (condition_of t)) i (own_promise v c)
+      (true_most U (eval world (condition_of t)) (eval (own_world world) (condition_of t)) (condition_most U world t h (λ n. tt)) k)
+
+  own_kept : SlotsInScopeAlone t → (x : TypedTree) → PolicyChecks (in_env s (own_env t d)) (condition_of t) (succeeds x) → SlotsBound world.slots (condition_of t) → Promises (succeeds x) (eval world (condition_of t))
+  own_kept h x c b =
+      kept_most x (eval world (condition_of t)) (eval (own_world world) (condition_of t)) (condition_most ⊥ world t h (λ n. n b)) (own_promise (succeeds x) c)
+
+pub never_true : NeverTrue
+never_true s t f h all world (d, one, fits) store keeps k =
+    let own : Setting = in_env s (own_env t d) in
+    let c : PolicyChecks own (condition_of t) (policy_check own (condition_of t)) = checked own (condition_of t) in
+    let v : Verdict = policy_check own (condition_of t) in
+    own_never s t f d one world fits store keeps h v (all (own_env t d) (own_env_is_checked s.env.schema s.env.mode t h d one) v c) c k
+
+pub own_success_is_kept : OwnSuccessIsKept
+own_success_is_kept s t f h d one x c world fits store keeps b = own_kept s t f d one world fits store keeps h x c b

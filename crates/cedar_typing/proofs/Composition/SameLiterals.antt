@@ -1,0 +1,63 @@
+-- Which expressions are literals or actions is the same whatever the slots are linked to.
+use Rattle.std.proofs.Common.{◌≡◌, [], ◌∷◌, Option, option_map, refl, ap}
+use Rattle.cedar_types.specs.declared.base.expressions.operators.Var.{Var}
+use Rattle.cedar_types.specs.Names.{Path}
+use Rattle.cedar_types.specs.Tree.{lit, var, slot, unknown, if_then_else, and, or, unary, binary, call, get_attr, has_attr, ext_has_attr, like, is_type, set_of, record_of, Trees, no_trees, tree}
+use Rattle.cedar_types.specs.View.{Written}
+use Rattle.cedar_types.specs.Environments.{DeclaredEnv}
+use Rattle.cedar_types.specs.RequestEnvs.{Declared}
+use Rattle.cedar_typing.specs.Rules.Equality.{variable_literal, literal_of}
+use Rattle.cedar_typing.specs.Rules.Membership.{literal_entity, entity_of, with_entity, entities_of, ancestors_of}
+use Rattle.cedar_typing.specs.TypedExpr.{Source}
+
+module _ (d : DeclaredEnv) (p r p' r' : Option Path) where
+  variable_same : (x : Var) → variable_literal (Declared d p r) x ≡ variable_literal (Declared d p' r') x
+  variable_same Var.Principal = refl
+  variable_same Var.Action = refl
+  variable_same Var.Resource = refl
+  variable_same Var.Context = refl
+
+  pub literal_same : (e : Source) → literal_of (Declared d p r) e ≡ literal_of (Declared d p' r') e
+  literal_same (lit m x) = refl
+  literal_same (var m x) = variable_same x
+  literal_same (slot m x) = refl
+  literal_same (unknown m n) = refl
+  literal_same (if_then_else m x y z) = refl
+  literal_same (and m x y) = refl
+  literal_same (or m x y) = refl
+  literal_same (unary m o x) = refl
+  literal_same (binary m o x y) = refl
+  literal_same (call m n ts) = refl
+  literal_same (get_attr m x a) = refl
+  literal_same (has_attr m x a) = refl
+  literal_same (ext_has_attr m x a xs) = refl
+  literal_same (like m x q) = refl
+  literal_same (is_type m x n) = refl
+  literal_same (set_of m ts) = refl
+  literal_same (record_of m fs) = refl
+
+  pub entity_same : (e : Source) → entity_of (Declared d p r) e ≡ entity_of (Declared d p' r') e
+  entity_same e = ap literal_entity (literal_same e)
+
+  entities_same : (ts : Trees Written) → entities_of (Declared d p r) ts ≡ entities_of (Declared d p' r') ts
+  entities_same no_trees = refl
+  entities_same (tree e ts) = λ i. with_entity (entity_same e i) (entities_same ts i)
+
+  pub ancestors_same : (e : Source) → ancestors_of (Declared d p r) e ≡ ancestors_of (Declared d p' r') e
+  ancestors_same (set_of m ts) = entities_same ts
+  ancestors_same (var m x) = ap (λ o. option_map (λ u. u ∷ []) (literal_entity o)) (variable_same x)
+  ancestors_same (lit m x) = refl
+  ancestors_same (slot m x) = refl
+  ancestors_same (unknown m n) = refl
+  ancestors_same (if_then_else m x y z) = refl
+  ancestors_same (and m x y) = refl
+  ancestors_same (or m x y) = refl
+  ancestors_same (unary m o x) = refl
+  ancestors_same (binary m o x y) = refl
+  ancestors_same (call m n ts) = refl
+  ancestors_same (get_attr m x a) = refl
+  ancestors_same (has_attr m x a) = refl
+  ancestors_same (ext_has_attr m x a xs) = refl
+  ancestors_same (like m x q) = refl
+  ancestors_same (is_type m x n) = refl
+  ancestors_same (record_of m fs) = refl

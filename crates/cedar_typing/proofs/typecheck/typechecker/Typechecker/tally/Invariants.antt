@@ -1,0 +1,24 @@
+use Rattle.std.proofs.Common.{◌≡◌, ◌++◌, List}
+use Rattle.std.specs.Prelude.{IsPermutation}
+use Rattle.cedar_types.specs.Linking.{checked_envs}
+use Rattle.cedar_types.specs.RequestEnvs.{Env}
+use Rattle.cedar_types.specs.SchemaContents.{schema_of}
+use Rattle.cedar_types.specs.Templates.{template_of, condition_of}
+use Rattle.cedar_typing.specs.CheckViews.{schema_by, mode_by}
+use Rattle.cedar_typing.specs.EnvironmentChecks.{ChecksIn, checker_of, template_in, condition_in, checks_left}
+use Rattle.cedar_typing.specs.PolicyCheck.{Verdict}
+use Rattle.cedar_typing.specs.PolicyOutcome.{VerdictsOf}
+use Rattle.cedar_typing.specs.PolicyViews.{IsTally}
+use Rattle.cedar_typing.proofs.typecheck.typechecker.Typechecker.tally.Given as goal
+
+-- the tally is that of some environments, and with those that are left they are all
+abbrev pub invariant-loop-item : goal.invariant-loop-item
+invariant-loop-item g l =
+    let all : List Env = checked_envs (schema_of (schema_by l.fn.self).now) (mode_by l.fn.self) (template_of l.fn.t) in
+    (checker_of l.item-iterator ≡ l.fn.self)
+    × (template_in l.item-iterator ≡ l.fn.t)
+    × (condition_in l.item-iterator ≡ condition_of (template_of l.fn.t))
+    × (done : List Env) × (vs : List Verdict)
+    × IsPermutation (done ++ checks_left l.item-iterator) all
+    × VerdictsOf (ChecksIn g.C.ArgumentCheck.refusal l.fn.self l.fn.t) done vs
+    × IsTally l.tally vs

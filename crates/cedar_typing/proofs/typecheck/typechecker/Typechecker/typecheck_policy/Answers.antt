@@ -1,0 +1,40 @@
+use Rattle.std.proofs.Common.{◌||◌, ◌∷◌, [], map, ap, refl, sym, ◌∙◌}
+use Rattle.std.specs.Set.{is_member}
+use Rattle.cedar_types.specs.contracts.base.errors.validation_errors.ValidationErrorPartialEq.TheImpl as error_impl
+use Rattle.cedar_types.specs.contracts.base.errors.validation_warnings.ValidationWarningPartialEq.TheImpl as warning_impl
+use Rattle.cedar_types.specs.Errors.{finding_of, caution_of}
+use Rattle.cedar_types.specs.Templates.{template_of}
+use Rattle.cedar_typing.specs.PolicyOutcome.{Adds, all_errors, warnings_of}
+use Rattle.cedar_typing.proofs.Gains.{union_adds, put_adds}
+use Rattle.cedar_typing.proofs.Tallies.{error_decides, warning_decides, adds_same, warned, not_warned}
+use Rattle.cedar_typing.proofs.typecheck.typechecker.Typechecker.typecheck_policy.Goals as goal
+use Rattle.cedar_typing.proofs.typecheck.typechecker.Typechecker.typecheck_policy.Goals.{then-tally+in_ok-warning+in_ok-insert, else-tally}
+
+pub returns-clause-exact : goal.returns-clause-exact
+returns-clause-exact g c =
+    let eq = error_impl.ghosts.eq in
+    let old = c.args.type_errors.now.keys in
+    let new = c.put_all.new.set.keys in
+    let tally = c.in_ok-tally.tally in
+    let found = c.in_ok-tally.ensures in
+    let gained = union_adds eq finding_of error_decides old tally.errors.keys new
+    (λ q. c.put_all.ensures q ∙ ap (λ b. b || is_member eq tally.errors.keys q) (c.in_ok-reserve.ensures.keys.2 q)) in
+    let irrelevant = found.tallied.irrelevant in
+    let warnings : Adds (map caution_of c.args.warnings.now.keys) (warnings_of (template_of c.args.t.now) found.verdicts) (map caution_of c.if-tally.warnings.keys) = elim c.if-tally.branch [
+      | then-tally+in_ok-warning+in_ok-insert w ↦ rw w.warnings-is
+          (warned (template_of c.args.t.now) found.verdicts (map caution_of c.args.warnings.now.keys) (map caution_of w.insert.new.self.keys) (caution_of w.in_ok-warning.warning)
+          (sym irrelevant ∙ w.if-tally.true) w.in_ok-warning.ensures
+          (union_adds warning_impl.ghosts.eq caution_of warning_decides c.args.warnings.now.keys (w.in_ok-warning.warning ∷ []) w.insert.new.self.keys
+          (put_adds warning_impl.ghosts.eq caution_of warning_decides w.in_ok-warning.warning c.args.warnings.now.keys w.insert.new.self.keys (w.in_ok-insert.ensures.updates.0))))
+      | else-tally w ↦ rw w.warnings-is
+          (not_warned (template_of c.args.t.now) found.verdicts (map caution_of c.args.warnings.now.keys) _ (sym irrelevant ∙ w.if-tally.false) refl)
+    ] in
+    record {
+      listed = found.listed;
+      verdicts = found.verdicts;
+      in_some_order = found.in_some_order;
+      checked = found.checked;
+      answered = found.tallied.passes;
+      errors_added = adds_same (map finding_of old) (map finding_of tally.errors.keys) (all_errors found.verdicts) (map finding_of new) gained found.tallied.errors;
+      warnings_added = warnings;
+    }

@@ -1,0 +1,132 @@
+-- Templates in the sample schema: which environments each is checked in; and that the theorems on a template in its
+-- environments need that its slots stand in the scope alone.
+use Rattle.std.specs.Prelude.{◌≡◌, false, [], ◌∷◌, Option, Some, None, codes}
+use Rattle.cedar_types.specs.declared.base.names.slots.SlotId.{SlotId}
+use Rattle.cedar_types.specs.declared.base.types.ValidationMode.TheVariants.{Strict, Partial}
+use Rattle.cedar_types.specs.Names.{Path, Uid, PlacedType, PlacedUid}
+use Rattle.cedar_types.specs.Tree.{Shape, slot, is_type, or}
+use Rattle.cedar_types.specs.Templates.{to_entity, to_slot, Scope, any, equal, within, typed, typed_within, any_action, PlainTemplate, condition_of}
+use Rattle.cedar_types.specs.Schemas.{Schema, has_fault}
+use Rattle.cedar_types.specs.Stores.{ConformingStore}
+use Rattle.cedar_types.specs.Environments.{DeclaredEnv, environments_of}
+use Rattle.cedar_types.specs.RequestEnvs.{Env, Declared, Undeclared}
+use Rattle.cedar_types.specs.Linking.{checked_envs}
+use Rattle.cedar_typing.specs.Composition.{own_env, IsFaultless, IsIrrelevantInAll}
+use Rattle.cedar_typing.specs.Evaluation.Conformance.{IsOneOf, ConformingRequest, KeepsTable}
+use Rattle.cedar_typing.specs.Evaluation.Eval.{eval}
+use Rattle.cedar_typing.specs.Evaluation.World.{Slots, World}
+use Rattle.cedar_typing.specs.Examples.Expressions.{node, numbered}
+use Rattle.cedar_typing.specs.Examples.Greeting.{greeting}
+use Rattle.cedar_typing.specs.Examples.World.{user, robot, alice, bob, greet, a_context, sample_schema, sample}
+use Rattle.cedar_typing.specs.Setting.{table}
+use Rattle.cedar_typing.specs.Soundness.{IsTrueOutcome}
+
+-- ---- templates
+
+-- `permit(principal .., action, resource ..)`, with a rest or without
+abbrev pub template : Scope → Scope → Option Shape → PlainTemplate
+template p r None =
+    record { id = codes "policy0"; place = (node 0).place; principal = p; action = any_action; resource = r; rest = None }
+template p r (Some e) =
+    record { id = codes "policy0"; place = (node 0).place; principal = p; action = any_action; resource = r; rest = Some (numbered e) }
+
+abbrev pub a_user_type : PlacedType
+a_user_type = record { name = user; place = None }
+
+abbrev pub the_entity : Uid → PlacedUid
+the_entity u = record { uid = u; place = None; type_place = None }
+
+-- `?principal is Robot`, and the same of `?resource`
+abbrev pub slot_is_robot : SlotId → Shape
+slot_is_robot x = is_type tt (slot tt x) robot
+
+abbrev pub some_slot_is_robot : Shape
+some_slot_is_robot = or tt (slot_is_robot SlotId.Principal) (slot_is_robot SlotId.Resource)
+
+-- ---- environments
+
+-- users greet users
+abbrev pub greets_env : DeclaredEnv
+greets_env = record { principal = user; action = greet; resource = user; context = a_context }
+
+-- and the types that the slots are linked to
+abbrev pub greets : Option Path → Option Path → Env
+greets = Declared greets_env
+
+abbrev pub idle_schema : Schema
+idle_schema = record sample_schema { actions = [] }
+
+-- actions greet users
+abbrev pub acting_schema : Schema
+acting_schema = record sample_schema {
+  actions =
+      record {
+        name = greet;
+        descendants = [];
+        applies_to =
+            Some (record { principals = greet.entity_type ∷ []; resources = user ∷ []; context = a_context });
+      }
+      ∷ [];
+}
+
+abbrev pub acting_env : DeclaredEnv
+acting_env =
+    record { principal = greet.entity_type; action = greet; resource = user; context = a_context }
+
+pub record EnvironmentsAre : Type 0 where
+  -- no slot: no link
+  pub no_slot : checked_envs sample_schema Strict (template any any None) ≡ greets None None ∷ []
+  -- `principal == ?principal`: the variable's own type
+  pub equal_to : checked_envs sample_schema Strict (template (equal to_slot) any None) ≡ greets (Some user) None ∷ []
+  -- `principal in ?principal`: the types above it, of which User is one, and User itself
+  pub within_it : checked_envs sample_schema Strict (template (within to_slot) any None)
+      ≡ greets (Some user) None ∷ greets (Some user) None ∷ []
+  -- `resource is User in ?resource`: the same
+  pub typed_within_it : checked_envs sample_schema Strict (template any (typed_within a_user_type to_slot) None)
+      ≡ greets None (Some user) ∷ greets None (Some user) ∷ []
+  -- no constraint, or `is User`, and the slot in the rest: each declared type
+  pub anywhere : checked_envs sample_schema Strict (template any any (Some (slot_is_robot SlotId.Principal)))
+      ≡ greets (Some user) None ∷ greets (Some robot) None ∷ []
+  pub anywhere_typed : checked_envs sample_schema Strict (template (typed a_user_type) any (Some (slot_is_robot SlotId.Principal)))
+      ≡ greets (Some user) None ∷ greets (Some robot) None ∷ []
+  -- both slots: in all ways
+  pub both : checked_envs sample_schema Strict (template any any (Some some_slot_is_robot))
+      ≡ greets (Some user) (Some user) ∷ greets (Some user) (Some robot)
+      ∷ greets (Some robot) (Some user) ∷ greets (Some robot) (Some robot) ∷ []
+  -- in Partial the undeclared actions too, once, whatever the slots
+  pub undeclared : checked_envs sample_schema Partial (template (within to_slot) any None)
+      ≡ greets (Some user) None ∷ greets (Some user) None ∷ Undeclared ∷ []
+  -- a schema without actions has no environment
+  pub idle : checked_envs idle_schema Strict (template (equal to_slot) any None) ≡ []
+
+-- ---- what the theorems need
+
+-- `permit(principal == User::"alice", action, resource == User::"bob") when { ?principal is Robot || ?resource is Robot }`
+abbrev pub robots_template : PlainTemplate
+robots_template = template (equal (to_entity (the_entity alice))) (equal (to_entity (the_entity bob))) (Some some_slot_is_robot)
+
+-- `?principal` is bound to alice, `?resource` to a robot
+abbrev pub robot_slots : Slots
+robot_slots SlotId.Principal = Some alice
+robot_slots SlotId.Resource = Some (record { entity_type = robot; eid = codes "r" })
+
+abbrev pub robot_greeting : World
+robot_greeting = record greeting { slots = robot_slots }
+
+-- a slot in the rest may be bound to what the scope's variable never is: then a condition that is warned to be impossible is
+-- true
+pub record SlotsInTheRestAreNot : Type 0 where
+  pub faultless : IsFaultless (sample Strict)
+  pub environments : checked_envs sample_schema Strict robots_template ≡ greets (Some user) (Some user) ∷ []
+  pub irrelevant : IsIrrelevantInAll (sample Strict) robots_template
+  pub request : ConformingRequest sample_schema robot_greeting.request
+  pub store : ConformingStore sample_schema robot_greeting.store
+  pub functions : KeepsTable (table (sample Strict)) robot_greeting.functions
+  pub is_true : IsTrueOutcome (eval robot_greeting (condition_of robots_template))
+
+-- where an action is the principal and its slot stands in the rest, the own environment is not checked
+pub record OwnEnvMayBeMissing : Type 0 where
+  pub faultless : has_fault acting_schema ≡ false
+  pub declared : IsOneOf acting_env (environments_of acting_schema.actions)
+  pub missing : IsOneOf (own_env (template any any (Some (slot_is_robot SlotId.Principal))) acting_env)
+      (checked_envs acting_schema Strict (template any any (Some (slot_is_robot SlotId.Principal)))) → ⊥

@@ -1,0 +1,37 @@
+//! What the checks of a template in its environments say together: laws, each on a function that does nothing.
+ghost use Rattle.cedar_typing.specs.Composition.{OwnEnvIsChecked, OwnEnvIsCheckedOfTypes, OwnTestsAreBool, LinksDoNotMatter, ScopeIsBoolean, Coverage, NeverTrue, OwnSuccessIsKept};
+ghost use Rattle.cedar_typing.specs.Examples.Composition.{EnvironmentsAre, SlotsInTheRestAreNot, OwnEnvMayBeMissing};
+
+/// One of the environments that are checked links each slot to its variable's own type, and there the scope's tests of slots
+/// may be true.
+pub fn own_environment()
+    ensures checked { OwnEnvIsChecked }
+    ensures of_types { OwnEnvIsCheckedOfTypes }
+    ensures tests { OwnTestsAreBool }
+{}
+
+/// What mentions no slot is typed in the same way whatever the slots are linked to.
+pub fn links_of_no_concern()
+    ensures { LinksDoNotMatter }
+{}
+
+/// Where the scope is true, one of the environments that are checked fits.
+pub fn environments_cover()
+    ensures boolean { ScopeIsBoolean }
+    ensures covered { Coverage }
+{}
+
+/// What is warned to be impossible is never true, and what succeeds in the own environment is safe whatever the slots are
+/// bound to.
+pub fn impossible_is_never_true()
+    ensures never { NeverTrue }
+    ensures kept { OwnSuccessIsKept }
+{}
+
+/// Which environments some templates are checked in, and that what is warned to be impossible may be true where a slot stands
+/// in the rest.
+pub fn examples_of_environments()
+    ensures environments { EnvironmentsAre }
+    ensures rest { SlotsInTheRestAreNot }
+    ensures own { OwnEnvMayBeMissing }
+{}

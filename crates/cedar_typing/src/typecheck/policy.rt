@@ -1,0 +1,117 @@
+// The check of a policy in all of its environments.
+ghost use Rattle.std.specs.Prelude.{◌≡◌, ◌∷◌, List, IfOk, OnOk, OnErr, IsPermutation, map};
+ghost use Rattle.cedar_types.specs.Errors.{finding_of, caution_of};
+ghost use Rattle.cedar_types.specs.Linking.{checked_envs};
+ghost use Rattle.cedar_types.specs.SchemaContents.{schema_of};
+ghost use Rattle.cedar_types.specs.Templates.{template_of};
+ghost use Rattle.cedar_typing.specs.CheckViews.{schema_by, mode_by, verdict_of};
+ghost use Rattle.cedar_typing.specs.EnvironmentChecks.{ChecksIn};
+ghost use Rattle.cedar_typing.specs.PolicyCheck.{Verdict};
+ghost use Rattle.cedar_typing.specs.PolicyOutcome.{impossible, PolicyOutcome};
+ghost use Rattle.cedar_typing.specs.PolicyViews.{IsTally, TalliesEnvs};
+
+use crate::typecheck::sets::{insert_all, put_all};
+use crate::typecheck::typechecker::{PolicyCheck, Typechecker};
+use cedar_types::base::{
+    ArgumentCheck, ImpossiblePolicy, Template, ValidationError, ValidationWarning,
+};
+use std::alloc::{AllocError, Global};
+use std::collections::HashSet;
+
+/// What the checks so far found.
+#[derive(Drop)]
+struct Tally {
+    errors: HashSet<ValidationError>,
+    all_pass: bool,
+    all_irrelevant: bool,
+}
+
+impl<'a, C: ArgumentCheck> Typechecker<'a, C> {
+    /// Checks a policy in all of its environments, and answers whether it passes: whether each check is a success, or
+    /// irrelevant without errors.
+    ///
+    /// `type_errors` gains each error that some check found. `warnings` gains `ImpossiblePolicy`, at the template's place,
+    /// exactly where each check is irrelevant, so where there is no environment too. One typed condition is held at a time.
+    ///
+    /// Where memory is refused, the answer is an `AllocError`, and both sets hold what they held.
+    pub fn typecheck_policy(
+        &self,
+        alloc: Global,
+        t: &Template,
+        type_errors: &mut HashSet<ValidationError>,
+        warnings: &mut HashSet<ValidationWarning>,
+    ) -> Result<bool, AllocError>
+        ensures exact { IfOk result (λ answer.
+            PolicyOutcome (ChecksIn C.refusal self.now t.now)
+            (checked_envs (schema_of (schema_by self.now).now) (mode_by self.now)
+            (template_of t.now))
+            (template_of t.now) answer
+            (map finding_of type_errors.old.keys) (map finding_of type_errors.new.keys)
+            (map caution_of warnings.old.keys) (map caution_of warnings.new.keys)) }
+        ensures errors_kept { OnErr result (
+            IsPermutation type_errors.old.keys type_errors.new.keys) }
+        ensures warnings_kept { OnErr result (warnings.new.keys ≡ warnings.old.keys) }
+    {
+        let tally = self.tally(alloc, t)?;
+        type_errors.reserve(tally.errors.len())?;
+        if tally.all_irrelevant {
+            let warning = impossible_policy(t)?;
+            warnings.insert(warning)?;
+        }
+        put_all(type_errors, tally.errors);
+        Ok(tally.all_pass)
+    }
+
+    fn tally(&self, alloc: Global, t: &Template) -> Result<Tally, AllocError>
+        ensures { IfOk result (TalliesEnvs (ChecksIn C.refusal self.now t.now)
+            (checked_envs (schema_of (schema_by self.now).now) (mode_by self.now)
+            (template_of t.now))) }
+    {
+        let mut tally = Tally {
+            errors: HashSet::new(alloc),
+            all_pass: true,
+            all_irrelevant: true,
+        };
+        for item in self.typecheck_by_request_env(alloc, t)? {
+            let (env, check) = item?;
+            drop(env);
+            tally.take_in(check)?;
+        }
+        Ok(tally)
+    }
+}
+
+impl Tally {
+    fn take_in(&mut self, check: PolicyCheck) -> Result<(), AllocError>
+        ensures { OnOk result ((vs : List Verdict) →
+            IsTally self.old vs → IsTally self.new (verdict_of check ∷ vs)) }
+    {
+        match check {
+            PolicyCheck::Success(_) => {
+                self.all_irrelevant = false;
+                Ok(())
+            }
+            PolicyCheck::Irrelevant(errors, _) => {
+                self.all_pass &= errors.is_empty();
+                insert_all(&mut self.errors, errors)?;
+                Ok(())
+            }
+            PolicyCheck::Fail(errors) => {
+                self.all_pass = false;
+                self.all_irrelevant = false;
+                insert_all(&mut self.errors, errors)?;
+                Ok(())
+            }
+        }
+    }
+}
+
+/// The warning that this policy is impossible.
+fn impossible_policy(t: &Template) -> Result<ValidationWarning, AllocError>
+    ensures { IfOk result (λ w. caution_of w ≡ impossible (template_of t.now)) }
+{
+    Ok(ValidationWarning::ImpossiblePolicy(ImpossiblePolicy {
+        source_loc: t.loc,
+        policy_id: t.id.clone()?,
+    }))
+}

@@ -1,0 +1,112 @@
+// The checks of a template, one environment after another.
+use crate::typecheck::typechecker::{PolicyCheck, Typechecker};
+use cedar_types::base::{ArgumentCheck, Expr, Template};
+use cedar_types::types::linked_envs::LinkedRequestEnvs;
+use cedar_types::types::request_env::RequestEnv;
+use std::alloc::{AllocError, Global};
+
+/// The checks of a template in each of its environments, one at a time and in any order. It keeps none of them: it holds
+/// what the scope makes of the condition, and of one environment of the schema the ways that are left to link its slots.
+///
+/// An environment comes as often as the slots can be linked so. Where memory is refused, an item is an `AllocError`, and
+/// there is none after it.
+#[derive(Drop)]
+pub struct RequestEnvChecks<'b, C = Box<dyn ArgumentCheck>> {
+    alloc: Global,
+    checker: &'b Typechecker<'b, C>,
+    template: &'b Template,
+    scope: Expr,
+    linked: LinkedRequestEnvs<'b>,
+    ended: bool,
+}
+
+impl<'a, C: ArgumentCheck> Typechecker<'a, C> {
+    ghost use Rattle.std.specs.Prelude.{◌≡◌, false, IfOk, IsPermutation};
+    ghost use Rattle.cedar_types.specs.Linking.{checked_envs};
+    ghost use Rattle.cedar_types.specs.SchemaContents.{schema_of};
+    ghost use Rattle.cedar_types.specs.Templates.{template_of, condition_of};
+    ghost use Rattle.cedar_typing.specs.CheckViews.{schema_by, mode_by};
+    ghost use Rattle.cedar_typing.specs.EnvironmentChecks.{checks_left, checks_are_over, checker_of, template_in, condition_in};
+
+    /// The checks of this template in all of its environments: those of the schema, each with the template's slots linked
+    /// in all ways. Where memory is refused, the answer is an `AllocError`.
+    #[tactic(auto, unfolding(crate::specs::EnvironmentChecks::checks_left, crate::specs::EnvironmentChecks::checks_are_over, crate::specs::EnvironmentChecks::checker_of, crate::specs::EnvironmentChecks::template_in, crate::specs::EnvironmentChecks::condition_in))]
+    pub fn typecheck_by_request_env<'b>(
+        &'b self,
+        alloc: Global,
+        t: &'b Template,
+    ) -> Result<RequestEnvChecks<'b, C>, AllocError>
+        ensures checker { IfOk result (λ c. checker_of c ≡ self.now) }
+        ensures template { IfOk result (λ c. template_in c ≡ t.now) }
+        ensures condition { IfOk result (λ c. condition_in c ≡ condition_of (template_of t.now)) }
+        ensures begun { IfOk result (λ c. checks_are_over c ≡ false) }
+        ensures left { IfOk result (λ c. IsPermutation (checks_left c)
+            (checked_envs (schema_of (schema_by self.now).now) (mode_by self.now)
+            (template_of t.now))) }
+    {
+        let scope = t.scope_condition(alloc)?;
+        let linked = self.schema.linked_request_envs(alloc, self.mode, t)?;
+        Ok(RequestEnvChecks {
+            alloc,
+            checker: self,
+            template: t,
+            scope,
+            linked,
+            ended: false,
+        })
+    }
+}
+
+impl<'b, C: ArgumentCheck> Iterator for RequestEnvChecks<'b, C> {
+    ghost use Rattle.cedar_types.specs.FallibleIterators.{calls_left};
+    ghost use Rattle.cedar_typing.specs.EnvironmentChecks.{checks_left, checks_are_over, GivesChecks};
+
+    type Item = Result<(RequestEnv<'b>, PolicyCheck), AllocError>;
+
+    ghost next_gives = { GivesChecks C.refusal };
+
+    ghost remaining = { calls_left checks_left checks_are_over };
+
+    #[tactic(auto, unfolding(crate::specs::EnvironmentChecks::checks_left, crate::specs::EnvironmentChecks::checks_are_over, crate::specs::EnvironmentChecks::checker_of, crate::specs::EnvironmentChecks::template_in, crate::specs::EnvironmentChecks::condition_in))]
+    fn next(&mut self) -> Option<Result<(RequestEnv<'b>, PolicyCheck), AllocError>> {
+        if self.ended {
+            return None;
+        }
+        match self.linked.next() {
+            None => {
+                self.ended = true;
+                None
+            }
+            Some(Err(refused)) => {
+                self.ended = true;
+                Some(Err(refused))
+            }
+            Some(Ok(env)) => match self.check(&env) {
+                Ok(check) => Some(Ok((env, check))),
+                Err(refused) => {
+                    self.ended = true;
+                    Some(Err(refused))
+                }
+            },
+        }
+    }
+}
+
+impl<C: ArgumentCheck> RequestEnvChecks<'_, C> {
+    ghost use Rattle.std.specs.Prelude.{◌≡◌, IfOk};
+    ghost use Rattle.cedar_typing.specs.CheckViews.{setting_for, verdict_of};
+    ghost use Rattle.cedar_typing.specs.EnvironmentChecks.{condition_in};
+    ghost use Rattle.cedar_typing.specs.PolicyCheck.{PolicyChecks};
+
+    #[tactic(auto, unfolding(crate::specs::EnvironmentChecks::condition_in))]
+    fn check(&self, env: &RequestEnv<'_>) -> Result<PolicyCheck, AllocError>
+        ensures { IfOk result (λ r.
+            PolicyChecks (setting_for C.refusal self.now.checker.now self.now.template.now env.now)
+            (condition_in self.now) (verdict_of r)) }
+    {
+        let check = self
+            .checker
+            .check_with_scope(self.alloc, self.template, &self.scope, env)?;
+        Ok(check)
+    }
+}
