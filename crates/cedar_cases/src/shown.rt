@@ -1,9 +1,12 @@
 // What a check answers, as case files write it.
+mod environments;
 mod forms;
 mod nodes;
 mod outcomes;
 mod places;
 mod typed;
 
-pub use outcomes::outcome;
+pub use environments::environment;
+pub use outcomes::{outcome, policy_outcome};
+pub use places::Source;
 pub use typed::typed_condition;

@@ -9,6 +9,7 @@ pub mod faulty_functions;
 pub mod guards;
 pub mod membership;
 pub mod operators;
+pub mod policies;
 pub mod schemas;
 pub mod tables;
 pub mod tags;

@@ -2,66 +2,43 @@
 mod calls;
 mod chains;
 mod checks;
+mod environments;
 mod equality;
 mod expected;
 mod guards;
 mod membership;
 mod operators;
+mod policies;
+mod reports;
 mod tables;
 mod tags;
 mod wanted_calls;
 mod wanted_errors;
 mod wanted_types;
 
-use crate::fixtures::schemas::{groups, photos, photos_with_options};
+use crate::fixtures::schemas::{groups, nothing, photos, photos_with_options};
 use crate::rows::calls::{UNORDERED_ADDRESSES, VARIADIC_CALLS, WRONG_CALLS};
 use crate::rows::chains::CHAINS;
 use crate::rows::checks::compared;
+use crate::rows::environments::{
+    LINKED_SLOTS, REPEATED_ENVIRONMENTS, UNDECLARED_ACTIONS, in_environments,
+};
 use crate::rows::equality::{SIDES_WITHOUT_BOUND, TEST_BESIDE_EQUALITY};
 use crate::rows::guards::{CONDITIONAL_GUARDS, GUARDED_ACCESS, GUARDING_FORMS};
 use crate::rows::membership::MEMBERSHIPS;
 use crate::rows::operators::OPERATORS;
+use crate::rows::policies::{
+    FALSE_WITH_ERROR, NESTED, NESTED_TOO_DEEP, NO_ENVIRONMENT, UNDECLARED_ATTRIBUTE, whole,
+};
 use crate::rows::tables::{FAULTY_TABLES, refusals};
 use crate::rows::tags::TAGS;
-use cedar_types::base::{ExtensionSchemas, SchemaError, ValidatorSchema};
+use cedar_types::base::{ExtensionSchemas, SchemaError, ValidationMode, ValidatorSchema};
 use std::alloc::{AllocError, Global};
 
 #[cfg(test)]
 mod tests;
 
-/// What a row gave.
-#[derive(Drop)]
-pub struct Report {
-    pub outcomes: Vec<String>,
-    /// Whether each outcome, error text and location is the row's.
-    pub is_expected: bool,
-}
-
-impl Report {
-    /// A report without an outcome yet.
-    fn new(alloc: Global) -> Report {
-        Report {
-            outcomes: Vec::new(alloc),
-            is_expected: true,
-        }
-    }
-
-    /// Adds an outcome, and whether it is the row's.
-    fn add(&mut self, outcome: String, is_expected: bool) -> Result<(), AllocError> {
-        self.outcomes.push(outcome)?;
-        self.is_expected = self.is_expected && is_expected;
-        Ok(())
-    }
-
-    /// Adds what another report has.
-    fn append(&mut self, other: Report) -> Result<(), AllocError> {
-        for outcome in other.outcomes {
-            self.outcomes.push(outcome)?;
-        }
-        self.is_expected = self.is_expected && other.is_expected;
-        Ok(())
-    }
-}
+pub use reports::Report;
 
 /// A worked row.
 pub trait Row {
@@ -107,17 +84,41 @@ pub enum WorkedRow {
     FaultyTables,
     /// A variadic function is called, and addresses are compared.
     VariadicCalls,
+    /// There is no environment.
+    NoEnvironment,
+    /// Two environments are equal.
+    RepeatedEnvironments,
+    /// A literal stands at the limit of depth, and beyond it.
+    Nesting,
+    /// An action need not be declared.
+    UndeclaredActions,
+    /// Both slots are linked.
+    LinkedSlots,
+    /// A policy that never applies has an error.
+    FalseWithError,
 }
 
 /// The rows that are built, in the order in which they run.
-pub const WORKED: [NamedRow<WorkedRow>; 12] = [
+pub const WORKED: [NamedRow<WorkedRow>; 18] = [
     NamedRow {
         name: "10",
         row: WorkedRow::GuardedAccess,
     },
     NamedRow {
+        name: "11",
+        row: WorkedRow::NoEnvironment,
+    },
+    NamedRow {
         name: "12",
         row: WorkedRow::TestBesideEquality,
+    },
+    NamedRow {
+        name: "13",
+        row: WorkedRow::RepeatedEnvironments,
+    },
+    NamedRow {
+        name: "15",
+        row: WorkedRow::Nesting,
     },
     NamedRow {
         name: "17",
@@ -130,6 +131,10 @@ pub const WORKED: [NamedRow<WorkedRow>; 12] = [
     NamedRow {
         name: "28",
         row: WorkedRow::Tags,
+    },
+    NamedRow {
+        name: "29",
+        row: WorkedRow::UndeclaredActions,
     },
     NamedRow {
         name: "31",
@@ -159,6 +164,14 @@ pub const WORKED: [NamedRow<WorkedRow>; 12] = [
         name: "37",
         row: WorkedRow::VariadicCalls,
     },
+    NamedRow {
+        name: "38",
+        row: WorkedRow::LinkedSlots,
+    },
+    NamedRow {
+        name: "39",
+        row: WorkedRow::FalseWithError,
+    },
 ];
 
 impl WorkedRow {
@@ -170,7 +183,8 @@ impl WorkedRow {
             | WorkedRow::GuardingForms
             | WorkedRow::ConditionalGuards
             | WorkedRow::Chains => photos_with_options(alloc),
-            WorkedRow::Memberships => groups(alloc),
+            WorkedRow::Memberships | WorkedRow::LinkedSlots => groups(alloc),
+            WorkedRow::NoEnvironment => nothing(alloc),
             _ => photos(alloc),
         }
     }
@@ -200,6 +214,37 @@ impl WorkedRow {
                 report.append(compared(alloc, schema, x1, &UNORDERED_ADDRESSES)?)?;
                 Ok(report)
             }
+            _ => self.checked_in_environments(alloc, schema, x1),
+        }
+    }
+}
+
+impl WorkedRow {
+    /// The same of the rows whose policies are checked in all of their environments.
+    fn checked_in_environments(
+        &self,
+        alloc: Global,
+        schema: &ValidatorSchema,
+        x1: &ExtensionSchemas,
+    ) -> Result<Report, AllocError> {
+        let (strict, partial) = (ValidationMode::Strict, ValidationMode::Partial);
+        match self {
+            WorkedRow::RepeatedEnvironments => {
+                in_environments(alloc, schema, x1, strict, &REPEATED_ENVIRONMENTS)
+            }
+            WorkedRow::Nesting => {
+                let mut report = compared(alloc, schema, x1, &NESTED)?;
+                report.append(whole(alloc, schema, x1, strict, &NESTED_TOO_DEEP)?)?;
+                Ok(report)
+            }
+            WorkedRow::UndeclaredActions => {
+                let mut report = in_environments(alloc, schema, x1, partial, &UNDECLARED_ACTIONS)?;
+                report.append(whole(alloc, schema, x1, partial, &UNDECLARED_ATTRIBUTE)?)?;
+                Ok(report)
+            }
+            WorkedRow::LinkedSlots => in_environments(alloc, schema, x1, strict, &LINKED_SLOTS),
+            WorkedRow::FalseWithError => whole(alloc, schema, x1, strict, &FALSE_WITH_ERROR),
+            _ => whole(alloc, schema, x1, strict, &NO_ENVIRONMENT),
         }
     }
 }

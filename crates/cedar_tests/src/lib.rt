@@ -26,4 +26,6 @@ mod schema_faults;
 #[cfg(test)]
 mod schema_queries;
 #[cfg(test)]
+mod subexpressions;
+#[cfg(test)]
 mod types;

@@ -14,12 +14,15 @@ use std::test::Fail;
 
 const POLICY: Option<Loc> = Some(Loc { start: 5, end: 900 });
 
-fn named(alloc: Global, basename: &str) -> Result<EntityType, AllocError> {
+pub fn named(alloc: Global, basename: &str) -> Result<EntityType, AllocError> {
     Ok(EntityType::from(Name::unqualified_name(alloc, basename)?))
 }
 
-/// `entity User { ok: Bool, boss: User };`
-fn users(alloc: Global) -> Result<ValidatorEntityType, AllocError> {
+/// `entity User { ok: Bool, boss: User };`, in which users of these types may be.
+fn users(
+    alloc: Global,
+    descendants: BTreeSet<EntityType>,
+) -> Result<ValidatorEntityType, AllocError> {
     let ok = AttributeType::required_attribute(CedarType::primitive_boolean());
     let user = CedarType::named_entity_reference(alloc, named(alloc, "User")?)?;
     let boss = AttributeType::required_attribute(user);
@@ -30,7 +33,7 @@ fn users(alloc: Global) -> Result<ValidatorEntityType, AllocError> {
     });
     Ok(ValidatorEntityType {
         name: named(alloc, "User")?,
-        descendants: BTreeSet::new(alloc),
+        descendants,
         kind,
     })
 }
@@ -65,9 +68,17 @@ pub fn permit_when(alloc: Global, condition: Expr) -> Result<Template, AllocErro
     ))
 }
 
+/// The schema of `checked_policy`, but users may be in users.
+pub fn environment_schema(alloc: Global) -> Result<ValidatorSchema, Fail> {
+    let mut descendants = BTreeSet::new(alloc);
+    descendants.insert(named(alloc, "User")?)?;
+    let (users, greet) = (users(alloc, descendants)?, greet(alloc)?);
+    Ok(ValidatorSchema::new(alloc, vec![in alloc; users]?, vec![in alloc; greet]?)?)
+}
+
 /// The check of a policy.
 pub fn checked_policy(alloc: Global, policy: &Template) -> Result<PolicyCheck, Fail> {
-    let (users, greet) = (users(alloc)?, greet(alloc)?);
+    let (users, greet) = (users(alloc, BTreeSet::new(alloc))?, greet(alloc)?);
     let schema = ValidatorSchema::new(alloc, vec![in alloc; users]?, vec![in alloc; greet]?)?;
     let extensions = ExtensionSchemas::default(alloc);
     let typechecker = Typechecker::new(&schema, &extensions, ValidationMode::Strict);

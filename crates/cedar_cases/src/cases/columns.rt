@@ -6,6 +6,8 @@ use cedar_types::base::ValidationMode;
 pub enum Column {
     /// What a case shows, in words.
     About,
+    /// A whole policy.
+    Policy,
     /// The scope of the policy.
     Scope,
     /// Its condition; nothing where it has none.
@@ -28,6 +30,10 @@ pub enum Subject {
     Outcome,
     /// The typed condition.
     Typed,
+    /// What comes of the whole policy.
+    Policy,
+    /// Each environment that the policy is checked in, with its outcome.
+    Environments,
 }
 
 impl Column {
@@ -35,6 +41,7 @@ impl Column {
     pub fn named(name: &str) -> Option<Column> {
         match name {
             "about" => Some(Column::About),
+            "policy" => Some(Column::Policy),
             "scope" => Some(Column::Scope),
             "condition" => Some(Column::Condition),
             _ => Some(Column::Wanted(Wanted::named(name)?)),
@@ -47,6 +54,8 @@ impl Wanted {
         let (mode, subject) = match name.split_once(' ') {
             None => (name, Subject::Outcome),
             Some((mode, "typed")) => (mode, Subject::Typed),
+            Some((mode, "policy")) => (mode, Subject::Policy),
+            Some((mode, "environments")) => (mode, Subject::Environments),
             Some(_) => return None,
         };
         let mode = match mode {
@@ -67,6 +76,12 @@ impl Wanted {
             (ValidationMode::Strict, Subject::Typed) => "strict typed",
             (ValidationMode::Permissive, Subject::Typed) => "permissive typed",
             (ValidationMode::Partial, Subject::Typed) => "partial typed",
+            (ValidationMode::Strict, Subject::Policy) => "strict policy",
+            (ValidationMode::Permissive, Subject::Policy) => "permissive policy",
+            (ValidationMode::Partial, Subject::Policy) => "partial policy",
+            (ValidationMode::Strict, Subject::Environments) => "strict environments",
+            (ValidationMode::Permissive, Subject::Environments) => "permissive environments",
+            (ValidationMode::Partial, Subject::Environments) => "partial environments",
         }
     }
 }

@@ -15,6 +15,8 @@ pub struct Case<'a> {
     /// Its line in the file, from 1 on.
     pub number: usize,
     pub line: &'a str,
+    /// The whole policy; nothing where the case has a scope and a condition.
+    pub policy: Field<'a>,
     pub scope: Field<'a>,
     pub condition: Field<'a>,
     pub wanted: Vec<(Wanted, &'a str)>,
@@ -102,6 +104,7 @@ impl<'a> CaseFile<'a> {
         let mut case = Case {
             number,
             line,
+            policy: nothing,
             scope: nothing,
             condition: nothing,
             wanted: Vec::new(alloc),
@@ -110,6 +113,7 @@ impl<'a> CaseFile<'a> {
         for (column, text) in self.columns.iter().zip(line.split('\t')) {
             match column {
                 Column::About => {}
+                Column::Policy => case.policy = Field { text, start },
                 Column::Scope => case.scope = Field { text, start },
                 Column::Condition => case.condition = Field { text, start },
                 Column::Wanted(_) if text == NOT_ASKED => {}

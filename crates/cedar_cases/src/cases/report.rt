@@ -1,7 +1,8 @@
 // What came of the cases of a file.
 use crate::cases::answers::{Rules, answers, in_order};
 use crate::cases::files::{Case, CaseFile, Field};
-use crate::reading::{Fault, ReadError, condition, policy, scope_alone};
+use crate::reading::{Fault, ReadError, condition, policy, scope_alone, whole_policy};
+use crate::shown::Source;
 use cedar_types::base::Template;
 use std::alloc::{AllocError, Global};
 use std::io;
@@ -50,10 +51,11 @@ fn run_case<W: Write>(
             return Ok(false);
         }
     };
+    let source = source_of(case, &policy);
     let mut agrees = true;
     for (asked, wanted) in &case.wanted {
         let wanted = in_order(alloc, wanted)?;
-        let got = answers(alloc, rules, &policy, case.condition.text, *asked)?;
+        let got = answers(alloc, rules, &policy, source, *asked)?;
         if got != wanted {
             let column = asked.name();
             writeln!(out, "{name}:{}: {column}: wanted {wanted}", case.number)?;
@@ -64,11 +66,29 @@ fn run_case<W: Write>(
     Ok(agrees)
 }
 
+/// The text that the places of a case's policy are in.
+fn source_of<'a>(case: &Case<'a>, policy: &Template) -> Source<'a> {
+    let text = match policy.loc {
+        Some(_) => case.policy.text,
+        None => case.condition.text,
+    };
+    Source {
+        text,
+        policy: policy.loc,
+    }
+}
+
 /// The policy of a case, or the byte of its line at which it cannot be read.
 fn policy_of(
     alloc: Global,
     case: &Case<'_>,
 ) -> Result<Result<Template, (usize, Fault)>, AllocError> {
+    if !case.policy.text.is_empty() {
+        return match whole_policy(alloc, case.policy.text) {
+            Ok(policy) => Ok(Ok(policy)),
+            Err(error) => fault_in(case.policy, error),
+        };
+    }
     let scope = match scope_alone(alloc, case.scope.text) {
         Ok(scope) => scope,
         Err(error) => return fault_in(case.scope, error),

@@ -127,6 +127,25 @@ pub fn scope_alone(alloc: Global, text: &str) -> Result<Scope, ReadError> {
     Ok(read)
 }
 
+/// Reads a text that is a policy and nothing else: `permit(principal, action, resource) when { .. };`. It stands at the
+/// whole text.
+pub fn whole_policy(alloc: Global, text: &str) -> Result<Template, ReadError> {
+    let mut cursor = Cursor::new(alloc, text)?;
+    let start = cursor.start();
+    let scope = read_scope(&mut cursor)?;
+    let mut rest = None;
+    if cursor.takes("when") {
+        cursor.expect("{")?;
+        rest = Some(expression(&mut cursor, MAX_NESTING)?.expr);
+        cursor.expect("}")?;
+    }
+    cursor.expect(";")?;
+    finish(&cursor)?;
+    let mut read = policy(alloc, scope, rest)?;
+    read.loc = Some(cursor.since(start));
+    Ok(read)
+}
+
 /// The text has to end here.
 pub fn finish(cursor: &Cursor<'_>) -> Result<(), ReadError> {
     if cursor.is_at_end() {

@@ -1,45 +1,83 @@
 // The outcome of a check, with its errors.
-use crate::shown::places::push_place;
-use cedar_types::base::ValidationError;
+use crate::shown::places::{Source, push_place};
+use cedar_types::base::{Loc, ValidationError, ValidationWarning};
 use cedar_typing::typecheck::PolicyCheck;
 use std::alloc::{AllocError, Global};
+use std::collections::HashSet;
 
 /// What the text of every error begins with, which cases leave out.
 const PREFIX: &str = "for policy `policy0`, ";
 
 /// `Success`, `Irrelevant` or `Fail`, and behind it each error with the text that it stands at, sorted by bytes.
-pub fn outcome(alloc: Global, check: &PolicyCheck, source: &str) -> Result<String, AllocError> {
-    match check {
-        PolicyCheck::Success(_) => String::from_str(alloc, "Success"),
-        PolicyCheck::Irrelevant(errors, _) => listed(alloc, "Irrelevant", errors, source),
-        PolicyCheck::Fail(errors) => listed(alloc, "Fail", errors, source),
-    }
-}
-
-fn listed(
+pub fn outcome(
     alloc: Global,
-    outcome: &str,
-    errors: &Vec<ValidationError>,
-    source: &str,
+    check: &PolicyCheck,
+    source: Source<'_>,
 ) -> Result<String, AllocError> {
+    let (outcome, errors) = match check {
+        PolicyCheck::Success(_) => return String::from_str(alloc, "Success"),
+        PolicyCheck::Irrelevant(errors, _) => ("Irrelevant", errors),
+        PolicyCheck::Fail(errors) => ("Fail", errors),
+    };
     let mut texts = Vec::new(alloc);
     for error in errors {
         texts.push(error_text(alloc, error, source)?)?;
     }
-    texts.sort()?;
     let mut shown = String::from_str(alloc, outcome)?;
+    push_sorted(&mut shown, texts)?;
+    Ok(shown)
+}
+
+/// Whether a policy passes, and behind it each error that it has, and then each warning, sorted by bytes.
+pub fn policy_outcome(
+    alloc: Global,
+    passes: bool,
+    errors: &HashSet<ValidationError>,
+    warnings: &HashSet<ValidationWarning>,
+    source: Source<'_>,
+) -> Result<String, AllocError> {
+    let mut shown = format!(in alloc; "{passes}")?;
+    let mut texts = Vec::new(alloc);
+    for error in errors {
+        texts.push(error_text(alloc, error, source)?)?;
+    }
+    push_sorted(&mut shown, texts)?;
+    let mut texts = Vec::new(alloc);
+    for warning in warnings {
+        let text = warning.to_string(alloc)?;
+        texts.push(placed_text(alloc, text.as_str(), warning.source_loc(), source)?)?;
+    }
+    push_sorted(&mut shown, texts)?;
+    Ok(shown)
+}
+
+/// Adds each text, in ascending order, behind `; `.
+fn push_sorted(shown: &mut String, mut texts: Vec<String>) -> Result<(), AllocError> {
+    texts.sort()?;
     for text in &texts {
         shown.push_str("; ")?;
         shown.push_str(text.as_str())?;
     }
-    Ok(shown)
+    Ok(())
 }
 
 /// An error's text, and the text that it stands at.
-fn error_text(alloc: Global, error: &ValidationError, source: &str) -> Result<String, AllocError> {
+fn error_text(
+    alloc: Global,
+    error: &ValidationError,
+    source: Source<'_>,
+) -> Result<String, AllocError> {
     let text = error.to_string(alloc)?;
-    let said = text.as_str();
+    placed_text(alloc, text.as_str(), error.source_loc(), source)
+}
+
+fn placed_text(
+    alloc: Global,
+    said: &str,
+    place: Option<Loc>,
+    source: Source<'_>,
+) -> Result<String, AllocError> {
     let mut shown = String::from_str(alloc, said.strip_prefix(PREFIX).unwrap_or(said))?;
-    push_place(&mut shown, error.source_loc(), source)?;
+    push_place(&mut shown, place, source)?;
     Ok(shown)
 }

@@ -2,11 +2,26 @@
 use cedar_types::base::Loc;
 use std::alloc::AllocError;
 
-/// Adds ` @ ` and the text at the place, or `none`.
-pub fn push_place(shown: &mut String, place: Option<Loc>, source: &str) -> Result<(), AllocError> {
+/// The text that places are in.
+#[derive(Clone, Copy)]
+pub struct Source<'a> {
+    pub text: &'a str,
+    /// Where the policy itself stands. `None` where it has no place.
+    pub policy: Option<Loc>,
+}
+
+/// Adds ` @ ` and the text at the place, or `the policy`, or `none`.
+pub fn push_place(
+    shown: &mut String,
+    place: Option<Loc>,
+    source: Source<'_>,
+) -> Result<(), AllocError> {
     let Some(at) = place else {
         return shown.push_str(" @ none");
     };
-    let text = source.get(at.start..at.end).unwrap_or("");
+    if source.policy == Some(at) {
+        return shown.push_str(" @ the policy");
+    }
+    let text = source.text.get(at.start..at.end).unwrap_or("");
     write!(shown, " @ `{text}`")
 }

@@ -1,7 +1,7 @@
 // Typed conditions: each node with its type and the text that it stands at.
 use crate::shown::forms::form_name;
 use crate::shown::nodes::parts;
-use crate::shown::places::push_place;
+use crate::shown::places::{Source, push_place};
 use cedar_types::base::{CedarType, Expr, ExprKind, Literal, PatternElem, SlotId, Var};
 use cedar_typing::typecheck::PolicyCheck;
 use std::alloc::{AllocError, Global};
@@ -23,7 +23,7 @@ enum Step<'a> {
 pub fn typed_condition(
     alloc: Global,
     check: &PolicyCheck,
-    source: &str,
+    source: Source<'_>,
 ) -> Result<String, AllocError> {
     let typed = match check {
         PolicyCheck::Success(typed) => typed,
@@ -69,7 +69,7 @@ fn push_steps<'a>(
 }
 
 /// The type of a node and its place.
-fn push_end(shown: &mut String, node: &Typed, source: &str) -> Result<(), AllocError> {
+fn push_end(shown: &mut String, node: &Typed, source: Source<'_>) -> Result<(), AllocError> {
     match &node.annotation {
         None => shown.push_str(": -")?,
         Some(named) => write!(shown, ": {named}")?,

@@ -28,7 +28,7 @@ fn permit_when(alloc: Global, condition: Expr) -> Result<Template, AllocError> {
 }
 
 /// What the check came to, and how many errors there are where it may have some.
-fn outcome_of(alloc: Global, check: &PolicyCheck) -> Result<String, AllocError> {
+pub fn outcome_of(alloc: Global, check: &PolicyCheck) -> Result<String, AllocError> {
     match check {
         PolicyCheck::Success(_) => String::from_str(alloc, "Success"),
         PolicyCheck::Irrelevant(errors, _) => {

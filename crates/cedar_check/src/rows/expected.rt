@@ -37,7 +37,7 @@ impl Expected {
 }
 
 /// Whether the errors are those that are wanted, each as often, in any order.
-fn are_wanted(
+pub fn are_wanted(
     alloc: Global,
     errors: Vec<ValidationError>,
     wanted: &[WantedError],

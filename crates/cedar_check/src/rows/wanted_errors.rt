@@ -15,6 +15,11 @@ pub enum WantedError {
         at: Loc,
         attr: &'static str,
     },
+    /// An attribute is read that users do not have.
+    UndeclaredAttribute {
+        at: Loc,
+        attr: &'static str,
+    },
     /// A tag of a user is read without a test that it is there.
     UnguardedTag {
         at: Loc,
@@ -53,6 +58,12 @@ impl WantedError {
                 let at = Some(*at);
                 Ok(ValidationError::unsafe_optional_attribute_access(at, policy, user, attr))
             }
+            WantedError::UndeclaredAttribute { at, attr } => {
+                let user = entity(alloc, "User")?;
+                let attr = RcStr::from_str(alloc, attr)?;
+                let at = Some(*at);
+                Ok(ValidationError::unsafe_attribute_access(at, policy, user, attr, false))
+            }
             WantedError::UnguardedTag { at } => {
                 let user = EntityLUB::single_entity(alloc, entity_type(alloc, "User")?)?;
                 Ok(ValidationError::unsafe_tag_access(Some(*at), policy, Some(user)))
@@ -82,6 +93,9 @@ impl WantedError {
         let fault = match self {
             WantedError::UnguardedAccess { at: _at, attr } => {
                 format!(in alloc; "access to optional attribute `{attr}` on `User` is not guarded")
+            }
+            WantedError::UndeclaredAttribute { at: _at, attr } => {
+                format!(in alloc; "attribute `{attr}` does not exist on `User`")
             }
             WantedError::UnguardedTag { at: _at } => {
                 String::from_str(alloc, "access to a tag of `User` is not guarded")

@@ -29,9 +29,15 @@ const ROW_37: &[u8] = b"row 37: Success; Success; Fail errors=1; Fail errors=1; 
     Fail errors=2; ok\n";
 
 /// The rows that are built, in order, and the line of each.
-const BUILT: [(&str, &[u8]); 12] = [
+const BUILT: [(&str, &[u8]); 18] = [
     ("10", b"row 10: Success; Fail errors=1; ok\n"),
+    ("11", b"row 11: true errors=0 warnings=1; ok\n"),
     ("12", b"row 12: Fail errors=1; ok\n"),
+    ("13", b"row 13: Success; Success; ok\n"),
+    (
+        "15",
+        b"row 15: Success; Fail errors=0; false errors=0 warnings=0; ok\n",
+    ),
     (
         "17",
         b"row 17: Irrelevant errors=0; Fail errors=1; Fail errors=1; ok\n",
@@ -45,6 +51,10 @@ const BUILT: [(&str, &[u8]); 12] = [
         b"row 28: Success; Fail errors=1; Irrelevant errors=0; ok\n",
     ),
     (
+        "29",
+        b"row 29: Fail errors=1; Success; false errors=1 warnings=0; ok\n",
+    ),
+    (
         "31",
         b"row 31: Fail errors=1; Success; Fail errors=1; Fail errors=1; Success; ok\n",
     ),
@@ -54,6 +64,8 @@ const BUILT: [(&str, &[u8]); 12] = [
     ("35", ROW_35),
     ("36", ROW_36),
     ("37", ROW_37),
+    ("38", b"row 38: Success; Success; ok\n"),
+    ("39", b"row 39: false errors=1 warnings=1; ok\n"),
 ];
 
 /// The ways in which a row can end.

@@ -1,0 +1,36 @@
+// What came of a row.
+use std::alloc::{AllocError, Global};
+
+/// What a row gave.
+#[derive(Drop)]
+pub struct Report {
+    pub outcomes: Vec<String>,
+    /// Whether each outcome, error text and location is the row's.
+    pub is_expected: bool,
+}
+
+impl Report {
+    /// A report without an outcome yet.
+    pub fn new(alloc: Global) -> Report {
+        Report {
+            outcomes: Vec::new(alloc),
+            is_expected: true,
+        }
+    }
+
+    /// Adds an outcome, and whether it is the row's.
+    pub fn add(&mut self, outcome: String, is_expected: bool) -> Result<(), AllocError> {
+        self.outcomes.push(outcome)?;
+        self.is_expected = self.is_expected && is_expected;
+        Ok(())
+    }
+
+    /// Adds what another report has.
+    pub fn append(&mut self, other: Report) -> Result<(), AllocError> {
+        for outcome in other.outcomes {
+            self.outcomes.push(outcome)?;
+        }
+        self.is_expected = self.is_expected && other.is_expected;
+        Ok(())
+    }
+}

@@ -1,0 +1,91 @@
+// Calls that take no memory, made while each growth is refused.
+use crate::refusals::{refuse_all, was_refused};
+use crate::samples::schemas::entity_type;
+use cedar_types::base::{
+    CedarType, ExtensionFunctionType, ExtensionSchemas, Name, ValidationMode, ValidatorSchema,
+};
+use cedar_types::types::request_env::RequestEnv;
+use cedar_typing::typecheck::Typechecker;
+use std::alloc::{AllocError, Global};
+use std::collections::BTreeSet;
+
+const TAKES_NONE: &str = "no growth";
+
+/// What came of calls that answered as they should, or did not.
+fn outcome(is_as_ever: bool, was_refused: bool) -> &'static str {
+    match (is_as_ever, was_refused) {
+        (true, false) => TAKES_NONE,
+        (false, false) => "an answer is another",
+        (true, true) => "memory was asked for",
+        (false, true) => "memory was asked for, and an answer is another",
+    }
+}
+
+/// The walk over a schema's environments, how their slots are linked, and what they are made of.
+pub fn environments(alloc: Global, schema: &ValidatorSchema) -> Result<&'static str, AllocError> {
+    let user = entity_type(alloc, "User")?;
+    let link = entity_type(alloc, "User")?;
+    let photo = entity_type(alloc, "Photo")?;
+    refuse_all(alloc);
+    let mut envs = schema.unlinked_request_envs(ValidationMode::Partial);
+    let mut is_as_ever = true;
+    if let Some(env) = envs.next() {
+        let linked = env.link(Some(link), None);
+        is_as_ever = linked.principal_entity_type() == Some(&user)
+            && linked.resource_entity_type() == Some(&photo)
+            && linked.action_entity_uid().is_some()
+            && linked.principal_slot() == Some(&user)
+            && linked.resource_slot().is_none();
+    }
+    let second = envs.next();
+    let third = envs.next();
+    let is_last = envs.next().is_none();
+    let was_refused = was_refused(alloc);
+    let is_in_order = matches!(second, Some(RequestEnv::DeclaredAction { .. }))
+        && matches!(third, Some(RequestEnv::UndeclaredAction))
+        && is_last;
+    Ok(outcome(is_as_ever && is_in_order, was_refused))
+}
+
+/// A schema's look-ups, the checker, and the schema that declares nothing.
+pub fn look_ups(alloc: Global, schema: &ValidatorSchema) -> Result<&'static str, AllocError> {
+    let user = entity_type(alloc, "User")?;
+    let action = entity_type(alloc, "Action")?;
+    let nobody = entity_type(alloc, "Nobody")?;
+    let extensions = ExtensionSchemas::default(alloc);
+    refuse_all(alloc);
+    let _checker = Typechecker::new(schema, &extensions, ValidationMode::Strict);
+    let empty = ValidatorSchema::empty(alloc);
+    let is_as_ever = schema.is_known_entity_type(&user)
+        && schema.is_known_entity_type(&action)
+        && action.is_action()
+        && schema.get_entity_type(&user).is_some()
+        && schema.get_entity_type(&nobody).is_none()
+        && empty.get_entity_type(&user).is_none();
+    let was_refused = was_refused(alloc);
+    Ok(outcome(is_as_ever, was_refused))
+}
+
+/// A function of this name, from a Long to a Long.
+fn function(alloc: Global, name: &str) -> Result<ExtensionFunctionType, AllocError> {
+    Ok(ExtensionFunctionType {
+        name: Name::unqualified_name(alloc, name)?,
+        argument_types: vec![in alloc; CedarType::primitive_long()]?,
+        is_variadic: false,
+        return_type: CedarType::primitive_long(),
+        check_arguments: None,
+    })
+}
+
+/// The making of a table of functions, which owns the lists that it is given, and that of one without functions.
+pub fn tables(alloc: Global) -> Result<&'static str, AllocError> {
+    let functions = vec![in alloc; function(alloc, "g")?, function(alloc, "f")?]?;
+    let equal = vec![in alloc; function(alloc, "f")?, function(alloc, "f")?]?;
+    let ordered = BTreeSet::new(alloc);
+    refuse_all(alloc);
+    let table = ExtensionSchemas::new(functions, ordered);
+    let refused = ExtensionSchemas::new(equal, BTreeSet::new(alloc));
+    let _none = ExtensionSchemas::default(alloc);
+    let was_refused = was_refused(alloc);
+    Ok(outcome(table.is_ok() && refused.is_err(), was_refused))
+}

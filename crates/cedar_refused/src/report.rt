@@ -1,0 +1,120 @@
+// A line for each call: its name, and what came of it.
+use crate::calls::environments::{ChecksMaking, ChecksWalk, LinkedWalk, Walk};
+use crate::calls::policies::WholeCheck;
+use crate::calls::schemas::SchemaMaking;
+use crate::calls::single_env::SingleCheck;
+use crate::calls::without_memory::{environments, look_ups, tables};
+use crate::refusals::{refuse, was_refused};
+use crate::samples::policies::{MANY, many_findings, one_finding, with_slot};
+use crate::samples::schemas::photos;
+use crate::sweep::{Call, swept};
+use cedar_types::base::ValidatorSchema;
+use std::alloc::Global;
+use std::io;
+use std::io::Write;
+
+/// Makes each call, and writes what came of it.
+pub fn report<W: Write>(alloc: Global, out: &mut W) -> io::Result<()> {
+    let Ok(schema) = photos(alloc) else {
+        return writeln!(out, "there is no schema");
+    };
+    let listens = refuse(alloc, 1) && !was_refused(alloc);
+    let listener = if listens {
+        "memory is refused"
+    } else {
+        "nothing is refused"
+    };
+    writeln!(out, "{listener}")?;
+    write_sweep(alloc, out, "ValidatorSchema::new", &SchemaMaking)?;
+    single_checks(alloc, &schema, out)?;
+    walks(alloc, &schema, out)?;
+    whole_checks(alloc, &schema, out)?;
+    without_memory(alloc, &schema, out)
+}
+
+fn write_sweep<C: Call, W: Write>(
+    alloc: Global,
+    out: &mut W,
+    name: &str,
+    call: &C,
+) -> io::Result<()> {
+    let said = swept(alloc, call)?;
+    writeln!(out, "{name}: {said}")
+}
+
+fn single_checks<W: Write>(alloc: Global, schema: &ValidatorSchema, out: &mut W) -> io::Result<()> {
+    for (name, policy) in [
+        ("of one finding", one_finding(alloc)?),
+        ("of many findings", many_findings(alloc)?),
+        ("with a slot", with_slot(alloc)?),
+    ] {
+        let policy = &policy;
+        let said = swept(alloc, &SingleCheck { schema, policy })?;
+        writeln!(out, "typecheck_by_single_request_env, {name}: {said}")?;
+    }
+    Ok(())
+}
+
+fn walks<W: Write>(alloc: Global, schema: &ValidatorSchema, out: &mut W) -> io::Result<()> {
+    let policy = with_slot(alloc)?;
+    // each of two actions with the slot linked in two ways, and the undeclared ones
+    let walk = Walk {
+        schema,
+        policy: &policy,
+        environments: 5,
+    };
+    write_sweep(
+        alloc,
+        out,
+        "linked_request_envs, each step",
+        &LinkedWalk(walk),
+    )?;
+    write_sweep(alloc, out, "typecheck_by_request_env", &ChecksMaking(walk))?;
+    write_sweep(
+        alloc,
+        out,
+        "typecheck_by_request_env, each step",
+        &ChecksWalk(walk),
+    )
+}
+
+fn whole_checks<W: Write>(alloc: Global, schema: &ValidatorSchema, out: &mut W) -> io::Result<()> {
+    let (one, many) = (one_finding(alloc)?, many_findings(alloc)?);
+    let small = WholeCheck {
+        schema,
+        policy: &one,
+        held: 1,
+        holds_finding: false,
+        errors: 2,
+    };
+    // one of the many findings is held before
+    let large = WholeCheck {
+        schema,
+        policy: &many,
+        held: 9,
+        holds_finding: true,
+        errors: MANY.saturating_add(8),
+    };
+    write_sweep(
+        alloc,
+        out,
+        "typecheck_policy, one member in each set",
+        &small,
+    )?;
+    write_sweep(
+        alloc,
+        out,
+        "typecheck_policy, nine members in each set",
+        &large,
+    )
+}
+
+fn without_memory<W: Write>(
+    alloc: Global,
+    schema: &ValidatorSchema,
+    out: &mut W,
+) -> io::Result<()> {
+    writeln!(out, "environments: {}", environments(alloc, schema)?)?;
+    writeln!(out, "look-ups: {}", look_ups(alloc, schema)?)?;
+    writeln!(out, "tables: {}", tables(alloc)?)
+}

@@ -1,0 +1,4 @@
+// What the calls are made on.
+pub mod findings;
+pub mod policies;
+pub mod schemas;

@@ -1,0 +1,37 @@
+// Errors and warnings that stand in a set before a call.
+use crate::samples::policies::place;
+use cedar_types::base::{CedarType, PolicyID, ValidationError, ValidationWarning, types_in_order};
+use std::alloc::{AllocError, Global};
+use std::collections::HashSet;
+
+fn other_policy(alloc: Global) -> Result<PolicyID, AllocError> {
+    PolicyID::from_string(alloc, "other")
+}
+
+/// So many errors of another policy.
+pub fn errors(alloc: Global, count: usize) -> Result<HashSet<ValidationError>, AllocError> {
+    let mut errors = HashSet::new(alloc);
+    for number in 0..count {
+        let policy = other_policy(alloc)?;
+        errors.insert(ValidationError::empty_set_forbidden(place(number), policy))?;
+    }
+    Ok(errors)
+}
+
+/// The first finding of the policies here: a string where a Long is expected.
+pub fn first_finding(alloc: Global) -> Result<ValidationError, AllocError> {
+    let policy = PolicyID::from_string(alloc, "policy0")?;
+    let expected = types_in_order(alloc, vec![in alloc; CedarType::primitive_long()]?)?;
+    let actual = CedarType::primitive_string();
+    Ok(ValidationError::expected_one_of_types(place(0), policy, expected, actual))
+}
+
+/// So many warnings of another policy.
+pub fn warnings(alloc: Global, count: usize) -> Result<HashSet<ValidationWarning>, AllocError> {
+    let mut warnings = HashSet::new(alloc);
+    for number in 0..count {
+        let policy = other_policy(alloc)?;
+        warnings.insert(ValidationWarning::impossible_policy(place(number), policy))?;
+    }
+    Ok(warnings)
+}

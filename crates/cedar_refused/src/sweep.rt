@@ -1,0 +1,59 @@
+// A call, made while its first growth is refused, then its second, until one goes through.
+use std::alloc::{AllocError, Global};
+
+/// What came of a call while one growth was to be refused.
+#[derive(Clone, Copy)]
+pub enum Attempt {
+    /// Nothing was refused, and the answer is as ever.
+    Whole,
+    /// Memory was refused, the call said so, and all else is as it should be.
+    Refused,
+    /// Something is not as it should be.
+    Wrong(&'static str),
+}
+
+/// A call that takes memory, with all that it is made on.
+pub trait Call {
+    /// Makes the call while the growth of this number is refused, and again with ample memory.
+    fn attempt(&self, alloc: Global, number: u16) -> Result<Attempt, AllocError>;
+}
+
+/// The most growths that a call may have.
+const MOST: u16 = 20_000;
+
+/// What came of all attempts, in words.
+pub fn swept<C: Call>(alloc: Global, call: &C) -> Result<String, AllocError> {
+    let mut refused: u16 = 0;
+    for number in 1..MOST {
+        match call.attempt(alloc, number)? {
+            Attempt::Whole if refused == 0 => return String::from_str(alloc, "nothing refused"),
+            Attempt::Whole => return format!(in alloc; "{refused} growths, each refused"),
+            Attempt::Refused => refused = number,
+            Attempt::Wrong(fault) => return format!(in alloc; "growth {number}: {fault}"),
+        }
+    }
+    String::from_str(alloc, "there is no end to its growths")
+}
+
+/// What a call came to whose answer is a success or not, where memory was refused or was not.
+///
+/// No call may pass over a refusal: none of those that are tried here leaves a hint of std's to chance.
+pub fn attempt_of(is_success: bool, was_refused: bool) -> Attempt {
+    match (is_success, was_refused) {
+        (true, false) => Attempt::Whole,
+        (false, true) => Attempt::Refused,
+        (true, true) => Attempt::Wrong("memory was refused, and it answers all the same"),
+        (false, false) => Attempt::Wrong("it asks for memory that was not refused"),
+    }
+}
+
+impl Attempt {
+    /// The same, where this is so; else what is wrong.
+    pub fn only_if(self, is_so: bool, fault: &'static str) -> Attempt {
+        match self {
+            Attempt::Wrong(first) => Attempt::Wrong(first),
+            other if is_so => other,
+            _ => Attempt::Wrong(fault),
+        }
+    }
+}
