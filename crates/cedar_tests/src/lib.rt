@@ -16,6 +16,8 @@ mod extensions;
 #[cfg(test)]
 mod findings;
 #[cfg(test)]
+mod mentions;
+#[cfg(test)]
 mod names;
 #[cfg(test)]
 mod parts;

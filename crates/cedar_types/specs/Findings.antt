@@ -1,46 +1,22 @@
 -- What a template names that a schema does not have.
-use Rattle.std.specs.Prelude.{Bool, false, not, ◌&&◌, List, [], ◌∷◌, map, filter, Option, Some, None}
-use Rattle.std.specs.List.{flat_map, list_any}
+use Rattle.std.specs.Prelude.{Bool, false, not, ◌&&◌, List, map, filter, Option, Some, None}
+use Rattle.std.specs.List.{filter_map, list_any}
 use Rattle.cedar_types.specs.declared.base.location.Loc.{Loc}
 use Rattle.cedar_types.specs.Errors.{Finding, Fault, unrecognized_entity_type, unrecognized_action_id, invalid_enum_entity}
+use Rattle.cedar_types.specs.Mentions.{mentioned_uid, mentioned_type, template_mentions}
 use Rattle.cedar_types.specs.Names.{Text, Path, Uid, PlacedType, PlacedUid, text_eq, path_eq, is_action_path}
-use Rattle.cedar_types.specs.Parts.{subexpressions}
 use Rattle.cedar_types.specs.Schemas.{TypeKind, StandardKind, EnumKind, ExternalKind, DeclaredType, Schema, type_named, knows_type, declares_action}
-use Rattle.cedar_types.specs.Templates.{PlainTemplate, condition_of}
-use Rattle.cedar_types.specs.Tree.{entity, Tree, lit, is_type}
-use Rattle.cedar_types.specs.View.{Places, no_name, of_type, of_uid, Written}
+use Rattle.cedar_types.specs.Templates.{PlainTemplate}
 
 -- ---- what a template names, each occurrence
 
--- where the entity id of a literal stands, and where its type does
-abbrev pub uid_place : Places → Option Loc
-uid_place (of_uid l t) = l
-uid_place p = None
-
-abbrev pub type_place : Places → Option Loc
-type_place (of_uid l t) = t
-type_place (of_type l) = l
-type_place no_name = None
-
--- the entity id that an expression itself is
-abbrev pub uids_named : Tree Written → List PlacedUid
-uids_named (lit m (entity u)) =
-    record { uid = u; place = uid_place m.names; type_place = type_place m.names } ∷ []
-uids_named e = []
-
--- the entity type that an expression itself names: that of its entity id, or the one that it tests for
-abbrev pub types_named : Tree Written → List PlacedType
-types_named (lit m (entity u)) =
-    record { name = u.entity_type; place = type_place m.names } ∷ []
-types_named (is_type m a n) = record { name = n; place = type_place m.names } ∷ []
-types_named e = []
-
--- those of the whole condition, so of the scope's constraints and of the rest
+-- the entity ids of the scope's constraints and of the rest
 abbrev pub template_uids : PlainTemplate → List PlacedUid
-template_uids t = flat_map uids_named (subexpressions (condition_of t))
+template_uids t = filter_map mentioned_uid (template_mentions t)
 
+-- the types of these, and those that an `is` tests for
 abbrev pub template_types : PlainTemplate → List PlacedType
-template_types t = flat_map types_named (subexpressions (condition_of t))
+template_types t = map mentioned_type (template_mentions t)
 
 -- ---- what is not known
 

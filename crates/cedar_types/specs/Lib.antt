@@ -30,6 +30,8 @@ pub mod Schemas
 pub mod Lookups
 pub mod RequestEnvs
 pub mod Makers
+pub mod Mentions
+pub mod MentionViews
 pub mod Findings
 pub mod Linking
 pub mod LinkViews

@@ -46,6 +46,7 @@ pub use templates::constraints::{
     ActionConstraint, EntityReference, PrincipalConstraint, PrincipalOrResourceConstraint,
     ResourceConstraint,
 };
+pub use templates::mentions::{Mention, Mentions};
 pub use templates::{Policy, Template};
 pub use types::entity_sets::EntityLUB;
 pub use types::type_sets::types_in_order;
