@@ -9,3 +9,4 @@ pub mod Slots
 pub mod Expressions
 pub mod Linking
 pub mod FallibleIterators
+pub mod Mentions

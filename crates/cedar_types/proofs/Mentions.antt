@@ -1,0 +1,66 @@
+-- What the condition of a template names: that of its parts.
+use Rattle.std.proofs.Common.{◌≡◌, refl, sym, ◌∙◌, List, [], ◌∷◌, ◌++◌, map, reverse, Option, Some, None}
+use Rattle.std.proofs.lemmas.Grind.{reverse_onto}
+use Rattle.std.proofs.lemmas.List.{append-nil}
+use Rattle.std.proofs.lemmas.List.Elements.{filter_map-append}
+use Rattle.std.specs.List.{filter_map}
+use Rattle.cedar_types.specs.declared.base.location.Loc.{Loc}
+use Rattle.cedar_types.specs.declared.base.names.slots.SlotId.{SlotId}
+use Rattle.cedar_types.specs.declared.base.expressions.operators.Var.{Var}
+use Rattle.cedar_types.specs.Mentions.{Mention, named_uid, own_mention, mentions_of, template_mentions, scope_mentions, named_actions, action_mentions, rest_mentions, mentions_by_part}
+use Rattle.cedar_types.specs.Names.{PlacedUid}
+use Rattle.cedar_types.specs.Parts.{subexpressions, subexpressions_of_all}
+use Rattle.cedar_types.specs.Templates.{to_entity, to_slot, Scope, any, equal, within, typed, typed_within, ActionScope, any_action, equal_action, within_actions, PlainTemplate, scope_at, uid_at, action_scope_at, scope_condition, with_rest}
+use Rattle.cedar_types.specs.Tree.{Tree, Trees}
+use Rattle.cedar_types.specs.View.{Written, trees_of}
+
+scope_named : (l : Option Loc) (v : Var) (s : SlotId) (c : Scope) → mentions_of (scope_at l v s c) ≡ scope_mentions c
+scope_named l v s any = refl
+scope_named l v s (equal (to_entity u)) = refl
+scope_named l v s (equal to_slot) = refl
+scope_named l v s (within (to_entity u)) = refl
+scope_named l v s (within to_slot) = refl
+scope_named l v s (typed t) = refl
+scope_named l v s (typed_within t (to_entity u)) = refl
+scope_named l v s (typed_within t to_slot) = refl
+
+listed_named : (l : Option Loc) (us : List PlacedUid) → filter_map own_mention (subexpressions_of_all (trees_of (map (uid_at l) us))) ≡ reverse (map named_uid us)
+listed_named l [] = refl
+listed_named l (u ∷ us) =
+    filter_map-append own_mention (subexpressions_of_all (trees_of (map (uid_at l) us))) (subexpressions (uid_at l u))
+    ∙ (λ i. listed_named l us i ++ (named_uid u ∷ []))
+    ∙ sym (reverse_onto (map named_uid us) (named_uid u) [])
+
+action_named : (l : Option Loc) (a : ActionScope) → mentions_of (action_scope_at l a) ≡ action_mentions (named_actions a)
+action_named l any_action = refl
+action_named l (equal_action u) = refl
+action_named l (within_actions us) =
+    let listed = subexpressions_of_all (trees_of (map (uid_at l) us)) in
+    filter_map-append own_mention listed _
+    ∙ append-nil (filter_map own_mention listed)
+    ∙ listed_named l us
+
+abbrev named_in_scope : PlainTemplate → List Mention
+named_in_scope t =
+    scope_mentions t.resource ++ (action_mentions (named_actions t.action) ++ scope_mentions t.principal)
+
+scope_condition_named : (t : PlainTemplate) → mentions_of (scope_condition t) ≡ named_in_scope t
+scope_condition_named t =
+    let principal = scope_at t.place Var.Principal SlotId.Principal t.principal in
+    let action = action_scope_at t.place t.action in
+    let resource = scope_at t.place Var.Resource SlotId.Resource t.resource in
+    let below : filter_map own_mention (subexpressions action ++ subexpressions principal) ≡ action_mentions (named_actions t.action) ++ scope_mentions t.principal =
+        filter_map-append own_mention (subexpressions action) (subexpressions principal)
+        ∙ (λ i. action_named t.place t.action i ++ scope_named t.place Var.Principal SlotId.Principal t.principal i) in
+    filter_map-append own_mention (subexpressions resource) _
+    ∙ (λ i. scope_named t.place Var.Resource SlotId.Resource t.resource i ++ below i)
+
+with_rest_named : (l : Option Loc) (scope : Tree Written) (rest : Option (Tree Written)) → mentions_of (with_rest l scope rest) ≡ rest_mentions rest ++ mentions_of scope
+with_rest_named l scope None = refl
+with_rest_named l scope (Some e) = filter_map-append own_mention (subexpressions e) (subexpressions scope)
+
+-- the condition names what the rest and the scope's constraints name
+pub mentions_are_those_of_the_condition : (t : PlainTemplate) → template_mentions t ≡ mentions_by_part t
+mentions_are_those_of_the_condition t =
+    with_rest_named t.place (scope_condition t) t.rest
+    ∙ (λ i. rest_mentions t.rest ++ scope_condition_named t i)

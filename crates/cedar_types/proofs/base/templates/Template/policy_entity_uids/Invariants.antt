@@ -1,0 +1,14 @@
+use Rattle.std.proofs.Common.{◌≡◌, ◌++◌, map}
+use Rattle.std.specs.List.{filter_map}
+use Rattle.cedar_types.specs.Findings.{template_uids}
+use Rattle.cedar_types.specs.Mentions.{mentioned_uid}
+use Rattle.cedar_types.specs.MentionViews.{mentions_left}
+use Rattle.cedar_types.specs.Names.{placed_uid}
+use Rattle.cedar_types.specs.Templates.{template_of}
+use Rattle.cedar_types.proofs.base.templates.Template.policy_entity_uids.Given as goal
+
+-- the ids so far, and then those that are left
+abbrev pub invariant-loop-mention : goal.invariant-loop-mention
+invariant-loop-mention l =
+    map (λ u. placed_uid u.now) l.uids.items ++ filter_map mentioned_uid (mentions_left l.mention-iterator)
+    ≡ template_uids (template_of l.fn.self)
