@@ -11,7 +11,7 @@ use Rattle.cedar_types.specs.Mentions.{Mention, named_uid, own_mention, mentions
 use Rattle.cedar_types.specs.Names.{PlacedUid}
 use Rattle.cedar_types.specs.Parts.{subexpressions, subexpressions_of_all}
 use Rattle.cedar_types.specs.Templates.{to_entity, to_slot, Scope, any, equal, within, typed, typed_within, ActionScope, any_action, equal_action, within_actions, PlainTemplate, scope_at, uid_at, action_scope_at, scope_condition, with_rest}
-use Rattle.cedar_types.specs.Tree.{Tree, Trees}
+use Rattle.cedar_types.specs.Tree.{Tree}
 use Rattle.cedar_types.specs.View.{Written, trees_of}
 
 scope_named : (l : Option Loc) (v : Var) (s : SlotId) (c : Scope) → mentions_of (scope_at l v s c) ≡ scope_mentions c
@@ -50,8 +50,8 @@ scope_condition_named t =
     let action = action_scope_at t.place t.action in
     let resource = scope_at t.place Var.Resource SlotId.Resource t.resource in
     let below : filter_map own_mention (subexpressions action ++ subexpressions principal) ≡ action_mentions (named_actions t.action) ++ scope_mentions t.principal =
-        filter_map-append own_mention (subexpressions action) (subexpressions principal)
-        ∙ (λ i. action_named t.place t.action i ++ scope_named t.place Var.Principal SlotId.Principal t.principal i) in
+    filter_map-append own_mention (subexpressions action) (subexpressions principal)
+    ∙ (λ i. action_named t.place t.action i ++ scope_named t.place Var.Principal SlotId.Principal t.principal i) in
     filter_map-append own_mention (subexpressions resource) _
     ∙ (λ i. scope_named t.place Var.Resource SlotId.Resource t.resource i ++ below i)
 

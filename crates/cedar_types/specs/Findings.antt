@@ -4,7 +4,7 @@ use Rattle.std.specs.List.{filter_map, list_any}
 use Rattle.cedar_types.specs.declared.base.location.Loc.{Loc}
 use Rattle.cedar_types.specs.Errors.{Finding, Fault, unrecognized_entity_type, unrecognized_action_id, invalid_enum_entity}
 use Rattle.cedar_types.specs.Mentions.{mentioned_uid, mentioned_type, template_mentions}
-use Rattle.cedar_types.specs.Names.{Text, Path, Uid, PlacedType, PlacedUid, text_eq, path_eq, is_action_path}
+use Rattle.cedar_types.specs.Names.{Text, Path, Uid, PlacedType, PlacedUid, text_eq, is_action_path}
 use Rattle.cedar_types.specs.Schemas.{TypeKind, StandardKind, EnumKind, ExternalKind, DeclaredType, Schema, type_named, knows_type, declares_action}
 use Rattle.cedar_types.specs.Templates.{PlainTemplate}
 

@@ -5,8 +5,6 @@ use Rattle.std.specs.Option.{option_to_list}
 use Rattle.std.specs.Borrow.{Bor}
 use Rattle.cedar_types.specs.declared.base.expressions.Expr.{Expr}
 use Rattle.cedar_types.specs.declared.base.expressions.subexpressions.ExprIterator.{ExprIterator}
-use Rattle.cedar_types.specs.declared.base.names.entities.EntityType.{EntityType}
-use Rattle.cedar_types.specs.declared.base.names.entities.EntityUID.{EntityUID}
 use Rattle.cedar_types.specs.declared.base.templates.mentions.Mention.{Mention as DeclaredMention}
 use Rattle.cedar_types.specs.declared.base.templates.mentions.Mention.TheVariants as DeclaredMention
 use Rattle.cedar_types.specs.declared.base.templates.mentions.Mentions.{Mentions}

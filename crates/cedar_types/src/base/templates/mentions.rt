@@ -100,8 +100,8 @@ impl<'a> Mentions<'a> {
 }
 
 impl Template {
-    /// The names in the scope's constraints and in the rest: entity ids, and the types that an `is` tests for. It takes no
-    /// memory.
+    /// The names in the scope's constraints and in the rest: entity ids, and the types that an `is` tests for. The original
+    /// walks over ids and over type names, each in a function of its own. It takes no memory.
     #[tactic(auto, unfolding(crate::specs::MentionViews::mentions_left, crate::specs::MentionViews::mentions_are_over))]
     pub fn mentions(&self, alloc: Global) -> Mentions<'_>
         ensures begun { mentions_are_over result ≡ false }

@@ -1,6 +1,5 @@
 // What the rest of a template names.
 ghost use Rattle.std.specs.Prelude.{◌≡◌, [], ◌∷◌, IfOk, MatchOption, option_map};
-ghost use Rattle.std.specs.Option.{option_to_list};
 ghost use Rattle.cedar_types.specs.Mentions.{own_mention, rest_mentions};
 ghost use Rattle.cedar_types.specs.MentionViews.{mention_of, named_by_left, rest_to_come};
 ghost use Rattle.cedar_types.specs.View.{written};
