@@ -1,16 +1,18 @@
--- What the condition of a template names: that of its parts.
+-- What the condition of a template names: that of its parts, and the ids and types among it.
 use Rattle.std.proofs.Common.{◌≡◌, refl, sym, ◌∙◌, List, [], ◌∷◌, ◌++◌, map, reverse, Option, Some, None}
 use Rattle.std.proofs.lemmas.Grind.{reverse_onto}
 use Rattle.std.proofs.lemmas.List.{append-nil}
 use Rattle.std.proofs.lemmas.List.Elements.{filter_map-append}
-use Rattle.std.specs.List.{filter_map}
+use Rattle.std.specs.List.{filter_map, flat_map, cons_option}
+use Rattle.std.specs.Option.{option_to_list}
 use Rattle.cedar_types.specs.declared.base.location.Loc.{Loc}
 use Rattle.cedar_types.specs.declared.base.names.slots.SlotId.{SlotId}
 use Rattle.cedar_types.specs.declared.base.expressions.operators.Var.{Var}
-use Rattle.cedar_types.specs.Mentions.{Mention, named_uid, own_mention, mentions_of, template_mentions, scope_mentions, named_actions, action_mentions, rest_mentions, mentions_by_part}
+use Rattle.cedar_types.specs.Findings.{uids_named, types_named, template_uids, template_types}
+use Rattle.cedar_types.specs.Mentions.{Mention, named_uid, named_type, mentioned_uid, mentioned_type, own_mention, mentions_of, template_mentions, scope_mentions, named_actions, action_mentions, rest_mentions, mentions_by_part}
 use Rattle.cedar_types.specs.Names.{PlacedUid}
 use Rattle.cedar_types.specs.Parts.{subexpressions, subexpressions_of_all}
-use Rattle.cedar_types.specs.Templates.{to_entity, to_slot, Scope, any, equal, within, typed, typed_within, ActionScope, any_action, equal_action, within_actions, PlainTemplate, scope_at, uid_at, action_scope_at, scope_condition, with_rest}
+use Rattle.cedar_types.specs.Templates.{to_entity, to_slot, Scope, any, equal, within, typed, typed_within, ActionScope, any_action, equal_action, within_actions, PlainTemplate, scope_at, uid_at, action_scope_at, scope_condition, with_rest, condition_of}
 use Rattle.cedar_types.specs.Tree.{Tree}
 use Rattle.cedar_types.specs.View.{Written, trees_of}
 
@@ -64,3 +66,32 @@ pub mentions_are_those_of_the_condition : (t : PlainTemplate) → template_menti
 mentions_are_those_of_the_condition t =
     with_rest_named t.place (scope_condition t) t.rest
     ∙ (λ i. rest_mentions t.rest ++ scope_condition_named t i)
+
+-- ---- the ids and the types among them
+
+first_uid : (o : Option Mention) (ms : List Mention) → filter_map mentioned_uid (cons_option o ms) ≡ filter_map mentioned_uid (option_to_list o) ++ filter_map mentioned_uid ms
+first_uid None ms = refl
+first_uid (Some (named_uid u)) ms = refl
+first_uid (Some (named_type t)) ms = refl
+
+first_type : (o : Option Mention) (ms : List Mention) → map mentioned_type (cons_option o ms) ≡ map mentioned_type (option_to_list o) ++ map mentioned_type ms
+first_type None ms = refl
+first_type (Some m) ms = refl
+
+uids_of_all : (es : List (Tree Written)) → filter_map mentioned_uid (filter_map own_mention es) ≡ flat_map uids_named es
+uids_of_all [] = refl
+uids_of_all (e ∷ es) =
+    first_uid (own_mention e) (filter_map own_mention es) ∙ (λ i. uids_named e ++ uids_of_all es i)
+
+types_of_all : (es : List (Tree Written)) → map mentioned_type (filter_map own_mention es) ≡ flat_map types_named es
+types_of_all [] = refl
+types_of_all (e ∷ es) =
+    first_type (own_mention e) (filter_map own_mention es) ∙ (λ i. types_named e ++ types_of_all es i)
+
+-- a template's entity ids are those that it mentions
+pub uids_are_those_mentioned : (t : PlainTemplate) → filter_map mentioned_uid (template_mentions t) ≡ template_uids t
+uids_are_those_mentioned t = uids_of_all (subexpressions (condition_of t))
+
+-- its entity types are those of all that it mentions
+pub types_are_those_mentioned : (t : PlainTemplate) → map mentioned_type (template_mentions t) ≡ template_types t
+types_are_those_mentioned t = types_of_all (subexpressions (condition_of t))

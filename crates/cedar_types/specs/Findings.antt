@@ -1,22 +1,33 @@
 -- What a template names that a schema does not have.
 use Rattle.std.specs.Prelude.{Bool, false, not, ◌&&◌, List, map, filter, Option, Some, None}
-use Rattle.std.specs.List.{filter_map, list_any}
+use Rattle.std.specs.List.{flat_map, filter_map, list_any}
+use Rattle.std.specs.Option.{option_to_list}
 use Rattle.cedar_types.specs.declared.base.location.Loc.{Loc}
 use Rattle.cedar_types.specs.Errors.{Finding, Fault, unrecognized_entity_type, unrecognized_action_id, invalid_enum_entity}
-use Rattle.cedar_types.specs.Mentions.{mentioned_uid, mentioned_type, template_mentions}
+use Rattle.cedar_types.specs.Mentions.{mentioned_uid, mentioned_type, own_mention}
 use Rattle.cedar_types.specs.Names.{Text, Path, Uid, PlacedType, PlacedUid, text_eq, is_action_path}
+use Rattle.cedar_types.specs.Parts.{subexpressions}
 use Rattle.cedar_types.specs.Schemas.{TypeKind, StandardKind, EnumKind, ExternalKind, DeclaredType, Schema, type_named, knows_type, declares_action}
-use Rattle.cedar_types.specs.Templates.{PlainTemplate}
+use Rattle.cedar_types.specs.Templates.{PlainTemplate, condition_of}
+use Rattle.cedar_types.specs.Tree.{Tree}
+use Rattle.cedar_types.specs.View.{Written}
 
 -- ---- what a template names, each occurrence
 
--- the entity ids of the scope's constraints and of the rest
-abbrev pub template_uids : PlainTemplate → List PlacedUid
-template_uids t = filter_map mentioned_uid (template_mentions t)
+-- the entity id that an expression itself is
+abbrev pub uids_named : Tree Written → List PlacedUid
+uids_named e = filter_map mentioned_uid (option_to_list (own_mention e))
 
--- the types of these, and those that an `is` tests for
+-- the entity type that an expression itself names: that of its entity id, or the one that it tests for
+abbrev pub types_named : Tree Written → List PlacedType
+types_named e = map mentioned_type (option_to_list (own_mention e))
+
+-- those of the whole condition, so of the scope's constraints and of the rest
+abbrev pub template_uids : PlainTemplate → List PlacedUid
+template_uids t = flat_map uids_named (subexpressions (condition_of t))
+
 abbrev pub template_types : PlainTemplate → List PlacedType
-template_types t = map mentioned_type (template_mentions t)
+template_types t = flat_map types_named (subexpressions (condition_of t))
 
 -- ---- what is not known
 

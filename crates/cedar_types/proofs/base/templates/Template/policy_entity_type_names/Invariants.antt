@@ -1,6 +1,5 @@
 use Rattle.std.proofs.Common.{◌≡◌, ◌++◌, map}
-use Rattle.cedar_types.specs.Findings.{template_types}
-use Rattle.cedar_types.specs.Mentions.{mentioned_type}
+use Rattle.cedar_types.specs.Mentions.{mentioned_type, template_mentions}
 use Rattle.cedar_types.specs.MentionViews.{mentions_left}
 use Rattle.cedar_types.specs.Names.{placed_type}
 use Rattle.cedar_types.specs.Templates.{template_of}
@@ -10,4 +9,4 @@ use Rattle.cedar_types.proofs.base.templates.Template.policy_entity_type_names.G
 abbrev pub invariant-loop-mention : goal.invariant-loop-mention
 invariant-loop-mention l =
     map (λ t. placed_type t.now) l.types.items ++ map mentioned_type (mentions_left l.mention-iterator)
-    ≡ template_types (template_of l.fn.self)
+    ≡ map mentioned_type (template_mentions (template_of l.fn.self))

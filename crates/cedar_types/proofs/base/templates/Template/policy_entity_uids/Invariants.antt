@@ -1,7 +1,6 @@
 use Rattle.std.proofs.Common.{◌≡◌, ◌++◌, map}
 use Rattle.std.specs.List.{filter_map}
-use Rattle.cedar_types.specs.Findings.{template_uids}
-use Rattle.cedar_types.specs.Mentions.{mentioned_uid}
+use Rattle.cedar_types.specs.Mentions.{mentioned_uid, template_mentions}
 use Rattle.cedar_types.specs.MentionViews.{mentions_left}
 use Rattle.cedar_types.specs.Names.{placed_uid}
 use Rattle.cedar_types.specs.Templates.{template_of}
@@ -11,4 +10,4 @@ use Rattle.cedar_types.proofs.base.templates.Template.policy_entity_uids.Given a
 abbrev pub invariant-loop-mention : goal.invariant-loop-mention
 invariant-loop-mention l =
     map (λ u. placed_uid u.now) l.uids.items ++ filter_map mentioned_uid (mentions_left l.mention-iterator)
-    ≡ template_uids (template_of l.fn.self)
+    ≡ filter_map mentioned_uid (template_mentions (template_of l.fn.self))
