@@ -16,7 +16,8 @@ use Rattle.cedar_types.specs.Templates.{to_entity, to_slot, Scope, any, equal, w
 use Rattle.cedar_types.specs.Tree.{Tree}
 use Rattle.cedar_types.specs.View.{Written, trees_of}
 
-scope_named : (l : Option Loc) (v : Var) (s : SlotId) (c : Scope) → mentions_of (scope_at l v s c) ≡ scope_mentions c
+scope_named : (l : Option Loc) (v : Var) (s : SlotId) (c : Scope)
+    → mentions_of (scope_at l v s c) ≡ scope_mentions c
 scope_named l v s any = refl
 scope_named l v s (equal (to_entity u)) = refl
 scope_named l v s (equal to_slot) = refl
@@ -26,7 +27,9 @@ scope_named l v s (typed t) = refl
 scope_named l v s (typed_within t (to_entity u)) = refl
 scope_named l v s (typed_within t to_slot) = refl
 
-listed_named : (l : Option Loc) (us : List PlacedUid) → filter_map own_mention (subexpressions_of_all (trees_of (map (uid_at l) us))) ≡ reverse (map named_uid us)
+listed_named : (l : Option Loc) (us : List PlacedUid)
+    → filter_map own_mention (subexpressions_of_all (trees_of (map (uid_at l) us)))
+    ≡ reverse (map named_uid us)
 listed_named l [] = refl
 listed_named l (u ∷ us) =
     filter_map-append own_mention (subexpressions_of_all (trees_of (map (uid_at l) us))) (subexpressions (uid_at l u))
@@ -51,13 +54,15 @@ scope_condition_named t =
     let principal = scope_at t.place Var.Principal SlotId.Principal t.principal in
     let action = action_scope_at t.place t.action in
     let resource = scope_at t.place Var.Resource SlotId.Resource t.resource in
-    let below : filter_map own_mention (subexpressions action ++ subexpressions principal) ≡ action_mentions (named_actions t.action) ++ scope_mentions t.principal =
+    let below : filter_map own_mention (subexpressions action ++ subexpressions principal)
+    ≡ action_mentions (named_actions t.action) ++ scope_mentions t.principal =
     filter_map-append own_mention (subexpressions action) (subexpressions principal)
     ∙ (λ i. action_named t.place t.action i ++ scope_named t.place Var.Principal SlotId.Principal t.principal i) in
     filter_map-append own_mention (subexpressions resource) _
     ∙ (λ i. scope_named t.place Var.Resource SlotId.Resource t.resource i ++ below i)
 
-with_rest_named : (l : Option Loc) (scope : Tree Written) (rest : Option (Tree Written)) → mentions_of (with_rest l scope rest) ≡ rest_mentions rest ++ mentions_of scope
+with_rest_named : (l : Option Loc) (scope : Tree Written) (rest : Option (Tree Written))
+    → mentions_of (with_rest l scope rest) ≡ rest_mentions rest ++ mentions_of scope
 with_rest_named l scope None = refl
 with_rest_named l scope (Some e) = filter_map-append own_mention (subexpressions e) (subexpressions scope)
 
@@ -69,29 +74,37 @@ mentions_are_those_of_the_condition t =
 
 -- ---- the ids and the types among them
 
-first_uid : (o : Option Mention) (ms : List Mention) → filter_map mentioned_uid (cons_option o ms) ≡ filter_map mentioned_uid (option_to_list o) ++ filter_map mentioned_uid ms
+first_uid : (o : Option Mention) (ms : List Mention)
+    → filter_map mentioned_uid (cons_option o ms)
+    ≡ filter_map mentioned_uid (option_to_list o) ++ filter_map mentioned_uid ms
 first_uid None ms = refl
 first_uid (Some (named_uid u)) ms = refl
 first_uid (Some (named_type t)) ms = refl
 
-first_type : (o : Option Mention) (ms : List Mention) → map mentioned_type (cons_option o ms) ≡ map mentioned_type (option_to_list o) ++ map mentioned_type ms
+first_type : (o : Option Mention) (ms : List Mention)
+    → map mentioned_type (cons_option o ms)
+    ≡ map mentioned_type (option_to_list o) ++ map mentioned_type ms
 first_type None ms = refl
 first_type (Some m) ms = refl
 
-uids_of_all : (es : List (Tree Written)) → filter_map mentioned_uid (filter_map own_mention es) ≡ flat_map uids_named es
+uids_of_all : (es : List (Tree Written))
+    → filter_map mentioned_uid (filter_map own_mention es) ≡ flat_map uids_named es
 uids_of_all [] = refl
 uids_of_all (e ∷ es) =
     first_uid (own_mention e) (filter_map own_mention es) ∙ (λ i. uids_named e ++ uids_of_all es i)
 
-types_of_all : (es : List (Tree Written)) → map mentioned_type (filter_map own_mention es) ≡ flat_map types_named es
+types_of_all : (es : List (Tree Written))
+    → map mentioned_type (filter_map own_mention es) ≡ flat_map types_named es
 types_of_all [] = refl
 types_of_all (e ∷ es) =
     first_type (own_mention e) (filter_map own_mention es) ∙ (λ i. types_named e ++ types_of_all es i)
 
 -- a template's entity ids are those that it mentions
-pub uids_are_those_mentioned : (t : PlainTemplate) → filter_map mentioned_uid (template_mentions t) ≡ template_uids t
+pub uids_are_those_mentioned : (t : PlainTemplate)
+    → filter_map mentioned_uid (template_mentions t) ≡ template_uids t
 uids_are_those_mentioned t = uids_of_all (subexpressions (condition_of t))
 
 -- its entity types are those of all that it mentions
-pub types_are_those_mentioned : (t : PlainTemplate) → map mentioned_type (template_mentions t) ≡ template_types t
+pub types_are_those_mentioned : (t : PlainTemplate)
+    → map mentioned_type (template_mentions t) ≡ template_types t
 types_are_those_mentioned t = types_of_all (subexpressions (condition_of t))

@@ -48,9 +48,9 @@ impl<'a> Mention<'a> {
 /// The names in a template, each occurrence once, in the order of its condition's subexpressions: those of the rest, of
 /// the resource, of the action and of the principal, and in each of these from the last to the first.
 ///
-/// It holds no list of them. What is still to visit of the rest lies on the heap, so the caller's stack does not grow with
-/// its depth. Where memory for that is refused, an `AllocError` comes once; after it, and after the last name, only
-/// `None`.
+/// It holds no list of them. What is still to visit of the rest lies on the heap, so the caller's stack does not grow
+/// with its depth. Where memory for that is refused, an `AllocError` comes once; after it, and after the last name,
+/// only `None`.
 #[derive(Drop)]
 pub struct Mentions<'a> {
     rest: RestMentions<'a>,
@@ -100,8 +100,8 @@ impl<'a> Mentions<'a> {
 }
 
 impl Template {
-    /// The names in the scope's constraints and in the rest: entity ids, and the types that an `is` tests for. The original
-    /// walks over ids and over type names, each in a function of its own. It takes no memory.
+    /// The names in the scope's constraints and in the rest: entity ids, and the types that an `is` tests for. It takes
+    /// no memory. The original walks over ids and over type names, each in a function of its own.
     #[tactic(auto, unfolding(crate::specs::MentionViews::mentions_left, crate::specs::MentionViews::mentions_are_over))]
     pub fn mentions(&self, alloc: Global) -> Mentions<'_>
         ensures begun { mentions_are_over result ≡ false }
@@ -131,8 +131,8 @@ impl Template {
         Ok(uids)
     }
 
-    /// The types of the entity ids in the scope's constraints and in the rest, and the types that an `is` tests for, each as
-    /// often as it occurs; the original's function `policy_entity_type_names`.
+    /// The types of the entity ids in the scope's constraints and in the rest, and the types that an `is` tests for, each
+    /// as often as it occurs; the original's function `policy_entity_type_names`.
     ///
     /// An `AllocError` comes where memory for the list is refused, or for what is still to visit of the rest.
     pub fn policy_entity_type_names(&self, alloc: Global) -> Result<Vec<&EntityType>, AllocError>

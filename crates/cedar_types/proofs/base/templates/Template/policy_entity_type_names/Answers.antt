@@ -8,5 +8,6 @@ use Rattle.cedar_types.proofs.base.templates.Template.policy_entity_type_names.G
 pub returns : goal.returns
 returns c =
     let t = template_of c.args.self.now in
-    let all : map (λ x. placed_type x.now) c.loop-mention.types.items ≡ map mentioned_type (template_mentions t) = search rules in
+    let all : map (λ x. placed_type x.now) c.loop-mention.types.items
+    ≡ map mentioned_type (template_mentions t) = search rules in
     all ∙ types_are_those_mentioned t

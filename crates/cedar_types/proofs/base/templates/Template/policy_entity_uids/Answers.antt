@@ -9,5 +9,6 @@ use Rattle.cedar_types.proofs.base.templates.Template.policy_entity_uids.Goals a
 pub returns : goal.returns
 returns c =
     let t = template_of c.args.self.now in
-    let all : map (λ x. placed_uid x.now) c.loop-mention.uids.items ≡ filter_map mentioned_uid (template_mentions t) = search rules in
+    let all : map (λ x. placed_uid x.now) c.loop-mention.uids.items
+    ≡ filter_map mentioned_uid (template_mentions t) = search rules in
     all ∙ uids_are_those_mentioned t
