@@ -12,7 +12,9 @@ use Rattle.std.specs.declared.rc.RcStr.{RcStr}
 use Rattle.std.proofs.lemmas.Map.Keys.{sorted_head, sorted_tail}
 use Rattle.cedar_types.specs.declared.base.expressions.Expr.{Expr}
 use Rattle.cedar_types.specs.declared.base.types.CedarType.{CedarType}
+use Rattle.cedar_types.specs.declared.base.location.Loc.{Loc}
 use Rattle.cedar_types.specs.Ascending.{texts_ascending}
+use Rattle.cedar_types.specs.Errors.{internal_invariant_violation}
 use Rattle.cedar_types.specs.Names.{Text, text_of, text_cmp}
 use Rattle.cedar_types.specs.Types.{Ty, TRecord, Attrs, no_attrs, attr, join_attrs}
 use Rattle.cedar_types.specs.Tree.{field}
@@ -21,6 +23,7 @@ use Rattle.cedar_types.proofs.Attributes.Records.{key_cmp, Ascends, below_next}
 use Rattle.cedar_typing.specs.Capabilities.{no_caps}
 use Rattle.cedar_typing.specs.Eager.{gives, refuses, types_found}
 use Rattle.cedar_typing.specs.Rules.Collections.{all_types, with_type, field_keys, fields_from, required_attrs, record_of_types}
+use Rattle.cedar_typing.specs.TypeEnv.{TypeEnv, finding}
 use Rattle.cedar_typing.specs.TypedExpr.{annotation, typed_tree}
 use Rattle.cedar_typing.specs.Views.{keys_in, trees_in, decision_without_errors}
 use Rattle.cedar_typing.proofs.Basics.{some_is, none_is}
@@ -133,20 +136,21 @@ lacks_type (f ∷ es) e more h =
     ap (with_attr (text_of f.0) (annotation (typed_tree f.1))) (lacks_type es e more h)
     ∙ without_type (text_of f.0) (annotation (typed_tree f.1))
 
-decides_typed : (ks : List Text) (ts : Option (List Ty)) (xs : Attrs) → texts_ascending ks ≡ true → option_map (required_attrs ks) ts ≡ Some xs → record_of_types ks ts ≡ gives (TRecord xs false) no_caps
-decides_typed ks None xs h g = absurd (none_is g)
-decides_typed ks (Some ts) xs h g =
-    ap (λ b. if b then gives (TRecord (required_attrs ks ts) false) no_caps else refuses None []) h
-    ∙ ap (λ zs. gives (TRecord zs false) no_caps) (some_is g)
+module _ (env : TypeEnv) (l : Option Loc) where
+  decides_typed : (ks : List Text) (ts : Option (List Ty)) (xs : Attrs) → texts_ascending ks ≡ true → option_map (required_attrs ks) ts ≡ Some xs → record_of_types env l ks ts ≡ gives (TRecord xs false) no_caps
+  decides_typed ks None xs h g = absurd (none_is g)
+  decides_typed ks (Some ts) xs h g =
+      ap (λ b. if b then gives (TRecord (required_attrs ks ts) false) no_caps else refuses None (finding env l internal_invariant_violation ∷ [])) h
+      ∙ ap (λ zs. gives (TRecord zs false) no_caps) (some_is g)
 
-decides_untyped : (ks : List Text) (ts : Option (List Ty)) → option_map (required_attrs ks) ts ≡ None → record_of_types ks ts ≡ refuses None []
-decides_untyped ks None g = refl
-decides_untyped ks (Some ts) g = absurd (none_is (sym g))
+  decides_untyped : (ks : List Text) (ts : Option (List Ty)) → option_map (required_attrs ks) ts ≡ None → record_of_types env l ks ts ≡ refuses None []
+  decides_untyped ks None g = refl
+  decides_untyped ks (Some ts) g = absurd (none_is (sym g))
 
-pub typed_fields_decide : (es : List TypedField) (xs : Attrs) → IsStrictlySortedBy key_cmp (keys_of es) → attrs_typed es ≡ Some xs
-    → record_of_types (keys_in es) (all_types (types_found (trees_in es))) ≡ decision_without_errors (Some (TRecord xs false))
-typed_fields_decide es xs s h = decides_typed (keys_in es) _ xs (is_ascending (keys_in es) (keys_ascend es s)) (sym (required_by es) ∙ h)
+  pub typed_fields_decide : (es : List TypedField) (xs : Attrs) → IsStrictlySortedBy key_cmp (keys_of es) → attrs_typed es ≡ Some xs
+      → record_of_types env l (keys_in es) (all_types (types_found (trees_in es))) ≡ decision_without_errors (Some (TRecord xs false))
+  typed_fields_decide es xs s h = decides_typed (keys_in es) _ xs (is_ascending (keys_in es) (keys_ascend es s)) (sym (required_by es) ∙ h)
 
-pub untyped_field_decides : (es : List TypedField) (e : TypedField) (more : List TypedField) → annotation (typed_tree e.1) ≡ None
-    → record_of_types (keys_in (es ++ e ∷ more)) (all_types (types_found (trees_in (es ++ e ∷ more)))) ≡ decision_without_errors None
-untyped_field_decides es e more h = decides_untyped (keys_in (es ++ e ∷ more)) _ (sym (required_by (es ++ e ∷ more)) ∙ lacks_type es e more h)
+  pub untyped_field_decides : (es : List TypedField) (e : TypedField) (more : List TypedField) → annotation (typed_tree e.1) ≡ None
+      → record_of_types env l (keys_in (es ++ e ∷ more)) (all_types (types_found (trees_in (es ++ e ∷ more)))) ≡ decision_without_errors None
+  untyped_field_decides es e more h = decides_untyped (keys_in (es ++ e ∷ more)) _ (sym (required_by (es ++ e ∷ more)) ∙ lacks_type es e more h)

@@ -11,6 +11,7 @@ use Rattle.cedar_typing.specs.Infer.Eager.{Operands, all_typed, cut_after, Opera
 use Rattle.cedar_typing.specs.Infer.Parts.{Answer, Part, part_from}
 use Rattle.cedar_typing.specs.Rules.Collections.{record_form}
 use Rattle.cedar_typing.specs.Setting.{Setting}
+use Rattle.cedar_typing.specs.TypeEnv.{TypeEnv}
 use Rattle.cedar_typing.specs.TypedExpr.{Source, TypedTree}
 use Rattle.cedar_typing.specs.Views.{field_operands, keys_in, trees_in}
 use Rattle.cedar_typing.specs.declared.typecheck.rules.records.FieldValues.{FieldValues}
@@ -54,11 +55,11 @@ module _ (setting : Setting) (prior : Caps) (d : ℕ) where
       ∙ ap (λ z. (z, (rest es').1)) (after_one s xs p (rest es').0)
 
 -- of a record that is cut the keys do not count
-by_keys : (m : Written) (ks ls : List Text) (s : Bool) (xs : List TypedTree) (es : List Finding) (b : Bool) → (b ≡ false → ls ≡ ks)
-    → infer_form (record_form m ks) (if b then cut_after xs else all_typed s xs) es ≡ infer_form (record_form m ls) (if b then cut_after xs else all_typed s xs) es
-by_keys m ks ls s xs es true h = refl
-by_keys m ks ls s xs es false h = ap (λ ks. infer_form (record_form m ks) (all_typed s xs) es) (sym (h refl))
+by_keys : (env : TypeEnv) (m : Written) (ks ls : List Text) (s : Bool) (xs : List TypedTree) (es : List Finding) (b : Bool) → (b ≡ false → ls ≡ ks)
+    → infer_form (record_form env m ks) (if b then cut_after xs else all_typed s xs) es ≡ infer_form (record_form env m ls) (if b then cut_after xs else all_typed s xs) es
+by_keys env m ks ls s xs es true h = refl
+by_keys env m ks ls s xs es false h = ap (λ ks. infer_form (record_form env m ks) (all_typed s xs) es) (sym (h refl))
 
-pub by_keys_typed : (m : Written) (ks : List Text) (v : FieldValues) (es : List Finding) → (v.is_cut ≡ false → keys_in v.typed.entries ≡ ks)
-    → infer_form (record_form m ks) (field_operands v) es ≡ infer_form (record_form m (keys_in v.typed.entries)) (field_operands v) es
-by_keys_typed m ks v es h = by_keys m ks (keys_in v.typed.entries) v.succeeded (trees_in v.typed.entries) es v.is_cut h
+pub by_keys_typed : (env : TypeEnv) (m : Written) (ks : List Text) (v : FieldValues) (es : List Finding) → (v.is_cut ≡ false → keys_in v.typed.entries ≡ ks)
+    → infer_form (record_form env m ks) (field_operands v) es ≡ infer_form (record_form env m (keys_in v.typed.entries)) (field_operands v) es
+by_keys_typed env m ks v es h = by_keys env m ks (keys_in v.typed.entries) v.succeeded (trees_in v.typed.entries) es v.is_cut h

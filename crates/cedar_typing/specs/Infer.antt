@@ -84,7 +84,7 @@ abbrev mutual
       infer_operand_list (set_form s.env m)
       (λ goes_on qs. infer_all s goes_on qs ts prior (d + 1)) es
   infer_within s (record_of m fs) prior d es =
-      infer_eager (record_form m (field_keys fs)) (infer_fields s fs prior (d + 1)) es
+      infer_eager (record_form s.env m (field_keys fs)) (infer_fields s fs prior (d + 1)) es
 
   -- expressions one after another, each at depth d, that have to be what is expected
   pub infer_all : Setting → Bool → List Expectation → Trees Written → Caps → ℕ → List Finding → OperandsAndErrors

@@ -23,3 +23,4 @@ pub mod Examples
 pub mod PolicyOutcome
 pub mod EnvironmentChecks
 pub mod PolicyViews
+pub mod Silence

@@ -84,7 +84,7 @@ abbrev mutual
   rules_within s (set_of m ts) prior d =
       operand_list_rules (set_form s.env m) (λ goes_on qs. rules_all s goes_on qs ts prior (d + 1))
   rules_within s (record_of m fs) prior d =
-      eager_rules (record_form m (field_keys fs)) (rules_fields s fs prior (d + 1))
+      eager_rules (record_form s.env m (field_keys fs)) (rules_fields s fs prior (d + 1))
 
   -- expressions one after another, each at depth d, as operands that have to be what is expected;
   -- where they go on, those after one that is too deep are visited too

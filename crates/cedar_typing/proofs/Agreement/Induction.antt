@@ -96,7 +96,7 @@ mutual
   agrees_within s (set_of m ts) prior d =
       let f = set_form s.env m in
       form_agrees f (λ k xs. refl) _ _ (agrees_all s f.goes_on f.expects ts prior (d + 1))
-  agrees_within s (record_of m fs) prior d = form_agrees (record_form m (field_keys fs)) (λ k xs. refl) _ _ (agrees_fields s fs prior (d + 1))
+  agrees_within s (record_of m fs) prior d = form_agrees (record_form s.env m (field_keys fs)) (λ k xs. refl) _ _ (agrees_fields s fs prior (d + 1))
 
   -- expressions one after another
   pub agrees_all : (s : Setting) (goes_on : Bool) (qs : List Expectation) (ts : Trees Written) (prior : Caps) (d : ℕ) → AllAgree (infer_all s goes_on qs ts prior d) (rules_all s goes_on qs ts prior d)

@@ -1,6 +1,6 @@
 -- What inference asks of the request environment is asked of its variables alone: all else is the same whatever the
 -- slots are linked to.
-use Rattle.std.proofs.Common.{◌≡◌, Bool, true, ◌&&◌, if◌then◌else◌, List, [], ◌∷◌, ◌++◌, Option, Some, None, is_some, refl}
+use Rattle.std.proofs.Common.{◌≡◌, Bool, true, false, ◌&&◌, if◌then◌else◌, List, [], ◌∷◌, ◌++◌, Option, Some, None, is_some, refl}
 use Rattle.cedar_types.specs.declared.base.errors.type_errors.LubContext.{LubContext}
 use Rattle.cedar_types.specs.declared.base.errors.type_errors.LubContext.TheVariants.{Conditional, Equality, Contains, ContainsAnyAll}
 use Rattle.cedar_types.specs.declared.base.expressions.operators.BinaryOp.{BinaryOp}
@@ -9,7 +9,7 @@ use Rattle.cedar_types.specs.declared.base.types.BoolType.TheVariants.{AnyBool}
 use Rattle.cedar_types.specs.Names.{Text, Path, Uid}
 use Rattle.cedar_types.specs.Types.{Ty, TBool}
 use Rattle.cedar_types.specs.TypeOrder.{in_order}
-use Rattle.cedar_types.specs.Tree.{if_then_else, binary, get_attr, has_attr, ext_has_attr, set_of}
+use Rattle.cedar_types.specs.Tree.{if_then_else, binary, get_attr, has_attr, ext_has_attr, set_of, record_of}
 use Rattle.cedar_types.specs.View.{Written, trees_of}
 use Rattle.cedar_types.specs.Capability.{Cap}
 use Rattle.cedar_types.specs.Bounds.{is_strict, is_never, lub, list_lub}
@@ -30,7 +30,7 @@ use Rattle.cedar_typing.specs.Rules.Attributes.{attribute_of, has_decides, has_t
 use Rattle.cedar_typing.specs.Rules.Binary.{binary_form}
 use Rattle.cedar_typing.specs.Rules.Calls.{form_of_function, call_form}
 use Rattle.cedar_typing.specs.Rules.Chains.{Progress, no_steps, is_object, step_type, step_earns, with_step, go_on_unless_false, step, end_of_chain, after_access, made_up, chain, chain_table, chain_form}
-use Rattle.cedar_typing.specs.Rules.Collections.{all_types, set_by_bound, set_of_types, set_decides, errors_of, set_form}
+use Rattle.cedar_typing.specs.Rules.Collections.{all_types, set_by_bound, set_of_types, set_decides, errors_of, set_form, fields_from, record_of_types, record_form}
 use Rattle.cedar_typing.specs.Rules.Equality.{equality_type, equality_decides, equality_form, member_type}
 use Rattle.cedar_typing.specs.Rules.Membership.{in_decides, in_form}
 use Rattle.cedar_typing.specs.Rules.Numbers.{compare_decides}
@@ -203,6 +203,21 @@ module _ (s : Setting) (d : DeclaredEnv) (p r p' r' : Option Path) where
     type_if_failed = λ t. t;
     at_limit = λ ts. errors_of (set_typed m.place (all_types ts) i);
     node = λ k xs. set_of k (trees_of xs);
+  }
+
+  record_typed : (l : Option Loc) (ks : List Text) (ts : Option (List Ty)) → record_of_types e1 l ks ts ≡ record_of_types e2 l ks ts
+  record_typed l ks None = refl
+  record_typed l ks (Some ts) = refl
+
+  pub record_form_same : (m : Written) (ks : List Text) → record_form e1 m ks ≡ record_form e2 m ks
+  record_form_same m ks = λ i. record {
+    at = m;
+    expects = [];
+    goes_on = false;
+    decides = λ ts. record_typed m.place ks (all_types ts) i;
+    type_if_failed = λ t. t;
+    at_limit = λ ts. [];
+    node = λ k xs. record_of k (fields_from ks xs);
   }
 
   -- ---- operators

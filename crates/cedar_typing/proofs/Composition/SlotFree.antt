@@ -30,7 +30,7 @@ use Rattle.cedar_typing.specs.TypedExpr.{Source, TypedTree, place_of}
 use Rattle.cedar_typing.proofs.Agreement.Induction.{agrees}
 use Rattle.cedar_typing.proofs.Agreement.Parts.{Answers, a_derived, a_recovered, a_cut}
 use Rattle.cedar_typing.proofs.Basics.{some_is, neither_left, neither_right}
-use Rattle.cedar_typing.proofs.Composition.SameForms.{one, other, expect_same, more_same, one_same, two_same, right_same, branches_same, has_form_same, get_form_same, chain_form_same, call_form_same, set_form_same, binary_form_same}
+use Rattle.cedar_typing.proofs.Composition.SameForms.{one, other, expect_same, more_same, one_same, two_same, right_same, branches_same, has_form_same, get_form_same, chain_form_same, call_form_same, set_form_same, record_form_same, binary_form_same}
 
 -- ---- inference
 
@@ -107,7 +107,7 @@ module _ (s : Setting) (d : DeclaredEnv) (p r p' r' : Option Path) where
     same_within (set_of m ts) h prior k =
         let f = set_form_same s d p r p' r' m in
         λ i. infer_eager (f i) (same_all (f i).goes_on (f i).expects ts h prior (k + 1) i)
-    same_within (record_of m fs) h prior k = λ i. infer_eager (record_form m (field_keys fs)) (same_fields fs h prior (k + 1) i)
+    same_within (record_of m fs) h prior k = λ i. infer_eager (record_form_same s d p r p' r' m (field_keys fs) i) (same_fields fs h prior (k + 1) i)
 
     same_all : (goes_on : Bool) (qs : List Expectation) (ts : Trees Written) → NotIn (λ x. any_mentions_slot x ts) → (prior : Caps) (k : ℕ) → infer_all s1 goes_on qs ts prior k ≡ infer_all s2 goes_on qs ts prior k
     same_all goes_on qs no_trees h prior k = refl

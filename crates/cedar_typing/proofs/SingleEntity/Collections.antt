@@ -7,7 +7,7 @@ use Rattle.cedar_types.specs.Names.{Text}
 use Rattle.cedar_types.specs.Types.{Ty, TRecord}
 use Rattle.cedar_types.specs.View.{Written}
 use Rattle.cedar_types.specs.Bounds.{is_strict, lub, go_on, fold_lub, list_lub}
-use Rattle.cedar_types.specs.Errors.{empty_set_forbidden}
+use Rattle.cedar_types.specs.Errors.{empty_set_forbidden, internal_invariant_violation}
 use Rattle.cedar_typing.specs.Capabilities.{no_caps}
 use Rattle.cedar_typing.specs.Eager.{Decision, gives, refuses}
 use Rattle.cedar_typing.specs.Rules.Collections.{with_type, all_types, set_by_bound, set_of_types, set_form, required_attrs, record_of_types, record_form}
@@ -82,15 +82,15 @@ attributes_single [] ts h = refl
 attributes_single (k ∷ ks) [] h = refl
 attributes_single (k ∷ ks) (t ∷ ts) h = and_both (has_single_entities t) (are_narrow (required_attrs ks ts)) h.0 (attributes_single ks ts h.1)
 
-module _ (m : Written) (ks : List Text) where
+module _ (env : TypeEnv) (m : Written) (ks : List Text) where
   fields_single : (ts : List (Option Ty)) (found : Option (List Ty)) → AllSingle ts → all_types ts ≡ found
-      → HasSingleEntities (decided_type (record_of_types ks found))
+      → HasSingleEntities (decided_type (record_of_types env m.place ks found))
   fields_single ts None h e = tt
   fields_single ts (Some us) h e = by_keys (texts_ascending ks)
     where
-      by_keys : (b : Bool) → HasSingleEntities (decided_type (if b then gives (TRecord (required_attrs ks us) false) no_caps else refuses None []))
+      by_keys : (b : Bool) → HasSingleEntities (decided_type (if b then gives (TRecord (required_attrs ks us) false) no_caps else refuses None (finding env m.place internal_invariant_violation ∷ [])))
       by_keys true = attributes_single ks us (found_single ts us h e)
       by_keys false = tt
 
-  pub record_single : SingleForm (record_form m ks)
+  pub record_single : SingleForm (record_form env m ks)
   record_single ts h = fields_single ts (all_types ts) h refl

@@ -214,7 +214,7 @@ module _ (s : Setting) (strict : s.env.mode ≡ Strict) (faults : has_fault s.en
     single_within (set_of m ts) prior d =
         form_single (set_form s.env m) (λ k xs. refl) (set_single s.env strict m) (λ t h. h) _ (single_all true [] ts prior (d + 1)) (marks_of (set_of m ts) prior d)
     single_within (record_of m fs) prior d =
-        form_single (record_form m (field_keys fs)) (λ k xs. refl) (record_single m (field_keys fs)) (λ t h. h) _ (single_fields fs prior (d + 1)) (marks_of (record_of m fs) prior d)
+        form_single (record_form s.env m (field_keys fs)) (λ k xs. refl) (record_single s.env m (field_keys fs)) (λ t h. h) _ (single_fields fs prior (d + 1)) (marks_of (record_of m fs) prior d)
 
     -- expressions one after another
     pub single_all : (goes_on : Bool) (qs : List Expectation) (ts : Trees Written) (prior : Caps) (d : ℕ) → SingleAll (rules_all s goes_on qs ts prior d)

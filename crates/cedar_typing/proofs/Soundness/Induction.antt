@@ -150,7 +150,7 @@ module _ (s : Setting) (world : World) (strict : s.env.mode ≡ Strict) (faults 
     sounds_within (is_type m x n) b prior d h =
         one_operand_sounds world s.env (is_form m n) (λ k xs. refl) (place_of x) (eval world x) _ _ (is_sound world m n (eval world x)) (within_sounds world _ (d + 1) _ (sounds_within x b prior (d + 1) h)) (single_at x prior (d + 1))
     sounds_within (set_of m ts) b prior d h = set_sounds world s.env strict m ts _ (all_sound true [] ts b prior (d + 1) h)
-    sounds_within (record_of m fs) b prior d h = record_sounds world m fs _ (fields_sound fs b prior (d + 1) h)
+    sounds_within (record_of m fs) b prior d h = record_sounds world s.env m fs _ (fields_sound fs b prior (d + 1) h)
 
     -- expressions one after another
     all_sound : (goes_on : Bool) (qs : List Expectation) (ts : Trees Written) → AllSlotsBound world.slots ts → (prior : Caps) (d : ℕ) → AllHold world prior → SoundsAll world qs (outcomes world ts) (rules_all s goes_on qs ts prior d)

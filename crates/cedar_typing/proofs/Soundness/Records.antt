@@ -12,6 +12,7 @@ use Rattle.cedar_types.specs.Lemmas.Comparisons.{and_left, and_right, text_same}
 use Rattle.cedar_types.specs.Types.{Ty, TRecord, attr_names}
 use Rattle.cedar_types.specs.Tree.{record_of, Fields, no_fields, field}
 use Rattle.cedar_types.specs.View.{Written}
+use Rattle.cedar_types.specs.Errors.{internal_invariant_violation}
 use Rattle.cedar_types.specs.Values.{Value, Entries, no_entries, more_entries, entry_at, HasAttr, KeysAmong, HasType, HasAttrs}
 use Rattle.cedar_typing.specs.Capabilities.{no_caps}
 use Rattle.cedar_typing.specs.Eager.{Decision, gives, refuses}
@@ -21,6 +22,7 @@ use Rattle.cedar_typing.specs.Evaluation.World.{World, Outcome, Gives, Fails}
 use Rattle.cedar_typing.specs.Rules.Collections.{all_types, field_keys, required_attrs, record_of_types, record_form}
 use Rattle.cedar_typing.specs.Rules.Eager.{Judgments, eager_rules}
 use Rattle.cedar_typing.specs.Soundness.{HasFound, IsAllowed, IsSafe}
+use Rattle.cedar_typing.specs.TypeEnv.{TypeEnv, finding}
 use Rattle.cedar_typing.proofs.Basics.{or_left, or_right}
 use Rattle.cedar_typing.proofs.SingleEntity.Eager.{decided_type}
 use Rattle.cedar_typing.proofs.Soundness.Eager.{AllHave, AllSafe, GiftIsSound, SoundForm, SoundsAll, form_sounds}
@@ -136,19 +138,19 @@ record_safe (FailEntry f) h = h
 
 -- ---- the form
 
-module _ (world : World) (m : Written) (ks : List Text) (os : List Outcome) where
+module _ (world : World) (env : TypeEnv) (m : Written) (ks : List Text) (os : List Outcome) where
   abbrev whole : Outcome
   whole = record_outcome (entries_together ks os)
 
   abbrev decided_by : Bool → List Ty → Decision
-  decided_by ascending us = if ascending then gives (TRecord (required_attrs ks us) false) no_caps else refuses None []
+  decided_by ascending us = if ascending then gives (TRecord (required_attrs ks us) false) no_caps else refuses None (finding env m.place internal_invariant_violation ∷ [])
 
   keys_typed : (b : Bool) (us : List Ty) → texts_ascending ks ≡ b → AllTyped us os → HasFound (decided_type (decided_by b us)) whole
   keys_typed true us e h = record_has ks us (entries_together ks os) (entries_have ks us os e h)
   keys_typed false us e h = tt
 
   types_typed : (ts : List (Option Ty)) (found : Option (List Ty)) → AllHave ts os → all_types ts ≡ found
-      → HasFound (decided_type (record_of_types ks found)) whole
+      → HasFound (decided_type (record_of_types env m.place ks found)) whole
   types_typed ts None h e = tt
   types_typed ts (Some us) h e = keys_typed (texts_ascending ks) us refl (found_typed ts us os h e)
 
@@ -156,19 +158,19 @@ module _ (world : World) (m : Written) (ks : List Text) (os : List Outcome) wher
   keys_gift true us = silent_gift world os whole _ (λ h. record_safe (entries_together ks os) (together_safe ks os h))
   keys_gift false us = tt
 
-  types_gift : (found : Option (List Ty)) → GiftIsSound world os whole (record_of_types ks found)
+  types_gift : (found : Option (List Ty)) → GiftIsSound world os whole (record_of_types env m.place ks found)
   types_gift None = tt
   types_gift (Some us) = keys_gift (texts_ascending ks) us
 
-  record_sound : SoundForm world (record_form m ks) os whole
+  record_sound : SoundForm world (record_form env m ks) os whole
   record_sound = record { typed = λ ts a. types_typed ts (all_types ts) a.have refl; succeeds = λ ts a f. types_gift (all_types ts); failed = λ t h. h }
 
 -- ---- evaluation
 
-pub record_sounds : (world : World) (m : Written) (fs : Fields Written) (Js : Judgments)
-    → SoundsAll world [] (field_outcomes world fs) Js → Sounds world (eval world (record_of m fs)) (eager_rules (record_form m (field_keys fs)) Js)
-record_sounds world m fs Js operands =
+pub record_sounds : (world : World) (env : TypeEnv) (m : Written) (fs : Fields Written) (Js : Judgments)
+    → SoundsAll world [] (field_outcomes world fs) Js → Sounds world (eval world (record_of m fs)) (eager_rules (record_form env m (field_keys fs)) Js)
+record_sounds world env m fs Js operands =
     let ks = field_keys fs in
     let os = field_outcomes world fs in
-    subst (λ z. Sounds world (record_outcome z) (eager_rules (record_form m ks) Js)) (evaluated_together world fs)
-    (form_sounds world (record_form m ks) (λ k xs. refl) os (record_outcome (entries_together ks os)) (record_sound world m ks os) Js operands)
+    subst (λ z. Sounds world (record_outcome z) (eager_rules (record_form env m ks) Js)) (evaluated_together world fs)
+    (form_sounds world (record_form env m ks) (λ k xs. refl) os (record_outcome (entries_together ks os)) (record_sound world env m ks os) Js operands)

@@ -9,7 +9,7 @@ use Rattle.cedar_types.specs.Tree.{Tree, set_of, record_of, Fields, no_fields, f
 use Rattle.cedar_types.specs.View.{Written, trees_of}
 use Rattle.cedar_types.specs.TypeOrder.{in_order}
 use Rattle.cedar_types.specs.Bounds.{is_strict, list_lub}
-use Rattle.cedar_types.specs.Errors.{Finding, incompatible_types, empty_set_forbidden}
+use Rattle.cedar_types.specs.Errors.{Finding, incompatible_types, empty_set_forbidden, internal_invariant_violation}
 use Rattle.cedar_typing.specs.Capabilities.{no_caps}
 use Rattle.cedar_typing.specs.Eager.{Decision, gives, refuses, Form}
 use Rattle.cedar_typing.specs.TypeEnv.{TypeEnv, finding}
@@ -75,21 +75,21 @@ abbrev pub required_attrs : List Text → List Ty → Attrs
 required_attrs (k ∷ ks) (t ∷ ts) = attr k t true (required_attrs ks ts)
 required_attrs ks ts = no_attrs
 
--- keys ascend, as in every record of the program: a tree in which they do not has no type; a type
--- that is missing is no other error
-abbrev pub record_of_types : List Text → Option (List Ty) → Decision
-record_of_types ks None = refuses None []
-record_of_types ks (Some ts) =
+-- keys ascend, as in every record of the program: of a tree in which they do not there is no rule,
+-- which is an error at the whole; a type that is missing is no other error
+abbrev pub record_of_types : TypeEnv → Option Loc → List Text → Option (List Ty) → Decision
+record_of_types env l ks None = refuses None []
+record_of_types env l ks (Some ts) =
     if texts_ascending ks then gives (TRecord (required_attrs ks ts) false) no_caps
-    else refuses None []
+    else refuses None (finding env l internal_invariant_violation ∷ [])
 
 -- `{x: a, y: b}` with these keys: a closed record, all of whose attributes are required
-abbrev pub record_form : Written → List Text → Form
-record_form m ks = record {
+abbrev pub record_form : TypeEnv → Written → List Text → Form
+record_form env m ks = record {
   at = m;
   expects = [];
   goes_on = false;
-  decides = λ ts. record_of_types ks (all_types ts);
+  decides = λ ts. record_of_types env m.place ks (all_types ts);
   type_if_failed = λ t. t;
   at_limit = λ ts. [];
   node = λ k xs. record_of k (fields_from ks xs);

@@ -1,6 +1,7 @@
 //! What the checks of a template in its environments say together: laws, each on a function that does nothing.
 ghost use Rattle.cedar_typing.specs.Composition.{OwnEnvIsChecked, OwnEnvIsCheckedOfTypes, OwnTestsAreBool, LinksDoNotMatter, ScopeIsBoolean, Coverage, NeverTrue, OwnSuccessIsKept};
 ghost use Rattle.cedar_typing.specs.Examples.Composition.{EnvironmentsAre, SlotsInTheRestAreNot, OwnEnvMayBeMissing};
+ghost use Rattle.cedar_typing.specs.Silence.{ConditionIsWellNamed, FailuresHaveErrors, SilentFailureIsCut, PassingIsDerived, PassingPolicyIsDerived};
 
 /// One of the environments that are checked links each slot to its variable's own type, and there the scope's tests of slots
 /// may be true.
@@ -26,6 +27,16 @@ pub fn environments_cover()
 pub fn impossible_is_never_true()
     ensures never { NeverTrue }
     ensures kept { OwnSuccessIsKept }
+{}
+
+/// In Strict, what fails without being cut has at least one error, where nothing is unknown: no name of a type or of an action,
+/// and no part. So a check that fails without one is a cut, and what passes is derived, in each environment of a policy.
+pub fn failures_have_errors()
+    ensures well_named { ConditionIsWellNamed }
+    ensures failures { FailuresHaveErrors }
+    ensures cut { SilentFailureIsCut }
+    ensures passing { PassingIsDerived }
+    ensures policy { PassingPolicyIsDerived }
 {}
 
 /// Which environments some templates are checked in, and that what is warned to be impossible may be true where a slot stands

@@ -11,7 +11,7 @@ ghost use Rattle.cedar_typing.specs.Judgments.{max_nesting};
 ghost use Rattle.cedar_typing.specs.Rules.Collections.{all_types, field_keys, fields_from, record_form, record_of_types};
 ghost use Rattle.cedar_typing.specs.TypedExpr.{typed_as, typed_tree};
 ghost use Rattle.cedar_typing.specs.SettingViews.{setting_at};
-ghost use Rattle.cedar_typing.specs.Views.{answer_of, at, decision_without_errors, field_operands, findings, keys_in, trees_in};
+ghost use Rattle.cedar_typing.specs.Views.{answer_of, at, decision_without_errors, env_at, field_operands, findings, keys_in, trees_in};
 
 use crate::typecheck::answer::TypecheckAnswer;
 use crate::typecheck::operands::any_part;
@@ -51,7 +51,7 @@ impl<C: ArgumentCheck> SingleEnvTypechecker<'_, '_, '_, '_, C> {
     ) -> Result<TypecheckAnswer<'a>, AllocError>
         requires { depth ≤ max_nesting }
         ensures { IfOk result (λ r.
-            infer_eager (record_form (at loc) (field_keys (fields_written fields.now.entries)))
+            infer_eager (record_form (setting_at C.refusal self.now).env (at loc) (field_keys (fields_written fields.now.entries)))
             (infer_fields (setting_at C.refusal self.now) (fields_written fields.now.entries) (caps prior.now)
             (depth + 1)) (findings errors.old.items)
             ≡ (answer_of r, findings errors.new.items)) }
@@ -109,7 +109,7 @@ impl TypeEnv<'_, '_, '_, '_> {
         values: FieldValues,
     ) -> Result<TypecheckAnswer<'a>, AllocError>
         ensures { (es : _) → IfOk result (λ r.
-            infer_form (record_form (at loc) (keys_in values.typed.entries))
+            infer_form (record_form (env_at self.now) (at loc) (keys_in values.typed.entries))
             (field_operands values) es
             ≡ (answer_of r, es)) }
     {
@@ -128,10 +128,10 @@ fn typed_record<'a>(
     succeeded: bool,
     fields: BTreeMap<RcStr, Expr<Option<CedarType>>>,
 ) -> Result<TypecheckAnswer<'a>, AllocError>
-    ensures { (es : _) → IfOk result (λ r.
-        infer_decided (record_form (at loc) (keys_in fields.entries)) succeeded
+    ensures { (env : _) (es : _) → IfOk result (λ r.
+        infer_decided (record_form env (at loc) (keys_in fields.entries)) succeeded
         (trees_in fields.entries) es
-        (record_of_types (keys_in fields.entries)
+        (record_of_types env loc (keys_in fields.entries)
         (all_types (types_found (trees_in fields.entries))))
         ≡ (answer_of r, es)) }
 {
@@ -150,8 +150,8 @@ fn record_type(
     alloc: Global,
     fields: &BTreeMap<RcStr, Expr<Option<CedarType>>>,
 ) -> Result<Option<CedarType>, AllocError>
-    ensures { IfOk result (λ t.
-        record_of_types (keys_in fields.now.entries)
+    ensures { (env : _) (l : _) → IfOk result (λ t.
+        record_of_types env l (keys_in fields.now.entries)
         (all_types (types_found (trees_in fields.now.entries)))
         ≡ decision_without_errors (option_map ty_of t)) }
 {

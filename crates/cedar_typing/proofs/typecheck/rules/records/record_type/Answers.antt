@@ -15,13 +15,13 @@ use Rattle.cedar_typing.proofs.TypedViews.{annotation_is}
 use Rattle.cedar_typing.proofs.typecheck.rules.records.record_type.Goals as goal
 
 pub returns-in_default : goal.returns-in_default
-returns-in_default c =
+returns-in_default c env l =
     let done = c.loop-key.invariant.0 in
     let e : TypedField = (c.in-Some.key.now, c.in-Some.value.now) in
     let left = c.next.new.self in
     let all : c.args.fields.now.entries ≡ done ++ e ∷ left = c.loop-key.invariant.1 ∙ ap (λ es. done ++ es) c.in-Some.ensures.steps in
-    ap (λ es. record_of_types (keys_in es) (all_types (types_found (trees_in es)))) all
-    ∙ untyped_field_decides done e left (annotation_is e.1 ∙ ap (option_map ty_of) c.in_default.is)
+    ap (λ es. record_of_types env l (keys_in es) (all_types (types_found (trees_in es)))) all
+    ∙ untyped_field_decides env l done e left (annotation_is e.1 ∙ ap (option_map ty_of) c.in_default.is)
 
 pub loop-key-preserved : goal.loop-key-preserved
 loop-key-preserved c =
@@ -45,9 +45,9 @@ loop-key-preserved c =
     )
 
 pub returns : goal.returns
-returns c =
+returns c env place =
     let l = c.loop-key in
     let done = l.invariant.0 in
     let all : c.args.fields.now.entries ≡ done = l.invariant.1 ∙ ap (λ es. done ++ es) c.in-None.ensures.steps.0 ∙ append-nil done in
-    typed_fields_decide c.args.fields.now.entries (entries_of l.attrs.entries) c.iter-key-items.ensures.ordered (ap attrs_typed all ∙ l.invariant.3)
+    typed_fields_decide env place c.args.fields.now.entries (entries_of l.attrs.entries) c.iter-key-items.ensures.ordered (ap attrs_typed all ∙ l.invariant.3)
     ∙ ap (λ t. gives t no_caps) (sym (c.record_with_attributes-ty.ensures ∙ ap (λ xs. TRecord xs false) c.in_ok-attributes.ensures))

@@ -270,11 +270,12 @@ typecheck-returns-in-Record g t c =
 pub type_record-returns : goal.type_record-returns
 type_record-returns g t c =
     let m = at c.args.loc in
+    let env = (setting_at g.C.ArgumentCheck.refusal c.args.self.now).env in
     let ks = field_keys (fields_written c.args.fields.now.entries) in
     let values = c.in_ok-values.values in
     let es = findings c.type_fields.new.errors.items in
-    ap (λ o. infer_form (record_form m ks) o.0 o.1) c.in_ok-values.ensures.typed
-    ∙ by_keys_typed m ks values es c.in_ok-values.ensures.keys
+    ap (λ o. infer_form (record_form env m ks) o.0 o.1) c.in_ok-values.ensures.typed
+    ∙ by_keys_typed env m ks values es c.in_ok-values.ensures.keys
     ∙ c.in_ok-answer.ensures es
 
 pub type_fields-loop-key-preserved : goal.type_fields-loop-key-preserved
