@@ -29,6 +29,7 @@ pub mod Bounds
 pub mod SingleEntity
 pub mod Soundness
 pub mod Composition
+pub mod Silence
 pub mod Examples
 pub mod Gains
 pub mod Tallies

@@ -39,7 +39,7 @@ pub function_returns : (n : Path) (fs : List ExtensionFunction) (f : ExtensionFu
 function_returns n fs f e h = named_returns n fs f (no_fault (list_any has_bad_return fs) _ _ h) e
 
 plain_single : (t : Ty) → is_plain_type t ≡ true → has_single_entities t ≡ true
-plain_single TNever h = refl
+plain_single TNever h = cc
 plain_single (TBool k) h = refl
 plain_single TLong h = refl
 plain_single TString h = refl

@@ -1,5 +1,5 @@
 -- In Strict sets and records name one entity type at most where their elements and fields do.
-use Rattle.std.proofs.Common.{◌≡◌, Bool, true, false, List, [], ◌∷◌, Option, Some, None, if◌then◌else◌, refl, sym, subst}
+use Rattle.std.proofs.Common.{◌≡◌, Bool, true, false, List, [], ◌∷◌, Option, Some, None, if◌then◌else◌, refl, sym, ap, subst}
 use Rattle.cedar_types.specs.declared.base.types.ValidationMode.TheVariants.{Strict}
 use Rattle.cedar_types.specs.Ascending.{texts_ascending}
 use Rattle.cedar_types.specs.Lemmas.Comparisons.{and_both}
@@ -45,9 +45,12 @@ fold_single t [] n h = n
 fold_single t (s ∷ ts) n h =
     gone_on_single (lub Strict t s) (λ z. fold_lub Strict z ts) (narrow_lub t s n h.0) (λ z k. fold_single z ts k h.1)
 
-bound_single : (ts : List Ty) → AreSingle ts → HasSingleEntities (list_lub Strict ts)
-bound_single [] h = refl
-bound_single (t ∷ ts) h = fold_single t ts h.0 h.1
+-- the types of some operands are some
+some_types : (t : Option Ty) (found : Option (List Ty)) → with_type t found ≡ Some [] → ⊥
+some_types None None e = cc
+some_types None (Some ts) e = cc
+some_types (Some t) None e = cc
+some_types (Some t) (Some ts) e = cc
 
 -- ---- sets
 
@@ -56,24 +59,26 @@ module _ (env : TypeEnv) (strict : env.mode ≡ Strict) (m : Written) where
   by_bound_single us (Some u) h = h
   by_bound_single us None h = tt
 
-  types_single : (ts : List (Option Ty)) (found : Option (List Ty)) → AllSingle ts → all_types ts ≡ found
+  types_single : (t : Option Ty) (ts : List (Option Ty)) (found : Option (List Ty)) → AllSingle (t ∷ ts) → all_types (t ∷ ts) ≡ found
       → HasSingleEntities (decided_type (set_of_types env m.place found))
-  types_single ts None h e = tt
-  types_single ts (Some us) h e =
-      let single = bound_single us (found_single ts us h e) in
-      by_bound_single us (list_lub env.mode us) (subst (λ y. HasSingleEntities (list_lub y us)) (sym strict) single)
+  types_single t ts None h e = tt
+  types_single t ts (Some []) h e = absurd (some_types t (all_types ts) e)
+  types_single t ts (Some (u ∷ us)) h e =
+      let all = found_single (t ∷ ts) (u ∷ us) h e in
+      let single = fold_single u us all.0 all.1 in
+      by_bound_single (u ∷ us) (list_lub env.mode (u ∷ us)) (subst (λ y. HasSingleEntities (list_lub y (u ∷ us))) (sym strict) single)
 
   -- what the table says of a set without elements
   abbrev without_elements : Bool → Decision
   without_elements b = if b then refuses None (finding env m.place empty_set_forbidden ∷ []) else set_of_types env m.place (Some [])
 
-  empty_single : (b : Bool) → HasSingleEntities (decided_type (without_elements b))
-  empty_single true = tt
-  empty_single false = types_single [] (Some []) tt refl
+  empty_single : (b : Bool) → b ≡ true → HasSingleEntities (decided_type (without_elements b))
+  empty_single true e = tt
+  empty_single false e = cc
 
   pub set_single : SingleForm (set_form env m)
-  set_single [] h = empty_single (is_strict env.mode)
-  set_single (t ∷ ts) h = types_single (t ∷ ts) (all_types (t ∷ ts)) h refl
+  set_single [] h = empty_single (is_strict env.mode) (ap is_strict strict)
+  set_single (t ∷ ts) h = types_single t ts (all_types (t ∷ ts)) h refl
 
 -- ---- records
 

@@ -1,5 +1,5 @@
 -- In Strict each type that is found names one entity type at most: all expressions.
-use Rattle.std.proofs.Common.{◌≡◌, inl, inr, ℕ, ◌+◌, Bool, true, false, not, List, [], ◌∷◌, ◌++◌, map, Option, Some, None, ◌&&◌, ◌||◌, if◌then◌else◌, refl, sym, subst}
+use Rattle.std.proofs.Common.{◌≡◌, inl, inr, ℕ, ◌+◌, Bool, true, false, not, List, [], ◌∷◌, ◌++◌, map, Option, Some, None, ◌&&◌, ◌||◌, if◌then◌else◌, refl, sym, ap, subst}
 use Rattle.std.specs.List.{list_all, flat_map}
 use Rattle.cedar_types.specs.declared.base.expressions.operators.Var.{Var}
 use Rattle.cedar_types.specs.declared.base.names.slots.SlotId.{SlotId}
@@ -135,7 +135,7 @@ module _ (m : Written) (node : Mark → TypedTree) (at : (k : Mark) → annotati
 
 -- ---- `has` and `.`
 
-module _ (env : TypeEnv) (faults : has_fault env.schema ≡ false) (m : Written) (prior : Caps) (e : Source) (x : Text) where
+module _ (env : TypeEnv) (strict : env.mode ≡ Strict) (faults : has_fault env.schema ≡ false) (m : Written) (prior : Caps) (e : Source) (x : Text) where
   has_decided : (s : Ty) (a : Option (Ty × Bool)) → HasSingleEntities (decided_type (has_decides env x (attribute_of e x) (prior (attribute_of e x)) s a))
   has_decided s (Some a) = pick (prior (attribute_of e x) || (a.1 && is_record_type s)) (TBool True) _ refl refl
   has_decided s None = pick (may_have env.schema s x) (TBool AnyBool) _ refl refl
@@ -149,13 +149,13 @@ module _ (env : TypeEnv) (faults : has_fault env.schema ≡ false) (m : Written)
   guarded true t fs h = h
   guarded false t fs h = h
 
-  hidden : (b : Bool) (fs : List Finding) → HasSingleEntities (decided_type (if b then gives TNever no_caps else refuses None fs))
-  hidden true fs = refl
-  hidden false fs = tt
+  hidden : (partial may : Bool) (fs : List Finding) → partial ≡ false → HasSingleEntities (decided_type (if partial && may then gives TNever no_caps else refuses None fs))
+  hidden true may fs n = cc
+  hidden false may fs n = tt
 
   get_decided : (s : Ty) (a : Option (Ty × Bool)) → has_single_entities s ≡ true → attribute_type env.schema s x ≡ a → HasSingleEntities (decided_type (get_decides env m.place x (prior (attribute_of e x)) s a))
   get_decided s (Some a) h q = guarded (a.1 || prior (attribute_of e x)) a.0 _ (attribute_narrow env.schema faults s x a.0 a.1 h q)
-  get_decided s None h q = hidden (is_partial env.mode && may_have env.schema s x) _
+  get_decided s None h q = hidden (is_partial env.mode) (may_have env.schema s x) _ (ap is_partial strict)
 
   get_single : SingleForm (get_form env m prior e x)
   get_single [] h = tt
@@ -164,7 +164,7 @@ module _ (env : TypeEnv) (faults : has_fault env.schema ≡ false) (m : Written)
 
 -- ---- all expressions
 
-within_single : (d : ℕ) (J : Judgment) → SingleEntities J → SingleEntities (within d J)
+pub within_single : (d : ℕ) (J : Judgment) → SingleEntities J → SingleEntities (within d J)
 within_single d J s = record {
   derivations = λ t c x h. s.derivations t c x h.1;
   recoveries = λ x es h. s.recoveries x es h.1;
@@ -182,7 +182,7 @@ module _ (s : Setting) (strict : s.env.mode ≡ Strict) (faults : has_fault s.en
   marks_of e prior d = (agrees_within s e prior d).marks
 
   mutual
-    single_within : (e : Source) (prior : Caps) (d : ℕ) → SingleEntities (rules_within s e prior d)
+    pub single_within : (e : Source) (prior : Caps) (d : ℕ) → SingleEntities (rules_within s e prior d)
     single_within (lit m x) prior d = leaf_single m (λ k. lit k x) (λ k. refl) _ (literal_narrow s.env strict x) (marks_of (lit m x) prior d)
     single_within (var m x) prior d = leaf_single m (λ k. var k x) (λ k. refl) _ (variable_narrow s.env faults s.env.request_env refl environment x) (marks_of (var m x) prior d)
     single_within (slot m x) prior d = leaf_single m (λ k. slot k x) (λ k. refl) _ (slot_narrow s.env.request_env x) (marks_of (slot m x) prior d)
@@ -202,9 +202,9 @@ module _ (s : Setting) (strict : s.env.mode ≡ Strict) (faults : has_fault s.en
         let f = call_form s.env s.functions m n (arguments ts) in
         form_single f (λ k xs. refl) (call_single s.env s.functions table_faults m n (arguments ts)) (λ t h. h) _ (single_all f.goes_on f.expects ts prior (d + 1)) (marks_of (call m n ts) prior d)
     single_within (get_attr m e x) prior d =
-        one_operand_single s.env (get_form s.env m prior e x) (λ k xs. refl) (get_single s.env faults m prior e x) (λ t h. h) (place_of e) _ (within_single (d + 1) _ (single_within e prior (d + 1))) (marks_of (get_attr m e x) prior d)
+        one_operand_single s.env (get_form s.env m prior e x) (λ k xs. refl) (get_single s.env strict faults m prior e x) (λ t h. h) (place_of e) _ (within_single (d + 1) _ (single_within e prior (d + 1))) (marks_of (get_attr m e x) prior d)
     single_within (has_attr m e x) prior d =
-        one_operand_single s.env (has_form s.env m prior e x) (λ k xs. refl) (has_single s.env faults m prior e x) (λ t h. h) (place_of e) _ (within_single (d + 1) _ (single_within e prior (d + 1))) (marks_of (has_attr m e x) prior d)
+        one_operand_single s.env (has_form s.env m prior e x) (λ k xs. refl) (has_single s.env strict faults m prior e x) (λ t h. h) (place_of e) _ (within_single (d + 1) _ (single_within e prior (d + 1))) (marks_of (has_attr m e x) prior d)
     single_within (ext_has_attr m a x xs) prior d =
         one_operand_single s.env (chain_form s.env m prior a x xs) (λ k ys. refl) (chain_single s.env m prior a x xs) (λ t h. h) (place_of a) _ (within_single (d + 1) _ (single_within a prior (d + 1))) (marks_of (ext_has_attr m a x xs) prior d)
     single_within (like m a p) prior d =

@@ -1,4 +1,4 @@
--- Types that name no choice of entity types: Strict finds no others.
+-- Types that name no choice of entity types, and not Never either: Strict finds no others.
 use Rattle.std.proofs.Common.{◌≡◌, ℕ, suc, Bool, true, false, true≢false, arith, ◌&&◌, ◌||◌, List, [], ◌∷◌, Option, Some, None, option_map, if◌then◌else◌, refl, sym, ◌∙◌, ap, nat_lt}
 use Rattle.std.specs.Prelude.{length}
 use Rattle.std.proofs.lemmas.Grind.{common_steps}
@@ -17,9 +17,9 @@ is_single (p ∷ []) = true
 is_single (p ∷ q ∷ ps) = false
 
 abbrev mutual
-  -- each entity set in it has one member at most
+  -- each entity set in it has one member at most, and Never stands nowhere in it
   pub has_single_entities : Ty → Bool
-  has_single_entities TNever = true
+  has_single_entities TNever = false
   has_single_entities (TBool k) = true
   has_single_entities TLong = true
   has_single_entities TString = true
@@ -51,7 +51,7 @@ few_single (p ∷ q ∷ ps) h = absurd (true≢false (sym (past_one (length ps))
 
 mutual
   pub definite_narrow : (t : Ty) → is_vague t ≡ false → has_single_entities t ≡ true
-  definite_narrow TNever h = refl
+  definite_narrow TNever h = absurd (true≢false h)
   definite_narrow (TBool k) h = refl
   definite_narrow TLong h = refl
   definite_narrow TString h = refl
