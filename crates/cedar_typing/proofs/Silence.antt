@@ -7,3 +7,5 @@ pub mod Attributes
 pub mod Names
 pub mod Operators
 pub mod Induction
+pub mod Checks
+pub mod Policies

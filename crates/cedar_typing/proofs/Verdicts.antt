@@ -69,7 +69,7 @@ verdict_at_least s e = (policy_check s e, checked s e)
 -- ---- errors in any order
 
 -- no errors have one order
-none : (es : List Finding) → IsPermutation [] es → es ≡ []
+pub none : (es : List Finding) → IsPermutation [] es → es ≡ []
 none [] p = refl
 none (x ∷ es) p = let e : length (x ∷ es) ≡ 0 = length_permutation [] (x ∷ es) p in grind (arith, common_steps)
 
