@@ -1,4 +1,4 @@
--- In Strict a type that is found names one entity type at most.
+-- In Strict a type that is found names one entity type at most, and is not Never.
 pub mod Types
 pub mod Rules
 pub mod Eager

@@ -4,7 +4,7 @@ use Rattle.cedar_types.specs.declared.base.errors.type_errors.LubContext.TheVari
 use Rattle.cedar_types.specs.declared.base.types.BoolType.TheVariants.{AnyBool, True}
 use Rattle.cedar_types.specs.declared.base.types.ValidationMode.TheVariants.{Permissive}
 use Rattle.cedar_types.specs.Types.{TNever, TBool, TLong, TString, TSet, TRecord, no_attrs, attr}
-use Rattle.cedar_types.specs.Errors.{incompatible_types, empty_set_forbidden}
+use Rattle.cedar_types.specs.Errors.{incompatible_types, empty_set_forbidden, internal_invariant_violation}
 use Rattle.cedar_typing.specs.Examples.Expressions.{true_lit, false_lit, one, text, set0, set1, set2, record1, record2, get_rank, get_vip}
 use Rattle.cedar_typing.specs.Examples.Rules.{IsTyped, IsTypedIn, IsRefused, error_at, unknown_rank, unguarded_vip}
 use Rattle.cedar_typing.specs.Examples.World.{sample}
@@ -33,6 +33,8 @@ pub record RecordTyping : Type 0 where
   -- `{x: principal.vip}`: a value that failed with a type
   pub value_failed : IsRefused (record1 (codes "x") get_vip)
       (Some (TRecord (attr (codes "x") (TBool AnyBool) true no_attrs) false)) (unguarded_vip 2 ∷ [])
-  -- keys that do not ascend, which no record of the program has
-  pub keys_descend : IsRefused (record2 (codes "y") one (codes "x") true_lit) None []
-  pub key_twice : IsRefused (record2 (codes "x") one (codes "x") true_lit) None []
+  -- keys that do not ascend, which no record of the program has: an error at the whole
+  pub keys_descend : IsRefused (record2 (codes "y") one (codes "x") true_lit) None
+      (error_at 1 internal_invariant_violation ∷ [])
+  pub key_twice : IsRefused (record2 (codes "x") one (codes "x") true_lit) None
+      (error_at 1 internal_invariant_violation ∷ [])
