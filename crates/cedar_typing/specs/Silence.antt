@@ -1,6 +1,6 @@
 -- Silence: in Strict, what fails without being cut has at least one error, where nothing is unknown. So
 -- what passes is derived.
-use Rattle.std.specs.Prelude.{◌≡◌, ℕ, Bool, true, false, List, [], Option, None}
+use Rattle.std.specs.Prelude.{◌≡◌, ℕ, Bool, true, false, List, [], None}
 use Rattle.std.specs.List.{list_any, flat_map}
 use Rattle.cedar_types.specs.declared.base.types.BoolType.TheVariants.{False}
 use Rattle.cedar_types.specs.declared.base.types.ValidationMode.TheVariants.{Strict}
@@ -123,5 +123,6 @@ abbrev pub PassingPolicyIsDerived : Type 0
 PassingPolicyIsDerived =
     (s : Setting) (t : PlainTemplate) → IsStrictWithoutFaults s → IsWellNamedTemplate s.env.schema t
     → (errors errors' : List Finding) (warnings warnings' : List Caution)
-    → PolicyOutcome (ChecksOf s t) (checked_envs s.env.schema s.env.mode t) t true errors errors' warnings warnings'
+    → PolicyOutcome (ChecksOf s t) (checked_envs s.env.schema s.env.mode t) t true errors errors'
+    warnings warnings'
     → (env : Env) → IsOneOf env (checked_envs s.env.schema s.env.mode t) → IsDerivedIn s t env

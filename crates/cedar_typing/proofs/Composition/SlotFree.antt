@@ -20,7 +20,7 @@ use Rattle.cedar_typing.specs.Infer.Parts.{success, failure, limit, Answer, Answ
 use Rattle.cedar_typing.specs.Judgments.{Judgment}
 use Rattle.cedar_typing.specs.Rules.{rules, Derives}
 use Rattle.cedar_typing.specs.Rules.Calls.{arguments}
-use Rattle.cedar_typing.specs.Rules.Collections.{field_keys, record_form}
+use Rattle.cedar_typing.specs.Rules.Collections.{field_keys}
 use Rattle.cedar_typing.specs.Rules.Leaves.{variable_type, type_of_literal}
 use Rattle.cedar_typing.specs.Rules.ShortCircuit.{conjunction, disjunction}
 use Rattle.cedar_typing.specs.Rules.Unary.{unary_form, like_form, is_form}

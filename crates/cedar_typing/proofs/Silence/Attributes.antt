@@ -1,5 +1,5 @@
 -- What fails has an error: `has`, `.`, extended `has`, `hasTag` and `getTag`.
-use Rattle.std.proofs.Common.{◌≡◌, Bool, true, false, ◌&&◌, ◌||◌, List, [], ◌∷◌, Option, Some, None, if◌then◌else◌, refl}
+use Rattle.std.proofs.Common.{Bool, ◌&&◌, ◌||◌, List, [], ◌∷◌, Option, Some, None, refl}
 use Rattle.cedar_types.specs.declared.base.location.Loc.{Loc}
 use Rattle.cedar_types.specs.Bounds.{is_never, list_lub}
 use Rattle.cedar_types.specs.Capability.{Cap}

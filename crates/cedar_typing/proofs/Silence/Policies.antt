@@ -1,11 +1,9 @@
 -- A policy that passes is derived in each of the environments that it is checked in.
-use Rattle.std.proofs.Common.{◌≡◌, inl, inr, Bool, true, false, ◌&&◌, List, [], ◌∷◌, ◌++◌, map, Option, Some, None, refl, sym, subst}
-use Rattle.std.specs.List.{All, flat_map}
-use Rattle.std.specs.Prelude.{IsPermutation}
+use Rattle.std.proofs.Common.{◌≡◌, inl, inr, true, List, [], ◌∷◌, ◌++◌, map, Option, refl, sym, subst}
+use Rattle.std.specs.List.{All}
 use Rattle.std.proofs.lemmas.List.Elements.{All-nil, All-cons, All-head, All-tail}
 use Rattle.std.proofs.lemmas.List.Sorted.{All-permutation}
 use Rattle.cedar_types.specs.declared.base.names.slots.SlotId.{SlotId}
-use Rattle.cedar_types.specs.declared.base.types.ValidationMode.{ValidationMode}
 use Rattle.cedar_types.specs.declared.base.types.ValidationMode.TheVariants.{Strict}
 use Rattle.cedar_types.specs.Environments.{DeclaredEnv, environments_of}
 use Rattle.cedar_types.specs.Lemmas.Comparisons.{and_left, and_right}
@@ -18,8 +16,7 @@ use Rattle.cedar_typing.specs.Composition.{in_env}
 use Rattle.cedar_typing.specs.Evaluation.Conformance.{IsOneOf, IsEnvironmentOf}
 use Rattle.cedar_typing.specs.PolicyCheck.{Verdict}
 use Rattle.cedar_typing.specs.PolicyOutcome.{passes, VerdictsOf, all_pass}
-use Rattle.cedar_typing.specs.Setting.{Setting}
-use Rattle.cedar_typing.specs.Silence.{IsStrictWithoutFaults, IsSettled, IsWellNamedTemplate, ChecksOf, IsDerivedIn, PassingPolicyIsDerived}
+use Rattle.cedar_typing.specs.Silence.{IsSettled, ChecksOf, PassingPolicyIsDerived}
 use Rattle.cedar_typing.proofs.Members.{all_flat}
 use Rattle.cedar_typing.proofs.Silence.Checks.{passing_is_derived}
 use Rattle.cedar_typing.proofs.Silence.Names.{condition_is_well_named}

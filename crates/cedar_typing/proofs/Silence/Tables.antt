@@ -9,18 +9,18 @@ use Rattle.cedar_types.specs.Bounds.{is_strict, is_never, ty_eq, list_lub}
 use Rattle.cedar_types.specs.Errors.{Finding}
 use Rattle.cedar_types.specs.ExtensionFunctions.{ExtensionFunction, function_named}
 use Rattle.cedar_types.specs.Names.{Text, Path}
-use Rattle.cedar_types.specs.Types.{Ty, TNever, TBool, TLong, TEntity}
+use Rattle.cedar_types.specs.Types.{Ty, TNever, TLong}
 use Rattle.cedar_types.specs.View.{Written}
-use Rattle.cedar_typing.specs.Eager.{Decision, gives, refuses, gives_unless}
+use Rattle.cedar_typing.specs.Eager.{Decision, refuses, gives_unless}
 use Rattle.cedar_typing.specs.Rules.Calls.{call_decides, call_errors, return_type, call_form}
 use Rattle.cedar_typing.specs.Rules.Collections.{with_type, all_types, set_by_bound, set_of_types, set_form, record_of_types, record_form}
-use Rattle.cedar_typing.specs.Rules.Numbers.{is_comparable, beside_never, incomparable, compares, arithmetic_form, comparison_form, comparable_types}
+use Rattle.cedar_typing.specs.Rules.Numbers.{is_comparable, beside_never, incomparable, compares, arithmetic_form, comparison_form}
 use Rattle.cedar_typing.specs.Rules.Unary.{unary_form, like_form, is_form}
 use Rattle.cedar_typing.specs.TypeEnv.{TypeEnv}
 use Rattle.cedar_typing.specs.TypedExpr.{Source}
 use Rattle.cedar_typing.proofs.SingleEntity.Types.{has_single_entities}
 use Rattle.cedar_typing.proofs.Silence.Eager.{IsLoudDecision, AreKnown, LoudForm}
-use Rattle.cedar_typing.proofs.Silence.Parts.{IsLoud, IsKnown}
+use Rattle.cedar_typing.proofs.Silence.Parts.{IsLoud}
 
 -- ---- decisions
 

@@ -51,9 +51,10 @@ impl<C: ArgumentCheck> SingleEnvTypechecker<'_, '_, '_, '_, C> {
     ) -> Result<TypecheckAnswer<'a>, AllocError>
         requires { depth ≤ max_nesting }
         ensures { IfOk result (λ r.
-            infer_eager (record_form (setting_at C.refusal self.now).env (at loc) (field_keys (fields_written fields.now.entries)))
-            (infer_fields (setting_at C.refusal self.now) (fields_written fields.now.entries) (caps prior.now)
-            (depth + 1)) (findings errors.old.items)
+            infer_eager (record_form (setting_at C.refusal self.now).env (at loc)
+            (field_keys (fields_written fields.now.entries)))
+            (infer_fields (setting_at C.refusal self.now) (fields_written fields.now.entries)
+            (caps prior.now) (depth + 1)) (findings errors.old.items)
             ≡ (answer_of r, findings errors.new.items)) }
     {
         let values = self.type_fields(prior, depth, fields, errors)?;
