@@ -55,7 +55,7 @@ module _ (s : Schema) where
           actions = any_left q (uids_named e) (flat_map uids_named es) a;
         },
         all_clean es (neither_right (is_unknown e) (list_any is_unknown es) h)
-        (any_right p (types_named e) (flat_map types_named es) t) (any_right q (uids_named e) (flat_map uids_named es) a),
+            (any_right p (types_named e) (flat_map types_named es) t) (any_right q (uids_named e) (flat_map uids_named es) a),
       )
 
   pub clean : (e : Source) → IsWellNamed s e → AreClean s (subexpressions e)
@@ -137,9 +137,10 @@ module _ (s : Schema) (faults : has_fault s ≡ false) where
   pub env_action : (d : DeclaredEnv) → IsOneOf d (environments_of s.actions) → IsGood d
   env_action =
       all_flat (λ (a : DeclaredAction). action_environments a.name a.applies_to) IsGood s.actions
-      (λ a i. applied_good a.name a.applies_to
-      (all_pass (λ (a : DeclaredAction). is_action_path a.name.entity_type) s.actions (faultless s faults).actions a i,
-      pass_any (λ (b : DeclaredAction). uid_eq a.name b.name) s.actions a i (uid_same.itself a.name)))
+      (λ a i. applied_good a.name a.applies_to (
+        all_pass (λ (a : DeclaredAction). is_action_path a.name.entity_type) s.actions (faultless s faults).actions a i,
+        pass_any (λ (b : DeclaredAction). uid_eq a.name b.name) s.actions a i (uid_same.itself a.name),
+      ))
 
   -- so the variable `action` has a type
   typed_if : (b : Bool) (u : Uid) → b ≡ true → (if b then Some (TEntity (u.entity_type ∷ [])) else None) ≡ None → ⊥
