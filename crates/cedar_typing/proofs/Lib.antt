@@ -34,3 +34,4 @@ pub mod Examples
 pub mod Gains
 pub mod Tallies
 pub mod ChecksLeft
+pub mod PolicySoundness

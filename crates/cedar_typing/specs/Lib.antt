@@ -24,3 +24,4 @@ pub mod PolicyOutcome
 pub mod EnvironmentChecks
 pub mod PolicyViews
 pub mod Silence
+pub mod PolicySoundness

@@ -15,10 +15,14 @@ IsBoolean = OnBool (λ b. Unit {0})
 abbrev pub IsFalse : Value → Type 0
 IsFalse = OnBool (λ b. IsTrue (not b))
 
+-- a boolean, or a missing entity, an overflow or a failed extension call
+abbrev pub IsBooleanOrAllowed : Outcome → Type 0
+IsBooleanOrAllowed o = IsSafe o × OnValue IsBoolean o
+
 -- what a check promises of the outcome of the condition
 abbrev pub Promises : Verdict → Outcome → Type 0
--- a success: a boolean, or a missing entity, an overflow or a failed extension call
-Promises (succeeds e) o = IsSafe o × OnValue IsBoolean o
+-- a success: that
+Promises (succeeds e) o = IsBooleanOrAllowed o
 -- a condition that is never true: a value, if there is one, is false
 Promises (irrelevant es e) o = OnValue IsFalse o
 -- a refused condition: nothing

@@ -13,8 +13,8 @@ use Rattle.cedar_typing.specs.Evaluation.Eval.{eval}
 use Rattle.cedar_typing.specs.Evaluation.World.{World, Outcome, Gives, Fails}
 use Rattle.cedar_typing.specs.PolicyCheck.{Verdict, succeeds, irrelevant, fails, PolicyChecks, policy_check}
 use Rattle.cedar_typing.specs.Setting.{Setting, table}
-use Rattle.cedar_typing.specs.SoundPolicyCheck.{Promises}
-use Rattle.cedar_typing.specs.Soundness.{IsTrueOutcome}
+use Rattle.cedar_typing.specs.SoundPolicyCheck.{IsBooleanOrAllowed, Promises}
+use Rattle.cedar_typing.specs.Soundness.{IsTrueOutcome, IsReliable, IsWorldOf}
 use Rattle.cedar_typing.specs.TypedExpr.{TypedTree}
 use Rattle.cedar_typing.proofs.PolicyCheck.{checked}
 use Rattle.cedar_typing.proofs.Soundness.PolicyCheck.{check_sound}
@@ -30,11 +30,11 @@ true_most U o o' itself h = h
 true_most U o o' is_false h = absurd (true≢false (sym h))
 true_most U o o' (unlinked u) h = absurd h
 
--- and keeps the promise of a success that that keeps
-kept_most : (x : TypedTree) (o o' : Outcome) → IsAtMost ⊥ o o' → Promises (succeeds x) o' → Promises (succeeds x) o
-kept_most x o o' itself h = h
-kept_most x o o' is_false h = (tt, tt)
-kept_most x o o' (unlinked u) h = absurd u
+-- and is a boolean or an allowed failure where that is
+kept_most : (o o' : Outcome) → IsAtMost ⊥ o o' → IsBooleanOrAllowed o' → IsBooleanOrAllowed o
+kept_most o o' itself h = h
+kept_most o o' is_false h = (tt, tt)
+kept_most o o' (unlinked u) h = absurd u
 
 not_true : (v : Verdict) (o : Outcome) → IsIrrelevant v → Promises v o → IsTrueOutcome o → ⊥
 not_true (irrelevant es x) (Gives (VBool true)) i h k = true≢false (sym h)
@@ -56,17 +56,25 @@ module _ (s : Setting) (t : PlainTemplate) (f : IsFaultless s) (d : DeclaredEnv)
   both_bound SlotId.Principal = tt
   both_bound SlotId.Resource = tt
 
+  -- typing there can be relied on
+  pub own_reliable : IsReliable (in_env s (own_env t d))
+  own_reliable = record { mode = f.mode; closed = f.closed; environment = one }
+
+  pub own_is_world : IsWorldOf (in_env s (own_env t d)) (own_world world)
+  own_is_world = record {
+    environment =
+        (fits, own_fits (has_slot SlotId.Principal t) d.principal world.request.principal fits.principal, own_fits (has_slot SlotId.Resource t) d.resource world.request.resource fits.resource);
+    store = store;
+    functions = keeps;
+  }
+
+  pub own_bound : SlotsBound (own_slots world.request) (condition_of t)
+  own_bound = slots_bound (own_slots world.request) both_bound (condition_of t)
+
   -- what the check promises there
   own_promise : (v : Verdict) → PolicyChecks (in_env s (own_env t d)) (condition_of t) v → Promises v (eval (own_world world) (condition_of t))
   own_promise v c =
-      check_sound (in_env s (own_env t d)) (condition_of t) v f.schema f.functions c (record { mode = f.mode; closed = f.closed; environment = one }) (own_world world)
-      (record {
-        environment =
-            (fits, own_fits (has_slot SlotId.Principal t) d.principal world.request.principal fits.principal, own_fits (has_slot SlotId.Resource t) d.resource world.request.resource fits.resource);
-        store = store;
-        functions = keeps;
-      })
-      (slots_bound (own_slots world.request) both_bound (condition_of t))
+      check_sound (in_env s (own_env t d)) (condition_of t) v f.schema f.functions c own_reliable (own_world world) own_is_world own_bound
 
   -- irrelevant there is never true
   own_never : SlotsInScopeAlone t → (v : Verdict) → IsIrrelevant v → PolicyChecks (in_env s (own_env t d)) (condition_of t) v → IsTrueOutcome (eval world (condition_of t)) → ⊥
@@ -75,9 +83,10 @@ module _ (s : Setting) (t : PlainTemplate) (f : IsFaultless s) (d : DeclaredEnv)
       not_true v (eval (own_world world) (condition_of t)) i (own_promise v c)
       (true_most U (eval world (condition_of t)) (eval (own_world world) (condition_of t)) (condition_most U world t h (λ n. tt)) k)
 
-  own_kept : SlotsInScopeAlone t → (x : TypedTree) → PolicyChecks (in_env s (own_env t d)) (condition_of t) (succeeds x) → SlotsBound world.slots (condition_of t) → Promises (succeeds x) (eval world (condition_of t))
-  own_kept h x c b =
-      kept_most x (eval world (condition_of t)) (eval (own_world world) (condition_of t)) (condition_most ⊥ world t h (λ n. n b)) (own_promise (succeeds x) c)
+  -- a boolean or an allowed failure there is one in the given world, where the slots are bound
+  pub own_kept : SlotsInScopeAlone t → SlotsBound world.slots (condition_of t) → IsBooleanOrAllowed (eval (own_world world) (condition_of t)) → IsBooleanOrAllowed (eval world (condition_of t))
+  own_kept h b =
+      kept_most (eval world (condition_of t)) (eval (own_world world) (condition_of t)) (condition_most ⊥ world t h (λ n. n b))
 
 pub never_true : NeverTrue
 never_true s t f h all world (d, one, fits) store keeps k =
@@ -87,4 +96,5 @@ never_true s t f h all world (d, one, fits) store keeps k =
     own_never s t f d one world fits store keeps h v (all (own_env t d) (own_env_is_checked s.env.schema s.env.mode t h d one) v c) c k
 
 pub own_success_is_kept : OwnSuccessIsKept
-own_success_is_kept s t f h d one x c world fits store keeps b = own_kept s t f d one world fits store keeps h x c b
+own_success_is_kept s t f h d one x c world fits store keeps b =
+    own_kept s t f d one world fits store keeps h b (own_promise s t f d one world fits store keeps (succeeds x) c)

@@ -40,7 +40,7 @@ sort_boolean No v h = any v h
     any v h = absurd h
 
 -- a value of a type that is accepted as Boolean is a boolean
-boolean : (t : Ty) → accepts bool_types t ≡ true → (o : Outcome) → OnValue (HasType t) o → OnValue IsBoolean o
+pub boolean : (t : Ty) → accepts bool_types t ≡ true → (o : Outcome) → OnValue (HasType t) o → OnValue IsBoolean o
 boolean t a (Gives v) h =
     let k = accepted_sort t a in
     sort_boolean k.0 v (subst (λ u. HasType u v) k.1 h)

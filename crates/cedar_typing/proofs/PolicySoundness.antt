@@ -1,0 +1,153 @@
+-- A policy that passes does not go wrong, and one that is warned to be impossible is never true: from what the check of a
+-- policy comes to.
+use Rattle.std.proofs.Common.{◌≡◌, ◌⊎◌, inl, inr, Bool, true, false, cond, List, [], ◌∷◌, None, refl, sym, ◌∙◌, ap, subst}
+use Rattle.std.specs.Prelude.{IsPermutation}
+use Rattle.std.specs.List.{list_all, AllByRecursion}
+use Rattle.std.proofs.lemmas.List.Elements.{All-from_recursion, recursion_from_All}
+use Rattle.std.proofs.lemmas.List.Sorted.{All-permutation}
+use Rattle.cedar_types.specs.Lemmas.Comparisons.{and_left, and_right}
+use Rattle.cedar_types.specs.Errors.{Finding, Caution}
+use Rattle.cedar_types.specs.Environments.{environments_of}
+use Rattle.cedar_types.specs.ExtensionFunctions.{table_fault}
+use Rattle.cedar_types.specs.Linking.{checked_envs}
+use Rattle.cedar_types.specs.RequestEnvs.{Env, Undeclared}
+use Rattle.cedar_types.specs.Schemas.{has_fault}
+use Rattle.cedar_types.specs.Templates.{PlainTemplate, condition_of}
+use Rattle.cedar_types.specs.declared.base.types.BoolType.TheVariants.{False}
+use Rattle.cedar_types.specs.Types.{Ty, TBool}
+use Rattle.cedar_typing.specs.Capabilities.{Caps, no_caps}
+use Rattle.cedar_typing.specs.Composition.{in_env, own_env, IsFaultless, IsIrrelevant, IsIrrelevantInAll}
+use Rattle.cedar_typing.specs.Evaluation.Conformance.{IsOneOf, ConformingRequest, SlotsBound}
+use Rattle.cedar_typing.specs.Evaluation.Eval.{eval}
+use Rattle.cedar_typing.specs.Evaluation.World.{World}
+use Rattle.cedar_typing.specs.PolicyCheck.{Verdict, succeeds, irrelevant, fails, PolicyChecks, SameVerdict, same_success, same_irrelevant, same_failure}
+use Rattle.cedar_typing.specs.PolicyOutcome.{Adds, VerdictsOf, is_irrelevant, all_irrelevant, impossible, warnings_of, PolicyOutcome}
+use Rattle.cedar_typing.specs.PolicySoundness.{Basis, IsStrictAndClosed, IsNamedBySchema, IsWellFormed, IsConforming, PolicyIsSafe, ImpossibleIsNeverTrue, setting_on, CheckedOn, PromisesAreKept}
+use Rattle.cedar_typing.specs.Rules.{Derives}
+use Rattle.cedar_typing.specs.Setting.{Setting}
+use Rattle.cedar_typing.specs.Silence.{IsWellNamedTemplate, IsDerivedAs, IsDerivedIn, PassingPolicyIsDerived}
+use Rattle.cedar_typing.specs.SoundPolicyCheck.{IsBooleanOrAllowed}
+use Rattle.cedar_typing.specs.Soundness.{IsReliable, IsWorldOf}
+use Rattle.cedar_typing.specs.TypeTests.{accepts, bool_types}
+use Rattle.cedar_typing.specs.TypedExpr.{Source, TypedTree}
+use Rattle.cedar_typing.proofs.Composition.Links.{own_env_is_checked}
+use Rattle.cedar_typing.proofs.Composition.NeverTrue.{never_true, own_reliable, own_is_world, own_bound, own_kept}
+use Rattle.cedar_typing.proofs.Composition.OwnBinding.{own_world}
+use Rattle.cedar_typing.proofs.Gains.{in_either}
+use Rattle.cedar_typing.proofs.Soundness.Capabilities.{hold_none}
+use Rattle.cedar_typing.proofs.Soundness.Induction.{sounds}
+use Rattle.cedar_typing.proofs.Soundness.PolicyCheck.{boolean}
+use Rattle.cedar_typing.proofs.Verdicts.{verdict_at_most}
+
+-- ---- what is derived is a boolean or fails in an allowed way
+
+module _ (s : Setting) (e : Source) (world : World)
+    (schema : has_fault s.env.schema ≡ false) (functions : table_fault s.functions ≡ None)
+    (r : IsReliable s) (i : IsWorldOf s world) (b : SlotsBound world.slots e) where
+  typed_outcome : (t : Ty) (c : Caps) (x : TypedTree) → Derives s e no_caps 1 t c x → accepts bool_types t ≡ true → IsBooleanOrAllowed (eval world e)
+  typed_outcome t c x d a =
+      let q = (sounds s world r.mode schema functions r.closed r.environment i.environment i.store i.functions e b no_caps 1 (hold_none world)).derivations t c x d in
+      (q.safe refl, boolean t a (eval world e) q.typed)
+
+  derived_outcome : (v : Verdict) → IsDerivedAs s e v → IsBooleanOrAllowed (eval world e)
+  derived_outcome (succeeds x) (t, c, d, a, n) = typed_outcome t c x d a
+  derived_outcome (irrelevant es x) (c, d) = typed_outcome (TBool False) c x d refl
+  derived_outcome (fails es) h = absurd h
+
+-- ---- what holds of each verdict holds in each environment
+
+-- the environment has a verdict of which P holds
+abbrev HasVerdict : (Env → Verdict → Type 0) → (Verdict → Type 0) → Env → Type 0
+HasVerdict Checks P e = (v : Verdict) × Checks e v × P v
+
+module _ (Checks : Env → Verdict → Type 0) (p : Verdict → Bool) where
+  each_listed : (es : List Env) (vs : List Verdict) → VerdictsOf Checks es vs → list_all p vs ≡ true → AllByRecursion (HasVerdict Checks (λ v. p v ≡ true)) es
+  each_listed [] [] c h = tt
+  each_listed [] (v ∷ vs) c h = absurd c
+  each_listed (e ∷ es) [] c h = absurd c
+  each_listed (e ∷ es) (v ∷ vs) c h =
+      ((v, c.0, and_left (p v) (list_all p vs) h), each_listed es vs c.1 (and_right (p v) (list_all p vs) h))
+
+one_of_them : (P : Env → Type 0) (es : List Env) → AllByRecursion P es → (e : Env) → IsOneOf e es → P e
+one_of_them P [] h e k = absurd k
+one_of_them P (x ∷ es) h e (inl q) = subst P (sym q) h.0
+one_of_them P (x ∷ es) h e (inr k) = one_of_them P es h.1 e k
+
+-- ---- the warning
+
+nothing_new : (t : PlainTemplate) (b : Bool) → IsOneOf (impossible t) (cond b (impossible t ∷ []) []) → b ≡ true
+nothing_new t true h = refl
+nothing_new t false h = absurd h
+
+-- where it is new it is due
+due : (t : PlainTemplate) (vs : List Verdict) (old new : List Caution) → Adds old (warnings_of t vs) new → (IsOneOf (impossible t) old → ⊥) → IsOneOf (impossible t) new → all_irrelevant vs ≡ true
+due t vs old new a absent there = from (in_either (impossible t) old (warnings_of t vs) ((a (impossible t)).0 there))
+  where
+    from : IsOneOf (impossible t) old ⊎ IsOneOf (impossible t) (warnings_of t vs) → all_irrelevant vs ≡ true
+    from (inl h) = absurd (absent h)
+    from (inr h) = nothing_new t (all_irrelevant vs) h
+
+irrelevant_too : (u v : Verdict) → SameVerdict u v → is_irrelevant u ≡ true → IsIrrelevant v
+irrelevant_too u v same_success h = cc
+irrelevant_too u v (same_irrelevant p) h = tt
+irrelevant_too u v (same_failure p) h = cc
+
+-- ---- the promises
+
+module _ (b : Basis) (t : PlainTemplate) (schema : has_fault b.schema ≡ false) (functions : table_fault b.table.functions ≡ None) where
+  -- the setting, whose environment does not matter
+  abbrev s : Setting
+  s = setting_on b t.id Undeclared
+
+  abbrev Checks : Env → Verdict → Type 0
+  Checks env = PolicyChecks (in_env s env) (condition_of t)
+
+  faultless : IsStrictAndClosed b → IsFaultless s
+  faultless k = record { mode = k.mode; schema = schema; functions = functions; closed = k.closed }
+
+  -- what passes in the own environment is kept in any world of the request
+  safe_if_derived : IsStrictAndClosed b → (world : World) → IsWellFormed t world.slots → IsConforming b world
+      → ((env : Env) → IsOneOf env (checked_envs b.schema b.mode t) → IsDerivedIn s t env)
+      → IsBooleanOrAllowed (eval world (condition_of t))
+  safe_if_derived k world w i derived = by i.request
+    where
+      by : ConformingRequest b.schema world.request → IsBooleanOrAllowed (eval world (condition_of t))
+      by (d, one, fits) =
+          let f = faultless k in
+          let own : Setting = in_env s (own_env t d) in
+          let known = derived (own_env t d) (own_env_is_checked b.schema b.mode t w.slots_in_scope d one) in
+          own_kept s t f d one world fits i.store i.functions w.slots_in_scope w.bound
+          (derived_outcome own (condition_of t) (own_world world) schema functions
+          (own_reliable s t f d one world fits i.store i.functions)
+          (own_is_world s t f d one world fits i.store i.functions)
+          (own_bound s t f d one world fits i.store i.functions) known.0 known.2)
+
+  irrelevant_in_all : (listed : List Env) (vs : List Verdict) → IsPermutation listed (checked_envs b.schema b.mode t) → VerdictsOf Checks listed vs → all_irrelevant vs ≡ true → IsIrrelevantInAll s t
+  irrelevant_in_all listed vs p c h env one v k =
+      let P : Env → Type 0 = HasVerdict Checks (λ u. is_irrelevant u ≡ true) in
+      let all = checked_envs b.schema b.mode t in
+      let there = All-permutation P listed all p (All-from_recursion P listed (each_listed Checks is_irrelevant listed vs c h)) in
+      let u = one_of_them P all (recursion_from_All P all there) env one in
+      irrelevant_too u.0 v (verdict_at_most (in_env s env) (condition_of t) u.0 v u.1 k) u.2
+
+  module _ (passes : Bool) (errors errors' : List Finding) (old new : List Caution) (o : CheckedOn b t passes errors errors' old new) where
+    safe : PassingPolicyIsDerived → PolicyIsSafe b t passes
+    safe silence h k n world w i =
+        let P : Bool → Type 0 = λ x. CheckedOn b t x errors errors' old new in
+        let names : IsWellNamedTemplate b.schema t = record { unknowns = w.no_unknowns; types = n.types; actions = n.actions } in
+        safe_if_derived k world w i
+        (silence s t (record { mode = k.mode; schema = schema; functions = functions }) names errors errors' old new (subst P h o))
+
+    never : ImpossibleIsNeverTrue b t old new
+    never absent there k alone world i =
+        never_true s t (faultless k) alone
+        (irrelevant_in_all o.listed o.verdicts o.in_some_order o.checked (due t o.verdicts old new o.warnings_added absent there))
+        world i.request i.store i.functions
+
+-- `silence` is the law that a policy that passes is derived
+pub promises_are_kept : PassingPolicyIsDerived → PromisesAreKept
+promises_are_kept silence b t schema functions passes errors errors' old new o =
+    record {
+      safe = safe b t schema functions passes errors errors' old new o silence;
+      never_true = never b t schema functions passes errors errors' old new o;
+    }
