@@ -16,6 +16,7 @@ use Rattle.cedar_typing.specs.declared.typecheck.typechecker.PolicyCheck.{Policy
 use Rattle.cedar_typing.specs.declared.typecheck.typechecker.PolicyCheck.TheVariants.{Success, Irrelevant, Fail}
 use Rattle.cedar_typing.specs.declared.typecheck.typechecker.Typechecker.{Typechecker}
 use Rattle.cedar_typing.specs.PolicyCheck.{Verdict, succeeds, irrelevant, fails}
+use Rattle.cedar_typing.specs.PolicySoundness.{Basis}
 use Rattle.cedar_typing.specs.Setting.{Setting}
 use Rattle.cedar_typing.specs.TypedExpr.{typed_tree}
 
@@ -50,3 +51,14 @@ module _ {C : Type 0} where
 
   abbrev pub setting_for : (C → Refusals) → Typechecker C → Template → RequestEnv → Setting
   setting_for meaning c t env = setting_within meaning c t (env_of env)
+
+  -- what it stands on, whatever the template and the environment
+  abbrev pub basis_of : (C → Refusals) → Typechecker C → Basis
+  basis_of meaning c = record {
+    schema = schema_of (schema_by c).now;
+    mode = mode_by c;
+    table = record {
+      functions = functions_of meaning (extensions_by c).now;
+      overloaded_types = overloaded_types_of (extensions_by c).now;
+    };
+  }

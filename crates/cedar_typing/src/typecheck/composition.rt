@@ -1,6 +1,7 @@
 //! What the checks of a template in its environments say together: laws, each on a function that does nothing.
 ghost use Rattle.cedar_typing.specs.Composition.{OwnEnvIsChecked, OwnEnvIsCheckedOfTypes, OwnTestsAreBool, LinksDoNotMatter, ScopeIsBoolean, Coverage, NeverTrue, OwnSuccessIsKept};
 ghost use Rattle.cedar_typing.specs.Examples.Composition.{EnvironmentsAre, SlotsInTheRestAreNot, OwnEnvMayBeMissing};
+ghost use Rattle.cedar_typing.specs.PolicySoundness.{PromisesAreKept};
 ghost use Rattle.cedar_typing.specs.Silence.{ConditionIsWellNamed, FailuresHaveErrors, SilentFailureIsCut, PassingIsDerived, PassingPolicyIsDerived};
 
 /// One of the environments that are checked links each slot to its variable's own type, and there the scope's tests of slots
@@ -37,6 +38,11 @@ pub fn failures_have_errors()
     ensures cut { SilentFailureIsCut }
     ensures passing { PassingIsDerived }
     ensures policy { PassingPolicyIsDerived }
+{}
+
+/// What is promised of a policy that passes, and of one that is warned to be impossible, follows from what its check comes to.
+pub fn passing_is_safe()
+    ensures { PromisesAreKept }
 {}
 
 /// Which environments some templates are checked in, and that what is warned to be impossible may be true where a slot stands

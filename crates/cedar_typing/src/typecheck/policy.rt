@@ -4,10 +4,11 @@ ghost use Rattle.cedar_types.specs.Errors.{finding_of, caution_of};
 ghost use Rattle.cedar_types.specs.Linking.{checked_envs};
 ghost use Rattle.cedar_types.specs.SchemaContents.{schema_of};
 ghost use Rattle.cedar_types.specs.Templates.{template_of};
-ghost use Rattle.cedar_typing.specs.CheckViews.{schema_by, mode_by, verdict_of};
+ghost use Rattle.cedar_typing.specs.CheckViews.{schema_by, mode_by, basis_of, verdict_of};
 ghost use Rattle.cedar_typing.specs.EnvironmentChecks.{ChecksIn};
 ghost use Rattle.cedar_typing.specs.PolicyCheck.{Verdict};
 ghost use Rattle.cedar_typing.specs.PolicyOutcome.{impossible, PolicyOutcome};
+ghost use Rattle.cedar_typing.specs.PolicySoundness.{PolicyIsSafe, ImpossibleIsNeverTrue};
 ghost use Rattle.cedar_typing.specs.PolicyViews.{IsTally, TalliesEnvs};
 
 use crate::typecheck::sets::{insert_all, put_all};
@@ -47,6 +48,11 @@ impl<'a, C: ArgumentCheck> Typechecker<'a, C> {
             (template_of t.now))
             (template_of t.now) answer
             (map finding_of type_errors.old.keys) (map finding_of type_errors.new.keys)
+            (map caution_of warnings.old.keys) (map caution_of warnings.new.keys)) }
+        ensures safe { IfOk result (λ answer.
+            PolicyIsSafe (basis_of C.refusal self.now) (template_of t.now) answer) }
+        ensures never_true { IfOk result (λ answer.
+            ImpossibleIsNeverTrue (basis_of C.refusal self.now) (template_of t.now)
             (map caution_of warnings.old.keys) (map caution_of warnings.new.keys)) }
         ensures errors_kept { OnErr result (
             IsPermutation type_errors.old.keys type_errors.new.keys) }

@@ -4,8 +4,13 @@ use Rattle.cedar_types.specs.contracts.base.errors.validation_errors.ValidationE
 use Rattle.cedar_types.specs.contracts.base.errors.validation_warnings.ValidationWarningPartialEq.TheImpl as warning_impl
 use Rattle.cedar_types.specs.Errors.{finding_of, caution_of}
 use Rattle.cedar_types.specs.Templates.{template_of}
+use Rattle.cedar_types.proofs.Expressions.SortedTables.{no_fault}
+use Rattle.cedar_types.specs.Extensions.{functions_of}
+use Rattle.cedar_types.specs.SchemaContents.{schema_of}
+use Rattle.cedar_typing.specs.CheckViews.{schema_by, extensions_by, basis_of}
 use Rattle.cedar_typing.specs.PolicyOutcome.{Adds, all_errors, warnings_of}
 use Rattle.cedar_typing.proofs.Gains.{union_adds, put_adds}
+use Rattle.cedar_typing.proofs.PolicySoundness.{promises_are_kept}
 use Rattle.cedar_typing.proofs.Tallies.{error_decides, warning_decides, adds_same, warned, not_warned}
 use Rattle.cedar_typing.proofs.typecheck.typechecker.Typechecker.typecheck_policy.Goals as goal
 use Rattle.cedar_typing.proofs.typecheck.typechecker.Typechecker.typecheck_policy.Goals.{then-tally+in_ok-warning+in_ok-insert, else-tally}
@@ -38,3 +43,19 @@ returns-clause-exact g c =
       errors_added = adds_same (map finding_of old) (map finding_of tally.errors.keys) (all_errors found.verdicts) (map finding_of new) gained found.tallied.errors;
       warnings_added = warnings;
     }
+
+pub returns-clause-safe : goal.returns-clause-safe
+unfolding schema_of functions_of schema_by extensions_by
+returns-clause-safe g c =
+    let o = returns-clause-exact g c in
+    let b = basis_of g.C.ArgumentCheck.refusal c.args.self.now in
+    let table = no_fault g.C.ArgumentCheck.refusal c.args.self.now.extensions.now.functions.items c.args.self.now.extensions.now.faultless in
+    (promises_are_kept b (template_of c.args.t.now) c.args.self.now.schema.now.faultless table _ _ _ _ _ o).safe
+
+pub returns-clause-never_true : goal.returns-clause-never_true
+unfolding schema_of functions_of schema_by extensions_by
+returns-clause-never_true g c =
+    let o = returns-clause-exact g c in
+    let b = basis_of g.C.ArgumentCheck.refusal c.args.self.now in
+    let table = no_fault g.C.ArgumentCheck.refusal c.args.self.now.extensions.now.functions.items c.args.self.now.extensions.now.faultless in
+    (promises_are_kept b (template_of c.args.t.now) c.args.self.now.schema.now.faultless table _ _ _ _ _ o).never_true
