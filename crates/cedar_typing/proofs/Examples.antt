@@ -4,3 +4,5 @@ pub mod Rules
 pub mod Evaluation
 pub mod Premises
 pub mod Composition
+pub mod PolicySoundness
+pub mod NeededPremises

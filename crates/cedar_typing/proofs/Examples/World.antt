@@ -21,7 +21,7 @@ use Rattle.cedar_typing.proofs.Basics.{some_is, none_is}
 
 -- what holds of each entry holds of what is found
 module _ (P : Uid → Entity → Type 0) where
-  abbrev AllEntities : Store → Type 0
+  abbrev pub AllEntities : Store → Type 0
   AllEntities [] = Unit {0}
   AllEntities (x ∷ xs) = P x.0 x.1 × AllEntities xs
 
@@ -29,7 +29,7 @@ module _ (P : Uid → Entity → Type 0) where
   at_first true u v x e rest q h f n = subst (λ z. P z e) (sym (uid_same.to u v q)) (subst (P v) (some_is n) h)
   at_first false u v x e rest q h f n = f n
 
-  all_found : (store : Store) → AllEntities store → (u : Uid) (e : Entity) → entity_at store u ≡ Some e → P u e
+  pub all_found : (store : Store) → AllEntities store → (u : Uid) (e : Entity) → entity_at store u ≡ Some e → P u e
   all_found [] h u e n = absurd (none_is n)
   all_found (x ∷ xs) h u e n = at_first (uid_eq u x.0) u x.0 x.1 e (entity_at xs u) refl h.0 (all_found xs h.1 u e) n
 
@@ -40,7 +40,7 @@ pub none_among : {P : Type 0} → false ≡ true → P
 none_among h = absurd (true≢false (sym h))
 
 -- the one member of a list
-only_one : (b : Bool) → (b || false) ≡ true → b ≡ true
+pub only_one : (b : Bool) → (b || false) ≡ true → b ≡ true
 only_one true n = refl
 only_one false n = n
 

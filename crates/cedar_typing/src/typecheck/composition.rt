@@ -1,6 +1,8 @@
 //! What the checks of a template in its environments say together: laws, each on a function that does nothing.
 ghost use Rattle.cedar_typing.specs.Composition.{OwnEnvIsChecked, OwnEnvIsCheckedOfTypes, OwnTestsAreBool, LinksDoNotMatter, ScopeIsBoolean, Coverage, NeverTrue, OwnSuccessIsKept};
 ghost use Rattle.cedar_typing.specs.Examples.Composition.{EnvironmentsAre, SlotsInTheRestAreNot, OwnEnvMayBeMissing};
+ghost use Rattle.cedar_typing.specs.Examples.NeededPremises.{PremisesAreNeeded};
+ghost use Rattle.cedar_typing.specs.Examples.PolicySoundness.{PolicyPremisesAreMet};
 ghost use Rattle.cedar_typing.specs.PolicySoundness.{PromisesAreKept};
 ghost use Rattle.cedar_typing.specs.Silence.{ConditionIsWellNamed, FailuresHaveErrors, SilentFailureIsCut, PassingIsDerived, PassingPolicyIsDerived};
 
@@ -51,4 +53,11 @@ pub fn examples_of_environments()
     ensures environments { EnvironmentsAre }
     ensures rest { SlotsInTheRestAreNot }
     ensures own { OwnEnvMayBeMissing }
+{}
+
+/// A policy that passes, in a world that conforms; and that each premise on such a policy is needed: without it one that passes
+/// goes wrong.
+pub fn examples_of_policies()
+    ensures met { PolicyPremisesAreMet }
+    ensures needed { PremisesAreNeeded }
 {}

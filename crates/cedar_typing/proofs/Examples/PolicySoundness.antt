@@ -1,0 +1,71 @@
+-- What the checks of the example policies come to, and that the premises of safety hold together.
+use Rattle.std.proofs.Common.{◌≡◌, inl, inr, true, List, [], ◌∷◌, ◌++◌, ◌⊎◌, map, refl, sym, subst}
+use Rattle.std.proofs.lemmas.List.Sorted.{IsPermutation-refl}
+use Rattle.cedar_types.specs.declared.base.names.slots.SlotId.{SlotId}
+use Rattle.cedar_types.specs.declared.base.types.ValidationMode.TheVariants.{Strict}
+use Rattle.cedar_types.specs.Errors.{Finding, Caution}
+use Rattle.cedar_types.specs.Linking.{checked_envs}
+use Rattle.cedar_types.specs.RequestEnvs.{Env}
+use Rattle.cedar_types.specs.Templates.{PlainTemplate, condition_of}
+use Rattle.cedar_typing.specs.Composition.{SlotsInScopeAlone}
+use Rattle.cedar_typing.specs.Evaluation.Conformance.{IsBound}
+use Rattle.cedar_typing.specs.Examples.PolicySoundness.{sample_basis, meeting_template, meeting_slots, meeting, PolicyPremisesAreMet}
+use Rattle.cedar_typing.specs.PolicyCheck.{Verdict, PolicyChecks, policy_check}
+use Rattle.cedar_typing.specs.PolicyOutcome.{Adds, VerdictsOf, all_pass, all_errors, warnings_of}
+use Rattle.cedar_typing.specs.PolicySoundness.{Basis, IsStrictAndClosed, IsWellFormed, IsConforming, setting_on, CheckedOn}
+use Rattle.cedar_typing.specs.Silence.{HasNoUnknowns}
+use Rattle.cedar_typing.proofs.Composition.Slots.{slots_bound}
+use Rattle.cedar_typing.proofs.Examples.World.{greets, greeting_conforms}
+use Rattle.cedar_typing.proofs.PolicyCheck.{checked}
+
+-- to nothing is added what there is then
+all_new : {A : Type 0} (these new : List A) → these ≡ new → Adds [] these new
+all_new {A} these new e = subst (λ xs. Adds [] these xs) e (λ x. (λ h. h, λ h. h))
+
+module _ (b : Basis) (t : PlainTemplate) where
+  abbrev verdict_in : Env → Verdict
+  verdict_in e = policy_check (setting_on b t.id e) (condition_of t)
+
+  all_checked : (es : List Env) → VerdictsOf (λ e. PolicyChecks (setting_on b t.id e) (condition_of t)) es (map verdict_in es)
+  all_checked [] = tt
+  all_checked (e ∷ es) = (checked (setting_on b t.id e) (condition_of t), all_checked es)
+
+  -- the check passes and has no errors, and gives these warnings
+  pub passing : (ws : List Caution) → all_pass (map verdict_in (checked_envs b.schema b.mode t)) ≡ true → all_errors (map verdict_in (checked_envs b.schema b.mode t)) ≡ [] → warnings_of t (map verdict_in (checked_envs b.schema b.mode t)) ≡ ws → CheckedOn b t true [] [] [] ws
+  passing ws p e w = record {
+    listed = checked_envs b.schema b.mode t;
+    verdicts = map verdict_in (checked_envs b.schema b.mode t);
+    in_some_order = IsPermutation-refl _;
+    checked = all_checked (checked_envs b.schema b.mode t);
+    answered = sym p;
+    errors_added = all_new _ _ e;
+    warnings_added = all_new _ _ w;
+  }
+
+pub both_bound : (x : SlotId) → IsBound (meeting_slots x)
+both_bound x = tt
+
+-- where each slot is bound, no more is asked of a policy's slots than where they stand
+pub formed : (t : PlainTemplate) → HasNoUnknowns (condition_of t) → SlotsInScopeAlone t → IsWellFormed t meeting_slots
+formed t u a =
+    record { no_unknowns = u; slots_in_scope = a; bound = slots_bound meeting_slots both_bound (condition_of t) }
+
+pub strict_sample : IsStrictAndClosed (sample_basis Strict)
+strict_sample = record { mode = refl; closed = refl }
+
+pub meeting_conforms : IsConforming (sample_basis Strict) meeting
+meeting_conforms = record {
+  request = (_, inl refl, greets);
+  store = greeting_conforms.store;
+  functions = greeting_conforms.functions;
+}
+
+pub policy_premises : PolicyPremisesAreMet
+policy_premises = record {
+  passes = passing _ _ _ refl refl refl;
+  basis = strict_sample;
+  named = record { types = refl; actions = refl };
+  well_formed = formed meeting_template refl (λ x. refl);
+  conforming = meeting_conforms;
+  evaluates = refl;
+}

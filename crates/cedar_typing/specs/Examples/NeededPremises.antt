@@ -1,0 +1,257 @@
+-- Each premise of the promises on a policy is needed: policies that pass and go wrong, or that are
+-- warned to be impossible and are true. Of each, all premises hold but the one that is named.
+use Rattle.std.specs.Prelude.{◌≡◌, pos, false, [], ◌∷◌, Some, None, codes}
+use Rattle.cedar_types.specs.declared.base.expressions.operators.Var.{Var}
+use Rattle.cedar_types.specs.declared.base.names.slots.SlotId.{SlotId}
+use Rattle.cedar_types.specs.declared.base.types.ValidationMode.TheVariants.{Strict, Partial}
+use Rattle.cedar_types.specs.Findings.{unknown_types, unknown_actions}
+use Rattle.cedar_types.specs.Names.{Path, Uid}
+use Rattle.cedar_types.specs.Schemas.{ExternalKind, DeclaredType, has_fault}
+use Rattle.cedar_types.specs.Stores.{ConformingStore}
+use Rattle.cedar_types.specs.Templates.{to_entity, to_slot, any, equal, PlainTemplate, condition_of}
+use Rattle.cedar_types.specs.Tree.{Shape, var, unknown, if_then_else, and, is_type}
+use Rattle.cedar_types.specs.Values.{no_entries, more_entries}
+use Rattle.cedar_typing.specs.Composition.{SlotsInScopeAlone}
+use Rattle.cedar_typing.specs.Evaluation.Conformance.{ConformingRequest, SlotsBound, KeepsTable}
+use Rattle.cedar_typing.specs.Evaluation.Eval.{eval}
+use Rattle.cedar_typing.specs.Evaluation.World.{World, TypeFailure, AbsentAttribute, UnlinkedSlot, UnknownValue, Fails}
+use Rattle.cedar_typing.specs.Examples.Composition.{template, the_entity, slot_is_robot, robots_template, robot_greeting}
+use Rattle.cedar_typing.specs.Examples.Expressions.{true_lit, false_lit, one, two, the, principal, text, dot, has, has_tag, less, record1, decimal_one, decimal_two, mistyped}
+use Rattle.cedar_typing.specs.Examples.Greeting.{number, words, one_value, sample_functions, stored_alice, stored_action, sample_store, greeting}
+use Rattle.cedar_typing.specs.Examples.PolicySoundness.{sample_basis, Passes, PassesWarned, policy_when, meeting}
+use Rattle.cedar_typing.specs.Examples.World.{named, user, robot, group, decimal, alice, bob, greet, wave, declared_user, declared_greet, sample_schema}
+use Rattle.cedar_typing.specs.PolicySoundness.{Basis, IsStrictAndClosed, IsNamedBySchema, IsWellFormed, IsConforming}
+use Rattle.cedar_typing.specs.Silence.{HasNoUnknowns}
+use Rattle.cedar_typing.specs.Soundness.{IsTrueOutcome}
+
+-- what is asked of the checker and of the world
+pub record IsAsAsked (world : World) : Type 0 where
+  pub basis : IsStrictAndClosed (sample_basis Strict)
+  pub conforming : IsConforming (sample_basis Strict) world
+
+-- ---- names and unknowns
+
+-- `(Group::"a" < 1) && false` and `(Action::"wave" < 1) && false`, of a type and of an action that the
+-- schema does not have: what has no type is no error of its own, and the whole is False
+abbrev pub of_unknown_type : PlainTemplate
+of_unknown_type =
+    policy_when (and tt (less (the (record { entity_type = group; eid = codes "a" })) one) false_lit)
+
+abbrev pub of_unknown_action : PlainTemplate
+of_unknown_action = policy_when (and tt (less (the wave) one) false_lit)
+
+pub record NamesMustBeKnown : Type 0 where
+  pub others : IsAsAsked meeting
+  pub type_passes : PassesWarned (sample_basis Strict) of_unknown_type
+  pub type_formed : IsWellFormed of_unknown_type meeting.slots
+  pub type_actions : unknown_actions sample_schema of_unknown_type ≡ []
+  pub type_wrong : eval meeting (condition_of of_unknown_type) ≡ Fails TypeFailure
+  pub action_passes : PassesWarned (sample_basis Strict) of_unknown_action
+  pub action_formed : IsWellFormed of_unknown_action meeting.slots
+  pub action_types : unknown_types sample_schema of_unknown_action ≡ []
+  pub action_wrong : eval meeting (condition_of of_unknown_action) ≡ Fails TypeFailure
+
+-- `(unknown("x") < 1) && false`
+abbrev pub of_unknown : PlainTemplate
+of_unknown = policy_when (and tt (less (unknown tt (named (codes "x"))) one) false_lit)
+
+pub record UnknownsGoWrong : Type 0 where
+  pub others : IsAsAsked meeting
+  pub passes : PassesWarned (sample_basis Strict) of_unknown
+  pub named : IsNamedBySchema sample_schema of_unknown
+  pub slots_in_scope : SlotsInScopeAlone of_unknown
+  pub bound : SlotsBound meeting.slots (condition_of of_unknown)
+  pub wrong : eval meeting (condition_of of_unknown) ≡ Fails UnknownValue
+
+-- ---- slots
+
+-- `permit(principal == User::"alice", action, resource == User::"bob") when { ?resource is Robot && 1 +
+-- true }`: the slot is linked to User alone, and bound to a robot
+abbrev pub slot_in_rest : PlainTemplate
+slot_in_rest =
+    template (equal (to_entity (the_entity alice))) (equal (to_entity (the_entity bob)))
+    (Some (and tt (slot_is_robot SlotId.Resource) mistyped))
+
+pub record SlotsInTheRestGoWrong : Type 0 where
+  pub others : IsAsAsked robot_greeting
+  pub passes : PassesWarned (sample_basis Strict) slot_in_rest
+  pub named : IsNamedBySchema sample_schema slot_in_rest
+  pub no_unknowns : HasNoUnknowns (condition_of slot_in_rest)
+  pub bound : SlotsBound robot_greeting.slots (condition_of slot_in_rest)
+  pub wrong : eval robot_greeting (condition_of slot_in_rest) ≡ Fails TypeFailure
+  -- and with `?principal is Robot || ?resource is Robot` it is true, warned as it is
+  pub warned : PassesWarned (sample_basis Strict) robots_template
+  pub is_true : IsTrueOutcome (eval robot_greeting (condition_of robots_template))
+
+-- `permit(principal == ?principal, action, resource)`, and the slot is not bound
+abbrev pub equal_to_slot : PlainTemplate
+equal_to_slot = template (equal to_slot) any None
+
+pub record UnboundSlotsGoWrong : Type 0 where
+  pub others : IsAsAsked greeting
+  pub passes : Passes (sample_basis Strict) equal_to_slot
+  pub named : IsNamedBySchema sample_schema equal_to_slot
+  pub no_unknowns : HasNoUnknowns (condition_of equal_to_slot)
+  pub slots_in_scope : SlotsInScopeAlone equal_to_slot
+  pub wrong : eval greeting (condition_of equal_to_slot) ≡ Fails UnlinkedSlot
+
+-- ---- requests, stores and functions
+
+-- `principal is Robot && 1 + true`, and a robot greets
+abbrev pub robots_only : PlainTemplate
+robots_only = policy_when (and tt (is_type tt principal robot) mistyped)
+
+abbrev pub a_robot_greets : World
+a_robot_greets = record meeting {
+  request = record meeting.request {
+    principal = record { entity_type = robot; eid = codes "r" };
+  };
+}
+
+pub record RequestsMustConform : Type 0 where
+  pub basis : IsStrictAndClosed (sample_basis Strict)
+  pub passes : PassesWarned (sample_basis Strict) robots_only
+  pub named : IsNamedBySchema sample_schema robots_only
+  pub well_formed : IsWellFormed robots_only a_robot_greets.slots
+  pub store : ConformingStore sample_schema a_robot_greets.store
+  pub functions : KeepsTable (sample_basis Strict).table a_robot_greets.functions
+  pub wrong : eval a_robot_greets (condition_of robots_only) ≡ Fails TypeFailure
+
+-- `principal.age < 1`, and alice's age is a text
+abbrev pub young : PlainTemplate
+young = policy_when (less (dot principal (codes "age")) one)
+
+abbrev pub age_in_words : World
+age_in_words = record meeting {
+  store =
+      (
+        alice,
+        record stored_alice {
+          attributes = more_entries (codes "age") (words (codes "30")) no_entries;
+        },
+      )
+      ∷ sample_store;
+}
+
+pub record StoresMustConform : Type 0 where
+  pub basis : IsStrictAndClosed (sample_basis Strict)
+  pub passes : Passes (sample_basis Strict) young
+  pub named : IsNamedBySchema sample_schema young
+  pub well_formed : IsWellFormed young age_in_words.slots
+  pub request : ConformingRequest sample_schema age_in_words.request
+  pub functions : KeepsTable (sample_basis Strict).table age_in_words.functions
+  pub wrong : eval age_in_words (condition_of young) ≡ Fails TypeFailure
+
+-- `decimal("1.0") < decimal("2.0")`, where the first of the two is a number
+abbrev pub decimals_in_order : PlainTemplate
+decimals_in_order = policy_when (less decimal_one decimal_two)
+
+abbrev pub with_a_number : World
+with_a_number = record meeting {
+  functions = record sample_functions {
+    calls =
+        record {
+          function = decimal;
+          arguments = one_value (words (codes "1.0"));
+          value = number (pos 1);
+        }
+        ∷ sample_functions.calls;
+  };
+}
+
+pub record FunctionsMustKeepTheTable : Type 0 where
+  pub basis : IsStrictAndClosed (sample_basis Strict)
+  pub passes : Passes (sample_basis Strict) decimals_in_order
+  pub named : IsNamedBySchema sample_schema decimals_in_order
+  pub well_formed : IsWellFormed decimals_in_order with_a_number.slots
+  pub request : ConformingRequest sample_schema with_a_number.request
+  pub store : ConformingStore sample_schema with_a_number.store
+  pub wrong : eval with_a_number (condition_of decimals_in_order) ≡ Fails TypeFailure
+
+-- ---- external types
+
+-- users greet users, and of guests nothing is known
+abbrev pub guest : Path
+guest = named (codes "Guest")
+
+abbrev pub declared_guest : DeclaredType
+declared_guest = record { name = guest; descendants = []; kind = ExternalKind }
+
+abbrev pub guest_basis : Basis
+guest_basis = record (sample_basis Strict) {
+  schema = record {
+    types = declared_user ∷ declared_guest ∷ [];
+    actions = declared_greet ∷ [];
+  };
+}
+
+-- a guest, who has a tag
+abbrev pub a_guest : Uid
+a_guest = record { entity_type = guest; eid = codes "g" }
+
+abbrev pub guest_greeting : World
+guest_greeting = record meeting {
+  store =
+      (
+        a_guest,
+        record {
+          attributes = no_entries;
+          ancestors = [];
+          tags = more_entries (codes "role") (words (codes "admin")) no_entries;
+        },
+      )
+      ∷ (greet, stored_action [])
+      ∷ [];
+}
+
+-- `Guest::"g".hasTag("role")`, which is False, and the same with `&& 1 + true`
+abbrev pub guest_has_role : Shape
+guest_has_role = has_tag (the a_guest) (text (codes "role"))
+
+abbrev pub guest_goes_wrong : PlainTemplate
+guest_goes_wrong = policy_when (and tt guest_has_role mistyped)
+
+pub record ExternalTypesGoWrong : Type 0 where
+  pub mode : guest_basis.mode ≡ Strict
+  pub faultless : has_fault guest_basis.schema ≡ false
+  pub conforming : IsConforming guest_basis guest_greeting
+  pub passes : PassesWarned guest_basis guest_goes_wrong
+  pub named : IsNamedBySchema guest_basis.schema guest_goes_wrong
+  pub well_formed : IsWellFormed guest_goes_wrong guest_greeting.slots
+  pub wrong : eval guest_greeting (condition_of guest_goes_wrong) ≡ Fails TypeFailure
+  -- and the first alone is true, warned as it is
+  pub warned : PassesWarned guest_basis (policy_when guest_has_role)
+  pub is_true : IsTrueOutcome (eval guest_greeting (condition_of (policy_when guest_has_role)))
+
+-- ---- the mode
+
+-- `(if resource has vip then {a: 1} else {b: true}).a < 2`, and bob has no mark
+abbrev pub attribute_of_one : PlainTemplate
+attribute_of_one =
+    policy_when
+    (less
+    (dot
+    (if_then_else tt (has (var tt Var.Resource) (codes "vip")) (record1 (codes "a") one)
+    (record1 (codes "b") true_lit))
+    (codes "a"))
+    two)
+
+pub record PartialGoesWrong : Type 0 where
+  pub others : IsAsAsked meeting
+  pub passes : Passes (sample_basis Partial) attribute_of_one
+  pub named : IsNamedBySchema sample_schema attribute_of_one
+  pub well_formed : IsWellFormed attribute_of_one meeting.slots
+  pub wrong : eval meeting (condition_of attribute_of_one) ≡ Fails AbsentAttribute
+
+-- ---- all of them
+
+pub record PremisesAreNeeded : Type 0 where
+  pub names : NamesMustBeKnown
+  pub unknowns : UnknownsGoWrong
+  pub slots_in_scope : SlotsInTheRestGoWrong
+  pub bound : UnboundSlotsGoWrong
+  pub request : RequestsMustConform
+  pub store : StoresMustConform
+  pub functions : FunctionsMustKeepTheTable
+  pub closed : ExternalTypesGoWrong
+  pub mode : PartialGoesWrong
