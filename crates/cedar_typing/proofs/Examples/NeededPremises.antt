@@ -1,21 +1,19 @@
 -- The policies that go wrong, or are true, where one premise does not hold, computed.
 use Rattle.std.proofs.Common.{◌≡◌, inl, Bool, true, false, ◌&&◌, ◌||◌, [], Some, refl, sym, subst}
-use Rattle.std.specs.Prelude.{IsTrue}
 use Rattle.cedar_types.specs.declared.base.names.slots.SlotId.{SlotId}
-use Rattle.cedar_types.specs.declared.base.types.ValidationMode.TheVariants.{Strict}
 use Rattle.cedar_types.specs.Lemmas.Comparisons.{uid_same}
 use Rattle.cedar_types.specs.Names.{Uid, uid_eq}
 use Rattle.cedar_types.specs.Schemas.{uid_is_among, type_named, declares_action}
 use Rattle.cedar_types.specs.Stores.{Entity, entity_at, declares_ancestor, FitsDeclaration, ConformingStore}
 use Rattle.cedar_types.specs.Templates.{condition_of}
 use Rattle.cedar_typing.specs.Evaluation.Conformance.{IsBound}
-use Rattle.cedar_typing.specs.Examples.Composition.{robot_slots, robot_greeting}
+use Rattle.cedar_typing.specs.Examples.Composition.{robot_slots}
 use Rattle.cedar_typing.specs.Examples.NeededPremises.{IsAsAsked, of_unknown_type, of_unknown_action, of_unknown, slot_in_rest, robots_only, young, decimals_in_order, guest_basis, guest_greeting, guest_goes_wrong, attribute_of_one, NamesMustBeKnown, UnknownsGoWrong, SlotsInTheRestGoWrong, UnboundSlotsGoWrong, RequestsMustConform, StoresMustConform, FunctionsMustKeepTheTable, ExternalTypesGoWrong, PartialGoesWrong, PremisesAreNeeded}
-use Rattle.cedar_typing.specs.Examples.PolicySoundness.{sample_basis, meeting_slots, meeting}
+use Rattle.cedar_typing.specs.Examples.PolicySoundness.{meeting_slots, meeting}
 use Rattle.cedar_typing.specs.Examples.World.{greet}
 use Rattle.cedar_typing.proofs.Composition.Slots.{slots_bound}
 use Rattle.cedar_typing.proofs.Examples.PolicySoundness.{passing, formed, both_bound, strict_sample, meeting_conforms}
-use Rattle.cedar_typing.proofs.Examples.World.{greets, greeting_conforms, AllEntities, all_found, only_one}
+use Rattle.cedar_typing.proofs.Examples.World.{greets, AllEntities, all_found, only_one}
 
 as_asked : IsAsAsked meeting
 as_asked = record { basis = strict_sample; conforming = meeting_conforms }

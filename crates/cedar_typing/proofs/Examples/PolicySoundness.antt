@@ -1,9 +1,9 @@
 -- What the checks of the example policies come to, and that the premises of safety hold together.
-use Rattle.std.proofs.Common.{◌≡◌, inl, inr, true, List, [], ◌∷◌, ◌++◌, ◌⊎◌, map, refl, sym, subst}
+use Rattle.std.proofs.Common.{◌≡◌, inl, true, List, [], ◌∷◌, map, refl, sym, subst}
 use Rattle.std.proofs.lemmas.List.Sorted.{IsPermutation-refl}
 use Rattle.cedar_types.specs.declared.base.names.slots.SlotId.{SlotId}
 use Rattle.cedar_types.specs.declared.base.types.ValidationMode.TheVariants.{Strict}
-use Rattle.cedar_types.specs.Errors.{Finding, Caution}
+use Rattle.cedar_types.specs.Errors.{Caution}
 use Rattle.cedar_types.specs.Linking.{checked_envs}
 use Rattle.cedar_types.specs.RequestEnvs.{Env}
 use Rattle.cedar_types.specs.Templates.{PlainTemplate, condition_of}

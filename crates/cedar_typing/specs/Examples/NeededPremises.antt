@@ -19,7 +19,7 @@ use Rattle.cedar_typing.specs.Examples.Composition.{template, the_entity, slot_i
 use Rattle.cedar_typing.specs.Examples.Expressions.{true_lit, false_lit, one, two, the, principal, text, dot, has, has_tag, less, record1, decimal_one, decimal_two, mistyped}
 use Rattle.cedar_typing.specs.Examples.Greeting.{number, words, one_value, sample_functions, stored_alice, stored_action, sample_store, greeting}
 use Rattle.cedar_typing.specs.Examples.PolicySoundness.{sample_basis, Passes, PassesWarned, policy_when, meeting}
-use Rattle.cedar_typing.specs.Examples.World.{named, user, robot, group, decimal, alice, bob, greet, wave, declared_user, declared_greet, sample_schema}
+use Rattle.cedar_typing.specs.Examples.World.{named, robot, group, decimal, alice, bob, greet, wave, declared_user, declared_greet, sample_schema}
 use Rattle.cedar_typing.specs.PolicySoundness.{Basis, IsStrictAndClosed, IsNamedBySchema, IsWellFormed, IsConforming}
 use Rattle.cedar_typing.specs.Silence.{HasNoUnknowns}
 use Rattle.cedar_typing.specs.Soundness.{IsTrueOutcome}

@@ -1,5 +1,5 @@
 -- A policy that passes and a world for which every premise of its safety holds.
-use Rattle.std.specs.Prelude.{◌≡◌, true, List, [], ◌∷◌, Some, codes}
+use Rattle.std.specs.Prelude.{◌≡◌, true, [], ◌∷◌, Some}
 use Rattle.cedar_types.specs.declared.base.types.ValidationMode.{ValidationMode}
 use Rattle.cedar_types.specs.declared.base.types.ValidationMode.TheVariants.{Strict}
 use Rattle.cedar_types.specs.Templates.{to_slot, any, within, within_actions, PlainTemplate, condition_of}

@@ -34,6 +34,13 @@ impl<'a, C: ArgumentCheck> Typechecker<'a, C> {
     /// `type_errors` gains each error that some check found. `warnings` gains `ImpossiblePolicy`, at the template's place,
     /// exactly where each check is irrelevant, so where there is no environment too. One typed condition is held at a time.
     ///
+    /// In Strict, by a schema without external declarations, a policy that passes does not go wrong (clause `safe`): where it
+    /// has no unknowns, the passes over types and actions find no unknown name in it, its slots stand in the scope alone and
+    /// are bound, the request and the store conform and the extension functions keep to their table, evaluation gives a boolean
+    /// or fails only for a missing entity, an overflow or an extension function. A policy that this call newly warns to be
+    /// impossible is then never true (clause `never_true`), whether or not it passes, what names it has, and what its slots are
+    /// bound to, if they are.
+    ///
     /// Where memory is refused, the answer is an `AllocError`, and both sets hold what they held.
     pub fn typecheck_policy(
         &self,
