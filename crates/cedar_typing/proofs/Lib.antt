@@ -34,4 +34,5 @@ pub mod Examples
 pub mod Gains
 pub mod Tallies
 pub mod ChecksLeft
+pub mod EachEnvironment
 pub mod PolicySoundness

@@ -2,10 +2,6 @@
 -- policy comes to.
 use Rattle.std.proofs.Common.{◌≡◌, ◌⊎◌, inl, inr, Bool, true, false, cond, List, [], ◌∷◌, None, refl, sym, ◌∙◌, ap, subst}
 use Rattle.std.specs.Prelude.{IsPermutation}
-use Rattle.std.specs.List.{list_all, AllByRecursion}
-use Rattle.std.proofs.lemmas.List.Elements.{All-from_recursion, recursion_from_All}
-use Rattle.std.proofs.lemmas.List.Sorted.{All-permutation}
-use Rattle.cedar_types.specs.Lemmas.Comparisons.{and_left, and_right}
 use Rattle.cedar_types.specs.Errors.{Finding, Caution}
 use Rattle.cedar_types.specs.Environments.{environments_of}
 use Rattle.cedar_types.specs.ExtensionFunctions.{table_fault}
@@ -25,7 +21,7 @@ use Rattle.cedar_typing.specs.PolicyOutcome.{Adds, VerdictsOf, is_irrelevant, al
 use Rattle.cedar_typing.specs.PolicySoundness.{Basis, IsStrictAndClosed, IsNamedBySchema, IsWellFormed, IsConforming, PolicyIsSafe, ImpossibleIsNeverTrue, setting_on, CheckedOn, PromisesAreKept}
 use Rattle.cedar_typing.specs.Rules.{Derives}
 use Rattle.cedar_typing.specs.Setting.{Setting}
-use Rattle.cedar_typing.specs.Silence.{IsWellNamedTemplate, IsDerivedAs, IsDerivedIn, PassingPolicyIsDerived}
+use Rattle.cedar_typing.specs.Silence.{IsWellNamedTemplate, IsDerivedAs, IsDerivedIn}
 use Rattle.cedar_typing.specs.SoundPolicyCheck.{IsBooleanOrAllowed}
 use Rattle.cedar_typing.specs.Soundness.{IsReliable, IsWorldOf}
 use Rattle.cedar_typing.specs.TypeTests.{accepts, bool_types}
@@ -33,7 +29,9 @@ use Rattle.cedar_typing.specs.TypedExpr.{Source, TypedTree}
 use Rattle.cedar_typing.proofs.Composition.Links.{own_env_is_checked}
 use Rattle.cedar_typing.proofs.Composition.NeverTrue.{never_true, own_reliable, own_is_world, own_bound, own_kept}
 use Rattle.cedar_typing.proofs.Composition.OwnBinding.{own_world}
+use Rattle.cedar_typing.proofs.EachEnvironment.{each_has_passing}
 use Rattle.cedar_typing.proofs.Gains.{in_either}
+use Rattle.cedar_typing.proofs.Silence.Policies.{passing_policy_is_derived}
 use Rattle.cedar_typing.proofs.Soundness.Capabilities.{hold_none}
 use Rattle.cedar_typing.proofs.Soundness.Induction.{sounds}
 use Rattle.cedar_typing.proofs.Soundness.PolicyCheck.{boolean}
@@ -53,25 +51,6 @@ module _ (s : Setting) (e : Source) (world : World)
   derived_outcome (succeeds x) (t, c, d, a, n) = typed_outcome t c x d a
   derived_outcome (irrelevant es x) (c, d) = typed_outcome (TBool False) c x d refl
   derived_outcome (fails es) h = absurd h
-
--- ---- what holds of each verdict holds in each environment
-
--- the environment has a verdict of which P holds
-abbrev HasVerdict : (Env → Verdict → Type 0) → (Verdict → Type 0) → Env → Type 0
-HasVerdict Checks P e = (v : Verdict) × Checks e v × P v
-
-module _ (Checks : Env → Verdict → Type 0) (p : Verdict → Bool) where
-  each_listed : (es : List Env) (vs : List Verdict) → VerdictsOf Checks es vs → list_all p vs ≡ true → AllByRecursion (HasVerdict Checks (λ v. p v ≡ true)) es
-  each_listed [] [] c h = tt
-  each_listed [] (v ∷ vs) c h = absurd c
-  each_listed (e ∷ es) [] c h = absurd c
-  each_listed (e ∷ es) (v ∷ vs) c h =
-      ((v, c.0, and_left (p v) (list_all p vs) h), each_listed es vs c.1 (and_right (p v) (list_all p vs) h))
-
-one_of_them : (P : Env → Type 0) (es : List Env) → AllByRecursion P es → (e : Env) → IsOneOf e es → P e
-one_of_them P [] h e k = absurd k
-one_of_them P (x ∷ es) h e (inl q) = subst P (sym q) h.0
-one_of_them P (x ∷ es) h e (inr k) = one_of_them P es h.1 e k
 
 -- ---- the warning
 
@@ -124,19 +103,16 @@ module _ (b : Basis) (t : PlainTemplate) (schema : has_fault b.schema ≡ false)
 
   irrelevant_in_all : (listed : List Env) (vs : List Verdict) → IsPermutation listed (checked_envs b.schema b.mode t) → VerdictsOf Checks listed vs → all_irrelevant vs ≡ true → IsIrrelevantInAll s t
   irrelevant_in_all listed vs p c h env one v k =
-      let P : Env → Type 0 = HasVerdict Checks (λ u. is_irrelevant u ≡ true) in
-      let all = checked_envs b.schema b.mode t in
-      let there = All-permutation P listed all p (All-from_recursion P listed (each_listed Checks is_irrelevant listed vs c h)) in
-      let u = one_of_them P all (recursion_from_All P all there) env one in
+      let u = each_has_passing Checks is_irrelevant listed (checked_envs b.schema b.mode t) vs p c h env one in
       irrelevant_too u.0 v (verdict_at_most (in_env s env) (condition_of t) u.0 v u.1 k) u.2
 
   module _ (passes : Bool) (errors errors' : List Finding) (old new : List Caution) (o : CheckedOn b t passes errors errors' old new) where
-    safe : PassingPolicyIsDerived → PolicyIsSafe b t passes
-    safe silence h k n world w i =
+    safe : PolicyIsSafe b t passes
+    safe h k n world w i =
         let P : Bool → Type 0 = λ x. CheckedOn b t x errors errors' old new in
         let names : IsWellNamedTemplate b.schema t = record { unknowns = w.no_unknowns; types = n.types; actions = n.actions } in
         safe_if_derived k world w i
-        (silence s t (record { mode = k.mode; schema = schema; functions = functions }) names errors errors' old new (subst P h o))
+        (passing_policy_is_derived s t (record { mode = k.mode; schema = schema; functions = functions }) names errors errors' old new (subst P h o))
 
     never : ImpossibleIsNeverTrue b t old new
     never absent there k alone world i =
@@ -144,10 +120,8 @@ module _ (b : Basis) (t : PlainTemplate) (schema : has_fault b.schema ≡ false)
         (irrelevant_in_all o.listed o.verdicts o.in_some_order o.checked (due t o.verdicts old new o.warnings_added absent there))
         world i.request i.store i.functions
 
--- `silence` is the law that a policy that passes is derived
-pub promises_are_kept : PassingPolicyIsDerived → PromisesAreKept
-promises_are_kept silence b t schema functions passes errors errors' old new o =
-    record {
-      safe = safe b t schema functions passes errors errors' old new o silence;
-      never_true = never b t schema functions passes errors errors' old new o;
-    }
+pub promises_are_kept : PromisesAreKept
+promises_are_kept b t schema functions passes errors errors' old new o = record {
+  safe = safe b t schema functions passes errors errors' old new o;
+  never_true = never b t schema functions passes errors errors' old new o;
+}
