@@ -1,9 +1,11 @@
 -- A policy that passes is derived in each of the environments that it is checked in.
-use Rattle.std.proofs.Common.{◌≡◌, inl, inr, true, List, [], ◌∷◌, ◌++◌, map, Option, refl, sym, subst}
-use Rattle.std.specs.List.{All}
+use Rattle.std.proofs.Common.{◌≡◌, inl, inr, Bool, true, false, ◌&&◌, List, [], ◌∷◌, ◌++◌, map, Option, Some, None, refl, sym, subst}
+use Rattle.std.specs.List.{All, flat_map}
+use Rattle.std.specs.Prelude.{IsPermutation}
 use Rattle.std.proofs.lemmas.List.Elements.{All-nil, All-cons, All-head, All-tail}
 use Rattle.std.proofs.lemmas.List.Sorted.{All-permutation}
 use Rattle.cedar_types.specs.declared.base.names.slots.SlotId.{SlotId}
+use Rattle.cedar_types.specs.declared.base.types.ValidationMode.{ValidationMode}
 use Rattle.cedar_types.specs.declared.base.types.ValidationMode.TheVariants.{Strict}
 use Rattle.cedar_types.specs.Environments.{DeclaredEnv, environments_of}
 use Rattle.cedar_types.specs.Lemmas.Comparisons.{and_left, and_right}
@@ -16,7 +18,9 @@ use Rattle.cedar_typing.specs.Composition.{in_env}
 use Rattle.cedar_typing.specs.Evaluation.Conformance.{IsOneOf, IsEnvironmentOf}
 use Rattle.cedar_typing.specs.PolicyCheck.{Verdict}
 use Rattle.cedar_typing.specs.PolicyOutcome.{passes, VerdictsOf, all_pass}
-use Rattle.cedar_typing.specs.Silence.{IsSettled, ChecksOf, PassingPolicyIsDerived}
+use Rattle.cedar_typing.specs.Setting.{Setting}
+use Rattle.cedar_typing.specs.Silence.{IsStrictWithoutFaults, IsSettled, IsWellNamedTemplate, ChecksOf, IsDerivedIn, PassingPolicyIsDerived}
+use Rattle.cedar_typing.proofs.EachEnvironment.{each_has_passing}
 use Rattle.cedar_typing.proofs.Members.{all_flat}
 use Rattle.cedar_typing.proofs.Silence.Checks.{passing_is_derived}
 use Rattle.cedar_typing.proofs.Silence.Names.{condition_is_well_named}
@@ -51,34 +55,12 @@ module _ (s : Schema) where
       all_flat (linked_envs s t) (IsEnvironmentOf s) (unlinked_envs s Strict)
       (λ u i. linked_of_schema t u (of_schema (environments_of s.actions) (λ d k. k) u i))
 
--- ---- of all verdicts
-
--- what is said of the elements is said of all, and the other way round
-all_of : {A : Type 0} (P : A → Type 0) (xs : List A) → ((x : A) → IsOneOf x xs → P x) → All P xs
-all_of P [] f = All-nil P
-all_of P (x ∷ xs) f = All-cons P x xs (f x (inl refl)) (all_of P xs (λ y k. f y (inr k)))
-
-each_of : {A : Type 0} (P : A → Type 0) (xs : List A) → All P xs → (x : A) → IsOneOf x xs → P x
-each_of P [] h x k = absurd k
-each_of P (y ∷ ys) h x (inl e) = subst P (sym e) (All-head P y ys h)
-each_of P (y ∷ ys) h x (inr k) = each_of P ys (All-tail P y ys h) x k
-
--- an environment has a verdict that passes
-abbrev IsPassed : (Env → Verdict → Type 0) → Env → Type 0
-IsPassed Checks e = (v : Verdict) × Checks e v × (passes v ≡ true)
-
-each_passes : (Checks : Env → Verdict → Type 0) (es : List Env) (vs : List Verdict) → VerdictsOf Checks es vs → all_pass vs ≡ true
-    → (e : Env) → IsOneOf e es → IsPassed Checks e
-each_passes Checks [] vs h q e k = absurd k
-each_passes Checks (x ∷ es) [] h q e k = absurd h
-each_passes Checks (x ∷ es) (v ∷ vs) h q e (inl i) = (v, subst (λ z. Checks z v) (sym i) h.0, and_left (passes v) (all_pass vs) q)
-each_passes Checks (x ∷ es) (v ∷ vs) h q e (inr k) = each_passes Checks es vs h.1 (and_right (passes v) (all_pass vs) q) e k
+-- ---- the verdicts
 
 pub passing_policy_is_derived : PassingPolicyIsDerived
 passing_policy_is_derived s t ok named errors errors' warnings warnings' o e i =
     let envs : List Env = checked_envs s.env.schema s.env.mode t in
-    let listed = all_of (IsPassed (ChecksOf s t)) o.listed (each_passes (ChecksOf s t) o.listed o.verdicts o.checked (sym o.answered)) in
-    let p : IsPassed (ChecksOf s t) e = each_of (IsPassed (ChecksOf s t)) envs (All-permutation (IsPassed (ChecksOf s t)) o.listed envs o.in_some_order listed) e i in
+    let p = each_has_passing (ChecksOf s t) passes o.listed envs o.verdicts o.in_some_order o.checked (sym o.answered) e i in
     let there : IsEnvironmentOf s.env.schema e = checked_of_schema s.env.schema t e (subst (λ m. IsOneOf e (checked_envs s.env.schema m t)) ok.mode i) in
     let settled : IsSettled (in_env s e) = record {
       faultless = record { mode = ok.mode; schema = ok.schema; functions = ok.functions };
