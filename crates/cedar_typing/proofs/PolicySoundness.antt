@@ -1,9 +1,8 @@
 -- A policy that passes does not go wrong, and one that is warned to be impossible is never true: from what the check of a
 -- policy comes to.
-use Rattle.std.proofs.Common.{◌≡◌, ◌⊎◌, inl, inr, Bool, true, false, cond, List, [], ◌∷◌, None, refl, sym, ◌∙◌, ap, subst}
+use Rattle.std.proofs.Common.{◌≡◌, ◌⊎◌, inl, inr, Bool, true, false, cond, List, [], ◌∷◌, None, refl, subst}
 use Rattle.std.specs.Prelude.{IsPermutation}
 use Rattle.cedar_types.specs.Errors.{Finding, Caution}
-use Rattle.cedar_types.specs.Environments.{environments_of}
 use Rattle.cedar_types.specs.ExtensionFunctions.{table_fault}
 use Rattle.cedar_types.specs.Linking.{checked_envs}
 use Rattle.cedar_types.specs.RequestEnvs.{Env, Undeclared}
@@ -17,8 +16,8 @@ use Rattle.cedar_typing.specs.Evaluation.Conformance.{IsOneOf, ConformingRequest
 use Rattle.cedar_typing.specs.Evaluation.Eval.{eval}
 use Rattle.cedar_typing.specs.Evaluation.World.{World}
 use Rattle.cedar_typing.specs.PolicyCheck.{Verdict, succeeds, irrelevant, fails, PolicyChecks, SameVerdict, same_success, same_irrelevant, same_failure}
-use Rattle.cedar_typing.specs.PolicyOutcome.{Adds, VerdictsOf, is_irrelevant, all_irrelevant, impossible, warnings_of, PolicyOutcome}
-use Rattle.cedar_typing.specs.PolicySoundness.{Basis, IsStrictAndClosed, IsNamedBySchema, IsWellFormed, IsConforming, PolicyIsSafe, ImpossibleIsNeverTrue, setting_on, CheckedOn, PromisesAreKept}
+use Rattle.cedar_typing.specs.PolicyOutcome.{Adds, VerdictsOf, is_irrelevant, all_irrelevant, impossible, warnings_of}
+use Rattle.cedar_typing.specs.PolicySoundness.{Basis, IsStrictAndClosed, IsWellFormed, IsConforming, PolicyIsSafe, ImpossibleIsNeverTrue, setting_on, CheckedOn, PromisesAreKept}
 use Rattle.cedar_typing.specs.Rules.{Derives}
 use Rattle.cedar_typing.specs.Setting.{Setting}
 use Rattle.cedar_typing.specs.Silence.{IsWellNamedTemplate, IsDerivedAs, IsDerivedIn}

@@ -15,7 +15,6 @@ use Rattle.cedar_typing.specs.PolicyCheck.{Verdict, succeeds, irrelevant, fails,
 use Rattle.cedar_typing.specs.Setting.{Setting, table}
 use Rattle.cedar_typing.specs.SoundPolicyCheck.{IsBooleanOrAllowed, Promises}
 use Rattle.cedar_typing.specs.Soundness.{IsTrueOutcome, IsReliable, IsWorldOf}
-use Rattle.cedar_typing.specs.TypedExpr.{TypedTree}
 use Rattle.cedar_typing.proofs.PolicyCheck.{checked}
 use Rattle.cedar_typing.proofs.Soundness.PolicyCheck.{check_sound}
 use Rattle.cedar_typing.proofs.Composition.Links.{own_env_is_checked}

@@ -1,14 +1,8 @@
 -- A policy that passes is derived in each of the environments that it is checked in.
-use Rattle.std.proofs.Common.{◌≡◌, inl, inr, Bool, true, false, ◌&&◌, List, [], ◌∷◌, ◌++◌, map, Option, Some, None, refl, sym, subst}
-use Rattle.std.specs.List.{All, flat_map}
-use Rattle.std.specs.Prelude.{IsPermutation}
-use Rattle.std.proofs.lemmas.List.Elements.{All-nil, All-cons, All-head, All-tail}
-use Rattle.std.proofs.lemmas.List.Sorted.{All-permutation}
+use Rattle.std.proofs.Common.{inl, inr, List, [], ◌∷◌, ◌++◌, map, Option, refl, sym, subst}
 use Rattle.cedar_types.specs.declared.base.names.slots.SlotId.{SlotId}
-use Rattle.cedar_types.specs.declared.base.types.ValidationMode.{ValidationMode}
 use Rattle.cedar_types.specs.declared.base.types.ValidationMode.TheVariants.{Strict}
 use Rattle.cedar_types.specs.Environments.{DeclaredEnv, environments_of}
-use Rattle.cedar_types.specs.Lemmas.Comparisons.{and_left, and_right}
 use Rattle.cedar_types.specs.Linking.{has_slot, slot_links, in_all_ways, linked_envs, checked_envs}
 use Rattle.cedar_types.specs.Names.{Path}
 use Rattle.cedar_types.specs.RequestEnvs.{Env, Declared, Undeclared, unlinked, unlinked_envs}
@@ -16,10 +10,8 @@ use Rattle.cedar_types.specs.Schemas.{Schema}
 use Rattle.cedar_types.specs.Templates.{PlainTemplate, condition_of}
 use Rattle.cedar_typing.specs.Composition.{in_env}
 use Rattle.cedar_typing.specs.Evaluation.Conformance.{IsOneOf, IsEnvironmentOf}
-use Rattle.cedar_typing.specs.PolicyCheck.{Verdict}
-use Rattle.cedar_typing.specs.PolicyOutcome.{passes, VerdictsOf, all_pass}
-use Rattle.cedar_typing.specs.Setting.{Setting}
-use Rattle.cedar_typing.specs.Silence.{IsStrictWithoutFaults, IsSettled, IsWellNamedTemplate, ChecksOf, IsDerivedIn, PassingPolicyIsDerived}
+use Rattle.cedar_typing.specs.PolicyOutcome.{passes}
+use Rattle.cedar_typing.specs.Silence.{IsSettled, ChecksOf, PassingPolicyIsDerived}
 use Rattle.cedar_typing.proofs.EachEnvironment.{each_has_passing}
 use Rattle.cedar_typing.proofs.Members.{all_flat}
 use Rattle.cedar_typing.proofs.Silence.Checks.{passing_is_derived}
