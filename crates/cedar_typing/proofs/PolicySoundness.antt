@@ -16,7 +16,7 @@ use Rattle.cedar_typing.specs.Evaluation.Conformance.{IsOneOf, ConformingRequest
 use Rattle.cedar_typing.specs.Evaluation.Eval.{eval}
 use Rattle.cedar_typing.specs.Evaluation.World.{World}
 use Rattle.cedar_typing.specs.PolicyCheck.{Verdict, succeeds, irrelevant, fails, PolicyChecks, SameVerdict, same_success, same_irrelevant, same_failure}
-use Rattle.cedar_typing.specs.PolicyOutcome.{Adds, VerdictsOf, is_irrelevant, all_irrelevant, impossible, warnings_of}
+use Rattle.cedar_typing.specs.PolicyOutcome.{Adds, VerdictsOf, is_irrelevant, all_irrelevant, impossible, warnings_of, PolicyOutcome}
 use Rattle.cedar_typing.specs.PolicySoundness.{Basis, IsStrictAndClosed, IsWellFormed, IsConforming, PolicyIsSafe, ImpossibleIsNeverTrue, setting_on, CheckedOn, PromisesAreKept}
 use Rattle.cedar_typing.specs.Rules.{Derives}
 use Rattle.cedar_typing.specs.Setting.{Setting}
@@ -64,6 +64,15 @@ due t vs old new a absent there = from (in_either (impossible t) old (warnings_o
     from : IsOneOf (impossible t) old ⊎ IsOneOf (impossible t) (warnings_of t vs) → all_irrelevant vs ≡ true
     from (inl h) = absurd (absent h)
     from (inr h) = nothing_new t (all_irrelevant vs) h
+
+-- what is warned where there was no warning is that: of use to a caller, who sees that there is some warning
+pub warned_impossible : {Checks : Env → Verdict → Type 0} {envs : List Env} (t : PlainTemplate) (passes : Bool) (errors errors' : List Finding) (new : List Caution)
+    → PolicyOutcome Checks envs t passes errors errors' [] new → (w : Caution) → IsOneOf w new → IsOneOf (impossible t) new
+warned_impossible t passes errors errors' new o w there = (o.warnings_added (impossible t)).1 (any (all_irrelevant o.verdicts) ((o.warnings_added w).0 there))
+  where
+    any : (b : Bool) → IsOneOf w (cond b (impossible t ∷ []) []) → IsOneOf (impossible t) (cond b (impossible t ∷ []) [])
+    any true h = inl refl
+    any false h = absurd h
 
 irrelevant_too : (u v : Verdict) → SameVerdict u v → is_irrelevant u ≡ true → IsIrrelevant v
 irrelevant_too u v same_success h = cc

@@ -97,15 +97,16 @@ CheckedOn b t =
     PolicyOutcome (λ env. PolicyChecks (setting_on b t.id env) (condition_of t))
     (checked_envs b.schema b.mode t) t
 
--- by a schema and a table without faults, as all are that the program makes, both promises follow
--- from that alone
-pub record IsKept (b : Basis) (t : PlainTemplate) (passes : Bool) (old new : List Caution) : Type 0 where
+-- both promises
+pub record AreBothKept (b : Basis) (t : PlainTemplate) (passes : Bool) (old new : List Caution) : Type 0 where
   pub safe : PolicyIsSafe b t passes
   pub never_true : ImpossibleIsNeverTrue b t old new
 
+-- by a schema and a table without faults, as all are that the program makes, both follow from that
+-- alone
 abbrev pub PromisesAreKept : Type 0
 PromisesAreKept =
     (b : Basis) (t : PlainTemplate)
     → has_fault b.schema ≡ false → table_fault b.table.functions ≡ None
     → (passes : Bool) (errors errors' : List Finding) (old new : List Caution)
-    → CheckedOn b t passes errors errors' old new → IsKept b t passes old new
+    → CheckedOn b t passes errors errors' old new → AreBothKept b t passes old new
