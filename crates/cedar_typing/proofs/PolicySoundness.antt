@@ -66,9 +66,12 @@ due t vs old new a absent there = from (in_either (impossible t) old (warnings_o
     from (inr h) = nothing_new t (all_irrelevant vs) h
 
 -- what is warned where there was no warning is that: of use to a caller, who sees that there is some warning
-pub warned_impossible : {Checks : Env → Verdict → Type 0} {envs : List Env} (t : PlainTemplate) (passes : Bool) (errors errors' : List Finding) (new : List Caution)
-    → PolicyOutcome Checks envs t passes errors errors' [] new → (w : Caution) → IsOneOf w new → IsOneOf (impossible t) new
-warned_impossible t passes errors errors' new o w there = (o.warnings_added (impossible t)).1 (any (all_irrelevant o.verdicts) ((o.warnings_added w).0 there))
+pub warned_impossible : {Checks : Env → Verdict → Type 0} {envs : List Env} {passes : Bool} {errors errors' : List Finding} (t : PlainTemplate) (old new : List Caution)
+    → PolicyOutcome Checks envs t passes errors errors' old new → old ≡ [] → (w : Caution) → IsOneOf w new → IsOneOf (impossible t) new
+warned_impossible t old new o none w there =
+    let Added : List Caution → Type 0 = λ xs. Adds xs (warnings_of t o.verdicts) new in
+    let added = subst Added none o.warnings_added in
+    (added (impossible t)).1 (any (all_irrelevant o.verdicts) ((added w).0 there))
   where
     any : (b : Bool) → IsOneOf w (cond b (impossible t ∷ []) []) → IsOneOf (impossible t) (cond b (impossible t ∷ []) [])
     any true h = inl refl
