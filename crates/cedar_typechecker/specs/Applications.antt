@@ -1,0 +1,98 @@
+-- Whether the scope of a policy fits an action, and whether `in` in place of `==` might help.
+use Rattle.std.specs.Prelude.{◌≡◌, Bool, true, false, not, ◌&&◌, List, Option, Some, None, option_map, Result, Ok, Err}
+use Rattle.std.specs.List.{list_any}
+use Rattle.cedar_types.specs.declared.base.errors.validation_warnings.ValidationWarning.{ValidationWarning}
+use Rattle.cedar_types.specs.declared.base.names.entities.EntityUID.{EntityUID}
+use Rattle.cedar_types.specs.declared.base.names.slots.SlotId.{SlotId}
+use Rattle.cedar_types.specs.Errors.{Caution, caution_of, invalid_action_application}
+use Rattle.cedar_types.specs.Names.{Path, PlacedUid, placed_uid}
+use Rattle.cedar_types.specs.RequestEnvs.{bound_to}
+use Rattle.cedar_types.specs.Schemas.{Application, Schema, is_among, descendants_of}
+use Rattle.cedar_types.specs.Templates.{Reference, to_entity, to_slot, Scope, any, equal, within, typed, typed_within, PlainTemplate}
+use Rattle.cedar_typechecker.specs.declared.rbac.flags.Side.{Side}
+use Rattle.cedar_typechecker.specs.declared.rbac.flags.Side.TheVariants.{Principal, Resource}
+use Rattle.cedar_typechecker.specs.Scopes.{admitted_types, admitted_applications}
+
+-- ---- a fitting action
+
+-- an action that applies to this has a principal type and a resource type among these
+abbrev pub fits : List Path → List Path → Application → Bool
+fits ps rs a = list_any (is_among a.principals) ps && list_any (is_among a.resources) rs
+
+-- some admitted, defined action has a principal type and a resource type that the constraints admit
+abbrev pub has_fitting_action : Schema → PlainTemplate → Bool
+has_fitting_action s t =
+    list_any (fits (admitted_types s t.principal) (admitted_types s t.resource))
+    (admitted_applications s t.action)
+
+-- ---- `in` in place of `==`
+
+-- the types of principals, or of resources, that an action applies to
+abbrev pub types_on : Side → Application → List Path
+types_on Principal a = a.principals
+types_on Resource a = a.resources
+
+-- the type of the entity that a constraint asks the variable to equal
+abbrev pub equal_type : Scope → Option Path
+equal_type (equal (to_entity u)) = Some u.uid.entity_type
+equal_type (equal to_slot) = None
+equal_type any = None
+equal_type (within r) = None
+equal_type (typed t) = None
+equal_type (typed_within t r) = None
+
+-- no action lists the type itself, and one lists a type that is declared as its descendant
+abbrev pub lists_only_below : Schema → Side → List Application → Path → Bool
+lists_only_below s side as p =
+    not (list_any (λ a. is_among (types_on side a) p) as)
+    && list_any (λ a. list_any (is_among (descendants_of s.types p)) (types_on side a)) as
+
+abbrev pub might_help : Schema → Side → List Application → Option Path → Bool
+might_help s side as None = false
+might_help s side as (Some p) = lists_only_below s side as p
+
+-- the constraint is `==` an entity, no admitted, defined action lists its type, and one lists a descendant of it
+abbrev pub in_might_help : Schema → Side → List Application → Scope → Bool
+in_might_help s side as c = might_help s side as (equal_type c)
+
+-- ---- the warning
+
+-- at the policy's place, with a flag for the principal and one for the resource
+abbrev pub application_warning : Schema → PlainTemplate → Caution
+application_warning s t =
+    let as = admitted_applications s t.action in
+    record {
+      place = t.place;
+      policy = t.id;
+      slip = invalid_action_application
+        (in_might_help s Principal as t.principal)
+        (in_might_help s Resource as t.resource);
+    }
+
+-- nothing is answered where an action fits, and the warning where none does
+abbrev pub AnswersApplication : Schema → PlainTemplate → Result (Unit {0}) ValidationWarning → Type 0
+AnswersApplication s t (Ok u) = has_fitting_action s t ≡ true
+AnswersApplication s t (Err w) =
+    (has_fitting_action s t ≡ false) × (caution_of w ≡ application_warning s t)
+
+-- ---- the scope of a linked policy
+
+-- a slot that is bound is the entity that it is bound to
+abbrev pub bound_reference : Option PlacedUid → Reference → Reference
+bound_reference o (to_entity u) = to_entity u
+bound_reference (Some u) to_slot = to_entity u
+bound_reference None to_slot = to_slot
+
+abbrev pub bound_scope : Option PlacedUid → Scope → Scope
+bound_scope o any = any
+bound_scope o (equal r) = equal (bound_reference o r)
+bound_scope o (within r) = within (bound_reference o r)
+bound_scope o (typed t) = typed t
+bound_scope o (typed_within t r) = typed_within t (bound_reference o r)
+
+-- the template with the slots of its scope bound, those that these bindings bind
+abbrev pub with_bound_scope : List (SlotId × EntityUID) → PlainTemplate → PlainTemplate
+with_bound_scope es t = record t {
+  principal = bound_scope (option_map placed_uid (bound_to SlotId.Principal es)) t.principal;
+  resource = bound_scope (option_map placed_uid (bound_to SlotId.Resource es)) t.resource;
+}

@@ -1,0 +1,6 @@
+pub mod ValidatorViews
+pub mod Scopes
+pub mod Applications
+pub mod Members
+pub mod Passes
+pub mod SlotTypes

@@ -1,0 +1,85 @@
+// What the actions apply to that the scope of a policy admits.
+ghost use Rattle.std.specs.Prelude.{◌≡◌, map, IfOk};
+ghost use Rattle.cedar_types.specs.Declarations.{application, declared_action};
+ghost use Rattle.cedar_types.specs.Names.{uid_of};
+ghost use Rattle.cedar_types.specs.SchemaContents.{schema_of};
+ghost use Rattle.cedar_types.specs.Templates.{action_scope_of};
+ghost use Rattle.cedar_typechecker.specs.Members.{SameMembers};
+ghost use Rattle.cedar_typechecker.specs.Scopes.{declarations, admitted_actions, applications, admitted_applications};
+
+use cedar_types::base::{
+    ActionConstraint, EntityUID, ValidatorActionId, ValidatorApplySpec, ValidatorSchema,
+};
+use std::alloc::{AllocError, Global};
+
+/// What the admitted actions apply to, those that are defined.
+pub(crate) fn admitted_applications<'b>(
+    schema: &'b ValidatorSchema,
+    alloc: Global,
+    constraint: &'b ActionConstraint,
+) -> Result<Vec<&'b ValidatorApplySpec>, AllocError>
+    ensures { IfOk result (λ v. SameMembers
+        (map (λ a. application a.now) v.items)
+        (admitted_applications (schema_of schema.now) (action_scope_of constraint.now))) }
+{
+    let actions = admitted_actions(schema, alloc, constraint)?;
+    let applications = applications(alloc, &actions)?;
+    Ok(applications)
+}
+
+/// The declarations of the admitted actions.
+fn admitted_actions<'b>(
+    schema: &'b ValidatorSchema,
+    alloc: Global,
+    constraint: &'b ActionConstraint,
+) -> Result<Vec<&'b ValidatorActionId>, AllocError>
+    ensures { IfOk result (λ v. SameMembers
+        (map (λ a. declared_action a.now) v.items)
+        (admitted_actions (schema_of schema.now).actions (action_scope_of constraint.now))) }
+{
+    match constraint {
+        ActionConstraint::Any => schema.action_ids(alloc),
+        ActionConstraint::Eq(uid) => declarations(schema, alloc, &[uid]),
+        ActionConstraint::In(uids) => match schema.get_actions_in_set(alloc, uids)? {
+            Some(within) => declarations(schema, alloc, &within),
+            None => Ok(Vec::new(alloc)),
+        },
+    }
+}
+
+/// The declarations of those of these actions that are declared.
+fn declarations<'b>(
+    schema: &'b ValidatorSchema,
+    alloc: Global,
+    uids: &[&EntityUID],
+) -> Result<Vec<&'b ValidatorActionId>, AllocError>
+    ensures { IfOk result (λ v.
+        map (λ a. declared_action a.now) v.items
+        ≡ declarations (schema_of schema.now).actions (map (λ u. uid_of u.now) uids.now)) }
+{
+    let mut declared = Vec::new(alloc);
+    for uid in uids {
+        if let Some(action) = schema.get_action_id(uid) {
+            declared.push(action)?;
+        }
+    }
+    Ok(declared)
+}
+
+/// What these actions apply to, those that are defined.
+fn applications<'b>(
+    alloc: Global,
+    actions: &[&'b ValidatorActionId],
+) -> Result<Vec<&'b ValidatorApplySpec>, AllocError>
+    ensures { IfOk result (λ v.
+        map (λ a. application a.now) v.items
+        ≡ applications (map (λ a. declared_action a.now) actions.now)) }
+{
+    let mut defined = Vec::new(alloc);
+    for action in actions {
+        if let Some(applies_to) = action.defined() {
+            defined.push(applies_to)?;
+        }
+    }
+    Ok(defined)
+}

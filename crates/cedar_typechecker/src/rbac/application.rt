@@ -1,0 +1,127 @@
+// Whether the scope of a policy fits some action.
+ghost use Rattle.std.specs.Prelude.{◌≡◌, map, IfOk};
+ghost use Rattle.std.specs.List.{list_any};
+ghost use Rattle.cedar_types.specs.Declarations.{application};
+ghost use Rattle.cedar_types.specs.Names.{type_of};
+ghost use Rattle.cedar_types.specs.SchemaContents.{schema_of};
+ghost use Rattle.cedar_types.specs.Templates.{template_of, scope_of};
+ghost use Rattle.cedar_typechecker.specs.Applications.{fits, AnswersApplication, with_bound_scope};
+ghost use Rattle.cedar_typechecker.specs.ValidatorViews.{schema_in};
+
+use crate::rbac::actions::admitted_applications;
+use crate::rbac::entity_types::admitted_types;
+use crate::rbac::flags::{Side, in_might_help};
+use crate::rbac::linking::bound_constraint;
+use crate::rbac::members::has_any_type;
+use crate::rbac::validator::Validator;
+use cedar_types::base::{
+    ArgumentCheck, EntityType, Policy, PrincipalOrResourceConstraint, SlotId, Template,
+    ValidationWarning, ValidatorApplySpec, ValidatorSchema,
+};
+use std::alloc::{AllocError, Global};
+
+impl<C: ArgumentCheck> Validator<'_, C> {
+    /// Whether the scope of the template fits an action: whether an admitted action that is defined has a principal type
+    /// and a resource type among those that the constraints admit. A slot admits each declared type.
+    ///
+    /// Else the answer is a warning at the policy's place. A flag of it says that `in` in place of `==` might help: the
+    /// constraint is `==` an entity, no admitted and defined action lists the entity's type, and one lists a type that is
+    /// declared as a descendant of it. Where memory is refused, the answer is an `AllocError`.
+    #[tactic(auto, unfolding(crate::specs::ValidatorViews::schema_in))]
+    pub fn validate_template_action_application(
+        &self,
+        alloc: Global,
+        t: &Template,
+    ) -> Result<Result<(), ValidationWarning>, AllocError>
+        ensures { IfOk result
+            (AnswersApplication (schema_of (schema_in self.now)) (template_of t.now)) }
+    {
+        let principal = &t.principal_constraint.constraint;
+        let resource = &t.resource_constraint.constraint;
+        application(&self.schema, alloc, t, principal, resource)
+    }
+
+    /// The same of the scope of a linked policy, in which what a slot is bound to stands in the slot's place. A slot that is
+    /// not bound stays.
+    #[tactic(auto, unfolding(crate::specs::ValidatorViews::schema_in))]
+    pub fn validate_linked_action_application(
+        &self,
+        alloc: Global,
+        p: &Policy,
+    ) -> Result<Result<(), ValidationWarning>, AllocError>
+        ensures { IfOk result
+            (AnswersApplication (schema_of (schema_in self.now))
+            (with_bound_scope p.now.values.entries (template_of p.now.template.value))) }
+    {
+        let t = &*p.template;
+        let principal = bound_constraint(
+            &t.principal_constraint.constraint,
+            p.values.get(&SlotId::Principal),
+        )?;
+        let resource = bound_constraint(
+            &t.resource_constraint.constraint,
+            p.values.get(&SlotId::Resource),
+        )?;
+        application(&self.schema, alloc, t, &principal, &resource)
+    }
+}
+
+/// The same of a template with these constraints on the principal and on the resource.
+fn application(
+    schema: &ValidatorSchema,
+    alloc: Global,
+    t: &Template,
+    principal: &PrincipalOrResourceConstraint,
+    resource: &PrincipalOrResourceConstraint,
+) -> Result<Result<(), ValidationWarning>, AllocError>
+    ensures { IfOk result (AnswersApplication (schema_of schema.now)
+        (record (template_of t.now) {
+          principal = scope_of principal.now;
+          resource = scope_of resource.now;
+        })) }
+{
+    let applications = admitted_applications(schema, alloc, &t.action_constraint)?;
+    let principals = admitted_types(schema, alloc, principal)?;
+    let resources = admitted_types(schema, alloc, resource)?;
+    if has_fitting(&applications, &principals, &resources) {
+        return Ok(Ok(()));
+    }
+    let would_in_fix_principal = in_might_help(schema, Side::Principal, &applications, principal);
+    let would_in_fix_resource = in_might_help(schema, Side::Resource, &applications, resource);
+    let id = t.id.clone()?;
+    Ok(Err(ValidationWarning::invalid_action_application(
+        t.loc,
+        id,
+        would_in_fix_principal,
+        would_in_fix_resource,
+    )))
+}
+
+/// Whether one of these actions has a principal type and a resource type among these.
+fn has_fitting(
+    applications: &[&ValidatorApplySpec],
+    principals: &[&EntityType],
+    resources: &[&EntityType],
+) -> bool
+    ensures { result
+        ≡ list_any
+        (fits (map (λ t. type_of t.now) principals.now) (map (λ t. type_of t.now) resources.now))
+        (map (λ a. application a.now) applications.now) }
+{
+    applications
+        .iter()
+        .any(|applies_to| fits(applies_to, principals, resources))
+}
+
+fn fits(
+    applies_to: &ValidatorApplySpec,
+    principals: &[&EntityType],
+    resources: &[&EntityType],
+) -> bool
+    ensures { result
+        ≡ fits (map (λ t. type_of t.now) principals.now) (map (λ t. type_of t.now) resources.now)
+        (application applies_to.now) }
+{
+    has_any_type(&applies_to.principal_apply_spec, principals)
+        && has_any_type(&applies_to.resource_apply_spec, resources)
+}

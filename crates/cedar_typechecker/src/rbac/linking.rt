@@ -1,0 +1,52 @@
+// The scope of a linked policy.
+ghost use Rattle.std.specs.Prelude.{◌≡◌, IfOk, option_map};
+ghost use Rattle.cedar_types.specs.Names.{placed_uid};
+ghost use Rattle.cedar_types.specs.Templates.{reference_of, scope_of};
+ghost use Rattle.cedar_typechecker.specs.Applications.{bound_reference, bound_scope};
+
+use cedar_types::base::{EntityReference, EntityUID, PrincipalOrResourceConstraint};
+use std::alloc::AllocError;
+
+/// The constraint with this entity in place of its slot; without an entity the slot stays.
+pub(crate) fn bound_constraint(
+    constraint: &PrincipalOrResourceConstraint,
+    bound: Option<&EntityUID>,
+) -> Result<PrincipalOrResourceConstraint, AllocError>
+    ensures { IfOk result (λ c.
+        scope_of c
+        ≡ bound_scope (option_map (λ u. placed_uid u.now) bound.entry) (scope_of constraint.now)) }
+{
+    match constraint {
+        PrincipalOrResourceConstraint::Any => Ok(PrincipalOrResourceConstraint::Any),
+        PrincipalOrResourceConstraint::Eq(r) => {
+            let r = bound_reference(r, bound)?;
+            Ok(PrincipalOrResourceConstraint::Eq(r))
+        }
+        PrincipalOrResourceConstraint::In(r) => {
+            let r = bound_reference(r, bound)?;
+            Ok(PrincipalOrResourceConstraint::In(r))
+        }
+        PrincipalOrResourceConstraint::Is(t) => Ok(PrincipalOrResourceConstraint::Is(t.clone()?)),
+        PrincipalOrResourceConstraint::IsIn(t, r) => {
+            let t = t.clone()?;
+            let r = bound_reference(r, bound)?;
+            Ok(PrincipalOrResourceConstraint::IsIn(t, r))
+        }
+    }
+}
+
+fn bound_reference(
+    reference: &EntityReference,
+    bound: Option<&EntityUID>,
+) -> Result<EntityReference, AllocError>
+    ensures { IfOk result (λ r.
+        reference_of r
+        ≡ bound_reference (option_map (λ u. placed_uid u.now) bound.entry)
+        (reference_of reference.now)) }
+{
+    match (reference, bound) {
+        (EntityReference::Slot, Some(uid)) => Ok(EntityReference::EUID(uid.clone()?)),
+        (EntityReference::Slot, None) => Ok(EntityReference::Slot),
+        (EntityReference::EUID(uid), _) => Ok(EntityReference::EUID(uid.clone()?)),
+    }
+}

@@ -1,0 +1,73 @@
+// Members of sets of entity types, and of lists of ids.
+ghost use Rattle.std.specs.Prelude.{◌≡◌, map};
+ghost use Rattle.std.specs.List.{list_any};
+ghost use Rattle.cedar_types.specs.Names.{text_of, text_eq, type_of, path_eq};
+ghost use Rattle.cedar_types.specs.SchemaContents.{schema_of};
+ghost use Rattle.cedar_types.specs.Schemas.{is_among, descendants_of};
+ghost use Rattle.cedar_types.specs.Types.{types_of};
+
+use cedar_types::base::{EntityType, ValidatorSchema};
+use std::collections::BTreeSet;
+use std::rc::RcStr;
+
+/// Whether two entity types have one name.
+pub(crate) fn is_same_type(left: &EntityType, right: &EntityType) -> bool
+    ensures { result ≡ path_eq (type_of left.now) (type_of right.now) }
+{
+    left == right
+}
+
+/// Whether a set of types has this one.
+pub(crate) fn has_type(types: &BTreeSet<EntityType>, name: &EntityType) -> bool
+    ensures { result ≡ is_among (types_of types.now) (type_of name.now) }
+{
+    types.contains(name)
+}
+
+/// Whether some of these types is in the set.
+pub(crate) fn has_any_type(types: &BTreeSet<EntityType>, names: &[&EntityType]) -> bool
+    ensures { result ≡ list_any (is_among (types_of types.now)) (map (λ t. type_of t.now) names.now) }
+{
+    names.iter().any(|name| has_type(types, name))
+}
+
+/// Whether the one type is declared as a descendant of the other.
+pub(crate) fn is_declared_below(
+    schema: &ValidatorSchema,
+    above: &EntityType,
+    below: &EntityType,
+) -> bool
+    ensures { result
+        ≡ is_among (descendants_of (schema_of schema.now).types (type_of above.now))
+        (type_of below.now) }
+{
+    match schema.get_entity_type(above) {
+        Some(declared) => has_type(&declared.descendants, below),
+        None => false,
+    }
+}
+
+/// Whether some type of the set is declared as a descendant of this one.
+pub(crate) fn has_declared_below(
+    schema: &ValidatorSchema,
+    above: &EntityType,
+    types: &BTreeSet<EntityType>,
+) -> bool
+    ensures { result
+        ≡ list_any (is_among (descendants_of (schema_of schema.now).types (type_of above.now)))
+        (types_of types.now) }
+{
+    for below in types.iter() {
+        if is_declared_below(schema, above, below) {
+            return true;
+        }
+    }
+    false
+}
+
+/// Whether an enumeration has this id.
+pub(crate) fn has_id(ids: &[RcStr], id: &RcStr) -> bool
+    ensures { result ≡ list_any (text_eq (text_of id.now)) (map text_of ids.now) }
+{
+    ids.iter().any(|own| id == own)
+}
