@@ -3,5 +3,4 @@
 
 pub mod rbac;
 
-pub use cedar_types::base;
-pub use cedar_types::types;
+pub use cedar_types::{base, types};

@@ -83,13 +83,15 @@ fn list_below(
     ensures { result
         ≡ list_any
         (λ a. list_any
-            (is_among (descendants_of (schema_of schema.now).types (type_of named.now)))
-            (types_on side a))
+        (is_among (descendants_of (schema_of schema.now).types (type_of named.now)))
+        (types_on side a))
         (map (λ a. application a.now) applications.now) }
 {
-    applications
-        .iter()
-        .any(|applies_to| has_declared_below(schema, named, types_on(side, applies_to)))
+    applications.iter().any(|applies_to| has_declared_below(
+        schema,
+        named,
+        types_on(side, applies_to),
+    ))
 }
 
 /// The types of principals, or of resources, that an action applies to.

@@ -1,8 +1,11 @@
 // The passes over the names in a template.
 ghost use Rattle.std.specs.Prelude.{◌≡◌, false, [], ◌∷◌, IfOk, IsPermutation, MatchOption, option_map};
+ghost use Rattle.std.specs.List.{filter_map};
+ghost use Rattle.cedar_types.specs.Declarations.{type_kind};
 ghost use Rattle.cedar_types.specs.Errors.{finding_of};
 ghost use Rattle.cedar_types.specs.FallibleIterators.{YieldsOrEnds, calls_left};
-ghost use Rattle.cedar_types.specs.Findings.{unknown_types, unknown_actions, wrong_members, is_unknown_action, is_wrong_member};
+ghost use Rattle.cedar_types.specs.Findings.{unknown_types, unknown_actions, wrong_members, is_unknown_action, is_wrong_member, excludes};
+ghost use Rattle.cedar_types.specs.Mentions.{template_mentions};
 ghost use Rattle.cedar_types.specs.MentionViews.{mention_of};
 ghost use Rattle.cedar_types.specs.Names.{text_of, uid_of, placed_type, placed_uid};
 ghost use Rattle.cedar_types.specs.SchemaContents.{schema_of};
@@ -199,11 +202,7 @@ impl LiteralErrors<'_> {
             return Ok(None);
         }
         let id = self.template.id.clone()?;
-        Ok(Some(ValidationError::unrecognized_action_id(
-            uid.loc,
-            id,
-            uid.clone()?,
-        )))
+        Ok(Some(ValidationError::unrecognized_action_id(uid.loc, id, uid.clone()?)))
     }
 
     fn member_error(&self, uid: &EntityUID) -> Result<Option<ValidationError>, AllocError>
@@ -216,11 +215,7 @@ impl LiteralErrors<'_> {
             return Ok(None);
         }
         let id = self.template.id.clone()?;
-        Ok(Some(ValidationError::invalid_enum_entity(
-            uid.loc,
-            id,
-            uid.clone()?,
-        )))
+        Ok(Some(ValidationError::invalid_enum_entity(uid.loc, id, uid.clone()?)))
     }
 }
 

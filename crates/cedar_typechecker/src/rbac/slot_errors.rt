@@ -94,10 +94,7 @@ impl SlotTypeErrors<'_> {
     }
 }
 
-fn unknown_slot_type(
-    policy_id: &PolicyID,
-    uid: &EntityUID,
-) -> Result<ValidationError, AllocError>
+fn unknown_slot_type(policy_id: &PolicyID, uid: &EntityUID) -> Result<ValidationError, AllocError>
     ensures { IfOk result (λ e. finding_of e ≡ record {
       place = None;
       policy = text_of policy_id.now.text;
@@ -106,9 +103,5 @@ fn unknown_slot_type(
 {
     let policy_id = policy_id.clone()?;
     let entity_type = uid.entity_type.clone()?;
-    Ok(ValidationError::unrecognized_entity_type(
-        None,
-        policy_id,
-        entity_type,
-    ))
+    Ok(ValidationError::unrecognized_entity_type(None, policy_id, entity_type))
 }

@@ -1,0 +1,70 @@
+// Names, policies and what passes find, written short.
+use cedar_typechecker::base::{
+    ActionConstraint, EntityType, EntityUID, Expr, Loc, Name, PolicyID, PrincipalConstraint,
+    ResourceConstraint, Template, ValidationError,
+};
+use std::alloc::{AllocError, Global};
+use std::test::Fail;
+
+pub const POLICY: Option<Loc> = Some(Loc { start: 1, end: 90 });
+
+pub fn place(start: usize) -> Option<Loc> {
+    Some(Loc { start, end: 90 })
+}
+
+/// The type of this name, which starts here.
+pub fn typed(alloc: Global, name: &str, start: usize) -> Result<EntityType, AllocError> {
+    let name = Name::unqualified_name(alloc, name)?;
+    Ok(EntityType::new(name, place(start)))
+}
+
+/// The id that starts here and its type one byte further.
+pub fn uid(alloc: Global, name: &str, eid: &str, start: usize) -> Result<EntityUID, AllocError> {
+    let entity_type = typed(alloc, name, start.saturating_add(1))?;
+    EntityUID::from_components(alloc, entity_type, eid, place(start))
+}
+
+pub fn template(
+    alloc: Global,
+    principal: PrincipalConstraint,
+    action: ActionConstraint,
+    resource: ResourceConstraint,
+    rest: Option<Expr>,
+) -> Result<Template, AllocError> {
+    let id = PolicyID::from_string(alloc, "policy0")?;
+    Ok(Template::new(id, POLICY, principal, action, resource, rest))
+}
+
+/// An error as the place at which it starts, `-` for none, and its text.
+pub fn shown(alloc: Global, error: &ValidationError) -> Result<String, AllocError> {
+    match error.source_loc() {
+        Some(loc) => format!(in alloc; "{}: {error}", loc.start),
+        None => format!(in alloc; "-: {error}"),
+    }
+}
+
+/// More steps than any walk here has.
+const MOST: usize = 16;
+
+/// The errors of a pass in the order of their texts. It ends before this many steps and then gives nothing any more.
+pub fn found<I: Iterator<Item = Result<ValidationError, AllocError>> + Drop>(
+    alloc: Global,
+    mut errors: I,
+) -> Result<String, Fail>
+    requires can { I.can_next errors }
+{
+    let mut texts = Vec::new(alloc);
+    let mut ended = false;
+    for _ in 0..MOST {
+        match errors.next() {
+            None => ended = true,
+            Some(_) if ended => return Err(Fail::from("an item after the end")),
+            Some(error) => texts.push(shown(alloc, &error?)?)?,
+        }
+    }
+    if !ended {
+        return Err(Fail::from("more steps"));
+    }
+    texts.sort()?;
+    Ok(texts.as_slice().join(alloc, " | ")?)
+}

@@ -1,0 +1,106 @@
+// The types that a constraint on the principal or on the resource admits.
+use crate::names::{typed, uid};
+use crate::schemas::{users_alone, users_and_files};
+use cedar_typechecker::base::{
+    EntityType, ExtensionSchemas, PrincipalConstraint, ResourceConstraint, ValidatorSchema,
+};
+use cedar_typechecker::rbac::Validator;
+use std::alloc::{AllocError, Global};
+use std::test::Fail;
+
+/// The names in ascending order.
+fn names(alloc: Global, types: &[&EntityType]) -> Result<String, AllocError> {
+    let mut names = Vec::new(alloc);
+    for entity_type in types {
+        names.push(entity_type.to_string(alloc)?)?;
+    }
+    names.sort()?;
+    names.as_slice().join(alloc, ",")
+}
+
+fn principals(
+    alloc: Global,
+    schema: ValidatorSchema,
+    constraint: &PrincipalConstraint,
+) -> Result<String, Fail> {
+    let extensions = ExtensionSchemas::default(alloc);
+    let validator = Validator::new(schema, &extensions);
+    let types = validator.get_principals_satisfying_constraint(alloc, constraint)?;
+    Ok(names(alloc, &types)?)
+}
+
+#[test]
+fn each_type_is_listed_once(rt: HostRuntime) -> Result<(), Fail> {
+    let alloc = rt.alloc();
+    let [known, unknown] = [typed(alloc, "User", 0)?, typed(alloc, "Gone", 0)?];
+    let [inside, outside] = [typed(alloc, "User", 0)?, typed(alloc, "File", 0)?];
+    let [action, kept] = [typed(alloc, "Action", 0)?, typed(alloc, "User", 0)?];
+    for (constraint, want) in [
+        (PrincipalConstraint::any(), "Color,File,Group,User"),
+        (PrincipalConstraint::is_eq_slot(), "Color,File,Group,User"),
+        (PrincipalConstraint::is_in_slot(), "Color,File,Group,User"),
+        (
+            PrincipalConstraint::is_eq(uid(alloc, "Gone", "g", 0)?),
+            "Gone",
+        ),
+        (
+            PrincipalConstraint::is_in(uid(alloc, "Gone", "g", 0)?),
+            "Gone",
+        ),
+        (
+            PrincipalConstraint::is_in(uid(alloc, "User", "u", 0)?),
+            "User",
+        ),
+        (
+            PrincipalConstraint::is_in(uid(alloc, "Group", "g", 0)?),
+            "Group,User",
+        ),
+        (PrincipalConstraint::is_entity_type(known), "User"),
+        (PrincipalConstraint::is_entity_type(unknown), ""),
+        (PrincipalConstraint::is_entity_type(action), "Action"),
+        (PrincipalConstraint::is_entity_type_in_slot(kept), "User"),
+        (
+            PrincipalConstraint::is_entity_type_in(inside, uid(alloc, "Group", "g", 0)?),
+            "User",
+        ),
+        (
+            PrincipalConstraint::is_entity_type_in(outside, uid(alloc, "Group", "g", 0)?),
+            "",
+        ),
+    ] {
+        let found = principals(alloc, users_and_files(alloc)?, &constraint)?;
+        assert_eq!(rt; found.as_str(), want);
+    }
+    Ok(())
+}
+
+#[test]
+fn a_slot_admits_the_only_type(rt: HostRuntime) -> Result<(), Fail> {
+    let alloc = rt.alloc();
+    let constraint = PrincipalConstraint::is_eq_slot();
+    let found = principals(alloc, users_alone(alloc)?, &constraint)?;
+    assert_eq!(rt; found.as_str(), "User");
+    Ok(())
+}
+
+#[test]
+fn resources_are_admitted_by_the_same_rules(rt: HostRuntime) -> Result<(), Fail> {
+    let alloc = rt.alloc();
+    let extensions = ExtensionSchemas::default(alloc);
+    let validator = Validator::new(users_and_files(alloc)?, &extensions);
+    assert!(rt;
+        validator
+            .schema()
+            .is_known_entity_type(&typed(alloc, "File", 0)?)
+    );
+    assert!(rt;
+        validator
+            .extensions()
+            .func_type(&typed(alloc, "f", 0)?.name)
+            .is_none()
+    );
+    let constraint = ResourceConstraint::is_in(uid(alloc, "Group", "g", 0)?);
+    let types = validator.get_resources_satisfying_constraint(alloc, &constraint)?;
+    assert_eq!(rt; names(alloc, &types)?.as_str(), "Group,User");
+    Ok(())
+}
