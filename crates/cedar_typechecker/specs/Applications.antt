@@ -43,30 +43,30 @@ equal_type (typed_within t r) = None
 
 -- no action lists the type itself, and one lists a type that is declared as its descendant
 abbrev pub lists_only_below : Schema → Side → List Application → Path → Bool
-lists_only_below s side as p =
-    not (list_any (λ a. is_among (types_on side a) p) as)
-    && list_any (λ a. list_any (is_among (descendants_of s.types p)) (types_on side a)) as
+lists_only_below s side apps p =
+    not (list_any (λ a. is_among (types_on side a) p) apps)
+    && list_any (λ a. list_any (is_among (descendants_of s.types p)) (types_on side a)) apps
 
 abbrev pub might_help : Schema → Side → List Application → Option Path → Bool
-might_help s side as None = false
-might_help s side as (Some p) = lists_only_below s side as p
+might_help s side apps None = false
+might_help s side apps (Some p) = lists_only_below s side apps p
 
 -- the constraint is `==` an entity, no admitted, defined action lists its type, and one lists a descendant of it
 abbrev pub in_might_help : Schema → Side → List Application → Scope → Bool
-in_might_help s side as c = might_help s side as (equal_type c)
+in_might_help s side apps c = might_help s side apps (equal_type c)
 
 -- ---- the warning
 
 -- at the policy's place, with a flag for the principal and one for the resource
 abbrev pub application_warning : Schema → PlainTemplate → Caution
 application_warning s t =
-    let as = admitted_applications s t.action in
+    let apps = admitted_applications s t.action in
     record {
       place = t.place;
       policy = t.id;
       slip = invalid_action_application
-        (in_might_help s Principal as t.principal)
-        (in_might_help s Resource as t.resource);
+          (in_might_help s Principal apps t.principal)
+          (in_might_help s Resource apps t.resource);
     }
 
 -- nothing is answered where an action fits, and the warning where none does

@@ -1,9 +1,9 @@
 // What the actions apply to that the scope of a policy admits.
 ghost use Rattle.std.specs.Prelude.{◌≡◌, map, IfOk};
 ghost use Rattle.cedar_types.specs.Declarations.{application, declared_action};
-ghost use Rattle.cedar_types.specs.Names.{uid_of};
+ghost use Rattle.cedar_types.specs.Names.{placed_uid, uid_of};
 ghost use Rattle.cedar_types.specs.SchemaContents.{schema_of};
-ghost use Rattle.cedar_types.specs.Templates.{action_scope_of};
+ghost use Rattle.cedar_types.specs.Templates.{action_scope_of, within_actions};
 ghost use Rattle.cedar_typechecker.specs.Members.{SameMembers};
 ghost use Rattle.cedar_typechecker.specs.Scopes.{declarations, admitted_actions, applications, admitted_applications};
 
@@ -23,7 +23,7 @@ pub(crate) fn admitted_applications<'b>(
         (admitted_applications (schema_of schema.now) (action_scope_of constraint.now))) }
 {
     let actions = admitted_actions(schema, alloc, constraint)?;
-    let applications = applications(alloc, &actions)?;
+    let applications = applications(alloc, actions.as_slice())?;
     Ok(applications)
 }
 
@@ -38,12 +38,35 @@ fn admitted_actions<'b>(
         (admitted_actions (schema_of schema.now).actions (action_scope_of constraint.now))) }
 {
     match constraint {
-        ActionConstraint::Any => schema.action_ids(alloc),
+        ActionConstraint::Any => {
+            let actions = schema.action_ids(alloc)?;
+            Ok(actions)
+        }
         ActionConstraint::Eq(uid) => declarations(schema, alloc, &[uid]),
-        ActionConstraint::In(uids) => match schema.get_actions_in_set(alloc, uids)? {
-            Some(within) => declarations(schema, alloc, &within),
-            None => Ok(Vec::new(alloc)),
-        },
+        ActionConstraint::In(uids) => {
+            let within = actions_within(schema, alloc, uids)?;
+            Ok(within)
+        }
+    }
+}
+
+/// The declarations of these actions and of their descendants, or none at all if one of them is not declared.
+fn actions_within<'b>(
+    schema: &'b ValidatorSchema,
+    alloc: Global,
+    uids: &'b [EntityUID],
+) -> Result<Vec<&'b ValidatorActionId>, AllocError>
+    ensures { IfOk result (λ v. SameMembers
+        (map (λ a. declared_action a.now) v.items)
+        (admitted_actions (schema_of schema.now).actions (within_actions (map placed_uid uids.now)))) }
+{
+    let ids = schema.get_actions_in_set(alloc, uids)?;
+    match ids {
+        Some(ids) => {
+            let actions = declarations(schema, alloc, ids.as_slice())?;
+            Ok(actions)
+        }
+        None => Ok(Vec::new(alloc)),
     }
 }
 

@@ -2,6 +2,7 @@
 ghost use Rattle.std.specs.Prelude.{◌≡◌, map, IfOk};
 ghost use Rattle.std.specs.List.{list_any};
 ghost use Rattle.cedar_types.specs.Declarations.{application};
+ghost use Rattle.cedar_types.specs.Errors.{caution_of, invalid_action_application};
 ghost use Rattle.cedar_types.specs.Names.{type_of};
 ghost use Rattle.cedar_types.specs.SchemaContents.{schema_of};
 ghost use Rattle.cedar_types.specs.Templates.{template_of, scope_of};
@@ -11,7 +12,7 @@ ghost use Rattle.cedar_typechecker.specs.ValidatorViews.{schema_in};
 use crate::rbac::actions::admitted_applications;
 use crate::rbac::entity_types::admitted_types;
 use crate::rbac::flags::{Side, in_might_help};
-use crate::rbac::linking::bound_constraint;
+use crate::rbac::linking::{bound_constraint, bound_to};
 use crate::rbac::members::has_any_type;
 use crate::rbac::validator::Validator;
 use cedar_types::base::{
@@ -56,13 +57,14 @@ impl<C: ArgumentCheck> Validator<'_, C> {
         let t = &*p.template;
         let principal = bound_constraint(
             &t.principal_constraint.constraint,
-            p.values.get(&SlotId::Principal),
+            bound_to(&p.values, SlotId::Principal),
         )?;
         let resource = bound_constraint(
             &t.resource_constraint.constraint,
-            p.values.get(&SlotId::Resource),
+            bound_to(&p.values, SlotId::Resource),
         )?;
-        application(&self.schema, alloc, t, &principal, &resource)
+        let answer = application(&self.schema, alloc, t, &principal, &resource)?;
+        Ok(answer)
     }
 }
 
@@ -80,21 +82,38 @@ fn application(
           resource = scope_of resource.now;
         })) }
 {
-    let applications = admitted_applications(schema, alloc, &t.action_constraint)?;
+    let listed = admitted_applications(schema, alloc, &t.action_constraint)?;
     let principals = admitted_types(schema, alloc, principal)?;
     let resources = admitted_types(schema, alloc, resource)?;
-    if has_fitting(&applications, &principals, &resources) {
+    let applications = listed.as_slice();
+    if has_fitting(applications, principals.as_slice(), resources.as_slice()) {
         return Ok(Ok(()));
     }
-    let would_in_fix_principal = in_might_help(schema, Side::Principal, &applications, principal);
-    let would_in_fix_resource = in_might_help(schema, Side::Resource, &applications, resource);
+    let would_in_fix_principal = in_might_help(schema, Side::Principal, applications, principal);
+    let would_in_fix_resource = in_might_help(schema, Side::Resource, applications, resource);
+    let warning = warning(t, would_in_fix_principal, would_in_fix_resource)?;
+    Ok(Err(warning))
+}
+
+/// The warning on this template, with these flags.
+fn warning(
+    t: &Template,
+    would_in_fix_principal: bool,
+    would_in_fix_resource: bool,
+) -> Result<ValidationWarning, AllocError>
+    ensures { IfOk result (λ w. caution_of w ≡ record {
+      place = (template_of t.now).place;
+      policy = (template_of t.now).id;
+      slip = invalid_action_application would_in_fix_principal would_in_fix_resource;
+    }) }
+{
     let id = t.id.clone()?;
-    Ok(Err(ValidationWarning::invalid_action_application(
+    Ok(ValidationWarning::invalid_action_application(
         t.loc,
         id,
         would_in_fix_principal,
         would_in_fix_resource,
-    )))
+    ))
 }
 
 /// Whether one of these actions has a principal type and a resource type among these.

@@ -1,11 +1,22 @@
 // The scope of a linked policy.
 ghost use Rattle.std.specs.Prelude.{◌≡◌, IfOk, option_map};
 ghost use Rattle.cedar_types.specs.Names.{placed_uid};
+ghost use Rattle.cedar_types.specs.RequestEnvs.{bound_to};
 ghost use Rattle.cedar_types.specs.Templates.{reference_of, scope_of};
 ghost use Rattle.cedar_typechecker.specs.Applications.{bound_reference, bound_scope};
 
-use cedar_types::base::{EntityReference, EntityUID, PrincipalOrResourceConstraint};
+use cedar_types::base::{
+    EntityReference, EntityUID, PrincipalOrResourceConstraint, SlotEnv, SlotId,
+};
 use std::alloc::AllocError;
+
+/// What a slot is bound to.
+pub(crate) fn bound_to(slots: &SlotEnv, slot: SlotId) -> Option<&EntityUID>
+    ensures { option_map (λ u. placed_uid u.now) result
+        ≡ option_map placed_uid (bound_to slot slots.now.entries) }
+{
+    slots.get(&slot)
+}
 
 /// The constraint with this entity in place of its slot; without an entity the slot stays.
 pub(crate) fn bound_constraint(

@@ -1,0 +1,36 @@
+use Rattle.std.proofs.Common.{◌≡◌, ◌∙◌, ap, sym, subst, map, Bool, List}
+use Rattle.std.specs.List.{list_any}
+use Rattle.cedar_types.specs.Declarations.{application}
+use Rattle.cedar_types.specs.Errors.{invalid_action_application}
+use Rattle.cedar_types.specs.Listings.{ListsTypes}
+use Rattle.cedar_types.specs.Names.{type_of}
+use Rattle.cedar_types.specs.SchemaContents.{schema_of}
+use Rattle.cedar_types.specs.Templates.{template_of, scope_of, action_scope_of}
+use Rattle.cedar_typechecker.specs.declared.rbac.flags.Side.{Side}
+use Rattle.cedar_typechecker.specs.Applications.{fits, has_fitting_action}
+use Rattle.cedar_typechecker.specs.Members.{SameMembers}
+use Rattle.cedar_typechecker.specs.Scopes.{admitted_types, admitted_applications}
+use Rattle.cedar_typechecker.proofs.Answers.{fits_listed, flag_listed}
+use Rattle.cedar_typechecker.proofs.rbac.application.application.Goals as goal
+
+pub returns-then-has_fitting : goal.returns-then-has_fitting
+returns-then-has_fitting c =
+    let s = schema_of c.args.schema.now in
+    let t = record (template_of c.args.t.now) { principal = scope_of c.args.principal.now; resource = scope_of c.args.resource.now } in
+    let apps = subst (λ xs. SameMembers (map (λ a. application a.now) xs) (admitted_applications s t.action)) (sym c.as_slice-applications.ensures.value) c.in_ok-listed.ensures in
+    let principals = subst (λ xs. ListsTypes (admitted_types s t.principal) (map (λ p. type_of p.now) xs)) (sym c.as_slice.ensures.value) c.in_ok-principals.ensures in
+    let resources = subst (λ xs. ListsTypes (admitted_types s t.resource) (map (λ p. type_of p.now) xs)) (sym c.as_slice-2.ensures.value) c.in_ok-resources.ensures in
+    sym (fits_listed s t _ _ _ principals resources apps) ∙ sym c.has_fitting.ensures ∙ c.if-has_fitting.true
+
+pub returns : goal.returns
+returns c =
+    let s = schema_of c.args.schema.now in
+    let t = record (template_of c.args.t.now) { principal = scope_of c.args.principal.now; resource = scope_of c.args.resource.now } in
+    let apps = subst (λ xs. SameMembers (map (λ a. application a.now) xs) (admitted_applications s t.action)) (sym c.as_slice-applications.ensures.value) c.in_ok-listed.ensures in
+    let principals = subst (λ xs. ListsTypes (admitted_types s t.principal) (map (λ p. type_of p.now) xs)) (sym c.as_slice.ensures.value) c.in_ok-principals.ensures in
+    let resources = subst (λ xs. ListsTypes (admitted_types s t.resource) (map (λ p. type_of p.now) xs)) (sym c.as_slice-2.ensures.value) c.in_ok-resources.ensures in
+    let for_principal = c.in_might_help-would_in_fix_principal.ensures ∙ flag_listed s Side.Principal t.principal _ _ apps in
+    let for_resource = c.in_might_help-would_in_fix_resource.ensures ∙ flag_listed s Side.Resource t.resource _ _ apps in (
+      sym (fits_listed s t _ _ _ principals resources apps) ∙ sym c.has_fitting.ensures ∙ c.if-has_fitting.false,
+      c.in_ok-warning.ensures ∙ (λ i. record { place = t.place; policy = t.id; slip = invalid_action_application (for_principal i) (for_resource i) }),
+    )

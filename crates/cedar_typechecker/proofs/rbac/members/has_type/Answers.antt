@@ -1,0 +1,7 @@
+use Rattle.std.proofs.Common.{◌∙◌}
+use Rattle.cedar_types.specs.Names.{type_of}
+use Rattle.cedar_types.proofs.Names.Paths.{contained, names_cmp}
+use Rattle.cedar_typechecker.proofs.rbac.members.has_type.Goals as goal
+
+pub returns : goal.returns
+returns c = c.contains.ensures ∙ contained _ (type_of c.args.name.now) (λ k. names_cmp c.args.name.now.name k.name) c.args.types.now.keys
