@@ -11,6 +11,10 @@ use std::collections::BTreeMap;
 use std::rc::Rc;
 use std::test::Fail;
 
+const NO_FLAG: &str = "warning principal=false resource=false";
+
+const ONE_FLAG: &str = "warning principal=true resource=false";
+
 /// What an application comes to; a warning has the policy's place.
 fn outcome(alloc: Global, application: &Result<(), ValidationWarning>) -> Result<String, Fail> {
     match application {
@@ -50,39 +54,19 @@ fn of_principal(
 #[test]
 fn scopes_by_types_of_principals(rt: HostRuntime) -> Result<(), Fail> {
     let alloc = rt.alloc();
-    let admin = || uid(alloc, "admins", "a", 0);
-    let typed_user = typed(alloc, "user", 0)?;
-    let any = || ActionConstraint::any();
-    let gone = ActionConstraint::is_in(vec![in alloc; uid(alloc, "Action", "gone", 0)?]?);
-    for (principal, action, want) in [
-        (PrincipalConstraint::is_in(admin()?), any(), "applies"),
+    let id = |name| uid(alloc, name, "a", 0);
+    let user = typed(alloc, "user", 0)?;
+    for (principal, want) in [
+        (PrincipalConstraint::is_in(id("admins")?), "applies"),
+        (PrincipalConstraint::is_eq(id("admins")?), ONE_FLAG),
+        (PrincipalConstraint::is_eq(id("user")?), "applies"),
         (
-            PrincipalConstraint::is_eq(admin()?),
-            any(),
-            "warning principal=true resource=false",
+            PrincipalConstraint::is_entity_type_in(user, id("bin")?),
+            NO_FLAG,
         ),
-        (
-            PrincipalConstraint::any(),
-            gone,
-            "warning principal=false resource=false",
-        ),
-        (
-            PrincipalConstraint::is_eq(uid(alloc, "user", "u", 0)?),
-            any(),
-            "applies",
-        ),
-        (
-            PrincipalConstraint::is_entity_type_in(typed_user, uid(alloc, "bin", "b", 0)?),
-            any(),
-            "warning principal=false resource=false",
-        ),
-        (
-            PrincipalConstraint::is_eq(uid(alloc, "Action", "act", 0)?),
-            any(),
-            "warning principal=false resource=false",
-        ),
+        (PrincipalConstraint::is_eq(id("Action")?), NO_FLAG),
     ] {
-        let policy = of_principal(alloc, principal, action)?;
+        let policy = of_principal(alloc, principal, ActionConstraint::any())?;
         let found = applied(alloc, users_and_widgets(alloc)?, &policy)?;
         assert_eq!(rt; found.as_str(), want);
     }
@@ -118,45 +102,23 @@ fn both_flags_of_a_warning_and_its_text(rt: HostRuntime) -> Result<(), Fail> {
 #[test]
 fn scopes_by_actions(rt: HostRuntime) -> Result<(), Fail> {
     let alloc = rt.alloc();
-    let action = |eid| uid(alloc, "Action", eid, 0);
-    let user = || uid(alloc, "User", "u", 0);
-    let group = || uid(alloc, "Group", "g", 0);
     for (principal, actions, want) in [
-        (user()?, vec![in alloc; action("read")?]?, "applies"),
-        (user()?, vec![in alloc; action("all")?]?, "applies"),
-        (
-            user()?,
-            vec![in alloc; action("write")?]?,
-            "warning principal=false resource=false",
-        ),
-        (
-            group()?,
-            vec![in alloc; action("write")?, action("far")?]?,
-            "applies",
-        ),
-        (
-            group()?,
-            vec![in alloc; action("read")?]?,
-            "warning principal=true resource=false",
-        ),
-        (
-            group()?,
-            vec![in alloc; action("all")?, action("gone")?]?,
-            "warning principal=false resource=false",
-        ),
-        (
-            group()?,
-            vec![in alloc; action("far")?]?,
-            "warning principal=false resource=false",
-        ),
-        (
-            user()?,
-            Vec::new(alloc),
-            "warning principal=false resource=false",
-        ),
+        ("User", "read", "applies"),
+        ("User", "all", "applies"),
+        ("User", "write", NO_FLAG),
+        ("User", "", NO_FLAG),
+        ("Group", "write far", "applies"),
+        ("Group", "read", ONE_FLAG),
+        ("Group", "all gone", NO_FLAG),
+        ("Group", "gone", NO_FLAG),
+        ("Group", "far", NO_FLAG),
     ] {
-        let constraint = ActionConstraint::is_in(actions);
-        let policy = of_principal(alloc, PrincipalConstraint::is_eq(principal), constraint)?;
+        let mut listed = Vec::new(alloc);
+        for eid in actions.split_whitespace() {
+            listed.push(uid(alloc, "Action", eid, 0)?)?;
+        }
+        let principal = PrincipalConstraint::is_eq(uid(alloc, principal, "a", 0)?);
+        let policy = of_principal(alloc, principal, ActionConstraint::is_in(listed))?;
         let found = applied(alloc, users_and_files(alloc)?, &policy)?;
         assert_eq!(rt; found.as_str(), want);
     }
@@ -185,10 +147,7 @@ fn linked(alloc: Global, bound: Option<EntityUID>) -> Result<String, Fail> {
 fn linked_scopes(rt: HostRuntime) -> Result<(), Fail> {
     let alloc = rt.alloc();
     for (bound, want) in [
-        (
-            Some(uid(alloc, "admins", "a", 0)?),
-            "warning principal=true resource=false",
-        ),
+        (Some(uid(alloc, "admins", "a", 0)?), ONE_FLAG),
         (Some(uid(alloc, "user", "u", 0)?), "applies"),
         (None, "applies"),
     ] {

@@ -37,18 +37,38 @@ fn open(alloc: Global, rest: Option<Expr>) -> Result<Template, AllocError> {
     template(alloc, principal, ActionConstraint::any(), resource, rest)
 }
 
+/// The errors on types, on actions and on members.
+fn errors_of(
+    alloc: Global,
+    schema: &ValidatorSchema,
+    policy: &Template,
+) -> Result<[String; 3], Fail> {
+    let types = Validator::validate_entity_types(alloc, schema, policy);
+    let actions = Validator::validate_action_ids(alloc, schema, policy);
+    let members = Validator::validate_enum_entity(alloc, schema, policy);
+    Ok([
+        found(alloc, types)?,
+        found(alloc, actions)?,
+        found(alloc, members)?,
+    ])
+}
+
 #[test]
 fn unknown_types_are_found_wherever_they_occur(rt: HostRuntime) -> Result<(), Fail> {
     let alloc = rt.alloc();
-    let schema = users_alone(alloc)?;
-    let policy = full(alloc)?;
-    let errors = found(
-        alloc,
-        Validator::validate_entity_types(alloc, &schema, &policy),
-    )?;
+    let [types, actions, _members] = errors_of(alloc, &users_alone(alloc)?, &full(alloc)?)?;
+    let want = [
+        "10: unrecognized entity type `A`",
+        "14: unrecognized entity type `B`",
+        "31: unrecognized entity type `C`",
+        "41: unrecognized entity type `D`",
+        "50: unrecognized entity type `E`",
+    ];
+    let want = want.join(alloc, " | ")?;
+    assert_eq!(rt; types.as_str(), want.as_str());
     assert_eq!(rt;
-        errors.as_str(),
-        "10: for policy `policy0`, unrecognized entity type `A` | 14: for policy `policy0`, unrecognized entity type `B` | 31: for policy `policy0`, unrecognized entity type `C` | 41: for policy `policy0`, unrecognized entity type `D` | 50: for policy `policy0`, unrecognized entity type `E`"
+        actions.as_str(),
+        "20: unrecognized action `Action::\"gone\"`"
     );
     Ok(())
 }
@@ -56,32 +76,27 @@ fn unknown_types_are_found_wherever_they_occur(rt: HostRuntime) -> Result<(), Fa
 #[test]
 fn undeclared_actions_are_found_wherever_they_occur(rt: HostRuntime) -> Result<(), Fail> {
     let alloc = rt.alloc();
-    let schema = users_and_widgets(alloc)?;
-    let actions = vec![in alloc;
-        uid(alloc, "Action", "act", 20)?,
-        uid(alloc, "Action", "a", 24)?,
-        uid(alloc, "Action", "a", 28)?,
-    ]?;
-    let test = Expr::is_eq(
-        alloc,
-        Expr::var(Var::Action),
-        literal(alloc, "Action", "b", 40)?,
-    )?;
+    let mut listed = Vec::new(alloc);
+    for (eid, start) in [("act", 20), ("a", 24), ("a", 28)] {
+        listed.push(uid(alloc, "Action", eid, start)?)?;
+    }
+    let other = literal(alloc, "Action", "b", 40)?;
     let policy = template(
         alloc,
         PrincipalConstraint::is_eq(uid(alloc, "user", "a", 10)?),
-        ActionConstraint::is_in(actions),
+        ActionConstraint::is_in(listed),
         ResourceConstraint::any(),
-        Some(test),
+        Some(Expr::is_eq(alloc, Expr::var(Var::Action), other)?),
     )?;
-    let errors = found(
-        alloc,
-        Validator::validate_action_ids(alloc, &schema, &policy),
-    )?;
-    assert_eq!(rt;
-        errors.as_str(),
-        "24: for policy `policy0`, unrecognized action `Action::\"a\"` | 28: for policy `policy0`, unrecognized action `Action::\"a\"` | 40: for policy `policy0`, unrecognized action `Action::\"b\"`"
-    );
+    let [types, actions, _members] = errors_of(alloc, &users_and_widgets(alloc)?, &policy)?;
+    let want = [
+        "24: unrecognized action `Action::\"a\"`",
+        "28: unrecognized action `Action::\"a\"`",
+        "40: unrecognized action `Action::\"b\"`",
+    ];
+    let want = want.join(alloc, " | ")?;
+    assert_eq!(rt; actions.as_str(), want.as_str());
+    assert_eq!(rt; types.as_str(), "");
     Ok(())
 }
 
@@ -89,48 +104,21 @@ fn undeclared_actions_are_found_wherever_they_occur(rt: HostRuntime) -> Result<(
 fn ids_that_an_enumerated_type_does_not_have_are_found(rt: HostRuntime) -> Result<(), Fail> {
     let alloc = rt.alloc();
     let schema = users_and_files(alloc)?;
-    for (first, errors) in [
-        (
-            "red",
-            "40: for policy `policy0`, entity `Color::\"blue\"` is not a member of its enumerated type",
-        ),
-        (
-            "blue",
-            "20: for policy `policy0`, entity `Color::\"blue\"` is not a member of its enumerated type | 40: for policy `policy0`, entity `Color::\"blue\"` is not a member of its enumerated type",
-        ),
-    ] {
-        let (left, right) = (
-            literal(alloc, "Color", first, 20)?,
-            literal(alloc, "Color", "blue", 40)?,
-        );
+    for (left, want) in [("red", "40: blue"), ("blue", "20: blue | 40: blue")] {
+        let left = literal(alloc, "Color", left, 20)?;
+        let right = literal(alloc, "Color", "blue", 40)?;
         let policy = open(alloc, Some(Expr::is_eq(alloc, left, right)?))?;
-        let given = found(
-            alloc,
-            Validator::validate_enum_entity(alloc, &schema, &policy),
-        )?;
-        assert_eq!(rt; given.as_str(), errors);
+        let [_types, _actions, members] = errors_of(alloc, &schema, &policy)?;
+        let said = "entity `Color::\"blue\"` is not a member of its enumerated type";
+        let want = want.replace(alloc, "blue", said)?;
+        assert_eq!(rt; members.as_str(), want.as_str());
     }
     Ok(())
-}
-
-/// The numbers of errors of the three passes.
-fn none_is_found(alloc: Global, schema: &ValidatorSchema, policy: &Template) -> Result<bool, Fail> {
-    let types = found(
-        alloc,
-        Validator::validate_entity_types(alloc, schema, policy),
-    )?;
-    let actions = found(alloc, Validator::validate_action_ids(alloc, schema, policy))?;
-    let members = found(
-        alloc,
-        Validator::validate_enum_entity(alloc, schema, policy),
-    )?;
-    Ok(types.is_empty() && actions.is_empty() && members.is_empty())
 }
 
 #[test]
 fn what_a_schema_has_is_no_error(rt: HostRuntime) -> Result<(), Fail> {
     let alloc = rt.alloc();
-    let schema = users_and_files(alloc)?;
     let policy = template(
         alloc,
         PrincipalConstraint::is_entity_type_in_slot(typed(alloc, "User", 10)?),
@@ -138,15 +126,18 @@ fn what_a_schema_has_is_no_error(rt: HostRuntime) -> Result<(), Fail> {
         ResourceConstraint::is_eq(uid(alloc, "Color", "green", 30)?),
         None,
     )?;
-    assert!(rt; none_is_found(alloc, &schema, &policy)?);
-    assert!(rt; none_is_found(alloc, &ValidatorSchema::empty(alloc), &open(alloc, None)?)?);
+    for errors in errors_of(alloc, &users_and_files(alloc)?, &policy)? {
+        assert_eq!(rt; errors.as_str(), "");
+    }
+    for errors in errors_of(alloc, &ValidatorSchema::empty(alloc), &open(alloc, None)?)? {
+        assert_eq!(rt; errors.as_str(), "");
+    }
     Ok(())
 }
 
 #[test]
-fn a_type_and_an_action_of_an_empty_schema(rt: HostRuntime) -> Result<(), Fail> {
+fn a_type_and_an_action_that_an_empty_schema_does_not_have(rt: HostRuntime) -> Result<(), Fail> {
     let alloc = rt.alloc();
-    let schema = ValidatorSchema::empty(alloc);
     let policy = template(
         alloc,
         PrincipalConstraint::any(),
@@ -154,21 +145,12 @@ fn a_type_and_an_action_of_an_empty_schema(rt: HostRuntime) -> Result<(), Fail> 
         ResourceConstraint::is_eq(uid(alloc, "foo_type", "foo_name", 30)?),
         None,
     )?;
-    let types = found(
-        alloc,
-        Validator::validate_entity_types(alloc, &schema, &policy),
-    )?;
-    assert_eq!(rt;
-        types.as_str(),
-        "31: for policy `policy0`, unrecognized entity type `foo_type`"
-    );
-    let actions = found(
-        alloc,
-        Validator::validate_action_ids(alloc, &schema, &policy),
-    )?;
+    let [types, actions, members] = errors_of(alloc, &ValidatorSchema::empty(alloc), &policy)?;
+    assert_eq!(rt; types.as_str(), "31: unrecognized entity type `foo_type`");
     assert_eq!(rt;
         actions.as_str(),
-        "20: for policy `policy0`, unrecognized action `Action::\"foo_name\"`"
+        "20: unrecognized action `Action::\"foo_name\"`"
     );
+    assert_eq!(rt; members.as_str(), "");
     Ok(())
 }

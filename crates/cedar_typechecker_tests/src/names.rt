@@ -35,11 +35,14 @@ pub fn template(
     Ok(Template::new(id, POLICY, principal, action, resource, rest))
 }
 
-/// An error as the place at which it starts, `-` for none, and its text.
-pub fn shown(alloc: Global, error: &ValidationError) -> Result<String, AllocError> {
+/// An error as the place at which it starts, `-` for none, and its text, without `policy0` before it.
+fn shown(alloc: Global, error: &ValidationError) -> Result<String, AllocError> {
+    let text = error.to_string(alloc)?;
+    let said = text.as_str();
+    let said = said.strip_prefix("for policy `policy0`, ").unwrap_or(said);
     match error.source_loc() {
-        Some(loc) => format!(in alloc; "{}: {error}", loc.start),
-        None => format!(in alloc; "-: {error}"),
+        Some(loc) => format!(in alloc; "{}: {said}", loc.start),
+        None => format!(in alloc; "-: {said}"),
     }
 }
 

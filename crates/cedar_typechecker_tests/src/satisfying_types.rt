@@ -32,39 +32,29 @@ fn principals(
 #[test]
 fn each_type_is_listed_once(rt: HostRuntime) -> Result<(), Fail> {
     let alloc = rt.alloc();
-    let [known, unknown] = [typed(alloc, "User", 0)?, typed(alloc, "Gone", 0)?];
-    let [inside, outside] = [typed(alloc, "User", 0)?, typed(alloc, "File", 0)?];
-    let [action, kept] = [typed(alloc, "Action", 0)?, typed(alloc, "User", 0)?];
+    let id = |name| uid(alloc, name, "a", 0);
+    let t = |name| typed(alloc, name, 0);
     for (constraint, want) in [
         (PrincipalConstraint::any(), "Color,File,Group,User"),
         (PrincipalConstraint::is_eq_slot(), "Color,File,Group,User"),
         (PrincipalConstraint::is_in_slot(), "Color,File,Group,User"),
+        (PrincipalConstraint::is_eq(id("Gone")?), "Gone"),
+        (PrincipalConstraint::is_in(id("Gone")?), "Gone"),
+        (PrincipalConstraint::is_in(id("User")?), "User"),
+        (PrincipalConstraint::is_in(id("Group")?), "Group,User"),
+        (PrincipalConstraint::is_entity_type(t("User")?), "User"),
+        (PrincipalConstraint::is_entity_type(t("Gone")?), ""),
+        (PrincipalConstraint::is_entity_type(t("Action")?), "Action"),
         (
-            PrincipalConstraint::is_eq(uid(alloc, "Gone", "g", 0)?),
-            "Gone",
-        ),
-        (
-            PrincipalConstraint::is_in(uid(alloc, "Gone", "g", 0)?),
-            "Gone",
-        ),
-        (
-            PrincipalConstraint::is_in(uid(alloc, "User", "u", 0)?),
+            PrincipalConstraint::is_entity_type_in_slot(t("User")?),
             "User",
         ),
         (
-            PrincipalConstraint::is_in(uid(alloc, "Group", "g", 0)?),
-            "Group,User",
-        ),
-        (PrincipalConstraint::is_entity_type(known), "User"),
-        (PrincipalConstraint::is_entity_type(unknown), ""),
-        (PrincipalConstraint::is_entity_type(action), "Action"),
-        (PrincipalConstraint::is_entity_type_in_slot(kept), "User"),
-        (
-            PrincipalConstraint::is_entity_type_in(inside, uid(alloc, "Group", "g", 0)?),
+            PrincipalConstraint::is_entity_type_in(t("User")?, id("Group")?),
             "User",
         ),
         (
-            PrincipalConstraint::is_entity_type_in(outside, uid(alloc, "Group", "g", 0)?),
+            PrincipalConstraint::is_entity_type_in(t("File")?, id("Group")?),
             "",
         ),
     ] {
