@@ -77,7 +77,7 @@ fn add_once(reasons: &mut Vec<String>, line: String) -> Result<(), AllocError> {
 }
 
 /// Where the error stands in the policy's text, what stands there, and what is wrong with it.
-fn reason(alloc: Global, text: &str, error: &ValidationError) -> Result<String, AllocError> {
+pub(crate) fn reason(alloc: Global, text: &str, error: &ValidationError) -> Result<String, AllocError> {
     let Some(Loc { start, end }) = error.source_loc() else {
         return error.to_string(alloc);
     };
@@ -86,6 +86,6 @@ fn reason(alloc: Global, text: &str, error: &ValidationError) -> Result<String, 
 }
 
 /// The line of a policy that is refused without an error.
-fn unexplained(alloc: Global, policy: &PolicyID) -> Result<String, AllocError> {
+pub(crate) fn unexplained(alloc: Global, policy: &PolicyID) -> Result<String, AllocError> {
     format!(in alloc; "for policy `{policy}`, no error says why: {UNEXPLAINED}")
 }

@@ -1,7 +1,7 @@
 //! Policies, as the trees that a host's own parser would make of their texts.
 use cedar_types::base::{
-    ActionConstraint, Expr, Literal, Loc, Name, PolicyID, PrincipalConstraint, ResourceConstraint,
-    Template, Var,
+    ActionConstraint, EntityType, EntityUID, Expr, Literal, Loc, Name, PolicyID,
+    PrincipalConstraint, ResourceConstraint, Template, Var,
 };
 use std::alloc::{AllocError, Global};
 
@@ -22,6 +22,13 @@ pub const FROM_RANGE: &str =
 /// The range is no address.
 pub const FROM_NOWHERE: &str =
     "permit(principal, action, resource) when { principal.address.isInRange(ip(\"\")) };";
+
+/// No type has the name `Ghost`. In `&& false` typing says no more than that it is False.
+pub const HAUNTED: &str =
+    "permit(principal, action, resource) when { (Ghost::\"casper\" < 1) && false };";
+
+/// About the user that the slot is bound to.
+pub const OF_ONE_USER: &str = "permit(principal == ?principal, action, resource);";
 
 /// The place at which the text first has this part.
 fn place_in(text: &str, part: &str) -> Option<Loc> {
@@ -60,6 +67,29 @@ pub fn unguarded(alloc: Global) -> Result<Template, AllocError> {
 pub fn misspelt(alloc: Global) -> Result<Template, AllocError> {
     let test = Expr::has_attr(alloc, Expr::var(Var::Principal), "vlp")?;
     permit_when(alloc, MISSPELT, test)
+}
+
+/// `(Ghost::"casper" < 1) && false`, where the type of `casper` is at its place
+pub fn haunted(alloc: Global) -> Result<Template, AllocError> {
+    let name = Name::unqualified_name(alloc, "Ghost")?;
+    let ghosts = EntityType::new(name, place_in(HAUNTED, "Ghost"));
+    let casper = EntityUID::from_components(alloc, ghosts, "casper", None)?;
+    let one = Expr::val(Literal::from(1));
+    let test = Expr::less(alloc, Expr::val(Literal::from(casper)), one)?;
+    let never = Expr::val(Literal::from(false));
+    permit_when(alloc, HAUNTED, Expr::and(alloc, test, never)?)
+}
+
+/// `principal == ?principal`, in the scope
+pub fn of_one_user(alloc: Global) -> Result<Template, AllocError> {
+    Ok(Template::new(
+        PolicyID::from_string(alloc, "policy0")?,
+        place_in(OF_ONE_USER, OF_ONE_USER),
+        PrincipalConstraint::is_eq_slot(),
+        ActionConstraint::any(),
+        ResourceConstraint::any(),
+        None,
+    ))
 }
 
 /// `principal.address.isInRange(ip("10.0.0.0/8"))`
