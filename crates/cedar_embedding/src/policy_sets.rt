@@ -1,13 +1,15 @@
 //! A host that validates a set of policies.
-ghost use Rattle.std.specs.Prelude.{◌≡◌, true, [], All, IfOk};
+ghost use Rattle.std.specs.Prelude.{◌≡◌, true, [], map, All, IfOk};
+ghost use Rattle.cedar_types.specs.SchemaContents.{schema_of};
 ghost use Rattle.cedar_types.specs.Templates.{template_of};
+ghost use Rattle.cedar_typing.specs.PolicySoundness.{IsNamedBySchema};
 ghost use Rattle.cedar_typechecker.specs.Passes.{errors_left};
-ghost use Rattle.cedar_embedding.specs.Safety.{basis_of, DoesNotGoWrong, IsNeverTrue};
+ghost use Rattle.cedar_embedding.specs.Safety.{strict_basis, DoesNotGoWrong, IsNeverTrue, IsRight};
 
 use crate::admission::{reason, unexplained};
 use cedar_typechecker::rbac::{LiteralErrors, Validator};
 use cedar_types::base::{
-    ArgumentCheck, Template, ValidationError, ValidationMode, ValidationWarning,
+    ArgumentCheck, Template, ValidationError, ValidationMode, ValidationWarning, ValidatorSchema,
 };
 use cedar_typing::typecheck::Typechecker;
 use std::alloc::{AllocError, Global};
@@ -49,14 +51,9 @@ pub fn validate_set<'a, C: ArgumentCheck>(
     validator: &Validator<'_, C>,
     policies: &'a [WrittenPolicy],
 ) -> Result<Vec<PolicyReport<'a>>, AllocError>
-    ensures safe { IfOk result (λ reports. All (λ r.
-        r.is_accepted ≡ true
-        → DoesNotGoWrong (basis_of C.refusal validator.now) (template_of r.policy.now.template))
-        reports.items) }
-    ensures never_true { IfOk result (λ reports. All (λ r.
-        r.is_impossible ≡ true
-        → IsNeverTrue (basis_of C.refusal validator.now) (template_of r.policy.now.template))
-        reports.items) }
+    ensures each { IfOk result (λ reports. map (λ r. r.policy.now) reports.items ≡ policies.now) }
+    ensures right { IfOk result (λ reports.
+        All (IsRight (strict_basis C.refusal validator.now)) reports.items) }
 {
     let mut reports = Vec::with_capacity(alloc, policies.len())?;
     for policy in policies {
@@ -74,27 +71,41 @@ pub fn validate<C: ArgumentCheck>(
     policy: &Template,
 ) -> Result<Findings, AllocError>
     ensures safe { IfOk result (λ found. found.is_accepted ≡ true
-        → DoesNotGoWrong (basis_of C.refusal validator.now) (template_of policy.now)) }
+        → DoesNotGoWrong (strict_basis C.refusal validator.now) (template_of policy.now)) }
     ensures never_true { IfOk result (λ found. found.is_impossible ≡ true
-        → IsNeverTrue (basis_of C.refusal validator.now) (template_of policy.now)) }
+        → IsNeverTrue (strict_basis C.refusal validator.now) (template_of policy.now)) }
 {
     let schema = validator.schema();
     let mut errors = HashSet::new(alloc);
     let mut warnings = HashSet::new(alloc);
-    let types = Validator::validate_entity_types(alloc, schema, policy);
-    let knows_types = is_empty(types, &mut errors)?;
-    let actions = Validator::validate_action_ids(alloc, schema, policy);
-    let knows_actions = is_empty(actions, &mut errors)?;
-    let members = Validator::validate_enum_entity(alloc, schema, policy);
-    let knows_members = is_empty(members, &mut errors)?;
+    let is_named = is_named(alloc, schema, policy, &mut errors)?;
     let checker = Typechecker::new(schema, validator.extensions(), ValidationMode::Strict);
     let passes = checker.typecheck_policy(alloc, policy, &mut errors, &mut warnings)?;
     Ok(Findings {
-        is_accepted: knows_types && knows_actions && knows_members && passes,
+        is_accepted: is_named & passes,
         is_impossible: !warnings.is_empty(),
         errors,
         warnings,
     })
+}
+
+/// Whether each type, action and id that a policy names is the schema's. What is not is added.
+fn is_named(
+    alloc: Global,
+    schema: &ValidatorSchema,
+    policy: &Template,
+    errors: &mut HashSet<ValidationError>,
+) -> Result<bool, AllocError>
+    ensures { IfOk result (λ named. named ≡ true
+        → IsNamedBySchema (schema_of schema.now) (template_of policy.now)) }
+{
+    let types = Validator::validate_entity_types(alloc, schema, policy);
+    let knows_types = is_empty(types, errors)?;
+    let actions = Validator::validate_action_ids(alloc, schema, policy);
+    let knows_actions = is_empty(actions, errors)?;
+    let members = Validator::validate_enum_entity(alloc, schema, policy);
+    let knows_members = is_empty(members, errors)?;
+    Ok(knows_types & knows_actions & knows_members)
 }
 
 /// Whether a pass finds nothing. What it finds is added.
