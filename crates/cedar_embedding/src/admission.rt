@@ -77,7 +77,11 @@ fn add_once(reasons: &mut Vec<String>, line: String) -> Result<(), AllocError> {
 }
 
 /// Where the error stands in the policy's text, what stands there, and what is wrong with it.
-pub(crate) fn reason(alloc: Global, text: &str, error: &ValidationError) -> Result<String, AllocError> {
+pub(crate) fn reason(
+    alloc: Global,
+    text: &str,
+    error: &ValidationError,
+) -> Result<String, AllocError> {
     let Some(Loc { start, end }) = error.source_loc() else {
         return error.to_string(alloc);
     };

@@ -30,6 +30,9 @@ pub const HAUNTED: &str =
 /// About the user that the slot is bound to.
 pub const OF_ONE_USER: &str = "permit(principal == ?principal, action, resource);";
 
+/// No action is on documents as principals.
+pub const BY_A_DOCUMENT: &str = "permit(principal == Document::\"plan\", action, resource);";
+
 /// The place at which the text first has this part.
 fn place_in(text: &str, part: &str) -> Option<Loc> {
     let start = text.find(part)?;
@@ -82,10 +85,26 @@ pub fn haunted(alloc: Global) -> Result<Template, AllocError> {
 
 /// `principal == ?principal`, in the scope
 pub fn of_one_user(alloc: Global) -> Result<Template, AllocError> {
+    permit_to(alloc, OF_ONE_USER, PrincipalConstraint::is_eq_slot())
+}
+
+/// `principal == Document::"plan"`, in the scope
+pub fn by_a_document(alloc: Global) -> Result<Template, AllocError> {
+    let documents = EntityType::from(Name::unqualified_name(alloc, "Document")?);
+    let plan = EntityUID::from_components(alloc, documents, "plan", None)?;
+    permit_to(alloc, BY_A_DOCUMENT, PrincipalConstraint::is_eq(plan))
+}
+
+/// The policy of this text, with this constraint on the principal alone.
+fn permit_to(
+    alloc: Global,
+    text: &str,
+    principal: PrincipalConstraint,
+) -> Result<Template, AllocError> {
     Ok(Template::new(
         PolicyID::from_string(alloc, "policy0")?,
-        place_in(OF_ONE_USER, OF_ONE_USER),
-        PrincipalConstraint::is_eq_slot(),
+        place_in(text, text),
+        principal,
         ActionConstraint::any(),
         ResourceConstraint::any(),
         None,

@@ -1,7 +1,7 @@
 // What the host says of a set of policies.
 use crate::policies::{
-    APPROVED_SHARING, HAUNTED, MISSPELT, OF_ONE_USER, UNGUARDED, approved_sharing, haunted,
-    misspelt, of_one_user, unguarded,
+    APPROVED_SHARING, BY_A_DOCUMENT, HAUNTED, MISSPELT, OF_ONE_USER, UNGUARDED, approved_sharing,
+    by_a_document, haunted, misspelt, of_one_user, unguarded,
 };
 use crate::policy_sets::{PolicyReport, WrittenPolicy, validate_set};
 use crate::schemas::documents;
@@ -13,8 +13,14 @@ use std::test::Fail;
 
 const IMPOSSIBLE_2: &str =
     "for policy `policy2`, policy is impossible: it evaluates to false for every valid request";
+
 const IMPOSSIBLE_3: &str =
     "for policy `policy3`, policy is impossible: it evaluates to false for every valid request";
+
+const IMPOSSIBLE_5: &str =
+    "for policy `policy5`, policy is impossible: it evaluates to false for every valid request";
+const UNFIT_5: &str =
+    "for policy `policy5`, unable to find an applicable action given the policy scope constraints";
 
 /// Each policy with its text and an id of its own.
 fn policies(alloc: Global) -> Result<Vec<WrittenPolicy>, AllocError> {
@@ -23,7 +29,8 @@ fn policies(alloc: Global) -> Result<Vec<WrittenPolicy>, AllocError> {
         policy(alloc, "policy1", unguarded(alloc)?, UNGUARDED)?,
         policy(alloc, "policy2", misspelt(alloc)?, MISSPELT)?,
         policy(alloc, "policy3", haunted(alloc)?, HAUNTED)?,
-        policy(alloc, "policy4", of_one_user(alloc)?, OF_ONE_USER)?
+        policy(alloc, "policy4", of_one_user(alloc)?, OF_ONE_USER)?,
+        policy(alloc, "policy5", by_a_document(alloc)?, BY_A_DOCUMENT)?,
     ]?)
 }
 
@@ -79,6 +86,12 @@ const WANTED: &[Want] = &[
         is_impossible: false,
         errors: &[],
         warnings: &[],
+    },
+    Want {
+        is_accepted: true,
+        is_impossible: true,
+        errors: &[],
+        warnings: &[IMPOSSIBLE_5, UNFIT_5],
     },
 ];
 

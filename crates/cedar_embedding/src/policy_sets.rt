@@ -63,8 +63,8 @@ pub fn validate_set<'a, C: ArgumentCheck>(
     Ok(reports)
 }
 
-/// What is found in a policy: the types, actions and ids that the schema does not have, and what typing finds in all
-/// environments.
+/// What is found in a policy: the types, actions and ids that the schema does not have, what typing finds in all
+/// environments, and whether no action fits the scope.
 pub fn validate<C: ArgumentCheck>(
     alloc: Global,
     validator: &Validator<'_, C>,
@@ -81,9 +81,13 @@ pub fn validate<C: ArgumentCheck>(
     let is_named = is_named(alloc, schema, policy, &mut errors)?;
     let checker = Typechecker::new(schema, validator.extensions(), ValidationMode::Strict);
     let passes = checker.typecheck_policy(alloc, policy, &mut errors, &mut warnings)?;
+    let is_impossible = !warnings.is_empty();
+    if let Err(warning) = validator.validate_template_action_application(alloc, policy)? {
+        warnings.insert(warning)?;
+    }
     Ok(Findings {
         is_accepted: is_named & passes,
-        is_impossible: !warnings.is_empty(),
+        is_impossible,
         errors,
         warnings,
     })

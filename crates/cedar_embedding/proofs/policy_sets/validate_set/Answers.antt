@@ -27,10 +27,10 @@ loop-policy-preserved g c =
     let inv = c.loop-policy.invariant in
     record {
       each =
-        ap (map about) pushed
-        ∙ map_push about old said
-        ∙ (λ j. inv.each j ++ (report.policy j).now ∷ [])
-        ∙ ap (λ p. take i policies ++ p ∷ []) c.policy-item.is
-        ∙ sym (take_more policies i policy c.loop-policy-test.true);
+          ap (map about) pushed
+          ∙ map_push about old said
+          ∙ (λ j. inv.each j ++ (report.policy j).now ∷ [])
+          ∙ ap (λ p. take i policies ++ p ∷ []) c.policy-item.is
+          ∙ sym (take_more policies i policy c.loop-policy-test.true);
       right = subst (All (IsRight b)) (sym pushed) (All-push (IsRight b) old said inv.right is_right);
     }
