@@ -20,8 +20,8 @@ use Rattle.cedar_embedding.specs.declared.policy_sets.PolicyReport.{PolicyReport
 
 -- ---- in one environment
 
--- in each world that conforms, with the slots of the condition bound, evaluation gives a boolean, or fails only for a missing
--- entity, an overflow or an extension function
+-- in each world that conforms, with the slots of the condition bound, evaluation gives a boolean, or
+-- fails only for a missing entity, an overflow or an extension function
 abbrev pub IsSafeToEvaluate : Setting → Source → Type 0
 IsSafeToEvaluate s e =
     IsReliable s → (world : World) → IsWorldOf s world → SlotsBound world.slots e
@@ -40,23 +40,23 @@ strict_basis meaning v = record {
   };
 }
 
--- in each world that conforms, evaluation gives a boolean, or fails only for a missing entity, an overflow or an extension
--- function: of a policy without unknowns, whose slots stand in its scope alone and are bound, by a schema without external
--- declarations
+-- in each world that conforms, evaluation gives a boolean, or fails only for a missing entity, an
+-- overflow or an extension function: of a policy without unknowns, whose slots stand in its scope
+-- alone and are bound, by a schema without external declarations
 abbrev pub DoesNotGoWrong : Basis → PlainTemplate → Type 0
 DoesNotGoWrong b t =
     IsStrictAndClosed b → (world : World) → IsWellFormed t world.slots → IsConforming b world
     → IsBooleanOrAllowed (eval world (condition_of t))
 
--- in each world that conforms, evaluation does not give true: of a policy whose slots stand in its scope alone, whether or
--- not they are bound
+-- in each world that conforms, evaluation does not give true: of a policy whose slots stand in its
+-- scope alone, whether or not they are bound
 abbrev pub IsNeverTrue : Basis → PlainTemplate → Type 0
 IsNeverTrue b t =
     IsStrictAndClosed b → SlotsInScopeAlone t → (world : World) → IsConforming b world
     → IsTrueOutcome (eval world (condition_of t)) → ⊥
 
--- a report of a policy says no more than is so: if it is accepted it does not go wrong, and if it is impossible it is never
--- true
+-- a report of a policy says no more than is so: if it is accepted it does not go wrong, and if it is
+-- impossible it is never true
 pub record IsRight (b : Basis) (r : PolicyReport) : Type 0 where
   pub safe : r.is_accepted ≡ true → DoesNotGoWrong b (template_of r.policy.now.template)
   pub never_true : r.is_impossible ≡ true → IsNeverTrue b (template_of r.policy.now.template)

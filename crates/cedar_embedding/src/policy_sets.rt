@@ -45,7 +45,8 @@ pub struct PolicyReport<'a> {
     pub warnings: Vec<String>,
 }
 
-/// A report on each policy of the set. Those that are accepted do not go wrong, and those that are impossible are never true.
+/// A report on each policy of the set. Those that are accepted do not go wrong, and those that are
+/// impossible are never true.
 pub fn validate_set<'a, C: ArgumentCheck>(
     alloc: Global,
     validator: &Validator<'_, C>,
@@ -63,8 +64,8 @@ pub fn validate_set<'a, C: ArgumentCheck>(
     Ok(reports)
 }
 
-/// What is found in a policy: the types, actions and ids that the schema does not have, what typing finds in all
-/// environments, and whether no action fits the scope.
+/// What is found in a policy: the types, actions and ids that the schema does not have, what typing
+/// finds in all environments, and whether no action fits the scope.
 pub fn validate<C: ArgumentCheck>(
     alloc: Global,
     validator: &Validator<'_, C>,

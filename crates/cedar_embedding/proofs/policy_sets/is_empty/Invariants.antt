@@ -4,4 +4,5 @@ use Rattle.cedar_embedding.proofs.policy_sets.is_empty.Given as goal
 
 -- while nothing came, all is left
 abbrev pub invariant-loop-error : goal.invariant-loop-error
-invariant-loop-error l = l.empty ≡ true → errors_left l.error-iterator ≡ errors_left l.fn.found
+invariant-loop-error l =
+    l.empty ≡ true → errors_left l.error-iterator ≡ errors_left l.fn.found

@@ -16,7 +16,8 @@ returns-clause-never_true g c h =
     let m = g.C.ArgumentCheck.refusal in
     let t = template_of c.args.policy.now in
     let schema = ap (λ s. s.now) c.new-checker.ensures.schema ∙ c.schema-schema.ensures in
-    let extensions = ap (λ x. x.now) (c.new-checker.ensures.extensions ∙ c.extensions.ensures) in
+    let lent = c.new-checker.ensures.extensions ∙ c.extensions.ensures in
+    let extensions = ap (λ x. x.now) lent in
     let same : basis_of m c.new-checker.result ≡ strict_basis m c.args.validator.now = λ i. record {
       schema = schema_of (schema i);
       mode = c.new-checker.ensures.mode i;
@@ -28,7 +29,11 @@ returns-clause-never_true g c h =
     let none = c.new-warnings.ensures.empty in
     let new = c.typecheck_policy.new.warnings.keys in
     let checks = c.in_ok-passes.ensures.exact in
-    let P : List ValidationWarning → Type 0 = λ ws. Adds (map caution_of ws) (warnings_of t checks.verdicts) (map caution_of new) in
+    let P : List ValidationWarning → Type 0 =
+        λ ws. Adds (map caution_of ws) (warnings_of t checks.verdicts) (map caution_of new) in
     let Q : List ValidationWarning → Type 0 = λ ws. IsOneOf (impossible t) (map caution_of ws) in
-    let is_warned = warned t checks.verdicts new (has_member new c.is_empty.result c.is_empty.ensures h) (subst P none checks.warnings_added) in
-    subst (λ b. IsNeverTrue b t) same (c.in_ok-passes.ensures.never_true (λ k. subst Q none k) is_warned)
+    let is_empty = c.is_empty-is_impossible in
+    let some = has_member new is_empty.result is_empty.ensures h in
+    let is_warned = warned t checks.verdicts new some (subst P none checks.warnings_added) in
+    let never = c.in_ok-passes.ensures.never_true (λ k. subst Q none k) is_warned in
+    subst (λ b. IsNeverTrue b t) same never

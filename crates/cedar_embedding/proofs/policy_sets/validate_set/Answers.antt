@@ -1,4 +1,4 @@
-use Rattle.std.proofs.Common.{◌≡◌, take, map, All, ◌++◌, ◌∷◌, [], sym, ap, subst, ◌∙◌}
+use Rattle.std.proofs.Common.{take, map, All, ◌++◌, ◌∷◌, [], sym, ap, subst, ◌∙◌}
 use Rattle.std.proofs.lemmas.List.{map_push, take_more}
 use Rattle.std.proofs.lemmas.List.Elements.{All-push}
 use Rattle.cedar_types.specs.Templates.{template_of}
@@ -14,9 +14,10 @@ loop-policy-preserved g c =
     let report = c.in_ok-report.ensures in
     let found = c.in_ok-findings.ensures in
     let of_policy = sym (ap (λ p. template_of p.now.template) report.policy) in
-    let is_right : IsRight b said = record {
+    let right_now : IsRight b said = record {
       safe = λ h. subst (DoesNotGoWrong b) of_policy (found.safe (sym report.accepted ∙ h));
-      never_true = λ h. subst (IsNeverTrue b) of_policy (found.never_true (sym report.impossible ∙ h));
+      never_true =
+          λ h. subst (IsNeverTrue b) of_policy (found.never_true (sym report.impossible ∙ h));
     } in
     let about : PolicyReport → WrittenPolicy = λ r. r.policy.now in
     let policies = c.args.policies.now in
@@ -25,6 +26,7 @@ loop-policy-preserved g c =
     let old = c.loop-policy.reports.items in
     let pushed = c.in_ok-push.ensures.items in
     let inv = c.loop-policy.invariant in
+    let all_right = All-push (IsRight b) old said inv.right right_now in
     record {
       each =
           ap (map about) pushed
@@ -32,5 +34,5 @@ loop-policy-preserved g c =
           ∙ (λ j. inv.each j ++ (report.policy j).now ∷ [])
           ∙ ap (λ p. take i policies ++ p ∷ []) c.policy-item.is
           ∙ sym (take_more policies i policy c.loop-policy-test.true);
-      right = subst (All (IsRight b)) (sym pushed) (All-push (IsRight b) old said inv.right is_right);
+      right = subst (All (IsRight b)) (sym pushed) all_right;
     }
