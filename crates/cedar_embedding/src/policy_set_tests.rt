@@ -19,6 +19,7 @@ const IMPOSSIBLE_3: &str =
 
 const IMPOSSIBLE_5: &str =
     "for policy `policy5`, policy is impossible: it evaluates to false for every valid request";
+
 const UNFIT_5: &str =
     "for policy `policy5`, unable to find an applicable action given the policy scope constraints";
 

@@ -1,14 +1,14 @@
 use Rattle.std.proofs.Common.{◌≡◌, List, map, ap, subst, ◌∙◌}
-use Rattle.cedar_types.specs.declared.base.errors.validation_warnings.ValidationWarning.{ValidationWarning}
-use Rattle.cedar_types.specs.Errors.{caution_of}
+use Rattle.cedar_types.specs.Errors.{Caution, caution_of}
 use Rattle.cedar_types.specs.Extensions.{functions_of, overloaded_types_of}
 use Rattle.cedar_types.specs.SchemaContents.{schema_of}
 use Rattle.cedar_types.specs.Templates.{template_of}
 use Rattle.cedar_typing.specs.CheckViews.{basis_of}
 use Rattle.cedar_typing.specs.Evaluation.Conformance.{IsOneOf}
-use Rattle.cedar_typing.specs.PolicyOutcome.{Adds, impossible, warnings_of}
+use Rattle.cedar_typing.specs.PolicyOutcome.{impossible}
+use Rattle.cedar_typing.proofs.PolicySoundness.{warned_impossible}
 use Rattle.cedar_embedding.specs.Safety.{strict_basis, IsNeverTrue}
-use Rattle.cedar_embedding.proofs.Warnings.{has_member, warned}
+use Rattle.cedar_embedding.proofs.Warnings.{some_warning}
 use Rattle.cedar_embedding.proofs.policy_sets.validate.Goals as goal
 
 pub returns-clause-never_true : goal.returns-clause-never_true
@@ -26,14 +26,12 @@ returns-clause-never_true g c h =
         overloaded_types = overloaded_types_of (extensions i);
       };
     } in
-    let none = c.new-warnings.ensures.empty in
-    let new = c.typecheck_policy.new.warnings.keys in
-    let checks = c.in_ok-passes.ensures.exact in
-    let P : List ValidationWarning → Type 0 =
-        λ ws. Adds (map caution_of ws) (warnings_of t checks.verdicts) (map caution_of new) in
-    let Q : List ValidationWarning → Type 0 = λ ws. IsOneOf (impossible t) (map caution_of ws) in
+    let old : List Caution = map caution_of c.new-warnings.result.keys in
+    let none = ap (map caution_of) c.new-warnings.ensures.empty in
+    let found = c.typecheck_policy.new.warnings.keys in
     let is_empty = c.is_empty-is_impossible in
-    let some = has_member new is_empty.result is_empty.ensures h in
-    let is_warned = warned t checks.verdicts new some (subst P none checks.warnings_added) in
-    let never = c.in_ok-passes.ensures.never_true (λ k. subst Q none k) is_warned in
-    subst (λ b. IsNeverTrue b t) same never
+    let some = some_warning found is_empty.result is_empty.ensures h in
+    let outcome = c.in_ok-passes.ensures.exact in
+    let warned = warned_impossible t old (map caution_of found) outcome none some.0 some.1 in
+    let never = c.in_ok-passes.ensures.never_true (λ k. subst (IsOneOf (impossible t)) none k) in
+    subst (λ b. IsNeverTrue b t) same (never warned)
