@@ -11,5 +11,7 @@ pub mod membership;
 pub mod operators;
 pub mod policies;
 pub mod schemas;
+pub mod scopes;
 pub mod tables;
 pub mod tags;
+pub mod uids;

@@ -1,5 +1,5 @@
 // The rows on the environments that a policy is checked in.
-use crate::fixtures::policies::ScopeForm;
+use crate::fixtures::scopes::{ActionForm, ConstraintForm, ReferenceForm, ScopeForm};
 use crate::rows::Report;
 use crate::rows::checks::outcome_of;
 use crate::rows::expected::Expected;
@@ -35,6 +35,22 @@ pub struct EnvironmentsCase {
     pub checks: &'static [WantedCheck],
 }
 
+/// The principal is in what its slot is bound to.
+const PRINCIPAL_IN_SLOT: ScopeForm = ScopeForm {
+    text: "permit(principal in ?principal, action, resource)",
+    principal: ConstraintForm::In(ReferenceForm::Slot),
+    action: ActionForm::Any,
+    resource: ConstraintForm::Any,
+};
+
+/// The same, and the resource is what its slot is bound to.
+const BOTH_SLOTS: ScopeForm = ScopeForm {
+    text: "permit(principal in ?principal, action, resource == ?resource)",
+    principal: ConstraintForm::In(ReferenceForm::Slot),
+    action: ActionForm::Any,
+    resource: ConstraintForm::Eq(ReferenceForm::Slot),
+};
+
 /// Users may be in users, so the slot is linked to them twice.
 const USER_SLOT: WantedCheck = WantedCheck {
     environment: WantedEnvironment::Linked {
@@ -47,7 +63,7 @@ const USER_SLOT: WantedCheck = WantedCheck {
 /// Two equal environments.
 pub const REPEATED_ENVIRONMENTS: EnvironmentsCase = EnvironmentsCase {
     policy: PolicyForm {
-        scope: ScopeForm::PrincipalInSlot,
+        scope: PRINCIPAL_IN_SLOT,
         rest: None,
     },
     checks: &[USER_SLOT, USER_SLOT],
@@ -74,7 +90,7 @@ pub const UNDECLARED_ACTIONS: EnvironmentsCase = EnvironmentsCase {
 /// Users may be in admins, and a widget equals itself alone.
 pub const LINKED_SLOTS: EnvironmentsCase = EnvironmentsCase {
     policy: PolicyForm {
-        scope: ScopeForm::BothSlots,
+        scope: BOTH_SLOTS,
         rest: None,
     },
     checks: &[

@@ -15,8 +15,11 @@ pub enum Expected {
 }
 
 /// The id of the policy of each check.
+pub const POLICY: &str = "policy0";
+
+/// The same as an id.
 pub fn policy_id(alloc: Global) -> Result<PolicyID, AllocError> {
-    PolicyID::from_string(alloc, "policy0")
+    PolicyID::from_string(alloc, POLICY)
 }
 
 impl Expected {
@@ -28,7 +31,7 @@ impl Expected {
                 Ok(errors.is_empty() && matches!(self, Expected::Irrelevant))
             }
             PolicyCheck::Fail(errors) => match self {
-                Expected::Fail(wanted) => are_wanted(alloc, errors, wanted),
+                Expected::Fail(wanted) => are_wanted(alloc, POLICY, errors, wanted),
                 Expected::Success => Ok(false),
                 Expected::Irrelevant => Ok(false),
             },
@@ -36,15 +39,16 @@ impl Expected {
     }
 }
 
-/// Whether the errors are those that are wanted, each as often, in any order.
+/// Whether the errors are those that are wanted of this policy, each as often, in any order.
 pub fn are_wanted(
     alloc: Global,
+    policy: &str,
     errors: Vec<ValidationError>,
     wanted: &[WantedError],
 ) -> Result<bool, AllocError> {
     let mut left = errors;
     for error in wanted {
-        let (others, is_there) = without_one(alloc, left, error)?;
+        let (others, is_there) = without_one(alloc, left, policy, error)?;
         if !is_there {
             return Ok(false);
         }
@@ -57,10 +61,11 @@ pub fn are_wanted(
 fn without_one(
     alloc: Global,
     errors: Vec<ValidationError>,
+    policy: &str,
     wanted: &WantedError,
 ) -> Result<(Vec<ValidationError>, bool), AllocError> {
-    let wanted_error = wanted.error(alloc)?;
-    let wanted_text = wanted.text(alloc)?;
+    let wanted_error = wanted.error(alloc, policy)?;
+    let wanted_text = wanted.text(alloc, policy)?;
     let mut others = Vec::new(alloc);
     let mut is_there = false;
     for error in errors {

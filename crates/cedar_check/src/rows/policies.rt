@@ -1,9 +1,11 @@
 // The rows on whole policies, and what their checks add to empty sets.
 use crate::fixtures::conditions::Form;
-use crate::fixtures::policies::{RestForm, ScopeForm};
+use crate::fixtures::policies::RestForm;
+use crate::fixtures::scopes::{ANY, ScopeForm};
 use crate::rows::Report;
 use crate::rows::checks::Case;
-use crate::rows::expected::{Expected, are_wanted, policy_id};
+use crate::rows::expected::{Expected, POLICY, are_wanted, policy_id};
+use crate::rows::names::{ACTION_IS_EDIT, UNKNOWN_LESS};
 use crate::rows::wanted_errors::WantedError;
 use crate::rows::wanted_types::WantedType;
 use cedar_types::base::{
@@ -26,7 +28,7 @@ impl PolicyForm {
         if let Some((text, form)) = &self.rest {
             rest = Some(form.condition(alloc, text)?);
         }
-        Ok(self.scope.policy(policy_id(alloc)?, rest))
+        self.scope.policy(alloc, policy_id(alloc)?, rest)
     }
 }
 
@@ -43,7 +45,7 @@ pub struct WholeCase {
 /// A schema without actions has no environment.
 pub const NO_ENVIRONMENT: WholeCase = WholeCase {
     policy: PolicyForm {
-        scope: ScopeForm::Any,
+        scope: ANY,
         rest: None,
     },
     passes: true,
@@ -68,7 +70,7 @@ pub const NESTED: [Case<RestForm>; 2] = [
 /// The second of these, in all environments.
 pub const NESTED_TOO_DEEP: WholeCase = WholeCase {
     policy: PolicyForm {
-        scope: ScopeForm::Any,
+        scope: ANY,
         rest: Some(("true", RestForm::Negated(399))),
     },
     passes: false,
@@ -78,7 +80,7 @@ pub const NESTED_TOO_DEEP: WholeCase = WholeCase {
 
 /// An attribute that users do not have.
 pub const UNDECLARED_READ: PolicyForm = PolicyForm {
-    scope: ScopeForm::Any,
+    scope: ANY,
     rest: Some(("principal.nope == 1", RestForm::UndeclaredCompared)),
 };
 
@@ -99,7 +101,7 @@ pub const UNDECLARED_ATTRIBUTE: WholeCase = WholeCase {
 /// A condition that is False, and has an error.
 pub const FALSE_WITH_ERROR: WholeCase = WholeCase {
     policy: PolicyForm {
-        scope: ScopeForm::Any,
+        scope: ANY,
         rest: Some(("(1 + \"a\") == 2 && false", RestForm::WrongSumAndFalse)),
     },
     passes: false,
@@ -108,6 +110,22 @@ pub const FALSE_WITH_ERROR: WholeCase = WholeCase {
         expected: &[WantedType::Long],
         actual: WantedType::String,
     }],
+    is_impossible: true,
+};
+
+/// A part that fails without an error, in a condition that is False.
+pub const UNKNOWN_AND_FALSE: WholeCase = WholeCase {
+    policy: UNKNOWN_LESS,
+    passes: true,
+    errors: &[],
+    is_impossible: true,
+};
+
+/// An action that is never asked about.
+pub const EDITED: WholeCase = WholeCase {
+    policy: ACTION_IS_EDIT,
+    passes: true,
+    errors: &[],
     is_impossible: true,
 };
 
@@ -130,7 +148,7 @@ pub fn whole(
     for error in errors {
         listed.push(error)?;
     }
-    let are_errors = are_wanted(alloc, listed, case.errors)?;
+    let are_errors = are_wanted(alloc, POLICY, listed, case.errors)?;
     let are_warnings = are_warned(alloc, warnings, case)?;
     let mut report = Report::new(alloc);
     report.add(outcome, passes == case.passes && are_errors && are_warnings)?;

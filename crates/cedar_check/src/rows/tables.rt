@@ -32,6 +32,12 @@ pub const FAULTY_TABLES: [FaultyTable; 4] = [
     },
 ];
 
+/// A function that returns any entity.
+pub const ENTITY_RETURNED: [FaultyTable; 1] = [FaultyTable {
+    functions: FaultyFunctions::EntityReturned,
+    refusal: "BadReturnType",
+}];
+
 /// Why each table is refused, in order.
 pub fn refusals(alloc: Global, tables: &[FaultyTable]) -> Result<Report, AllocError> {
     let mut report = Report::new(alloc);

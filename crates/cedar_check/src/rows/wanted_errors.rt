@@ -1,13 +1,13 @@
 // Errors that a row wants.
 use crate::fixtures::declarations::{entity, entity_type};
-use crate::rows::expected::policy_id;
 use crate::rows::wanted_calls::WantedCallError;
+use crate::rows::wanted_names::WantedNameError;
 use crate::rows::wanted_types::{WantedType, set_of, texts};
-use cedar_types::base::{EntityLUB, Loc, LubContext, ValidationError};
+use cedar_types::base::{EntityLUB, Loc, LubContext, PolicyID, ValidationError};
 use std::alloc::{AllocError, Global};
 use std::rc::RcStr;
 
-/// An error of the policy, at a place in its condition.
+/// An error of a policy, at a place in its text.
 #[derive(Clone, Copy)]
 pub enum WantedError {
     /// An optional attribute of a user is read without a test that it is there.
@@ -45,12 +45,17 @@ pub enum WantedError {
         at: Loc,
         error: WantedCallError,
     },
+    /// A name or an id is wrong; in what a slot is bound to it has no place.
+    Name {
+        at: Option<Loc>,
+        error: WantedNameError,
+    },
 }
 
 impl WantedError {
-    /// The error, with all of its fields.
-    pub fn error(&self, alloc: Global) -> Result<ValidationError, AllocError> {
-        let policy = policy_id(alloc)?;
+    /// The error of the policy of this id, with all of its fields.
+    pub fn error(&self, alloc: Global, policy: &str) -> Result<ValidationError, AllocError> {
+        let policy = PolicyID::from_string(alloc, policy)?;
         match self {
             WantedError::UnguardedAccess { at, attr } => {
                 let user = entity(alloc, "User")?;
@@ -85,11 +90,12 @@ impl WantedError {
                 Ok(ValidationError::expected_one_of_types(Some(*at), policy, expected, actual))
             }
             WantedError::Call { at, error } => error.error(alloc, *at, policy),
+            WantedError::Name { at, error } => error.error(alloc, *at, policy),
         }
     }
 
-    /// What the error says.
-    pub fn text(&self, alloc: Global) -> Result<String, AllocError> {
+    /// What the error says of this policy.
+    pub fn text(&self, alloc: Global, policy: &str) -> Result<String, AllocError> {
         let fault = match self {
             WantedError::UnguardedAccess { at: _at, attr } => {
                 format!(in alloc; "access to optional attribute `{attr}` on `User` is not guarded")
@@ -121,7 +127,8 @@ impl WantedError {
                 format!(in alloc; "unexpected type: expected `{expected}` but saw `{actual}`")
             }
             WantedError::Call { at: _at, error } => error.text(alloc),
+            WantedError::Name { at: _at, error } => error.text(alloc),
         }?;
-        format!(in alloc; "for policy `policy0`, {fault}")
+        format!(in alloc; "for policy `{policy}`, {fault}")
     }
 }
