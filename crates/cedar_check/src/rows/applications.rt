@@ -5,21 +5,19 @@ use crate::rows::Report;
 use crate::rows::expected::policy_id;
 use crate::rows::passes::principal_bound;
 use cedar_typechecker::rbac::Validator;
-use cedar_types::base::{
-    Policy, ValidationWarning,
-};
+use cedar_types::base::{Policy, ValidationWarning};
 use std::alloc::{AllocError, Global};
 use std::rc::Rc;
+
+#[cfg(test)]
+mod tests;
 
 /// Whether an action applies to what a scope admits.
 #[derive(Clone, Copy)]
 pub enum WantedApplication {
     Applies,
     /// None does: whether `in` might help, in place of `==`.
-    Warning {
-        principal: bool,
-        resource: bool,
-    },
+    Warning { principal: bool, resource: bool },
 }
 
 /// A scope, and whether an action applies to what it admits.
@@ -67,9 +65,7 @@ impl ApplicationCase {
         };
         let place = self.scope.place();
         let policy = policy_id(alloc)?;
-        Ok(Some(
-            ValidationWarning::invalid_action_application(place, policy, principal, resource),
-        ))
+        Ok(Some(ValidationWarning::invalid_action_application(place, policy, principal, resource)))
     }
 
     /// Whether the answer is the one that is wanted, its text included.
@@ -92,10 +88,7 @@ const NO_ACTION: &str =
     "for policy `policy0`, unable to find an applicable action given the policy scope constraints";
 
 /// What came of an application, in words.
-fn outcome_of(
-    alloc: Global,
-    answer: &Result<(), ValidationWarning>,
-) -> Result<String, AllocError> {
+fn outcome_of(alloc: Global, answer: &Result<(), ValidationWarning>) -> Result<String, AllocError> {
     match answer {
         Ok(()) => String::from_str(alloc, "applies"),
         Err(ValidationWarning::InvalidActionApplication(warning)) => {

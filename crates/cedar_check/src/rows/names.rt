@@ -120,7 +120,8 @@ const BLUE: WrittenUid = WrittenUid {
 
 const NO_BLUE: WantedNameError = WantedNameError::NoMember { uid: BLUE };
 
-const FIRST_BLUE: WantedError = WantedError::Name {
+/// No member of its type, at the beginning of the condition.
+pub const FIRST_BLUE: WantedError = WantedError::Name {
     at: Some(Loc { start: 0, end: 13 }),
     error: NO_BLUE,
 };

@@ -5,10 +5,11 @@ use crate::rows::expected::{POLICY, are_wanted};
 use crate::rows::policies::PolicyForm;
 use crate::rows::wanted_errors::WantedError;
 use cedar_typechecker::rbac::Validator;
-use cedar_types::base::{
-    PolicyID, SlotEnv, SlotId, Template, ValidationError, ValidatorSchema,
-};
+use cedar_types::base::{PolicyID, SlotEnv, SlotId, Template, ValidationError, ValidatorSchema};
 use std::alloc::{AllocError, Global};
+
+#[cfg(test)]
+mod tests;
 
 /// What a pass looks for in a policy.
 #[derive(Clone, Copy)]
@@ -47,13 +48,19 @@ impl Pass {
     ) -> Result<Vec<ValidationError>, AllocError> {
         match self {
             Pass::EntityTypes => {
-                collected(alloc, Validator::validate_entity_types(alloc, schema, policy))
+                collected(
+                    alloc,
+                    Validator::validate_entity_types(alloc, schema, policy),
+                )
             }
             Pass::ActionIds => {
                 collected(alloc, Validator::validate_action_ids(alloc, schema, policy))
             }
             Pass::EnumEntities => {
-                collected(alloc, Validator::validate_enum_entity(alloc, schema, policy))
+                collected(
+                    alloc,
+                    Validator::validate_enum_entity(alloc, schema, policy),
+                )
             }
         }
     }
@@ -95,7 +102,13 @@ pub fn slot_passed(
     let slots = principal_bound(alloc, case.bound)?;
     let found = validator.validate_entity_types_in_slots(alloc, &id, &slots);
     let mut report = Report::new(alloc);
-    add_errors(alloc, &mut report, case.id, collected(alloc, found)?, case.errors)?;
+    add_errors(
+        alloc,
+        &mut report,
+        case.id,
+        collected(alloc, found)?,
+        case.errors,
+    )?;
     Ok(report)
 }
 

@@ -21,7 +21,8 @@ const PRINCIPAL_ALONE: WantedApplication = WantedApplication::Warning {
 /// The action is on users and widgets, and the scope has entities that they may be in.
 pub const GROUPS_IN_SCOPE: [ApplicationCase; 1] = [ApplicationCase {
     scope: ScopeForm {
-        text: "permit(principal == admins::\"admin1\", action == Action::\"act\", resource == bin::\"bin\")",
+        text: "permit(principal == admins::\"admin1\", action == Action::\"act\", \
+            resource == bin::\"bin\")",
         principal: ConstraintForm::Eq(ReferenceForm::Uid(WrittenUid {
             entity_type: "admins",
             eid: "admin1",

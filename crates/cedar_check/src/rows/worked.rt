@@ -20,9 +20,7 @@ use crate::rows::policies::{
     EDITED, FALSE_WITH_ERROR, NESTED, NESTED_TOO_DEEP, NO_ENVIRONMENT, UNDECLARED_ATTRIBUTE,
     UNKNOWN_AND_FALSE, whole,
 };
-use crate::rows::scopes::{
-    ANY_PRINCIPAL_TYPE, APPLICATIONS, GROUPS_IN_SCOPE, LINKED_APPLICATIONS,
-};
+use crate::rows::scopes::{ANY_PRINCIPAL_TYPE, APPLICATIONS, GROUPS_IN_SCOPE, LINKED_APPLICATIONS};
 use crate::rows::tables::{ENTITY_RETURNED, FAULTY_TABLES, refusals};
 use crate::rows::tags::TAGS;
 use crate::rows::{Report, Row, other_outcome};
@@ -219,4 +217,3 @@ impl Row for WorkedRow {
         }
     }
 }
-

@@ -13,6 +13,9 @@ use std::test::Fail;
 
 const USAGE: &[u8] = b"usage: cedar-check [ROW]\n";
 
+const ROW_30: &[u8] = b"row 30: Success; Irrelevant errors=0; \
+    true errors=0 warnings=1; errors=1; ok\n";
+
 const ROW_33: &[u8] = b"row 33: Success; Fail errors=1; Fail errors=2; Fail errors=1; \
     Irrelevant errors=0; Success; Fail errors=1; ok\n";
 
@@ -28,12 +31,19 @@ const ROW_36: &[u8] = b"row 36: BadReturnType; VariadicWithoutArguments; Duplica
 const ROW_37: &[u8] = b"row 37: Success; Success; Fail errors=1; Fail errors=1; Success; \
     Fail errors=2; ok\n";
 
+const ROW_41: &[u8] = b"row 41: applies; warning principal=true resource=false; \
+    warning principal=false resource=false; warning principal=false resource=false; ok\n";
+
+const ROW_42: &[u8] = b"row 42: warning principal=true resource=false; applies; ok\n";
+
 /// The rows that are built, in order, and the line of each.
-const BUILT: [(&str, &[u8]); 18] = [
+const BUILT: [(&str, &[u8]); 28] = [
+    ("9", b"row 9: true errors=0 warnings=1; errors=1; ok\n"),
     ("10", b"row 10: Success; Fail errors=1; ok\n"),
     ("11", b"row 11: true errors=0 warnings=1; ok\n"),
     ("12", b"row 12: Fail errors=1; ok\n"),
     ("13", b"row 13: Success; Success; ok\n"),
+    ("14", b"row 14: warning principal=true resource=true; ok\n"),
     (
         "15",
         b"row 15: Success; Fail errors=0; false errors=0 warnings=0; ok\n",
@@ -42,6 +52,10 @@ const BUILT: [(&str, &[u8]); 18] = [
         "17",
         b"row 17: Irrelevant errors=0; Fail errors=1; Fail errors=1; ok\n",
     ),
+    ("19", b"row 19: BadReturnType; errors=1; ok\n"),
+    ("20", b"row 20: User; ok\n"),
+    ("21", b"row 21: errors=1; ok\n"),
+    ("22", b"row 22: errors=1; ok\n"),
     (
         "27",
         b"row 27: Fail errors=1; Fail errors=1; Fail errors=1; Fail errors=1; ok\n",
@@ -54,6 +68,7 @@ const BUILT: [(&str, &[u8]); 18] = [
         "29",
         b"row 29: Fail errors=1; Success; false errors=1 warnings=0; ok\n",
     ),
+    ("30", ROW_30),
     (
         "31",
         b"row 31: Fail errors=1; Success; Fail errors=1; Fail errors=1; Success; ok\n",
@@ -66,6 +81,9 @@ const BUILT: [(&str, &[u8]); 18] = [
     ("37", ROW_37),
     ("38", b"row 38: Success; Success; ok\n"),
     ("39", b"row 39: false errors=1 warnings=1; ok\n"),
+    ("40", b"row 40: errors=1; errors=2; ok\n"),
+    ("41", ROW_41),
+    ("42", ROW_42),
 ];
 
 /// The ways in which a row can end.
