@@ -2,6 +2,7 @@
 mod answers;
 mod columns;
 mod files;
+mod names;
 mod report;
 
 pub use answers::Rules;

@@ -14,4 +14,4 @@ mod tokens;
 pub use cursor::MAX_LENGTH;
 pub use faults::{Fault, ReadError};
 pub use schemas::{SchemaReadError, schema};
-pub use scopes::{condition, policy, scope_alone, whole_policy};
+pub use scopes::{condition, policy, scope_alone, uid_alone, whole_policy};

@@ -2,6 +2,7 @@
 use crate::cases::{CaseFile, FileFault, Rules, Tally, run_cases};
 use crate::reading::{Fault, MAX_LENGTH, ReadError, SchemaReadError, schema};
 use crate::tables::Tables;
+use cedar_typechecker::rbac::Validator;
 use cedar_types::base::ValidatorSchema;
 use std::alloc::{AllocError, Global};
 use std::io::Write;
@@ -70,9 +71,11 @@ fn run_file<R: Files + AllocGlobal, O: Write>(
     let Some(schema) = read_schema(alloc, schema_name.as_str(), schema_text.as_str(), out)? else {
         return Ok(false);
     };
+    let extensions = tables.where_ordered(file.has_ordered_addresses);
+    let validator = Validator::new(schema, extensions);
     let rules = Rules {
-        schema: &schema,
-        extensions: tables.where_ordered(file.has_ordered_addresses),
+        validator: &validator,
+        extensions,
     };
     let tally = run_cases(alloc, name, &file, rules, out)?;
     writeln!(out, "{name}: {} ran, {} differ", tally.ran, tally.wrong)?;

@@ -1,4 +1,5 @@
 // What a check answers, as case files write it.
+mod applications;
 mod environments;
 mod forms;
 mod nodes;
@@ -6,7 +7,8 @@ mod outcomes;
 mod places;
 mod typed;
 
+pub use applications::application;
 pub use environments::environment;
-pub use outcomes::{outcome, policy_outcome};
+pub use outcomes::{findings, outcome, policy_outcome};
 pub use places::Source;
 pub use typed::typed_condition;

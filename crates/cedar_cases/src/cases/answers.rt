@@ -1,58 +1,76 @@
 // What the checks of a policy answer, as a column shows it.
 use crate::cases::columns::{Subject, Wanted};
+use crate::cases::names::about_names;
 use crate::shown::{Source, environment, outcome, policy_outcome, typed_condition};
-use cedar_types::base::{ExtensionSchemas, Template, ValidatorSchema};
-use cedar_typing::typecheck::Typechecker;
+use cedar_typechecker::rbac::Validator;
+use cedar_types::base::{ExtensionSchemas, Policy, Template, ValidationMode};
+use cedar_typing::typecheck::{PolicyCheck, Typechecker};
 use std::alloc::{AllocError, Global};
 use std::collections::HashSet;
 
 /// What stands between the environments of a field.
 const BETWEEN: &str = " | ";
 
-/// What policies are typed by.
+/// What policies are validated and typed by.
 #[derive(Clone, Copy)]
 pub struct Rules<'a> {
-    pub schema: &'a ValidatorSchema,
+    pub validator: &'a Validator<'a>,
     pub extensions: &'a ExtensionSchemas,
 }
 
-/// What is shown of a policy: of all of it, or of its check in each environment, with ` | ` between them, sorted by bytes.
+/// What is shown of a policy: of its names and its scope, of all of its checks, or of the check in each environment, with
+/// ` | ` between them, sorted by bytes.
 pub fn answers(
     alloc: Global,
     rules: Rules<'_>,
-    policy: &Template,
+    policy: &Policy,
     source: Source<'_>,
     asked: Wanted,
 ) -> Result<String, AllocError> {
-    let typechecker = Typechecker::new(rules.schema, rules.extensions, asked.mode);
-    match asked.subject {
-        Subject::Policy => whole(alloc, &typechecker, policy, source),
-        Subject::Environments => linked(alloc, &typechecker, policy, source),
-        Subject::Outcome | Subject::Typed => {
-            unlinked(alloc, rules, &typechecker, policy, source, asked)
+    match asked {
+        Wanted::Names(question) => about_names(alloc, rules.validator, policy, source, question),
+        Wanted::Checks(mode, subject) => {
+            about_checks(alloc, rules, &policy.template, source, mode, subject)
         }
     }
 }
 
-/// In each environment of the schema, whose slots are not linked.
-fn unlinked(
+fn about_checks(
     alloc: Global,
     rules: Rules<'_>,
-    typechecker: &Typechecker<'_>,
     policy: &Template,
     source: Source<'_>,
-    asked: Wanted,
+    mode: ValidationMode,
+    subject: Subject,
 ) -> Result<String, AllocError> {
-    let mut shown = Vec::new(alloc);
-    for env in rules.schema.unlinked_request_envs(asked.mode) {
-        let check = typechecker.typecheck_by_single_request_env(alloc, policy, &env)?;
-        shown.push(match asked.subject {
-            Subject::Typed => typed_condition(alloc, &check, source)?,
-            _ => outcome(alloc, &check, source)?,
-        })?;
+    let schema = rules.validator.schema();
+    let typechecker = Typechecker::new(schema, rules.extensions, mode);
+    match subject {
+        Subject::Policy => whole(alloc, &typechecker, policy, source),
+        Subject::Environments => linked(alloc, &typechecker, policy, source),
+        Subject::Outcome | Subject::Typed => {
+            let mut shown = Vec::new(alloc);
+            for env in schema.unlinked_request_envs(mode) {
+                let check = typechecker.typecheck_by_single_request_env(alloc, policy, &env)?;
+                shown.push(unlinked(alloc, &check, source, subject)?)?;
+            }
+            shown.sort()?;
+            shown.as_slice().join(alloc, BETWEEN)
+        }
     }
-    shown.sort()?;
-    shown.as_slice().join(alloc, BETWEEN)
+}
+
+/// The check in an environment of the schema, whose slots are not linked.
+fn unlinked(
+    alloc: Global,
+    check: &PolicyCheck,
+    source: Source<'_>,
+    subject: Subject,
+) -> Result<String, AllocError> {
+    match subject {
+        Subject::Typed => typed_condition(alloc, check, source),
+        _ => outcome(alloc, check, source),
+    }
 }
 
 /// In each environment that the policy is checked in, with what it is.

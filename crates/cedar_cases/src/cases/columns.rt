@@ -1,5 +1,5 @@
 // The columns of a case file.
-use cedar_types::base::ValidationMode;
+use cedar_types::base::{SlotId, ValidationMode};
 
 /// What a column has.
 #[derive(Clone, Copy, PartialEq, Eq, Debug)]
@@ -12,15 +12,19 @@ pub enum Column {
     Scope,
     /// Its condition; nothing where it has none.
     Condition,
-    /// What is wanted of the check in a mode.
+    /// The entity that a slot is bound to.
+    Slot(SlotId),
+    /// What is wanted of the policy.
     Wanted(Wanted),
 }
 
-/// Something that is asked of a check.
+/// Something that is asked of a policy.
 #[derive(Clone, Copy, PartialEq, Eq, Debug)]
-pub struct Wanted {
-    pub mode: ValidationMode,
-    pub subject: Subject,
+pub enum Wanted {
+    /// Of its checks in a mode.
+    Checks(ValidationMode, Subject),
+    /// Of its names and its scope.
+    Names(Question),
 }
 
 /// What is shown of a check.
@@ -36,6 +40,23 @@ pub enum Subject {
     Environments,
 }
 
+/// What is asked of a policy without its types.
+#[derive(Clone, Copy, PartialEq, Eq, Debug)]
+pub enum Question {
+    /// The entity types that the schema does not know.
+    EntityTypes,
+    /// The actions that it does not declare.
+    ActionIds,
+    /// The ids that their enumerated type does not have.
+    EnumEntities,
+    /// The entity types of what slots are bound to that the schema does not know.
+    SlotTypes,
+    /// Whether an action applies to what the scope admits.
+    Application,
+    /// The same with the slots bound.
+    LinkedApplication,
+}
+
 impl Column {
     /// The column of this name. `None` where there is none.
     pub fn named(name: &str) -> Option<Column> {
@@ -44,6 +65,8 @@ impl Column {
             "policy" => Some(Column::Policy),
             "scope" => Some(Column::Scope),
             "condition" => Some(Column::Condition),
+            "?principal" => Some(Column::Slot(SlotId::Principal)),
+            "?resource" => Some(Column::Slot(SlotId::Resource)),
             _ => Some(Column::Wanted(Wanted::named(name)?)),
         }
     }
@@ -51,6 +74,13 @@ impl Column {
 
 impl Wanted {
     fn named(name: &str) -> Option<Wanted> {
+        match Question::named(name) {
+            Some(question) => Some(Wanted::Names(question)),
+            None => Wanted::of_checks(name),
+        }
+    }
+
+    fn of_checks(name: &str) -> Option<Wanted> {
         let (mode, subject) = match name.split_once(' ') {
             None => (name, Subject::Outcome),
             Some((mode, "typed")) => (mode, Subject::Typed),
@@ -64,24 +94,20 @@ impl Wanted {
             "partial" => ValidationMode::Partial,
             _ => return None,
         };
-        Some(Wanted { mode, subject })
+        Some(Wanted::Checks(mode, subject))
     }
+}
 
-    /// The name of its column.
-    pub fn name(self) -> &'static str {
-        match (self.mode, self.subject) {
-            (ValidationMode::Strict, Subject::Outcome) => "strict",
-            (ValidationMode::Permissive, Subject::Outcome) => "permissive",
-            (ValidationMode::Partial, Subject::Outcome) => "partial",
-            (ValidationMode::Strict, Subject::Typed) => "strict typed",
-            (ValidationMode::Permissive, Subject::Typed) => "permissive typed",
-            (ValidationMode::Partial, Subject::Typed) => "partial typed",
-            (ValidationMode::Strict, Subject::Policy) => "strict policy",
-            (ValidationMode::Permissive, Subject::Policy) => "permissive policy",
-            (ValidationMode::Partial, Subject::Policy) => "partial policy",
-            (ValidationMode::Strict, Subject::Environments) => "strict environments",
-            (ValidationMode::Permissive, Subject::Environments) => "permissive environments",
-            (ValidationMode::Partial, Subject::Environments) => "partial environments",
+impl Question {
+    fn named(name: &str) -> Option<Question> {
+        match name {
+            "entity types" => Some(Question::EntityTypes),
+            "actions" => Some(Question::ActionIds),
+            "enumerated" => Some(Question::EnumEntities),
+            "slots" => Some(Question::SlotTypes),
+            "application" => Some(Question::Application),
+            "linked application" => Some(Question::LinkedApplication),
+            _ => None,
         }
     }
 }

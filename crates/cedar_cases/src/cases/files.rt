@@ -1,5 +1,6 @@
 // The lines of a case file.
 use crate::cases::columns::{Column, Wanted};
+use cedar_types::base::SlotId;
 use std::alloc::{AllocError, Global};
 
 /// A piece of a line, and the byte of the line at which it begins.
@@ -19,7 +20,18 @@ pub struct Case<'a> {
     pub policy: Field<'a>,
     pub scope: Field<'a>,
     pub condition: Field<'a>,
-    pub wanted: Vec<(Wanted, &'a str)>,
+    /// The slots that are bound, each to an id.
+    pub slots: Vec<(SlotId, Field<'a>)>,
+    pub wanted: Vec<Expectation<'a>>,
+}
+
+/// What a column wants of a case.
+#[derive(Clone, Copy, Debug)]
+pub struct Expectation<'a> {
+    /// The name of the column.
+    pub column: &'a str,
+    pub asked: Wanted,
+    pub text: &'a str,
 }
 
 /// A case file.
@@ -29,7 +41,8 @@ pub struct CaseFile<'a> {
     pub schema: &'a str,
     /// Whether `<` and `<=` compare addresses.
     pub has_ordered_addresses: bool,
-    pub columns: Vec<Column>,
+    /// With their names.
+    pub columns: Vec<(&'a str, Column)>,
     /// The lines after the names of the columns.
     pub lines: &'a str,
 }
@@ -51,8 +64,32 @@ const ORDERED: &str = "ordered ipaddr";
 /// What a field says that asks nothing.
 const NOT_ASKED: &str = "?";
 
+/// What a field says of a slot that is not bound.
+const UNBOUND: &str = "-";
+
 /// How many lines there are before the cases.
 const HEAD: usize = 2;
+
+impl<'a> Case<'a> {
+    /// Adds what the column of this name has.
+    fn add(&mut self, name: &'a str, column: Column, field: Field<'a>) -> Result<(), AllocError> {
+        match column {
+            Column::About => {}
+            Column::Policy => self.policy = field,
+            Column::Scope => self.scope = field,
+            Column::Condition => self.condition = field,
+            Column::Slot(_) if field.text == UNBOUND => {}
+            Column::Slot(slot) => self.slots.push((slot, field))?,
+            Column::Wanted(_) if field.text == NOT_ASKED => {}
+            Column::Wanted(asked) => self.wanted.push(Expectation {
+                column: name,
+                asked,
+                text: field.text,
+            })?,
+        }
+        Ok(())
+    }
+}
 
 impl<'a> CaseFile<'a> {
     /// Reads the first two lines: the schema and what is ordered, and the names of the columns.
@@ -76,7 +113,7 @@ impl<'a> CaseFile<'a> {
                 let number = columns.len().saturating_add(1);
                 return Ok(Err(FileFault::NoColumn(number)));
             };
-            columns.push(column)?;
+            columns.push((name, column))?;
         }
         Ok(Ok(CaseFile {
             schema,
@@ -107,18 +144,12 @@ impl<'a> CaseFile<'a> {
             policy: nothing,
             scope: nothing,
             condition: nothing,
+            slots: Vec::new(alloc),
             wanted: Vec::new(alloc),
         };
         let mut start: usize = 0;
-        for (column, text) in self.columns.iter().zip(line.split('\t')) {
-            match column {
-                Column::About => {}
-                Column::Policy => case.policy = Field { text, start },
-                Column::Scope => case.scope = Field { text, start },
-                Column::Condition => case.condition = Field { text, start },
-                Column::Wanted(_) if text == NOT_ASKED => {}
-                Column::Wanted(wanted) => case.wanted.push((*wanted, text))?,
-            }
+        for ((name, column), text) in self.columns.iter().zip(line.split('\t')) {
+            case.add(name, *column, Field { text, start })?;
             start = start.saturating_add(text.len()).saturating_add(1);
         }
         Ok(case)

@@ -1,12 +1,13 @@
 // What came of the cases of a file.
 use crate::cases::answers::{Rules, answers, in_order};
 use crate::cases::files::{Case, CaseFile, Field};
-use crate::reading::{Fault, ReadError, condition, policy, scope_alone, whole_policy};
+use crate::reading::{Fault, ReadError, condition, policy, scope_alone, uid_alone, whole_policy};
 use crate::shown::Source;
-use cedar_types::base::Template;
+use cedar_types::base::{Policy, SlotEnv, Template};
 use std::alloc::{AllocError, Global};
 use std::io;
 use std::io::Write;
+use std::rc::Rc;
 
 /// How many cases of a file ended how.
 #[derive(Clone, Copy, PartialEq, Eq, Debug)]
@@ -51,13 +52,13 @@ fn run_case<W: Write>(
             return Ok(false);
         }
     };
-    let source = source_of(case, &policy);
+    let source = source_of(case, &policy.template);
     let mut agrees = true;
-    for (asked, wanted) in &case.wanted {
-        let wanted = in_order(alloc, wanted)?;
-        let got = answers(alloc, rules, &policy, source, *asked)?;
+    for expectation in &case.wanted {
+        let wanted = in_order(alloc, expectation.text)?;
+        let got = answers(alloc, rules, &policy, source, expectation.asked)?;
         if got != wanted {
-            let column = asked.name();
+            let column = expectation.column;
             writeln!(out, "{name}:{}: {column}: wanted {wanted}", case.number)?;
             writeln!(out, "{name}:{}: {column}: got {got}", case.number)?;
             agrees = false;
@@ -78,8 +79,24 @@ fn source_of<'a>(case: &Case<'a>, policy: &Template) -> Source<'a> {
     }
 }
 
-/// The policy of a case, or the byte of its line at which it cannot be read.
-fn policy_of(
+/// The policy of a case with its slots bound, or the byte of its line at which it cannot be read.
+fn policy_of(alloc: Global, case: &Case<'_>) -> Result<Result<Policy, (usize, Fault)>, AllocError> {
+    let template = match template_of(alloc, case)? {
+        Ok(template) => Rc::new(alloc, template)?,
+        Err(fault) => return Ok(Err(fault)),
+    };
+    let mut values = SlotEnv::new(alloc);
+    for (slot, field) in &case.slots {
+        match uid_alone(alloc, field.text) {
+            Ok(uid) => drop(values.insert(*slot, uid)?),
+            Err(error) => return fault_in(*field, error),
+        }
+    }
+    Ok(Ok(Policy { template, values }))
+}
+
+/// The same with its slots as they are.
+fn template_of(
     alloc: Global,
     case: &Case<'_>,
 ) -> Result<Result<Template, (usize, Fault)>, AllocError> {
@@ -103,10 +120,10 @@ fn policy_of(
     Ok(Ok(policy(alloc, scope, rest)?))
 }
 
-fn fault_in(
+fn fault_in<T>(
     field: Field<'_>,
     error: ReadError,
-) -> Result<Result<Template, (usize, Fault)>, AllocError> {
+) -> Result<Result<T, (usize, Fault)>, AllocError> {
     match error {
         ReadError::Memory(error) => Err(error),
         ReadError::At(at, fault) => Ok(Err((field.start.saturating_add(at), fault))),

@@ -127,6 +127,14 @@ pub fn scope_alone(alloc: Global, text: &str) -> Result<Scope, ReadError> {
     Ok(read)
 }
 
+/// Reads a text that is an id and nothing else.
+pub fn uid_alone(alloc: Global, text: &str) -> Result<EntityUID, ReadError> {
+    let mut cursor = Cursor::new(alloc, text)?;
+    let read = entity_uid(&mut cursor)?;
+    finish(&cursor)?;
+    Ok(read)
+}
+
 /// Reads a text that is a policy and nothing else: `permit(principal, action, resource) when { .. };`. It stands at the
 /// whole text.
 pub fn whole_policy(alloc: Global, text: &str) -> Result<Template, ReadError> {

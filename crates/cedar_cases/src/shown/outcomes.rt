@@ -51,6 +51,23 @@ pub fn policy_outcome(
     Ok(shown)
 }
 
+/// The errors of a pass, sorted by bytes, with `; ` between them. One without a place is shown without it.
+pub fn findings(
+    alloc: Global,
+    errors: &[ValidationError],
+    source: Source<'_>,
+) -> Result<String, AllocError> {
+    let mut texts = Vec::new(alloc);
+    for error in errors {
+        texts.push(match error.source_loc() {
+            Some(_) => error_text(alloc, error, source)?,
+            None => bare_text(alloc, error.to_string(alloc)?.as_str())?,
+        })?;
+    }
+    texts.sort()?;
+    texts.as_slice().join(alloc, "; ")
+}
+
 /// Adds each text, in ascending order, behind `; `.
 fn push_sorted(shown: &mut String, mut texts: Vec<String>) -> Result<(), AllocError> {
     texts.sort()?;
@@ -77,7 +94,12 @@ fn placed_text(
     place: Option<Loc>,
     source: Source<'_>,
 ) -> Result<String, AllocError> {
-    let mut shown = String::from_str(alloc, said.strip_prefix(PREFIX).unwrap_or(said))?;
+    let mut shown = bare_text(alloc, said)?;
     push_place(&mut shown, place, source)?;
     Ok(shown)
+}
+
+/// What is said, without what the text of every error begins with.
+fn bare_text(alloc: Global, said: &str) -> Result<String, AllocError> {
+    String::from_str(alloc, said.strip_prefix(PREFIX).unwrap_or(said))
 }
