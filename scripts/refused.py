@@ -16,7 +16,7 @@ from pathlib import Path
 TOP = Path(__file__).resolve().parent.parent
 CRATE = TOP / "crates" / "cedar_refused"
 # What the program is made of.
-MADE_OF = ("cedar_types", "cedar_typing", "cedar_refused")
+MADE_OF = ("cedar_types", "cedar_typing", "cedar_typechecker", "cedar_refused")
 SECONDS = 570
 BEGINS = "memory is refused"
 WELL = re.compile(r"[1-9]\d* growths, each refused|no growth")

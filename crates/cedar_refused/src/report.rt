@@ -1,14 +1,18 @@
 // A line for each call: its name, and what came of it.
+use crate::calls::at_once::{Asked, Question};
 use crate::calls::environments::{ChecksMaking, ChecksWalk, LinkedWalk, Walk};
+use crate::calls::passes::{Pass, PassWalk};
 use crate::calls::policies::WholeCheck;
 use crate::calls::schemas::SchemaMaking;
 use crate::calls::single_env::SingleCheck;
-use crate::calls::without_memory::{environments, look_ups, tables};
+use crate::calls::without_memory::{environments, look_ups, passes, tables};
 use crate::refusals::{refuse, was_refused};
+use crate::samples::names::{bound_to_unknown, bound_to_user, unknown_names};
 use crate::samples::policies::{MANY, many_findings, one_finding, with_slot};
 use crate::samples::schemas::photos;
 use crate::sweep::{Call, swept};
-use cedar_types::base::ValidatorSchema;
+use cedar_typechecker::rbac::Validator;
+use cedar_types::base::{ExtensionSchemas, ValidatorSchema};
 use std::alloc::Global;
 use std::io;
 use std::io::Write;
@@ -29,7 +33,11 @@ pub fn report<W: Write>(alloc: Global, out: &mut W) -> io::Result<()> {
     single_checks(alloc, &schema, out)?;
     walks(alloc, &schema, out)?;
     whole_checks(alloc, &schema, out)?;
-    without_memory(alloc, &schema, out)
+    let extensions = ExtensionSchemas::default(alloc);
+    let validator = Validator::new(schema, &extensions);
+    all_passes(alloc, &validator, out)?;
+    questions(alloc, &validator, out)?;
+    without_memory(alloc, &validator, out)
 }
 
 fn write_sweep<C: Call, W: Write>(
@@ -109,12 +117,89 @@ fn whole_checks<W: Write>(alloc: Global, schema: &ValidatorSchema, out: &mut W) 
     )
 }
 
+fn all_passes<W: Write>(alloc: Global, validator: &Validator<'_>, out: &mut W) -> io::Result<()> {
+    let (named, bound) = (unknown_names(alloc)?, bound_to_unknown(alloc)?);
+    for (name, policy, pass, items) in [
+        ("mentions", &named, Pass::Mentions, 11),
+        ("validate_entity_types", &named, Pass::EntityTypes, 4),
+        ("validate_action_ids", &named, Pass::ActionIds, 2),
+        ("validate_enum_entity", &named, Pass::EnumEntities, 2),
+        ("validate_entity_types_in_slots", &bound, Pass::SlotTypes, 2),
+    ] {
+        let walk = PassWalk {
+            validator,
+            policy,
+            pass,
+            items,
+        };
+        let said = swept(alloc, &walk)?;
+        writeln!(out, "{name}, each step: {said}")?;
+    }
+    Ok(())
+}
+
+fn questions<W: Write>(alloc: Global, validator: &Validator<'_>, out: &mut W) -> io::Result<()> {
+    let (unknown, known) = (bound_to_unknown(alloc)?, bound_to_user(alloc)?);
+    let named = unknown_names(alloc)?;
+    for (name, policy, question, answers) in [
+        ("policy_entity_uids", &named, Question::Uids, 9),
+        ("policy_entity_type_names", &named, Question::TypeNames, 11),
+        (
+            "get_principals_satisfying_constraint",
+            &named,
+            Question::Principals,
+            1,
+        ),
+        (
+            "get_resources_satisfying_constraint",
+            &known,
+            Question::Resources,
+            3,
+        ),
+        (
+            "validate_template_action_application, that warns",
+            &named,
+            Question::Application,
+            1,
+        ),
+        (
+            "validate_template_action_application",
+            &known,
+            Question::Application,
+            0,
+        ),
+        (
+            "validate_linked_action_application, that warns",
+            &unknown,
+            Question::LinkedApplication,
+            1,
+        ),
+        (
+            "validate_linked_action_application",
+            &known,
+            Question::LinkedApplication,
+            0,
+        ),
+    ] {
+        let asked = Asked {
+            validator,
+            policy,
+            question,
+            answers,
+        };
+        write_sweep(alloc, out, name, &asked)?;
+    }
+    Ok(())
+}
+
 fn without_memory<W: Write>(
     alloc: Global,
-    schema: &ValidatorSchema,
+    validator: &Validator<'_>,
     out: &mut W,
 ) -> io::Result<()> {
+    let schema = validator.schema();
     writeln!(out, "environments: {}", environments(alloc, schema)?)?;
     writeln!(out, "look-ups: {}", look_ups(alloc, schema)?)?;
-    writeln!(out, "tables: {}", tables(alloc)?)
+    writeln!(out, "tables: {}", tables(alloc)?)?;
+    writeln!(out, "passes: {}", passes(alloc, validator)?)
 }

@@ -18,6 +18,12 @@ pub trait Call {
     fn attempt(&self, alloc: Global, number: u16) -> Result<Attempt, AllocError>;
 }
 
+pub const ANOTHER_ANSWER: &str = "its answer is another";
+
+pub const ANOTHER_LATER: &str = "afterwards its answer is another";
+
+pub const ANOTHER_POLICY: &str = "the policy is another";
+
 /// The most growths that a call may have.
 const MOST: u16 = 20_000;
 

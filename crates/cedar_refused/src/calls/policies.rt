@@ -2,7 +2,7 @@
 use crate::pictures::{members, picture};
 use crate::refusals::{refuse, was_refused};
 use crate::samples::findings::{errors, first_finding, warnings};
-use crate::sweep::{Attempt, Call, attempt_of};
+use crate::sweep::{ANOTHER_ANSWER, ANOTHER_LATER, ANOTHER_POLICY, Attempt, Call, attempt_of};
 use cedar_types::base::{
     ExtensionSchemas, Template, ValidationError, ValidationMode, ValidationWarning, ValidatorSchema,
 };
@@ -87,16 +87,10 @@ impl Call for WholeCheck<'_> {
         Ok(
             attempt
                 .only_if(self.is_right(passes, &ample), "its findings are others")
-                .only_if(is_as_ever, "its answer is another")
+                .only_if(is_as_ever, ANOTHER_ANSWER)
                 .only_if(are_as_ever, "the sets hold something else")
-                .only_if(
-                    again == passes && later == wanted,
-                    "afterwards its answer is another",
-                )
-                .only_if(
-                    picture(alloc, self.policy)? == policy,
-                    "the policy is another",
-                ),
+                .only_if(again == passes && later == wanted, ANOTHER_LATER)
+                .only_if(picture(alloc, self.policy)? == policy, ANOTHER_POLICY),
         )
     }
 }

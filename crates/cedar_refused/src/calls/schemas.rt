@@ -2,7 +2,7 @@
 use crate::pictures::picture;
 use crate::refusals::{refuse, was_refused};
 use crate::samples::schemas::{actions, photos, types};
-use crate::sweep::{Attempt, Call, attempt_of};
+use crate::sweep::{ANOTHER_ANSWER, ANOTHER_LATER, Attempt, Call, attempt_of};
 use cedar_types::base::{SchemaError, ValidatorSchema};
 use std::alloc::{AllocError, Global};
 
@@ -25,8 +25,8 @@ impl Call for SchemaMaking {
         let again = made(alloc, &photos(alloc))?;
         Ok(
             attempt
-                .only_if(is_as_ever, "its answer is another")
-                .only_if(again == Some(wanted), "afterwards its answer is another"),
+                .only_if(is_as_ever, ANOTHER_ANSWER)
+                .only_if(again == Some(wanted), ANOTHER_LATER),
         )
     }
 }

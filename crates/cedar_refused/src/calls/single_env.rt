@@ -1,7 +1,7 @@
 // The check of a policy in one environment.
 use crate::pictures::picture;
 use crate::refusals::{refuse, was_refused};
-use crate::sweep::{Attempt, Call, attempt_of};
+use crate::sweep::{ANOTHER_ANSWER, ANOTHER_LATER, ANOTHER_POLICY, Attempt, Call, attempt_of};
 use cedar_types::base::{ExtensionSchemas, Template, ValidationMode, ValidatorSchema};
 use cedar_typing::typecheck::Typechecker;
 use std::alloc::{AllocError, Global};
@@ -34,15 +34,9 @@ impl Call for SingleCheck<'_> {
         };
         Ok(
             attempt
-                .only_if(is_as_ever, "its answer is another")
-                .only_if(
-                    picture(alloc, &again)? == wanted,
-                    "afterwards its answer is another",
-                )
-                .only_if(
-                    picture(alloc, self.policy)? == policy,
-                    "the policy is another",
-                ),
+                .only_if(is_as_ever, ANOTHER_ANSWER)
+                .only_if(picture(alloc, &again)? == wanted, ANOTHER_LATER)
+                .only_if(picture(alloc, self.policy)? == policy, ANOTHER_POLICY),
         )
     }
 }

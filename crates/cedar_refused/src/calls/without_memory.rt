@@ -1,6 +1,8 @@
 // Calls that take no memory, made while each growth is refused.
 use crate::refusals::{refuse_all, was_refused};
+use crate::samples::names::unknown_names;
 use crate::samples::schemas::entity_type;
+use cedar_typechecker::rbac::Validator;
 use cedar_types::base::{
     CedarType, ExtensionFunctionType, ExtensionSchemas, Name, ValidationMode, ValidatorSchema,
 };
@@ -88,4 +90,26 @@ pub fn tables(alloc: Global) -> Result<&'static str, AllocError> {
     let _none = ExtensionSchemas::default(alloc);
     let was_refused = was_refused(alloc);
     Ok(outcome(table.is_ok() && refused.is_err(), was_refused))
+}
+
+/// The making of a validator and of its passes, before their first steps.
+pub fn passes(alloc: Global, validator: &Validator<'_>) -> Result<&'static str, AllocError> {
+    let policy = unknown_names(alloc)?;
+    let template = &*policy.template;
+    let extensions = ExtensionSchemas::default(alloc);
+    let empty = ValidatorSchema::empty(alloc);
+    let user = entity_type(alloc, "User")?;
+    refuse_all(alloc);
+    let schema = validator.schema();
+    let other = Validator::new(empty, &extensions);
+    let is_as_ever = schema.is_known_entity_type(&user)
+        && !other.schema().is_known_entity_type(&user);
+    let mentions = template.mentions(alloc);
+    let types = Validator::validate_entity_types(alloc, schema, template);
+    let actions = Validator::validate_action_ids(alloc, schema, template);
+    let members = Validator::validate_enum_entity(alloc, schema, template);
+    let slots = validator.validate_entity_types_in_slots(alloc, &template.id, &policy.values);
+    let was_refused = was_refused(alloc);
+    drop((mentions, types, actions, members, slots));
+    Ok(outcome(is_as_ever, was_refused))
 }

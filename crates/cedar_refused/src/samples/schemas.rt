@@ -1,4 +1,4 @@
-// A schema: users, each of whom may be in others, and photos, which users view and edit.
+// A schema: users, each of whom may be in others, photos, which users view and edit, and colors.
 use cedar_types::base::{
     AttributeType, Attributes, CedarType, EntityType, EntityUID, Name, OpenTag, SchemaError,
     StandardValidatorEntityType, ValidatorActionId, ValidatorActionKind, ValidatorApplySpec,
@@ -6,7 +6,7 @@ use cedar_types::base::{
 };
 use std::alloc::{AllocError, Global};
 use std::collections::BTreeSet;
-use std::rc::Rc;
+use std::rc::{Rc, RcStr};
 
 pub fn entity_type(alloc: Global, name: &str) -> Result<EntityType, AllocError> {
     Ok(EntityType::from(Name::unqualified_name(alloc, name)?))
@@ -41,14 +41,23 @@ fn entities(
     })
 }
 
-/// Users, who have a mark, and photos, which have an owner.
+/// Colors, of which there is one.
+fn colors(alloc: Global) -> Result<ValidatorEntityType, AllocError> {
+    Ok(ValidatorEntityType {
+        name: entity_type(alloc, "Color")?,
+        descendants: BTreeSet::new(alloc),
+        kind: ValidatorEntityTypeKind::Enum(vec![in alloc; RcStr::from_str(alloc, "red")?]?),
+    })
+}
+
+/// Users, who have a mark, photos, which have an owner, and colors.
 pub fn types(alloc: Global) -> Result<Vec<ValidatorEntityType>, AllocError> {
     let marked = attribute(alloc, "vip", CedarType::primitive_boolean())?;
     let user = CedarType::named_entity_reference(alloc, entity_type(alloc, "User")?)?;
     let owned = attribute(alloc, "owner", user)?;
     let users = entities(alloc, "User", only(alloc, "User")?, marked)?;
     let photos = entities(alloc, "Photo", BTreeSet::new(alloc), owned)?;
-    Ok(vec![in alloc; users, photos]?)
+    Ok(vec![in alloc; users, photos, colors(alloc)?]?)
 }
 
 fn action(alloc: Global, eid: &str) -> Result<ValidatorActionId, AllocError> {
