@@ -141,45 +141,15 @@ fn all_passes<W: Write>(alloc: Global, validator: &Validator<'_>, out: &mut W) -
 fn questions<W: Write>(alloc: Global, validator: &Validator<'_>, out: &mut W) -> io::Result<()> {
     let (unknown, known) = (bound_to_unknown(alloc)?, bound_to_user(alloc)?);
     let named = unknown_names(alloc)?;
-    for (name, policy, question, answers) in [
-        ("policy_entity_uids", &named, Question::Uids, 9),
-        ("policy_entity_type_names", &named, Question::TypeNames, 11),
-        (
-            "get_principals_satisfying_constraint",
-            &named,
-            Question::Principals,
-            1,
-        ),
-        (
-            "get_resources_satisfying_constraint",
-            &known,
-            Question::Resources,
-            3,
-        ),
-        (
-            "validate_template_action_application, that warns",
-            &named,
-            Question::Application,
-            1,
-        ),
-        (
-            "validate_template_action_application",
-            &known,
-            Question::Application,
-            0,
-        ),
-        (
-            "validate_linked_action_application, that warns",
-            &unknown,
-            Question::LinkedApplication,
-            1,
-        ),
-        (
-            "validate_linked_action_application",
-            &known,
-            Question::LinkedApplication,
-            0,
-        ),
+    for (policy, question, answers) in [
+        (&named, Question::Uids, 9),
+        (&named, Question::TypeNames, 11),
+        (&named, Question::Principals, 1),
+        (&known, Question::Resources, 3),
+        (&named, Question::Application, 1),
+        (&known, Question::Application, 0),
+        (&unknown, Question::LinkedApplication, 1),
+        (&known, Question::LinkedApplication, 0),
     ] {
         let asked = Asked {
             validator,
@@ -187,7 +157,7 @@ fn questions<W: Write>(alloc: Global, validator: &Validator<'_>, out: &mut W) ->
             question,
             answers,
         };
-        write_sweep(alloc, out, name, &asked)?;
+        write_sweep(alloc, out, asked.name(), &asked)?;
     }
     Ok(())
 }

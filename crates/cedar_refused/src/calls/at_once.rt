@@ -50,6 +50,19 @@ impl Answer<'_> {
 }
 
 impl<'a> Asked<'a> {
+    pub fn name(&self) -> &'static str {
+        match (self.question, self.answers) {
+            (Question::Uids, _) => "policy_entity_uids",
+            (Question::TypeNames, _) => "policy_entity_type_names",
+            (Question::Principals, _) => "get_principals_satisfying_constraint",
+            (Question::Resources, _) => "get_resources_satisfying_constraint",
+            (Question::Application, 0) => "validate_template_action_application",
+            (Question::Application, _) => "validate_template_action_application, that warns",
+            (Question::LinkedApplication, 0) => "validate_linked_action_application",
+            (Question::LinkedApplication, _) => "validate_linked_action_application, that warns",
+        }
+    }
+
     fn answer(&self, alloc: Global) -> Result<Answer<'a>, AllocError> {
         let (validator, policy) = (self.validator, self.policy);
         let template = &*policy.template;
