@@ -18,8 +18,8 @@ pub struct Rules<'a> {
     pub extensions: &'a ExtensionSchemas,
 }
 
-/// What is shown of a policy: of its names and its scope, of all of its checks, or of the check in each environment, with
-/// ` | ` between them, sorted by bytes.
+/// What is shown of a policy: of its names and its scope, of all of its checks, or of the check in
+/// each environment, with ` | ` between them, sorted by bytes.
 pub fn answers(
     alloc: Global,
     rules: Rules<'_>,

@@ -51,7 +51,8 @@ pub fn policy_outcome(
     Ok(shown)
 }
 
-/// The errors of a pass, sorted by bytes, with `; ` between them. One without a place is shown without it.
+/// The errors of a pass, sorted by bytes, with `; ` between them. One without a place is shown
+/// without it.
 pub fn findings(
     alloc: Global,
     errors: &[ValidationError],

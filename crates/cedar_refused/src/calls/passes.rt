@@ -1,4 +1,4 @@
-// The passes over the names in a policy and over what its slots are bound to. Each step may take memory.
+// The passes over the names in a policy and over what its slots are bound to, step by step.
 use crate::calls::walks::{Steps, refused_walk, walked};
 use crate::pictures::picture;
 use crate::sweep::{ANOTHER_ANSWER, ANOTHER_LATER, ANOTHER_POLICY, Attempt, Call};

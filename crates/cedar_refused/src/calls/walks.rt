@@ -15,7 +15,8 @@ pub trait Steps: Drop {
     fn step(&mut self) -> Option<Result<Self::Item, AllocError>>;
 }
 
-/// Takes items, for which there is room, until one is refused or there is none. Whether there is none.
+/// Takes items, for which there is room, until one is refused or there is none. Whether there is
+/// none.
 fn take_all<S: Steps>(steps: &mut S, items: &mut Vec<S::Item>) -> bool {
     for _ in 0..MOST {
         let item = match steps.step() {
@@ -40,8 +41,8 @@ pub fn walked<S: Steps>(alloc: Global, mut steps: S) -> Result<Vec<String>, Allo
     }
 }
 
-/// A walk while the growth of this number is refused. Items are looked at after the walk is dropped; after its end it
-/// gives nothing, three times.
+/// A walk while the growth of this number is refused. Items are looked at after the walk is
+/// dropped; after its end it gives nothing, three times.
 pub fn refused_walk<S: Steps>(
     alloc: Global,
     mut steps: S,

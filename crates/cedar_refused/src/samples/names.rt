@@ -22,7 +22,8 @@ fn uid(alloc: Global, name: &str, eid: &str) -> Result<EntityUID, AllocError> {
     EntityUID::from_components(alloc, entity_type(alloc, name)?, eid, place(32))
 }
 
-/// `[N::User::"a", N::Action::"a", Color::"blue", Color::"red", Color::"blue"].isEmpty() || principal is N::Gone`.
+/// `[N::User::"a", N::Action::"a", Color::"blue", Color::"red", Color::"blue"].isEmpty()
+/// || principal is N::Gone`.
 fn condition(alloc: Global) -> Result<Expr, AllocError> {
     let mut named = Vec::new(alloc);
     for uid in [
@@ -40,8 +41,8 @@ fn condition(alloc: Global) -> Result<Expr, AllocError> {
     Expr::or(alloc, is_empty, is_gone)
 }
 
-/// `permit(principal in N::User::"a", action in [Action::"view", N::Action::"a"], resource is N::Gone in Photo::"a")`
-/// with that condition. No slot is bound.
+/// `permit(principal in N::User::"a", action in [Action::"view", N::Action::"a"],
+/// resource is N::Gone in Photo::"a")` with that condition. No slot is bound.
 pub fn unknown_names(alloc: Global) -> Result<Policy, AllocError> {
     let id = PolicyID::from_string(alloc, "policy0")?;
     let principal = PrincipalConstraint::is_in(unknown_uid(alloc, "User")?);
@@ -57,7 +58,8 @@ pub fn unknown_names(alloc: Global) -> Result<Policy, AllocError> {
     linked(alloc, template, SlotEnv::new(alloc))
 }
 
-/// The policy with a slot, where both slots are bound to entities of types that the schema does not have.
+/// The policy with a slot, where both slots are bound to entities of types that the schema does
+/// not have.
 pub fn bound_to_unknown(alloc: Global) -> Result<Policy, AllocError> {
     let mut values = SlotEnv::new(alloc);
     drop(values.insert(SlotId::Principal, unknown_uid(alloc, "User")?)?);
