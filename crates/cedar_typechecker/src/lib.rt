@@ -4,3 +4,4 @@
 pub mod rbac;
 
 pub use cedar_types::{base, types};
+pub use cedar_typing::typecheck;
