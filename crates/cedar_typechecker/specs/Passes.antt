@@ -1,7 +1,7 @@
 -- What a pass over the names of a template finds.
-use Rattle.std.specs.Prelude.{Bool, List, [], cond, Option, Some, None, option_map}
+use Rattle.std.specs.Prelude.{Bool, List, [], cond, Option, Some, None}
 use Rattle.std.specs.List.{filter_map}
-use Rattle.cedar_types.specs.Errors.{Finding, Fault, unrecognized_entity_type, unrecognized_action_id, invalid_enum_entity}
+use Rattle.cedar_types.specs.Errors.{Finding, unrecognized_entity_type, unrecognized_action_id, invalid_enum_entity}
 use Rattle.cedar_types.specs.Findings.{is_unknown_type, is_unknown_action, is_wrong_member}
 use Rattle.cedar_types.specs.Mentions.{Mention, mentioned_uid, mentioned_type}
 use Rattle.cedar_types.specs.MentionViews.{mentions_left}

@@ -10,7 +10,7 @@ ghost use Rattle.cedar_types.specs.MentionViews.{mention_of};
 ghost use Rattle.cedar_types.specs.Names.{text_of, uid_of, placed_type, placed_uid};
 ghost use Rattle.cedar_types.specs.SchemaContents.{schema_of};
 ghost use Rattle.cedar_types.specs.Templates.{template_of};
-ghost use Rattle.cedar_typechecker.specs.Passes.{own_finding, type_finding, action_finding, member_finding, of_uid, errors_to_come, errors_left, errors_are_over};
+ghost use Rattle.cedar_typechecker.specs.Passes.{own_finding, type_finding, action_finding, member_finding, errors_to_come, errors_left, errors_are_over};
 
 use crate::rbac::members::has_id;
 use crate::rbac::validator::Validator;

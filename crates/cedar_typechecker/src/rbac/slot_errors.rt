@@ -1,5 +1,5 @@
 // What the slots of a policy are bound to, of an entity type that the schema does not know.
-ghost use Rattle.std.specs.Prelude.{◌≡◌, false, [], ◌∷◌, None, IfOk, IsPermutation, MatchOption, option_map};
+ghost use Rattle.std.specs.Prelude.{◌≡◌, false, [], ◌∷◌, None, IfOk, IsPermutation, MatchOption};
 ghost use Rattle.std.specs.BTreeMap.{values};
 ghost use Rattle.cedar_types.specs.Errors.{finding_of, unrecognized_entity_type};
 ghost use Rattle.cedar_types.specs.FallibleIterators.{YieldsOrEnds, calls_left};

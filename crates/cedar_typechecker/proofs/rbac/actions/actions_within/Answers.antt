@@ -1,7 +1,5 @@
-use Rattle.std.proofs.Common.{◌≡◌, ◌∙◌, ap, sym, subst, Bool, true, false, cond, [], map, List, Option, Some, option_map}
+use Rattle.std.proofs.Common.{◌≡◌, ◌∙◌, ap, sym, subst, Bool, false, cond, [], map, List, Some, option_map}
 use Rattle.std.specs.List.{list_all, list_any}
-use Rattle.std.specs.Borrow.{Bor}
-use Rattle.cedar_types.specs.declared.base.names.entities.EntityUID.{EntityUID}
 use Rattle.cedar_types.specs.Declarations.{declared_action}
 use Rattle.cedar_types.specs.Listings.{ListsActions, actions_within}
 use Rattle.cedar_types.specs.Names.{Uid, uid_of, placed_uid}

@@ -1,13 +1,11 @@
-use Rattle.std.proofs.Common.{◌≡◌, ◌∙◌, ap, sym, subst, map, Bool, List}
-use Rattle.std.specs.List.{list_any}
+use Rattle.std.proofs.Common.{◌∙◌, sym, subst, map}
 use Rattle.cedar_types.specs.Declarations.{application}
 use Rattle.cedar_types.specs.Errors.{invalid_action_application}
 use Rattle.cedar_types.specs.Listings.{ListsTypes}
 use Rattle.cedar_types.specs.Names.{type_of}
 use Rattle.cedar_types.specs.SchemaContents.{schema_of}
-use Rattle.cedar_types.specs.Templates.{template_of, scope_of, action_scope_of}
+use Rattle.cedar_types.specs.Templates.{template_of, scope_of}
 use Rattle.cedar_typechecker.specs.declared.rbac.flags.Side.{Side}
-use Rattle.cedar_typechecker.specs.Applications.{fits, has_fitting_action}
 use Rattle.cedar_typechecker.specs.Members.{SameMembers}
 use Rattle.cedar_typechecker.specs.Scopes.{admitted_types, admitted_applications}
 use Rattle.cedar_typechecker.proofs.Answers.{fits_listed, flag_listed}
