@@ -1,4 +1,6 @@
 // What a validator says of the names and the scope of a policy, as a column shows it.
+ghost use Rattle.std.specs.Iterator.{IsFinite};
+
 use crate::cases::columns::Question;
 use crate::shown::{Source, application, findings};
 use cedar_typechecker::rbac::Validator;
@@ -57,7 +59,10 @@ fn found<I: Iterator<Item = Result<ValidationError, AllocError>> + Drop>(
     alloc: Global,
     pass: I,
     source: Source<'_>,
-) -> Result<String, AllocError> {
+) -> Result<String, AllocError>
+    requires can { I.can_next pass }
+    requires ends { IsFinite (I.remaining pass) }
+{
     let mut errors = Vec::new(alloc);
     for error in pass {
         errors.push(error?)?;

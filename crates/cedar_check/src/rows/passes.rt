@@ -1,4 +1,6 @@
 // The rows on the names and ids in a policy, and in what its slots are bound to.
+ghost use Rattle.std.specs.Iterator.{IsFinite};
+
 use crate::fixtures::uids::WrittenUid;
 use crate::rows::Report;
 use crate::rows::expected::{POLICY, are_wanted};
@@ -69,7 +71,10 @@ impl Pass {
 fn collected<I: Iterator<Item = Result<ValidationError, AllocError>> + Drop>(
     alloc: Global,
     found: I,
-) -> Result<Vec<ValidationError>, AllocError> {
+) -> Result<Vec<ValidationError>, AllocError>
+    requires can { I.can_next found }
+    requires ends { IsFinite (I.remaining found) }
+{
     let mut errors = Vec::new(alloc);
     for error in found {
         errors.push(error?)?;

@@ -61,7 +61,9 @@ impl PassWalk<'_> {
         alloc: Global,
         number: u16,
         steps: F,
-    ) -> Result<Attempt, AllocError> {
+    ) -> Result<Attempt, AllocError>
+        requires { F.IsAlwaysCallable steps }
+    {
         let before = picture(alloc, self.policy)?;
         let wanted = walked(alloc, steps())?;
         let attempt = refused_walk(alloc, steps(), &wanted, number)?;
