@@ -1,4 +1,6 @@
 // Names, policies and what passes find, written short.
+ghost use Rattle.std.specs.Iterator.{IsFinite};
+
 use cedar_typechecker::base::{
     ActionConstraint, EntityType, EntityUID, Expr, Loc, Name, PolicyID, PrincipalConstraint,
     ResourceConstraint, Template, ValidationError,
@@ -46,27 +48,17 @@ fn shown(alloc: Global, error: &ValidationError) -> Result<String, AllocError> {
     }
 }
 
-/// More steps than any walk here has.
-const MOST: usize = 16;
-
-/// The errors of a pass in the order of their texts. It ends before this many steps and then gives nothing any more.
+/// The errors of a pass in the order of their texts.
 pub fn found<I: Iterator<Item = Result<ValidationError, AllocError>> + Drop>(
     alloc: Global,
-    mut errors: I,
+    errors: I,
 ) -> Result<String, Fail>
     requires can { I.can_next errors }
+    requires ends { IsFinite (I.remaining errors) }
 {
     let mut texts = Vec::new(alloc);
-    let mut ended = false;
-    for _ in 0..MOST {
-        match errors.next() {
-            None => ended = true,
-            Some(_) if ended => return Err(Fail::from("an item after the end")),
-            Some(error) => texts.push(shown(alloc, &error?)?)?,
-        }
-    }
-    if !ended {
-        return Err(Fail::from("more steps"));
+    for error in errors {
+        texts.push(shown(alloc, &error?)?)?;
     }
     texts.sort()?;
     Ok(texts.as_slice().join(alloc, " | ")?)
