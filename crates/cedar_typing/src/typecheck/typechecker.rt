@@ -35,7 +35,7 @@ pub enum PolicyCheck {
     Irrelevant(Vec<ValidationError>, Expr<Option<CedarType>>),
     /// The condition is refused. There may be no error: an entity whose type the schema does not know, an action that it
     /// does not declare and an unknown fail without one, and so does what is nested too deep. A host that prints errors
-    /// alone would show such a policy as clean. The passes over names and ids will name the first two. In Strict there is no
+    /// alone would show such a policy as clean. The passes over names and ids name the first two. In Strict there is no
     /// other failure without an error (`composition::failures_have_errors`).
     Fail(Vec<ValidationError>),
 }
