@@ -167,9 +167,9 @@ fn without_memory<W: Write>(
     validator: &Validator<'_>,
     out: &mut W,
 ) -> io::Result<()> {
-    let schema = validator.schema();
+    let (schema, named) = (validator.schema(), unknown_names(alloc)?);
     writeln!(out, "environments: {}", environments(alloc, schema)?)?;
     writeln!(out, "look-ups: {}", look_ups(alloc, schema)?)?;
     writeln!(out, "tables: {}", tables(alloc)?)?;
-    writeln!(out, "passes: {}", passes(alloc, validator)?)
+    writeln!(out, "passes: {}", passes(alloc, validator, &named)?)
 }

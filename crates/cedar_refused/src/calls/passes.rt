@@ -3,7 +3,7 @@ use crate::calls::walks::{Steps, refused_walk, walked};
 use crate::pictures::picture;
 use crate::sweep::{ANOTHER_ANSWER, ANOTHER_LATER, ANOTHER_POLICY, Attempt, Call};
 use cedar_typechecker::rbac::{LiteralErrors, SlotTypeErrors, Validator};
-use cedar_types::base::{Mention, Mentions, Policy, ValidationError};
+use cedar_types::base::{Mention, Mentions, Policy, ValidationError, ValidatorSchema};
 use std::alloc::{AllocError, Global};
 
 /// A pass over a policy.
@@ -33,48 +33,113 @@ pub struct PassWalk<'a> {
 
 impl Call for PassWalk<'_> {
     fn attempt(&self, alloc: Global, number: u16) -> Result<Attempt, AllocError> {
-        let (schema, template) = (self.validator.schema(), &*self.policy.template);
-        match self.pass {
-            Pass::Mentions => self.attempt_walk(alloc, number, || template.mentions(alloc)),
-            Pass::EntityTypes => self.attempt_walk(alloc, number, || {
-                Validator::validate_entity_types(alloc, schema, template)
-            }),
-            Pass::ActionIds => self.attempt_walk(alloc, number, || {
-                Validator::validate_action_ids(alloc, schema, template)
-            }),
-            Pass::EnumEntities => self.attempt_walk(alloc, number, || {
-                Validator::validate_enum_entity(alloc, schema, template)
-            }),
-            Pass::SlotTypes => self.attempt_walk(alloc, number, || {
-                let slots = &self.policy.values;
-                self.validator
-                    .validate_entity_types_in_slots(alloc, &template.id, slots)
-            }),
-        }
+        let before = picture(alloc, self.policy)?;
+        let (validator, policy) = (self.validator, self.policy);
+        let attempt = match self.pass {
+            Pass::Mentions => mentions(alloc, policy, self.items, number)?,
+            Pass::EntityTypes => types(alloc, validator.schema(), policy, self.items, number)?,
+            Pass::ActionIds => actions(alloc, validator.schema(), policy, self.items, number)?,
+            Pass::EnumEntities => members(alloc, validator.schema(), policy, self.items, number)?,
+            Pass::SlotTypes => slots(alloc, validator, policy, self.items, number)?,
+        };
+        Ok(attempt.only_if(picture(alloc, self.policy)? == before, ANOTHER_POLICY))
     }
 }
 
-impl PassWalk<'_> {
-    /// Walks with ample memory, then while a growth is refused, and again with ample memory.
-    fn attempt_walk<S: Steps, F: Fn() -> S>(
-        &self,
-        alloc: Global,
-        number: u16,
-        steps: F,
-    ) -> Result<Attempt, AllocError>
-        requires { F.IsAlwaysCallable steps }
-    {
-        let before = picture(alloc, self.policy)?;
-        let wanted = walked(alloc, steps())?;
-        let attempt = refused_walk(alloc, steps(), &wanted, number)?;
-        let again = walked(alloc, steps())?;
-        Ok(
-            attempt
-                .only_if(wanted.len() == self.items, ANOTHER_ANSWER)
-                .only_if(again == wanted, ANOTHER_LATER)
-                .only_if(picture(alloc, self.policy)? == before, ANOTHER_POLICY),
-        )
-    }
+/// One walk with ample memory, one while a growth is refused, and again one with ample memory.
+fn attempt_walk<S: Steps>(
+    alloc: Global,
+    walks: (S, S, S),
+    items: usize,
+    number: u16,
+) -> Result<Attempt, AllocError> {
+    let wanted = walked(alloc, walks.0)?;
+    let attempt = refused_walk(alloc, walks.1, &wanted, number)?;
+    let again = walked(alloc, walks.2)?;
+    Ok(
+        attempt
+            .only_if(wanted.len() == items, ANOTHER_ANSWER)
+            .only_if(again == wanted, ANOTHER_LATER),
+    )
+}
+
+fn mentions(
+    alloc: Global,
+    policy: &Policy,
+    items: usize,
+    number: u16,
+) -> Result<Attempt, AllocError> {
+    let template = &*policy.template;
+    let walks = (
+        template.mentions(alloc),
+        template.mentions(alloc),
+        template.mentions(alloc),
+    );
+    attempt_walk(alloc, walks, items, number)
+}
+
+fn types<'x>(
+    alloc: Global,
+    schema: &'x ValidatorSchema,
+    policy: &'x Policy,
+    items: usize,
+    number: u16,
+) -> Result<Attempt, AllocError> {
+    let template = &*policy.template;
+    let walks = (
+        Validator::validate_entity_types(alloc, schema, template),
+        Validator::validate_entity_types(alloc, schema, template),
+        Validator::validate_entity_types(alloc, schema, template),
+    );
+    attempt_walk(alloc, walks, items, number)
+}
+
+fn actions<'x>(
+    alloc: Global,
+    schema: &'x ValidatorSchema,
+    policy: &'x Policy,
+    items: usize,
+    number: u16,
+) -> Result<Attempt, AllocError> {
+    let template = &*policy.template;
+    let walks = (
+        Validator::validate_action_ids(alloc, schema, template),
+        Validator::validate_action_ids(alloc, schema, template),
+        Validator::validate_action_ids(alloc, schema, template),
+    );
+    attempt_walk(alloc, walks, items, number)
+}
+
+fn members<'x>(
+    alloc: Global,
+    schema: &'x ValidatorSchema,
+    policy: &'x Policy,
+    items: usize,
+    number: u16,
+) -> Result<Attempt, AllocError> {
+    let template = &*policy.template;
+    let walks = (
+        Validator::validate_enum_entity(alloc, schema, template),
+        Validator::validate_enum_entity(alloc, schema, template),
+        Validator::validate_enum_entity(alloc, schema, template),
+    );
+    attempt_walk(alloc, walks, items, number)
+}
+
+fn slots<'x>(
+    alloc: Global,
+    validator: &'x Validator<'x>,
+    policy: &'x Policy,
+    items: usize,
+    number: u16,
+) -> Result<Attempt, AllocError> {
+    let (id, bound) = (&policy.template.id, &policy.values);
+    let walks = (
+        validator.validate_entity_types_in_slots(alloc, id, bound),
+        validator.validate_entity_types_in_slots(alloc, id, bound),
+        validator.validate_entity_types_in_slots(alloc, id, bound),
+    );
+    attempt_walk(alloc, walks, items, number)
 }
 
 impl<'a> Steps for Mentions<'a> {

@@ -1,10 +1,10 @@
 // Calls that take no memory, made while each growth is refused.
 use crate::refusals::{refuse_all, was_refused};
-use crate::samples::names::unknown_names;
 use crate::samples::schemas::entity_type;
 use cedar_typechecker::rbac::Validator;
 use cedar_types::base::{
-    CedarType, ExtensionFunctionType, ExtensionSchemas, Name, ValidationMode, ValidatorSchema,
+    CedarType, ExtensionFunctionType, ExtensionSchemas, Name, Policy, ValidationMode,
+    ValidatorSchema,
 };
 use cedar_types::types::request_env::RequestEnv;
 use cedar_typing::typecheck::Typechecker;
@@ -93,8 +93,11 @@ pub fn tables(alloc: Global) -> Result<&'static str, AllocError> {
 }
 
 /// The making of a validator and of its passes, before their first steps.
-pub fn passes(alloc: Global, validator: &Validator<'_>) -> Result<&'static str, AllocError> {
-    let policy = unknown_names(alloc)?;
+pub fn passes<'x>(
+    alloc: Global,
+    validator: &'x Validator<'x>,
+    policy: &'x Policy,
+) -> Result<&'static str, AllocError> {
     let template = &*policy.template;
     let extensions = ExtensionSchemas::default(alloc);
     let empty = ValidatorSchema::empty(alloc);
@@ -104,12 +107,11 @@ pub fn passes(alloc: Global, validator: &Validator<'_>) -> Result<&'static str, 
     let other = Validator::new(empty, &extensions);
     let is_as_ever = schema.is_known_entity_type(&user)
         && !other.schema().is_known_entity_type(&user);
-    let mentions = template.mentions(alloc);
-    let types = Validator::validate_entity_types(alloc, schema, template);
-    let actions = Validator::validate_action_ids(alloc, schema, template);
-    let members = Validator::validate_enum_entity(alloc, schema, template);
-    let slots = validator.validate_entity_types_in_slots(alloc, &template.id, &policy.values);
+    let _mentions = template.mentions(alloc);
+    let _types = Validator::validate_entity_types(alloc, schema, template);
+    let _actions = Validator::validate_action_ids(alloc, schema, template);
+    let _members = Validator::validate_enum_entity(alloc, schema, template);
+    let _slots = validator.validate_entity_types_in_slots(alloc, &template.id, &policy.values);
     let was_refused = was_refused(alloc);
-    drop((mentions, types, actions, members, slots));
     Ok(outcome(is_as_ever, was_refused))
 }
