@@ -123,13 +123,12 @@ young = policy_when (less (dot principal (codes "age")) one)
 
 abbrev pub age_in_words : World
 age_in_words = record meeting {
-  store =
-      (
-        alice,
-        record stored_alice {
-          attributes = more_entries (codes "age") (words (codes "30")) no_entries;
-        },
-      )
+  store = (
+    alice,
+    record stored_alice {
+      attributes = more_entries (codes "age") (words (codes "30")) no_entries;
+    },
+  )
       ∷ sample_store;
 }
 
@@ -191,15 +190,14 @@ a_guest = record { entity_type = guest; eid = codes "g" }
 
 abbrev pub guest_greeting : World
 guest_greeting = record meeting {
-  store =
-      (
-        a_guest,
-        record {
-          attributes = no_entries;
-          ancestors = [];
-          tags = more_entries (codes "role") (words (codes "admin")) no_entries;
-        },
-      )
+  store = (
+    a_guest,
+    record {
+      attributes = no_entries;
+      ancestors = [];
+      tags = more_entries (codes "role") (words (codes "admin")) no_entries;
+    },
+  )
       ∷ (greet, stored_action [])
       ∷ [];
 }
