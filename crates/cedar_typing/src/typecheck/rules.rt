@@ -3,6 +3,7 @@ pub(crate) mod attributes;
 pub(crate) mod calls;
 mod chains;
 mod conditional;
+mod decisions;
 pub(crate) mod eager;
 mod equality;
 mod leaves;

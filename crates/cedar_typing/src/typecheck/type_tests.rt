@@ -1,12 +1,14 @@
 // Tests of types.
-ghost use Rattle.std.specs.Prelude.{◌≡◌};
-ghost use Rattle.cedar_types.specs.Types.{ty_of, TBool};
+ghost use Rattle.std.specs.Prelude.{◌≡◌, Some, option_map};
+ghost use Rattle.cedar_types.specs.Types.{ty_of, lub_of, TBool};
 ghost use Rattle.cedar_types.specs.Bounds.{is_never};
 ghost use Rattle.cedar_types.specs.declared.base.types.BoolType.TheVariants.{AnyBool};
+ghost use Rattle.cedar_typing.specs.Rules.Chains.{is_object};
+ghost use Rattle.cedar_typing.specs.Rules.Membership.{types_of_entity};
 ghost use Rattle.cedar_typing.specs.TypeTests.{is_false, is_true, is_any_bool, is_record, annotation_passes};
 ghost use Rattle.cedar_typing.specs.TypedExpr.{typed_tree, annotation};
 
-use cedar_types::base::{BoolType, CedarType, Expr};
+use cedar_types::base::{BoolType, CedarType, EntityKind, EntityLUB, Expr};
 
 /// The type of both truth values.
 pub(crate) fn any_bool() -> CedarType
@@ -140,5 +142,46 @@ pub(crate) fn is_typed_true(typed: &Expr<Option<CedarType>>) -> bool
     match &typed.annotation {
         Some(ty) => is_true_type(ty),
         None => false,
+    }
+}
+
+/// Whether a type is a record's or an entity's. Never is none.
+pub(crate) fn is_object_type(ty: &CedarType) -> bool
+    ensures { result ≡ is_object (ty_of ty.now) }
+{
+    match ty {
+        CedarType::Never => false,
+        CedarType::Bool(_) => false,
+        CedarType::Long => false,
+        CedarType::String => false,
+        CedarType::Set(_) => false,
+        CedarType::AnySet => false,
+        CedarType::Record {
+            attributes: _attributes,
+            is_open: _open,
+        } => true,
+        CedarType::Entity(_) => true,
+        CedarType::Extension(_) => false,
+    }
+}
+
+/// The entity types that a type names, if it names some.
+pub(crate) fn named_types(ty: &CedarType) -> Option<&EntityLUB>
+    ensures { option_map (λ s. lub_of s.now) result ≡ types_of_entity (Some (ty_of ty.now)) }
+{
+    match ty {
+        CedarType::Entity(EntityKind::Entity(types)) => Some(types),
+        CedarType::Entity(EntityKind::AnyEntity) => None,
+        CedarType::Never => None,
+        CedarType::Bool(_) => None,
+        CedarType::Long => None,
+        CedarType::String => None,
+        CedarType::Set(_) => None,
+        CedarType::AnySet => None,
+        CedarType::Record {
+            attributes: _attributes,
+            is_open: _open,
+        } => None,
+        CedarType::Extension(_) => None,
     }
 }

@@ -1,15 +1,19 @@
-// Answers from typed expressions.
-ghost use Rattle.std.specs.Prelude.{◌≡◌};
+// Typed nodes, and answers from them.
+ghost use Rattle.std.specs.Prelude.{◌≡◌, IfOk, map, option_map};
 ghost use Rattle.cedar_types.specs.Capability.{caps};
+ghost use Rattle.cedar_types.specs.Names.{path_of};
+ghost use Rattle.cedar_types.specs.Tree.{binary, call, ext_has_attr};
+ghost use Rattle.cedar_types.specs.Types.{ty_of};
+ghost use Rattle.cedar_types.specs.View.{chain_of, trees_of};
 ghost use Rattle.cedar_typing.specs.Capabilities.{no_caps};
 ghost use Rattle.cedar_typing.specs.Infer.Parts.{answer_if};
-ghost use Rattle.cedar_typing.specs.TypedExpr.{typed_tree, at_place};
-ghost use Rattle.cedar_typing.specs.Views.{answer_of};
+ghost use Rattle.cedar_typing.specs.TypedExpr.{typed_as, typed_tree, at_place};
+ghost use Rattle.cedar_typing.specs.Views.{answer_of, at};
 
 use crate::typecheck::answer::TypecheckAnswer;
-use cedar_types::base::{CedarType, Expr, Loc};
+use cedar_types::base::{AttrChain, BinaryOp, CedarType, Expr, ExprKind, Loc, Name};
 use cedar_types::types::capability::CapabilitySet;
-use std::alloc::Global;
+use std::alloc::{AllocError, Global};
 
 /// A success with these capabilities, or a failure, which has none.
 pub(crate) fn with_capabilities<'a>(
@@ -50,4 +54,60 @@ pub(crate) fn at_place(typed: Expr<Option<CedarType>>, loc: Option<Loc>) -> Expr
         loc,
         kind: typed.kind,
     }
+}
+
+pub(crate) fn binary_node(
+    alloc: Global,
+    loc: Option<Loc>,
+    ty: Option<CedarType>,
+    op: BinaryOp,
+    left: Expr<Option<CedarType>>,
+    right: Expr<Option<CedarType>>,
+) -> Result<Expr<Option<CedarType>>, AllocError>
+    ensures { IfOk result (λ e. typed_tree e
+        ≡ binary (typed_as (option_map ty_of ty) (at loc)) op (typed_tree left) (typed_tree right)) }
+{
+    let left = Box::new(alloc, left)?;
+    let right = Box::new(alloc, right)?;
+    Ok(Expr {
+        annotation: ty,
+        loc,
+        kind: ExprKind::BinaryApp(op, left, right),
+    })
+}
+
+pub(crate) fn chain_node(
+    alloc: Global,
+    loc: Option<Loc>,
+    ty: Option<CedarType>,
+    base: Expr<Option<CedarType>>,
+    attrs: &AttrChain,
+) -> Result<Expr<Option<CedarType>>, AllocError>
+    ensures { IfOk result (λ e. typed_tree e
+        ≡ ext_has_attr (typed_as (option_map ty_of ty) (at loc)) (typed_tree base)
+        (chain_of attrs.now).0 (chain_of attrs.now).1) }
+{
+    Ok(Expr {
+        annotation: ty,
+        loc,
+        kind: ExprKind::ExtHasAttr(Box::new(alloc, base)?, attrs.clone()?),
+    })
+}
+
+pub(crate) fn call_node(
+    loc: Option<Loc>,
+    name: &Name,
+    ty: Option<CedarType>,
+    arguments: Vec<Expr<Option<CedarType>>>,
+) -> Result<Expr<Option<CedarType>>, AllocError>
+    ensures { IfOk result (λ e. typed_tree e
+        ≡ call (typed_as (option_map ty_of ty) (at loc)) (path_of name.now)
+        (trees_of (map typed_tree arguments.items))) }
+{
+    let kind = ExprKind::ExtensionFunctionApp(name.clone()?, arguments);
+    Ok(Expr {
+        annotation: ty,
+        loc,
+        kind,
+    })
 }

@@ -4,15 +4,13 @@ ghost use Rattle.std.specs.List.{list_all};
 ghost use Rattle.cedar_types.specs.Errors.{finding_of, wrong_number_arguments};
 ghost use Rattle.cedar_types.specs.ExtensionFunctions.{function_of};
 ghost use Rattle.cedar_types.specs.Names.{path_of};
-ghost use Rattle.cedar_types.specs.Tree.{call};
 ghost use Rattle.cedar_types.specs.Types.{ty_of};
-ghost use Rattle.cedar_types.specs.View.{trees_of, written};
+ghost use Rattle.cedar_types.specs.View.{written};
 ghost use Rattle.cedar_typing.specs.CallViews.{IsCallOf, added_at, shape_of};
 ghost use Rattle.cedar_typing.specs.Infer.Eager.{infer_form};
-ghost use Rattle.cedar_typing.specs.Rules.Calls.{call_decides, call_errors, check_faults, form_of_call, is_literal, literal_faults, number_faults, takes, types_wanted};
+ghost use Rattle.cedar_typing.specs.Rules.Calls.{call_decides, call_errors, check_faults, is_literal, literal_faults, number_faults, takes, types_wanted};
 ghost use Rattle.cedar_typing.specs.SettingViews.{setting_at};
 ghost use Rattle.cedar_typing.specs.TypeEnv.{finding};
-ghost use Rattle.cedar_typing.specs.TypedExpr.{typed_as, typed_tree};
 ghost use Rattle.cedar_typing.specs.Views.{answer_of, at, decision_of, env_at, findings, operands_of};
 
 use crate::typecheck::answer::TypecheckAnswer;
@@ -20,7 +18,7 @@ use crate::typecheck::rules::eager::{Decision, add_errors, gives_unless};
 use crate::typecheck::rules::operand_list::OperandList;
 use crate::typecheck::single_env::SingleEnvTypechecker;
 use crate::typecheck::type_env::TypeEnv;
-use crate::typecheck::typed_nodes::with_capabilities;
+use crate::typecheck::typed_nodes::{call_node, with_capabilities};
 use cedar_types::base::{
     ArgumentCheck, CedarType, Expr, ExprKind, ExtensionFunctionType, Loc, Name, ValidationError,
     ValidationMode,
@@ -290,22 +288,4 @@ fn decide_call<'a>(alloc: Global, call: Call<'_>) -> Result<Decision<'a>, AllocE
         Some(ty) => Ok(gives_unless(alloc, call.errors, ty.clone()?)),
         None => Ok(Decision::Refuses(None, call.errors)),
     }
-}
-
-fn call_node(
-    loc: Option<Loc>,
-    name: &Name,
-    ty: Option<CedarType>,
-    arguments: Vec<Expr<Option<CedarType>>>,
-) -> Result<Expr<Option<CedarType>>, AllocError>
-    ensures { IfOk result (λ e. typed_tree e
-        ≡ call (typed_as (option_map ty_of ty) (at loc)) (path_of name.now)
-        (trees_of (map typed_tree arguments.items))) }
-{
-    let kind = ExprKind::ExtensionFunctionApp(name.clone()?, arguments);
-    Ok(Expr {
-        annotation: ty,
-        loc,
-        kind,
-    })
 }

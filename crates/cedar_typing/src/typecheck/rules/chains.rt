@@ -3,14 +3,12 @@ ghost use Rattle.std.specs.Prelude.{◌≡◌, is_some, IfOk, option_map};
 ghost use Rattle.cedar_types.specs.Capability.{caps, cap_of};
 ghost use Rattle.cedar_types.specs.Lookups.{attribute_type};
 ghost use Rattle.cedar_types.specs.Names.{text_of};
-ghost use Rattle.cedar_types.specs.Tree.{ext_has_attr};
 ghost use Rattle.cedar_types.specs.Types.{ty_of};
 ghost use Rattle.cedar_types.specs.View.{chain_of, written};
 ghost use Rattle.cedar_typing.specs.Capabilities.{union};
 ghost use Rattle.cedar_typing.specs.Rules.Attributes.{attribute_of, get_decides};
-ghost use Rattle.cedar_typing.specs.Rules.Chains.{no_steps, is_object, step_type, step_earns, with_step, step, end_of_chain, made_up, link, after_access, chain_table};
-ghost use Rattle.cedar_typing.specs.TypedExpr.{typed_as, typed_tree};
-ghost use Rattle.cedar_typing.specs.Views.{at, env_at, decision_of, progress_of, by_step, by_link, GoesOnAt};
+ghost use Rattle.cedar_typing.specs.Rules.Chains.{no_steps, step_type, step_earns, with_step, step, end_of_chain, made_up, link, after_access, chain_table};
+ghost use Rattle.cedar_typing.specs.Views.{env_at, decision_of, progress_of, by_step, by_link, GoesOnAt};
 
 use crate::typecheck::capabilities::no_capabilities;
 use crate::typecheck::operands::Expected;
@@ -18,7 +16,7 @@ use crate::typecheck::rules::attributes::declared_type;
 use crate::typecheck::rules::eager::{Decision, gives, refuses_with};
 use crate::typecheck::rules::leaves::bool_type;
 use crate::typecheck::type_env::TypeEnv;
-use crate::typecheck::type_tests::{any_bool, is_false_type, is_true_type};
+use crate::typecheck::type_tests::{any_bool, is_false_type, is_object_type, is_true_type};
 use cedar_types::base::{AttrChain, BoolType, CedarType, Expr, ExprKind, Loc};
 use cedar_types::types::capability::{Capability, CapabilitySet};
 use std::alloc::{AllocError, Global};
@@ -285,43 +283,5 @@ fn made_up(alloc: Global, e: Expr, attr: &RcStr) -> Result<Expr, AllocError>
         annotation: (),
         loc: None,
         kind: ExprKind::GetAttr(Box::new(alloc, e)?, attr.clone()?),
-    })
-}
-
-/// Whether a type is a record's or an entity's. Never is none.
-fn is_object_type(ty: &CedarType) -> bool
-    ensures { result ≡ is_object (ty_of ty.now) }
-{
-    match ty {
-        CedarType::Never => false,
-        CedarType::Bool(_) => false,
-        CedarType::Long => false,
-        CedarType::String => false,
-        CedarType::Set(_) => false,
-        CedarType::AnySet => false,
-        CedarType::Record {
-            attributes: _attributes,
-            is_open: _open,
-        } => true,
-        CedarType::Entity(_) => true,
-        CedarType::Extension(_) => false,
-    }
-}
-
-pub(crate) fn chain_node(
-    alloc: Global,
-    loc: Option<Loc>,
-    ty: Option<CedarType>,
-    base: Expr<Option<CedarType>>,
-    attrs: &AttrChain,
-) -> Result<Expr<Option<CedarType>>, AllocError>
-    ensures { IfOk result (λ e. typed_tree e
-        ≡ ext_has_attr (typed_as (option_map ty_of ty) (at loc)) (typed_tree base)
-        (chain_of attrs.now).0 (chain_of attrs.now).1) }
-{
-    Ok(Expr {
-        annotation: ty,
-        loc,
-        kind: ExprKind::ExtHasAttr(Box::new(alloc, base)?, attrs.clone()?),
     })
 }

@@ -12,7 +12,7 @@ ghost use Rattle.cedar_typing.specs.Views.{env_at, decision_of};
 use crate::typecheck::rules::eager::{Decision, gives};
 use crate::typecheck::rules::leaves::bool_type;
 use crate::typecheck::type_env::TypeEnv;
-use crate::typecheck::type_tests::any_bool;
+use crate::typecheck::type_tests::{any_bool, named_types};
 use cedar_types::base::{
     BoolType, CedarType, EntityKind, EntityLUB, EntityUID, Expr, ExprKind, Literal, ValidationMode,
 };
@@ -277,26 +277,5 @@ fn types_of_ancestors(ty: &Option<CedarType>) -> Option<&EntityLUB>
         ) => None,
         Some(CedarType::Extension(_)) => None,
         None => None,
-    }
-}
-
-/// The entity types that a type names, if it names some.
-pub(crate) fn named_types(ty: &CedarType) -> Option<&EntityLUB>
-    ensures { option_map (λ s. lub_of s.now) result ≡ types_of_entity (Some (ty_of ty.now)) }
-{
-    match ty {
-        CedarType::Entity(EntityKind::Entity(types)) => Some(types),
-        CedarType::Entity(EntityKind::AnyEntity) => None,
-        CedarType::Never => None,
-        CedarType::Bool(_) => None,
-        CedarType::Long => None,
-        CedarType::String => None,
-        CedarType::Set(_) => None,
-        CedarType::AnySet => None,
-        CedarType::Record {
-            attributes: _attributes,
-            is_open: _open,
-        } => None,
-        CedarType::Extension(_) => None,
     }
 }

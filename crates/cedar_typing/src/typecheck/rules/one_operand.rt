@@ -13,13 +13,12 @@ ghost use Rattle.cedar_typing.specs.Views.{env_at, expected_types, answer_of, pa
 use crate::typecheck::answer::{Part, TypecheckAnswer};
 use crate::typecheck::operands::Expected;
 use crate::typecheck::rules::attributes::{get_node, has_node};
-use crate::typecheck::rules::chains::chain_node;
 use crate::typecheck::rules::eager::{Decision, add_errors, gives};
 use crate::typecheck::rules::unary::{decide_is, decide_not, is_node, like_node, unary_node};
 use crate::typecheck::single_env::SingleEnvTypechecker;
 use crate::typecheck::type_env::TypeEnv;
 use crate::typecheck::type_tests::any_bool;
-use crate::typecheck::typed_nodes::with_capabilities;
+use crate::typecheck::typed_nodes::{chain_node, with_capabilities};
 use cedar_types::base::{
     ArgumentCheck, AttrChain, CedarType, EntityType, Expr, Loc, PatternElem, UnaryOp,
     ValidationError,

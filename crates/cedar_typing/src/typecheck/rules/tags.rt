@@ -14,9 +14,8 @@ ghost use Rattle.cedar_typing.specs.Views.{env_at, decision_of};
 
 use crate::typecheck::capabilities::one_capability;
 use crate::typecheck::rules::eager::{Decision, gives, refuses_with};
-use crate::typecheck::rules::membership::named_types;
 use crate::typecheck::type_env::TypeEnv;
-use crate::typecheck::type_tests::{any_bool, is_never_type};
+use crate::typecheck::type_tests::{any_bool, is_never_type, named_types};
 use cedar_types::base::{
     BoolType, CedarType, EntityLUB, EntityType, Expr, Loc, LubContext, ValidationError,
 };

@@ -9,23 +9,20 @@ ghost use Rattle.cedar_typing.specs.Eager.{first_expectation, later_expectations
 ghost use Rattle.cedar_typing.specs.Infer.Eager.{infer_form, type_given};
 ghost use Rattle.cedar_typing.specs.Judgments.{max_nesting};
 ghost use Rattle.cedar_typing.specs.Rules.Binary.{binary_form};
-ghost use Rattle.cedar_typing.specs.TypedExpr.{annotation, typed_as, typed_tree};
 ghost use Rattle.cedar_typing.specs.SettingViews.{setting_at, infer_two};
-ghost use Rattle.cedar_typing.specs.Views.{env_at, expected_types, answer_of, part_of, findings, at, decision_of, form_of_two, two_parts};
+ghost use Rattle.cedar_typing.specs.Views.{env_at, expected_types, answer_of, part_of, findings, at, form_of_two, two_parts};
 
 use crate::typecheck::answer::{Part, TypecheckAnswer};
 use crate::typecheck::operands::Expected;
-use crate::typecheck::rules::eager::{Decision, add_errors, gives, gives_unless};
-use crate::typecheck::rules::equality::member_type;
+use crate::typecheck::rules::decisions::Operands;
+use crate::typecheck::rules::eager::{Decision, add_errors};
 use crate::typecheck::single_env::SingleEnvTypechecker;
 use crate::typecheck::type_env::TypeEnv;
 use crate::typecheck::type_tests::any_bool;
-use crate::typecheck::typed_nodes::with_capabilities;
-use cedar_types::base::{
-    ArgumentCheck, BinaryOp, CedarType, Expr, ExprKind, Loc, LubContext, ValidationError,
-};
+use crate::typecheck::typed_nodes::{binary_node, with_capabilities};
+use cedar_types::base::{ArgumentCheck, BinaryOp, CedarType, Expr, Loc, ValidationError};
 use cedar_types::types::capability::CapabilitySet;
-use std::alloc::{AllocError, Global};
+use std::alloc::AllocError;
 
 /// A form with two operands.
 #[derive(Clone, Copy, Debug)]
@@ -44,13 +41,6 @@ pub(crate) enum TwoOperands {
     ContainsSeveral(BinaryOp),
     HasTag,
     GetTag,
-}
-
-/// The operands, as they were written.
-#[derive(Clone, Copy, Debug)]
-struct Operands<'a> {
-    left: &'a Expr,
-    right: &'a Expr,
 }
 
 impl TwoOperands {
@@ -271,47 +261,6 @@ impl TypeEnv<'_, '_, '_, '_> {
             }
         }
     }
-
-    /// What the form's table says, by the types of its operands.
-    fn decide_two<'a>(
-        &self,
-        prior: &CapabilitySet<'a>,
-        loc: Option<Loc>,
-        form: TwoOperands,
-        operands: Operands<'a>,
-        found: &Option<CedarType>,
-        other: &Option<CedarType>,
-    ) -> Result<Decision<'a>, AllocError>
-        ensures { IfOk result (λ d. decision_of d
-            ≡ (form_of_two (env_at self.now) (at loc) (caps prior.now)
-            (written operands.entry.left.now) (written operands.entry.right.now) form).decides
-            (option_map ty_of found.now ∷ option_map ty_of other.now ∷ [])) }
-    {
-        let left = operands.left;
-        let right = operands.right;
-        match form {
-            TwoOperands::Equality => {
-                self.decide_equality(loc, left, right, found.as_ref(), other.as_ref())
-            }
-            TwoOperands::Comparison(_) => {
-                self.decide_comparison(left.loc, right.loc, found, other)
-            }
-            TwoOperands::Arithmetic(_) => Ok(gives(self.alloc, CedarType::Long)),
-            TwoOperands::Membership => self.decide_in(left, right, found, other),
-            TwoOperands::Contains => {
-                let member = member_type(found);
-                let errors = self.strict_errors(loc, LubContext::Contains, member, other.as_ref())?;
-                Ok(gives_unless(self.alloc, errors, any_bool()))
-            }
-            TwoOperands::ContainsSeveral(_) => {
-                let context = LubContext::ContainsAnyAll;
-                let errors = self.strict_errors(loc, context, found.as_ref(), other.as_ref())?;
-                Ok(gives_unless(self.alloc, errors, any_bool()))
-            }
-            TwoOperands::HasTag => self.decide_has_tag(prior, loc, left, right, found),
-            TwoOperands::GetTag => self.decide_get_tag(prior, loc, left, right, found),
-        }
-    }
 }
 
 /// The type, or Bool where an operand failed.
@@ -322,24 +271,4 @@ fn bool_unless(succeeded: bool, ty: CedarType) -> CedarType
         return ty;
     }
     any_bool()
-}
-
-fn binary_node(
-    alloc: Global,
-    loc: Option<Loc>,
-    ty: Option<CedarType>,
-    op: BinaryOp,
-    left: Expr<Option<CedarType>>,
-    right: Expr<Option<CedarType>>,
-) -> Result<Expr<Option<CedarType>>, AllocError>
-    ensures { IfOk result (λ e. typed_tree e
-        ≡ binary (typed_as (option_map ty_of ty) (at loc)) op (typed_tree left) (typed_tree right)) }
-{
-    let left = Box::new(alloc, left)?;
-    let right = Box::new(alloc, right)?;
-    Ok(Expr {
-        annotation: ty,
-        loc,
-        kind: ExprKind::BinaryApp(op, left, right),
-    })
 }
