@@ -43,20 +43,28 @@ fn unescaped(alloc: Global, text: &str) -> Result<Option<Vec<PatternElem>>, Read
     let mut parts = Vec::new(alloc);
     let mut is_escaped = false;
     for c in text.chars() {
-        match (is_escaped, c) {
-            (false, '\\') => is_escaped = true,
-            (false, '*') => parts.push(PatternElem::Wildcard)?,
-            (false, _) => parts.push(PatternElem::Char(c))?,
-            (true, _) => {
-                let Some(meant) = escape(c) else {
-                    return Ok(None);
-                };
-                parts.push(PatternElem::Char(meant))?;
-                is_escaped = false;
-            }
+        if !is_escaped & (c == '\\') {
+            is_escaped = true;
+            continue;
         }
+        let Some(part) = meant(c, is_escaped) else {
+            return Ok(None);
+        };
+        parts.push(part)?;
+        is_escaped = false;
     }
     Ok(Some(parts))
+}
+
+/// What a character stands for, by whether it is behind a backslash.
+fn meant(c: char, is_escaped: bool) -> Option<PatternElem> {
+    if is_escaped {
+        return Some(PatternElem::Char(escape(c)?));
+    }
+    if c == '*' {
+        return Some(PatternElem::Wildcard);
+    }
+    Some(PatternElem::Char(c))
 }
 
 /// What a character behind a backslash stands for.

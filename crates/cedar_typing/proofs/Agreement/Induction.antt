@@ -1,5 +1,5 @@
 -- Inference is exactly what the rules say.
-use Rattle.std.proofs.Common.{◌≡◌, ℕ, ◌+◌, ◌≤◌, ◌<◌, Bool, true, false, nat_lt, List, [], ◌++◌, Some, None, refl, sym, ◌∙◌, ap, arith, append-nil}
+use Rattle.std.proofs.Common.{◌≡◌, ℕ, ◌+◌, ◌≤◌, ◌<◌, Bool, true, false, nat_lt, List, [], ◌++◌, Some, None, refl, sym, subst, ◌∙◌, ap, arith, append-nil}
 use Rattle.std.specs.Prelude.{if◌then◌else◌}
 use Rattle.std.proofs.lemmas.Grind.{common_steps}
 use Rattle.cedar_types.specs.Tree.{lit, var, slot, unknown, if_then_else, and, or, unary, binary, call, get_attr, has_attr, ext_has_attr, like, is_type, set_of, record_of, Trees, no_trees, tree, Fields, no_fields, field}
@@ -44,6 +44,10 @@ is_past d h = grind (arith, common_steps)
 
 pub below_limit : (d : ℕ) (es : List Finding) (o : AnswerAndErrors) → d ≤ max_nesting → unless_too_deep d es o ≡ o
 below_limit d es o h = rw (is_within d h) refl
+
+-- what is so of an expression of a known form, where the limit is not passed, is so of that expression
+pub infer_as : (P : AnswerAndErrors → Type 0) (s : Setting) (prior : Caps) (d : ℕ) (es : List Finding) {e tree : Source} → d ≤ max_nesting → e ≡ tree → P (infer_within s tree prior d es) → P (infer s e prior d es)
+infer_as P s prior d es within is so = subst P (sym (below_limit d es _ within)) (subst (λ x. P (infer_within s x prior d es)) (sym is) so)
 
 module _ (d : ℕ) (J : Judgment) where
   within_answer : (a : Answer) (es : List Finding) → d ≤ max_nesting → Answers J a es → Answers (within d J) a es

@@ -21,7 +21,7 @@ use Rattle.cedar_typing.specs.Infer.Eager.{expect_operand, infer_form, infer_two
 use Rattle.cedar_typing.specs.Rules.Calls.{expected_arguments}
 use Rattle.cedar_typing.specs.Rules.Collections.{field_keys, record_form}
 use Rattle.cedar_typing.proofs.CallTyping.{written_call, call_inferred}
-use Rattle.cedar_typing.proofs.Agreement.Induction.{below_limit}
+use Rattle.cedar_typing.proofs.Agreement.Induction.{below_limit, infer_as}
 use Rattle.cedar_typing.proofs.Elements.{next_item}
 use Rattle.cedar_typing.proofs.OperandLists.{resumed, all_inferred, one_operand, last_operand, goes_further, goes_no_further}
 use Rattle.cedar_typing.proofs.TypedViews.{written_as, place_is}
@@ -38,94 +38,59 @@ type_part-returns g t c =
 
 pub typecheck-returns-in-And : goal.typecheck-returns-in-And
 typecheck-returns-in-And g t c =
-    let s = setting_at g.C.ArgumentCheck.refusal c.args.self.now in
-    let prior = caps c.args.prior.now in
-    let d = c.args.depth in
-    let es = findings c.args.errors.now.items in
     let m = at c.args.e.now.loc in
     let tree : written c.args.e.now ≡ and m (written c.deref.result.now) (written c.deref-in-And.result.now) =
     written_as c.args.e.now (K.And c.in-And.left c.in-And.right) c.in-And.is ∙ (λ i. and m (written (sym c.deref.ensures i)) (written (sym c.deref-in-And.ensures i))) in
     let P : AnswerAndErrors → Type 0 = λ z. IfOk c.type_short_circuit.result (λ r. z ≡ (answer_of r, findings c.type_short_circuit.new.errors.items)) in
-    let Q : Source → Type 0 = λ e. P (infer_within s e prior d es) in
-    subst P (sym (below_limit d es _ c.if-depth-gt-MAX_NESTING.false)) (subst Q (sym tree) c.type_short_circuit.ensures)
+    infer_as P (setting_at g.C.ArgumentCheck.refusal c.args.self.now) (caps c.args.prior.now) c.args.depth (findings c.args.errors.now.items) c.if-depth-gt-MAX_NESTING.false tree c.type_short_circuit.ensures
 
 pub typecheck-returns-in-Or : goal.typecheck-returns-in-Or
 typecheck-returns-in-Or g t c =
-    let s = setting_at g.C.ArgumentCheck.refusal c.args.self.now in
-    let prior = caps c.args.prior.now in
-    let d = c.args.depth in
-    let es = findings c.args.errors.now.items in
     let m = at c.args.e.now.loc in
     let tree : written c.args.e.now ≡ or m (written c.deref-in-Or.result.now) (written c.deref-in-Or-2.result.now) =
     written_as c.args.e.now (K.Or c.in-Or.left c.in-Or.right) c.in-Or.is ∙ (λ i. or m (written (sym c.deref-in-Or.ensures i)) (written (sym c.deref-in-Or-2.ensures i))) in
     let P : AnswerAndErrors → Type 0 = λ z. IfOk c.type_short_circuit-in-Or.result (λ r. z ≡ (answer_of r, findings c.type_short_circuit-in-Or.new.errors.items)) in
-    let Q : Source → Type 0 = λ e. P (infer_within s e prior d es) in
-    subst P (sym (below_limit d es _ c.if-depth-gt-MAX_NESTING.false)) (subst Q (sym tree) c.type_short_circuit-in-Or.ensures)
+    infer_as P (setting_at g.C.ArgumentCheck.refusal c.args.self.now) (caps c.args.prior.now) c.args.depth (findings c.args.errors.now.items) c.if-depth-gt-MAX_NESTING.false tree c.type_short_circuit-in-Or.ensures
 
 pub typecheck-returns-in-HasAttr : goal.typecheck-returns-in-HasAttr
 typecheck-returns-in-HasAttr g t c =
-    let s = setting_at g.C.ArgumentCheck.refusal c.args.self.now in
-    let prior = caps c.args.prior.now in
-    let d = c.args.depth in
-    let es = findings c.args.errors.now.items in
     let m = at c.args.e.now.loc in
     let tree : written c.args.e.now ≡ has_attr m (written c.deref-in-HasAttr.result.now) (text_of c.in-HasAttr.attr) =
     written_as c.args.e.now (K.HasAttr c.in-HasAttr.base c.in-HasAttr.attr) c.in-HasAttr.is ∙ (λ i. has_attr m (written (sym c.deref-in-HasAttr.ensures i)) (text_of c.in-HasAttr.attr)) in
     let P : AnswerAndErrors → Type 0 = λ z. IfOk c.type_one_operand-in-HasAttr.result (λ r. z ≡ (answer_of r, findings c.type_one_operand-in-HasAttr.new.errors.items)) in
-    let Q : Source → Type 0 = λ e. P (infer_within s e prior d es) in
-    subst P (sym (below_limit d es _ c.if-depth-gt-MAX_NESTING.false)) (subst Q (sym tree) c.type_one_operand-in-HasAttr.ensures)
+    infer_as P (setting_at g.C.ArgumentCheck.refusal c.args.self.now) (caps c.args.prior.now) c.args.depth (findings c.args.errors.now.items) c.if-depth-gt-MAX_NESTING.false tree c.type_one_operand-in-HasAttr.ensures
 
 pub typecheck-returns-in-GetAttr : goal.typecheck-returns-in-GetAttr
 typecheck-returns-in-GetAttr g t c =
-    let s = setting_at g.C.ArgumentCheck.refusal c.args.self.now in
-    let prior = caps c.args.prior.now in
-    let d = c.args.depth in
-    let es = findings c.args.errors.now.items in
     let m = at c.args.e.now.loc in
     let tree : written c.args.e.now ≡ get_attr m (written c.deref-in-GetAttr.result.now) (text_of c.in-GetAttr.attr) =
     written_as c.args.e.now (K.GetAttr c.in-GetAttr.base c.in-GetAttr.attr) c.in-GetAttr.is ∙ (λ i. get_attr m (written (sym c.deref-in-GetAttr.ensures i)) (text_of c.in-GetAttr.attr)) in
     let P : AnswerAndErrors → Type 0 = λ z. IfOk c.type_one_operand-in-GetAttr.result (λ r. z ≡ (answer_of r, findings c.type_one_operand-in-GetAttr.new.errors.items)) in
-    let Q : Source → Type 0 = λ e. P (infer_within s e prior d es) in
-    subst P (sym (below_limit d es _ c.if-depth-gt-MAX_NESTING.false)) (subst Q (sym tree) c.type_one_operand-in-GetAttr.ensures)
+    infer_as P (setting_at g.C.ArgumentCheck.refusal c.args.self.now) (caps c.args.prior.now) c.args.depth (findings c.args.errors.now.items) c.if-depth-gt-MAX_NESTING.false tree c.type_one_operand-in-GetAttr.ensures
 
 pub typecheck-returns-in-UnaryApp : goal.typecheck-returns-in-UnaryApp
 typecheck-returns-in-UnaryApp g t c =
-    let s = setting_at g.C.ArgumentCheck.refusal c.args.self.now in
-    let prior = caps c.args.prior.now in
-    let d = c.args.depth in
-    let es = findings c.args.errors.now.items in
     let m = at c.args.e.now.loc in
     let tree : written c.args.e.now ≡ unary m c.in-UnaryApp.op (written c.deref-in-UnaryApp.result.now) =
     written_as c.args.e.now (K.UnaryApp c.in-UnaryApp.op c.in-UnaryApp.operand) c.in-UnaryApp.is ∙ (λ i. unary m c.in-UnaryApp.op (written (sym c.deref-in-UnaryApp.ensures i))) in
     let P : AnswerAndErrors → Type 0 = λ z. IfOk c.type_one_operand.result (λ r. z ≡ (answer_of r, findings c.type_one_operand.new.errors.items)) in
-    let Q : Source → Type 0 = λ e. P (infer_within s e prior d es) in
-    subst P (sym (below_limit d es _ c.if-depth-gt-MAX_NESTING.false)) (subst Q (sym tree) c.type_one_operand.ensures)
+    infer_as P (setting_at g.C.ArgumentCheck.refusal c.args.self.now) (caps c.args.prior.now) c.args.depth (findings c.args.errors.now.items) c.if-depth-gt-MAX_NESTING.false tree c.type_one_operand.ensures
 
 pub typecheck-returns-in-Like : goal.typecheck-returns-in-Like
 typecheck-returns-in-Like g t c =
-    let s = setting_at g.C.ArgumentCheck.refusal c.args.self.now in
-    let prior = caps c.args.prior.now in
-    let d = c.args.depth in
-    let es = findings c.args.errors.now.items in
     let m = at c.args.e.now.loc in
     let tree : written c.args.e.now ≡ like m (written c.deref-in-Like.result.now) c.in-Like.pattern.items =
     written_as c.args.e.now (K.Like c.in-Like.operand c.in-Like.pattern) c.in-Like.is ∙ (λ i. like m (written (sym c.deref-in-Like.ensures i)) c.in-Like.pattern.items) in
     let P : AnswerAndErrors → Type 0 = λ z. IfOk c.type_one_operand-in-Like.result (λ r. z ≡ (answer_of r, findings c.type_one_operand-in-Like.new.errors.items)) in
-    let Q : Source → Type 0 = λ e. P (infer_within s e prior d es) in
-    subst P (sym (below_limit d es _ c.if-depth-gt-MAX_NESTING.false)) (subst Q (sym tree) c.type_one_operand-in-Like.ensures)
+    infer_as P (setting_at g.C.ArgumentCheck.refusal c.args.self.now) (caps c.args.prior.now) c.args.depth (findings c.args.errors.now.items) c.if-depth-gt-MAX_NESTING.false tree c.type_one_operand-in-Like.ensures
 
 pub typecheck-returns-in-Is : goal.typecheck-returns-in-Is
 typecheck-returns-in-Is g t c =
-    let s = setting_at g.C.ArgumentCheck.refusal c.args.self.now in
-    let prior = caps c.args.prior.now in
-    let d = c.args.depth in
-    let es = findings c.args.errors.now.items in
     let m : Written = record { place = c.args.e.now.loc; names = of_type c.in-Is.named.loc } in
     let tree : written c.args.e.now ≡ is_type m (written c.deref-in-Is.result.now) (type_of c.in-Is.named) =
     written_as c.args.e.now (K.Is c.in-Is.operand c.in-Is.named) c.in-Is.is ∙ (λ i. is_type m (written (sym c.deref-in-Is.ensures i)) (type_of c.in-Is.named)) in
     let P : AnswerAndErrors → Type 0 = λ z. IfOk c.type_one_operand-in-Is.result (λ r. z ≡ (answer_of r, findings c.type_one_operand-in-Is.new.errors.items)) in
-    let Q : Source → Type 0 = λ e. P (infer_within s e prior d es) in
-    subst P (sym (below_limit d es _ c.if-depth-gt-MAX_NESTING.false)) (subst Q (sym tree) c.type_one_operand-in-Is.ensures)
+    infer_as P (setting_at g.C.ArgumentCheck.refusal c.args.self.now) (caps c.args.prior.now) c.args.depth (findings c.args.errors.now.items) c.if-depth-gt-MAX_NESTING.false tree c.type_one_operand-in-Is.ensures
 
 pub typecheck-returns-in-BinaryApp : goal.typecheck-returns-in-BinaryApp
 typecheck-returns-in-BinaryApp g t c =
@@ -146,17 +111,12 @@ typecheck-returns-in-BinaryApp g t c =
 
 pub typecheck-returns-in-ExtHasAttr : goal.typecheck-returns-in-ExtHasAttr
 typecheck-returns-in-ExtHasAttr g t c =
-    let s = setting_at g.C.ArgumentCheck.refusal c.args.self.now in
-    let prior = caps c.args.prior.now in
-    let d = c.args.depth in
-    let es = findings c.args.errors.now.items in
     let m = at c.args.e.now.loc in
     let chain = c.in-ExtHasAttr.chain in
     let tree : written c.args.e.now ≡ ext_has_attr m (written c.deref-in-ExtHasAttr.result.now) (chain_of chain).0 (chain_of chain).1 =
     written_as c.args.e.now (K.ExtHasAttr c.in-ExtHasAttr.base chain) c.in-ExtHasAttr.is ∙ (λ i. ext_has_attr m (written (sym c.deref-in-ExtHasAttr.ensures i)) (chain_of chain).0 (chain_of chain).1) in
     let P : AnswerAndErrors → Type 0 = λ z. IfOk c.type_one_operand-in-ExtHasAttr.result (λ r. z ≡ (answer_of r, findings c.type_one_operand-in-ExtHasAttr.new.errors.items)) in
-    let Q : Source → Type 0 = λ e. P (infer_within s e prior d es) in
-    subst P (sym (below_limit d es _ c.if-depth-gt-MAX_NESTING.false)) (subst Q (sym tree) c.type_one_operand-in-ExtHasAttr.ensures)
+    infer_as P (setting_at g.C.ArgumentCheck.refusal c.args.self.now) (caps c.args.prior.now) c.args.depth (findings c.args.errors.now.items) c.if-depth-gt-MAX_NESTING.false tree c.type_one_operand-in-ExtHasAttr.ensures
 
 pub type_two_operands-returns-then-is_none-goes_on : goal.type_two_operands-returns-then-is_none-goes_on
 type_two_operands-returns-then-is_none-goes_on g t c =
@@ -258,14 +218,9 @@ typecheck-returns-in_ok-answer-in-ExtensionFunctionApp g t c =
 
 pub typecheck-returns-in-Record : goal.typecheck-returns-in-Record
 typecheck-returns-in-Record g t c =
-    let s = setting_at g.C.ArgumentCheck.refusal c.args.self.now in
-    let prior = caps c.args.prior.now in
-    let d = c.args.depth in
-    let es = findings c.args.errors.now.items in
     let tree = written_record c.args.e.now c.in-Record.fields c.in-Record.is in
     let P : AnswerAndErrors → Type 0 = λ z. IfOk c.type_record.result (λ r. z ≡ (answer_of r, findings c.type_record.new.errors.items)) in
-    let Q : Source → Type 0 = λ e. P (infer_within s e prior d es) in
-    subst P (sym (below_limit d es _ c.if-depth-gt-MAX_NESTING.false)) (subst Q (sym tree) c.type_record.ensures)
+    infer_as P (setting_at g.C.ArgumentCheck.refusal c.args.self.now) (caps c.args.prior.now) c.args.depth (findings c.args.errors.now.items) c.if-depth-gt-MAX_NESTING.false tree c.type_record.ensures
 
 pub type_record-returns : goal.type_record-returns
 type_record-returns g t c =
