@@ -1,0 +1,101 @@
+#!/usr/bin/env python3
+"""What the check of a policy costs for each environment, and what memory it takes: scripts/benchmark.py [PROGRAM].
+
+A policy of 40 conditions is checked by a schema in which each action applies to 10 types of principals and 10 of resources,
+so in 100 environments an action. PROGRAM is cedar_cases, by default the one that rt ci built. Instructions are counted by
+valgrind over a few actions: what the reading takes is counted by a policy that names no attribute, and taken away. Memory is
+what a run has allocated at a time: the schema is read first, which keeps a list of its environments, and nearly all of the run
+are the checks, so from its middle on nothing may grow. It needs valgrind, and is no part of the gate.
+"""
+import re
+import resource
+import shutil
+import subprocess
+import sys
+import tempfile
+from pathlib import Path
+
+TOP = Path(__file__).resolve().parent.parent
+PROGRAM = TOP / "crates" / "cedar_cases" / "out" / "cedar_cases"
+TYPES = 10
+# Ten conditions, each a Boolean in every environment of the schema.
+CONDITIONS = (
+    "principal.ready",
+    "principal has vip && principal.vip",
+    "resource.owner == principal.boss",
+    "context.n < resource.size",
+    "resource.size * 2 + 1 <= context.n",
+    "principal in resource.owner",
+    'principal.name like "a*"',
+    "[1, 2, 3].contains(context.n)",
+    'if principal.ready then resource.open else principal.name == "b"',
+    'principal.hasTag("t") && principal.getTag("t") == 1',
+)
+SMALL, LARGE = 2, 4
+FIGURE = re.compile(r"I\s+refs:\s+([\d,]+)")
+HELD = re.compile(r"^time=(\d+)\nmem_heap_B=(\d+)$", re.M)
+
+
+def schema(actions):
+    """The text of a schema with so many actions."""
+    lines = [f"entity P{i} {{ ready: Bool, vip?: Bool, boss: P0, name: String }} tags Long;" for i in range(TYPES)]
+    lines += [f"entity R{i} {{ owner: P0, size: Long, open: Bool }};" for i in range(TYPES)]
+    sides = ["principal: [" + ", ".join(f"P{i}" for i in range(TYPES)) + "]"]
+    sides += ["resource: [" + ", ".join(f"R{i}" for i in range(TYPES)) + "]"]
+    lines += [f"action a{i} appliesTo {{ {', '.join(sides)}, context: {{ n: Long }} }};" for i in range(actions)]
+    return "\n".join(lines) + "\n"
+
+
+def written(room, actions, condition):
+    """A file of one case, beside its schema."""
+    Path(room, "schema.txt").write_text(schema(actions), encoding="utf8")
+    rows = ["schema\tschema.txt", "policy\tstrict policy"]
+    rows += [f"permit(principal, action, resource) when {{ {condition} }};\ttrue"]
+    Path(room, "case.tsv").write_text("\n".join(rows) + "\n", encoding="utf8")
+
+
+def ran(words, room):
+    """What a run says, which has to agree with the case."""
+    done = subprocess.run(words, cwd=room, stdin=subprocess.DEVNULL, capture_output=True, text=True)
+    if done.returncode:
+        sys.exit(f"{words[0]} ended with status {done.returncode}: {done.stdout[-300:]}{done.stderr[-300:]}")
+    return done.stderr
+
+
+def instructions(program, room, actions, condition):
+    """How many instructions the program takes for one case."""
+    written(room, actions, condition)
+    words = ["valgrind", "--tool=cachegrind", "--cache-sim=no", "--cachegrind-out-file=/dev/null"]
+    return int(FIGURE.search(ran([*words, str(program), "case.tsv"], room))[1].replace(",", ""))
+
+
+def held(program, room, actions, condition):
+    """The bytes allocated at a time for one case: at most, in the middle of the run, and at most after that."""
+    written(room, actions, condition)
+    seen = Path(room, "massif.out")
+    ran(["valgrind", "--tool=massif", f"--massif-out-file={seen}", str(program), "case.tsv"], room)
+    found = [(int(time), int(size)) for time, size in HELD.findall(seen.read_text(encoding="utf8"))]
+    late = [size for time, size in found if 2 * time >= found[-1][0]]
+    return max(size for _, size in found), late[0], max(late)
+
+
+def main(words):
+    program = Path(words[0]).resolve() if words else PROGRAM
+    if not program.is_file():
+        sys.exit(f"there is no program {program}: rt ci builds it")
+    if not shutil.which("valgrind"):
+        sys.exit("valgrind is needed: apt-get install valgrind")
+    resource.setrlimit(resource.RLIMIT_CORE, (0, 0))
+    conditions = " && ".join(f"({it})" for it in CONDITIONS * 4)
+    with tempfile.TemporaryDirectory() as room:
+        counts = [instructions(program, room, n, it) for n in (SMALL, LARGE) for it in ("true", conditions)]
+        environments = (LARGE - SMALL) * TYPES * TYPES
+        each = ((counts[3] - counts[2]) - (counts[1] - counts[0])) / environments
+        print(f"{each:,.0f} instructions for each environment, of which {environments} more were checked")
+        for actions in (30, 300):
+            most, middle, later = held(program, room, actions, conditions)
+            print(f"{actions * TYPES * TYPES:,} environments: {most:,} bytes at most, {middle:,} in the middle, {later:,} at most after it")
+
+
+if __name__ == "__main__":
+    main(sys.argv[1:])
