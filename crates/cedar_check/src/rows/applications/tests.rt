@@ -44,6 +44,8 @@ fn a_warning_has_its_flags(rt: HostRuntime) -> Result<(), Fail> {
     Ok(())
 }
 
+const NO_TYPE: &[&str] = &[];
+
 #[test]
 fn types_are_those_that_are_named(rt: HostRuntime) -> Result<(), Fail> {
     let alloc = rt.alloc();
@@ -51,7 +53,7 @@ fn types_are_those_that_are_named(rt: HostRuntime) -> Result<(), Fail> {
     let validator = Validator::new(users(alloc)?, &extensions);
     for (names, is_met) in [
         (ANY_PRINCIPAL_TYPE.names, true),
-        ([].as_slice(), false),
+        (NO_TYPE, false),
         (["user"].as_slice(), false),
         (["User", "User"].as_slice(), false),
     ] {
