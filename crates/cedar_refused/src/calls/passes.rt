@@ -46,7 +46,8 @@ impl Call for PassWalk<'_> {
     }
 }
 
-/// One walk with ample memory, one while a growth is refused, and again one with ample memory.
+/// One walk with ample memory, one while a growth is refused, and again one with ample memory. They come ready made, as
+/// the borrow checker does not cover a closure that makes them.
 fn attempt_walk<S: Steps>(
     alloc: Global,
     walks: (S, S, S),

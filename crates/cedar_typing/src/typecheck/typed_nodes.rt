@@ -56,6 +56,7 @@ pub(crate) fn at_place(typed: Expr<Option<CedarType>>, loc: Option<Loc>) -> Expr
     }
 }
 
+/// An operator on two typed operands.
 pub(crate) fn binary_node(
     alloc: Global,
     loc: Option<Loc>,
@@ -76,6 +77,7 @@ pub(crate) fn binary_node(
     })
 }
 
+/// An extended `has` on a typed base.
 pub(crate) fn chain_node(
     alloc: Global,
     loc: Option<Loc>,
@@ -94,6 +96,7 @@ pub(crate) fn chain_node(
     })
 }
 
+/// A call of this function on typed arguments.
 pub(crate) fn call_node(
     loc: Option<Loc>,
     name: &Name,
