@@ -38,7 +38,8 @@ abbrev mutual
 
   pub attrs_eq : Attrs → Attrs → Bool
   attrs_eq no_attrs no_attrs = true
-  attrs_eq (attr k s r xs) (attr l t q ys) = (text_eq k l && (ty_eq s t && mark_eq r q)) && attrs_eq xs ys
+  attrs_eq (attr k s r xs) (attr l t q ys) =
+      (text_eq k l && (ty_eq s t && mark_eq r q)) && attrs_eq xs ys
   attrs_eq xs ys = false
 
 -- ---- entity sets and attributes
@@ -105,11 +106,17 @@ closed_lub o p zs = if o || p then None else option_map (λ zs. TRecord zs false
 
 -- in the other modes: open where a side is open, or has an attribute that was dropped
 abbrev pub wide_lub : Attrs → Bool → Attrs → Bool → Attrs → Ty
-wide_lub xs o ys p zs = TRecord zs (o || p || not (nat_eq (attr_count zs) (attr_count xs) && nat_eq (attr_count zs) (attr_count ys)))
+wide_lub xs o ys p zs =
+    TRecord zs
+    (o || p
+    || not (nat_eq (attr_count zs) (attr_count xs) && nat_eq (attr_count zs) (attr_count ys)))
 
 -- two different records, whose bound has these attributes: in Strict, and in the other modes
-abbrev pub record_lub : ValidationMode → Attrs → Bool → (Attrs → Option Attrs) → (Attrs → Attrs) → Ty → Option Ty
-record_lub m xs o both common (TRecord ys p) = if is_strict m then closed_lub o p (both ys) else Some (wide_lub xs o ys p (common ys))
+abbrev pub record_lub : ValidationMode → Attrs → Bool
+    → (Attrs → Option Attrs) → (Attrs → Attrs) → Ty → Option Ty
+record_lub m xs o both common (TRecord ys p) =
+    if is_strict m then closed_lub o p (both ys)
+    else Some (wide_lub xs o ys p (common ys))
 record_lub m xs o both common t = None
 
 -- the bound of s with t, where `apart` is that of s with a type that differs from s and is not Never:
@@ -149,13 +156,17 @@ abbrev mutual
   -- equal names and marks, attribute by attribute
   pub both_attrs : ValidationMode → Attrs → Attrs → Option Attrs
   both_attrs m no_attrs no_attrs = Some no_attrs
-  both_attrs m (attr k s r xs) (attr l t q ys) = if text_eq k l && mark_eq r q then with_both k (lub_by (apart_lub m s) s t) r (both_attrs m xs ys) else None
+  both_attrs m (attr k s r xs) (attr l t q ys) =
+      if text_eq k l && mark_eq r q
+      then with_both k (lub_by (apart_lub m s) s t) r (both_attrs m xs ys)
+      else None
   both_attrs m xs ys = None
 
   -- the names of both sides whose types have a bound
   pub common_attrs : ValidationMode → Attrs → Attrs → Attrs
   common_attrs m no_attrs ys = no_attrs
-  common_attrs m (attr k s r xs) ys = with_common k (find_attr k ys) (lub_by (apart_lub m s) s) r (common_attrs m xs ys)
+  common_attrs m (attr k s r xs) ys =
+      with_common k (find_attr k ys) (lub_by (apart_lub m s) s) r (common_attrs m xs ys)
 
 -- the least upper bound in a mode, if there is one
 abbrev pub lub : ValidationMode → Ty → Ty → Option Ty

@@ -19,22 +19,32 @@ type_kind (Enum ids) = EnumKind (map text_of ids.items)
 type_kind External = ExternalKind
 
 abbrev pub declared_type : ValidatorEntityType → DeclaredType
-declared_type t = record { name = type_of t.name; descendants = types_of t.descendants; kind = type_kind t.kind }
+declared_type t =
+    record { name = type_of t.name; descendants = types_of t.descendants; kind = type_kind t.kind }
 
 -- the ids in a set, ascending
 abbrev pub uids_of : BTreeSet EntityUID → List Uid
 uids_of s = map uid_of s.keys
 
 abbrev pub application : ValidatorApplySpec → Application
-application a = record { principals = types_of a.principal_apply_spec; resources = types_of a.resource_apply_spec; context = ty_of a.context.value }
+application a = record {
+  principals = types_of a.principal_apply_spec;
+  resources = types_of a.resource_apply_spec;
+  context = ty_of a.context.value;
+}
 
 abbrev pub applies : ValidatorActionKind → Option Application
 applies (action.Defined a) = Some (application a)
 applies action.External = None
 
 abbrev pub declared_action : ValidatorActionId → DeclaredAction
-declared_action a = record { name = uid_of a.name; descendants = uids_of a.descendants; applies_to = applies a.kind }
+declared_action a = record {
+  name = uid_of a.name;
+  descendants = uids_of a.descendants;
+  applies_to = applies a.kind;
+}
 
 -- what some declarations say
 abbrev pub declared : List ValidatorEntityType → List ValidatorActionId → Schema
-declared types actions = record { types = map declared_type types; actions = map declared_action actions }
+declared types actions =
+    record { types = map declared_type types; actions = map declared_action actions }

@@ -14,16 +14,23 @@ pub record DeclaredEnv : Type 0 where
   pub context : Ty
 
 abbrev pub declared_env : UnlinkedRequestEnv → DeclaredEnv
-declared_env e = record { principal = type_of e.principal; action = uid_of e.action; resource = type_of e.resource; context = ty_of e.context.value }
+declared_env e = record {
+  principal = type_of e.principal;
+  action = uid_of e.action;
+  resource = type_of e.resource;
+  context = ty_of e.context.value;
+}
 
 -- one for each resource type
 abbrev pub principal_environments : Uid → Ty → List Path → Path → List DeclaredEnv
-principal_environments u context resources p = map (λ r. record { principal = p; action = u; resource = r; context = context }) resources
+principal_environments u context resources p =
+    map (λ r. record { principal = p; action = u; resource = r; context = context }) resources
 
 -- one for each principal type and resource type; none of an external action
 abbrev pub action_environments : Uid → Option Application → List DeclaredEnv
 action_environments u None = []
-action_environments u (Some a) = flat_map (principal_environments u a.context a.resources) a.principals
+action_environments u (Some a) =
+    flat_map (principal_environments u a.context a.resources) a.principals
 
 -- one for each defined action, principal type and resource type that it applies to
 abbrev pub environments_of : List DeclaredAction → List DeclaredEnv

@@ -65,24 +65,44 @@ abbrev pub noted : Option Loc → PolicyID → Slip → Caution
 noted l p s = record { place = l; policy = text_of p.text; slip = s }
 
 abbrev pub finding_of : ValidationError → Finding
-finding_of (error.UnrecognizedEntityType e) = found e.source_loc e.policy_id (unrecognized_entity_type (type_of e.actual_entity_type))
-finding_of (error.UnrecognizedActionId e) = found e.source_loc e.policy_id (unrecognized_action_id (uid_of e.actual_action_id))
-finding_of (error.InvalidEnumEntity e) = found e.source_loc e.policy_id (invalid_enum_entity (uid_of e.uid))
-finding_of (error.UnexpectedType e) = found e.source_loc e.policy_id (unexpected_type (map ty_of e.expected.keys) (ty_of e.actual))
-finding_of (error.IncompatibleTypes e) = found e.source_loc e.policy_id (incompatible_types (map ty_of e.types.keys) e.context)
-finding_of (error.UnsafeAttributeAccess e) = found e.source_loc e.policy_id (unsafe_attribute_access (ty_of e.accessed_type) (text_of e.attr) e.may_exist)
-finding_of (error.UnsafeOptionalAttributeAccess e) = found e.source_loc e.policy_id (unsafe_optional_attribute_access (ty_of e.accessed_type) (text_of e.attr))
-finding_of (error.UnsafeTagAccess e) = found e.source_loc e.policy_id (unsafe_tag_access (option_map lub_of e.entity_ty))
-finding_of (error.NoTagsAllowed e) = found e.source_loc e.policy_id (no_tags_allowed (option_map type_of e.entity_ty))
-finding_of (error.UndefinedFunction e) = found e.source_loc e.policy_id (undefined_function (path_of e.name))
-finding_of (error.WrongNumberArguments e) = found e.source_loc e.policy_id (wrong_number_arguments e.expected e.actual)
-finding_of (error.FunctionArgumentValidation e) = found e.source_loc e.policy_id (function_argument_validation (text_of e.msg))
+finding_of (error.UnrecognizedEntityType e) =
+    found e.source_loc e.policy_id (unrecognized_entity_type (type_of e.actual_entity_type))
+finding_of (error.UnrecognizedActionId e) =
+    found e.source_loc e.policy_id (unrecognized_action_id (uid_of e.actual_action_id))
+finding_of (error.InvalidEnumEntity e) =
+    found e.source_loc e.policy_id (invalid_enum_entity (uid_of e.uid))
+finding_of (error.UnexpectedType e) =
+    found e.source_loc e.policy_id (unexpected_type (map ty_of e.expected.keys) (ty_of e.actual))
+finding_of (error.IncompatibleTypes e) =
+    found e.source_loc e.policy_id (incompatible_types (map ty_of e.types.keys) e.context)
+finding_of (error.UnsafeAttributeAccess e) =
+    found e.source_loc e.policy_id
+    (unsafe_attribute_access (ty_of e.accessed_type) (text_of e.attr) e.may_exist)
+finding_of (error.UnsafeOptionalAttributeAccess e) =
+    found e.source_loc e.policy_id
+    (unsafe_optional_attribute_access (ty_of e.accessed_type) (text_of e.attr))
+finding_of (error.UnsafeTagAccess e) =
+    found e.source_loc e.policy_id (unsafe_tag_access (option_map lub_of e.entity_ty))
+finding_of (error.NoTagsAllowed e) =
+    found e.source_loc e.policy_id (no_tags_allowed (option_map type_of e.entity_ty))
+finding_of (error.UndefinedFunction e) =
+    found e.source_loc e.policy_id (undefined_function (path_of e.name))
+finding_of (error.WrongNumberArguments e) =
+    found e.source_loc e.policy_id (wrong_number_arguments e.expected e.actual)
+finding_of (error.FunctionArgumentValidation e) =
+    found e.source_loc e.policy_id (function_argument_validation (text_of e.msg))
 finding_of (error.EmptySetForbidden e) = found e.source_loc e.policy_id empty_set_forbidden
 finding_of (error.NonLitExtConstructor e) = found e.source_loc e.policy_id non_lit_ext_constructor
-finding_of (error.InternalInvariantViolation e) = found e.source_loc e.policy_id internal_invariant_violation
-finding_of (error.MaximumLevelExceeded e) = found e.source_loc e.policy_id (maximum_level_exceeded e.allowed_level.level e.actual_level.level)
-finding_of (error.LiteralDereferenceTarget e) = found e.source_loc e.policy_id literal_dereference_target
+finding_of (error.InternalInvariantViolation e) =
+    found e.source_loc e.policy_id internal_invariant_violation
+finding_of (error.MaximumLevelExceeded e) =
+    found e.source_loc e.policy_id
+    (maximum_level_exceeded e.allowed_level.level e.actual_level.level)
+finding_of (error.LiteralDereferenceTarget e) =
+    found e.source_loc e.policy_id literal_dereference_target
 
 abbrev pub caution_of : ValidationWarning → Caution
 caution_of (warning.ImpossiblePolicy w) = noted w.source_loc w.policy_id impossible_policy
-caution_of (warning.InvalidActionApplication w) = noted w.source_loc w.policy_id (invalid_action_application w.would_in_fix_principal w.would_in_fix_resource)
+caution_of (warning.InvalidActionApplication w) =
+    noted w.source_loc w.policy_id
+    (invalid_action_application w.would_in_fix_principal w.would_in_fix_resource)

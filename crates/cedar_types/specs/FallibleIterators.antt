@@ -9,7 +9,8 @@ module _ {S P X : Type 0} (left : S → List X) (has_ended : S → Bool) (view :
   abbrev pub YieldsOrEnds : {E : Type 0} → S → Option (Result P E) → S → Type 0
   YieldsOrEnds s None t = (left s ≡ []) × (left t ≡ []) × (has_ended t ≡ true)
   YieldsOrEnds s (Some (Err e)) t = (has_ended s ≡ false) × (has_ended t ≡ true) × (left t ≡ [])
-  YieldsOrEnds s (Some (Ok p)) t = (has_ended s ≡ false) × (has_ended t ≡ false) × (left s ≡ view p ∷ left t)
+  YieldsOrEnds s (Some (Ok p)) t =
+      (has_ended s ≡ false) × (has_ended t ≡ false) × (left s ≡ view p ∷ left t)
 
 module _ {S X : Type 0} (left : S → List X) (has_ended : S → Bool) where
   -- the calls that may still give an item: one more than what is left, for an `Err`

@@ -27,7 +27,8 @@ place_env p = record {
 }
 
 -- the pairs from those of the principal's link at hand on, without those of it that are gone
-abbrev pub pairs_from : Place → List (Option (Bor EntityType)) → List (Option (Bor EntityType)) → ℕ → ℕ → List Env
+abbrev pub pairs_from : Place → List (Option (Bor EntityType)) → List (Option (Bor EntityType))
+    → ℕ → ℕ → List Env
 pairs_from p ps rs i j =
     drop j (in_all_ways (place_env p) (map link_of (drop i ps)) (map link_of rs))
 
@@ -44,7 +45,8 @@ abbrev pub linked_to_come : LinkedRequestEnvs → List Env
 linked_to_come s =
     held_left s.links
     ++ flat_map
-    (linked_by s.has_principal_slot s.has_resource_slot (schema_of s.schema.now) (template_of s.template.now))
+    (linked_by s.has_principal_slot s.has_resource_slot
+    (schema_of s.schema.now) (template_of s.template.now))
     (envs_left s.unlinked)
 
 -- the environments that are still to come

@@ -56,7 +56,9 @@ has_slot slot t = mentions_slot slot (condition_of t)
 -- an environment of the schema, linked; `p` and `r` say whether the slots occur
 abbrev pub linked_by : Bool → Bool → Schema → PlainTemplate → Env → List Env
 linked_by p r s t (Declared d _ _) =
-    in_all_ways d (slot_links p s.types t.principal d.principal) (slot_links r s.types t.resource d.resource)
+    in_all_ways d
+    (slot_links p s.types t.principal d.principal)
+    (slot_links r s.types t.resource d.resource)
 linked_by p r s t Undeclared = Undeclared ∷ []
 
 abbrev pub linked_envs : Schema → PlainTemplate → Env → List Env

@@ -25,7 +25,8 @@ actions_within acts us = us ++ flat_map (descendants_of_action acts) us
 -- the listed ids are those of the actions and their descendants, if all the actions are declared
 abbrev pub ListsActions : List DeclaredAction → List Uid → Option (List Uid) → Type 0
 ListsActions acts us None = list_all (declares_action acts) us ≡ false
-ListsActions acts us (Some listed) = (list_all (declares_action acts) us ≡ true) × ListsIds (actions_within acts us) listed
+ListsActions acts us (Some listed) =
+    (list_all (declares_action acts) us ≡ true) × ListsIds (actions_within acts us) listed
 
 -- the new ids are the old ones and some others
 pub record AddsIds (old others new : List Uid) : Type 0 where

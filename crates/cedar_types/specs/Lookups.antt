@@ -38,7 +38,9 @@ joined_attribute (Some x) (Some y) = option_map (λ t. (t, x.1 && y.1)) (lub Per
 -- what all of the types declare, from the first on
 abbrev pub types_attribute : List DeclaredType → Text → List Path → Option (Ty × Bool)
 types_attribute ts a [] = None
-types_attribute ts a (p ∷ ps) = fold (λ found q. joined_attribute found (declared_attribute ts a q)) (declared_attribute ts a p) ps
+types_attribute ts a (p ∷ ps) =
+    fold (λ found q. joined_attribute found (declared_attribute ts a q))
+    (declared_attribute ts a p) ps
 
 -- the attribute of a type: a record's own, and what all of some entity types declare; no other type has one
 abbrev pub attribute_type : Schema → Ty → Text → Option (Ty × Bool)
@@ -103,7 +105,9 @@ tag_types s t = []
 
 -- an action is declared itself, another entity's type is
 abbrev pub declares_entity : Schema → Uid → Bool
-declares_entity s u = if is_action_path u.entity_type then declares_action s.actions u else declares_type s.types u.entity_type
+declares_entity s u =
+    if is_action_path u.entity_type then declares_action s.actions u
+    else declares_type s.types u.entity_type
 
 -- the type of an entity literal, if there is one
 abbrev pub literal_type : Schema → Uid → Option Ty

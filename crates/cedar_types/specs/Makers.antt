@@ -42,7 +42,11 @@ at_place l (record_of d fs) = record_of (moved l d) fs
 -- the attributes with this one, which comes in place of one of its name
 abbrev pub with_attr : Text → Ty × Bool → Attrs → Attrs
 with_attr k a no_attrs = attr k a.0 a.1 no_attrs
-with_attr k a (attr l t r xs) = match_ordering (text_cmp k l) (attr k a.0 a.1 (attr l t r xs)) (attr l a.0 a.1 xs) (attr l t r (with_attr k a xs))
+with_attr k a (attr l t r xs) =
+    match_ordering (text_cmp k l)
+    (attr k a.0 a.1 (attr l t r xs))
+    (attr l a.0 a.1 xs)
+    (attr l t r (with_attr k a xs))
 
 -- the attributes with those of a list, of which a later one comes in place of an earlier one of its name
 abbrev pub with_attrs : List (Text × (Ty × Bool)) → Attrs → Attrs

@@ -37,7 +37,8 @@ abbrev pub named_by_left : ExprIterator (Unit {0}) → List Mention
 named_by_left p = filter_map own_mention (expressions_left p)
 
 -- of a rest that is not visited yet, or of its parts that are still to come
-abbrev pub rest_left : Option (Bor (Expr (Unit {0}))) → Option (ExprIterator (Unit {0})) → List Mention
+abbrev pub rest_left : Option (Bor (Expr (Unit {0}))) → Option (ExprIterator (Unit {0}))
+    → List Mention
 rest_left (Some e) parts = mentions_of (written e.now)
 rest_left None (Some p) = named_by_left p
 rest_left None None = []

@@ -81,4 +81,5 @@ rest_mentions (Some e) = mentions_of e
 abbrev pub mentions_by_part : PlainTemplate → List Mention
 mentions_by_part t =
     rest_mentions t.rest
-    ++ (scope_mentions t.resource ++ (action_mentions (named_actions t.action) ++ scope_mentions t.principal))
+    ++ (scope_mentions t.resource
+    ++ (action_mentions (named_actions t.action) ++ scope_mentions t.principal))

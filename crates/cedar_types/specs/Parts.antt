@@ -13,7 +13,8 @@ abbrev mutual
   subexpressions (var d x) = var d x ∷ []
   subexpressions (slot d x) = slot d x ∷ []
   subexpressions (unknown d x) = unknown d x ∷ []
-  subexpressions (if_then_else d a b c) = if_then_else d a b c ∷ (subexpressions c ++ (subexpressions b ++ subexpressions a))
+  subexpressions (if_then_else d a b c) =
+      if_then_else d a b c ∷ (subexpressions c ++ (subexpressions b ++ subexpressions a))
   subexpressions (and d a b) = and d a b ∷ (subexpressions b ++ subexpressions a)
   subexpressions (or d a b) = or d a b ∷ (subexpressions b ++ subexpressions a)
   subexpressions (unary d o a) = unary d o a ∷ subexpressions a
@@ -44,7 +45,8 @@ abbrev mutual
   mentions_slot s (var d x) = false
   mentions_slot s (slot d x) = slot_eq x s
   mentions_slot s (unknown d x) = false
-  mentions_slot s (if_then_else d a b c) = mentions_slot s a || (mentions_slot s b || mentions_slot s c)
+  mentions_slot s (if_then_else d a b c) =
+      mentions_slot s a || (mentions_slot s b || mentions_slot s c)
   mentions_slot s (and d a b) = mentions_slot s a || mentions_slot s b
   mentions_slot s (or d a b) = mentions_slot s a || mentions_slot s b
   mentions_slot s (unary d o a) = mentions_slot s a
@@ -118,4 +120,5 @@ has_ended s = s.ended
 
 -- the expressions that are still to come
 unfoldable pub expressions_left : {T : Type 0} → ExprIterator T → List (Tree Written)
-expressions_left {T} s = cond s.ended [] (from_last (map (λ e. written {T = T} e.now) s.stack.items))
+expressions_left {T} s =
+    cond s.ended [] (from_last (map (λ e. written {T = T} e.now) s.stack.items))

@@ -21,7 +21,11 @@ action_place es u = lookup (λ k. uid_eq u (uid_of k)) es
 
 -- the entries give each name the place of its declaration
 abbrev pub IsTypeIndex : List (EntityType × ℕ) → List ValidatorEntityType → Type 0
-IsTypeIndex es ts = (q : EntityType) → type_place es (type_of q) ≡ place_in (λ t. path_eq (type_of q) (type_of t.name)) ts
+IsTypeIndex es ts =
+    (q : EntityType)
+    → type_place es (type_of q) ≡ place_in (λ t. path_eq (type_of q) (type_of t.name)) ts
 
 abbrev pub IsActionIndex : List (EntityUID × ℕ) → List ValidatorActionId → Type 0
-IsActionIndex es acts = (q : EntityUID) → action_place es (uid_of q) ≡ place_in (λ a. uid_eq (uid_of q) (uid_of a.name)) acts
+IsActionIndex es acts =
+    (q : EntityUID)
+    → action_place es (uid_of q) ≡ place_in (λ a. uid_eq (uid_of q) (uid_of a.name)) acts

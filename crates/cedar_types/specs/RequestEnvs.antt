@@ -24,7 +24,15 @@ pub data Env : Type 0 where
   Undeclared : Env
 
 abbrev pub env_of : RequestEnv → Env
-env_of (DeclaredAction p a r c ps rs) = Declared (record { principal = type_of p.now; action = uid_of a.now; resource = type_of r.now; context = ty_of c.now }) (option_map type_of ps) (option_map type_of rs)
+env_of (DeclaredAction p a r c ps rs) =
+    Declared
+    (record {
+      principal = type_of p.now;
+      action = uid_of a.now;
+      resource = type_of r.now;
+      context = ty_of c.now;
+    })
+    (option_map type_of ps) (option_map type_of rs)
 env_of UndeclaredAction = Undeclared
 
 -- ---- its parts, none of an undeclared action
@@ -56,10 +64,18 @@ pub record PlacedRequest : Type 0 where
   pub resource : PlacedType
 
 abbrev pub placed_request : RequestType → PlacedRequest
-placed_request t = record { principal = placed_type t.principal; action = placed_uid t.action; resource = placed_type t.resource }
+placed_request t = record {
+  principal = placed_type t.principal;
+  action = placed_uid t.action;
+  resource = placed_type t.resource;
+}
 
 abbrev pub request_in : RequestEnv → Option PlacedRequest
-request_in (DeclaredAction p a r c ps rs) = Some (record { principal = placed_type p.now; action = placed_uid a.now; resource = placed_type r.now })
+request_in (DeclaredAction p a r c ps rs) = Some (record {
+  principal = placed_type p.now;
+  action = placed_uid a.now;
+  resource = placed_type r.now;
+})
 request_in UndeclaredAction = None
 
 -- ---- the types of the variables

@@ -138,25 +138,32 @@ tags_pass p None = true
 tags_pass p (Some t) = p t
 
 abbrev pub kind_names_pass : (Path → Bool) → TypeKind → Bool
-kind_names_pass known (StandardKind attrs tags) = attr_names_pass known attrs && tags_pass (names_pass known) tags
+kind_names_pass known (StandardKind attrs tags) =
+    attr_names_pass known attrs && tags_pass (names_pass known) tags
 kind_names_pass known (EnumKind ids) = true
 kind_names_pass known ExternalKind = true
 
 -- the types that a declaration names in descendants, attributes and tags are known
 abbrev pub type_is_known : List DeclaredType → DeclaredType → Bool
-type_is_known ts t = list_all (knows_type ts) t.descendants && kind_names_pass (knows_type ts) t.kind
+type_is_known ts t =
+    list_all (knows_type ts) t.descendants && kind_names_pass (knows_type ts) t.kind
 
 abbrev pub application_is_known : List DeclaredType → Option Application → Bool
 application_is_known ts None = true
-application_is_known ts (Some a) = list_all (knows_type ts) a.principals && list_all (knows_type ts) a.resources && names_pass (knows_type ts) a.context
+application_is_known ts (Some a) =
+    list_all (knows_type ts) a.principals
+    && list_all (knows_type ts) a.resources
+    && names_pass (knows_type ts) a.context
 
 -- each type that is named is known
 abbrev pub types_are_known : List DeclaredType → List DeclaredAction → Bool
-types_are_known ts acts = list_all (type_is_known ts) ts && list_all (λ a. application_is_known ts a.applies_to) acts
+types_are_known ts acts =
+    list_all (type_is_known ts) ts && list_all (λ a. application_is_known ts a.applies_to) acts
 
 -- each descendant of an action is declared
 abbrev pub action_descendants_declared : List DeclaredAction → Bool
-action_descendants_declared acts = list_all (λ a. list_all (declares_action acts) a.descendants) acts
+action_descendants_declared acts =
+    list_all (λ a. list_all (declares_action acts) a.descendants) acts
 
 -- ---- types that say too little
 
@@ -188,7 +195,8 @@ is_record (TRecord xs o) = true
 is_record _ = false
 
 abbrev pub kind_is_definite : TypeKind → Bool
-kind_is_definite (StandardKind attrs tags) = not (are_vague attrs) && tags_pass (λ t. not (is_vague t)) tags
+kind_is_definite (StandardKind attrs tags) =
+    not (are_vague attrs) && tags_pass (λ t. not (is_vague t)) tags
 kind_is_definite (EnumKind ids) = true
 kind_is_definite ExternalKind = true
 
@@ -199,7 +207,9 @@ application_is_definite (Some a) = is_record a.context && not (is_vague a.contex
 
 -- no attribute, tag or context is vague
 abbrev pub types_are_definite : List DeclaredType → List DeclaredAction → Bool
-types_are_definite ts acts = list_all (λ t. kind_is_definite t.kind) ts && list_all (λ a. application_is_definite a.applies_to) acts
+types_are_definite ts acts =
+    list_all (λ t. kind_is_definite t.kind) ts
+    && list_all (λ a. application_is_definite a.applies_to) acts
 
 -- ---- descendants of descendants
 
@@ -211,10 +221,17 @@ uid_is_among us u = list_any (uid_eq u) us
 
 -- what descends from a descendant is a descendant
 abbrev pub types_are_closed : List DeclaredType → Bool
-types_are_closed ts = list_all (λ t. list_all (λ d. list_all (is_among t.descendants) (descendants_of ts d)) t.descendants) ts
+types_are_closed ts =
+    list_all
+    (λ t. list_all (λ d. list_all (is_among t.descendants) (descendants_of ts d)) t.descendants)
+    ts
 
 abbrev pub actions_are_closed : List DeclaredAction → Bool
-actions_are_closed acts = list_all (λ a. list_all (λ d. list_all (uid_is_among a.descendants) (descendants_of_action acts d)) a.descendants) acts
+actions_are_closed acts =
+    list_all
+    (λ a. list_all (λ d. list_all (uid_is_among a.descendants) (descendants_of_action acts d))
+    a.descendants)
+    acts
 
 -- ---- the first fault, in this order
 
@@ -227,7 +244,8 @@ later_fault s =
     else if not (types_are_known s.types s.actions) then Some UnknownType
     else if not (action_descendants_declared s.actions) then Some UnknownActionDescendant
     else if not (types_are_definite s.types s.actions) then Some VagueType
-    else if not (types_are_closed s.types && actions_are_closed s.actions) then Some DescendantsNotClosed
+    else if not (types_are_closed s.types && actions_are_closed s.actions)
+    then Some DescendantsNotClosed
     else None
 
 abbrev pub first_fault : Schema → Option SchemaError
@@ -256,12 +274,20 @@ is_open_type ts p = not (knows_type ts p) || is_external (type_named ts p)
 
 -- some declared action of the one type is a descendant of one of the other
 abbrev pub action_is_below : List DeclaredAction → Path → Path → Bool
-action_is_below acts l r = list_any (λ a. path_eq r a.name.entity_type && list_any (λ b. path_eq l b.name.entity_type && uid_is_among a.descendants b.name) acts) acts
+action_is_below acts l r =
+    list_any
+    (λ a. path_eq r a.name.entity_type
+    && list_any (λ b. path_eq l b.name.entity_type && uid_is_among a.descendants b.name) acts)
+    acts
 
 -- whether an entity of the type l may be in one of the type r: they are one type, or of one of them nothing is known,
 -- or l is a descendant of r, or an action of the type l is one of an action of the type r
 abbrev pub may_be_in : Schema → Path → Path → Bool
-may_be_in s l r = path_eq l r || is_open_type s.types l || is_open_type s.types r || is_among (descendants_of s.types r) l || action_is_below s.actions l r
+may_be_in s l r =
+    path_eq l r
+    || is_open_type s.types l || is_open_type s.types r
+    || is_among (descendants_of s.types r) l
+    || action_is_below s.actions l r
 
 -- whether this holds of some of the types
 abbrev pub any_may_be_in : Schema → List Path → List Path → Bool

@@ -28,7 +28,10 @@ TagsFit (Some t) es = AllEntries (HasType t) es
 
 -- each ancestor's type is a declared one of which the type p is a descendant
 abbrev pub AncestorsFit : List DeclaredType → Path → List Uid → Type 0
-AncestorsFit ts p vs = (v : Uid) → IsTrue (uid_is_among vs v) → IsTrue (declares_type ts v.entity_type && is_among (descendants_of ts v.entity_type) p)
+AncestorsFit ts p vs =
+    (v : Uid)
+    → IsTrue (uid_is_among vs v)
+    → IsTrue (declares_type ts v.entity_type && is_among (descendants_of ts v.entity_type) p)
 
 -- nothing is stored of an entity but that it is there
 pub record IsBare (e : Entity) : Type 0 where
@@ -38,7 +41,8 @@ pub record IsBare (e : Entity) : Type 0 where
 
 -- an entity of a standard type has only declared attributes and all required ones, each of its type, tags of the declared
 -- type, and ancestors of which its type is a descendant
-pub record FitsStandard (ts : List DeclaredType) (p : Path) (attrs : Attrs) (tags : Option Ty) (e : Entity) : Type 0 where
+pub record FitsStandard (ts : List DeclaredType) (p : Path) (attrs : Attrs) (tags : Option Ty)
+    (e : Entity) : Type 0 where
   pub attributes : HasType (TRecord attrs false) (VRecord e.attributes)
   pub tagged : TagsFit tags e.tags
   pub ancestors : AncestorsFit ts p e.ancestors
@@ -66,13 +70,20 @@ FitsDeclaration s u (Some t) e = FitsKind s.types u.entity_type t.kind e
 
 -- each entity fits the declaration of its type, or is a declared action; and each declared action is there
 pub record ConformingStore (s : Schema) (store : Store) : Type 0 where
-  pub entities : (u : Uid) (e : Entity) → entity_at store u ≡ Some e → FitsDeclaration s u (type_named s.types u.entity_type) e
-  pub actions : (u : Uid) → IsTrue (declares_action s.actions u) → (e : Entity) × (entity_at store u ≡ Some e)
+  pub entities : (u : Uid) (e : Entity) → entity_at store u ≡ Some e
+      → FitsDeclaration s u (type_named s.types u.entity_type) e
+  pub actions : (u : Uid) → IsTrue (declares_action s.actions u)
+      → (e : Entity) × (entity_at store u ≡ Some e)
 
 -- v is an ancestor of u in the store
 abbrev pub IsStoredAncestor : Store → Uid → Uid → Type 0
-IsStoredAncestor store u v = (e : Entity) × (entity_at store u ≡ Some e) × IsTrue (uid_is_among e.ancestors v)
+IsStoredAncestor store u v =
+    (e : Entity) × (entity_at store u ≡ Some e) × IsTrue (uid_is_among e.ancestors v)
 
 -- where a schema without faults denies that an entity of one type may be in one of another, no conforming store has it so
 abbrev pub MembershipsAreAllowed : Type 0
-MembershipsAreAllowed = (s : Schema) → has_fault s ≡ false → (store : Store) → ConformingStore s store → (u v : Uid) → IsStoredAncestor store u v → may_be_in s u.entity_type v.entity_type ≡ true
+MembershipsAreAllowed =
+    (s : Schema) → has_fault s ≡ false
+    → (store : Store) → ConformingStore s store
+    → (u v : Uid) → IsStoredAncestor store u v
+    → may_be_in s u.entity_type v.entity_type ≡ true

@@ -98,19 +98,24 @@ scope_at l v s any = true_at l
 scope_at l v s (equal r) = equal_at l v (reference_at l s r)
 scope_at l v s (within r) = within_at l v (reference_at l s r)
 scope_at l v s (typed t) = typed_at l v t
-scope_at l v s (typed_within t r) = and (made l) (typed_at l v t) (within_at l v (reference_at l s r))
+scope_at l v s (typed_within t r) =
+    and (made l) (typed_at l v t) (within_at l v (reference_at l s r))
 
 -- the test of the action: `true`, `action == a`, `action in [a, b]`
 abbrev pub action_scope_at : Option Loc → ActionScope → Tree Written
 action_scope_at l any_action = true_at l
 action_scope_at l (equal_action u) = equal_at l Var.Action (uid_at l u)
-action_scope_at l (within_actions us) = within_at l Var.Action (set_of (made l) (trees_of (map (uid_at l) us)))
+action_scope_at l (within_actions us) =
+    within_at l Var.Action (set_of (made l) (trees_of (map (uid_at l) us)))
 
 -- the scope: `(P && A) && R`
 abbrev pub scope_condition : PlainTemplate → Tree Written
 scope_condition t =
     let l = t.place in
-    and (made l) (and (made l) (scope_at l Var.Principal SlotId.Principal t.principal) (action_scope_at l t.action)) (scope_at l Var.Resource SlotId.Resource t.resource)
+    and (made l)
+    (and (made l)
+    (scope_at l Var.Principal SlotId.Principal t.principal) (action_scope_at l t.action))
+    (scope_at l Var.Resource SlotId.Resource t.resource)
 
 abbrev pub with_rest : Option Loc → Tree Written → Option (Tree Written) → Tree Written
 with_rest l scope None = scope

@@ -58,7 +58,8 @@ abbrev mutual
   map_tree g (var d x) = var (g d) x
   map_tree g (slot d x) = slot (g d) x
   map_tree g (unknown d x) = unknown (g d) x
-  map_tree g (if_then_else d a b c) = if_then_else (g d) (map_tree g a) (map_tree g b) (map_tree g c)
+  map_tree g (if_then_else d a b c) =
+      if_then_else (g d) (map_tree g a) (map_tree g b) (map_tree g c)
   map_tree g (and d a b) = and (g d) (map_tree g a) (map_tree g b)
   map_tree g (or d a b) = or (g d) (map_tree g a) (map_tree g b)
   map_tree g (unary d o a) = unary (g d) o (map_tree g a)

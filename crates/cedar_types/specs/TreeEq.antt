@@ -44,15 +44,18 @@ abbrev mutual
   tree_eq (var d x1) (var e x2) = var_eq x1 x2
   tree_eq (slot d x1) (slot e x2) = slot_eq x1 x2
   tree_eq (unknown d x1) (unknown e x2) = path_eq x1 x2
-  tree_eq (if_then_else d x1 y1 z1) (if_then_else e x2 y2 z2) = tree_eq x1 x2 && (tree_eq y1 y2 && tree_eq z1 z2)
+  tree_eq (if_then_else d x1 y1 z1) (if_then_else e x2 y2 z2) =
+      tree_eq x1 x2 && (tree_eq y1 y2 && tree_eq z1 z2)
   tree_eq (and d x1 y1) (and e x2 y2) = tree_eq x1 x2 && tree_eq y1 y2
   tree_eq (or d x1 y1) (or e x2 y2) = tree_eq x1 x2 && tree_eq y1 y2
   tree_eq (unary d x1 y1) (unary e x2 y2) = unary_eq x1 x2 && tree_eq y1 y2
-  tree_eq (binary d x1 y1 z1) (binary e x2 y2 z2) = binary_eq x1 x2 && (tree_eq y1 y2 && tree_eq z1 z2)
+  tree_eq (binary d x1 y1 z1) (binary e x2 y2 z2) =
+      binary_eq x1 x2 && (tree_eq y1 y2 && tree_eq z1 z2)
   tree_eq (call d x1 y1) (call e x2 y2) = path_eq x1 x2 && trees_eq y1 y2
   tree_eq (get_attr d x1 y1) (get_attr e x2 y2) = tree_eq x1 x2 && text_eq y1 y2
   tree_eq (has_attr d x1 y1) (has_attr e x2 y2) = tree_eq x1 x2 && text_eq y1 y2
-  tree_eq (ext_has_attr d x1 y1 z1) (ext_has_attr e x2 y2 z2) = tree_eq x1 x2 && (text_eq y1 y2 && texts_eq z1 z2)
+  tree_eq (ext_has_attr d x1 y1 z1) (ext_has_attr e x2 y2 z2) =
+      tree_eq x1 x2 && (text_eq y1 y2 && texts_eq z1 z2)
   tree_eq (like d x1 y1) (like e x2 y2) = tree_eq x1 x2 && pattern_eq y1 y2
   tree_eq (is_type d x1 y1) (is_type e x2 y2) = tree_eq x1 x2 && path_eq y1 y2
   tree_eq (set_of d x1) (set_of e x2) = trees_eq x1 x2

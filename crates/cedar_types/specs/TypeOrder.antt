@@ -43,7 +43,8 @@ abbrev mutual
   pub ty_cmp : Ty → Ty → Ordering
   ty_cmp (TBool j) (TBool k) = nat_cmp (bool_rank j) (bool_rank k)
   ty_cmp (TSet s) (TSet t) = ty_cmp s t
-  ty_cmp (TRecord xs o) (TRecord ys p) = ordering_then (attrs_cmp xs ys) (nat_cmp (open_rank o) (open_rank p))
+  ty_cmp (TRecord xs o) (TRecord ys p) =
+      ordering_then (attrs_cmp xs ys) (nat_cmp (open_rank o) (open_rank p))
   ty_cmp (TEntity ps) (TEntity qs) = slice_cmp path_cmp ps qs
   ty_cmp (TExtension n) (TExtension m) = path_cmp n m
   ty_cmp s t = nat_cmp (kind_rank s) (kind_rank t)
@@ -53,7 +54,11 @@ abbrev mutual
   attrs_cmp no_attrs no_attrs = Equal
   attrs_cmp no_attrs (attr l t q ys) = Less
   attrs_cmp (attr k s r xs) no_attrs = Greater
-  attrs_cmp (attr k s r xs) (attr l t q ys) = ordering_then (ordering_then (text_cmp k l) (ordering_then (ty_cmp s t) (nat_cmp (required_rank r) (required_rank q)))) (attrs_cmp xs ys)
+  attrs_cmp (attr k s r xs) (attr l t q ys) =
+      ordering_then
+      (ordering_then (text_cmp k l)
+      (ordering_then (ty_cmp s t) (nat_cmp (required_rank r) (required_rank q))))
+      (attrs_cmp xs ys)
 
 -- ascending types, with t at its place if it is not yet there
 abbrev pub insert_ty : List Ty → Ty → List Ty

@@ -47,7 +47,8 @@ fields_of [] = no_fields
 fields_of (e ∷ es) = field (text_of e.0) e.1 (fields_of es)
 
 -- one form, with each expression inside already seen as its tree; the mark comes from the expression around it
-abbrev pub kind_step : (T D : Type 0) → ExprKind-F T ((Places → D) → Tree D) (Tree D) → (Places → D) → Tree D
+abbrev pub kind_step : (T D : Type 0) → ExprKind-F T ((Places → D) → Tree D) (Tree D)
+    → (Places → D) → Tree D
 kind_step T D (ExprKind-F.Lit x) d = lit (d (lit_places x)) (lit_of x)
 kind_step T D (ExprKind-F.Var x) d = var (d no_name) x
 kind_step T D (ExprKind-F.Slot x) d = slot (d no_name) x
@@ -57,25 +58,31 @@ kind_step T D (ExprKind-F.And a b) d = and (d no_name) a.value b.value
 kind_step T D (ExprKind-F.Or a b) d = or (d no_name) a.value b.value
 kind_step T D (ExprKind-F.UnaryApp o a) d = unary (d no_name) o a.value
 kind_step T D (ExprKind-F.BinaryApp o a b) d = binary (d no_name) o a.value b.value
-kind_step T D (ExprKind-F.ExtensionFunctionApp n v) d = call (d no_name) (path_of n) (trees_of v.items)
+kind_step T D (ExprKind-F.ExtensionFunctionApp n v) d =
+    call (d no_name) (path_of n) (trees_of v.items)
 kind_step T D (ExprKind-F.GetAttr a x) d = get_attr (d no_name) a.value (text_of x)
 kind_step T D (ExprKind-F.HasAttr a x) d = has_attr (d no_name) a.value (text_of x)
-kind_step T D (ExprKind-F.ExtHasAttr a c) d = ext_has_attr (d no_name) a.value (chain_of c).0 (chain_of c).1
+kind_step T D (ExprKind-F.ExtHasAttr a c) d =
+    ext_has_attr (d no_name) a.value (chain_of c).0 (chain_of c).1
 kind_step T D (ExprKind-F.Like a p) d = like (d no_name) a.value p.items
 kind_step T D (ExprKind-F.Is a n) d = is_type (d (of_type n.loc)) a.value (type_of n)
 kind_step T D (ExprKind-F.Set v) d = set_of (d no_name) (trees_of v.items)
 kind_step T D (ExprKind-F.Record m) d = record_of (d no_name) (fields_of m.entries)
 
-abbrev pub expr_step : (T D : Type 0) → (T → Option Loc → Places → D) → Expr-F T ((Places → D) → Tree D) (Tree D) → Tree D
+abbrev pub expr_step : (T D : Type 0) → (T → Option Loc → Places → D)
+    → Expr-F T ((Places → D) → Tree D) (Tree D) → Tree D
 expr_step T D mark e = e.kind (mark e.annotation e.loc)
 
 -- the tree of an expression, with the mark that a node's annotation, its place and the places of its names give
 abbrev pub tree_with : {T D : Type 0} → (T → Option Loc → Places → D) → Expr T → Tree D
-tree_with {T} {D} mark = fold-Expr T ((Places → D) → Tree D) (Tree D) (kind_step T D) (expr_step T D mark)
+tree_with {T} {D} mark =
+    fold-Expr T ((Places → D) → Tree D) (Tree D) (kind_step T D) (expr_step T D mark)
 
 -- the same of a form, whose own mark is still open
-abbrev pub kind_with : {T D : Type 0} → (T → Option Loc → Places → D) → ExprKind T → (Places → D) → Tree D
-kind_with {T} {D} mark = fold-ExprKind T ((Places → D) → Tree D) (Tree D) (kind_step T D) (expr_step T D mark)
+abbrev pub kind_with : {T D : Type 0} → (T → Option Loc → Places → D) → ExprKind T
+    → (Places → D) → Tree D
+kind_with {T} {D} mark =
+    fold-ExprKind T ((Places → D) → Tree D) (Tree D) (kind_step T D) (expr_step T D mark)
 
 -- an expression's form alone
 abbrev pub shape : {T : Type 0} → Expr T → Shape
@@ -87,7 +94,9 @@ written {T} = tree_with {T = T} {D = Written} (λ _ l p. record { place = l; nam
 
 -- a form as it was written, in a node that stands at l
 abbrev pub kind_written : {T : Type 0} → Option Loc → ExprKind T → Tree Written
-kind_written {T} l k = kind_with {T = T} {D = Written} (λ _ l p. record { place = l; names = p }) k (λ p. record { place = l; names = p })
+kind_written {T} l k =
+    kind_with {T = T} {D = Written} (λ _ l p. record { place = l; names = p }) k
+    (λ p. record { place = l; names = p })
 
 -- a record's fields as they were written
 abbrev pub fields_written : {T : Type 0} → List (RcStr Global × Expr T) → Fields Written

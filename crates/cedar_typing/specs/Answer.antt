@@ -71,8 +71,10 @@ OnSuccess (TypecheckFail e) P = ⊤
 OnSuccess RecursionLimit P = ⊤
 
 -- the closure was called on the set of a success, and on nothing else: `gives` says what its call gives
-abbrev pub MapsCapability : TypecheckAnswer → (CapabilitySet → Result CapabilitySet AllocError → Type 0) → Answered → Type 0
-MapsCapability (TypecheckSuccess e c) gives r = (s : Result CapabilitySet AllocError) × gives c s × (r ≡ ok_map (TypecheckSuccess e) s)
+abbrev pub MapsCapability : TypecheckAnswer
+    → (CapabilitySet → Result CapabilitySet AllocError → Type 0) → Answered → Type 0
+MapsCapability (TypecheckSuccess e c) gives r =
+    (s : Result CapabilitySet AllocError) × gives c s × (r ≡ ok_map (TypecheckSuccess e) s)
 MapsCapability (TypecheckFail e) gives r = r ≡ Ok (TypecheckFail e)
 MapsCapability RecursionLimit gives r = r ≡ Ok RecursionLimit
 
@@ -84,7 +86,8 @@ OnHanded (TypecheckFail e) P = (c : CapabilitySet) → HasNone (caps c) → P e 
 OnHanded RecursionLimit P = ⊤
 
 -- the closure was called with a failure's expression and a set that has nothing, and its answer is made a failure
-pub record FollowsFailure (e : TypedExpr) (gives : TypedExpr → CapabilitySet → Answered → Type 0) (r : Answered) : Type 0 where
+pub record FollowsFailure (e : TypedExpr) (gives : TypedExpr → CapabilitySet → Answered → Type 0)
+    (r : Answered) : Type 0 where
   pub set : CapabilitySet
   pub is_empty : HasNone (caps set)
   pub answered : Answered
@@ -93,7 +96,8 @@ pub record FollowsFailure (e : TypedExpr) (gives : TypedExpr → CapabilitySet �
 
 -- the closure was called with what the answer hands on, and its answer is made a failure after a failure; the limit stays,
 -- without a call
-abbrev pub ThenTypechecks : TypecheckAnswer → (TypedExpr → CapabilitySet → Answered → Type 0) → Answered → Type 0
+abbrev pub ThenTypechecks : TypecheckAnswer → (TypedExpr → CapabilitySet → Answered → Type 0)
+    → Answered → Type 0
 ThenTypechecks (TypecheckSuccess e c) gives r = gives e c r
 ThenTypechecks (TypecheckFail e) gives r = FollowsFailure e gives r
 ThenTypechecks RecursionLimit gives r = r ≡ Ok RecursionLimit
@@ -131,15 +135,20 @@ pub record Taken {S : Type 0} (steps : S → Option Answered → S → Type 0) (
   pub ends : MatchOption last ⊤ (λ x. x ≡ Ok RecursionLimit)
 
 -- the closure may be called with whatever the items that can be taken hand on
-abbrev pub OnAllHanded : {S : Type 0} → (S → Option Answered → S → Type 0) → S → (Vec (TypedExpr × CapabilitySet) Global → Type 0) → Type 0
-OnAllHanded steps s P = (taken : Taken steps s) → (v : Vec (TypedExpr × CapabilitySet) Global) → AreHanded taken.before v.items → P v
+abbrev pub OnAllHanded : {S : Type 0} → (S → Option Answered → S → Type 0) → S
+    → (Vec (TypedExpr × CapabilitySet) Global → Type 0) → Type 0
+OnAllHanded steps s P =
+    (taken : Taken steps s) → (v : Vec (TypedExpr × CapabilitySet) Global)
+    → AreHanded taken.before v.items → P v
 
 -- the answer after a limit is the limit, else the closure's, made a failure if an item was one
 abbrev pub answer_where : Bool → Bool → TypecheckAnswer → TypecheckAnswer
 answer_where is_limit succeeded a = cond is_limit RecursionLimit (failed_unless succeeded a)
 
 -- the closure was called once, with what the taken items hand on, and a is its answer, adjusted
-pub record SequencesAll {S : Type 0} (steps : S → Option Answered → S → Type 0) (s : S) (gives : Vec (TypedExpr × CapabilitySet) Global → Answered → Type 0) (a : TypecheckAnswer) : Type 0 where
+pub record SequencesAll {S : Type 0} (steps : S → Option Answered → S → Type 0) (s : S)
+    (gives : Vec (TypedExpr × CapabilitySet) Global → Answered → Type 0)
+    (a : TypecheckAnswer) : Type 0 where
   pub taken : Taken steps s
   pub handed : Vec (TypedExpr × CapabilitySet) Global
   pub in_order : AreHanded taken.before handed.items

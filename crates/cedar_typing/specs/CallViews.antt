@@ -19,8 +19,10 @@ abbrev pub added_at : TypeEnv → Option Loc → List Fault → List Finding
 added_at env l fs = map (finding env l) fs
 
 -- a call of this name with these arguments: what it answers, what it wants and what is wrong with it
-pub record IsCallOf (s : Setting) (l : Option Loc) (n : Path) (xs : List Source) (c : Call) : Type 0 where
-  pub returns : option_map (λ t. ty_of t.now) c.return_type ≡ return_type (function_named n s.functions)
+pub record IsCallOf (s : Setting) (l : Option Loc) (n : Path) (xs : List Source)
+    (c : Call) : Type 0 where
+  pub returns : option_map (λ t. ty_of t.now) c.return_type
+      ≡ return_type (function_named n s.functions)
   pub wanted : map ty_of c.argument_types.now
       ≡ types_wanted (function_named n s.functions)
       (call_errors s.env l (function_named n s.functions) n xs)

@@ -60,7 +60,10 @@ own_link false own = None
 
 -- an environment of the schema with each slot that the template has linked to its variable's own type
 abbrev pub own_env : PlainTemplate → DeclaredEnv → Env
-own_env t d = Declared d (own_link (has_slot SlotId.Principal t) d.principal) (own_link (has_slot SlotId.Resource t) d.resource)
+own_env t d =
+    Declared d
+    (own_link (has_slot SlotId.Principal t) d.principal)
+    (own_link (has_slot SlotId.Resource t) d.resource)
 
 -- where the slots stand in the scope alone, the own environment is checked, by any schema in any mode
 abbrev pub OwnEnvIsChecked : Type 0
@@ -87,7 +90,8 @@ IsTypedBool s e =
 abbrev pub AreTypedBool : Setting → Var → SlotId → Type 0
 AreTypedBool s v x =
     (m n o : Written)
-    → IsTypedBool s (binary m BinaryOp.Eq (var n v) (slot o x)) × IsTypedBool s (binary m BinaryOp.In (var n v) (slot o x))
+    → IsTypedBool s (binary m BinaryOp.Eq (var n v) (slot o x))
+    × IsTypedBool s (binary m BinaryOp.In (var n v) (slot o x))
 
 -- the tests of a variable against its slot are Bool where the slot is linked to the variable's own type
 abbrev pub OwnTestsAreBool : Type 0
@@ -100,15 +104,18 @@ OwnTestsAreBool =
 
 -- e is typed in the same way in both settings: derived, recovered and cut
 pub record IsTypedAlike (s s' : Setting) (e : Source) (prior : Caps) (k : ℕ) : Type 0 where
-  pub derived : (t : Ty) (c : Caps) (x : TypedTree) → Derives s e prior k t c x ↔ Derives s' e prior k t c x
-  pub recovered : (x : TypedTree) (es : List Finding) → Recovers s e prior k x es ↔ Recovers s' e prior k x es
+  pub derived : (t : Ty) (c : Caps) (x : TypedTree)
+      → Derives s e prior k t c x ↔ Derives s' e prior k t c x
+  pub recovered : (x : TypedTree) (es : List Finding)
+      → Recovers s e prior k x es ↔ Recovers s' e prior k x es
   pub cut : (es : List Finding) → Cuts s e prior k es ↔ Cuts s' e prior k es
 
 -- what mentions no slot is typed in the same way whatever the slots are linked to
 abbrev pub LinksDoNotMatter : Type 0
 LinksDoNotMatter =
     (s : Setting) (d : DeclaredEnv) (p r p' r' : Option Path) (e : Source) → MentionsNoSlot e
-    → (prior : Caps) (k : ℕ) → IsTypedAlike (in_env s (Declared d p r)) (in_env s (Declared d p' r')) e prior k
+    → (prior : Caps) (k : ℕ)
+    → IsTypedAlike (in_env s (Declared d p r)) (in_env s (Declared d p' r')) e prior k
 
 -- ---- coverage
 

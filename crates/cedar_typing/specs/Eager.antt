@@ -70,7 +70,8 @@ second_type (t ∷ ts) = first_type ts
 -- what stands for an operand that no form lacks
 abbrev pub no_tree : TypedTree
 no_tree =
-    unknown (untyped (record { place = None; names = no_name })) (record { path = []; basename = [] })
+    unknown (untyped (record { place = None; names = no_name }))
+    (record { path = []; basename = [] })
 
 abbrev pub first_tree : List TypedTree → TypedTree
 first_tree [] = no_tree
@@ -83,7 +84,8 @@ second_tree (x ∷ xs) = first_tree xs
 -- ---- forms by the number of their operands
 
 -- one operand
-abbrev pub on_one : Written → Expectation → (Option Ty → Decision) → (Mark → TypedTree → TypedTree) → Form
+abbrev pub on_one : Written → Expectation → (Option Ty → Decision)
+    → (Mark → TypedTree → TypedTree) → Form
 on_one m q table node = record {
   at = m;
   expects = q ∷ [];
@@ -95,7 +97,8 @@ on_one m q table node = record {
 }
 
 -- two operands; nothing is typed after one that is too deep
-abbrev pub on_two : Written → Expectation → Expectation → (Option Ty → Option Ty → Decision) → (Mark → TypedTree → TypedTree → TypedTree) → Form
+abbrev pub on_two : Written → Expectation → Expectation → (Option Ty → Option Ty → Decision)
+    → (Mark → TypedTree → TypedTree → TypedTree) → Form
 on_two m q r table node = record {
   at = m;
   expects = q ∷ r ∷ [];

@@ -25,7 +25,9 @@ module _ {C : Type 0} where
 
   -- the condition that is typed: what was made of the scope, and the template's rest
   unfoldable pub condition_in : RequestEnvChecks C → Tree Written
-  condition_in s = with_rest s.template.now.loc (written s.scope) (option_map written s.template.now.non_scope_constraints)
+  condition_in s =
+      with_rest s.template.now.loc (written s.scope)
+      (option_map written s.template.now.non_scope_constraints)
 
   -- the environments whose checks are still to come
   unfoldable pub checks_left : RequestEnvChecks C → List Env
@@ -41,7 +43,8 @@ module _ {C : Type 0} where
       PolicyChecks (setting_within meaning c t env) (condition_of (template_of t)) v
 
   -- an item has the check of this condition in its environment
-  abbrev pub IsCheckOf : {E : Type 0} → (C → Refusals) → Typechecker C → Template → Tree Written → Option (Result (RequestEnv × PolicyCheck) E) → Type 0
+  abbrev pub IsCheckOf : {E : Type 0} → (C → Refusals) → Typechecker C → Template → Tree Written
+      → Option (Result (RequestEnv × PolicyCheck) E) → Type 0
   IsCheckOf meaning c t e None = Unit {0}
   IsCheckOf meaning c t e (Some (Err f)) = Unit {0}
   IsCheckOf meaning c t e (Some (Ok p)) =
@@ -54,7 +57,8 @@ module _ {C : Type 0} where
     pub condition : condition_in t ≡ condition_in s
 
   -- a call from s gave the check of the first environment that was left, or ended
-  abbrev pub GivesChecks : {E : Type 0} → (C → Refusals) → RequestEnvChecks C → Option (Result (RequestEnv × PolicyCheck) E) → RequestEnvChecks C → Type 0
+  abbrev pub GivesChecks : {E : Type 0} → (C → Refusals) → RequestEnvChecks C
+      → Option (Result (RequestEnv × PolicyCheck) E) → RequestEnvChecks C → Type 0
   GivesChecks meaning s o t =
       YieldsOrEnds checks_left checks_are_over (λ p. env_of p.0) s o t
       × IsCheckOf meaning (checker_of s) (template_in s) (condition_in s) o

@@ -43,16 +43,19 @@ abbrev mutual
       (infer_leaf (Some (slot_ty s.env.request_env x)) m (λ k. slot k x), es)
   infer_within s (unknown m n) prior d es = (infer_unknown n m, es)
   infer_within s (if_then_else m a b e) prior d es =
-      after (expect s.env bool_types (place_of a) (unless_too_deep (d + 1) es (infer_within s a prior (d + 1) es)))
+      after (expect s.env bool_types (place_of a)
+      (unless_too_deep (d + 1) es (infer_within s a prior (d + 1) es)))
       (λ p es'. infer_branches s.env m prior p es'
       (λ known es''. unless_too_deep (d + 1) es'' (infer_within s b known (d + 1) es''))
       (λ es''. unless_too_deep (d + 1) es'' (infer_within s e prior (d + 1) es'')))
   infer_within s (and m a b) prior d es =
-      after (expect s.env bool_types (place_of a) (unless_too_deep (d + 1) es (infer_within s a prior (d + 1) es)))
+      after (expect s.env bool_types (place_of a)
+      (unless_too_deep (d + 1) es (infer_within s a prior (d + 1) es)))
       (λ p es'. infer_right s.env conjunction m (place_of b) prior p es'
       (λ known es''. unless_too_deep (d + 1) es'' (infer_within s b known (d + 1) es'')))
   infer_within s (or m a b) prior d es =
-      after (expect s.env bool_types (place_of a) (unless_too_deep (d + 1) es (infer_within s a prior (d + 1) es)))
+      after (expect s.env bool_types (place_of a)
+      (unless_too_deep (d + 1) es (infer_within s a prior (d + 1) es)))
       (λ p es'. infer_right s.env disjunction m (place_of b) prior p es'
       (λ known es''. unless_too_deep (d + 1) es'' (infer_within s b known (d + 1) es'')))
   infer_within s (unary m o a) prior d es =
@@ -87,7 +90,8 @@ abbrev mutual
       infer_eager (record_form s.env m (field_keys fs)) (infer_fields s fs prior (d + 1)) es
 
   -- expressions one after another, each at depth d, that have to be what is expected
-  pub infer_all : Setting → Bool → List Expectation → Trees Written → Caps → ℕ → List Finding → OperandsAndErrors
+  pub infer_all : Setting → Bool → List Expectation → Trees Written → Caps → ℕ → List Finding
+      → OperandsAndErrors
   infer_all s goes_on qs no_trees prior d es = infer_none es
   infer_all s goes_on qs (tree e ts) prior d es =
       infer_one_more s.env goes_on (first_expectation qs) (place_of e)

@@ -69,7 +69,8 @@ Giving = Bool → Caps → TypedTree → List Finding → Type 0
 -- a part that is no limit; a failed one gives no capabilities
 pub data PartResult (J : Judgment) : Bool → Caps → TypedTree → List Finding → Type 0 where
   derived : {t : Ty} {c : Caps} {e : TypedTree} → J.derives t c e → PartResult J true c e []
-  recovered : {e : TypedTree} {es : List Finding} → J.recovers e es → PartResult J false no_caps e es
+  recovered : {e : TypedTree} {es : List Finding}
+      → J.recovers e es → PartResult J false no_caps e es
 
 -- a part at l that has to be of one of the types ts
 pub data Operand (env : TypeEnv) (ts : List Ty) (l : Option Loc) (J : Judgment) :

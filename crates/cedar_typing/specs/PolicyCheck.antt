@@ -42,12 +42,14 @@ pub data PolicyChecks (s : Setting) (e : Source) : Verdict → Type 0 where
       → RefusedCondition s e e' es → annotation_passes is_false (annotation e') ≡ false
       → IsPermutation es es' → PolicyChecks s e (fails es')
   -- a part is too deep
-  check_cut : {es es' : List Finding} → Cuts s e no_caps 1 es → IsPermutation es es' → PolicyChecks s e (fails es')
+  check_cut : {es es' : List Finding}
+      → Cuts s e no_caps 1 es → IsPermutation es es' → PolicyChecks s e (fails es')
 
 -- the same verdict: of the same kind and with the same typed condition, its errors in any order
 pub data SameVerdict : Verdict → Verdict → Type 0 where
   same_success : {e' : TypedTree} → SameVerdict (succeeds e') (succeeds e')
-  same_irrelevant : {e' : TypedTree} {es es' : List Finding} → IsPermutation es es' → SameVerdict (irrelevant es e') (irrelevant es' e')
+  same_irrelevant : {e' : TypedTree} {es es' : List Finding}
+      → IsPermutation es es' → SameVerdict (irrelevant es e') (irrelevant es' e')
   same_failure : {es es' : List Finding} → IsPermutation es es' → SameVerdict (fails es) (fails es')
 
 -- ---- the check as a function
@@ -57,7 +59,9 @@ verdict_if succeeded e es = if succeeded then succeeds e else fails es
 
 abbrev pub part_verdict : Option Part → List Finding → Verdict
 part_verdict None es = fails es
-part_verdict (Some p) es = if annotation_passes is_false (annotation p.tree) then irrelevant es p.tree else verdict_if p.succeeded p.tree es
+part_verdict (Some p) es =
+    if annotation_passes is_false (annotation p.tree) then irrelevant es p.tree
+    else verdict_if p.succeeded p.tree es
 
 abbrev pub out_verdict : PartAndErrors → Verdict
 out_verdict o = part_verdict o.0 o.1

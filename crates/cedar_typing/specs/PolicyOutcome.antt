@@ -63,7 +63,9 @@ Adds {A} old these new = (x : A) → IsOneOf x new ↔ IsOneOf x (old ++ these)
 
 -- what the check of a policy comes to: `Checks` says which verdicts an environment has, and both sets are given before and
 -- after
-pub record PolicyOutcome (Checks : Env → Verdict → Type 0) (envs : List Env) (t : PlainTemplate) (answer : Bool) (errors errors' : List Finding) (warnings warnings' : List Caution) : Type 0 where
+pub record PolicyOutcome (Checks : Env → Verdict → Type 0) (envs : List Env)
+    (t : PlainTemplate) (answer : Bool)
+    (errors errors' : List Finding) (warnings warnings' : List Caution) : Type 0 where
   -- the environments in some order, and a verdict of each
   pub listed : List Env
   pub verdicts : List Verdict

@@ -91,14 +91,15 @@ setting_on b policy env = record {
 }
 
 -- what the check of the policy in all of its environments came to
-abbrev pub CheckedOn :
-    Basis → PlainTemplate → Bool → List Finding → List Finding → List Caution → List Caution → Type 0
+abbrev pub CheckedOn : Basis → PlainTemplate → Bool
+    → List Finding → List Finding → List Caution → List Caution → Type 0
 CheckedOn b t =
     PolicyOutcome (λ env. PolicyChecks (setting_on b t.id env) (condition_of t))
     (checked_envs b.schema b.mode t) t
 
 -- both promises
-pub record AreBothKept (b : Basis) (t : PlainTemplate) (passes : Bool) (old new : List Caution) : Type 0 where
+pub record AreBothKept (b : Basis) (t : PlainTemplate) (passes : Bool)
+    (old new : List Caution) : Type 0 where
   pub safe : PolicyIsSafe b t passes
   pub never_true : ImpossibleIsNeverTrue b t old new
 

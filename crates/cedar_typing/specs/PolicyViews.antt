@@ -14,7 +14,8 @@ pub record IsTally (t : Tally) (vs : List Verdict) : Type 0 where
   pub errors : (f : Finding) → IsOneOf f (map finding_of t.errors.keys) ↔ IsOneOf f (all_errors vs)
 
 -- the tally is that of verdicts of these environments
-pub record TalliesEnvs (Checks : Env → Verdict → Type 0) (envs : List Env) (t : Tally) : Type 0 where
+pub record TalliesEnvs (Checks : Env → Verdict → Type 0) (envs : List Env)
+    (t : Tally) : Type 0 where
   pub listed : List Env
   pub verdicts : List Verdict
   pub in_some_order : IsPermutation listed envs

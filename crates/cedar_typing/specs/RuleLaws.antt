@@ -20,16 +20,25 @@ use Rattle.cedar_typing.specs.TypedExpr.{Source, TypedTree, annotation, place_of
 -- an expression has one type at most, hands on one set of capabilities at most, and is typed in one way at most
 abbrev pub TypingIsAFunction : Type 0
 TypingIsAFunction =
-    (s : Setting) (e : Source) (prior : Caps) (d : ℕ) (t u : Ty) (c c' : Caps) (x y : TypedTree) → Derives s e prior d t c x → Derives s e prior d u c' y → (t ≡ u) × (c ≡ c') × (x ≡ y)
+    (s : Setting) (e : Source) (prior : Caps) (d : ℕ)
+    (t u : Ty) (c c' : Caps) (x y : TypedTree)
+    → Derives s e prior d t c x → Derives s e prior d u c' y
+    → (t ≡ u) × (c ≡ c') × (x ≡ y)
 
 -- it is recovered in one way at most
 abbrev pub RecoveryIsAFunction : Type 0
 RecoveryIsAFunction =
-    (s : Setting) (e : Source) (prior : Caps) (d : ℕ) (x y : TypedTree) (es fs : List Finding) → Recovers s e prior d x es → Recovers s e prior d y fs → (x ≡ y) × (es ≡ fs)
+    (s : Setting) (e : Source) (prior : Caps) (d : ℕ)
+    (x y : TypedTree) (es fs : List Finding)
+    → Recovers s e prior d x es → Recovers s e prior d y fs
+    → (x ≡ y) × (es ≡ fs)
 
 -- it is cut with one list of errors at most
 abbrev pub CutIsAFunction : Type 0
-CutIsAFunction = (s : Setting) (e : Source) (prior : Caps) (d : ℕ) (es fs : List Finding) → Cuts s e prior d es → Cuts s e prior d fs → es ≡ fs
+CutIsAFunction =
+    (s : Setting) (e : Source) (prior : Caps) (d : ℕ) (es fs : List Finding)
+    → Cuts s e prior d es → Cuts s e prior d fs
+    → es ≡ fs
 
 abbrev pub IsDerived : Setting → Source → Caps → ℕ → Type 0
 IsDerived s e prior d = (t : Ty) × (c : Caps) × (x : TypedTree) × Derives s e prior d t c x
@@ -43,11 +52,16 @@ IsCut s e prior d = (es : List Finding) × Cuts s e prior d es
 -- nothing is derived and recovered, derived and cut, or recovered and cut
 abbrev pub OneOfThreeAtMost : Type 0
 OneOfThreeAtMost =
-    (s : Setting) (e : Source) (prior : Caps) (d : ℕ) → ((IsDerived s e prior d × IsRecovered s e prior d → ⊥) × (IsDerived s e prior d × IsCut s e prior d → ⊥) × (IsRecovered s e prior d × IsCut s e prior d → ⊥))
+    (s : Setting) (e : Source) (prior : Caps) (d : ℕ)
+    → ((IsDerived s e prior d × IsRecovered s e prior d → ⊥)
+    × (IsDerived s e prior d × IsCut s e prior d → ⊥)
+    × (IsRecovered s e prior d × IsCut s e prior d → ⊥))
 
 -- what is not derived is recovered or cut
 abbrev pub OneOfThreeAtLeast : Type 0
-OneOfThreeAtLeast = (s : Setting) (e : Source) (prior : Caps) (d : ℕ) → IsDerived s e prior d ⊎ (IsRecovered s e prior d ⊎ IsCut s e prior d)
+OneOfThreeAtLeast =
+    (s : Setting) (e : Source) (prior : Caps) (d : ℕ)
+    → IsDerived s e prior d ⊎ (IsRecovered s e prior d ⊎ IsCut s e prior d)
 
 -- a is typed where a Boolean is expected
 abbrev pub IsTested : Setting → Source → Caps → ℕ → Bool → Caps → TypedTree → List Finding → Type 0
@@ -146,13 +160,18 @@ mutual
 
 -- an expression is cut exactly where a part that is looked at is too deep
 abbrev pub CutIsByDepth : Type 0
-CutIsByDepth = (s : Setting) (e : Source) (prior : Caps) (d : ℕ) → IsCut s e prior d ↔ ((k : ℕ) × (max_nesting < k) × IsVisited s e prior d k)
+CutIsByDepth =
+    (s : Setting) (e : Source) (prior : Caps) (d : ℕ)
+    → IsCut s e prior d ↔ ((k : ℕ) × (max_nesting < k) × IsVisited s e prior d k)
 
 -- ---- the check of a condition
 
 -- it comes to one verdict at most, save for the order of errors
 abbrev pub OneVerdictAtMost : Type 0
-OneVerdictAtMost = (s : Setting) (e : Source) (u v : Verdict) → PolicyChecks s e u → PolicyChecks s e v → SameVerdict u v
+OneVerdictAtMost =
+    (s : Setting) (e : Source) (u v : Verdict)
+    → PolicyChecks s e u → PolicyChecks s e v
+    → SameVerdict u v
 
 -- it comes to a verdict, whatever the condition
 abbrev pub OneVerdictAtLeast : Type 0
@@ -160,4 +179,7 @@ OneVerdictAtLeast = (s : Setting) (e : Source) → (v : Verdict) × PolicyChecks
 
 -- a verdict that it comes to, it comes to with the errors in any order
 abbrev pub ErrorsInAnyOrder : Type 0
-ErrorsInAnyOrder = (s : Setting) (e : Source) (u v : Verdict) → PolicyChecks s e u → SameVerdict u v → PolicyChecks s e v
+ErrorsInAnyOrder =
+    (s : Setting) (e : Source) (u v : Verdict)
+    → PolicyChecks s e u → SameVerdict u v
+    → PolicyChecks s e v

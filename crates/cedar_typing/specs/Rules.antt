@@ -38,7 +38,8 @@ abbrev mutual
   pub rules_within : Setting → Source → Caps → ℕ → Judgment
   rules_within s (lit m x) prior d = leaf_rules (type_of_literal s.env x) m (λ k. lit k x)
   rules_within s (var m x) prior d = leaf_rules (variable_type s.env x) m (λ k. var k x)
-  rules_within s (slot m x) prior d = leaf_rules (Some (slot_ty s.env.request_env x)) m (λ k. slot k x)
+  rules_within s (slot m x) prior d =
+      leaf_rules (Some (slot_ty s.env.request_env x)) m (λ k. slot k x)
   rules_within s (unknown m n) prior d = unknown_rules n m
   rules_within s (if_then_else m a b e) prior d =
       if_rules s.env m (place_of a)

@@ -23,17 +23,20 @@ abbrev pub setting_at : {C : Type 0} → (C → Refusals) → SingleEnvTypecheck
 setting_at meaning c =
     record { env = env_at c.env; functions = functions_of meaning c.extensions.now }
 
-abbrev pub infer_connective : Setting → Connective → Written → Source → Source → Caps → ℕ → List Finding → AnswerAndErrors
+abbrev pub infer_connective : Setting → Connective → Written → Source → Source → Caps → ℕ
+    → List Finding → AnswerAndErrors
 infer_connective s f m a b prior d es =
     after (expect s.env bool_types (place_of a) (infer s a prior (d + 1) es))
     (λ p es'. infer_right s.env f m (place_of b) prior p es' (λ known. infer s b known (d + 1)))
 
-abbrev pub infer_one : Setting → Written → Caps → Source → ℕ → OneOperand → List Finding → AnswerAndErrors
+abbrev pub infer_one : Setting → Written → Caps → Source → ℕ → OneOperand
+    → List Finding → AnswerAndErrors
 infer_one s m prior e d form =
     infer_one_operand s.env (form_of_one s.env m prior e form) (place_of e)
     (infer s e prior (d + 1))
 
-abbrev pub infer_two : Setting → Written → Source → Source → Caps → ℕ → TwoOperands → List Finding → AnswerAndErrors
+abbrev pub infer_two : Setting → Written → Source → Source → Caps → ℕ → TwoOperands
+    → List Finding → AnswerAndErrors
 infer_two s m a b prior d form =
     infer_two_operands s.env (form_of_two s.env m prior a b form) (place_of a) (place_of b)
     (infer s a prior (d + 1)) (infer s b prior (d + 1))

@@ -30,4 +30,7 @@ Promises (fails es) o = Unit {0}
 
 -- the promise is kept in each world of a reliable setting in which the slots of the condition are bound
 abbrev pub IsSoundPolicyCheck : Setting → Source → Verdict → Type 0
-IsSoundPolicyCheck s e v = IsReliable s → (world : World) → IsWorldOf s world → SlotsBound world.slots e → Promises v (eval world e)
+IsSoundPolicyCheck s e v =
+    IsReliable s
+    → (world : World) → IsWorldOf s world → SlotsBound world.slots e
+    → Promises v (eval world e)

@@ -51,16 +51,21 @@ IsTrueOutcome (Fails f) = ⊥
 -- ---- type soundness with capabilities
 
 -- what is promised of an expression in a world, where some capabilities are known
-pub record IsSoundAt (s : Setting) (world : World) (e : Source) (prior : Caps) (d : ℕ) : Type 0 where
+pub record IsSoundAt (s : Setting) (world : World) (e : Source) (prior : Caps)
+    (d : ℕ) : Type 0 where
   -- a value has the type that was found, also that of a refused expression
-  pub typed : (t : Ty) (c : Caps) (x : TypedTree) → Derives s e prior d t c x → HasFound (annotation x) (eval world e)
-  pub recovered : (x : TypedTree) (es : List Finding) → Recovers s e prior d x es → HasFound (annotation x) (eval world e)
+  pub typed : (t : Ty) (c : Caps) (x : TypedTree) → Derives s e prior d t c x
+      → HasFound (annotation x) (eval world e)
+  pub recovered : (x : TypedTree) (es : List Finding) → Recovers s e prior d x es
+      → HasFound (annotation x) (eval world e)
   -- what has a type gives a value or fails in an allowed way
   pub safe : (t : Ty) (c : Caps) (x : TypedTree) → Derives s e prior d t c x → IsSafe (eval world e)
   -- what it hands on holds where it is true
-  pub caps_hold_if_true : (t : Ty) (c : Caps) (x : TypedTree) → Derives s e prior d t c x → IsTrueOutcome (eval world e) → AllHold world c
+  pub caps_hold_if_true : (t : Ty) (c : Caps) (x : TypedTree) → Derives s e prior d t c x
+      → IsTrueOutcome (eval world e) → AllHold world c
   -- what an expression of the type True hands on holds whether or not it is evaluated
-  pub caps_hold_at_true : (c : Caps) (x : TypedTree) → Derives s e prior d (TBool True) c x → AllHold world c
+  pub caps_hold_at_true : (c : Caps) (x : TypedTree) → Derives s e prior d (TBool True) c x
+      → AllHold world c
 
 -- a world in which typing by this setting can be relied on
 pub record IsWorldOf (s : Setting) (world : World) : Type 0 where
@@ -78,4 +83,9 @@ pub record IsReliable (s : Setting) : Type 0 where
 -- what has a type does not go wrong, by a schema and a table without faults
 abbrev pub TypeSoundness : Type 0
 TypeSoundness =
-    (s : Setting) (world : World) → has_fault s.env.schema ≡ false → table_fault s.functions ≡ None → IsReliable s → IsWorldOf s world → (e : Source) → SlotsBound world.slots e → (prior : Caps) (d : ℕ) → AllHold world prior → IsSoundAt s world e prior d
+    (s : Setting) (world : World)
+    → has_fault s.env.schema ≡ false → table_fault s.functions ≡ None
+    → IsReliable s → IsWorldOf s world
+    → (e : Source) → SlotsBound world.slots e
+    → (prior : Caps) (d : ℕ) → AllHold world prior
+    → IsSoundAt s world e prior d

@@ -32,7 +32,8 @@ typed_as t m = record { ty = t; at = m }
 
 -- the tree of a typed expression of the program
 abbrev pub typed_tree : Expr (Option CedarType) → TypedTree
-typed_tree = tree_with (λ t l p. record { ty = option_map ty_of t; at = record { place = l; names = p } })
+typed_tree =
+    tree_with (λ t l p. record { ty = option_map ty_of t; at = record { place = l; names = p } })
 
 -- the mark at the root
 abbrev pub mark_of : {D : Type 0} → Tree D → D
@@ -88,7 +89,9 @@ without_type e = with_mark (untyped (mark_of e).at) e
 
 -- the same at another place
 abbrev pub at_place : Option Loc → TypedTree → TypedTree
-at_place l e = with_mark (record { ty = annotation e; at = record { place = l; names = (mark_of e).at.names } }) e
+at_place l e =
+    with_mark
+    (record { ty = annotation e; at = record { place = l; names = (mark_of e).at.names } }) e
 
 -- an expression's form alone
 abbrev pub form_of : Source → Shape

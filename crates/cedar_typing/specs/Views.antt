@@ -166,7 +166,8 @@ operands_of e =
 
 -- one more operand after others: where it has no part, it is too deep
 abbrev pub with_element : Operands → Option Part → Operands
-with_element (all_typed succeeded xs) (Some p) = all_typed (p.succeeded && succeeded) (xs ++ p.tree ∷ [])
+with_element (all_typed succeeded xs) (Some p) =
+    all_typed (p.succeeded && succeeded) (xs ++ p.tree ∷ [])
 with_element (all_typed succeeded xs) None = cut_after xs
 with_element (cut_after xs) p = cut_after xs
 

@@ -37,7 +37,8 @@ pub struct ValidatorSchema {
     pub(crate) actions: ActionTable,
     pub(crate) environments: Vec<UnlinkedRequestEnv>,
     pub ghost faultless: { has_fault (schema_in types actions) ≡ false },
-    pub ghost listed: { ∥ map declared_env environments.items ≡ environments_of (actions_in actions) ∥₁ },
+    pub ghost listed: { ∥ map declared_env environments.items
+        ≡ environments_of (actions_in actions) ∥₁ },
 }
 
 #[tactic(auto, unfolding(crate::specs::SchemaContents::schema_of))]
@@ -55,8 +56,10 @@ impl ValidatorSchema {
         actions: Vec<ValidatorActionId>,
     ) -> Result<ValidatorSchema, SchemaError>
         ensures made { IfOk result (λ s. schema_of s ≡ declared entity_types.items actions.items) }
-        ensures faultless { IfOk result (λ s. first_fault (declared entity_types.items actions.items) ≡ None) }
-        ensures refused { IfErr result (λ e. (e ≡ SchemaError.Memory alloc_error) ⊎ (first_fault (declared entity_types.items actions.items) ≡ Some e)) }
+        ensures faultless { IfOk result (λ s.
+            first_fault (declared entity_types.items actions.items) ≡ None) }
+        ensures refused { IfErr result (λ e. (e ≡ SchemaError.Memory alloc_error)
+            ⊎ (first_fault (declared entity_types.items actions.items) ≡ Some e)) }
     {
         let Some(types) = EntityTypeTable::new(alloc, entity_types)? else {
             return Err(SchemaError::DuplicateEntityType);

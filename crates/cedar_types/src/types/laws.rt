@@ -18,7 +18,10 @@ pub fn comparisons_of_capabilities()
 /// Linking twice is the last linking, what requests are about does not depend on slots, and the environment of undeclared
 /// actions stays as it is.
 pub fn linking_of_slots()
-    ensures twice { (e : RequestEnv) (p q r s : Option EntityType) → linked (linked e p q) r s ≡ linked e r s }
-    ensures requests { (e : RequestEnv) (p q : Option EntityType) → request_in (linked e p q) ≡ request_in e }
-    ensures undeclared { (p q : Option EntityType) → linked UndeclaredAction p q ≡ UndeclaredAction }
+    ensures twice { (e : RequestEnv) (p q r s : Option EntityType)
+        → linked (linked e p q) r s ≡ linked e r s }
+    ensures requests { (e : RequestEnv) (p q : Option EntityType)
+        → request_in (linked e p q) ≡ request_in e }
+    ensures undeclared { (p q : Option EntityType)
+        → linked UndeclaredAction p q ≡ UndeclaredAction }
 {}

@@ -128,7 +128,8 @@ impl<'a> RequestEnv<'a> {
         alloc: Global,
         schema: &ValidatorSchema,
     ) -> Result<Option<CedarType>, AllocError>
-        ensures { IfOk result (λ t. option_map ty_of t ≡ action_ty (schema_of schema.now) (env_of self.now)) }
+        ensures { IfOk result (λ t.
+            option_map ty_of t ≡ action_ty (schema_of schema.now) (env_of self.now)) }
     {
         match self {
             RequestEnv::DeclaredAction { action, .. } => {

@@ -40,7 +40,8 @@ FitsSlot (Some p) (Some u) = u.entity_type ≡ p
 
 -- the environment fits a request and its slots; that of undeclared actions fits none
 abbrev pub Fits : Env → Request → Slots → Type 0
-Fits (Declared d ps rs) r slots = FitsRequest d r × FitsSlot ps (slots SlotId.Principal) × FitsSlot rs (slots SlotId.Resource)
+Fits (Declared d ps rs) r slots =
+    FitsRequest d r × FitsSlot ps (slots SlotId.Principal) × FitsSlot rs (slots SlotId.Resource)
 Fits Undeclared r slots = ⊥
 
 -- a request of some environment of the schema
@@ -91,13 +92,17 @@ abbrev mutual
 
 -- some type or some action is external
 abbrev pub has_external : Schema → Bool
-has_external s = list_any (λ (t : DeclaredType). is_external_kind t.kind) s.types || list_any (λ (a : DeclaredAction). not (is_some a.applies_to)) s.actions
+has_external s =
+    list_any (λ (t : DeclaredType). is_external_kind t.kind) s.types
+    || list_any (λ (a : DeclaredAction). not (is_some a.applies_to)) s.actions
 
 -- whatever the arguments, a value that a function of the table gives is of its return type; and the same types are compared
 -- by `<` and `<=`
 pub record KeepsTable (t : ExtensionTable) (i : Interpretation) : Type 0 where
-  pub returns : (n : Path) (f : ExtensionFunction) → function_named n t.functions ≡ Some f → (vs : Values) (v : Value) → call_value i.calls n vs ≡ Some v → HasType f.return_type v
-  pub overloaded_types : (p : Path) → list_any (path_eq p) i.overloaded_types ≡ list_any (path_eq p) t.overloaded_types
+  pub returns : (n : Path) (f : ExtensionFunction) → function_named n t.functions ≡ Some f
+      → (vs : Values) (v : Value) → call_value i.calls n vs ≡ Some v → HasType f.return_type v
+  pub overloaded_types : (p : Path)
+      → list_any (path_eq p) i.overloaded_types ≡ list_any (path_eq p) t.overloaded_types
 
 -- ---- capabilities
 

@@ -65,7 +65,8 @@ agree_at ts es k = agree (test_at k ts) (entry_at k es)
 
 -- a record with the keys of the tests and no other, each with a value that passes the key's test
 abbrev pub is_record_of : List (Text × (Value → Bool)) → Value → Bool
-is_record_of ts (VRecord es) = list_all (agree_at ts es) (map (λ t. t.0) ts) && list_all (agree_at ts es) (entry_keys es)
+is_record_of ts (VRecord es) =
+    list_all (agree_at ts es) (map (λ t. t.0) ts) && list_all (agree_at ts es) (entry_keys es)
 is_record_of ts v = false
 
 abbrev mutual
@@ -102,7 +103,8 @@ pub record EqualityIsAnEquivalence : Type 0 where
   -- where one value equals another, the other equals the one
   pub symmetric : (v w : Value) → same_value v w ≡ true → same_value w v ≡ true
   -- what equals an equal of a value equals the value
-  pub transitive : (u v w : Value) → same_value u v ≡ true → same_value v w ≡ true → same_value u w ≡ true
+  pub transitive : (u v w : Value) → same_value u v ≡ true → same_value v w ≡ true
+      → same_value u w ≡ true
 
 -- the order of the two values never matters
 abbrev pub EqualityHasNoOrder : Type 0

@@ -40,7 +40,9 @@ long_limit = pos (2 ^ 63)
 
 -- a number of 64 bits, or overflow
 abbrev pub in_range : ℤ → Outcome
-in_range n = if int_le (neg_ℤ long_limit) n && int_lt n long_limit then Gives (VLong n) else Fails Overflow
+in_range n =
+    if int_le (neg_ℤ long_limit) n && int_lt n long_limit then Gives (VLong n)
+    else Fails Overflow
 
 abbrev pub negation : Value → Outcome
 negation (VLong n) = in_range (neg_ℤ n)
@@ -54,7 +56,10 @@ on_longs f v w = Fails TypeFailure
 -- `<` or `<=`: of two longs by the test, of two values of one overloaded type by the pairs
 abbrev pub compared : List Path → (ℤ → ℤ → Bool) → List (Value × Value) → Value → Value → Outcome
 compared types test pairs (VLong m) (VLong n) = Gives (VBool (test m n))
-compared types test pairs (VExtension n s) (VExtension m t) = if path_eq n m && list_any (path_eq n) types then Gives (VBool (has_pair pairs (VExtension n s) (VExtension m t))) else Fails TypeFailure
+compared types test pairs (VExtension n s) (VExtension m t) =
+    if path_eq n m && list_any (path_eq n) types
+    then Gives (VBool (has_pair pairs (VExtension n s) (VExtension m t)))
+    else Fails TypeFailure
 compared types test pairs v w = Fails TypeFailure
 
 -- ---- sets
@@ -103,7 +108,9 @@ is_some_entity v = false
 -- u in an entity, or in some member of a set of entities
 abbrev pub entity_in : Store → Uid → Value → Outcome
 entity_in store u (VEntity v) = Gives (VBool (is_in store u v))
-entity_in store u (VSet vs) = if all_values is_some_entity vs then Gives (VBool (any_value (is_in_entity store u) vs)) else Fails TypeFailure
+entity_in store u (VSet vs) =
+    if all_values is_some_entity vs then Gives (VBool (any_value (is_in_entity store u) vs))
+    else Fails TypeFailure
 entity_in store u w = Fails TypeFailure
 
 abbrev pub value_in : Store → Value → Value → Outcome
@@ -138,7 +145,8 @@ get store x v = Fails TypeFailure
 -- extended `has`: the first attribute that is not there gives false; `has` goes on with the value of each but the last
 abbrev pub path_test : Store → Text → List Text → Value → Test
 path_test store x [] = has_test store x
-path_test store x (y ∷ ys) = λ v. and_test (has_test store x v) (then_test (get store x v) (path_test store y ys))
+path_test store x (y ∷ ys) =
+    λ v. and_test (has_test store x v) (then_test (get store x v) (path_test store y ys))
 
 abbrev pub entity_has_tag : Option Entity → Text → Bool
 entity_has_tag None x = false
@@ -238,9 +246,11 @@ module _ {D : Type 0} (world : World) where
     eval (or m a b) = of_test (or_test (test_of (eval a)) (test_of (eval b)))
     -- an operator is applied to the values of its operands, from left to right
     eval (unary m o a) = unary_outcome o (eval a)
-    eval (binary m o a b) = on_value (eval a) (λ x. on_value (eval b) (binary_outcome world.store world.functions o x))
+    eval (binary m o a b) =
+        on_value (eval a) (λ x. on_value (eval b) (binary_outcome world.store world.functions o x))
     -- a call gives what the function gives for the values of the arguments
-    eval (call m f ts) = on_values (eval_all ts) (λ vs. called (call_value world.functions.calls f vs))
+    eval (call m f ts) =
+        on_values (eval_all ts) (λ vs. called (call_value world.functions.calls f vs))
     -- attributes are read of the value of the base, or tested
     eval (get_attr m a x) = on_value (eval a) (get world.store x)
     eval (has_attr m a x) = of_test (then_test (eval a) (has_test world.store x))

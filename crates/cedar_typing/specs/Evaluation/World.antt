@@ -65,7 +65,9 @@ pub data Outcome : Type 0 where
 -- what the first call of a function with equal arguments gives; a function is known by its calls alone
 abbrev pub call_value : List Call → Path → Values → Option Value
 call_value [] f vs = None
-call_value (c ∷ cs) f vs = if path_eq f c.function && same_values vs c.arguments then Some c.value else call_value cs f vs
+call_value (c ∷ cs) f vs =
+    if path_eq f c.function && same_values vs c.arguments then Some c.value
+    else call_value cs f vs
 
 -- whether a pair of equal values is among the pairs
 abbrev pub has_pair : List (Value × Value) → Value → Value → Bool

@@ -26,9 +26,23 @@ use Rattle.cedar_typing.specs.Soundness.{IsTrueOutcome}
 -- `permit(principal .., action, resource ..)`, with a rest or without
 abbrev pub template : Scope → Scope → Option Shape → PlainTemplate
 template p r None =
-    record { id = codes "policy0"; place = (node 0).place; principal = p; action = any_action; resource = r; rest = None }
+    record {
+      id = codes "policy0";
+      place = (node 0).place;
+      principal = p;
+      action = any_action;
+      resource = r;
+      rest = None;
+    }
 template p r (Some e) =
-    record { id = codes "policy0"; place = (node 0).place; principal = p; action = any_action; resource = r; rest = Some (numbered e) }
+    record {
+      id = codes "policy0";
+      place = (node 0).place;
+      principal = p;
+      action = any_action;
+      resource = r;
+      rest = Some (numbered e);
+    }
 
 abbrev pub a_user_type : PlacedType
 a_user_type = record { name = user; place = None }
@@ -64,7 +78,11 @@ acting_schema = record sample_schema {
         name = greet;
         descendants = [];
         applies_to =
-            Some (record { principals = greet.entity_type ∷ []; resources = user ∷ []; context = a_context });
+            Some (record {
+              principals = greet.entity_type ∷ [];
+              resources = user ∷ [];
+              context = a_context;
+            });
       }
       ∷ [];
 }
@@ -77,17 +95,21 @@ pub record EnvironmentsAre : Type 0 where
   -- no slot: no link
   pub no_slot : checked_envs sample_schema Strict (template any any None) ≡ greets None None ∷ []
   -- `principal == ?principal`: the variable's own type
-  pub equal_to : checked_envs sample_schema Strict (template (equal to_slot) any None) ≡ greets (Some user) None ∷ []
+  pub equal_to : checked_envs sample_schema Strict (template (equal to_slot) any None)
+      ≡ greets (Some user) None ∷ []
   -- `principal in ?principal`: the types above it, of which User is one, and User itself
   pub within_it : checked_envs sample_schema Strict (template (within to_slot) any None)
       ≡ greets (Some user) None ∷ greets (Some user) None ∷ []
   -- `resource is User in ?resource`: the same
-  pub typed_within_it : checked_envs sample_schema Strict (template any (typed_within a_user_type to_slot) None)
+  pub typed_within_it : checked_envs sample_schema Strict
+      (template any (typed_within a_user_type to_slot) None)
       ≡ greets None (Some user) ∷ greets None (Some user) ∷ []
   -- no constraint, or `is User`, and the slot in the rest: each declared type
-  pub anywhere : checked_envs sample_schema Strict (template any any (Some (slot_is_robot SlotId.Principal)))
+  pub anywhere : checked_envs sample_schema Strict
+      (template any any (Some (slot_is_robot SlotId.Principal)))
       ≡ greets (Some user) None ∷ greets (Some robot) None ∷ []
-  pub anywhere_typed : checked_envs sample_schema Strict (template (typed a_user_type) any (Some (slot_is_robot SlotId.Principal)))
+  pub anywhere_typed : checked_envs sample_schema Strict
+      (template (typed a_user_type) any (Some (slot_is_robot SlotId.Principal)))
       ≡ greets (Some user) None ∷ greets (Some robot) None ∷ []
   -- both slots: in all ways
   pub both : checked_envs sample_schema Strict (template any any (Some some_slot_is_robot))
@@ -103,7 +125,9 @@ pub record EnvironmentsAre : Type 0 where
 
 -- `permit(principal == User::"alice", action, resource == User::"bob") when { ?principal is Robot || ?resource is Robot }`
 abbrev pub robots_template : PlainTemplate
-robots_template = template (equal (to_entity (the_entity alice))) (equal (to_entity (the_entity bob))) (Some some_slot_is_robot)
+robots_template =
+    template (equal (to_entity (the_entity alice))) (equal (to_entity (the_entity bob)))
+    (Some some_slot_is_robot)
 
 -- `?principal` is bound to alice, `?resource` to a robot
 abbrev pub robot_slots : Slots
@@ -117,7 +141,8 @@ robot_greeting = record greeting { slots = robot_slots }
 -- true
 pub record SlotsInTheRestAreNot : Type 0 where
   pub faultless : IsFaultless (sample Strict)
-  pub environments : checked_envs sample_schema Strict robots_template ≡ greets (Some user) (Some user) ∷ []
+  pub environments : checked_envs sample_schema Strict robots_template
+      ≡ greets (Some user) (Some user) ∷ []
   pub irrelevant : IsIrrelevantInAll (sample Strict) robots_template
   pub request : ConformingRequest sample_schema robot_greeting.request
   pub store : ConformingStore sample_schema robot_greeting.store
@@ -128,5 +153,8 @@ pub record SlotsInTheRestAreNot : Type 0 where
 pub record OwnEnvMayBeMissing : Type 0 where
   pub faultless : has_fault acting_schema ≡ false
   pub declared : IsOneOf acting_env (environments_of acting_schema.actions)
-  pub missing : IsOneOf (own_env (template any any (Some (slot_is_robot SlotId.Principal))) acting_env)
-      (checked_envs acting_schema Strict (template any any (Some (slot_is_robot SlotId.Principal)))) → ⊥
+  pub missing : IsOneOf
+      (own_env (template any any (Some (slot_is_robot SlotId.Principal))) acting_env)
+      (checked_envs acting_schema Strict
+      (template any any (Some (slot_is_robot SlotId.Principal))))
+      → ⊥

@@ -35,7 +35,8 @@ pub record IsAsAsked (world : World) : Type 0 where
 -- schema does not have: what has no type is no error of its own, and the whole is False
 abbrev pub of_unknown_type : PlainTemplate
 of_unknown_type =
-    policy_when (and tt (less (the (record { entity_type = group; eid = codes "a" })) one) false_lit)
+    policy_when
+    (and tt (less (the (record { entity_type = group; eid = codes "a" })) one) false_lit)
 
 abbrev pub of_unknown_action : PlainTemplate
 of_unknown_action = policy_when (and tt (less (the wave) one) false_lit)

@@ -21,24 +21,30 @@ infer_constant_test m a b c =
 abbrev pub infer_open_test : TypeEnv → Written → Part → Part → Part → List Finding → AnswerAndErrors
 infer_open_test env m a b e es = (
   answer_if
-      (a.succeeded && b.succeeded && e.succeeded && is_some (joined env.mode (annotation b.tree) (annotation e.tree)))
-      (if_then_else (typed_as (joined env.mode (annotation b.tree) (annotation e.tree)) m) a.tree b.tree e.tree)
+      (a.succeeded && b.succeeded && e.succeeded
+      && is_some (joined env.mode (annotation b.tree) (annotation e.tree)))
+      (if_then_else (typed_as (joined env.mode (annotation b.tree) (annotation e.tree)) m)
+      a.tree b.tree e.tree)
       (intersection e.capabilities (union a.capabilities b.capabilities)),
   es ++ join_errors env m.place Conditional (annotation b.tree) (annotation e.tree),
 )
 
 -- the same, where a branch may be cut
-abbrev pub infer_open_parts : TypeEnv → Written → Part → Option Part → Option Part → List Finding → AnswerAndErrors
+abbrev pub infer_open_parts : TypeEnv → Written → Part → Option Part → Option Part → List Finding
+    → AnswerAndErrors
 infer_open_parts env m a (Some b) (Some e) es = infer_open_test env m a b e es
 infer_open_parts env m a b e es = (limit, es)
 
 -- both branches are typed, one after the other
-abbrev pub infer_open_branches : TypeEnv → Written → Part → AnswerAndErrors → (List Finding → AnswerAndErrors) → AnswerAndErrors
+abbrev pub infer_open_branches : TypeEnv → Written → Part → AnswerAndErrors
+    → (List Finding → AnswerAndErrors) → AnswerAndErrors
 infer_open_branches env m a b otherwise =
     infer_open_parts env m a (part_from b.0) (part_from (otherwise b.1).0) (otherwise b.1).1
 
 -- a typed test, and branches that are still to be typed
-abbrev pub infer_branches : TypeEnv → Written → Caps → Part → List Finding → (Caps → List Finding → AnswerAndErrors) → (List Finding → AnswerAndErrors) → AnswerAndErrors
+abbrev pub infer_branches : TypeEnv → Written → Caps → Part → List Finding
+    → (Caps → List Finding → AnswerAndErrors) → (List Finding → AnswerAndErrors)
+    → AnswerAndErrors
 infer_branches env m prior a es branch otherwise =
     if annotation_passes is_true (annotation a.tree)
     then after (any_part (branch (union prior a.capabilities) es))

@@ -34,14 +34,18 @@ with_operand p (all_typed later xs) = all_typed (later && p.succeeded) (p.tree �
 with_operand p (cut_after xs) = cut_after (p.tree ∷ xs)
 
 -- a typed operand, and those after it
-abbrev pub infer_rest : Bool → Option Part → List Finding → (List Finding → OperandsAndErrors) → OperandsAndErrors
+abbrev pub infer_rest : Bool → Option Part → List Finding → (List Finding → OperandsAndErrors)
+    → OperandsAndErrors
 infer_rest goes_on (Some p) es rest = (with_operand p (rest es).0, (rest es).1)
 infer_rest true None es rest = (cut_after [], (rest es).1)
 infer_rest false None es rest = (cut_after [], es)
 
-abbrev pub infer_one_more : TypeEnv → Bool → Expectation → Option Loc → (List Finding → AnswerAndErrors) → (List Finding → OperandsAndErrors) → List Finding → OperandsAndErrors
+abbrev pub infer_one_more : TypeEnv → Bool → Expectation → Option Loc
+    → (List Finding → AnswerAndErrors) → (List Finding → OperandsAndErrors)
+    → List Finding → OperandsAndErrors
 infer_one_more env goes_on q l first rest es =
-    infer_rest goes_on (expect_operand env q l (first es)).0 (expect_operand env q l (first es)).1 rest
+    infer_rest goes_on
+    (expect_operand env q l (first es)).0 (expect_operand env q l (first es)).1 rest
 
 -- ---- the whole
 
@@ -66,17 +70,22 @@ abbrev pub infer_eager : Form → (List Finding → OperandsAndErrors) → List 
 infer_eager f operands es = infer_form f (operands es).0 (operands es).1
 
 -- a form with one operand, at l
-abbrev pub infer_one_operand : TypeEnv → Form → Option Loc → (List Finding → AnswerAndErrors) → List Finding → AnswerAndErrors
+abbrev pub infer_one_operand : TypeEnv → Form → Option Loc
+    → (List Finding → AnswerAndErrors) → List Finding → AnswerAndErrors
 infer_one_operand env f l operand =
     infer_eager f (infer_one_more env f.goes_on (first_expectation f.expects) l operand infer_none)
 
 -- a form with two operands, at l and at l'
-abbrev pub infer_two_operands : TypeEnv → Form → Option Loc → Option Loc → (List Finding → AnswerAndErrors) → (List Finding → AnswerAndErrors) → List Finding → AnswerAndErrors
+abbrev pub infer_two_operands : TypeEnv → Form → Option Loc → Option Loc
+    → (List Finding → AnswerAndErrors) → (List Finding → AnswerAndErrors)
+    → List Finding → AnswerAndErrors
 infer_two_operands env f l l' left right =
     infer_eager f
     (infer_one_more env f.goes_on (first_expectation f.expects) l left
-    (infer_one_more env f.goes_on (first_expectation (later_expectations f.expects)) l' right infer_none))
+    (infer_one_more env f.goes_on (first_expectation (later_expectations f.expects)) l' right
+    infer_none))
 
 -- a form with any number of operands
-abbrev pub infer_operand_list : Form → (Bool → List Expectation → List Finding → OperandsAndErrors) → List Finding → AnswerAndErrors
+abbrev pub infer_operand_list : Form → (Bool → List Expectation → List Finding → OperandsAndErrors)
+    → List Finding → AnswerAndErrors
 infer_operand_list f operands = infer_eager f (operands f.goes_on f.expects)

@@ -49,7 +49,8 @@ abbrev pub as_failed_untyped : Part → Part
 as_failed_untyped p = part_with false no_caps (without_type p.tree)
 
 -- a part at l that has to be of one of the types ts, by the type at its root
-abbrev pub expect_type : TypeEnv → List Ty → Option Loc → Part → List Finding → Option Ty → PartAndErrors
+abbrev pub expect_type : TypeEnv → List Ty → Option Loc → Part → List Finding → Option Ty
+    → PartAndErrors
 expect_type env ts l p es None = (Some (as_failed p), es)
 expect_type env ts l p es (Some t) =
     if accepts ts t then (Some p, es)
@@ -68,7 +69,8 @@ any_part o = (part_from o.0, o.1)
 
 -- ---- going on
 
-abbrev pub after_part : Option Part → List Finding → (Part → List Finding → AnswerAndErrors) → AnswerAndErrors
+abbrev pub after_part : Option Part → List Finding → (Part → List Finding → AnswerAndErrors)
+    → AnswerAndErrors
 after_part None es f = (limit, es)
 after_part (Some p) es f = f p es
 

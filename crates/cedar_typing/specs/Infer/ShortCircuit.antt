@@ -20,7 +20,8 @@ infer_sides f m a b (Some s) (Some t) =
 infer_sides f m a b s t = failure (f.node (typed (TBool AnyBool) m) a.tree b.tree)
 
 -- a typed left side, and a right one at l that is still to be typed
-abbrev pub infer_right : TypeEnv → Connective → Written → Option Loc → Caps → Part → List Finding → (Caps → List Finding → AnswerAndErrors) → AnswerAndErrors
+abbrev pub infer_right : TypeEnv → Connective → Written → Option Loc → Caps → Part → List Finding
+    → (Caps → List Finding → AnswerAndErrors) → AnswerAndErrors
 infer_right env f m l prior a es right =
     if annotation_passes f.ends (annotation a.tree)
     then (answer_if a.succeeded (at_place m.place a.tree) (f.ended_caps a.capabilities), es)

@@ -13,8 +13,10 @@ use Rattle.cedar_typing.specs.TypedExpr.{Source, place_of}
 -- the form of an operator on a and b, where prior is known
 abbrev pub binary_form : TypeEnv → Written → Caps → Source → Source → BinaryOp → Form
 binary_form env m prior a b BinaryOp.Eq = equality_form env m a b
-binary_form env m prior a b BinaryOp.Less = comparison_form env m (place_of a) (place_of b) BinaryOp.Less
-binary_form env m prior a b BinaryOp.LessEq = comparison_form env m (place_of a) (place_of b) BinaryOp.LessEq
+binary_form env m prior a b BinaryOp.Less =
+    comparison_form env m (place_of a) (place_of b) BinaryOp.Less
+binary_form env m prior a b BinaryOp.LessEq =
+    comparison_form env m (place_of a) (place_of b) BinaryOp.LessEq
 binary_form env m prior a b BinaryOp.Add = arithmetic_form m BinaryOp.Add
 binary_form env m prior a b BinaryOp.Sub = arithmetic_form m BinaryOp.Sub
 binary_form env m prior a b BinaryOp.Mul = arithmetic_form m BinaryOp.Mul

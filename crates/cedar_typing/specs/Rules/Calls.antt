@@ -53,7 +53,8 @@ literal_faults mode check xs =
     else []
 
 -- the errors of a call of f, or of a name without a function: each that applies
-abbrev pub call_errors : TypeEnv → Option Loc → Option ExtensionFunction → Path → List Source → List Finding
+abbrev pub call_errors : TypeEnv → Option Loc → Option ExtensionFunction → Path → List Source
+    → List Finding
 call_errors env l None n xs = finding env l (undefined_function n) ∷ []
 call_errors env l (Some f) n xs =
     map (finding env l)
@@ -97,7 +98,8 @@ form_of_call m n t qs es = record {
 }
 
 -- the same by the function, if there is one
-abbrev pub form_of_function : TypeEnv → Written → Path → Option ExtensionFunction → List Source → Form
+abbrev pub form_of_function : TypeEnv → Written → Path → Option ExtensionFunction → List Source
+    → Form
 form_of_function env m n f xs =
     form_of_call m n (return_type f)
     (expected_arguments (types_wanted f (call_errors env m.place f n xs)) xs)

@@ -52,7 +52,8 @@ abbrev pub go_on_unless_false : Ty → Progress → (Progress → Decision) → 
 go_on_unless_false u p next = if is_false u then gives (TBool False) no_caps else next p
 
 -- a step of a type that is neither a record nor an entity is an error there
-abbrev pub step : TypeEnv → Option Loc → Cap → Bool → Ty → Text → Progress → (Progress → Decision) → Decision
+abbrev pub step : TypeEnv → Option Loc → Cap → Bool → Ty → Text → Progress
+    → (Progress → Decision) → Decision
 step env l there known s x p next =
     if is_object s
     then go_on_unless_false (step_type env s x known (attribute_type env.schema s x))
@@ -60,7 +61,8 @@ step env l there known s x p next =
     (step_earns (step_type env s x known (attribute_type env.schema s x)) there
     (attribute_type env.schema s x)))
     next
-    else refuses (Some (TBool AnyBool)) (finding env l (unexpected_type (in_order object_types) s) ∷ [])
+    else refuses (Some (TBool AnyBool))
+    (finding env l (unexpected_type (in_order object_types) s) ∷ [])
 
 -- ---- from step to step
 
@@ -78,16 +80,19 @@ abbrev pub made_up : Source → Text → Source
 made_up e x = get_attr (record { place = None; names = no_name }) e x
 
 -- a step that is not the last, and the access after it: where both pass, the type of `e.x` is known
-abbrev pub link : TypeEnv → Option Loc → Caps → Source → Ty → Text → Progress → (Ty → Progress → Decision) → Decision
+abbrev pub link : TypeEnv → Option Loc → Caps → Source → Ty → Text → Progress
+    → (Ty → Progress → Decision) → Decision
 link env l prior e s x p next =
     step env l (attribute_of e x) (union prior p.earned (attribute_of e x)) s x p
     (λ q. after_access
-    (get_decides env l x (union prior q.earned (attribute_of e x)) s (attribute_type env.schema s x))
+    (get_decides env l x (union prior q.earned (attribute_of e x)) s
+    (attribute_type env.schema s x))
     (λ t. next t q))
 
 -- the steps from `e has x` on, where e has the type s: errors of x stand at l, those of later attributes
 -- at l'. What is known is what was known before, and what this chain has earned
-abbrev pub chain : TypeEnv → Option Loc → Option Loc → Caps → List Text → Source → Ty → Text → Progress → Decision
+abbrev pub chain : TypeEnv → Option Loc → Option Loc → Caps → List Text → Source → Ty → Text
+    → Progress → Decision
 chain env l l' prior [] e s x p =
     step env l (attribute_of e x) (union prior p.earned (attribute_of e x)) s x p end_of_chain
 chain env l l' prior (y ∷ ys) e s x p =
@@ -95,11 +100,13 @@ chain env l l' prior (y ∷ ys) e s x p =
 
 -- ---- the form
 
-abbrev pub chain_table : TypeEnv → Option Loc → Caps → Source → Text → List Text → Option Ty → Decision
+abbrev pub chain_table : TypeEnv → Option Loc → Caps → Source → Text → List Text → Option Ty
+    → Decision
 chain_table env l prior e x xs None = refuses (Some (TBool AnyBool)) []
 chain_table env l prior e x xs (Some s) = chain env (place_of e) l prior xs e s x no_steps
 
 -- `e has x.y` of a record or an entity: whether e has x, e.x has y, and so on
 abbrev pub chain_form : TypeEnv → Written → Caps → Source → Text → List Text → Form
 chain_form env m prior e x xs =
-    on_one m (Some object_types) (chain_table env m.place prior e x xs) (λ k a. ext_has_attr k a x xs)
+    on_one m (Some object_types) (chain_table env m.place prior e x xs)
+    (λ k a. ext_has_attr k a x xs)

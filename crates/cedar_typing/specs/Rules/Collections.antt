@@ -28,7 +28,8 @@ all_types (t ∷ ts) = with_type t (all_types ts)
 -- by the bound of the types of the elements: where there is none, an error at the whole
 abbrev pub set_by_bound : TypeEnv → Option Loc → List Ty → Option Ty → Decision
 set_by_bound env l ts (Some u) = gives (TSet u) no_caps
-set_by_bound env l ts None = refuses None (finding env l (incompatible_types (in_order ts) Set) ∷ [])
+set_by_bound env l ts None =
+    refuses None (finding env l (incompatible_types (in_order ts) Set) ∷ [])
 
 -- the bound is folded from the first element on; a type that is missing is no other error
 abbrev pub set_of_types : TypeEnv → Option Loc → Option (List Ty) → Decision

@@ -17,7 +17,8 @@ use Rattle.cedar_typing.specs.TypedExpr.{TypedTree, typed, typed_as, annotation}
 
 -- ---- the rules
 
-module _ (env : TypeEnv) (m : Written) (l : Option Loc) (A : Judgment) (B : Caps → Judgment) (E : Judgment) (prior : Caps) where
+module _ (env : TypeEnv) (m : Written) (l : Option Loc)
+    (A : Judgment) (B : Caps → Judgment) (E : Judgment) (prior : Caps) where
   -- the test, the first branch after a test that produces c, and the other branch, which knows
   -- nothing of the test, as it is evaluated where that is false
   abbrev pub Test : Bool → Caps → TypedTree → List Finding → Type 0
@@ -46,23 +47,28 @@ module _ (env : TypeEnv) (m : Written) (l : Option Loc) (A : Judgment) (B : Caps
 
   pub data IfRecovery : TypedTree → List Finding → Type 0 where
     -- the test is True, and it or the branch that stands for both failed: the branch's type, if it has one
-    if_true_recovered : {succeeded succeeded' : Bool} {c c' : Caps} {a b : TypedTree} {es es' : List Finding}
+    if_true_recovered : {succeeded succeeded' : Bool} {c c' : Caps} {a b : TypedTree}
+        {es es' : List Finding}
         → Test succeeded c a es → annotation_passes is_true (annotation a) ≡ true
         → Then c succeeded' c' b es' → (succeeded && succeeded') ≡ false
         → IfRecovery (if_then_else (typed_as (annotation b) m) a b b) (es ++ es')
     -- the test is False, and the same
-    if_false_recovered : {succeeded succeeded' : Bool} {c c' : Caps} {a e : TypedTree} {es es' : List Finding}
+    if_false_recovered : {succeeded succeeded' : Bool} {c c' : Caps} {a e : TypedTree}
+        {es es' : List Finding}
         → Test succeeded c a es → annotation_passes is_false (annotation a) ≡ true
         → Else succeeded' c' e es' → (succeeded && succeeded') ≡ false
         → IfRecovery (if_then_else (typed_as (annotation e) m) a e e) (es ++ es')
     -- it is neither, and a part failed or the branches have no bound
-    if_open_recovered : {succeeded succeeded' succeeded'' : Bool} {c c' c'' : Caps} {a b e : TypedTree} {es es' es'' : List Finding}
+    if_open_recovered : {succeeded succeeded' succeeded'' : Bool} {c c' c'' : Caps}
+        {a b e : TypedTree} {es es' es'' : List Finding}
         → Test succeeded c a es
         → annotation_passes is_true (annotation a) ≡ false
         → annotation_passes is_false (annotation a) ≡ false
         → Then c succeeded' c' b es' → Else succeeded'' c'' e es''
-        → (succeeded && succeeded' && succeeded'' && is_some (joined env.mode (annotation b) (annotation e))) ≡ false
-        → IfRecovery (if_then_else (typed_as (joined env.mode (annotation b) (annotation e)) m) a b e)
+        → (succeeded && succeeded' && succeeded''
+        && is_some (joined env.mode (annotation b) (annotation e))) ≡ false
+        → IfRecovery
+        (if_then_else (typed_as (joined env.mode (annotation b) (annotation e)) m) a b e)
         (es ++ es' ++ es'' ++ join_errors env m.place Conditional (annotation b) (annotation e))
 
   pub data IfCut : List Finding → Type 0 where
@@ -81,7 +87,8 @@ module _ (env : TypeEnv) (m : Written) (l : Option Loc) (A : Judgment) (B : Caps
         → annotation_passes is_true (annotation a) ≡ false
         → annotation_passes is_false (annotation a) ≡ false
         → (B (union prior c)).cuts es' → PartOrCut E es'' → IfCut (es ++ es' ++ es'')
-    if_else_cut : {succeeded succeeded' : Bool} {c c' : Caps} {a b : TypedTree} {es es' es'' : List Finding}
+    if_else_cut : {succeeded succeeded' : Bool} {c c' : Caps} {a b : TypedTree}
+        {es es' es'' : List Finding}
         → Test succeeded c a es
         → annotation_passes is_true (annotation a) ≡ false
         → annotation_passes is_false (annotation a) ≡ false

@@ -40,12 +40,14 @@ abbrev pub ExpectedOperand : TypeEnv → Expectation → Option Loc → Judgment
 ExpectedOperand env None l J = PartResult J
 ExpectedOperand env (Some ts) l J = Operand env ts l J
 
-pub data AlsoDerived (q : Expectation) (J : Judgment) (Js : Judgments) : List TypedTree → Type 0 where
+pub data AlsoDerived (q : Expectation) (J : Judgment) (Js : Judgments) :
+    List TypedTree → Type 0 where
   also_derived : {t : Ty} {c : Caps} {x : TypedTree} {xs : List TypedTree}
       → J.derives t c x → meets q t ≡ true → Js.derive xs → AlsoDerived q J Js (x ∷ xs)
 
 -- by what the operand gives
-pub data AlsoGiven (Gives : Giving) (Js : Judgments) : Bool → List TypedTree → List Finding → Type 0 where
+pub data AlsoGiven (Gives : Giving) (Js : Judgments) :
+    Bool → List TypedTree → List Finding → Type 0 where
   also_given : {succeeded later : Bool} {c : Caps} {x : TypedTree} {xs : List TypedTree}
       {es es' : List Finding}
       → Gives succeeded c x es → Js.give later xs es'
@@ -91,7 +93,8 @@ module _ (f : Form) (Js : Judgments) where
         → Js.give false xs es → f.decides (types_found xs) ≡ gives t c
         → EagerRecovery (f.node (typed (f.type_if_failed t) f.at) xs) es
     -- the table refuses: the type that stays, and its errors after those of the operands
-    table_refused : {succeeded : Bool} {t : Option Ty} {fs : List Finding} {xs : List TypedTree} {es : List Finding}
+    table_refused : {succeeded : Bool} {t : Option Ty} {fs : List Finding} {xs : List TypedTree}
+        {es : List Finding}
         → Js.give succeeded xs es → f.decides (types_found xs) ≡ refuses t fs
         → EagerRecovery (f.node (typed_as t f.at) xs) (es ++ fs)
 
@@ -108,7 +111,8 @@ one_operand_rules env f l J =
     eager_rules f (one_more env f.goes_on (first_expectation f.expects) l J no_operands)
 
 -- a form with two operands, at l and at l'
-abbrev pub two_operand_rules : TypeEnv → Form → Option Loc → Option Loc → Judgment → Judgment → Judgment
+abbrev pub two_operand_rules : TypeEnv → Form → Option Loc → Option Loc → Judgment → Judgment
+    → Judgment
 two_operand_rules env f l l' J J' =
     eager_rules f
     (one_more env f.goes_on (first_expectation f.expects) l J

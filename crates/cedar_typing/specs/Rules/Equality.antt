@@ -66,7 +66,8 @@ equality_form env m a b = record {
   goes_on = true;
   decides = λ ts.
       equality_decides env m.place
-      (equality_type (literal_of env.request_env a) (literal_of env.request_env b) (first_type ts) (second_type ts))
+      (equality_type (literal_of env.request_env a) (literal_of env.request_env b)
+      (first_type ts) (second_type ts))
       (first_type ts) (second_type ts);
   type_if_failed = λ t. t;
   at_limit = λ ts. [];

@@ -18,7 +18,8 @@ use Rattle.cedar_typing.specs.TypeTests.{long_types}
 -- `a + b`, `a - b`, `a * b` of two Longs: Long
 abbrev pub arithmetic_form : Written → BinaryOp → Form
 arithmetic_form m o =
-    on_two m (Some long_types) (Some long_types) (λ s t. gives TLong no_caps) (λ k a b. binary k o a b)
+    on_two m (Some long_types) (Some long_types)
+    (λ s t. gives TLong no_caps) (λ k a b. binary k o a b)
 
 -- ---- `<` and `<=`
 
@@ -46,7 +47,8 @@ incomparable env l l' s t =
     else if ty_eq t TLong then expected_at env l (TLong ∷ []) s ∷ []
     else if is_comparable env s then expected_at env l' (s ∷ []) t ∷ []
     else if is_comparable env t then expected_at env l (t ∷ []) s ∷ []
-    else expected_at env l (comparable_types env) s ∷ expected_at env l' (comparable_types env) t ∷ []
+    else expected_at env l (comparable_types env) s
+    ∷ expected_at env l' (comparable_types env) t ∷ []
 
 -- two Nevers fail without an error, and Bool stays; one comparable type passes
 abbrev pub compares : TypeEnv → Option Loc → Option Loc → Ty → Ty → Decision

@@ -101,7 +101,8 @@ disjunction = record {
 
 -- ---- the rules
 
-module _ (env : TypeEnv) (f : Connective) (m : Written) (l l' : Option Loc) (A : Judgment) (B : Caps → Judgment) (prior : Caps) where
+module _ (env : TypeEnv) (f : Connective) (m : Written) (l l' : Option Loc)
+    (A : Judgment) (B : Caps → Judgment) (prior : Caps) where
   -- what the left side gives, and the right one after a left one that produces c
   abbrev pub Left : Bool → Caps → TypedTree → List Finding → Type 0
   Left = Operand env bool_types l A
@@ -128,7 +129,8 @@ module _ (env : TypeEnv) (f : Connective) (m : Written) (l l' : Option Loc) (A :
         → Left false c a es → annotation_passes f.ends (annotation a) ≡ true
         → ShortCircuitRecovery (at_place m.place a) es
     -- a side failed
-    side_failed : {succeeded succeeded' : Bool} {c c' : Caps} {a b : TypedTree} {es es' : List Finding}
+    side_failed : {succeeded succeeded' : Bool} {c c' : Caps} {a b : TypedTree}
+        {es es' : List Finding}
         → Left succeeded c a es → annotation_passes f.ends (annotation a) ≡ false
         → Right c succeeded' c' b es' → (succeeded && succeeded') ≡ false
         → ShortCircuitRecovery

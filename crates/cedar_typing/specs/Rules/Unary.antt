@@ -34,7 +34,8 @@ negation_form m =
 -- `a.isEmpty()` of a set: Bool
 abbrev pub is_empty_form : Written → Form
 is_empty_form m =
-    on_one m (Some set_types) (λ s. gives (TBool AnyBool) no_caps) (λ k a. unary k UnaryOp.IsEmpty a)
+    on_one m (Some set_types) (λ s. gives (TBool AnyBool) no_caps)
+    (λ k a. unary k UnaryOp.IsEmpty a)
 
 abbrev pub unary_form : Written → UnaryOp → Form
 unary_form m UnaryOp.Not = not_form m

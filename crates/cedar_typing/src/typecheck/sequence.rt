@@ -23,7 +23,8 @@ impl<'a> TypecheckAnswer<'a> {
         F: FnOnce(
             Vec<(Expr<Option<CedarType>>, CapabilitySet<'a>)>,
         ) -> Result<TypecheckAnswer<'a>, AllocError>,
-        requires ends { IsFiniteIterable I.into_iter_gives I.IntoIter.can_next I.IntoIter.remaining answers }
+        requires ends { IsFiniteIterable I.into_iter_gives I.IntoIter.can_next I.IntoIter.remaining
+            answers }
         requires callable { (it : I.IntoIter)
             → I.into_iter_gives answers it
             → OnAllHanded I.IntoIter.next_gives it (F.pre f) }

@@ -75,7 +75,8 @@ impl ValidationError {
         attr: RcStr,
         may_exist: bool,
     ) -> ValidationError
-        ensures { finding_of result ≡ found source_loc policy_id (unsafe_attribute_access (ty_of accessed_type) (text_of attr) may_exist) }
+        ensures { finding_of result ≡ found source_loc policy_id
+            (unsafe_attribute_access (ty_of accessed_type) (text_of attr) may_exist) }
     {
         ValidationError::UnsafeAttributeAccess(UnsafeAttributeAccess {
             source_loc,
@@ -93,7 +94,8 @@ impl ValidationError {
         accessed_type: CedarType,
         attr: RcStr,
     ) -> ValidationError
-        ensures { finding_of result ≡ found source_loc policy_id (unsafe_optional_attribute_access (ty_of accessed_type) (text_of attr)) }
+        ensures { finding_of result ≡ found source_loc policy_id
+            (unsafe_optional_attribute_access (ty_of accessed_type) (text_of attr)) }
     {
         ValidationError::UnsafeOptionalAttributeAccess(UnsafeOptionalAttributeAccess {
             source_loc,
@@ -109,7 +111,8 @@ impl ValidationError {
         policy_id: PolicyID,
         entity_ty: Option<EntityLUB>,
     ) -> ValidationError
-        ensures { finding_of result ≡ found source_loc policy_id (unsafe_tag_access (option_map lub_of entity_ty)) }
+        ensures { finding_of result
+            ≡ found source_loc policy_id (unsafe_tag_access (option_map lub_of entity_ty)) }
     {
         ValidationError::UnsafeTagAccess(UnsafeTagAccess {
             source_loc,
@@ -124,7 +127,8 @@ impl ValidationError {
         policy_id: PolicyID,
         entity_ty: Option<EntityType>,
     ) -> ValidationError
-        ensures { finding_of result ≡ found source_loc policy_id (no_tags_allowed (option_map type_of entity_ty)) }
+        ensures { finding_of result
+            ≡ found source_loc policy_id (no_tags_allowed (option_map type_of entity_ty)) }
     {
         ValidationError::NoTagsAllowed(NoTagsAllowed {
             source_loc,

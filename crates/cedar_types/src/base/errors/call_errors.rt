@@ -53,7 +53,8 @@ impl ValidationError {
         policy_id: PolicyID,
         name: Name,
     ) -> ValidationError
-        ensures { finding_of result ≡ found source_loc policy_id (undefined_function (path_of name)) }
+        ensures { finding_of result
+            ≡ found source_loc policy_id (undefined_function (path_of name)) }
     {
         ValidationError::UndefinedFunction(UndefinedFunction {
             source_loc,
@@ -69,7 +70,8 @@ impl ValidationError {
         expected: usize,
         actual: usize,
     ) -> ValidationError
-        ensures { finding_of result ≡ found source_loc policy_id (wrong_number_arguments expected actual) }
+        ensures { finding_of result
+            ≡ found source_loc policy_id (wrong_number_arguments expected actual) }
     {
         ValidationError::WrongNumberArguments(WrongNumberArguments {
             source_loc,
@@ -85,7 +87,8 @@ impl ValidationError {
         policy_id: PolicyID,
         msg: RcStr,
     ) -> ValidationError
-        ensures { finding_of result ≡ found source_loc policy_id (function_argument_validation (text_of msg)) }
+        ensures { finding_of result
+            ≡ found source_loc policy_id (function_argument_validation (text_of msg)) }
     {
         ValidationError::FunctionArgumentValidation(FunctionArgumentValidation {
             source_loc,

@@ -43,7 +43,8 @@ impl ValidationError {
         allowed_level: EntityDerefLevel,
         actual_level: EntityDerefLevel,
     ) -> ValidationError
-        ensures { finding_of result ≡ found source_loc policy_id (maximum_level_exceeded allowed_level.level actual_level.level) }
+        ensures { finding_of result ≡ found source_loc policy_id
+            (maximum_level_exceeded allowed_level.level actual_level.level) }
     {
         ValidationError::MaximumLevelExceeded(MaximumLevelExceeded {
             source_loc,

@@ -64,7 +64,8 @@ impl ValidationError {
         expected: BTreeSet<CedarType>,
         actual: CedarType,
     ) -> ValidationError
-        ensures { finding_of result ≡ found source_loc policy_id (unexpected_type (map ty_of expected.keys) (ty_of actual)) }
+        ensures { finding_of result ≡ found source_loc policy_id
+            (unexpected_type (map ty_of expected.keys) (ty_of actual)) }
     {
         ValidationError::UnexpectedType(UnexpectedType {
             source_loc,
@@ -81,7 +82,8 @@ impl ValidationError {
         types: BTreeSet<CedarType>,
         context: LubContext,
     ) -> ValidationError
-        ensures { finding_of result ≡ found source_loc policy_id (incompatible_types (map ty_of types.keys) context) }
+        ensures { finding_of result
+            ≡ found source_loc policy_id (incompatible_types (map ty_of types.keys) context) }
     {
         ValidationError::IncompatibleTypes(IncompatibleTypes {
             source_loc,

@@ -43,7 +43,8 @@ impl ValidationError {
         policy_id: PolicyID,
         actual_entity_type: EntityType,
     ) -> ValidationError
-        ensures { finding_of result ≡ found source_loc policy_id (unrecognized_entity_type (type_of actual_entity_type)) }
+        ensures { finding_of result
+            ≡ found source_loc policy_id (unrecognized_entity_type (type_of actual_entity_type)) }
     {
         ValidationError::UnrecognizedEntityType(UnrecognizedEntityType {
             source_loc,
@@ -58,7 +59,8 @@ impl ValidationError {
         policy_id: PolicyID,
         actual_action_id: EntityUID,
     ) -> ValidationError
-        ensures { finding_of result ≡ found source_loc policy_id (unrecognized_action_id (uid_of actual_action_id)) }
+        ensures { finding_of result
+            ≡ found source_loc policy_id (unrecognized_action_id (uid_of actual_action_id)) }
     {
         ValidationError::UnrecognizedActionId(UnrecognizedActionId {
             source_loc,
@@ -73,7 +75,8 @@ impl ValidationError {
         policy_id: PolicyID,
         uid: EntityUID,
     ) -> ValidationError
-        ensures { finding_of result ≡ found source_loc policy_id (invalid_enum_entity (uid_of uid)) }
+        ensures { finding_of result
+            ≡ found source_loc policy_id (invalid_enum_entity (uid_of uid)) }
     {
         ValidationError::InvalidEnumEntity(InvalidEnumEntity {
             source_loc,

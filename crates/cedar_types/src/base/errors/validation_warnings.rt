@@ -56,7 +56,8 @@ impl ValidationWarning {
         would_in_fix_principal: bool,
         would_in_fix_resource: bool,
     ) -> ValidationWarning
-        ensures { caution_of result ≡ noted source_loc policy_id (invalid_action_application would_in_fix_principal would_in_fix_resource) }
+        ensures { caution_of result ≡ noted source_loc policy_id
+            (invalid_action_application would_in_fix_principal would_in_fix_resource) }
     {
         ValidationWarning::InvalidActionApplication(InvalidActionApplication {
             source_loc,

@@ -91,7 +91,8 @@ fn copy_kind(alloc: Global, kind: &ExprKind) -> Result<ExprKind, AllocError>
 
 #[cycle(copy)]
 fn copy_list(alloc: Global, es: &Vec<Expr>) -> Result<Vec<Expr>, AllocError>
-    ensures { IfOk result (λ v. trees_of (map written v.items) ≡ trees_of (map written es.now.items)) }
+    ensures { IfOk result (λ v.
+        trees_of (map written v.items) ≡ trees_of (map written es.now.items)) }
 {
     let mut copies = Vec::with_capacity(alloc, es.len())?;
     for e in es {

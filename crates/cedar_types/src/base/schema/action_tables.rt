@@ -30,7 +30,10 @@ impl ActionTable {
         alloc: Global,
         declared: Vec<ValidatorActionId>,
     ) -> Result<Option<ActionTable>, AllocError>
-        ensures { IfOk result (λ o. MatchOption o (repeats_action (map declared_action declared.items) ≡ true) (λ t. (actions_in t ≡ map declared_action declared.items) × (repeats_action (actions_in t) ≡ false))) }
+        ensures { IfOk result (λ o.
+            MatchOption o (repeats_action (map declared_action declared.items) ≡ true) (λ t.
+            (actions_in t ≡ map declared_action declared.items)
+            × (repeats_action (actions_in t) ≡ false))) }
     {
         match action_places(alloc, &declared)? {
             Some(places) => Ok(Some(ActionTable { declared, places })),
@@ -50,7 +53,8 @@ impl ActionTable {
 
     /// The action of this id.
     pub(crate) fn get(&self, name: &EntityUID) -> Option<&ValidatorActionId>
-        ensures { option_map (λ t. declared_action t.now) result ≡ action_named (actions_in self.now) (uid_of name.now) }
+        ensures { option_map (λ t. declared_action t.now) result
+            ≡ action_named (actions_in self.now) (uid_of name.now) }
     {
         match self.places.get(name) {
             Some(place) => self.declared.get(*place),
@@ -83,7 +87,10 @@ fn action_places(
     alloc: Global,
     declared: &[ValidatorActionId],
 ) -> Result<Option<BTreeMap<EntityUID, usize>>, AllocError>
-    ensures { IfOk result (λ o. MatchOption o (repeats_action (map declared_action declared.now) ≡ true) (λ m. IsActionIndex m.entries declared.now × (repeats_action (map declared_action declared.now) ≡ false))) }
+    ensures { IfOk result (λ o.
+        MatchOption o (repeats_action (map declared_action declared.now) ≡ true) (λ m.
+        IsActionIndex m.entries declared.now
+        × (repeats_action (map declared_action declared.now) ≡ false))) }
 {
     let mut places = BTreeMap::new(alloc);
     for (place, action) in declared.iter().enumerate() {

@@ -14,7 +14,10 @@ use std::collections::BTreeSet;
 
 /// Whether each type has the descendants of its descendants.
 pub(crate) fn are_types_closed(types: &EntityTypeTable) -> bool
-    ensures { result ≡ list_all (λ t. list_all (λ d. list_all (is_among (types_of t.descendants)) (descendants_of (types_in types.now) d)) (types_of t.descendants)) types.now.declared.items }
+    ensures { result
+        ≡ list_all (λ t. list_all (λ d. list_all (is_among (types_of t.descendants))
+        (descendants_of (types_in types.now) d)) (types_of t.descendants))
+        types.now.declared.items }
 {
     types
         .declared
@@ -23,7 +26,8 @@ pub(crate) fn are_types_closed(types: &EntityTypeTable) -> bool
 }
 
 fn is_type_closed(types: &EntityTypeTable, descendants: &BTreeSet<EntityType>) -> bool
-    ensures { result ≡ list_all (λ d. list_all (is_among (types_of descendants.now)) (descendants_of (types_in types.now) d)) (types_of descendants.now) }
+    ensures { result ≡ list_all (λ d. list_all (is_among (types_of descendants.now))
+        (descendants_of (types_in types.now) d)) (types_of descendants.now) }
 {
     for descendant in descendants.iter() {
         if !has_descendants_of(types, descendants, descendant) {
@@ -38,7 +42,8 @@ fn has_descendants_of(
     descendants: &BTreeSet<EntityType>,
     name: &EntityType,
 ) -> bool
-    ensures { result ≡ list_all (is_among (types_of descendants.now)) (descendants_of (types_in types.now) (type_of name.now)) }
+    ensures { result ≡ list_all (is_among (types_of descendants.now))
+        (descendants_of (types_in types.now) (type_of name.now)) }
 {
     match types.get(name) {
         Some(t) => has_all_types(descendants, &t.descendants),
@@ -66,7 +71,10 @@ pub(crate) fn has_type(types: &BTreeSet<EntityType>, name: &EntityType) -> bool
 
 /// Whether each action has the descendants of its descendants.
 pub(crate) fn are_actions_closed(actions: &ActionTable) -> bool
-    ensures { result ≡ list_all (λ a. list_all (λ d. list_all (uid_is_among (uids_of a.descendants)) (descendants_of_action (actions_in actions.now) d)) (uids_of a.descendants)) actions.now.declared.items }
+    ensures { result
+        ≡ list_all (λ a. list_all (λ d. list_all (uid_is_among (uids_of a.descendants))
+        (descendants_of_action (actions_in actions.now) d)) (uids_of a.descendants))
+        actions.now.declared.items }
 {
     actions
         .declared
@@ -75,7 +83,8 @@ pub(crate) fn are_actions_closed(actions: &ActionTable) -> bool
 }
 
 fn is_action_closed(actions: &ActionTable, descendants: &BTreeSet<EntityUID>) -> bool
-    ensures { result ≡ list_all (λ d. list_all (uid_is_among (uids_of descendants.now)) (descendants_of_action (actions_in actions.now) d)) (uids_of descendants.now) }
+    ensures { result ≡ list_all (λ d. list_all (uid_is_among (uids_of descendants.now))
+        (descendants_of_action (actions_in actions.now) d)) (uids_of descendants.now) }
 {
     for descendant in descendants.iter() {
         if !has_action_descendants_of(actions, descendants, descendant) {
@@ -90,7 +99,8 @@ fn has_action_descendants_of(
     descendants: &BTreeSet<EntityUID>,
     name: &EntityUID,
 ) -> bool
-    ensures { result ≡ list_all (uid_is_among (uids_of descendants.now)) (descendants_of_action (actions_in actions.now) (uid_of name.now)) }
+    ensures { result ≡ list_all (uid_is_among (uids_of descendants.now))
+        (descendants_of_action (actions_in actions.now) (uid_of name.now)) }
 {
     match actions.get(name) {
         Some(a) => has_all_actions(descendants, &a.descendants),

@@ -17,7 +17,8 @@ pub(crate) fn declared_environments(
     alloc: Global,
     actions: &ActionTable,
 ) -> Result<Vec<UnlinkedRequestEnv>, AllocError>
-    ensures { IfOk result (λ v. map declared_env v.items ≡ environments_of (actions_in actions.now)) }
+    ensures { IfOk result (λ v.
+        map declared_env v.items ≡ environments_of (actions_in actions.now)) }
 {
     let mut environments = Vec::new(alloc);
     for action in &actions.declared {
@@ -33,7 +34,9 @@ fn add_action(
     action: &EntityUID,
     applies_to: &ValidatorApplySpec,
 ) -> Result<(), AllocError>
-    ensures { OnOk result (map declared_env environments.new.items ≡ map declared_env environments.old.items ++ action_environments (uid_of action.now) (Some (application applies_to.now))) }
+    ensures { OnOk result (map declared_env environments.new.items
+        ≡ map declared_env environments.old.items
+        ++ action_environments (uid_of action.now) (Some (application applies_to.now))) }
 {
     for principal in applies_to.principal_apply_spec.iter() {
         add_principal(environments, principal, action, applies_to)?;
@@ -47,7 +50,10 @@ fn add_principal(
     action: &EntityUID,
     applies_to: &ValidatorApplySpec,
 ) -> Result<(), AllocError>
-    ensures { OnOk result (map declared_env environments.new.items ≡ map declared_env environments.old.items ++ principal_environments (uid_of action.now) (ty_of applies_to.now.context.value) (types_of applies_to.now.resource_apply_spec) (type_of principal.now)) }
+    ensures { OnOk result (map declared_env environments.new.items
+        ≡ map declared_env environments.old.items
+        ++ principal_environments (uid_of action.now) (ty_of applies_to.now.context.value)
+        (types_of applies_to.now.resource_apply_spec) (type_of principal.now)) }
 {
     for resource in applies_to.resource_apply_spec.iter() {
         environments.push(UnlinkedRequestEnv {

@@ -55,7 +55,8 @@ fn has_action_type(types: &EntityTypeTable) -> bool
 
 /// Whether each action's id is of an action's type.
 fn are_all_actions(actions: &ActionTable) -> bool
-    ensures { result ≡ list_all (λ a. is_action_path (type_of a.name.entity_type)) actions.now.declared.items }
+    ensures { result
+        ≡ list_all (λ a. is_action_path (type_of a.name.entity_type)) actions.now.declared.items }
 {
     actions
         .declared
@@ -82,7 +83,8 @@ fn has_no_members(kind: &ValidatorEntityTypeKind) -> bool
 
 /// Whether each type that a type's declaration names is known.
 fn are_types_known(types: &EntityTypeTable) -> bool
-    ensures { result ≡ list_all (λ t. type_is_known (types_in types.now) (declared_type t)) types.now.declared.items }
+    ensures { result ≡ list_all (λ t. type_is_known (types_in types.now) (declared_type t))
+        types.now.declared.items }
 {
     types.declared.iter().all(|t| is_type_known(types, t))
 }
@@ -107,7 +109,8 @@ fn is_kind_known(types: &EntityTypeTable, kind: &ValidatorEntityTypeKind) -> boo
 }
 
 fn are_tags_known(types: &EntityTypeTable, tags: &Option<CedarType>) -> bool
-    ensures { result ≡ tags_pass (names_pass (knows_type (types_in types.now))) (option_map ty_of tags.now) }
+    ensures { result
+        ≡ tags_pass (names_pass (knows_type (types_in types.now))) (option_map ty_of tags.now) }
 {
     match tags {
         Some(t) => type_names_known(types, t),
@@ -117,7 +120,8 @@ fn are_tags_known(types: &EntityTypeTable, tags: &Option<CedarType>) -> bool
 
 /// Whether each type that an action's declaration names is known.
 fn are_applications_known(types: &EntityTypeTable, actions: &ActionTable) -> bool
-    ensures { result ≡ list_all (λ a. application_is_known (types_in types.now) (applies a.kind)) actions.now.declared.items }
+    ensures { result ≡ list_all (λ a. application_is_known (types_in types.now) (applies a.kind))
+        actions.now.declared.items }
 {
     actions
         .declared
@@ -140,7 +144,8 @@ fn is_application_known(types: &EntityTypeTable, kind: &ValidatorActionKind) -> 
 
 /// Whether each descendant of an action is declared.
 fn are_descendants_declared(actions: &ActionTable) -> bool
-    ensures { result ≡ list_all (λ a. list_all (declares_action (actions_in actions.now)) (uids_of a.descendants)) actions.now.declared.items }
+    ensures { result ≡ list_all (λ a. list_all (declares_action (actions_in actions.now))
+        (uids_of a.descendants)) actions.now.declared.items }
 {
     actions
         .declared
@@ -150,7 +155,8 @@ fn are_descendants_declared(actions: &ActionTable) -> bool
 
 /// Whether no type's attributes and tags say too little.
 fn are_types_definite(types: &EntityTypeTable) -> bool
-    ensures { result ≡ list_all (λ t. kind_is_definite (type_kind t.kind)) types.now.declared.items }
+    ensures { result
+        ≡ list_all (λ t. kind_is_definite (type_kind t.kind)) types.now.declared.items }
 {
     types.declared.iter().all(|t| is_kind_definite(&t.kind))
 }
@@ -178,7 +184,8 @@ fn are_tags_definite(tags: &Option<CedarType>) -> bool
 
 /// Whether each action's context is a record that says enough.
 fn are_applications_definite(actions: &ActionTable) -> bool
-    ensures { result ≡ list_all (λ a. application_is_definite (applies a.kind)) actions.now.declared.items }
+    ensures { result
+        ≡ list_all (λ a. application_is_definite (applies a.kind)) actions.now.declared.items }
 {
     actions
         .declared

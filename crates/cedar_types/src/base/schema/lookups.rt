@@ -24,7 +24,8 @@ impl CedarType {
         ty: &CedarType,
         attr: &RcStr,
     ) -> Result<Option<AttributeType>, AllocError>
-        ensures { IfOk result (λ o. option_map attribute_view o ≡ attribute_type (schema_of schema.now) (ty_of ty.now) (text_of attr.now)) }
+        ensures { IfOk result (λ o. option_map attribute_view o
+            ≡ attribute_type (schema_of schema.now) (ty_of ty.now) (text_of attr.now)) }
     {
         match ty {
             CedarType::Record {
@@ -69,7 +70,8 @@ impl CedarType {
         entity: &EntityUID,
         schema: &ValidatorSchema,
     ) -> Result<Option<CedarType>, AllocError>
-        ensures { IfOk result (λ o. option_map ty_of o ≡ literal_type (schema_of schema.now) (uid_of entity.now)) }
+        ensures { IfOk result (λ o.
+            option_map ty_of o ≡ literal_type (schema_of schema.now) (uid_of entity.now)) }
     {
         if !is_declared(entity, schema) {
             return Ok(None);
@@ -105,7 +107,8 @@ fn kind_lookup(
     kind: &EntityKind,
     attr: &RcStr,
 ) -> Result<Option<AttributeType>, AllocError>
-    ensures { IfOk result (λ o. option_map attribute_view o ≡ attribute_type (schema_of schema.now) (kind_of kind.now) (text_of attr.now)) }
+    ensures { IfOk result (λ o. option_map attribute_view o
+        ≡ attribute_type (schema_of schema.now) (kind_of kind.now) (text_of attr.now)) }
 {
     match kind {
         EntityKind::Entity(lub) => types_lookup(alloc, schema, lub, attr),
@@ -120,7 +123,8 @@ fn types_lookup(
     lub: &EntityLUB,
     attr: &RcStr,
 ) -> Result<Option<AttributeType>, AllocError>
-    ensures { IfOk result (λ o. option_map attribute_view o ≡ types_attribute (schema_of schema.now).types (text_of attr.now) (lub_of lub.now)) }
+    ensures { IfOk result (λ o. option_map attribute_view o
+        ≡ types_attribute (schema_of schema.now).types (text_of attr.now) (lub_of lub.now)) }
 {
     let mut types = lub.iter();
     let Some(first) = types.next() else {
@@ -140,7 +144,9 @@ fn declared_lookup<'a>(
     entity_type: &EntityType,
     attr: &RcStr,
 ) -> Option<&'a AttributeType>
-    ensures { option_map (λ a. attribute_view a.now) result ≡ declared_attribute (schema_of schema.now).types (text_of attr.now) (type_of entity_type.now) }
+    ensures { option_map (λ a. attribute_view a.now) result
+        ≡ declared_attribute (schema_of schema.now).types
+        (text_of attr.now) (type_of entity_type.now) }
 {
     match schema.types.get(entity_type) {
         Some(declared) => attribute_of_kind(&declared.kind, attr),
@@ -152,7 +158,8 @@ fn attribute_of_kind<'a>(
     kind: &'a ValidatorEntityTypeKind,
     attr: &RcStr,
 ) -> Option<&'a AttributeType>
-    ensures { option_map (λ a. attribute_view a.now) result ≡ kind_attribute (text_of attr.now) (type_kind kind.now) }
+    ensures { option_map (λ a. attribute_view a.now) result
+        ≡ kind_attribute (text_of attr.now) (type_kind kind.now) }
 {
     match kind {
         ValidatorEntityTypeKind::Standard(standard) => standard.attributes.get_attr(attr),
@@ -166,7 +173,9 @@ fn joined(
     found: &Option<AttributeType>,
     other: Option<&AttributeType>,
 ) -> Result<Option<AttributeType>, AllocError>
-    ensures { IfOk result (λ o. option_map attribute_view o ≡ joined_attribute (option_map attribute_view found.now) (option_map (λ a. attribute_view a.now) other.entry)) }
+    ensures { IfOk result (λ o. option_map attribute_view o
+        ≡ joined_attribute (option_map attribute_view found.now)
+        (option_map (λ a. attribute_view a.now) other.entry)) }
 {
     let Some(one) = found else {
         return Ok(None);
@@ -185,7 +194,8 @@ fn joined(
 }
 
 fn copied(attribute: Option<&AttributeType>) -> Result<Option<AttributeType>, AllocError>
-    ensures { IfOk result (λ o. option_map attribute_view o ≡ option_map (λ a. attribute_view a.now) attribute.entry) }
+    ensures { IfOk result (λ o.
+        option_map attribute_view o ≡ option_map (λ a. attribute_view a.now) attribute.entry) }
 {
     match attribute {
         Some(a) => Ok(Some(AttributeType {
@@ -206,7 +216,8 @@ fn kind_may_have(schema: &ValidatorSchema, kind: &EntityKind, attr: &RcStr) -> b
 }
 
 fn types_may_have(schema: &ValidatorSchema, lub: &EntityLUB, attr: &RcStr) -> bool
-    ensures { result ≡ list_any (may_declare (schema_of schema.now).types (text_of attr.now)) (lub_of lub.now) }
+    ensures { result
+        ≡ list_any (may_declare (schema_of schema.now).types (text_of attr.now)) (lub_of lub.now) }
 {
     for entity_type in lub.iter() {
         if type_may_have(schema, entity_type, attr) {
@@ -217,7 +228,8 @@ fn types_may_have(schema: &ValidatorSchema, lub: &EntityLUB, attr: &RcStr) -> bo
 }
 
 fn type_may_have(schema: &ValidatorSchema, entity_type: &EntityType, attr: &RcStr) -> bool
-    ensures { result ≡ may_declare (schema_of schema.now).types (text_of attr.now) (type_of entity_type.now) }
+    ensures { result
+        ≡ may_declare (schema_of schema.now).types (text_of attr.now) (type_of entity_type.now) }
 {
     schema.is_open(entity_type) || declared_lookup(schema, entity_type, attr).is_some()
 }

@@ -20,7 +20,8 @@ impl ValidatorSchema {
     ///
     /// What this denies, no store that conforms to the schema has: see `memberships_are_allowed`.
     pub fn any_descendent_of(&self, lefts: &EntityLUB, rights: &EntityLUB) -> bool
-        ensures { result ≡ any_may_be_in (schema_of self.now) (lub_of lefts.now) (lub_of rights.now) }
+        ensures { result
+            ≡ any_may_be_in (schema_of self.now) (lub_of lefts.now) (lub_of rights.now) }
     {
         for left in lefts.iter() {
             if self.may_be_in_any(left, rights) {
@@ -31,7 +32,8 @@ impl ValidatorSchema {
     }
 
     fn may_be_in_any(&self, left: &EntityType, rights: &EntityLUB) -> bool
-        ensures { result ≡ list_any (may_be_in (schema_of self.now) (type_of left.now)) (lub_of rights.now) }
+        ensures { result
+            ≡ list_any (may_be_in (schema_of self.now) (type_of left.now)) (lub_of rights.now) }
     {
         for right in rights.iter() {
             if self.may_be_in(left, right) {
@@ -70,7 +72,8 @@ impl ValidatorSchema {
 
     #[tactic(auto, unfolding(crate::specs::SchemaContents::schema_of))]
     fn is_type_below(&self, left: &EntityType, right: &EntityType) -> bool
-        ensures { result ≡ is_among (descendants_of (schema_of self.now).types (type_of right.now)) (type_of left.now) }
+        ensures { result ≡ is_among (descendants_of (schema_of self.now).types (type_of right.now))
+            (type_of left.now) }
     {
         match self.types.get(right) {
             Some(declared) => has_type(&declared.descendants, left),
@@ -79,13 +82,17 @@ impl ValidatorSchema {
     }
 
     fn is_action_below(&self, left: &EntityType, right: &EntityType) -> bool
-        ensures { result ≡ action_is_below (schema_of self.now).actions (type_of left.now) (type_of right.now) }
+        ensures { result
+            ≡ action_is_below (schema_of self.now).actions (type_of left.now) (type_of right.now) }
     {
         are_action_types(left, right) && self.has_action_below(left, right)
     }
 
     fn has_action_below(&self, left: &EntityType, right: &EntityType) -> bool
-        ensures { result ≡ list_any (λ a. path_eq (type_of right.now) (type_of a.name.entity_type) && list_any (λ d. path_eq (type_of left.now) d.entity_type) (uids_of a.descendants)) self.now.actions.declared.items }
+        ensures { result
+            ≡ list_any (λ a. path_eq (type_of right.now) (type_of a.name.entity_type)
+            && list_any (λ d. path_eq (type_of left.now) d.entity_type) (uids_of a.descendants))
+            self.now.actions.declared.items }
     {
         self.actions.declared.iter().any(|a| is_same_type(right, &a.name.entity_type)
             && has_action_of(&a.descendants, left))
@@ -116,7 +123,8 @@ fn is_external_kind(kind: &ValidatorEntityTypeKind) -> bool
 }
 
 fn has_action_of(actions: &BTreeSet<EntityUID>, name: &EntityType) -> bool
-    ensures { result ≡ list_any (λ d. path_eq (type_of name.now) d.entity_type) (uids_of actions.now) }
+    ensures { result
+        ≡ list_any (λ d. path_eq (type_of name.now) d.entity_type) (uids_of actions.now) }
 {
     for action in actions.iter() {
         if is_same_type(name, &action.entity_type) {

@@ -32,14 +32,16 @@ impl ValidatorSchema {
 
     /// The declaration of an entity type. There is none of an action's type.
     pub fn get_entity_type(&self, entity_type: &EntityType) -> Option<&ValidatorEntityType>
-        ensures { option_map (λ t. declared_type t.now) result ≡ type_named (schema_of self.now).types (type_of entity_type.now) }
+        ensures { option_map (λ t. declared_type t.now) result
+            ≡ type_named (schema_of self.now).types (type_of entity_type.now) }
     {
         self.types.get(entity_type)
     }
 
     /// The declaration of an action.
     pub fn get_action_id(&self, action_id: &EntityUID) -> Option<&ValidatorActionId>
-        ensures { option_map (λ a. declared_action a.now) result ≡ action_named (schema_of self.now).actions (uid_of action_id.now) }
+        ensures { option_map (λ a. declared_action a.now) result
+            ≡ action_named (schema_of self.now).actions (uid_of action_id.now) }
     {
         self.actions.get(action_id)
     }
@@ -60,7 +62,8 @@ impl ValidatorSchema {
 
     /// The declared entity types, in any order.
     pub fn entity_types(&self, alloc: Global) -> Result<Vec<&ValidatorEntityType>, AllocError>
-        ensures { IfOk result (λ v. IsPermutation (schema_of self.now).types (map (λ t. declared_type t.now) v.items)) }
+        ensures { IfOk result (λ v.
+            IsPermutation (schema_of self.now).types (map (λ t. declared_type t.now) v.items)) }
     {
         let mut listed = Vec::with_capacity(alloc, self.types.declared.len())?;
         for entity_type in &self.types.declared {
@@ -71,7 +74,8 @@ impl ValidatorSchema {
 
     /// The names of the declared entity types, in any order.
     pub fn entity_type_names(&self, alloc: Global) -> Result<Vec<&EntityType>, AllocError>
-        ensures { IfOk result (λ v. IsPermutation (map (λ t. t.name) (schema_of self.now).types) (map (λ t. type_of t.now) v.items)) }
+        ensures { IfOk result (λ v. IsPermutation (map (λ t. t.name) (schema_of self.now).types)
+            (map (λ t. type_of t.now) v.items)) }
     {
         let mut listed = Vec::with_capacity(alloc, self.types.declared.len())?;
         for entity_type in &self.types.declared {
@@ -82,7 +86,8 @@ impl ValidatorSchema {
 
     /// The declared actions, in any order.
     pub fn action_ids(&self, alloc: Global) -> Result<Vec<&ValidatorActionId>, AllocError>
-        ensures { IfOk result (λ v. IsPermutation (schema_of self.now).actions (map (λ a. declared_action a.now) v.items)) }
+        ensures { IfOk result (λ v. IsPermutation (schema_of self.now).actions
+            (map (λ a. declared_action a.now) v.items)) }
     {
         let mut listed = Vec::with_capacity(alloc, self.actions.declared.len())?;
         for action in &self.actions.declared {
@@ -97,7 +102,9 @@ impl ValidatorSchema {
         alloc: Global,
         entity_type: &'a EntityType,
     ) -> Result<Vec<&'a EntityType>, AllocError>
-        ensures { IfOk result (λ v. ListsTypes (types_within (schema_of self.now).types (type_of entity_type.now)) (map (λ t. type_of t.now) v.items)) }
+        ensures { IfOk result (λ v.
+            ListsTypes (types_within (schema_of self.now).types (type_of entity_type.now))
+            (map (λ t. type_of t.now) v.items)) }
     {
         let mut within = Vec::new(alloc);
         within.push(entity_type)?;
@@ -118,7 +125,8 @@ impl ValidatorSchema {
         alloc: Global,
         actions: &'a [EntityUID],
     ) -> Result<Option<Vec<&'a EntityUID>>, AllocError>
-        ensures { IfOk result (λ o. ListsActions (schema_of self.now).actions (map uid_of actions.now) (option_map (λ v. map (λ u. uid_of u.now) v.items) o)) }
+        ensures { IfOk result (λ o. ListsActions (schema_of self.now).actions
+            (map uid_of actions.now) (option_map (λ v. map (λ u. uid_of u.now) v.items) o)) }
     {
         let mut within = BTreeSet::new(alloc);
         for action in actions {
@@ -136,7 +144,8 @@ fn listed<'a>(
     alloc: Global,
     actions: &BTreeSet<&'a EntityUID>,
 ) -> Result<Vec<&'a EntityUID>, AllocError>
-    ensures same { IfOk result (λ v. map (λ u. uid_of u.now) v.items ≡ map (λ u. uid_of u.now) actions.now.keys) }
+    ensures same { IfOk result (λ v.
+        map (λ u. uid_of u.now) v.items ≡ map (λ u. uid_of u.now) actions.now.keys) }
     ensures apart { IfOk result (λ v. has_repeat uid_eq (map (λ u. uid_of u.now) v.items) ≡ false) }
 {
     let mut all = Vec::with_capacity(alloc, actions.len())?;
@@ -150,7 +159,8 @@ fn add_all<'a>(
     actions: &mut BTreeSet<&'a EntityUID>,
     others: &'a BTreeSet<EntityUID>,
 ) -> Result<(), AllocError>
-    ensures { OnOk result (AddsIds (map (λ u. uid_of u.now) actions.old.keys) (uids_of others.now) (map (λ u. uid_of u.now) actions.new.keys)) }
+    ensures { OnOk result (AddsIds (map (λ u. uid_of u.now) actions.old.keys)
+        (uids_of others.now) (map (λ u. uid_of u.now) actions.new.keys)) }
 {
     for other in others.iter() {
         actions.insert(other)?;

@@ -31,7 +31,8 @@ pub(crate) fn type_names_known(types: &EntityTypeTable, t: &CedarType) -> bool
 /// The same of the attributes of a record.
 #[cycle(names)]
 pub(crate) fn attribute_names_known(types: &EntityTypeTable, attributes: &Attributes) -> bool
-    ensures { result ≡ attr_names_pass (knows_type (types_in types.now)) (attributes_of attributes.now) }
+    ensures { result
+        ≡ attr_names_pass (knows_type (types_in types.now)) (attributes_of attributes.now) }
 {
     for (_name, attribute) in attributes.attrs.iter() {
         if !type_names_known(types, &attribute.attr_type) {

@@ -30,7 +30,10 @@ impl EntityTypeTable {
         alloc: Global,
         declared: Vec<ValidatorEntityType>,
     ) -> Result<Option<EntityTypeTable>, AllocError>
-        ensures { IfOk result (λ o. MatchOption o (repeats_type (map declared_type declared.items) ≡ true) (λ t. (types_in t ≡ map declared_type declared.items) × (repeats_type (types_in t) ≡ false))) }
+        ensures { IfOk result (λ o.
+            MatchOption o (repeats_type (map declared_type declared.items) ≡ true) (λ t.
+            (types_in t ≡ map declared_type declared.items)
+            × (repeats_type (types_in t) ≡ false))) }
     {
         match type_places(alloc, &declared)? {
             Some(places) => Ok(Some(EntityTypeTable { declared, places })),
@@ -50,7 +53,8 @@ impl EntityTypeTable {
 
     /// The type of this name.
     pub(crate) fn get(&self, name: &EntityType) -> Option<&ValidatorEntityType>
-        ensures { option_map (λ t. declared_type t.now) result ≡ type_named (types_in self.now) (type_of name.now) }
+        ensures { option_map (λ t. declared_type t.now) result
+            ≡ type_named (types_in self.now) (type_of name.now) }
     {
         match self.places.get(name) {
             Some(place) => self.declared.get(*place),
@@ -90,7 +94,10 @@ fn type_places(
     alloc: Global,
     declared: &[ValidatorEntityType],
 ) -> Result<Option<BTreeMap<EntityType, usize>>, AllocError>
-    ensures { IfOk result (λ o. MatchOption o (repeats_type (map declared_type declared.now) ≡ true) (λ m. IsTypeIndex m.entries declared.now × (repeats_type (map declared_type declared.now) ≡ false))) }
+    ensures { IfOk result (λ o.
+        MatchOption o (repeats_type (map declared_type declared.now) ≡ true) (λ m.
+        IsTypeIndex m.entries declared.now
+        × (repeats_type (map declared_type declared.now) ≡ false))) }
 {
     let mut places = BTreeMap::new(alloc);
     for (place, entity_type) in declared.iter().enumerate() {

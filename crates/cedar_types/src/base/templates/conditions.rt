@@ -62,7 +62,8 @@ fn with_rest(
     scope: Expr,
     rest: &Option<Expr>,
 ) -> Result<Expr, AllocError>
-    ensures { IfOk result (λ e. written e ≡ with_rest_tree loc (written scope) (option_map written rest.now)) }
+    ensures { IfOk result (λ e.
+        written e ≡ with_rest_tree loc (written scope) (option_map written rest.now)) }
 {
     match rest {
         None => Ok(scope),
@@ -131,7 +132,8 @@ fn relation(
     variable: Var,
     named: Expr,
 ) -> Result<Expr, AllocError>
-    ensures { IfOk result (λ e. written e ≡ binary_tree (made loc) op (var (made loc) variable) (written named)) }
+    ensures { IfOk result (λ e.
+        written e ≡ binary_tree (made loc) op (var (made loc) variable) (written named)) }
 {
     let left = Box::new(alloc, node(loc, ExprKind::Var(variable)))?;
     let right = Box::new(alloc, named)?;
@@ -166,7 +168,8 @@ fn uid_literals(
     loc: Option<Loc>,
     uids: &Vec<EntityUID>,
 ) -> Result<Vec<Expr>, AllocError>
-    ensures { IfOk result (λ v. map written v.items ≡ map (uid_at loc) (map placed_uid uids.now.items)) }
+    ensures { IfOk result (λ v.
+        map written v.items ≡ map (uid_at loc) (map placed_uid uids.now.items)) }
 {
     let mut literals = Vec::with_capacity(alloc, uids.len())?;
     for uid in uids {

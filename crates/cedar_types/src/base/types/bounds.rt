@@ -54,7 +54,8 @@ fn bound_apart(
     ty1: &CedarType,
     mode: ValidationMode,
 ) -> Result<Option<CedarType>, AllocError>
-    ensures { IfOk result (λ o. option_map ty_of o ≡ apart_lub mode (ty_of ty0.now) (ty_of ty1.now)) }
+    ensures { IfOk result (λ o.
+        option_map ty_of o ≡ apart_lub mode (ty_of ty0.now) (ty_of ty1.now)) }
 {
     match ty0 {
         CedarType::Never => Ok(Some(ty1.clone()?)),
@@ -79,7 +80,8 @@ fn set_bound(
     ty: &CedarType,
     mode: ValidationMode,
 ) -> Result<Option<CedarType>, AllocError>
-    ensures { IfOk result (λ o. option_map ty_of o ≡ set_lub (lub_by (apart_lub mode (ty_of element.now)) (ty_of element.now)) (ty_of ty.now)) }
+    ensures { IfOk result (λ o. option_map ty_of o
+        ≡ set_lub (lub_by (apart_lub mode (ty_of element.now)) (ty_of element.now)) (ty_of ty.now)) }
 {
     match ty {
         CedarType::Set(other) => match bound(alloc, element, other, mode)? {
@@ -106,7 +108,10 @@ fn record_bound(
     ty: &CedarType,
     mode: ValidationMode,
 ) -> Result<Option<CedarType>, AllocError>
-    ensures { IfOk result (λ r. option_map ty_of r ≡ record_lub mode (attributes_of xs.now) (is_open_tag o) (both_attrs mode (attributes_of xs.now)) (common_attrs mode (attributes_of xs.now)) (ty_of ty.now)) }
+    ensures { IfOk result (λ r. option_map ty_of r
+        ≡ record_lub mode (attributes_of xs.now) (is_open_tag o)
+        (both_attrs mode (attributes_of xs.now)) (common_attrs mode (attributes_of xs.now))
+        (ty_of ty.now)) }
 {
     match ty {
         CedarType::Record {
@@ -134,7 +139,10 @@ fn records_bound(
     p: OpenTag,
     mode: ValidationMode,
 ) -> Result<Option<CedarType>, AllocError>
-    ensures { IfOk result (λ r. option_map ty_of r ≡ record_lub mode (attributes_of xs.now) (is_open_tag o) (both_attrs mode (attributes_of xs.now)) (common_attrs mode (attributes_of xs.now)) (TRecord (attributes_of ys.now) (is_open_tag p))) }
+    ensures { IfOk result (λ r. option_map ty_of r
+        ≡ record_lub mode (attributes_of xs.now) (is_open_tag o)
+        (both_attrs mode (attributes_of xs.now)) (common_attrs mode (attributes_of xs.now))
+        (TRecord (attributes_of ys.now) (is_open_tag p))) }
 {
     if is_strict(mode) {
         if is_open(o) || is_open(p) {
@@ -159,7 +167,8 @@ fn both_attributes(
     ys: &Attributes,
     mode: ValidationMode,
 ) -> Result<Option<BTreeMap<RcStr, AttributeType>>, AllocError>
-    ensures { IfOk result (λ o. option_map (λ all. entries_of all.entries) o ≡ both_attrs mode (attributes_of xs.now) (attributes_of ys.now)) }
+    ensures { IfOk result (λ o. option_map (λ all. entries_of all.entries) o
+        ≡ both_attrs mode (attributes_of xs.now) (attributes_of ys.now)) }
 {
     let mut all = BTreeMap::new(alloc);
     let mut right = ys.attrs.iter();
@@ -189,7 +198,8 @@ fn common_attributes(
     ys: &Attributes,
     mode: ValidationMode,
 ) -> Result<BTreeMap<RcStr, AttributeType>, AllocError>
-    ensures { IfOk result (λ all. entries_of all.entries ≡ common_attrs mode (attributes_of xs.now) (attributes_of ys.now)) }
+    ensures { IfOk result (λ all.
+        entries_of all.entries ≡ common_attrs mode (attributes_of xs.now) (attributes_of ys.now)) }
 {
     let mut all = BTreeMap::new(alloc);
     for (key, x) in xs.attrs.iter() {

@@ -93,7 +93,8 @@ pub(crate) fn entity_bound(
     ty: &CedarType,
     mode: ValidationMode,
 ) -> Result<Option<CedarType>, AllocError>
-    ensures { IfOk result (λ o. option_map ty_of o ≡ entity_lub mode (lub_of xs.now) (ty_of ty.now)) }
+    ensures { IfOk result (λ o.
+        option_map ty_of o ≡ entity_lub mode (lub_of xs.now) (ty_of ty.now)) }
 {
     match ty {
         CedarType::Entity(EntityKind::AnyEntity) => {

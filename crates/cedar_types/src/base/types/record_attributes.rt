@@ -41,7 +41,8 @@ impl Attributes {
 
     /// The attribute of this name, if there is one.
     pub fn get_attr(&self, attr: &RcStr) -> Option<&AttributeType>
-        ensures { option_map (λ a. (ty_of a.now.attr_type, a.now.is_required)) result ≡ find_attr (text_of attr.now) (attributes_of self.now) }
+        ensures { option_map (λ a. (ty_of a.now.attr_type, a.now.is_required)) result
+            ≡ find_attr (text_of attr.now) (attributes_of self.now) }
     {
         self.attrs.get(attr)
     }

@@ -33,7 +33,8 @@ fn open_tag(is_open: bool) -> OpenTag
 
 /// Whether a record is open that has so many attributes of two others.
 pub(crate) fn wide_tag(o: OpenTag, p: OpenTag, xs: usize, ys: usize, all: usize) -> OpenTag
-    ensures { is_open_tag result ≡ (is_open_tag o || is_open_tag p || not (nat_eq all xs && nat_eq all ys)) }
+    ensures { is_open_tag result
+        ≡ (is_open_tag o || is_open_tag p || not (nat_eq all xs && nat_eq all ys)) }
 {
     open_tag(is_open(o) || is_open(p) || !(all == xs && all == ys))
 }
@@ -76,9 +77,13 @@ pub(crate) fn push_attribute(
     attr_type: CedarType,
     is_required: bool,
 ) -> Result<(), AllocError>
-    requires { AllByRecursion (λ k. text_cmp k (text_of key.now) ≡ Less) (texts_of all.old.entries) }
-    ensures attributes { OnOk result (entries_of all.new.entries ≡ join_attrs (entries_of all.old.entries) (attr (text_of key.now) (ty_of attr_type) is_required no_attrs)) }
-    ensures names { OnOk result (texts_of all.new.entries ≡ texts_of all.old.entries ++ text_of key.now ∷ []) }
+    requires { AllByRecursion (λ k. text_cmp k (text_of key.now) ≡ Less)
+        (texts_of all.old.entries) }
+    ensures attributes { OnOk result (entries_of all.new.entries
+        ≡ join_attrs (entries_of all.old.entries)
+        (attr (text_of key.now) (ty_of attr_type) is_required no_attrs)) }
+    ensures names { OnOk result (texts_of all.new.entries
+        ≡ texts_of all.old.entries ++ text_of key.now ∷ []) }
 {
     all.insert(
         key.clone()?,

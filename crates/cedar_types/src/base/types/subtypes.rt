@@ -14,7 +14,8 @@ impl CedarType {
         tys: &[&CedarType],
         mode: ValidationMode,
     ) -> Result<Option<CedarType>, AllocError>
-        ensures { IfOk result (λ o. option_map ty_of o ≡ list_lub mode (map (λ t. ty_of t.now) tys.now)) }
+        ensures { IfOk result (λ o.
+            option_map ty_of o ≡ list_lub mode (map (λ t. ty_of t.now) tys.now)) }
     {
         match tys {
             [] => Ok(Some(CedarType::Never)),
@@ -74,7 +75,8 @@ fn fold_bound(
     rest: &[&CedarType],
     mode: ValidationMode,
 ) -> Result<Option<CedarType>, AllocError>
-    ensures { IfOk result (λ o. option_map ty_of o ≡ fold_lub mode (ty_of first.now) (map (λ t. ty_of t.now) rest.now)) }
+    ensures { IfOk result (λ o.
+        option_map ty_of o ≡ fold_lub mode (ty_of first.now) (map (λ t. ty_of t.now) rest.now)) }
 {
     let mut bound = first.clone()?;
     for ty in rest {

@@ -33,7 +33,8 @@ pub record EqualityTyping : Type 0 where
   -- fails
   pub action_is : IsTyped (equal action (the greet)) (TBool True)
   pub action_is_itself : IsTyped (equal action action) (TBool True)
-  pub undeclared_action : IsRefusedIn unknown_action (equal action (the wave)) (Some (TBool True)) []
+  pub undeclared_action : IsRefusedIn unknown_action (equal action (the wave))
+      (Some (TBool True)) []
   -- `principal == action`, of disjoint types: False; `principal == context.friend`: Bool
   pub disjoint : IsTyped (equal principal action) (TBool False)
   pub of_one_type : IsTyped (equal principal friend) bool_type

@@ -185,7 +185,8 @@ impl TypeEnv<'_, '_, '_, '_> {
             by_link r next
             ≡ link (env_at self.now) place (caps prior.now) (written reached.e) (ty_of reached.ty)
             (text_of attr.now) (progress_of progress.entry) next) }
-        ensures comes_to { IfOk result (λ r. GoesOnAt (made_up (written reached.e) (text_of attr.now)) r) }
+        ensures comes_to { IfOk result (λ r.
+            GoesOnAt (made_up (written reached.e) (text_of attr.now)) r) }
     {
         match self.step(prior, place, &reached, attr, progress)? {
             Step::Ends(decision) => Ok(Link::Ends(decision)),
@@ -212,7 +213,8 @@ impl TypeEnv<'_, '_, '_, '_> {
             (union (caps prior.now) (caps progress.entry.earned) (attribute_of (written reached.e) (text_of attr.now)))
             (ty_of reached.ty) (attribute_type (env_at self.now).schema (ty_of reached.ty) (text_of attr.now)))
             (λ t. next t (progress_of progress.entry))) }
-        ensures comes_to { IfOk result (λ r. GoesOnAt (made_up (written reached.e) (text_of attr.now)) r) }
+        ensures comes_to { IfOk result (λ r.
+            GoesOnAt (made_up (written reached.e) (text_of attr.now)) r) }
     {
         let there = owned_attribute(self.alloc, &reached.e, attr)?;
         let is_known = knows(prior, &progress, &there);

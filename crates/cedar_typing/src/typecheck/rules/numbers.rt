@@ -153,7 +153,8 @@ impl TypeEnv<'_, '_, '_, '_> {
 
     /// Whether values of this extension type are compared.
     fn is_overloaded(&self, name: &Name) -> bool
-        ensures { result ≡ list_any (path_eq (path_of name.now)) (env_at self.now).overloaded_types }
+        ensures { result
+            ≡ list_any (path_eq (path_of name.now)) (env_at self.now).overloaded_types }
     {
         self.overloaded_types.contains(name)
     }
