@@ -74,7 +74,8 @@ def body_of(name, path):
     edited(crate, pairs)
     file, old, _ = pairs[0]
     text = read(crate, file)
-    return Body(name, crate, only or [enclosing(file, text, text.index(old.strip()))], pairs)
+    place = text.index(old) + len(old) - len(old.lstrip())
+    return Body(name, crate, only or [enclosing(file, text, place)], pairs)
 
 
 def read_bodies(edits):
