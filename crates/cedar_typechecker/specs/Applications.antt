@@ -70,7 +70,8 @@ application_warning s t =
     }
 
 -- nothing is answered where an action fits, and the warning where none does
-abbrev pub AnswersApplication : Schema → PlainTemplate → Result (Unit {0}) ValidationWarning → Type 0
+abbrev pub AnswersApplication : Schema → PlainTemplate → Result (Unit {0}) ValidationWarning
+    → Type 0
 AnswersApplication s t (Ok u) = has_fitting_action s t ≡ true
 AnswersApplication s t (Err w) =
     (has_fitting_action s t ≡ false) × (caution_of w ≡ application_warning s t)

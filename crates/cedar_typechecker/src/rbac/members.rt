@@ -26,7 +26,8 @@ pub(crate) fn has_type(types: &BTreeSet<EntityType>, name: &EntityType) -> bool
 
 /// Whether some of these types is in the set.
 pub(crate) fn has_any_type(types: &BTreeSet<EntityType>, names: &[&EntityType]) -> bool
-    ensures { result ≡ list_any (is_among (types_of types.now)) (map (λ t. type_of t.now) names.now) }
+    ensures { result
+        ≡ list_any (is_among (types_of types.now)) (map (λ t. type_of t.now) names.now) }
 {
     names.iter().any(|name| has_type(types, name))
 }
