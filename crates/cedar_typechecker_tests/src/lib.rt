@@ -1,15 +1,9 @@
-//! Tests of the passes' public calls. They stand apart, since a crate with tests is proved twice.
+//! Tests of the validator's calls that no program makes. They stand apart, since a crate with tests is proved twice.
 #![tactic(auto)]
 
-#[cfg(test)]
-mod applications;
-#[cfg(test)]
-mod literal_errors;
 #[cfg(test)]
 mod names;
 #[cfg(test)]
 mod satisfying_types;
 #[cfg(test)]
 mod schemas;
-#[cfg(test)]
-mod slot_errors;

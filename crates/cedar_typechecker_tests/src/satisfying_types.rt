@@ -1,12 +1,41 @@
-// The types that a constraint on the principal or on the resource admits.
+// The types that a constraint on the resource admits.
 use crate::names::{typed, uid};
-use crate::schemas::{users_alone, users_and_files};
-use cedar_typechecker::base::{
-    EntityType, ExtensionSchemas, PrincipalConstraint, ResourceConstraint, ValidatorSchema,
-};
+use crate::schemas::users_and_files;
+use cedar_typechecker::base::{EntityType, ExtensionSchemas, ResourceConstraint};
 use cedar_typechecker::rbac::Validator;
 use std::alloc::{AllocError, Global};
 use std::test::Fail;
+
+/// What a scope asks of the resource: its id is `a`, and its types have these names.
+#[derive(Clone, Copy, Debug)]
+enum Asked {
+    Anything,
+    EqSlot,
+    InSlot,
+    Eq(&'static str),
+    In(&'static str),
+    Is(&'static str),
+    IsInSlot(&'static str),
+    IsIn(&'static str, &'static str),
+}
+
+fn constraint(alloc: Global, asked: Asked) -> Result<ResourceConstraint, AllocError> {
+    match asked {
+        Asked::Anything => Ok(ResourceConstraint::any()),
+        Asked::EqSlot => Ok(ResourceConstraint::is_eq_slot()),
+        Asked::InSlot => Ok(ResourceConstraint::is_in_slot()),
+        Asked::Eq(name) => Ok(ResourceConstraint::is_eq(uid(alloc, name, "a")?)),
+        Asked::In(name) => Ok(ResourceConstraint::is_in(uid(alloc, name, "a")?)),
+        Asked::Is(name) => Ok(ResourceConstraint::is_entity_type(typed(alloc, name)?)),
+        Asked::IsInSlot(name) => {
+            Ok(ResourceConstraint::is_entity_type_in_slot(typed(alloc, name)?))
+        }
+        Asked::IsIn(name, group) => {
+            let group = uid(alloc, group, "a")?;
+            Ok(ResourceConstraint::is_entity_type_in(typed(alloc, name)?, group))
+        }
+    }
+}
 
 /// The names in ascending order.
 fn names(alloc: Global, types: &[&EntityType]) -> Result<String, AllocError> {
@@ -18,79 +47,35 @@ fn names(alloc: Global, types: &[&EntityType]) -> Result<String, AllocError> {
     names.as_slice().join(alloc, ",")
 }
 
-fn principals(
-    alloc: Global,
-    schema: ValidatorSchema,
-    constraint: &PrincipalConstraint,
-) -> Result<String, Fail> {
+fn resources(alloc: Global, asked: Asked) -> Result<String, Fail> {
     let extensions = ExtensionSchemas::default(alloc);
-    let validator = Validator::new(schema, &extensions);
-    let types = validator.get_principals_satisfying_constraint(alloc, constraint)?;
+    let validator = Validator::new(users_and_files(alloc)?, &extensions);
+    let constraint = constraint(alloc, asked)?;
+    let types = validator.get_resources_satisfying_constraint(alloc, &constraint)?;
     Ok(names(alloc, &types)?)
 }
 
+const ADMITTED: [(Asked, &str); 13] = [
+    (Asked::Anything, "File,Group,User"),
+    (Asked::EqSlot, "File,Group,User"),
+    (Asked::InSlot, "File,Group,User"),
+    (Asked::Eq("Gone"), "Gone"),
+    (Asked::In("Gone"), "Gone"),
+    (Asked::In("User"), "User"),
+    (Asked::In("Group"), "Group,User"),
+    (Asked::Is("User"), "User"),
+    (Asked::Is("Gone"), ""),
+    (Asked::Is("Action"), "Action"),
+    (Asked::IsInSlot("User"), "User"),
+    (Asked::IsIn("User", "Group"), "User"),
+    (Asked::IsIn("File", "Group"), ""),
+];
+
 #[test]
 fn each_type_is_listed_once(rt: HostRuntime) -> Result<(), Fail> {
-    let alloc = rt.alloc();
-    let id = |name| uid(alloc, name, "a", 0);
-    let t = |name| typed(alloc, name, 0);
-    for (constraint, want) in [
-        (PrincipalConstraint::any(), "Color,File,Group,User"),
-        (PrincipalConstraint::is_eq_slot(), "Color,File,Group,User"),
-        (PrincipalConstraint::is_in_slot(), "Color,File,Group,User"),
-        (PrincipalConstraint::is_eq(id("Gone")?), "Gone"),
-        (PrincipalConstraint::is_in(id("Gone")?), "Gone"),
-        (PrincipalConstraint::is_in(id("User")?), "User"),
-        (PrincipalConstraint::is_in(id("Group")?), "Group,User"),
-        (PrincipalConstraint::is_entity_type(t("User")?), "User"),
-        (PrincipalConstraint::is_entity_type(t("Gone")?), ""),
-        (PrincipalConstraint::is_entity_type(t("Action")?), "Action"),
-        (
-            PrincipalConstraint::is_entity_type_in_slot(t("User")?),
-            "User",
-        ),
-        (
-            PrincipalConstraint::is_entity_type_in(t("User")?, id("Group")?),
-            "User",
-        ),
-        (
-            PrincipalConstraint::is_entity_type_in(t("File")?, id("Group")?),
-            "",
-        ),
-    ] {
-        let found = principals(alloc, users_and_files(alloc)?, &constraint)?;
-        assert_eq!(rt; found.as_str(), want);
+    for (asked, want) in &ADMITTED {
+        let found = resources(rt.alloc(), *asked)?;
+        assert!(rt; found.as_str() == *want, "{asked:?}");
     }
-    Ok(())
-}
-
-#[test]
-fn a_slot_admits_the_only_type(rt: HostRuntime) -> Result<(), Fail> {
-    let alloc = rt.alloc();
-    let constraint = PrincipalConstraint::is_eq_slot();
-    let found = principals(alloc, users_alone(alloc)?, &constraint)?;
-    assert_eq!(rt; found.as_str(), "User");
-    Ok(())
-}
-
-#[test]
-fn resources_are_admitted_by_the_same_rules(rt: HostRuntime) -> Result<(), Fail> {
-    let alloc = rt.alloc();
-    let extensions = ExtensionSchemas::default(alloc);
-    let validator = Validator::new(users_and_files(alloc)?, &extensions);
-    assert!(rt;
-        validator
-            .schema()
-            .is_known_entity_type(&typed(alloc, "File", 0)?)
-    );
-    assert!(rt;
-        validator
-            .extensions()
-            .func_type(&typed(alloc, "f", 0)?.name)
-            .is_none()
-    );
-    let constraint = ResourceConstraint::is_in(uid(alloc, "Group", "g", 0)?);
-    let types = validator.get_resources_satisfying_constraint(alloc, &constraint)?;
-    assert_eq!(rt; names(alloc, &types)?.as_str(), "Group,User");
     Ok(())
 }
