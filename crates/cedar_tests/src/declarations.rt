@@ -100,13 +100,13 @@ fn action_of(
 /// The action `view` of principals and resources of these types.
 pub fn view(
     alloc: Global,
-    principals: &[&str],
-    resources: &[&str],
+    principal: &str,
+    resource: &str,
     context: CedarType,
 ) -> Result<ValidatorActionId, AllocError> {
     let applies_to = ValidatorApplySpec {
-        principal_apply_spec: types(alloc, principals)?,
-        resource_apply_spec: types(alloc, resources)?,
+        principal_apply_spec: types(alloc, &[principal])?,
+        resource_apply_spec: types(alloc, &[resource])?,
         context: Rc::new(alloc, context)?,
     };
     Ok(ValidatorActionId {

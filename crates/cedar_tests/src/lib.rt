@@ -1,10 +1,9 @@
-//! Tests of the libraries' public calls. They stand apart, since a crate with tests is proved twice.
+//! Tests of the lowest library's calls that no program makes, and of texts that no case shows. They stand apart, since a crate
+//! with tests is proved twice.
 #![tactic(auto)]
 
 #[cfg(test)]
 mod capabilities;
-#[cfg(test)]
-mod conditions;
 #[cfg(test)]
 mod declarations;
 #[cfg(test)]
@@ -18,15 +17,11 @@ mod findings;
 #[cfg(test)]
 mod mentions;
 #[cfg(test)]
-mod names;
-#[cfg(test)]
 mod parts;
 #[cfg(test)]
 mod request_envs;
 #[cfg(test)]
 mod schema_faults;
-#[cfg(test)]
-mod schema_queries;
 #[cfg(test)]
 mod subexpressions;
 #[cfg(test)]

@@ -4,8 +4,6 @@ use cedar_types::base::{
 };
 use std::alloc::{AllocError, Global};
 use std::collections::BTreeSet;
-use std::fmt::Display;
-use std::process::Abort;
 use std::rc::RcStr;
 
 pub fn text(alloc: Global, s: &str) -> Result<RcStr, AllocError> {
@@ -49,16 +47,4 @@ pub fn lub(alloc: Global, names: &[&str]) -> Result<EntityLUB, AllocError> {
 /// The type of the entities of the types of these names.
 pub fn entity(alloc: Global, names: &[&str]) -> Result<CedarType, AllocError> {
     Ok(CedarType::Entity(EntityKind::Entity(lub(alloc, names)?)))
-}
-
-/// The value is shown so.
-pub fn shows<T: Display + Drop>(
-    rt: &impl Abort,
-    alloc: Global,
-    value: T,
-    want: &str,
-) -> Result<(), AllocError> {
-    let shown = value.to_string(alloc)?;
-    assert_eq!(rt; shown.as_str(), want);
-    Ok(())
 }

@@ -1,13 +1,10 @@
 // Schemas that are refused: each fault alone, and before every later one.
 use crate::declarations::{Declared, Kind, declare, schema, standard, view};
-use crate::parts::{entity, entity_type, shows};
+use crate::parts::entity;
 use cedar_types::base::{
-    AttributeType, CedarType, SchemaError, ValidatorEntityType, ValidatorEntityTypeKind,
-    ValidatorSchema,
+    AttributeType, CedarType, SchemaError, ValidatorEntityTypeKind, ValidatorSchema,
 };
 use std::alloc::{AllocError, Global};
-use std::collections::BTreeSet;
-use std::process::Abort;
 use std::test::Fail;
 
 const FAULTS: [SchemaError; 9] = [
@@ -45,99 +42,146 @@ const SAMPLES: [&[Declared]; 9] = [
     ],
 ];
 
+/// The fault of the schema of these declarations.
+fn fault(alloc: Global, lists: &[&[Declared]]) -> Option<SchemaError> {
+    schema(alloc, lists).err()
+}
+
 #[test]
 fn each_fault_is_found_before_the_later_ones(rt: HostRuntime) -> Result<(), Fail> {
-    let alloc = rt.alloc();
-    assert!(rt; schema(alloc, &[]).is_ok());
-    for (at, fault) in FAULTS.iter().enumerate() {
-        let alone = schema(alloc, &SAMPLES[at..at + 1]).err();
-        assert!(rt; alone.as_ref() == Some(fault), "{fault}");
-        let first = schema(alloc, &SAMPLES[at..]).err();
-        assert!(rt; first.as_ref() == Some(fault), "{fault}");
-    }
-    let actions: &[Declared] = &[
-        Declared("top", &["middle"], Kind::Action("Action")),
-        Declared("middle", &["bottom"], Kind::Action("Action")),
-        Declared("bottom", &[], Kind::Action("Action")),
-    ];
-    let open = schema(alloc, &[actions]).err();
-    assert!(rt; open.as_ref() == FAULTS.last());
-    shows(
-        &rt,
-        alloc,
-        SchemaError::UnknownActionDescendant,
-        "UnknownActionDescendant",
-    )?;
-    shows(&rt, alloc, SchemaError::from(AllocError), "Memory")?;
-    Ok(())
-}
-
-/// A type with an attribute of this type and one with tags of it each have this fault, or none.
-fn gives(
-    rt: &impl Abort,
-    alloc: Global,
-    ty: CedarType,
-    fault: Option<&SchemaError>,
-) -> Result<(), AllocError> {
-    let attribute = AttributeType::optional_attribute(ty.clone()?);
-    let with_attribute = standard(alloc, vec![in alloc; ("x", attribute)]?, None)?;
-    let with_tags = standard(alloc, Vec::new(alloc), Some(ty))?;
-    for kind in [with_attribute, with_tags] {
-        let plain = declare(alloc, "B", standard(alloc, Vec::new(alloc), None)?)?;
-        let types = vec![in alloc; declare(alloc, "A", kind)?, plain]?;
-        let found = ValidatorSchema::new(alloc, types, Vec::new(alloc)).err();
-        assert!(rt; found.as_ref() == fault);
+    assert!(rt; fault(rt.alloc(), &[]).is_none());
+    for (at, want) in FAULTS.iter().enumerate() {
+        let alone = fault(rt.alloc(), &SAMPLES[at..at + 1]);
+        assert!(rt; alone.as_ref() == Some(want), "{want}");
+        let first = fault(rt.alloc(), &SAMPLES[at..]);
+        assert!(rt; first.as_ref() == Some(want), "{want}");
     }
     Ok(())
 }
 
-const VAGUE: Option<&SchemaError> = Some(&SchemaError::VagueType);
-
-const UNKNOWN: Option<&SchemaError> = Some(&SchemaError::UnknownType);
+/// Actions of which the lowest is below the highest by way of the middle alone.
+const OPEN: &[Declared] = &[
+    Declared("top", &["middle"], Kind::Action("Action")),
+    Declared("middle", &["bottom"], Kind::Action("Action")),
+    Declared("bottom", &[], Kind::Action("Action")),
+];
 
 #[test]
-fn attributes_and_tags_say_enough_and_are_known(rt: HostRuntime) -> Result<(), AllocError> {
-    let alloc = rt.alloc();
-    gives(&rt, alloc, CedarType::Never, VAGUE)?;
-    gives(&rt, alloc, CedarType::any_set(), VAGUE)?;
-    gives(&rt, alloc, CedarType::any_entity_reference(), VAGUE)?;
-    gives(&rt, alloc, CedarType::singleton_boolean(true), VAGUE)?;
-    gives(&rt, alloc, CedarType::singleton_boolean(false), VAGUE)?;
-    gives(&rt, alloc, CedarType::any_record(alloc)?, VAGUE)?;
-    gives(&rt, alloc, entity(alloc, &["A", "B"])?, VAGUE)?;
-    gives(&rt, alloc, CedarType::set(alloc, CedarType::Never)?, VAGUE)?;
-    gives(
-        &rt,
-        alloc,
-        CedarType::set(alloc, CedarType::primitive_boolean())?,
-        None,
-    )?;
-    gives(&rt, alloc, entity(alloc, &["A"])?, None)?;
-    gives(&rt, alloc, entity(alloc, &["Action"])?, None)?;
-    gives(&rt, alloc, entity(alloc, &["Gone"])?, UNKNOWN)
+fn descendants_of_actions_are_closed(rt: HostRuntime) -> Result<(), Fail> {
+    assert!(rt; fault(rt.alloc(), &[OPEN]).as_ref() == FAULTS.last());
+    Ok(())
 }
 
-/// An action of these types and this context, where `A` alone is declared, has this fault.
+/// A type that an attribute, tags, a principal, a resource or a context may have.
+#[derive(Clone, Copy)]
+enum Named {
+    Never,
+    AnySet,
+    AnyEntity,
+    AnyRecord,
+    Boolean(bool),
+    SetOfNever,
+    SetOfBooleans,
+    Entity(&'static [&'static str]),
+}
+
+fn made(alloc: Global, named: Named) -> Result<CedarType, AllocError> {
+    match named {
+        Named::Never => Ok(CedarType::Never),
+        Named::AnySet => Ok(CedarType::any_set()),
+        Named::AnyEntity => Ok(CedarType::any_entity_reference()),
+        Named::AnyRecord => CedarType::any_record(alloc),
+        Named::Boolean(value) => Ok(CedarType::singleton_boolean(value)),
+        Named::SetOfNever => CedarType::set(alloc, CedarType::Never),
+        Named::SetOfBooleans => CedarType::set(alloc, CedarType::primitive_boolean()),
+        Named::Entity(names) => entity(alloc, names),
+    }
+}
+
+const VAGUE: Option<SchemaError> = Some(SchemaError::VagueType);
+
+const UNKNOWN: Option<SchemaError> = Some(SchemaError::UnknownType);
+
+/// The types of attributes and tags, and the fault that each has where `A` and `B` alone are declared.
+const TYPES: [(Named, Option<SchemaError>); 12] = [
+    (Named::Never, VAGUE),
+    (Named::AnySet, VAGUE),
+    (Named::AnyEntity, VAGUE),
+    (Named::Boolean(true), VAGUE),
+    (Named::Boolean(false), VAGUE),
+    (Named::AnyRecord, VAGUE),
+    (Named::Entity(&["A", "B"]), VAGUE),
+    (Named::SetOfNever, VAGUE),
+    (Named::SetOfBooleans, None),
+    (Named::Entity(&["A"]), None),
+    (Named::Entity(&["Action"]), None),
+    (Named::Entity(&["Gone"]), UNKNOWN),
+];
+
+/// The fault of a schema whose type `A` is of this kind, beside an external type `B`.
+fn fault_of_kind(
+    alloc: Global,
+    kind: ValidatorEntityTypeKind,
+) -> Result<Option<SchemaError>, AllocError> {
+    let mut types = Vec::new(alloc);
+    types.push(declare(alloc, "A", kind)?)?;
+    types.push(declare(alloc, "B", ValidatorEntityTypeKind::External)?)?;
+    Ok(ValidatorSchema::new(alloc, types, Vec::new(alloc)).err())
+}
+
+/// The faults of a schema with an attribute of this type, and of one with such tags.
+fn faults(
+    alloc: Global,
+    named: Named,
+) -> Result<(Option<SchemaError>, Option<SchemaError>), AllocError> {
+    let attribute = AttributeType::optional_attribute(made(alloc, named)?);
+    let attributes = standard(alloc, vec![in alloc; ("x", attribute)]?, None)?;
+    let of_attribute = fault_of_kind(alloc, attributes)?;
+    let tags = standard(alloc, Vec::new(alloc), Some(made(alloc, named)?))?;
+    Ok((of_attribute, fault_of_kind(alloc, tags)?))
+}
+
+#[test]
+fn attributes_and_tags_say_enough_and_are_known(rt: HostRuntime) -> Result<(), Fail> {
+    for (named, want) in &TYPES {
+        let (of_attribute, of_tags) = faults(rt.alloc(), *named)?;
+        assert!(rt; of_attribute == *want && of_tags == *want);
+    }
+    Ok(())
+}
+
+/// What an action applies to, and the fault that it has where `A` alone is declared.
+const APPLICATIONS: [(&str, &str, Named, Option<SchemaError>); 5] = [
+    ("Gone", "A", Named::Never, UNKNOWN),
+    ("A", "Gone", Named::Never, UNKNOWN),
+    ("A", "A", Named::Entity(&["Gone"]), UNKNOWN),
+    ("A", "A", Named::SetOfBooleans, VAGUE),
+    ("A", "A", Named::AnyRecord, VAGUE),
+];
+
+/// The fault of an action of these types and this context, where `A` alone is declared.
 fn applied(
-    rt: &impl Abort,
     alloc: Global,
     (principal, resource): (&str, &str),
-    context: CedarType,
-    fault: Option<&SchemaError>,
-) -> Result<(), AllocError> {
+    context: Named,
+) -> Result<Option<SchemaError>, AllocError> {
+    let action = view(alloc, principal, resource, made(alloc, context)?)?;
     let a = declare(alloc, "A", ValidatorEntityTypeKind::External)?;
-    let action = view(alloc, &[principal], &[resource], context)?;
-    let made = ValidatorSchema::new(alloc, vec![in alloc; a]?, vec![in alloc; action]?);
-    assert!(rt; made.err().as_ref() == fault, "{principal} {resource}");
+    Ok(ValidatorSchema::new(alloc, vec![in alloc; a]?, vec![in alloc; action]?).err())
+}
+
+#[test]
+fn what_an_action_applies_to_is_known(rt: HostRuntime) -> Result<(), Fail> {
+    for (principal, resource, context, want) in &APPLICATIONS {
+        let found = applied(rt.alloc(), (principal, resource), *context)?;
+        assert!(rt; found == *want, "{principal} {resource}");
+    }
     Ok(())
 }
 
 #[test]
-fn what_an_action_applies_to_is_known(rt: HostRuntime) -> Result<(), AllocError> {
-    let alloc = rt.alloc();
-    applied(&rt, alloc, ("Gone", "A"), CedarType::Never, UNKNOWN)?;
-    applied(&rt, alloc, ("A", "Gone"), CedarType::Never, UNKNOWN)?;
-    applied(&rt, alloc, ("A", "A"), entity(alloc, &["Gone"])?, UNKNOWN)?;
-    applied(&rt, alloc, ("A", "A"), CedarType::primitive_string(), VAGUE)?;
-    applied(&rt, alloc, ("A", "A"), CedarType::any_record(alloc)?, VAGUE)
+fn refused_memory_is_an_error_of_a_schema(rt: HostRuntime) -> Result<(), Fail> {
+    let shown = SchemaError::from(AllocError).to_string(rt.alloc())?;
+    assert_eq!(rt; shown.as_str(), "Memory");
+    Ok(())
 }

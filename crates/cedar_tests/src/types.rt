@@ -1,8 +1,8 @@
 // Types: their texts and their order, and what is asked of two.
-use crate::parts::{entity, shows, text};
+use crate::parts::{entity, lub, types};
 use cedar_types::base::type_laws::{compare_types, equal_types, types_are_well_formed};
 use cedar_types::base::{
-    AttributeType, Attributes, CedarType, Name, OpenTag, ValidationMode, types_in_order,
+    AttributeType, Attributes, CedarType, EntityLUB, Name, OpenTag, types_in_order,
 };
 use std::alloc::{AllocError, Global};
 use std::cmp::Ordering;
@@ -86,47 +86,22 @@ fn types_are_shown_in_their_order(rt: HostRuntime) -> Result<(), Fail> {
     Ok(())
 }
 
+/// The set of the entity types of these names.
+fn set_of(alloc: Global, names: &[&str]) -> Result<Option<EntityLUB>, AllocError> {
+    EntityLUB::from_types(alloc, types(alloc, names)?)
+}
+
 #[test]
-fn a_list_is_folded_from_its_first_type(rt: HostRuntime) -> Result<(), Fail> {
-    let alloc = rt.alloc();
-    let mode = ValidationMode::Strict;
-    let any = CedarType::any_set();
-    let longs = CedarType::set(alloc, CedarType::primitive_long())?;
-    let bools = CedarType::set(alloc, CedarType::primitive_boolean())?;
-    let found = CedarType::reduce_to_least_upper_bound(alloc, &[&any, &longs, &bools], mode)?;
-    assert!(rt; found.as_ref() == Some(&any));
-    let found = CedarType::reduce_to_least_upper_bound(alloc, &[&longs, &bools, &any], mode)?;
-    assert!(rt; found.is_none());
-    let found = CedarType::least_upper_bound(alloc, &longs, &any, mode)?;
-    assert!(rt; found.as_ref() == Some(&any));
-    assert!(rt; CedarType::is_subtype(alloc, &bools, &any, mode)?);
+fn a_set_of_entity_types_is_not_empty(rt: HostRuntime) -> Result<(), Fail> {
+    assert!(rt; set_of(rt.alloc(), &[])?.is_none());
     Ok(())
 }
 
 #[test]
-fn only_sets_of_entity_types_are_disjoint(rt: HostRuntime) -> Result<(), Fail> {
+fn sets_without_a_common_entity_type_are_disjoint(rt: HostRuntime) -> Result<(), Fail> {
     let alloc = rt.alloc();
-    let both = entity(alloc, &["a", "b"])?;
-    let [a, c] = [entity(alloc, &["a"])?, entity(alloc, &["c"])?];
-    let [any, never] = [CedarType::any_entity_reference(), CedarType::Never];
-    for (other, want) in [(&a, false), (&c, true), (&any, false), (&never, false)] {
-        assert!(rt;
-            CedarType::are_types_disjoint(&both, other) == want,
-            "{other}"
-        );
-    }
-    Ok(())
-}
-
-#[test]
-fn attributes_are_found_by_name(rt: HostRuntime) -> Result<(), Fail> {
-    let alloc = rt.alloc();
-    let optional = AttributeType::optional_attribute(CedarType::Long);
-    let attributes = Attributes::from_list(alloc, vec![in alloc; ("a", optional)]?)?.clone()?;
-    let a = text(alloc, "a")?;
-    let b = text(alloc, "b")?;
-    let found = attributes.get_attr(&a).ok_or("a")?;
-    assert!(rt; !found.is_required);
-    assert!(rt; attributes.get_attr(&b).is_none());
+    let both = lub(alloc, &["a", "b"])?;
+    let other = lub(alloc, &["c"])?;
+    assert!(rt; both.is_disjoint(&other) && !both.is_disjoint(&both));
     Ok(())
 }
