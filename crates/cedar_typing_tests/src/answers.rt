@@ -4,34 +4,38 @@ use cedar_types::base::CedarType;
 use cedar_typing::typecheck::answer::TypecheckAnswer;
 use std::test::Fail;
 
+/// Whether the answer is a success, and whether what it has is typed as a long.
+fn told(answer: &TypecheckAnswer<'_>) -> (bool, bool) {
+    (answer.typechecked(), answer.contains_type(&CedarType::Long))
+}
+
 #[test]
-fn each_answer_tells_of_itself(rt: HostRuntime) -> Result<(), Fail> {
+fn a_success_has_its_type(rt: HostRuntime) -> Result<(), Fail> {
     let alloc = rt.alloc();
-    let set = knowing(alloc, "x")?;
-    for (answer, is_success, is_long, has_expr) in [
-        (TypecheckAnswer::success(alloc, long(1)), true, true, true),
-        (
-            TypecheckAnswer::success_with_capability(long(2), set),
-            true,
-            true,
-            true,
-        ),
-        (
-            TypecheckAnswer::success(alloc, number(3, None)),
-            true,
-            false,
-            true,
-        ),
-        (TypecheckAnswer::fail(long(4)), false, true, true),
-        (TypecheckAnswer::RecursionLimit, false, false, false),
-    ] {
-        assert_eq!(rt; answer.typechecked(), is_success);
-        assert_eq!(rt; answer.contains_type(&CedarType::Long), is_long);
-        assert!(rt; !answer.contains_type(&CedarType::Never));
-        let failed = answer.into_fail();
-        assert_eq!(rt; is_failure(&failed), has_expr);
-        assert_eq!(rt; failed.contains_type(&CedarType::Long), is_long);
-        assert_eq!(rt; failed.into_typed_expr().is_some(), has_expr);
-    }
+    assert!(rt; told(&TypecheckAnswer::success(alloc, long(1))) == (true, true));
+    assert!(rt; told(&TypecheckAnswer::success(alloc, number(3, None))) == (true, false));
+    let knowing = TypecheckAnswer::success_with_capability(long(2), knowing(alloc, "x")?);
+    assert!(rt; told(&knowing) == (true, true));
+    Ok(())
+}
+
+#[test]
+fn a_failure_has_its_type_and_a_limit_has_none(rt: HostRuntime) -> Result<(), Fail> {
+    assert!(rt; told(&TypecheckAnswer::fail(long(4))) == (false, true));
+    assert!(rt; told(&TypecheckAnswer::RecursionLimit) == (false, false));
+    Ok(())
+}
+
+/// Whether the answer, made a failure, still has an expression.
+fn has_expression(answer: TypecheckAnswer<'_>) -> bool {
+    let failed = answer.into_fail();
+    is_failure(&failed) && failed.into_typed_expr().is_some()
+}
+
+#[test]
+fn what_is_made_a_failure_keeps_its_expression(rt: HostRuntime) -> Result<(), Fail> {
+    assert!(rt; has_expression(TypecheckAnswer::success(rt.alloc(), long(1))));
+    assert!(rt; has_expression(TypecheckAnswer::fail(long(1))));
+    assert!(rt; !has_expression(TypecheckAnswer::RecursionLimit));
     Ok(())
 }

@@ -14,15 +14,12 @@ use std::test::Fail;
 
 const POLICY: Option<Loc> = Some(Loc { start: 5, end: 900 });
 
-pub fn named(alloc: Global, basename: &str) -> Result<EntityType, AllocError> {
+fn named(alloc: Global, basename: &str) -> Result<EntityType, AllocError> {
     Ok(EntityType::from(Name::unqualified_name(alloc, basename)?))
 }
 
-/// `entity User { ok: Bool, boss: User };`, in which users of these types may be.
-fn users(
-    alloc: Global,
-    descendants: BTreeSet<EntityType>,
-) -> Result<ValidatorEntityType, AllocError> {
+/// `entity User { ok: Bool, boss: User };`
+fn users(alloc: Global) -> Result<ValidatorEntityType, AllocError> {
     let ok = AttributeType::required_attribute(CedarType::primitive_boolean());
     let user = CedarType::named_entity_reference(alloc, named(alloc, "User")?)?;
     let boss = AttributeType::required_attribute(user);
@@ -33,7 +30,7 @@ fn users(
     });
     Ok(ValidatorEntityType {
         name: named(alloc, "User")?,
-        descendants,
+        descendants: BTreeSet::new(alloc),
         kind,
     })
 }
@@ -68,17 +65,9 @@ pub fn permit_when(alloc: Global, condition: Expr) -> Result<Template, AllocErro
     ))
 }
 
-/// The schema of `checked_policy`, but users may be in users.
-pub fn environment_schema(alloc: Global) -> Result<ValidatorSchema, Fail> {
-    let mut descendants = BTreeSet::new(alloc);
-    descendants.insert(named(alloc, "User")?)?;
-    let (users, greet) = (users(alloc, descendants)?, greet(alloc)?);
-    Ok(ValidatorSchema::new(alloc, vec![in alloc; users]?, vec![in alloc; greet]?)?)
-}
-
 /// The check of a policy.
 pub fn checked_policy(alloc: Global, policy: &Template) -> Result<PolicyCheck, Fail> {
-    let (users, greet) = (users(alloc, BTreeSet::new(alloc))?, greet(alloc)?);
+    let (users, greet) = (users(alloc)?, greet(alloc)?);
     let schema = ValidatorSchema::new(alloc, vec![in alloc; users]?, vec![in alloc; greet]?)?;
     let extensions = ExtensionSchemas::default(alloc);
     let typechecker = Typechecker::new(&schema, &extensions, ValidationMode::Strict);
@@ -124,41 +113,36 @@ fn with_errors(
     Ok(shown)
 }
 
+/// `if .. { principal.ok } else { principal.ok }`.
+fn decided(alloc: Global, test: bool) -> Result<Expr, AllocError> {
+    let yes = Expr::get_attr(alloc, Expr::var(Var::Principal), "ok")?;
+    let no = Expr::get_attr(alloc, Expr::var(Var::Principal), "ok")?;
+    Expr::ite(alloc, Expr::val(Literal::from(test)), yes, no)
+}
+
+/// Whether both branches of the `if` on the right side of this conjunction are one tree.
+fn have_one_tree(typed: &Expr<Option<CedarType>>) -> bool {
+    let ExprKind::And(_, condition) = &typed.kind else {
+        return false;
+    };
+    match &condition.kind {
+        ExprKind::If {
+            then_expr,
+            else_expr,
+            ..
+        } => Rc::ptr_eq(then_expr, else_expr),
+        _ => false,
+    }
+}
+
 #[test]
 fn under_a_test_that_decides_both_branches_are_one_tree(rt: HostRuntime) -> Result<(), Fail> {
     let alloc = rt.alloc();
     for test in [true, false] {
-        let [yes, no] = [Expr::var(Var::Principal), Expr::var(Var::Principal)];
-        let yes = Expr::get_attr(alloc, yes, "ok")?;
-        let no = Expr::get_attr(alloc, no, "ok")?;
-        let test = Expr::val(Literal::from(test));
-        let check = checked(alloc, Expr::ite(alloc, test, yes, no)?)?;
-        let PolicyCheck::Success(typed) = &check else {
+        let PolicyCheck::Success(typed) = &checked(alloc, decided(alloc, test)?)? else {
             return Err(Fail::from("a success"));
         };
-        assert_eq!(rt; typed.loc, POLICY);
-        let ExprKind::And(_, condition) = &typed.kind else {
-            return Err(Fail::from("a conjunction"));
-        };
-        let ExprKind::If {
-            test_expr: _test,
-            then_expr,
-            else_expr,
-        } = &condition.kind
-        else {
-            return Err(Fail::from("an if"));
-        };
-        assert!(rt; Rc::ptr_eq(then_expr, else_expr));
+        assert!(rt; typed.loc == POLICY && have_one_tree(typed));
     }
-    Ok(())
-}
-
-#[test]
-fn a_call_of_an_unknown_function_is_an_error(rt: HostRuntime) -> Result<(), Fail> {
-    let alloc = rt.alloc();
-    let name = Name::unqualified_name(alloc, "f")?;
-    let call = Expr::call_extension_fn(name, Vec::new(alloc));
-    let found = outcome(alloc, &checked(alloc, call)?)?;
-    assert_eq!(rt; found.as_str(), "failure; undefined extension function `f`");
     Ok(())
 }

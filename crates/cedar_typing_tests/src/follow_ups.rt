@@ -1,83 +1,106 @@
 // What follows up on one answer.
-use crate::parts::{is_failure, is_limit, knowing, knows, long, number};
+use crate::parts::{is_limit, knowing, knows, long, number};
 use cedar_types::base::CedarType;
 use cedar_typing::typecheck::answer::TypecheckAnswer;
-use std::alloc::AllocError;
+use std::alloc::{AllocError, Global};
 use std::test::Fail;
 
-#[test]
-fn the_set_of_a_success_alone_is_replaced(rt: HostRuntime) -> Result<(), Fail> {
-    let alloc = rt.alloc();
-    let mut knew = false;
-    let before = TypecheckAnswer::success_with_capability(long(1), knowing(alloc, "x")?);
-    let answer = before.map_capability(|set| {
-        knew = knows(alloc, &set, "x")?;
-        knowing(alloc, "y")
-    })?;
-    assert!(rt; knew);
-    let mut knows_new = false;
-    let answer = answer.map_capability(|set| {
-        knows_new = knows(alloc, &set, "y")?;
-        Ok(set)
-    })?;
-    assert!(rt; knows_new);
-    assert!(rt; answer.contains_type(&CedarType::Long));
-    let mut calls = 0;
-    for other in [
-        TypecheckAnswer::fail(long(1)),
-        TypecheckAnswer::RecursionLimit,
-    ] {
-        let is_limited = is_limit(&other);
-        let answer = other.map_capability(|_| {
-            calls += 1;
-            Err(AllocError)
-        })?;
-        assert_eq!(rt; is_limit(&answer), is_limited);
+/// A success that knows that the principal has `x`.
+fn knowing_x<'a>(alloc: Global) -> Result<TypecheckAnswer<'a>, AllocError> {
+    Ok(TypecheckAnswer::success_with_capability(long(7), knowing(alloc, "x")?))
+}
+
+/// The answer, which knows `y` in place of all else where it knows `x`.
+fn replaced<'a>(
+    alloc: Global,
+    answer: TypecheckAnswer<'a>,
+) -> Result<TypecheckAnswer<'a>, AllocError> {
+    answer.map_capability(|set| {
+        if knows(alloc, &set, "x")? {
+            knowing(alloc, "y")
+        } else {
+            Ok(set)
+        }
+    })
+}
+
+/// Whether it is a success that knows that the principal has this attribute.
+fn is_knowing(alloc: Global, answer: &TypecheckAnswer<'_>, attr: &str) -> Result<bool, AllocError> {
+    match answer {
+        TypecheckAnswer::TypecheckSuccess {
+            expr_capability,
+            ..
+        } => knows(alloc, expr_capability, attr),
+        _ => Ok(false),
     }
-    assert_eq!(rt; calls, 0);
-    let success = TypecheckAnswer::success(alloc, long(1));
-    assert!(rt; success.map_capability(|_| Err(AllocError)).is_err());
-    Ok(())
 }
 
 #[test]
-fn a_success_hands_on_what_it_has_and_a_failure_its_expression(
-    rt: HostRuntime,
-) -> Result<(), Fail> {
+fn the_set_of_a_success_is_replaced(rt: HostRuntime) -> Result<(), Fail> {
     let alloc = rt.alloc();
-    let known = TypecheckAnswer::success_with_capability(long(7), knowing(alloc, "x")?);
-    for (before, is_known) in [(known, true), (TypecheckAnswer::fail(long(7)), false)] {
-        let mut handed = None;
-        let answer = before.then_typecheck(alloc, |expr, set| {
-            handed = Some((expr == long(7), knows(alloc, &set, "x")?));
+    let answer = replaced(alloc, knowing_x(alloc)?)?;
+    assert!(rt; is_knowing(alloc, &answer, "y")? && !is_knowing(alloc, &answer, "x")?);
+    Ok(())
+}
+
+/// The answer, with a set that memory is refused for.
+fn refused(answer: TypecheckAnswer<'_>) -> Result<TypecheckAnswer<'_>, AllocError> {
+    answer.map_capability(|_| Err(AllocError))
+}
+
+#[test]
+fn only_a_success_has_a_set_to_replace(rt: HostRuntime) -> Result<(), Fail> {
+    assert!(rt; refused(TypecheckAnswer::success(rt.alloc(), long(1))).is_err());
+    assert!(rt; refused(TypecheckAnswer::fail(long(1))).is_ok());
+    assert!(rt; refused(TypecheckAnswer::RecursionLimit).is_ok());
+    Ok(())
+}
+
+/// Follows up with a string on a `7`, and with a limit on all else, where this is what is known of `x`.
+fn followed<'a>(
+    alloc: Global,
+    answer: TypecheckAnswer<'a>,
+    is_known: bool,
+) -> Result<TypecheckAnswer<'a>, AllocError> {
+    answer.then_typecheck(alloc, |expr, set| {
+        if expr == long(7) && knows(alloc, &set, "x")? == is_known {
             Ok(TypecheckAnswer::success(alloc, number(8, Some(CedarType::String))))
-        })?;
-        assert_eq!(rt; handed, Some((true, is_known)));
-        assert_eq!(rt; answer.typechecked(), is_known);
-        assert!(rt; answer.contains_type(&CedarType::String));
-    }
+        } else {
+            Ok(TypecheckAnswer::RecursionLimit)
+        }
+    })
+}
+
+#[test]
+fn a_success_hands_on_what_it_has(rt: HostRuntime) -> Result<(), Fail> {
+    let alloc = rt.alloc();
+    let answer = followed(alloc, knowing_x(alloc)?, true)?;
+    assert!(rt; answer.typechecked() && answer.contains_type(&CedarType::String));
     Ok(())
 }
 
 #[test]
-fn nothing_follows_a_limit_and_what_follows_may_be_one(rt: HostRuntime) -> Result<(), Fail> {
-    let alloc = rt.alloc();
-    let mut calls = 0;
-    let answer = TypecheckAnswer::RecursionLimit.then_typecheck(alloc, |_, _| {
-        calls += 1;
-        Err(AllocError)
-    })?;
+fn a_failure_hands_on_its_expression_and_stays_a_failure(rt: HostRuntime) -> Result<(), Fail> {
+    let answer = followed(rt.alloc(), TypecheckAnswer::fail(long(7)), false)?;
+    assert!(rt; !answer.typechecked() && answer.contains_type(&CedarType::String));
+    Ok(())
+}
+
+#[test]
+fn what_follows_may_be_a_limit(rt: HostRuntime) -> Result<(), Fail> {
+    let answer = followed(rt.alloc(), TypecheckAnswer::fail(long(7)), true)?;
     assert!(rt; is_limit(&answer));
-    assert_eq!(rt; calls, 0);
-    let answer = TypecheckAnswer::fail(long(7));
-    let answer = answer.then_typecheck(alloc, |_, _| Ok(TypecheckAnswer::RecursionLimit))?;
-    assert!(rt; is_limit(&answer));
-    let failure = TypecheckAnswer::fail(long(7));
-    assert!(rt; is_failure(&failure));
-    assert!(rt;
-        failure
-            .then_typecheck(alloc, |_, _| Err(AllocError))
-            .is_err()
-    );
+    Ok(())
+}
+
+/// Follows up with refused memory.
+fn cut_off(alloc: Global, answer: TypecheckAnswer<'_>) -> Result<TypecheckAnswer<'_>, AllocError> {
+    answer.then_typecheck(alloc, |_, _| Err(AllocError))
+}
+
+#[test]
+fn nothing_follows_a_limit(rt: HostRuntime) -> Result<(), Fail> {
+    assert!(rt; is_limit(&cut_off(rt.alloc(), TypecheckAnswer::RecursionLimit)?));
+    assert!(rt; cut_off(rt.alloc(), TypecheckAnswer::fail(long(7))).is_err());
     Ok(())
 }

@@ -1,4 +1,4 @@
-//! Tests of typing's public calls. They stand apart, since a crate with tests is proved twice.
+//! Tests of typing's calls that no program makes, and of nesting. They stand apart, since a crate with tests is proved twice.
 #![tactic(auto)]
 
 #[cfg(test)]
@@ -7,8 +7,6 @@ mod answers;
 mod checks;
 #[cfg(test)]
 mod deep_policies;
-#[cfg(test)]
-mod environments;
 #[cfg(test)]
 mod follow_ups;
 #[cfg(test)]
