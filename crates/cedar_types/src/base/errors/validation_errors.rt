@@ -17,7 +17,7 @@ use crate::base::names::policy_ids::PolicyID;
 use thiserror::Error;
 
 /// What makes a policy invalid, with the policy's id and the place that it is about.
-#[derive(PartialEq, Eq, Hash, Debug, Drop, Error)]
+#[derive(PartialEq, Eq, Hash, Debug, Error)]
 pub enum ValidationError {
     /// A type that the schema does not know.
     #[error(transparent)]
@@ -133,6 +133,32 @@ impl ValidationError {
             ValidationError::InternalInvariantViolation(e) => &e.policy_id,
             ValidationError::MaximumLevelExceeded(e) => &e.policy_id,
             ValidationError::LiteralDereferenceTarget(e) => &e.policy_id,
+        }
+    }
+}
+
+// By hand, so that a proof has one call where an error is dropped: a derived drop stands in it with all kinds of errors at each
+// such place.
+impl Drop for ValidationError {
+    fn drop(self) {
+        match self {
+            ValidationError::UnrecognizedEntityType(_) => {}
+            ValidationError::UnrecognizedActionId(_) => {}
+            ValidationError::InvalidEnumEntity(_) => {}
+            ValidationError::UnexpectedType(_) => {}
+            ValidationError::IncompatibleTypes(_) => {}
+            ValidationError::UnsafeAttributeAccess(_) => {}
+            ValidationError::UnsafeOptionalAttributeAccess(_) => {}
+            ValidationError::UnsafeTagAccess(_) => {}
+            ValidationError::NoTagsAllowed(_) => {}
+            ValidationError::UndefinedFunction(_) => {}
+            ValidationError::WrongNumberArguments(_) => {}
+            ValidationError::FunctionArgumentValidation(_) => {}
+            ValidationError::EmptySetForbidden(_) => {}
+            ValidationError::NonLitExtConstructor(_) => {}
+            ValidationError::InternalInvariantViolation(_) => {}
+            ValidationError::MaximumLevelExceeded(_) => {}
+            ValidationError::LiteralDereferenceTarget(_) => {}
         }
     }
 }
