@@ -1,5 +1,5 @@
 -- What an answer hands on, as plain data, and the answers of literals.
-use Rattle.std.proofs.Common.{◌≡◌, refl, ap, sym, ◌∙◌, Bool, false, List, [], ◌∷◌, ◌++◌, Option, Some, None, option_map}
+use Rattle.std.proofs.Common.{◌≡◌, refl, ap, sym, ◌∙◌, Bool, List, [], ◌∷◌, ◌++◌, Option, Some, None, option_map}
 use Rattle.std.specs.Prelude.{is_some}
 use Rattle.cedar_types.specs.declared.base.location.Loc.{Loc}
 use Rattle.cedar_types.specs.declared.base.expressions.literals.Literal.{Literal}
@@ -8,40 +8,22 @@ use Rattle.cedar_types.specs.declared.base.types.CedarType.{CedarType}
 use Rattle.cedar_types.specs.Types.{Ty, ty_of}
 use Rattle.cedar_types.specs.Tree.{Lit, lit}
 use Rattle.cedar_types.specs.View.{Written, lit_of, lit_places}
-use Rattle.cedar_types.specs.Capability.{caps}
 use Rattle.cedar_types.specs.declared.base.errors.validation_errors.ValidationError.{ValidationError}
 use Rattle.cedar_types.specs.Errors.{Finding, finding_of}
 use Rattle.cedar_typing.specs.declared.typecheck.answer.Part as part
 use Rattle.cedar_typing.specs.declared.typecheck.answer.TypecheckAnswer.{TypecheckAnswer}
-use Rattle.cedar_typing.specs.declared.typecheck.answer.TypecheckAnswer.TheVariants.{TypecheckSuccess, TypecheckFail, RecursionLimit}
 use Rattle.cedar_typing.specs.Capabilities.{no_caps}
 use Rattle.cedar_typing.specs.Infer.Leaves.{infer_leaf}
-use Rattle.cedar_typing.specs.Infer.Parts.{answer_if, part_from, part_with, PartAndErrors, expect_part, expect_type}
+use Rattle.cedar_typing.specs.Infer.Parts.{answer_if, part_from, expect_part, expect_type}
 use Rattle.cedar_typing.specs.TypeEnv.{TypeEnv}
 use Rattle.cedar_typing.specs.TypedExpr.{typed_tree}
-use Rattle.cedar_typing.specs.Views.{answer_of, part_of, findings, HandsOn}
-use Rattle.cedar_typing.proofs.Basics.{some_is, none_is}
+use Rattle.cedar_typing.specs.Views.{answer_of, part_of, findings}
 use Rattle.cedar_typing.proofs.TypedViews.{by_layer, annotation_is}
 
-pub given_part : (a : TypecheckAnswer) (p : part.Part) → HandsOn a (Some p) → part_from (answer_of a) ≡ Some (part_of p)
-given_part (TypecheckSuccess e c) p h = ap (λ z. Some (part_of z)) (sym (some_is h))
-given_part (TypecheckFail e) p h =
-    let n : caps h.0 ≡ no_caps = λ i q. h.1 q i in
-    ap (λ k. Some (part_with false k (typed_tree e))) (sym n) ∙ ap (λ z. Some (part_of z)) (sym (some_is h.2))
-given_part RecursionLimit p h = cc
-
-pub limit_part : (a : TypecheckAnswer) → HandsOn a None → part_from (answer_of a) ≡ None
-limit_part (TypecheckSuccess e c) h = cc
-limit_part (TypecheckFail e) h = absurd (none_is h.2)
-limit_part RecursionLimit h = refl
-
 -- an operand by the part that is handed on
-pub part_is_expected : (env : TypeEnv) (ts : List Ty) (l : Option Loc) (a : TypecheckAnswer) (p : part.Part) (es : List Finding) → HandsOn a (Some p)
-    → expect_part env ts l (part_from (answer_of a)) es ≡ expect_type env ts l (part_of p) es (option_map ty_of p.typed.annotation)
-part_is_expected env ts l a p es h = ap (λ g. expect_part env ts l g es) (given_part a p h) ∙ ap (expect_type env ts l (part_of p) es) (annotation_is p.typed)
-
-pub limit_is_expected : (env : TypeEnv) (ts : List Ty) (l : Option Loc) (a : TypecheckAnswer) (es : List Finding) → HandsOn a None → ◌≡◌ {A = PartAndErrors} (expect_part env ts l (part_from (answer_of a)) es) (None, es)
-limit_is_expected env ts l a es h = ap (λ g. expect_part env ts l g es) (limit_part a h)
+pub part_is_expected : (env : TypeEnv) (ts : List Ty) (l : Option Loc) (a : TypecheckAnswer) (o : Option part.Part) (p : part.Part) (es : List Finding) → option_map part_of o ≡ part_from (answer_of a) → o ≡ Some p
+    → expect_part env ts l (part_from (answer_of a)) es ≡ expect_type env ts l (part_of p) es (option_map ty_of p.typed.value.annotation)
+part_is_expected env ts l a o p es h k = ap (λ g. expect_part env ts l g es) (sym h ∙ ap (option_map part_of) k) ∙ ap (expect_type env ts l (part_of p) es) (annotation_is p.typed.value)
 
 literal_at : (o : Option CedarType) (m : Written) (x : Lit) → answer_if (is_some o) (lit (record { ty = option_map ty_of o; at = m }) x) no_caps ≡ infer_leaf (option_map ty_of o) m (λ k. lit k x)
 literal_at None m x = refl

@@ -33,6 +33,7 @@ use Rattle.cedar_typing.specs.TypeTests.{bool_types, long_types, string_types, s
 use Rattle.cedar_typing.specs.TypedExpr.{Source, typed_tree, place_of, TypedTree}
 use Rattle.cedar_typing.specs.declared.typecheck.answer.TypecheckAnswer.{TypecheckAnswer}
 use Rattle.cedar_typing.specs.declared.typecheck.answer.TypecheckAnswer.TheVariants.{TypecheckSuccess, TypecheckFail, RecursionLimit}
+use Rattle.cedar_typing.specs.declared.typecheck.answer.Handed.{Handed}
 use Rattle.cedar_typing.specs.declared.typecheck.answer.Part.{Part as TypedPart}
 use Rattle.cedar_typing.specs.declared.typecheck.sequence.Gathered.{Gathered}
 use Rattle.cedar_typing.specs.declared.typecheck.operands.Expected.{Expected}
@@ -99,7 +100,7 @@ answer_of RecursionLimit = limit
 
 -- a part
 abbrev pub part_of : TypedPart → Part
-part_of p = part_with p.succeeded (caps p.capabilities) (typed_tree p.typed)
+part_of p = part_with p.succeeded (caps p.capabilities) (typed_tree p.typed.value)
 
 -- the name of an extension type
 abbrev pub extension_named : Ty → Option Path
@@ -211,7 +212,7 @@ GoesOnAt e (link.GoesOn r p) = written r.e ≡ e
 -- ---- what answers give
 
 -- an answer gives its expression: a failure no capabilities, the limit nothing
-abbrev pub HandsOn : TypecheckAnswer → Option TypedPart → Type 0
+abbrev pub HandsOn : TypecheckAnswer → Option Handed → Type 0
 HandsOn (TypecheckSuccess e c) p =
     p ≡ Some (record { typed = e; capabilities = c; succeeded = true })
 HandsOn (TypecheckFail e) p =

@@ -1,9 +1,11 @@
 //! The answer of typing one expression.
-ghost use Rattle.std.specs.Prelude.{◌≡◌, ◌↔◌, IsTrue, IfOk, Some};
+ghost use Rattle.std.specs.Prelude.{◌≡◌, ◌↔◌, IsTrue, IfOk, Some, option_map};
 ghost use Rattle.cedar_types.specs.Types.{ty_of};
 ghost use Rattle.cedar_typing.specs.Answer.{type_at, SucceedsWithNone, is_success, typed_expr_of, type_of_answer, failed, failed_unless, OnSuccess, MapsCapability, OnHanded, ThenTypechecks};
-ghost use Rattle.cedar_typing.specs.Views.{HandsOn};
+ghost use Rattle.cedar_typing.specs.Infer.Parts.{part_from};
+ghost use Rattle.cedar_typing.specs.Views.{HandsOn, answer_of, part_of};
 
+use crate::typecheck::capabilities::no_capabilities;
 use cedar_types::base::type_laws::equal_types;
 use cedar_types::base::{CedarType, Expr};
 use cedar_types::types::capability::CapabilitySet;
@@ -27,8 +29,17 @@ pub enum TypecheckAnswer<'a> {
 
 /// What an answer hands on to what follows it.
 #[derive(Debug, Drop)]
-pub(crate) struct Part<'a> {
+pub(crate) struct Handed<'a> {
     pub typed: Expr<Option<CedarType>>,
+    pub capabilities: CapabilitySet<'a>,
+    /// Whether the answer was a success.
+    pub succeeded: bool,
+}
+
+/// A typed part of what is being typed. It is boxed once, where its whole will have it.
+#[derive(Debug, Drop)]
+pub(crate) struct Part<'a> {
+    pub typed: Box<Expr<Option<CedarType>>>,
     pub capabilities: CapabilitySet<'a>,
     /// Whether the answer was a success.
     pub succeeded: bool,
@@ -159,24 +170,49 @@ impl<'a> TypecheckAnswer<'a> {
     }
 
     /// What the answer hands on: a failure no capabilities, the limit nothing. It takes no memory.
-    pub(crate) fn into_part(self, alloc: Global) -> Option<Part<'a>>
+    pub(crate) fn into_handed(self, alloc: Global) -> Option<Handed<'a>>
         ensures { HandsOn self.entry result }
     {
         match self {
             TypecheckAnswer::TypecheckSuccess {
                 expr_type,
                 expr_capability,
-            } => Some(Part {
+            } => Some(Handed {
                 typed: expr_type,
                 capabilities: expr_capability,
                 succeeded: true,
             }),
-            TypecheckAnswer::TypecheckFail { expr_recovery_type } => Some(Part {
+            TypecheckAnswer::TypecheckFail { expr_recovery_type } => Some(Handed {
                 typed: expr_recovery_type,
                 capabilities: CapabilitySet::new(alloc),
                 succeeded: false,
             }),
             TypecheckAnswer::RecursionLimit => None,
+        }
+    }
+
+    /// The same as a part of a whole, whatever its type.
+    pub(crate) fn into_part(self, alloc: Global) -> Result<Option<Part<'a>>, AllocError>
+        ensures { IfOk result (λ p. option_map part_of p ≡ part_from (answer_of self.entry)) }
+    {
+        match self {
+            TypecheckAnswer::TypecheckSuccess {
+                expr_type,
+                expr_capability,
+            } => Ok(Some(Part {
+                typed: Box::new(alloc, expr_type)?,
+                capabilities: expr_capability,
+                succeeded: true,
+            })),
+            TypecheckAnswer::TypecheckFail { expr_recovery_type } => {
+                let typed = Box::new(alloc, expr_recovery_type)?;
+                Ok(Some(Part {
+                    typed,
+                    capabilities: no_capabilities(alloc),
+                    succeeded: false,
+                }))
+            }
+            TypecheckAnswer::RecursionLimit => Ok(None),
         }
     }
 

@@ -4,7 +4,7 @@ ghost use Rattle.cedar_types.specs.Types.{ty_of};
 ghost use Rattle.cedar_types.specs.TypeOrder.{in_order};
 ghost use Rattle.cedar_types.specs.Errors.{finding_of, unexpected_type};
 ghost use Rattle.cedar_typing.specs.Infer.Eager.{expect_operand};
-ghost use Rattle.cedar_typing.specs.Infer.Parts.{as_failed, as_failed_untyped, part_from, expect, expect_type};
+ghost use Rattle.cedar_typing.specs.Infer.Parts.{as_failed, as_failed_untyped, expect, expect_type};
 ghost use Rattle.cedar_typing.specs.TypeEnv.{finding};
 ghost use Rattle.cedar_typing.specs.TypeTests.{accepts};
 ghost use Rattle.cedar_typing.specs.Views.{env_at, answer_of, part_of, expected_types, findings};
@@ -98,24 +98,14 @@ impl<'a> Part<'a> {
     fn as_failed_untyped(self, alloc: Global) -> Part<'a>
         ensures { part_of result ≡ as_failed_untyped (part_of self.entry) }
     {
-        let typed = Expr {
-            annotation: None,
-            loc: self.typed.loc,
-            kind: self.typed.kind,
-        };
+        let mut typed = self.typed;
+        typed.annotation = None;
         Part {
             typed,
             capabilities: no_capabilities(alloc),
             succeeded: false,
         }
     }
-}
-
-/// The part that an answer hands on, whatever its type. On the limit there is none.
-pub(crate) fn any_part<'a>(alloc: Global, answer: TypecheckAnswer<'a>) -> Option<Part<'a>>
-    ensures { option_map part_of result ≡ part_from (answer_of answer.entry) }
-{
-    answer.into_part(alloc)
 }
 
 impl TypeEnv<'_, '_, '_, '_> {
@@ -133,7 +123,8 @@ impl TypeEnv<'_, '_, '_, '_> {
             (answer_of answer.entry, findings errors.old.items)
             ≡ (option_map part_of p, findings errors.new.items)) }
     {
-        let Some(part) = answer.into_part(self.alloc) else {
+        let part = answer.into_part(self.alloc)?;
+        let Some(part) = part else {
             return Ok(None);
         };
         Ok(Some(self.expect_part(expected, loc, part, errors)?))
@@ -153,7 +144,8 @@ impl TypeEnv<'_, '_, '_, '_> {
             ≡ (option_map part_of p, findings errors.new.items)) }
     {
         let Some(expected) = expected else {
-            return Ok(any_part(self.alloc, answer));
+            let part = answer.into_part(self.alloc)?;
+            return Ok(part);
         };
         let part = self.expect(expected, loc, answer, errors)?;
         Ok(part)
@@ -168,7 +160,7 @@ impl TypeEnv<'_, '_, '_, '_> {
     ) -> Result<Part<'a>, AllocError>
         ensures { IfOk result (λ p.
             expect_type (env_at self.now) (expected_types expected.entry) loc (part_of part.entry)
-            (findings errors.old.items) (option_map ty_of part.entry.typed.annotation)
+            (findings errors.old.items) (option_map ty_of part.entry.typed.value.annotation)
             ≡ (Some (part_of p), findings errors.new.items)) }
     {
         match &part.typed.annotation {

@@ -72,7 +72,7 @@ where
     let mut succeeded = true;
     let mut is_limit = false;
     for answer in answers {
-        let Some(part) = answer?.into_part(alloc) else {
+        let Some(part) = answer?.into_handed(alloc) else {
             is_limit = true;
             break;
         };

@@ -179,10 +179,10 @@ fn verdict(part: Option<Part<'_>>, errors: Vec<ValidationError>) -> PolicyCheck
         return PolicyCheck::Fail(errors);
     };
     if is_typed_false(&part.typed) {
-        return PolicyCheck::Irrelevant(errors, part.typed);
+        return PolicyCheck::Irrelevant(errors, Box::into_inner(part.typed));
     }
     if part.succeeded {
-        PolicyCheck::Success(part.typed)
+        PolicyCheck::Success(Box::into_inner(part.typed))
     } else {
         PolicyCheck::Fail(errors)
     }

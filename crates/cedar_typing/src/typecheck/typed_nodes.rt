@@ -58,41 +58,38 @@ pub(crate) fn at_place(typed: Expr<Option<CedarType>>, loc: Option<Loc>) -> Expr
 
 /// An operator on two typed operands.
 pub(crate) fn binary_node(
-    alloc: Global,
     loc: Option<Loc>,
     ty: Option<CedarType>,
     op: BinaryOp,
-    left: Expr<Option<CedarType>>,
-    right: Expr<Option<CedarType>>,
-) -> Result<Expr<Option<CedarType>>, AllocError>
-    ensures { IfOk result (λ e. typed_tree e
-        ≡ binary (typed_as (option_map ty_of ty) (at loc)) op (typed_tree left) (typed_tree right)) }
+    left: Box<Expr<Option<CedarType>>>,
+    right: Box<Expr<Option<CedarType>>>,
+) -> Expr<Option<CedarType>>
+    ensures { typed_tree result
+        ≡ binary (typed_as (option_map ty_of ty) (at loc)) op (typed_tree left.value)
+        (typed_tree right.value) }
 {
-    let left = Box::new(alloc, left)?;
-    let right = Box::new(alloc, right)?;
-    Ok(Expr {
+    Expr {
         annotation: ty,
         loc,
         kind: ExprKind::BinaryApp(op, left, right),
-    })
+    }
 }
 
 /// An extended `has` on a typed base.
 pub(crate) fn chain_node(
-    alloc: Global,
     loc: Option<Loc>,
     ty: Option<CedarType>,
-    base: Expr<Option<CedarType>>,
+    base: Box<Expr<Option<CedarType>>>,
     attrs: &AttrChain,
 ) -> Result<Expr<Option<CedarType>>, AllocError>
     ensures { IfOk result (λ e. typed_tree e
-        ≡ ext_has_attr (typed_as (option_map ty_of ty) (at loc)) (typed_tree base)
+        ≡ ext_has_attr (typed_as (option_map ty_of ty) (at loc)) (typed_tree base.value)
         (chain_of attrs.now).0 (chain_of attrs.now).1) }
 {
     Ok(Expr {
         annotation: ty,
         loc,
-        kind: ExprKind::ExtHasAttr(Box::new(alloc, base)?, attrs.clone()?),
+        kind: ExprKind::ExtHasAttr(base, attrs.clone()?),
     })
 }
 

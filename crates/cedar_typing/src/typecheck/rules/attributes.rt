@@ -201,35 +201,35 @@ pub(crate) fn declared_type(owner: &CedarType, is_required: bool, is_known: bool
 }
 
 pub(crate) fn has_node(
-    alloc: Global,
     loc: Option<Loc>,
     ty: Option<CedarType>,
-    base: Expr<Option<CedarType>>,
+    base: Box<Expr<Option<CedarType>>>,
     attr: &RcStr,
 ) -> Result<Expr<Option<CedarType>>, AllocError>
     ensures { IfOk result (λ e. typed_tree e
-        ≡ has_attr (typed_as (option_map ty_of ty) (at loc)) (typed_tree base) (text_of attr.now)) }
+        ≡ has_attr (typed_as (option_map ty_of ty) (at loc)) (typed_tree base.value)
+        (text_of attr.now)) }
 {
     Ok(Expr {
         annotation: ty,
         loc,
-        kind: ExprKind::HasAttr(Box::new(alloc, base)?, attr.clone()?),
+        kind: ExprKind::HasAttr(base, attr.clone()?),
     })
 }
 
 pub(crate) fn get_node(
-    alloc: Global,
     loc: Option<Loc>,
     ty: Option<CedarType>,
-    base: Expr<Option<CedarType>>,
+    base: Box<Expr<Option<CedarType>>>,
     attr: &RcStr,
 ) -> Result<Expr<Option<CedarType>>, AllocError>
     ensures { IfOk result (λ e. typed_tree e
-        ≡ get_attr (typed_as (option_map ty_of ty) (at loc)) (typed_tree base) (text_of attr.now)) }
+        ≡ get_attr (typed_as (option_map ty_of ty) (at loc)) (typed_tree base.value)
+        (text_of attr.now)) }
 {
     Ok(Expr {
         annotation: ty,
         loc,
-        kind: ExprKind::GetAttr(Box::new(alloc, base)?, attr.clone()?),
+        kind: ExprKind::GetAttr(base, attr.clone()?),
     })
 }

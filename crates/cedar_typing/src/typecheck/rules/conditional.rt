@@ -9,7 +9,6 @@ ghost use Rattle.cedar_types.specs.Capability.{caps};
 ghost use Rattle.cedar_typing.specs.Capabilities.{union};
 ghost use Rattle.cedar_typing.specs.Infer.{infer_within};
 ghost use Rattle.cedar_typing.specs.Infer.Conditional.{infer_constant_test, infer_open_test, infer_open_parts};
-ghost use Rattle.cedar_typing.specs.Infer.Parts.{part_from};
 ghost use Rattle.cedar_typing.specs.Joins.{joined, join_errors, bound_errors};
 ghost use Rattle.cedar_typing.specs.Judgments.{max_nesting};
 ghost use Rattle.cedar_typing.specs.TypedExpr.{annotation, typed_tree, typed_as};
@@ -18,7 +17,7 @@ ghost use Rattle.cedar_typing.specs.Views.{env_at, answer_of, part_of, findings,
 
 use crate::typecheck::answer::{Part, TypecheckAnswer};
 use crate::typecheck::capabilities::{intersection_of, union_of};
-use crate::typecheck::operands::{Expected, any_part};
+use crate::typecheck::operands::Expected;
 use crate::typecheck::single_env::SingleEnvTypechecker;
 use crate::typecheck::type_env::TypeEnv;
 use crate::typecheck::type_tests::{is_typed_false, is_typed_true};
@@ -55,7 +54,8 @@ impl<C: ArgumentCheck> SingleEnvTypechecker<'_, '_, '_, '_, C> {
         if is_typed_true(&test.typed) {
             let known = union_of(self.env.alloc, prior, &test.capabilities)?;
             let branch = self.typecheck(&known, depth + 1, then_expr, errors)?;
-            let Some(branch) = any_part(self.env.alloc, branch) else {
+            let branch = branch.into_part(self.env.alloc)?;
+            let Some(branch) = branch else {
                 return Ok(TypecheckAnswer::RecursionLimit);
             };
             let answer = true_test_answer(self.env.alloc, loc, test, branch)?;
@@ -63,7 +63,8 @@ impl<C: ArgumentCheck> SingleEnvTypechecker<'_, '_, '_, '_, C> {
         }
         if is_typed_false(&test.typed) {
             let branch = self.typecheck(prior, depth + 1, else_expr, errors)?;
-            let Some(branch) = any_part(self.env.alloc, branch) else {
+            let branch = branch.into_part(self.env.alloc)?;
+            let Some(branch) = branch else {
                 return Ok(TypecheckAnswer::RecursionLimit);
             };
             let answer = false_test_answer(self.env.alloc, loc, test, branch)?;
@@ -71,7 +72,9 @@ impl<C: ArgumentCheck> SingleEnvTypechecker<'_, '_, '_, '_, C> {
         }
         let known = union_of(self.env.alloc, prior, &test.capabilities)?;
         let one = self.typecheck(&known, depth + 1, then_expr, errors)?;
+        let one = one.into_part(self.env.alloc)?;
         let other = self.typecheck(prior, depth + 1, else_expr, errors)?;
+        let other = other.into_part(self.env.alloc)?;
         let answer = self.env.open_test_answer(loc, test, one, other, errors)?;
         Ok(answer)
     }
@@ -83,20 +86,20 @@ impl TypeEnv<'_, '_, '_, '_> {
         &self,
         loc: Option<Loc>,
         test: Part<'a>,
-        one: TypecheckAnswer<'a>,
-        other: TypecheckAnswer<'a>,
+        one: Option<Part<'a>>,
+        other: Option<Part<'a>>,
         errors: &mut Vec<ValidationError>,
     ) -> Result<TypecheckAnswer<'a>, AllocError>
         ensures { IfOk result (λ r.
             infer_open_parts (env_at self.now) (at loc) (part_of test.entry)
-            (part_from (answer_of one.entry)) (part_from (answer_of other.entry))
+            (option_map part_of one.entry) (option_map part_of other.entry)
             (findings errors.old.items)
             ≡ (answer_of r, findings errors.new.items)) }
     {
-        let Some(one) = any_part(self.alloc, one) else {
+        let Some(one) = one else {
             return Ok(TypecheckAnswer::RecursionLimit);
         };
-        let Some(other) = any_part(self.alloc, other) else {
+        let Some(other) = other else {
             return Ok(TypecheckAnswer::RecursionLimit);
         };
         let answer = self.open_test_parts(loc, test, one, other, errors)?;
@@ -220,13 +223,13 @@ fn false_test_answer<'a>(
 fn constant_test_node(
     alloc: Global,
     loc: Option<Loc>,
-    test: Expr<Option<CedarType>>,
-    branch: Expr<Option<CedarType>>,
+    test: Box<Expr<Option<CedarType>>>,
+    branch: Box<Expr<Option<CedarType>>>,
 ) -> Result<Expr<Option<CedarType>>, AllocError>
     ensures { IfOk result (λ e.
         typed_tree e
-        ≡ if_then_else (typed_as (annotation (typed_tree branch)) (at loc)) (typed_tree test)
-        (typed_tree branch) (typed_tree branch)) }
+        ≡ if_then_else (typed_as (annotation (typed_tree branch.value)) (at loc)) (typed_tree test.value)
+        (typed_tree branch.value) (typed_tree branch.value)) }
 {
     let ty = same_type(&branch.annotation)?;
     let typed = shared_node(alloc, loc, ty, test, branch)?;
@@ -237,21 +240,21 @@ fn shared_node(
     alloc: Global,
     loc: Option<Loc>,
     ty: Option<CedarType>,
-    test: Expr<Option<CedarType>>,
-    branch: Expr<Option<CedarType>>,
+    test: Box<Expr<Option<CedarType>>>,
+    branch: Box<Expr<Option<CedarType>>>,
 ) -> Result<Expr<Option<CedarType>>, AllocError>
     ensures { IfOk result (λ e.
         typed_tree e
-        ≡ if_then_else (typed_as (option_map ty_of ty) (at loc)) (typed_tree test)
-        (typed_tree branch) (typed_tree branch)) }
+        ≡ if_then_else (typed_as (option_map ty_of ty) (at loc)) (typed_tree test.value)
+        (typed_tree branch.value) (typed_tree branch.value)) }
 {
-    let then_expr = Rc::new(alloc, branch)?;
+    let then_expr = Rc::new(alloc, Box::into_inner(branch))?;
     let else_expr = then_expr.clone()?;
     Ok(Expr {
         annotation: ty,
         loc,
         kind: ExprKind::If {
-            test_expr: Box::new(alloc, test)?,
+            test_expr: test,
             then_expr,
             else_expr,
         },
@@ -262,22 +265,22 @@ fn open_test_node(
     alloc: Global,
     loc: Option<Loc>,
     ty: Option<CedarType>,
-    test: Expr<Option<CedarType>>,
-    one: Expr<Option<CedarType>>,
-    other: Expr<Option<CedarType>>,
+    test: Box<Expr<Option<CedarType>>>,
+    one: Box<Expr<Option<CedarType>>>,
+    other: Box<Expr<Option<CedarType>>>,
 ) -> Result<Expr<Option<CedarType>>, AllocError>
     ensures { IfOk result (λ e.
         typed_tree e
-        ≡ if_then_else (typed_as (option_map ty_of ty) (at loc)) (typed_tree test)
-        (typed_tree one) (typed_tree other)) }
+        ≡ if_then_else (typed_as (option_map ty_of ty) (at loc)) (typed_tree test.value)
+        (typed_tree one.value) (typed_tree other.value)) }
 {
     Ok(Expr {
         annotation: ty,
         loc,
         kind: ExprKind::If {
-            test_expr: Box::new(alloc, test)?,
-            then_expr: Rc::new(alloc, one)?,
-            else_expr: Rc::new(alloc, other)?,
+            test_expr: test,
+            then_expr: Rc::new(alloc, Box::into_inner(one))?,
+            else_expr: Rc::new(alloc, Box::into_inner(other))?,
         },
     })
 }

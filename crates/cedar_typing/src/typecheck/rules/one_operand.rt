@@ -64,25 +64,25 @@ impl OneOperand<'_> {
         alloc: Global,
         loc: Option<Loc>,
         ty: Option<CedarType>,
-        operand: Expr<Option<CedarType>>,
+        operand: Box<Expr<Option<CedarType>>>,
     ) -> Result<Expr<Option<CedarType>>, AllocError>
         ensures { (env : _) → (prior : _) → (e : _)
             → IfOk result (λ r. typed_tree r
             ≡ (form_of_one env (mark_of_one loc self.entry) prior e self.entry).node
             (typed_as (option_map ty_of ty) (form_of_one env (mark_of_one loc self.entry) prior e self.entry).at)
-            (typed_tree operand ∷ [])) }
+            (typed_tree operand.value ∷ [])) }
     {
         match self {
-            OneOperand::Unary(UnaryOp::Not) => unary_node(alloc, loc, ty, UnaryOp::Not, operand),
-            OneOperand::Unary(UnaryOp::Neg) => unary_node(alloc, loc, ty, UnaryOp::Neg, operand),
+            OneOperand::Unary(UnaryOp::Not) => Ok(unary_node(loc, ty, UnaryOp::Not, operand)),
+            OneOperand::Unary(UnaryOp::Neg) => Ok(unary_node(loc, ty, UnaryOp::Neg, operand)),
             OneOperand::Unary(UnaryOp::IsEmpty) => {
-                unary_node(alloc, loc, ty, UnaryOp::IsEmpty, operand)
+                Ok(unary_node(loc, ty, UnaryOp::IsEmpty, operand))
             }
-            OneOperand::Has(attr) => has_node(alloc, loc, ty, operand, attr),
-            OneOperand::Get(attr) => get_node(alloc, loc, ty, operand, attr),
+            OneOperand::Has(attr) => has_node(loc, ty, operand, attr),
+            OneOperand::Get(attr) => get_node(loc, ty, operand, attr),
             OneOperand::Like(pattern) => like_node(alloc, loc, ty, operand, pattern),
-            OneOperand::Is(entity_type) => is_node(alloc, loc, ty, operand, entity_type),
-            OneOperand::Chain(chain) => chain_node(alloc, loc, ty, operand, chain),
+            OneOperand::Is(entity_type) => is_node(loc, ty, operand, entity_type),
+            OneOperand::Chain(chain) => chain_node(loc, ty, operand, chain),
         }
     }
 }
@@ -130,9 +130,9 @@ impl TypeEnv<'_, '_, '_, '_> {
     ) -> Result<TypecheckAnswer<'a>, AllocError>
         ensures { IfOk result (λ r.
             infer_decided (form_of_one (env_at self.now) (mark_of_one loc form.entry) (caps prior.now) (written operand.now) form.entry)
-            part.entry.succeeded (typed_tree part.entry.typed ∷ []) (findings errors.old.items)
+            part.entry.succeeded (typed_tree part.entry.typed.value ∷ []) (findings errors.old.items)
             ((form_of_one (env_at self.now) (mark_of_one loc form.entry) (caps prior.now) (written operand.now) form.entry).decides
-            (annotation (typed_tree part.entry.typed) ∷ []))
+            (annotation (typed_tree part.entry.typed.value) ∷ []))
             ≡ (answer_of r, findings errors.new.items)) }
     {
         match self.decide_one(prior, loc, form, operand, &part.typed.annotation)? {
@@ -141,8 +141,8 @@ impl TypeEnv<'_, '_, '_, '_> {
                 Ok(with_capabilities(part.succeeded, typed, capabilities))
             }
             Decision::Refuses(ty, found) => {
-                let typed = form.node(self.alloc, loc, ty, part.typed)?;
                 add_errors(errors, found)?;
+                let typed = form.node(self.alloc, loc, ty, part.typed)?;
                 Ok(TypecheckAnswer::fail(typed))
             }
         }

@@ -52,7 +52,7 @@ impl OperandList {
         let mut typed = self.typed;
         match operand {
             Some(part) => {
-                typed.push(part.typed)?;
+                typed.push(Box::into_inner(part.typed))?;
                 Ok(OperandList {
                     typed,
                     succeeded: part.succeeded & self.succeeded,

@@ -14,7 +14,6 @@ ghost use Rattle.cedar_typing.specs.SettingViews.{setting_at};
 ghost use Rattle.cedar_typing.specs.Views.{answer_of, at, decision_without_errors, env_at, field_operands, findings, keys_in, trees_in};
 
 use crate::typecheck::answer::TypecheckAnswer;
-use crate::typecheck::operands::any_part;
 use crate::typecheck::single_env::SingleEnvTypechecker;
 use crate::typecheck::type_env::TypeEnv;
 use crate::typecheck::typed_nodes::without_capabilities;
@@ -84,7 +83,8 @@ impl<C: ArgumentCheck> SingleEnvTypechecker<'_, '_, '_, '_, C> {
         let mut succeeded = true;
         for (key, value) in fields.iter() {
             let answer = self.typecheck(prior, depth + 1, value, errors)?;
-            let Some(part) = any_part(self.env.alloc, answer) else {
+            let part = answer.into_part(self.env.alloc)?;
+            let Some(part) = part else {
                 return Ok(FieldValues {
                     typed,
                     succeeded,
@@ -92,7 +92,7 @@ impl<C: ArgumentCheck> SingleEnvTypechecker<'_, '_, '_, '_, C> {
                 });
             };
             succeeded = part.succeeded & succeeded;
-            drop(typed.insert(key.clone()?, part.typed)?);
+            drop(typed.insert(key.clone()?, Box::into_inner(part.typed))?);
         }
         Ok(FieldValues {
             typed,

@@ -18,7 +18,6 @@ ghost use Rattle.cedar_typing.specs.Views.{answer_of, at, decision_of, env_at, f
 
 use crate::typecheck::answer::{Part, TypecheckAnswer};
 use crate::typecheck::capabilities::no_capabilities;
-use crate::typecheck::operands::any_part;
 use crate::typecheck::rules::eager::{Decision, add_errors};
 use crate::typecheck::rules::operand_list::OperandList;
 use crate::typecheck::type_env::TypeEnv;

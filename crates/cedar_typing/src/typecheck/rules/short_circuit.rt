@@ -143,26 +143,24 @@ impl Connective {
 
     fn node(
         self,
-        alloc: Global,
         loc: Option<Loc>,
         ty: CedarType,
-        left: Expr<Option<CedarType>>,
-        right: Expr<Option<CedarType>>,
-    ) -> Result<Expr<Option<CedarType>>, AllocError>
-        ensures { IfOk result (λ e. typed_tree e
-            ≡ (connective_of self).node (typed (ty_of ty) (at loc)) (typed_tree left) (typed_tree right)) }
+        left: Box<Expr<Option<CedarType>>>,
+        right: Box<Expr<Option<CedarType>>>,
+    ) -> Expr<Option<CedarType>>
+        ensures { typed_tree result
+            ≡ (connective_of self).node (typed (ty_of ty) (at loc)) (typed_tree left.value)
+            (typed_tree right.value) }
     {
-        let left = Box::new(alloc, left)?;
-        let right = Box::new(alloc, right)?;
         let kind = match self {
             Connective::And => ExprKind::And(left, right),
             Connective::Or => ExprKind::Or(left, right),
         };
-        Ok(Expr {
+        Expr {
             annotation: Some(ty),
             loc,
             kind,
-        })
+        }
     }
 }
 
@@ -210,11 +208,11 @@ impl TypeEnv<'_, '_, '_, '_> {
         left: Part<'a>,
     ) -> TypecheckAnswer<'a>
         ensures { answer_of result
-            ≡ answer_if left.entry.succeeded (at_place loc (typed_tree left.entry.typed))
+            ≡ answer_if left.entry.succeeded (at_place loc (typed_tree left.entry.typed.value))
             ((connective_of connective).ended_caps (caps left.entry.capabilities)) }
     {
         let succeeded = left.succeeded;
-        let typed = at_place(left.typed, loc);
+        let typed = at_place(Box::into_inner(left.typed), loc);
         let capabilities = connective.ended_capabilities(self.alloc, left.capabilities);
         with_capabilities(succeeded, typed, capabilities)
     }
@@ -230,7 +228,8 @@ impl TypeEnv<'_, '_, '_, '_> {
     ) -> Result<TypecheckAnswer<'a>, AllocError>
         ensures { IfOk result (λ r. answer_of r
             ≡ infer_sides (connective_of connective) (at loc) (part_of left.entry) (part_of right.entry)
-            (annotation (typed_tree left.entry.typed)) (annotation (typed_tree right.entry.typed))) }
+            (annotation (typed_tree left.entry.typed.value))
+            (annotation (typed_tree right.entry.typed.value))) }
     {
         match (&left.typed.annotation, &right.typed.annotation) {
             (Some(one), Some(other)) => {
@@ -243,12 +242,12 @@ impl TypeEnv<'_, '_, '_, '_> {
                     &right.capabilities,
                 )?;
                 let succeeded = left.succeeded & right.succeeded;
-                let typed = connective.node(self.alloc, loc, ty, left.typed, right.typed)?;
+                let typed = connective.node(loc, ty, left.typed, right.typed);
                 Ok(with_capabilities(succeeded, typed, produced))
             }
             _ => {
                 let ty = any_bool();
-                let typed = connective.node(self.alloc, loc, ty, left.typed, right.typed)?;
+                let typed = connective.node(loc, ty, left.typed, right.typed);
                 Ok(TypecheckAnswer::fail(typed))
             }
         }

@@ -244,19 +244,12 @@ impl TypeEnv<'_, '_, '_, '_> {
         match self.decide_two(prior, loc, form, operands, found, &other.typed.annotation)? {
             Decision::Gives(ty, capabilities) => {
                 let ty = form.type_given(succeeded, ty);
-                let typed = binary_node(
-                    self.alloc,
-                    loc,
-                    Some(ty),
-                    form.op(),
-                    one.typed,
-                    other.typed,
-                )?;
+                let typed = binary_node(loc, Some(ty), form.op(), one.typed, other.typed);
                 Ok(with_capabilities(succeeded, typed, capabilities))
             }
             Decision::Refuses(ty, found) => {
-                let typed = binary_node(self.alloc, loc, ty, form.op(), one.typed, other.typed)?;
                 add_errors(errors, found)?;
+                let typed = binary_node(loc, ty, form.op(), one.typed, other.typed);
                 Ok(TypecheckAnswer::fail(typed))
             }
         }

@@ -41,37 +41,37 @@ fn not_type_of(found: &CedarType) -> CedarType
 }
 
 pub(crate) fn unary_node(
-    alloc: Global,
     loc: Option<Loc>,
     ty: Option<CedarType>,
     op: UnaryOp,
-    operand: Expr<Option<CedarType>>,
-) -> Result<Expr<Option<CedarType>>, AllocError>
-    ensures { IfOk result (λ e. typed_tree e
-        ≡ unary (typed_as (option_map ty_of ty) (at loc)) op (typed_tree operand)) }
+    operand: Box<Expr<Option<CedarType>>>,
+) -> Expr<Option<CedarType>>
+    ensures { typed_tree result
+        ≡ unary (typed_as (option_map ty_of ty) (at loc)) op (typed_tree operand.value) }
 {
-    Ok(Expr {
+    Expr {
         annotation: ty,
         loc,
-        kind: ExprKind::UnaryApp(op, Box::new(alloc, operand)?),
-    })
+        kind: ExprKind::UnaryApp(op, operand),
+    }
 }
 
 pub(crate) fn like_node(
     alloc: Global,
     loc: Option<Loc>,
     ty: Option<CedarType>,
-    operand: Expr<Option<CedarType>>,
+    operand: Box<Expr<Option<CedarType>>>,
     pattern: &Vec<PatternElem>,
 ) -> Result<Expr<Option<CedarType>>, AllocError>
     ensures { IfOk result (λ e. typed_tree e
-        ≡ like (typed_as (option_map ty_of ty) (at loc)) (typed_tree operand) pattern.now.items) }
+        ≡ like (typed_as (option_map ty_of ty) (at loc)) (typed_tree operand.value)
+        pattern.now.items) }
 {
     let pattern = Vec::from_slice(alloc, pattern)?;
     Ok(Expr {
         annotation: ty,
         loc,
-        kind: ExprKind::Like(Box::new(alloc, operand)?, pattern),
+        kind: ExprKind::Like(operand, pattern),
     })
 }
 
@@ -119,21 +119,20 @@ fn is_type_among(entity_type: &EntityType, types: &EntityLUB) -> CedarType
 }
 
 pub(crate) fn is_node(
-    alloc: Global,
     loc: Option<Loc>,
     ty: Option<CedarType>,
-    operand: Expr<Option<CedarType>>,
+    operand: Box<Expr<Option<CedarType>>>,
     entity_type: &EntityType,
 ) -> Result<Expr<Option<CedarType>>, AllocError>
     ensures { IfOk result (λ e. typed_tree e
         ≡ is_type
         (typed_as (option_map ty_of ty) (record { place = loc; names = of_type entity_type.now.loc }))
-        (typed_tree operand) (type_of entity_type.now)) }
+        (typed_tree operand.value) (type_of entity_type.now)) }
 {
     let entity_type = entity_type.clone()?;
     Ok(Expr {
         annotation: ty,
         loc,
-        kind: ExprKind::Is(Box::new(alloc, operand)?, entity_type),
+        kind: ExprKind::Is(operand, entity_type),
     })
 }

@@ -12,7 +12,7 @@ use Rattle.cedar_types.proofs.Attributes.Entries.{Entry}
 use Rattle.cedar_types.proofs.Attributes.Records.{key_cmp}
 use Rattle.cedar_typing.specs.Infer.{infer_within, infer, infer_fields}
 use Rattle.cedar_typing.specs.Infer.Parts.{AnswerAndErrors, expect}
-use Rattle.cedar_typing.specs.TypedExpr.{Source, place_of}
+use Rattle.cedar_typing.specs.TypedExpr.{Source, place_of, typed_tree}
 use Rattle.cedar_typing.specs.CallViews.{IsCallOf}
 use Rattle.cedar_typing.specs.SettingViews.{setting_at}
 use Rattle.cedar_typing.specs.Views.{expected_types, first_wanted, answer_of, findings, operands_of, at, part_of, form_of_two, keys_in, trees_in}
@@ -246,15 +246,17 @@ type_fields-loop-key-preserved g t c =
     let all : c.args.fields.now.entries ≡ done ++ e ∷ left = l.invariant.1 ∙ ap (λ es. done ++ es) c.in-Some.ensures.steps in
     let named : text_of key ≡ text_of e.0 = c.in_ok-clone.ensures.cases in
     let above = key_is_last l.typed.entries done e left key l.invariant.2 named (subst (λ es. IsStrictlySortedBy key_cmp (keys_of es)) all c.iter-key-items.ensures.ordered) in
-    let p = c.in-Some-any_part.part in
+    let p = c.in-Some-part.part in
+    let x = c.into_inner.result in
+    let inner : trees_in ((key, x) ∷ []) ≡ (part_of p).tree ∷ [] = ap (λ y. typed_tree y ∷ []) c.into_inner.ensures in
     let es = findings l.errors.items in
     let es' = findings c.typecheck.new.errors.items in
     let entries = c.in_ok-insert.ensures.entries ∙ goes_last l.typed.entries key _ above in (
       done ++ e ∷ [],
       all ∙ sym (append_assoc done (e ∷ []) left),
       ap keys_in entries ∙ keys_with_last l.typed.entries done e key _ l.invariant.2 named,
-      ap (λ zs. finish (p.succeeded && l.succeeded) zs (infer_fields s (fields_written left) prior d es')) (ap trees_in entries ∙ trees_append l.typed.entries ((key, p.typed) ∷ []))
-          ∙ sym (goes_on s prior d (text_of e.0) (written e.1) (fields_written left) l.succeeded (trees_in l.typed.entries) es es' _ (part_of p) c.in_ok-answer.ensures (sym c.any_part.ensures ∙ ap (option_map part_of) c.in-Some-any_part.is))
+      ap (λ zs. finish (p.succeeded && l.succeeded) zs (infer_fields s (fields_written left) prior d es')) (ap trees_in entries ∙ trees_append l.typed.entries ((key, x) ∷ []) ∙ ap (λ ts. trees_in l.typed.entries ++ ts) inner)
+          ∙ sym (goes_on s prior d (text_of e.0) (written e.1) (fields_written left) l.succeeded (trees_in l.typed.entries) es es' _ (part_of p) c.in_ok-answer.ensures (sym c.in_ok-part.ensures ∙ ap (option_map part_of) c.in-Some-part.is))
           ∙ ap (λ rest. finish l.succeeded (trees_in l.typed.entries) (infer_fields s (fields_written rest) prior d es)) (sym c.in-Some.ensures.steps)
           ∙ l.invariant.3,
     )

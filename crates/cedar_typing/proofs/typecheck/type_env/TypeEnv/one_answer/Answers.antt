@@ -17,10 +17,11 @@ returns-in-Gives c =
     let prior = caps c.args.prior.now in
     let e = written c.args.operand.now in
     let f = form_of_one env (mark_of_one c.args.loc c.args.form) prior e c.args.form in
-    let x = typed_tree c.args.part.typed in
+    let x = typed_tree c.args.part.typed.value in
     let es = findings c.args.errors.now.items in
     let d : f.decides (annotation x ∷ []) ≡ gives (ty_of c.in-Gives.ty) (caps c.in-Gives.capabilities) =
-    ap (λ a. f.decides (a ∷ [])) (annotation_is c.args.part.typed) ∙ sym c.in_ok-ty.ensures ∙ ap decision_of c.in-Gives.is in
+    ap (λ a. f.decides (a ∷ [])) (annotation_is c.args.part.typed.value)
+    ∙ (λ i. f.decides (option_map ty_of (sym c.deref.ensures i).annotation ∷ [])) ∙ sym c.in_ok-ty.ensures ∙ ap decision_of c.in-Gives.is in
     ap (infer_decided f c.args.part.succeeded (x ∷ []) es) d
     ∙ given_is f (one_keeps env (mark_of_one c.args.loc c.args.form) prior e c.args.form) c.args.part.succeeded (x ∷ []) es _ _
     ∙ (λ i. (answer_if c.args.part.succeeded (sym (c.in_ok-typed-in-Gives.ensures env prior e) i) (caps c.in-Gives.capabilities), es))
@@ -32,10 +33,11 @@ returns c =
     let prior = caps c.args.prior.now in
     let e = written c.args.operand.now in
     let f = form_of_one env (mark_of_one c.args.loc c.args.form) prior e c.args.form in
-    let x = typed_tree c.args.part.typed in
+    let x = typed_tree c.args.part.typed.value in
     let es = findings c.args.errors.now.items in
     let d : f.decides (annotation x ∷ []) ≡ refuses (option_map ty_of c.in-Refuses.ty) (findings c.in-Refuses.found.items) =
-    ap (λ a. f.decides (a ∷ [])) (annotation_is c.args.part.typed) ∙ sym c.in_ok-ty.ensures ∙ ap decision_of c.in-Refuses.is in
+    ap (λ a. f.decides (a ∷ [])) (annotation_is c.args.part.typed.value)
+    ∙ (λ i. f.decides (option_map ty_of (sym c.deref.ensures i).annotation ∷ [])) ∙ sym c.in_ok-ty.ensures ∙ ap decision_of c.in-Refuses.is in
     ap (infer_decided f c.args.part.succeeded (x ∷ []) es) d
     ∙ (λ i. (failure (sym (c.in_ok-typed-in-Refuses.ensures env prior e) i), sym c.in_ok-add_errors-in-Refuses.ensures i))
     ∙ ap (λ a. (answer_of a, findings c.add_errors.new.errors.items)) (sym c.fail.ensures)
