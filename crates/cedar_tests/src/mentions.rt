@@ -42,21 +42,22 @@ fn come(mentions: Mentions<'_>, expected: &[(&str, usize, usize)]) -> Result<boo
 
 /// `principal is User in Group::"a"`, `action == Action::"a"`, `resource is Photo in ?resource`, and a rest in which the
 /// principal is a `Robot`.
-fn whole(alloc: Global) -> Result<Template, AllocError> {
-    let user = named(alloc, "User", 1)?;
-    let principal = PrincipalConstraint::is_entity_type_in(user, id(alloc, "Group", 3)?);
-    let action = ActionConstraint::is_eq(id(alloc, "Action", 5)?);
-    let resource = ResourceConstraint::is_entity_type_in_slot(named(alloc, "Photo", 7)?);
+fn whole(alloc: Global) -> Result<Box<Template>, AllocError> {
+    let (user, group) = (named(alloc, "User", 1)?, id(alloc, "Group", 3)?);
+    let act = id(alloc, "Action", 5)?;
+    let photo = named(alloc, "Photo", 7)?;
     let robot = named(alloc, "Robot", 9)?;
+    let policy_id = policy(alloc)?;
     let rest = Expr::is_entity_type(alloc, Expr::var(Var::Principal), robot)?;
-    Ok(Template::new(
-        policy(alloc)?,
+    let template = Template::new(
+        policy_id,
         None,
-        principal,
-        action,
-        resource,
+        PrincipalConstraint::is_entity_type_in(user, group),
+        ActionConstraint::is_eq(act),
+        ResourceConstraint::is_entity_type_in_slot(photo),
         Some(rest),
-    ))
+    );
+    Ok(Box::new(alloc, template)?)
 }
 
 #[test]

@@ -30,6 +30,7 @@ fn an_expression_comes_before_its_parts_and_the_last_part_first(
 ) -> Result<(), Fail> {
     let alloc = rt.alloc();
     let whole = Expr::and(alloc, Expr::var(Var::Principal), Expr::var(Var::Action))?;
+    let whole = Box::new(alloc, whole)?;
     let mut visited = whole.subexpressions(alloc)?;
     assert!(rt; next_variable(&mut visited)?.is_none());
     assert!(rt; next_variable(&mut visited)? == Some(Var::Action));
