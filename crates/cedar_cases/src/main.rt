@@ -2,18 +2,18 @@
 #![tactic(auto)]
 
 mod cases;
-mod reading;
 mod run;
 mod shown;
 mod tables;
 
+use cedar_fixtures::addresses::RefusesEmptyAddress;
+use cedar_fixtures::tables::{addresses_alone, functions_with_sum};
 use cedar_types::base::ExtensionSchemas;
 use run::run;
 use std::collections::BTreeSet;
 use std::env;
 use std::process::ExitCode;
-use tables::addresses::RefusesEmptyAddress;
-use tables::{Tables, addresses_alone, functions};
+use tables::Tables;
 
 fn main(rt: HostRuntime) -> ExitCode {
     let alloc = rt.alloc();
@@ -29,7 +29,7 @@ fn main(rt: HostRuntime) -> ExitCode {
     let Ok(check) = Box::new(alloc, RefusesEmptyAddress { alloc }) else {
         return ExitCode::FAILURE;
     };
-    let Ok(listed) = functions(alloc, check) else {
+    let Ok(listed) = functions_with_sum(alloc, check) else {
         return ExitCode::FAILURE;
     };
     let Ok(plain) = ExtensionSchemas::new(listed, BTreeSet::new(alloc)) else {
@@ -38,7 +38,8 @@ fn main(rt: HostRuntime) -> ExitCode {
     let Ok(check) = Box::new(alloc, RefusesEmptyAddress { alloc }) else {
         return ExitCode::FAILURE;
     };
-    let (Ok(listed), Ok(compared)) = (functions(alloc, check), addresses_alone(alloc)) else {
+    let (Ok(listed), Ok(compared)) = (functions_with_sum(alloc, check), addresses_alone(alloc))
+    else {
         return ExitCode::FAILURE;
     };
     let Ok(ordered) = ExtensionSchemas::new(listed, compared) else {

@@ -1,7 +1,7 @@
 // What the program does, over any files and any two writers.
 use crate::cases::{CaseFile, FileFault, Rules, Tally, run_cases};
-use crate::reading::{Fault, MAX_LENGTH, ReadError, SchemaReadError, schema};
 use crate::tables::Tables;
+use cedar_reading::{Fault, MAX_LENGTH, ReadError, SchemaReadError, schema};
 use cedar_typechecker::rbac::Validator;
 use cedar_types::base::ValidatorSchema;
 use std::alloc::{AllocError, Global};

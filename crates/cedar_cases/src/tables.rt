@@ -1,14 +1,5 @@
 // The tables of extension functions that cases are typed by.
-ghost use Rattle.std.specs.Prelude.{◌≡◌, [], ◌∷◌, map, IfOk};
-ghost use Rattle.cedar_types.specs.ExtensionFunctions.{function_of};
-ghost use Rattle.cedar_types.specs.Types.{ty_of};
-ghost use Rattle.cedar_cases.specs.Tables.{address, ip, is_in_range, sum};
-
-pub mod addresses;
-
-use cedar_types::base::{ArgumentCheck, CedarType, ExtensionFunctionType, ExtensionSchemas, Name};
-use std::alloc::{AllocError, Global};
-use std::collections::BTreeSet;
+use cedar_types::base::ExtensionSchemas;
 
 /// Two tables of the functions `ip`, `isInRange` and `sum`.
 #[derive(Clone, Copy)]
@@ -24,68 +15,4 @@ impl<'a> Tables<'a> {
     pub fn where_ordered(self, is_ordered: bool) -> &'a ExtensionSchemas {
         if is_ordered { self.ordered } else { self.plain }
     }
-}
-
-/// The functions, of which `ip` has this check. They have no fault together.
-pub fn functions(
-    alloc: Global,
-    check: Box<dyn ArgumentCheck>,
-) -> Result<Vec<ExtensionFunctionType>, AllocError>
-    ensures { (meaning : _) → IfOk result (λ fs.
-        map (function_of meaning) fs.items ≡ ip (meaning check) ∷ is_in_range ∷ sum ∷ []) }
-{
-    Ok(vec![in alloc; ip(alloc, check)?, is_in_range(alloc)?, sum(alloc)?]?)
-}
-
-/// `ip`, from a String to an address.
-fn ip(alloc: Global, check: Box<dyn ArgumentCheck>) -> Result<ExtensionFunctionType, AllocError>
-    ensures { (meaning : _) → IfOk result (λ f. function_of meaning f ≡ ip (meaning check)) }
-{
-    Ok(ExtensionFunctionType {
-        name: Name::unqualified_name(alloc, "ip")?,
-        argument_types: vec![in alloc; CedarType::primitive_string()]?,
-        is_variadic: false,
-        return_type: address(alloc)?,
-        check_arguments: Some(check),
-    })
-}
-
-/// `isInRange`, from two addresses to a Bool.
-fn is_in_range(alloc: Global) -> Result<ExtensionFunctionType, AllocError>
-    ensures { (meaning : _) → IfOk result (λ f. function_of meaning f ≡ is_in_range) }
-{
-    Ok(ExtensionFunctionType {
-        name: Name::unqualified_name(alloc, "isInRange")?,
-        argument_types: vec![in alloc; address(alloc)?, address(alloc)?]?,
-        is_variadic: false,
-        return_type: CedarType::primitive_boolean(),
-        check_arguments: None,
-    })
-}
-
-/// `sum`, of one Long or more.
-fn sum(alloc: Global) -> Result<ExtensionFunctionType, AllocError>
-    ensures { (meaning : _) → IfOk result (λ f. function_of meaning f ≡ sum) }
-{
-    Ok(ExtensionFunctionType {
-        name: Name::unqualified_name(alloc, "sum")?,
-        argument_types: vec![in alloc; CedarType::primitive_long()]?,
-        is_variadic: true,
-        return_type: CedarType::primitive_long(),
-        check_arguments: None,
-    })
-}
-
-/// The extension types that are ordered where addresses are.
-pub fn addresses_alone(alloc: Global) -> Result<BTreeSet<Name>, AllocError> {
-    let mut ordered = BTreeSet::new(alloc);
-    ordered.insert(Name::unqualified_name(alloc, "ipaddr")?)?;
-    Ok(ordered)
-}
-
-/// The extension type of addresses.
-fn address(alloc: Global) -> Result<CedarType, AllocError>
-    ensures { IfOk result (λ t. ty_of t ≡ address) }
-{
-    CedarType::extension(alloc, Name::unqualified_name(alloc, "ipaddr")?)
 }

@@ -1,14 +1,10 @@
 //! Runs the worked rows: `cedar-check [ROW]`.
 #![tactic(auto)]
 
-mod fixtures;
-mod rows;
-mod run;
-
+use cedar_fixtures::addresses::RefusesEmptyAddress;
+use cedar_fixtures::tables::{address_functions, addresses_alone, functions_with_sum};
+use cedar_rows::run::run;
 use cedar_types::base::ExtensionSchemas;
-use fixtures::addresses::RefusesEmptyAddress;
-use fixtures::tables::{address_functions, addresses_alone, functions_with_sum};
-use run::run;
 use std::collections::BTreeSet;
 use std::env;
 use std::process::ExitCode;

@@ -4,10 +4,6 @@
 pub mod admission;
 pub mod functions;
 pub mod policies;
-#[cfg(test)]
-mod policy_set_tests;
 pub mod policy_sets;
 pub mod safety;
 pub mod schemas;
-#[cfg(test)]
-mod tests;

@@ -1,8 +1,8 @@
 // What came of the cases of a file.
 use crate::cases::answers::{Rules, answers, in_order};
 use crate::cases::files::{Case, CaseFile, Field};
-use crate::reading::{Fault, ReadError, condition, policy, scope_alone, uid_alone, whole_policy};
 use crate::shown::Source;
+use cedar_reading::{Fault, ReadError, condition, policy, scope_alone, uid_alone, whole_policy};
 use cedar_types::base::{Policy, SlotEnv, Template};
 use std::alloc::{AllocError, Global};
 use std::io;

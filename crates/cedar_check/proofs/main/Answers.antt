@@ -1,5 +1,5 @@
 use Rattle.std.proofs.Common.{None}
-use Rattle.cedar_check.proofs.Faultless.{no_fault_of_addresses, no_fault_with_sum, none_refused}
+use Rattle.cedar_fixtures.proofs.Faultless.{no_fault_of_addresses, no_fault_with_sum, none_refused}
 use Rattle.cedar_check.proofs.main.Goals as goal
 
 -- neither table has a fault, whatever its check means

@@ -1,0 +1,77 @@
+// The functions of the tables that the rows and the cases are typed by.
+ghost use Rattle.std.specs.Prelude.{◌≡◌, [], ◌∷◌, map, IfOk};
+ghost use Rattle.cedar_types.specs.ExtensionFunctions.{function_of};
+ghost use Rattle.cedar_fixtures.specs.Tables.{ip, is_in_range, sum};
+
+use crate::declarations::address;
+use cedar_types::base::{ArgumentCheck, CedarType, ExtensionFunctionType, Name};
+use std::alloc::{AllocError, Global};
+use std::collections::BTreeSet;
+
+/// `ip`, from a String to an address.
+fn ip(alloc: Global, check: Box<dyn ArgumentCheck>) -> Result<ExtensionFunctionType, AllocError>
+    ensures { (meaning : _) → IfOk result (λ f. function_of meaning f ≡ ip (meaning check)) }
+{
+    Ok(ExtensionFunctionType {
+        name: Name::unqualified_name(alloc, "ip")?,
+        argument_types: vec![in alloc; CedarType::primitive_string()]?,
+        is_variadic: false,
+        return_type: address(alloc)?,
+        check_arguments: Some(check),
+    })
+}
+
+/// `isInRange`, from two addresses to a Bool.
+fn is_in_range(alloc: Global) -> Result<ExtensionFunctionType, AllocError>
+    ensures { (meaning : _) → IfOk result (λ f. function_of meaning f ≡ is_in_range) }
+{
+    Ok(ExtensionFunctionType {
+        name: Name::unqualified_name(alloc, "isInRange")?,
+        argument_types: vec![in alloc; address(alloc)?, address(alloc)?]?,
+        is_variadic: false,
+        return_type: CedarType::primitive_boolean(),
+        check_arguments: None,
+    })
+}
+
+/// `sum`, of one Long or more.
+fn sum(alloc: Global) -> Result<ExtensionFunctionType, AllocError>
+    ensures { (meaning : _) → IfOk result (λ f. function_of meaning f ≡ sum) }
+{
+    Ok(ExtensionFunctionType {
+        name: Name::unqualified_name(alloc, "sum")?,
+        argument_types: vec![in alloc; CedarType::primitive_long()]?,
+        is_variadic: true,
+        return_type: CedarType::primitive_long(),
+        check_arguments: None,
+    })
+}
+
+/// `ip`, which has this check, and `isInRange`. They have no fault together.
+pub fn address_functions(
+    alloc: Global,
+    check: Box<dyn ArgumentCheck>,
+) -> Result<Vec<ExtensionFunctionType>, AllocError>
+    ensures { (meaning : _) → IfOk result (λ fs.
+        map (function_of meaning) fs.items ≡ ip (meaning check) ∷ is_in_range ∷ []) }
+{
+    Ok(vec![in alloc; ip(alloc, check)?, is_in_range(alloc)?]?)
+}
+
+/// The same and `sum`. They have none either.
+pub fn functions_with_sum(
+    alloc: Global,
+    check: Box<dyn ArgumentCheck>,
+) -> Result<Vec<ExtensionFunctionType>, AllocError>
+    ensures { (meaning : _) → IfOk result (λ fs.
+        map (function_of meaning) fs.items ≡ ip (meaning check) ∷ is_in_range ∷ sum ∷ []) }
+{
+    Ok(vec![in alloc; ip(alloc, check)?, is_in_range(alloc)?, sum(alloc)?]?)
+}
+
+/// The extension types that are ordered where addresses are.
+pub fn addresses_alone(alloc: Global) -> Result<BTreeSet<Name>, AllocError> {
+    let mut ordered = BTreeSet::new(alloc);
+    ordered.insert(Name::unqualified_name(alloc, "ipaddr")?)?;
+    Ok(ordered)
+}

@@ -1,0 +1,10 @@
+use Rattle.cedar_reading.proofs.schemas.types.+types.Given as goal
+
+abbrev pub decreases-attributes : goal.decreases-attributes
+decreases-attributes l = l.left
+
+abbrev pub decreases-cedar_type : goal.decreases-cedar_type
+decreases-cedar_type l = l.left
+
+abbrev pub decreases-record : goal.decreases-record
+decreases-record l = l.left

@@ -1,0 +1,20 @@
+//! Policies and schemas as texts: a notation for cases, with a fault and its place for what cannot be read. It is no parser of
+//! the language, and no clause is claimed of it.
+#![tactic(auto)]
+
+mod cursor;
+mod expressions;
+mod faults;
+mod members;
+mod names;
+mod operators;
+mod parts;
+mod schemas;
+mod scopes;
+mod texts;
+mod tokens;
+
+pub use cursor::MAX_LENGTH;
+pub use faults::{Fault, ReadError};
+pub use schemas::{SchemaReadError, schema};
+pub use scopes::{condition, policy, scope_alone, uid_alone, whole_policy};

@@ -1,0 +1,154 @@
+// The forms of expressions that have no grammar of their own.
+use crate::cursor::Cursor;
+use crate::faults::{Fault, ReadError};
+use crate::names::{placed_name, uid_of};
+use crate::operators::method;
+use crate::texts::text;
+use crate::tokens::TokenKind;
+use cedar_types::base::{AttrChain, Expr, ExprKind, Literal, Name, SlotId, Var};
+use std::rc::RcStr;
+
+/// What a word begins.
+#[derive(Drop)]
+pub enum Beginning {
+    /// A variable, a boolean or an id of an entity.
+    Whole(Expr),
+    /// The name of a function, and its `(`.
+    Function(Name),
+}
+
+/// Reads a variable, a boolean, an id of an entity, or the beginning of a call.
+pub fn beginning_with_word(cursor: &mut Cursor<'_>) -> Result<Beginning, ReadError> {
+    let start = cursor.start();
+    let word = cursor.peek().text;
+    let read = placed_name(cursor)?;
+    if read.is_of_id {
+        let uid = uid_of(cursor, start, read)?;
+        return Ok(Beginning::Whole(Expr::val(Literal::EntityUID(uid))));
+    }
+    if cursor.takes("(") {
+        return Ok(Beginning::Function(read.name));
+    }
+    let whole = match word {
+        "true" => Expr::val(Literal::Bool(true)),
+        "false" => Expr::val(Literal::Bool(false)),
+        "principal" => Expr::var(Var::Principal),
+        "action" => Expr::var(Var::Action),
+        "resource" => Expr::var(Var::Resource),
+        "context" => Expr::var(Var::Context),
+        _ => return Err(ReadError::At(start, Fault::Expected("an expression"))),
+    };
+    Ok(Beginning::Whole(whole))
+}
+
+/// Reads the name of a slot, behind its `?`.
+pub fn slot(cursor: &mut Cursor<'_>) -> Result<Expr, ReadError> {
+    if cursor.takes("principal") {
+        Ok(Expr::slot(SlotId::Principal))
+    } else if cursor.takes("resource") {
+        Ok(Expr::slot(SlotId::Resource))
+    } else {
+        Err(cursor.fault(Fault::Expected("`principal` or `resource`")))
+    }
+}
+
+/// Reads a number or a text in quotes.
+pub fn literal(cursor: &mut Cursor<'_>) -> Result<Expr, ReadError> {
+    match cursor.peek().kind {
+        TokenKind::Number => {
+            let start = cursor.start();
+            number_since(cursor, start)
+        }
+        TokenKind::Text => {
+            let said = text(cursor)?;
+            let said = RcStr::from_str(cursor.alloc, said.as_str())?;
+            Ok(Expr::val(Literal::String(said)))
+        }
+        TokenKind::Unknown => Err(cursor.fault(Fault::Text)),
+        _ => Err(cursor.fault(Fault::Expected("an expression"))),
+    }
+}
+
+/// Reads a number, of which the text from this byte on is a part: a minus may stand there.
+pub fn number_since(cursor: &mut Cursor<'_>, start: usize) -> Result<Expr, ReadError> {
+    cursor.take();
+    let digits = cursor.text_at(cursor.since(start));
+    match digits.parse::<i64>() {
+        Ok(number) => Ok(Expr::val(Literal::Long(number))),
+        Err(_) => Err(ReadError::At(start, Fault::Number)),
+    }
+}
+
+/// Reads the key of a record's entry, or an attribute: a name, or a text in quotes.
+pub fn key(cursor: &mut Cursor<'_>) -> Result<RcStr, ReadError> {
+    let alloc = cursor.alloc;
+    if cursor.peek().kind == TokenKind::Word {
+        return Ok(RcStr::from_str(alloc, cursor.word()?)?);
+    }
+    let said = text(cursor)?;
+    Ok(RcStr::from_str(alloc, said.as_str())?)
+}
+
+/// Reads what stands behind `has`: one attribute, or several with points between them.
+pub fn has(cursor: &mut Cursor<'_>, base: Expr) -> Result<Expr, ReadError> {
+    let alloc = cursor.alloc;
+    let first = key(cursor)?;
+    let mut rest = Vec::new(alloc);
+    for _ in 0..cursor.most_left() {
+        if !cursor.takes(".") {
+            break;
+        }
+        rest.push(key(cursor)?)?;
+    }
+    if rest.is_empty() {
+        return Ok(Expr::has_attr(alloc, base, first.as_str())?);
+    }
+    Ok(Expr::extended_has_attr(alloc, base, AttrChain { first, rest })?)
+}
+
+/// A call of an extension function, or an unknown.
+pub fn call(cursor: &Cursor<'_>, name: Name, args: Vec<Expr>) -> Result<Expr, ReadError> {
+    if !name.path.is_empty() || name.basename.as_str() != "unknown" {
+        return Ok(Expr::call_extension_fn(name, args));
+    }
+    let [argument] = args.as_slice() else {
+        return Err(cursor.fault(Fault::Expected("one argument")));
+    };
+    let Some(unknown) = string_in(argument) else {
+        return Err(cursor.fault(Fault::Expected("the name of an unknown")));
+    };
+    Ok(Expr::unknown(Name::unqualified_name(cursor.alloc, unknown)?))
+}
+
+/// The text of a literal that is one.
+fn string_in(expr: &Expr) -> Option<&str> {
+    match &expr.kind {
+        ExprKind::Lit(Literal::String(said)) => Some(said.as_str()),
+        _ => None,
+    }
+}
+
+/// What a method's call is: an operator, or a call of an extension function with the base as its first argument.
+pub fn method_call(
+    cursor: &Cursor<'_>,
+    name: &str,
+    base: Expr,
+    mut args: Vec<Expr>,
+) -> Result<Expr, ReadError> {
+    let alloc = cursor.alloc;
+    if name == "isEmpty" {
+        return if args.is_empty() {
+            Ok(Expr::is_empty(alloc, base)?)
+        } else {
+            Err(cursor.fault(Fault::Expected("no argument")))
+        };
+    }
+    let Some(operator) = method(name) else {
+        args.insert(0, base)?;
+        return Ok(Expr::call_extension_fn(Name::unqualified_name(alloc, name)?, args));
+    };
+    match (args.pop(), args.is_empty()) {
+        (Some(argument), true) => Ok(Expr::binary_app(alloc, operator, base, argument)?),
+        _ => Err(cursor.fault(Fault::Expected("one argument"))),
+    }
+}

@@ -1,0 +1,39 @@
+// Parts of a schema of which there may be several.
+use crate::cursor::Cursor;
+use crate::faults::ReadError;
+
+/// How many parts may stand at a place, and what stands around them.
+#[derive(Clone, Copy, PartialEq, Eq, Debug)]
+pub enum Listing {
+    One,
+    /// One or more, with commas between them.
+    WithCommas,
+    /// Any number, with commas between them and a bracket behind the last.
+    InBrackets,
+}
+
+/// Reads the bracket before several parts, or nothing before a single one.
+pub fn one_or_in_brackets(cursor: &mut Cursor<'_>) -> Listing {
+    if cursor.takes("[") {
+        Listing::InBrackets
+    } else {
+        Listing::One
+    }
+}
+
+impl Listing {
+    /// Whether another part follows after so many. Reads the comma before it, or the bracket behind the last.
+    pub fn goes_on(self, cursor: &mut Cursor<'_>, before: usize) -> Result<bool, ReadError> {
+        match self {
+            Listing::One => Ok(before == 0),
+            Listing::WithCommas => Ok(before == 0 || cursor.takes(",")),
+            Listing::InBrackets if cursor.takes("]") => Ok(false),
+            Listing::InBrackets => {
+                if before > 0 {
+                    cursor.expect(",")?;
+                }
+                Ok(true)
+            }
+        }
+    }
+}

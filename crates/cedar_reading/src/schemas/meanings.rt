@@ -1,0 +1,52 @@
+// What the names of a schema's text mean. None has a place: places are those of a policy's text.
+use crate::schemas::declarations::Declarations;
+use cedar_types::base::{EntityType, EntityUID, Name};
+use std::alloc::{AllocError, Global};
+
+/// What names mean where they are read.
+#[derive(Clone, Copy)]
+pub struct Names<'a> {
+    pub alloc: Global,
+    /// The parts of the namespace's name; none outside of namespaces.
+    pub namespace: &'a [&'a str],
+    /// What is known to be declared.
+    pub declared: &'a Declarations,
+}
+
+impl Names<'_> {
+    /// The entity type of this name that a declaration here declares.
+    pub fn own_type(&self, basename: &str) -> Result<EntityType, AllocError> {
+        let name = Name::new(self.alloc, basename, self.namespace)?;
+        Ok(EntityType::new(name, None))
+    }
+
+    /// The action of this id that a declaration here declares.
+    pub fn own_action(&self, eid: &str) -> Result<EntityUID, AllocError> {
+        let action_type = self.own_type("Action")?;
+        EntityUID::from_components(self.alloc, action_type, eid, None)
+    }
+
+    /// The entity type that a name means: without a path one of the namespace, if that declares it, else the one of this very
+    /// name.
+    pub fn entity_type(&self, name: Name) -> Result<EntityType, AllocError> {
+        if name.path.is_empty() {
+            let own = self.own_type(name.basename.as_str())?;
+            if self.declared.has_type(&own) {
+                return Ok(own);
+            }
+        }
+        Ok(EntityType::new(name, None))
+    }
+
+    /// The action that an id means: one of the namespace as for an entity type, where the name of the id's type has no path.
+    pub fn action(&self, type_name: Name, eid: &str) -> Result<EntityUID, AllocError> {
+        if type_name.path.is_empty() {
+            let own_type = self.own_type(type_name.basename.as_str())?;
+            let own = EntityUID::from_components(self.alloc, own_type, eid, None)?;
+            if self.declared.has_action(&own) {
+                return Ok(own);
+            }
+        }
+        EntityUID::from_components(self.alloc, EntityType::new(type_name, None), eid, None)
+    }
+}

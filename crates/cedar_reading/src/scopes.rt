@@ -1,0 +1,181 @@
+// Policies: a scope, and perhaps a condition.
+use crate::cursor::{Cursor, MAX_NESTING};
+use crate::expressions::expression;
+use crate::faults::{Fault, ReadError};
+use crate::names::{entity_type, entity_uid};
+use cedar_types::base::{
+    ActionConstraint, EntityReference, EntityUID, Expr, PolicyID, PrincipalConstraint,
+    PrincipalOrResourceConstraint, ResourceConstraint, Template,
+};
+use std::alloc::{AllocError, Global};
+
+/// The id of every policy that is read.
+pub const POLICY: &str = "policy0";
+
+/// The constraints of a scope that was read.
+#[derive(Drop)]
+pub struct Scope {
+    pub principal: PrincipalConstraint,
+    pub action: ActionConstraint,
+    pub resource: ResourceConstraint,
+}
+
+/// Reads a scope alone: `permit(principal, action, resource)`.
+fn read_scope(cursor: &mut Cursor<'_>) -> Result<Scope, ReadError> {
+    if !cursor.takes("forbid") {
+        cursor.expect("permit")?;
+    }
+    cursor.expect("(")?;
+    let principal = entity_constraint(cursor, "principal")?;
+    cursor.expect(",")?;
+    let action = action_constraint(cursor)?;
+    cursor.expect(",")?;
+    let resource = entity_constraint(cursor, "resource")?;
+    cursor.expect(")")?;
+    Ok(Scope {
+        principal: PrincipalConstraint {
+            constraint: principal,
+        },
+        action,
+        resource: ResourceConstraint {
+            constraint: resource,
+        },
+    })
+}
+
+/// Reads the constraint of the principal or of the resource, after its name.
+fn entity_constraint(
+    cursor: &mut Cursor<'_>,
+    variable: &'static str,
+) -> Result<PrincipalOrResourceConstraint, ReadError> {
+    cursor.expect(variable)?;
+    if cursor.takes("==") {
+        return Ok(PrincipalOrResourceConstraint::Eq(reference(cursor, variable)?));
+    }
+    if cursor.takes("in") {
+        return Ok(PrincipalOrResourceConstraint::In(reference(cursor, variable)?));
+    }
+    if !cursor.takes("is") {
+        return Ok(PrincipalOrResourceConstraint::Any);
+    }
+    let named = entity_type(cursor)?;
+    if !cursor.takes("in") {
+        return Ok(PrincipalOrResourceConstraint::Is(named));
+    }
+    let reference = reference(cursor, variable)?;
+    Ok(PrincipalOrResourceConstraint::IsIn(named, reference))
+}
+
+/// Reads an id, or the slot of this variable.
+fn reference(
+    cursor: &mut Cursor<'_>,
+    variable: &'static str,
+) -> Result<EntityReference, ReadError> {
+    if cursor.takes("?") {
+        cursor.expect(variable)?;
+        return Ok(EntityReference::Slot);
+    }
+    Ok(EntityReference::EUID(entity_uid(cursor)?))
+}
+
+/// Reads the constraint of the action, after its name.
+fn action_constraint(cursor: &mut Cursor<'_>) -> Result<ActionConstraint, ReadError> {
+    cursor.expect("action")?;
+    if cursor.takes("==") {
+        return Ok(ActionConstraint::Eq(entity_uid(cursor)?));
+    }
+    if !cursor.takes("in") {
+        return Ok(ActionConstraint::Any);
+    }
+    if cursor.takes("[") {
+        return Ok(ActionConstraint::In(entity_uids(cursor)?));
+    }
+    let mut actions = Vec::new(cursor.alloc);
+    actions.push(entity_uid(cursor)?)?;
+    Ok(ActionConstraint::In(actions))
+}
+
+/// Reads ids with commas between them, and the bracket behind the last.
+fn entity_uids(cursor: &mut Cursor<'_>) -> Result<Vec<EntityUID>, ReadError> {
+    let mut uids = Vec::new(cursor.alloc);
+    for _ in 0..cursor.most_left() {
+        if cursor.takes("]") {
+            break;
+        }
+        uids.push(entity_uid(cursor)?)?;
+        if !cursor.takes(",") {
+            cursor.expect("]")?;
+            break;
+        }
+    }
+    Ok(uids)
+}
+
+/// Reads a text that is an expression and nothing else.
+pub fn condition(alloc: Global, text: &str) -> Result<Expr, ReadError> {
+    let mut cursor = Cursor::new(alloc, text)?;
+    let read = expression(&mut cursor, MAX_NESTING)?;
+    finish(&cursor)?;
+    Ok(read.expr)
+}
+
+/// Reads a text that is a scope and nothing else.
+pub fn scope_alone(alloc: Global, text: &str) -> Result<Scope, ReadError> {
+    let mut cursor = Cursor::new(alloc, text)?;
+    let read = read_scope(&mut cursor)?;
+    finish(&cursor)?;
+    Ok(read)
+}
+
+/// Reads a text that is an id and nothing else.
+pub fn uid_alone(alloc: Global, text: &str) -> Result<EntityUID, ReadError> {
+    let mut cursor = Cursor::new(alloc, text)?;
+    let read = entity_uid(&mut cursor)?;
+    finish(&cursor)?;
+    Ok(read)
+}
+
+/// Reads a text that is a policy and nothing else: `permit(principal, action, resource) when { .. };`. It stands at the
+/// whole text.
+pub fn whole_policy(alloc: Global, text: &str) -> Result<Template, ReadError> {
+    let mut cursor = Cursor::new(alloc, text)?;
+    let start = cursor.start();
+    let scope = read_scope(&mut cursor)?;
+    let mut rest = None;
+    if cursor.takes("when") {
+        cursor.expect("{")?;
+        rest = Some(expression(&mut cursor, MAX_NESTING)?.expr);
+        cursor.expect("}")?;
+    }
+    cursor.expect(";")?;
+    finish(&cursor)?;
+    let mut read = policy(alloc, scope, rest)?;
+    read.loc = Some(cursor.since(start));
+    Ok(read)
+}
+
+/// The text has to end here.
+pub fn finish(cursor: &Cursor<'_>) -> Result<(), ReadError> {
+    if cursor.is_at_end() {
+        Ok(())
+    } else {
+        Err(cursor.fault(Fault::Expected("the end")))
+    }
+}
+
+/// The policy of this scope and this condition, without a place.
+pub fn policy(
+    alloc: Global,
+    scope: Scope,
+    condition: Option<Expr>,
+) -> Result<Template, AllocError> {
+    let id = PolicyID::from_string(alloc, POLICY)?;
+    Ok(Template::new(
+        id,
+        None,
+        scope.principal,
+        scope.action,
+        scope.resource,
+        condition,
+    ))
+}

@@ -1,0 +1,12 @@
+//! Tests of the worked rows: that what a row expects is taken for nothing else, and what runs of rows write. They stand apart,
+//! since a crate with tests is proved twice.
+#![tactic(auto)]
+
+#[cfg(test)]
+mod applications;
+#[cfg(test)]
+mod expectations;
+#[cfg(test)]
+mod passes;
+#[cfg(test)]
+mod runs;
