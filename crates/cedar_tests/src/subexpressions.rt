@@ -52,7 +52,7 @@ fn negated(alloc: Global, depth: usize) -> Result<Expr, AllocError> {
 fn take_apart(negations: Expr, depth: usize) {
     let mut whole = negations;
     for _ in 0..depth {
-        match whole.kind {
+        match whole.into_expr_kind() {
             ExprKind::UnaryApp(_, operand) => whole = Box::into_inner(operand),
             _ => return,
         }

@@ -20,7 +20,7 @@ fn negated(alloc: Global, count: usize) -> Result<Expr, AllocError> {
 fn take_apart(negations: Expr, count: usize) {
     let mut whole = negations;
     for _ in 0..count {
-        match whole.kind {
+        match whole.into_expr_kind() {
             ExprKind::UnaryApp(_, operand) => whole = Box::into_inner(operand),
             _ => return,
         }

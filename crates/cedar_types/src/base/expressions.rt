@@ -1,4 +1,6 @@
 // Expressions.
+ghost use Rattle.std.specs.Prelude.{◌≡◌};
+
 pub(crate) mod attr_chains;
 mod copies;
 pub(crate) mod extensions;
@@ -25,7 +27,7 @@ use std::rc::{Rc, RcStr};
 ///
 /// `Expr` alone has no annotations. Annotations and places count in no comparison.
 #[cycle(expr)]
-#[derive(Drop, Debug)]
+#[derive(Debug)]
 #[derive_where(PartialEq, Eq, PartialOrd, Ord, Hash)]
 pub struct Expr<T = ()> {
     #[derive_where(skip(EqHashOrd))]
@@ -33,6 +35,18 @@ pub struct Expr<T = ()> {
     #[derive_where(skip(EqHashOrd))]
     pub loc: Option<Loc>,
     pub kind: ExprKind<T>,
+}
+
+// By hand, so that a proof has one call where an expression is dropped: a derived drop stands in it with all forms at each such
+// place.
+impl<T: Drop> Drop for Expr<T> {
+    fn drop(self) {
+        let Expr {
+            annotation: _,
+            loc: _,
+            kind: _,
+        } = self;
+    }
 }
 
 /// The forms of expressions. The branches of an `if` may be shared, and a record is walked in byte order of its keys.
@@ -78,4 +92,19 @@ pub enum ExprKind<T = ()> {
     Set(Vec<Expr<T>>),
     /// `{x: a, y: b}`.
     Record(BTreeMap<RcStr, Expr<T>>),
+}
+
+impl<T: Drop> Expr<T> {
+    /// The form, without the annotation and the place of its node. It takes no memory. An expression has a `drop` of its own, so
+    /// it is by this call that it can be taken apart by value.
+    pub fn into_expr_kind(self) -> ExprKind<T>
+        ensures { result ≡ self.kind }
+    {
+        let Expr {
+            annotation: _,
+            loc: _,
+            kind: form,
+        } = self;
+        form
+    }
 }

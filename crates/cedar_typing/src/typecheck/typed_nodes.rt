@@ -46,14 +46,14 @@ pub(crate) fn without_capabilities<'a>(
 }
 
 /// The same expression at another place.
-pub(crate) fn at_place(typed: Expr<Option<CedarType>>, loc: Option<Loc>) -> Expr<Option<CedarType>>
+pub(crate) fn at_place(
+    mut typed: Expr<Option<CedarType>>,
+    loc: Option<Loc>,
+) -> Expr<Option<CedarType>>
     ensures { typed_tree result ≡ at_place loc (typed_tree typed) }
 {
-    Expr {
-        annotation: typed.annotation,
-        loc,
-        kind: typed.kind,
-    }
+    typed.loc = loc;
+    typed
 }
 
 /// An operator on two typed operands.

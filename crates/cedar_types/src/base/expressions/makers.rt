@@ -168,14 +168,11 @@ impl Expr {
 
     /// The same at this place, or without one. Its parts, and the types and ids that it names itself, stay where they
     /// are. It takes no memory.
-    pub fn with_maybe_source_loc(self, loc: Option<Loc>) -> Expr
+    pub fn with_maybe_source_loc(mut self, loc: Option<Loc>) -> Expr
         ensures { written result ≡ at_place loc (written self) }
     {
-        Expr {
-            annotation: self.annotation,
-            loc,
-            kind: self.kind,
-        }
+        self.loc = loc;
+        self
     }
 }
 

@@ -27,7 +27,7 @@ impl Clone for EntityReference {
 }
 
 /// A constraint on the principal or on the resource: none, `==`, `in`, `is`, or `is .. in`.
-#[derive(Debug, Drop)]
+#[derive(Debug)]
 pub enum PrincipalOrResourceConstraint {
     /// No constraint.
     Any,
@@ -39,6 +39,19 @@ pub enum PrincipalOrResourceConstraint {
     Is(EntityType),
     /// `is T in x`.
     IsIn(EntityType, EntityReference),
+}
+
+// By hand, so that a proof has one call where a constraint is dropped.
+impl Drop for PrincipalOrResourceConstraint {
+    fn drop(self) {
+        match self {
+            PrincipalOrResourceConstraint::Any => {}
+            PrincipalOrResourceConstraint::Eq(_) => {}
+            PrincipalOrResourceConstraint::In(_) => {}
+            PrincipalOrResourceConstraint::Is(_) => {}
+            PrincipalOrResourceConstraint::IsIn(_, _) => {}
+        }
+    }
 }
 
 impl Clone for PrincipalOrResourceConstraint {
@@ -77,7 +90,7 @@ pub struct ResourceConstraint {
 }
 
 /// The constraint on the action: none, `==` one, or `in` a list.
-#[derive(Debug, Drop)]
+#[derive(Debug)]
 pub enum ActionConstraint {
     /// No constraint.
     Any,
@@ -85,6 +98,17 @@ pub enum ActionConstraint {
     Eq(EntityUID),
     /// `in [a, b]`: one of these, or one below them.
     In(Vec<EntityUID>),
+}
+
+// By hand, for the same reason.
+impl Drop for ActionConstraint {
+    fn drop(self) {
+        match self {
+            ActionConstraint::Any => {}
+            ActionConstraint::Eq(_) => {}
+            ActionConstraint::In(_) => {}
+        }
+    }
 }
 
 impl ActionConstraint {
