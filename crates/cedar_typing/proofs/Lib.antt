@@ -1,4 +1,5 @@
 pub mod Basics
+pub mod VariableTypes
 pub mod Sequence
 pub mod Marks
 pub mod Members

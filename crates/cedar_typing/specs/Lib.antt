@@ -1,4 +1,5 @@
 pub mod TypeEnv
+pub mod VariableTypes
 pub mod Setting
 pub mod Capabilities
 pub mod TypeTests

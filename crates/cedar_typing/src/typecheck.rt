@@ -17,6 +17,7 @@ mod type_env;
 mod type_tests;
 mod typechecker;
 mod typed_nodes;
+mod variable_types;
 
 pub use expressions::MAX_NESTING;
 pub use request_env_checks::RequestEnvChecks;

@@ -1,4 +1,9 @@
 // What an expression is typed in, but for the extension functions.
+ghost use Rattle.cedar_types.specs.RequestEnvs.{env_of};
+ghost use Rattle.cedar_types.specs.SchemaContents.{schema_of};
+ghost use Rattle.cedar_typing.specs.VariableTypes.{HasPrincipal, HasAction, HasResource, HasContext};
+
+use crate::typecheck::variable_types::VariableTypes;
 use cedar_types::base::{Name, PolicyID, ValidationMode, ValidatorSchema};
 use cedar_types::types::request_env::RequestEnv;
 use std::alloc::Global;
@@ -11,6 +16,12 @@ pub(crate) struct TypeEnv<'s, 'r, 'e, 'p> {
     pub schema: &'s ValidatorSchema,
     pub mode: ValidationMode,
     pub request_env: &'r RequestEnv<'e>,
+    /// The types of the variables in this environment.
+    pub variables: VariableTypes,
     pub overloaded_types: &'s BTreeSet<Name>,
     pub policy_id: &'p PolicyID,
+    pub ghost principal: { HasPrincipal (env_of request_env.now) variables },
+    pub ghost action: { HasAction (schema_of schema.now) (env_of request_env.now) variables },
+    pub ghost resource: { HasResource (env_of request_env.now) variables },
+    pub ghost context: { HasContext (env_of request_env.now) variables },
 }

@@ -16,6 +16,7 @@ use crate::typecheck::rules::short_circuit::Connective;
 use crate::typecheck::single_env::SingleEnvTypechecker;
 use crate::typecheck::type_env::TypeEnv;
 use crate::typecheck::type_tests::is_typed_false;
+use crate::typecheck::variable_types::VariableTypes;
 use cedar_types::base::{
     ArgumentCheck, CedarType, Expr, ExtensionSchemas, Loc, Template, ValidationError,
     ValidationMode, ValidatorSchema,
@@ -116,12 +117,14 @@ impl<'a, C: ArgumentCheck> Typechecker<'a, C> {
             (with_rest t.now.loc (written scope.now)
             (option_map written t.now.non_scope_constraints))) }
     {
+        let variables = VariableTypes::of_environment(alloc, self.schema, env)?;
         let checker = SingleEnvTypechecker {
             env: TypeEnv {
                 alloc,
                 schema: self.schema,
                 mode: self.mode,
                 request_env: env,
+                variables,
                 overloaded_types: self.extensions.overloaded_types(),
                 policy_id: &t.id,
             },

@@ -61,14 +61,15 @@ impl TypeEnv<'_, '_, '_, '_> {
         Ok(without_capabilities(self.alloc, succeeded, typed))
     }
 
+    #[tactic(auto, using(crate::proofs::VariableTypes::is_kept, crate::proofs::VariableTypes::is_kept_if_any))]
     fn type_of_variable(&self, variable: Var) -> Result<Option<CedarType>, AllocError>
         ensures { IfOk result (λ o. option_map ty_of o ≡ variable_type (env_at self.now) variable) }
     {
         match variable {
-            Var::Principal => Ok(Some(self.request_env.principal_type(self.alloc)?)),
-            Var::Action => self.request_env.action_type(self.alloc, self.schema),
-            Var::Resource => Ok(Some(self.request_env.resource_type(self.alloc)?)),
-            Var::Context => Ok(Some(self.request_env.context_type(self.alloc)?)),
+            Var::Principal => Ok(Some(self.variables.principal.clone()?)),
+            Var::Action => self.variables.action.clone(),
+            Var::Resource => Ok(Some(self.variables.resource.clone()?)),
+            Var::Context => Ok(Some(self.variables.context.clone()?)),
         }
     }
 
