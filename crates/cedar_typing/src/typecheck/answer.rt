@@ -28,7 +28,7 @@ pub enum TypecheckAnswer<'a> {
 }
 
 /// What an answer hands on to what follows it.
-#[derive(Debug, Drop)]
+#[derive(Drop)]
 pub(crate) struct Handed<'a> {
     pub typed: Expr<Option<CedarType>>,
     pub capabilities: CapabilitySet<'a>,
@@ -37,7 +37,7 @@ pub(crate) struct Handed<'a> {
 }
 
 /// A typed part of what is being typed. It is boxed once, where its whole will have it.
-#[derive(Debug, Drop)]
+#[derive(Drop)]
 pub(crate) struct Part<'a> {
     pub typed: Box<Expr<Option<CedarType>>>,
     pub capabilities: CapabilitySet<'a>,

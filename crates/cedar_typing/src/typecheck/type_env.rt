@@ -10,7 +10,7 @@ use std::alloc::Global;
 use std::collections::BTreeSet;
 
 /// What each form of expression is typed in: the tables of all forms but calls are on it.
-#[derive(Debug, Drop)]
+#[derive(Drop)]
 pub(crate) struct TypeEnv<'s, 'r, 'e, 'p> {
     pub alloc: Global,
     pub schema: &'s ValidatorSchema,

@@ -10,7 +10,7 @@ use std::alloc::{AllocError, Global};
 
 /// The types of the variables in one environment. They are made once: what an occurrence of a variable has is a copy, which
 /// shares what they hold and takes no memory.
-#[derive(Debug, Drop)]
+#[derive(Drop)]
 pub(crate) struct VariableTypes {
     pub principal: CedarType,
     /// An action has a type where the schema declares it.

@@ -26,7 +26,7 @@ use cedar_types::base::{
 use std::alloc::{AllocError, Global};
 
 /// What is known of a call before its arguments are typed.
-#[derive(Debug, Drop)]
+#[derive(Drop)]
 pub(crate) struct Call<'f> {
     /// The type of the answer, where there is a function of the name.
     return_type: Option<&'f CedarType>,

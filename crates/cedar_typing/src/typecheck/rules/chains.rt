@@ -23,7 +23,7 @@ use std::alloc::{AllocError, Global};
 use std::rc::RcStr;
 
 /// What the steps so far say.
-#[derive(Debug, Drop)]
+#[derive(Drop)]
 pub(crate) struct Progress<'a> {
     /// That attributes are there.
     earned: CapabilitySet<'a>,
@@ -32,14 +32,14 @@ pub(crate) struct Progress<'a> {
 }
 
 /// An expression that a chain has come to, and its type.
-#[derive(Debug, Drop)]
+#[derive(Drop)]
 pub(crate) struct Reached {
     e: Expr,
     ty: CedarType,
 }
 
 /// What comes of a step.
-#[derive(Debug, Drop)]
+#[derive(Drop)]
 pub(crate) enum Step<'a> {
     /// The chain ends with it.
     Ends(Decision<'a>),
@@ -47,7 +47,7 @@ pub(crate) enum Step<'a> {
 }
 
 /// What comes of a step and of the access after it.
-#[derive(Debug, Drop)]
+#[derive(Drop)]
 pub(crate) enum Link<'a> {
     /// The chain ends with it.
     Ends(Decision<'a>),

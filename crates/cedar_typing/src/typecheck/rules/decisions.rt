@@ -15,7 +15,7 @@ use cedar_types::types::capability::CapabilitySet;
 use std::alloc::AllocError;
 
 /// The operands, as they were written.
-#[derive(Clone, Copy, Debug)]
+#[derive(Clone, Copy)]
 pub(crate) struct Operands<'a> {
     pub(crate) left: &'a Expr,
     pub(crate) right: &'a Expr,

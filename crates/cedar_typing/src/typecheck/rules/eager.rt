@@ -12,7 +12,7 @@ use cedar_types::types::capability::CapabilitySet;
 use std::alloc::{AllocError, Global};
 
 /// What the table of a form says by the types of its operands.
-#[derive(Debug, Drop)]
+#[derive(Drop)]
 pub(crate) enum Decision<'a> {
     /// The whole has this type, and produces these capabilities.
     Gives(CedarType, CapabilitySet<'a>),

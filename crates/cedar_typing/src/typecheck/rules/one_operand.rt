@@ -28,7 +28,7 @@ use std::alloc::{AllocError, Global};
 use std::rc::RcStr;
 
 /// A form with one operand.
-#[derive(Clone, Copy, Debug)]
+#[derive(Clone, Copy)]
 pub(crate) enum OneOperand<'x> {
     Unary(UnaryOp),
     Has(&'x RcStr),

@@ -18,7 +18,7 @@ use cedar_types::types::capability::CapabilitySet;
 use std::alloc::{AllocError, Global};
 
 /// What operands, one after another, resulted in.
-#[derive(Debug, Drop)]
+#[derive(Drop)]
 pub(crate) struct OperandList {
     /// The typed copies, of those before the first that is too deep.
     pub typed: Vec<Expr<Option<CedarType>>>,

@@ -27,7 +27,7 @@ use std::collections::BTreeMap;
 use std::rc::RcStr;
 
 /// What the values of fields, one after another, resulted in.
-#[derive(Debug, Drop)]
+#[derive(Drop)]
 pub(crate) struct FieldValues {
     /// The fields with their typed values, of those before the first that is too deep.
     typed: BTreeMap<RcStr, Expr<Option<CedarType>>>,

@@ -26,14 +26,14 @@ use cedar_types::types::capability::CapabilitySet;
 use std::alloc::{AllocError, Global};
 
 /// `&&` or `||`.
-#[derive(Clone, Copy, Debug)]
+#[derive(Clone, Copy)]
 pub(crate) enum Connective {
     And,
     Or,
 }
 
 /// Which of two sides says what the type of the whole is.
-#[derive(Clone, Copy, Debug)]
+#[derive(Clone, Copy)]
 pub(crate) enum Side {
     /// The right one, which ends the whole.
     RightEnds,

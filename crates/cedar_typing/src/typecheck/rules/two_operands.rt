@@ -25,7 +25,7 @@ use cedar_types::types::capability::CapabilitySet;
 use std::alloc::AllocError;
 
 /// A form with two operands.
-#[derive(Clone, Copy, Debug)]
+#[derive(Clone, Copy)]
 pub(crate) enum TwoOperands {
     /// `==`.
     Equality,
