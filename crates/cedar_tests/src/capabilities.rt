@@ -1,5 +1,5 @@
 // Shapes of expressions, and capabilities that own theirs.
-use crate::parts::{place, text};
+use crate::parts::{boxed, place, text};
 use cedar_types::base::{Expr, ExprShapeOnly, Literal, Var};
 use cedar_types::types::capability::Capability;
 use std::alloc::{AllocError, Global};
@@ -10,47 +10,74 @@ fn variable(start: usize, variable: Var) -> Expr {
     Expr::var(variable).with_maybe_source_loc(place(start))
 }
 
-/// A shape that owns its expression. (A value in a box is dropped by one call, so a proof pays less for it.)
+/// A shape that owns its expression.
 fn owned<'a>(alloc: Global, start: usize, name: Var) -> Result<Box<ExprShapeOnly<'a>>, AllocError> {
-    Ok(Box::new(alloc, ExprShapeOnly::Owned(variable(start, name)))?)
+    boxed(alloc, ExprShapeOnly::Owned(variable(start, name)))
+}
+
+/// Whether the first two are one shape and the third is another, by equality and by order.
+fn are_two_shapes<'a>(
+    here: &ExprShapeOnly<'a>,
+    there: &ExprShapeOnly<'a>,
+    other: &ExprShapeOnly<'a>,
+) -> bool {
+    *here == *there
+        && *here != *other
+        && here.partial_cmp(there) == Some(Ordering::Equal)
+        && here.cmp(other) == other.cmp(here).reverse()
 }
 
 #[test]
 fn shapes_have_no_places(rt: HostRuntime) -> Result<(), Fail> {
-    let alloc = rt.alloc();
-    let here = Box::new(alloc, variable(1, Var::Principal))?;
-    let borrowed = Box::new(alloc, ExprShapeOnly::Borrowed(&here))?;
-    let owned_there = owned(alloc, 2, Var::Principal)?;
-    let other = owned(alloc, 1, Var::Resource)?;
-    assert!(rt; *borrowed == *owned_there && *borrowed != *other);
-    assert!(rt; borrowed.partial_cmp(&owned_there) == Some(Ordering::Equal));
-    assert!(rt; borrowed.cmp(&other) == other.cmp(&borrowed).reverse());
+    let there = owned(rt.alloc(), 2, Var::Principal)?;
+    let other = owned(rt.alloc(), 1, Var::Resource)?;
+    let here = variable(1, Var::Principal);
+    assert!(rt; are_two_shapes(&ExprShapeOnly::Borrowed(&here), &there, &other));
     Ok(())
+}
+
+fn copied<'a>(
+    alloc: Global,
+    shape: &ExprShapeOnly<'a>,
+) -> Result<Box<ExprShapeOnly<'a>>, AllocError> {
+    boxed(alloc, shape.try_clone(alloc)?)
+}
+
+/// Whether the copy is the same shape, stands at the second place, and has that of `here`.
+fn is_copy<'a>(copy: &ExprShapeOnly<'a>, there: &ExprShapeOnly<'a>, here: &Expr) -> bool {
+    *copy == *there && copy.expr().loc == place(2) && here.has_shape_of(copy.expr())
 }
 
 #[test]
 fn a_copied_shape_keeps_the_place_of_its_expression(rt: HostRuntime) -> Result<(), Fail> {
-    let alloc = rt.alloc();
-    let here = Box::new(alloc, variable(1, Var::Principal))?;
-    let there = owned(alloc, 2, Var::Principal)?;
-    let copy = Box::new(alloc, there.try_clone(alloc)?)?;
-    assert!(rt; *copy == *there && copy.expr().loc == place(2));
-    assert!(rt; here.has_shape_of(copy.expr()));
+    let there = owned(rt.alloc(), 2, Var::Principal)?;
+    let copy = copied(rt.alloc(), &there)?;
+    assert!(rt; is_copy(&copy, &there, &variable(1, Var::Principal)));
     Ok(())
 }
 
-/// The literal `"x"`.
-fn x(alloc: Global) -> Result<Expr, AllocError> {
-    Ok(Expr::val(Literal::from_string(alloc, "x")?))
+/// That it has the attribute `x`.
+fn attribute<'a>(alloc: Global, base: &'a Expr) -> Result<Box<Capability<'a>>, AllocError> {
+    let name = text(alloc, "x")?;
+    boxed(alloc, Capability::new_attribute(base, name))
+}
+
+/// That it has the tag `x`.
+fn tag<'a>(alloc: Global, base: &'a Expr) -> Result<Box<Capability<'a>>, AllocError> {
+    let name = Expr::val(Literal::from_string(alloc, "x")?);
+    boxed(alloc, Capability::new_owned_tag(base, name))
+}
+
+/// Whether two capabilities differ, by equality and by order.
+fn are_told_apart<'a>(one: &Capability<'a>, other: &Capability<'a>) -> bool {
+    *one != *other && one.cmp(other) != Ordering::Equal
 }
 
 #[test]
 fn a_tag_is_no_attribute_of_the_same_text(rt: HostRuntime) -> Result<(), Fail> {
-    let alloc = rt.alloc();
-    let base = Box::new(alloc, variable(1, Var::Principal))?;
-    let attribute = Box::new(alloc, Capability::new_attribute(&base, text(alloc, "x")?))?;
-    let tag = Box::new(alloc, Capability::new_owned_tag(&base, x(alloc)?))?;
-    assert!(rt; *attribute != *tag);
-    assert!(rt; attribute.cmp(&tag) != Ordering::Equal);
+    let base = variable(1, Var::Principal);
+    let attribute = attribute(rt.alloc(), &base)?;
+    let tag = tag(rt.alloc(), &base)?;
+    assert!(rt; are_told_apart(&attribute, &tag));
     Ok(())
 }

@@ -1,7 +1,7 @@
 // Declarations of schemas as data.
 use crate::parts::{entity_type, text, types, uid};
 use cedar_types::base::{
-    AttributeType, Attributes, CedarType, SchemaError, StandardValidatorEntityType,
+    AttributeType, Attributes, CedarType, EntityUID, SchemaError, StandardValidatorEntityType,
     ValidatorActionId, ValidatorActionKind, ValidatorApplySpec, ValidatorEntityType,
     ValidatorEntityTypeKind, ValidatorSchema,
 };
@@ -60,8 +60,8 @@ pub fn standard(
 fn type_of(alloc: Global, declared: &Declared) -> Result<ValidatorEntityType, AllocError> {
     let Declared(name, below, kind) = declared;
     Ok(ValidatorEntityType {
-        name: entity_type(alloc, name)?,
         descendants: types(alloc, below)?,
+        name: entity_type(alloc, name)?,
         kind: type_kind(alloc, *kind)?,
     })
 }
@@ -79,6 +79,15 @@ pub fn declare(
     })
 }
 
+/// The ids of these actions.
+fn actions(alloc: Global, eids: &[&str]) -> Result<BTreeSet<EntityUID>, AllocError> {
+    let mut actions = BTreeSet::new(alloc);
+    for eid in eids {
+        actions.insert(uid(alloc, "Action", eid)?)?;
+    }
+    Ok(actions)
+}
+
 /// An external action, of a type of this name; its descendants are of the type `Action`.
 fn action_of(
     alloc: Global,
@@ -86,13 +95,9 @@ fn action_of(
     type_name: &str,
 ) -> Result<ValidatorActionId, AllocError> {
     let Declared(eid, below, _) = declared;
-    let mut descendants = BTreeSet::new(alloc);
-    for eid in *below {
-        descendants.insert(uid(alloc, "Action", eid)?)?;
-    }
     Ok(ValidatorActionId {
+        descendants: actions(alloc, below)?,
         name: uid(alloc, type_name, eid)?,
-        descendants,
         kind: ValidatorActionKind::External,
     })
 }

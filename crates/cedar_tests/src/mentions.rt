@@ -1,9 +1,9 @@
 // What a template names, each occurrence with its places. What comes is the rest's, the resource's, the action's and the
 // principal's, in each from the last to the first.
-use crate::parts::{place, policy};
+use crate::parts::{boxed, place, policy};
 use cedar_types::base::{
-    ActionConstraint, EntityType, EntityUID, Expr, Loc, Mentions, Name, PrincipalConstraint,
-    ResourceConstraint, SlotId, Template, Var,
+    ActionConstraint, EntityType, EntityUID, Expr, Loc, Mention, Mentions, Name,
+    PrincipalConstraint, ResourceConstraint, SlotId, Template, Var,
 };
 use std::alloc::{AllocError, Global};
 use std::test::Fail;
@@ -25,39 +25,44 @@ fn start(loc: Option<Loc>) -> usize {
     loc.map_or(0, |l| l.start)
 }
 
-/// Whether these names come, and nothing after them: of each its type, where the type stands, and where the id does, or 0 where
-/// it is no id.
+/// Whether it is of this type, which stands here, and its id there, or at 0 where it is no id.
+fn is_of(mention: &Mention<'_>, (name, type_at, id_at): (&str, usize, usize)) -> bool {
+    let entity_type = mention.entity_type();
+    entity_type.name.basename.as_str() == name
+        && start(entity_type.loc) == type_at
+        && mention.uid().map_or(0, |u| start(u.loc)) == id_at
+}
+
+/// Whether these names come, and nothing after them.
 fn come(mentions: Mentions<'_>, expected: &[(&str, usize, usize)]) -> Result<bool, AllocError> {
     let mut mentions = mentions;
-    for (name, type_at, id_at) in expected {
-        let mention = mentions.next().ok_or(AllocError)??;
-        let is_named = mention.entity_type().name.basename.as_str() == *name;
-        let is_there = start(mention.entity_type().loc) == *type_at;
-        if !is_named || !is_there || mention.uid().map_or(0, |u| start(u.loc)) != *id_at {
+    for name in expected {
+        if !is_of(&mentions.next().ok_or(AllocError)??, *name) {
             return Ok(false);
         }
     }
     Ok(mentions.next().is_none() && mentions.next().is_none())
 }
 
+/// `principal is User in Group::"a"`.
+fn user_in_group(alloc: Global) -> Result<PrincipalConstraint, AllocError> {
+    let user = named(alloc, "User", 1)?;
+    Ok(PrincipalConstraint::is_entity_type_in(user, id(alloc, "Group", 3)?))
+}
+
 /// `principal is User in Group::"a"`, `action == Action::"a"`, `resource is Photo in ?resource`, and a rest in which the
 /// principal is a `Robot`.
 fn whole(alloc: Global) -> Result<Box<Template>, AllocError> {
-    let (user, group) = (named(alloc, "User", 1)?, id(alloc, "Group", 3)?);
-    let act = id(alloc, "Action", 5)?;
-    let photo = named(alloc, "Photo", 7)?;
+    let principal = user_in_group(alloc)?;
+    let action = ActionConstraint::is_eq(id(alloc, "Action", 5)?);
+    let resource = ResourceConstraint::is_entity_type_in_slot(named(alloc, "Photo", 7)?);
     let robot = named(alloc, "Robot", 9)?;
-    let policy_id = policy(alloc)?;
     let rest = Expr::is_entity_type(alloc, Expr::var(Var::Principal), robot)?;
-    let template = Template::new(
-        policy_id,
-        None,
-        PrincipalConstraint::is_entity_type_in(user, group),
-        ActionConstraint::is_eq(act),
-        ResourceConstraint::is_entity_type_in_slot(photo),
-        Some(rest),
-    );
-    Ok(Box::new(alloc, template)?)
+    let id = policy(alloc)?;
+    boxed(
+        alloc,
+        Template::new(id, None, principal, action, resource, Some(rest)),
+    )
 }
 
 #[test]
@@ -95,10 +100,9 @@ fn types_at(alloc: Global, t: &Template) -> Result<Vec<usize>, AllocError> {
 #[test]
 fn ids_and_types_are_listed(rt: HostRuntime) -> Result<(), Fail> {
     let t = whole(rt.alloc())?;
-    assert_eq!(rt; ids_at(rt.alloc(), &t)?.as_slice(), [6, 4].as_slice());
-    assert_eq!(rt;
-        types_at(rt.alloc(), &t)?.as_slice(),
-        [9, 7, 5, 3, 1].as_slice()
+    let (ids, types) = (ids_at(rt.alloc(), &t)?, types_at(rt.alloc(), &t)?);
+    assert!(rt;
+        ids.as_slice() == [6, 4].as_slice() && types.as_slice() == [9, 7, 5, 3, 1].as_slice()
     );
     Ok(())
 }
@@ -109,14 +113,12 @@ fn slots(
     principal: PrincipalConstraint,
     resource: ResourceConstraint,
 ) -> Result<(bool, bool), AllocError> {
-    let t = Template::new(
-        policy(alloc)?,
-        None,
-        principal,
-        ActionConstraint::any(),
-        resource,
-        None,
-    );
+    let id = policy(alloc)?;
+    let action = ActionConstraint::any();
+    let t = boxed(
+        alloc,
+        Template::new(id, None, principal, action, resource, None),
+    )?;
     let condition = t.condition(alloc)?;
     let of_principal = condition.mentions_slot(alloc, SlotId::Principal)?;
     Ok((

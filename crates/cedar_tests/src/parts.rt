@@ -6,6 +6,11 @@ use std::alloc::{AllocError, Global};
 use std::collections::BTreeSet;
 use std::rc::RcStr;
 
+/// The value in a box, which is dropped by one call: without it a proof pays for each part.
+pub fn boxed<T: Drop>(alloc: Global, value: T) -> Result<Box<T>, AllocError> {
+    Ok(Box::new(alloc, value)?)
+}
+
 pub fn text(alloc: Global, s: &str) -> Result<RcStr, AllocError> {
     RcStr::from_str(alloc, s)
 }

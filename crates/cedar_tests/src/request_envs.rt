@@ -1,39 +1,59 @@
 // The environments of requests: their parts, and how slots are linked.
-use crate::parts::{entity_type, uid};
-use cedar_types::base::{CedarType, SlotEnv, SlotId, UnlinkedRequestEnv};
+use crate::parts::{boxed, entity_type, uid};
+use cedar_types::base::{CedarType, EntityType, RequestType, SlotEnv, SlotId, UnlinkedRequestEnv};
+use cedar_types::types::request_env::RequestEnv;
 use std::alloc::{AllocError, Global};
 use std::collections::BTreeMap;
 use std::rc::Rc;
 use std::test::Fail;
 
 /// The action `view` with the types that it is asked for.
-fn asked(alloc: Global) -> Result<UnlinkedRequestEnv, AllocError> {
-    Ok(UnlinkedRequestEnv {
+fn asked(alloc: Global) -> Result<Box<UnlinkedRequestEnv>, AllocError> {
+    let context = Rc::new(alloc, CedarType::any_record(alloc)?)?;
+    let asked = UnlinkedRequestEnv {
+        context,
         principal: entity_type(alloc, "User")?,
-        action: uid(alloc, "Action", "view")?,
         resource: entity_type(alloc, "Photo")?,
-        context: Rc::new(alloc, CedarType::any_record(alloc)?)?,
-    })
+        action: uid(alloc, "Action", "view")?,
+    };
+    boxed(alloc, asked)
+}
+
+/// Whether the environment has the types that are asked for.
+fn has_types(env: &RequestEnv<'_>, asked: &UnlinkedRequestEnv) -> bool {
+    env.principal_entity_type() == Some(&asked.principal)
+        && env.resource_entity_type() == Some(&asked.resource)
 }
 
 #[test]
 fn an_environment_has_its_parts(rt: HostRuntime) -> Result<(), Fail> {
     let asked = asked(rt.alloc())?;
-    let env = asked.as_request_env();
-    assert!(rt; env.principal_entity_type() == Some(&asked.principal));
-    assert!(rt; env.resource_entity_type() == Some(&asked.resource));
+    assert!(rt; has_types(&asked.as_request_env(), &asked));
     Ok(())
+}
+
+/// The request of the environment.
+fn request(alloc: Global, asked: &UnlinkedRequestEnv) -> Result<Option<RequestType>, AllocError> {
+    asked.as_request_env().to_request_type(alloc)
+}
+
+/// Whether there is a request, for what is asked.
+fn is_for(request: &Option<RequestType>, asked: &UnlinkedRequestEnv) -> bool {
+    match request {
+        Some(request) => {
+            request.principal == asked.principal
+                && request.resource == asked.resource
+                && request.action == asked.action
+        }
+        None => false,
+    }
 }
 
 #[test]
 fn a_request_has_the_parts_of_its_environment(rt: HostRuntime) -> Result<(), Fail> {
     let asked = asked(rt.alloc())?;
-    let request = asked
-        .as_request_env()
-        .to_request_type(rt.alloc())?
-        .ok_or("a request")?;
-    assert!(rt; request.principal == asked.principal && request.resource == asked.resource);
-    assert!(rt; request.action == asked.action);
+    let request = boxed(rt.alloc(), request(rt.alloc(), &asked)?)?;
+    assert!(rt; is_for(&request, &asked));
     Ok(())
 }
 
@@ -44,15 +64,27 @@ fn team(alloc: Global) -> Result<SlotEnv, AllocError> {
     Ok(slots)
 }
 
+/// The environment with an album for `?resource`, and then with a team for `?principal`.
+fn linked<'a>(
+    alloc: Global,
+    asked: &'a UnlinkedRequestEnv,
+) -> Result<Box<RequestEnv<'a>>, AllocError> {
+    let slots = team(alloc)?;
+    let album = entity_type(alloc, "Album")?;
+    let env = asked.as_request_env().link(None, Some(album));
+    boxed(alloc, env.link_slot_env(alloc, &slots)?)
+}
+
+/// Whether `?principal` is of this type, and `?resource` is not bound.
+fn has_slots(env: &RequestEnv<'_>, principal: &EntityType) -> bool {
+    env.principal_slot() == Some(principal) && env.resource_slot().is_none()
+}
+
 #[test]
 fn the_last_linking_counts_for_both_slots(rt: HostRuntime) -> Result<(), Fail> {
-    let alloc = rt.alloc();
-    let asked = asked(alloc)?;
-    let env = asked
-        .as_request_env()
-        .link(None, Some(entity_type(alloc, "Album")?));
-    let env = env.link_slot_env(alloc, &team(alloc)?)?;
-    assert!(rt; env.principal_slot() == Some(&entity_type(alloc, "Team")?));
-    assert!(rt; env.resource_slot().is_none());
+    let asked = asked(rt.alloc())?;
+    let env = linked(rt.alloc(), &asked)?;
+    let team = boxed(rt.alloc(), entity_type(rt.alloc(), "Team")?)?;
+    assert!(rt; has_slots(&env, &team));
     Ok(())
 }

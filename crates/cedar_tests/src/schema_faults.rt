@@ -47,14 +47,20 @@ fn fault(alloc: Global, lists: &[&[Declared]]) -> Option<SchemaError> {
     schema(alloc, lists).err()
 }
 
+/// Whether the schema of these declarations has this fault.
+fn is_found(alloc: Global, lists: &[&[Declared]], want: &SchemaError) -> bool {
+    fault(alloc, lists).as_ref() == Some(want)
+}
+
 #[test]
 fn each_fault_is_found_before_the_later_ones(rt: HostRuntime) -> Result<(), Fail> {
     assert!(rt; fault(rt.alloc(), &[]).is_none());
     for (at, want) in FAULTS.iter().enumerate() {
-        let alone = fault(rt.alloc(), &SAMPLES[at..at + 1]);
-        assert!(rt; alone.as_ref() == Some(want), "{want}");
-        let first = fault(rt.alloc(), &SAMPLES[at..]);
-        assert!(rt; first.as_ref() == Some(want), "{want}");
+        let (alone, all) = (&SAMPLES[at..at + 1], &SAMPLES[at..]);
+        assert!(rt;
+            is_found(rt.alloc(), alone, want) && is_found(rt.alloc(), all, want),
+            "{want}"
+        );
     }
     Ok(())
 }
@@ -165,9 +171,10 @@ fn applied(
     (principal, resource): (&str, &str),
     context: Named,
 ) -> Result<Option<SchemaError>, AllocError> {
-    let action = view(alloc, principal, resource, made(alloc, context)?)?;
-    let a = declare(alloc, "A", ValidatorEntityTypeKind::External)?;
-    Ok(ValidatorSchema::new(alloc, vec![in alloc; a]?, vec![in alloc; action]?).err())
+    let context = made(alloc, context)?;
+    let actions = vec![in alloc; view(alloc, principal, resource, context)?]?;
+    let types = vec![in alloc; declare(alloc, "A", ValidatorEntityTypeKind::External)?]?;
+    Ok(ValidatorSchema::new(alloc, types, actions).err())
 }
 
 #[test]

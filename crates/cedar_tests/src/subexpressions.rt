@@ -24,18 +24,24 @@ fn next_variable(visited: &mut ExprIterator<'_>) -> Result<Option<Var>, AllocErr
     }
 }
 
+/// Whether the whole comes, then the action, then the principal, and nothing after them.
+fn are_visited(visited: &mut ExprIterator<'_>) -> Result<bool, AllocError> {
+    Ok(
+        next_variable(visited)?.is_none()
+            && next_variable(visited)? == Some(Var::Action)
+            && next_variable(visited)? == Some(Var::Principal)
+            && visited.next().is_none()
+            && visited.next().is_none(),
+    )
+}
+
 #[test]
 fn an_expression_comes_before_its_parts_and_the_last_part_first(
     rt: HostRuntime,
 ) -> Result<(), Fail> {
     let alloc = rt.alloc();
     let whole = Expr::and(alloc, Expr::var(Var::Principal), Expr::var(Var::Action))?;
-    let whole = Box::new(alloc, whole)?;
-    let mut visited = whole.subexpressions(alloc)?;
-    assert!(rt; next_variable(&mut visited)?.is_none());
-    assert!(rt; next_variable(&mut visited)? == Some(Var::Action));
-    assert!(rt; next_variable(&mut visited)? == Some(Var::Principal));
-    assert!(rt; visited.next().is_none() && visited.next().is_none());
+    assert!(rt; are_visited(&mut whole.subexpressions(alloc)?)?);
     Ok(())
 }
 
