@@ -1,5 +1,5 @@
 -- The test for equal types, to and from equality.
-use Rattle.std.proofs.Common.{◌≡◌, refl, sym, ap, subst, Bool, true, false, true≢false}
+use Rattle.std.proofs.Common.{◌≡◌, refl, sym, ap, subst, true, true≢false}
 use Rattle.std.specs.Prelude.{Option, Some, None}
 use Rattle.cedar_types.proofs.Comparisons.SameTypes.{ty_to, ty_itself}
 use Rattle.cedar_types.specs.Bounds.{ty_eq}
