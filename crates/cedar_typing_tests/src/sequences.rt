@@ -45,6 +45,16 @@ impl<'a> Iterator for Answers<'a> {
     }
 }
 
+/// The answers of these items, none of which is taken yet.
+fn taken_from<'a>(alloc: Global, items: &'a [Item], asked: &'a Cell<i64>) -> Answers<'a> {
+    Answers {
+        alloc,
+        items,
+        left: items.len(),
+        asked,
+    }
+}
+
 fn answer<'a>(alloc: Global, item: Item, value: i64) -> Result<TypecheckAnswer<'a>, AllocError> {
     match item {
         Item::Success => {
@@ -61,12 +71,7 @@ fn answer<'a>(alloc: Global, item: Item, value: i64) -> Result<TypecheckAnswer<'
 /// the answer is.
 fn sequenced(alloc: Global, items: &[Item]) -> Result<String, AllocError> {
     let asked = Cell::new(0);
-    let answers = Answers {
-        alloc,
-        items,
-        left: items.len(),
-        asked: &asked,
-    };
+    let answers = taken_from(alloc, items, &asked);
     let mut shown = String::from_str(alloc, "not called")?;
     let answer = TypecheckAnswer::sequence_all_then_typecheck(alloc, answers, |handed| {
         shown = String::from_str(alloc, "called with")?;
@@ -119,18 +124,27 @@ fn answers_are_taken_until_the_first_limit(rt: HostRuntime) -> Result<(), Fail> 
     Ok(())
 }
 
-#[test]
-fn what_follows_may_be_a_limit_or_an_error(rt: HostRuntime) -> Result<(), Fail> {
-    let alloc = rt.alloc();
-    let failures = vec![in alloc; Ok(TypecheckAnswer::fail(long(0)))]?;
+/// Whether the answer is a limit, where a failure is followed by one.
+fn is_limit_after_failure(alloc: Global, asked: &Cell<i64>) -> Result<bool, AllocError> {
+    let failures = taken_from(alloc, &[Item::Failure], asked);
     let answer = TypecheckAnswer::sequence_all_then_typecheck(
         alloc,
         failures,
         |_| Ok(TypecheckAnswer::RecursionLimit),
     )?;
-    assert!(rt; is_limit(&answer));
-    let limits = vec![in alloc; Ok(TypecheckAnswer::RecursionLimit)]?;
-    let answer = TypecheckAnswer::sequence_all_then_typecheck(alloc, limits, |_| Err(AllocError));
-    assert!(rt; answer.is_err());
+    Ok(is_limit(&answer))
+}
+
+/// Whether the answer is an error, where a limit is followed by one.
+fn is_error_after_limit(alloc: Global, asked: &Cell<i64>) -> bool {
+    let limits = taken_from(alloc, &[Item::Limit], asked);
+    TypecheckAnswer::sequence_all_then_typecheck(alloc, limits, |_| Err(AllocError)).is_err()
+}
+
+#[test]
+fn what_follows_may_be_a_limit_or_an_error(rt: HostRuntime) -> Result<(), Fail> {
+    let asked = Cell::new(0);
+    assert!(rt; is_limit_after_failure(rt.alloc(), &asked)?);
+    assert!(rt; is_error_after_limit(rt.alloc(), &asked));
     Ok(())
 }
