@@ -1,5 +1,6 @@
 -- The types of the variables as the checker keeps them, each against what the environment says, by the
--- test for equal types: a kept fact has to be one of a kind that nobody can doubt twice.
+-- test for equal types: what a value keeps as a fact has to be a type with at most one value, and that a
+-- test is true is one.
 use Rattle.std.specs.Prelude.{◌≡◌, Bool, true, false, Option, Some, None, option_map}
 use Rattle.cedar_types.specs.Bounds.{ty_eq}
 use Rattle.cedar_types.specs.RequestEnvs.{Env, principal_ty, action_ty, resource_ty, context_ty}
