@@ -1,6 +1,6 @@
 // A line for each call: its name, and what came of it.
-use crate::calls::at_once::{Asked, Question};
-use crate::calls::environments::{ChecksMaking, ChecksWalk, LinkedWalk, Walk};
+use crate::calls::at_once::{Asked, Subject};
+use crate::calls::environments::{ChecksMaking, ChecksWalk, LinkedWalk, MODE, Walk};
 use crate::calls::passes::{Pass, PassWalk};
 use crate::calls::policies::WholeCheck;
 use crate::calls::schemas::SchemaMaking;
@@ -12,7 +12,8 @@ use crate::samples::policies::{MANY, many_findings, one_finding, with_slot};
 use crate::samples::schemas::photos;
 use crate::sweep::{Call, swept};
 use cedar_typechecker::rbac::Validator;
-use cedar_types::base::{ExtensionSchemas, ValidatorSchema};
+use cedar_types::base::{ExtensionSchemas, ValidationMode, ValidatorSchema};
+use cedar_typing::typecheck::Typechecker;
 use std::alloc::Global;
 use std::io;
 use std::io::Write;
@@ -51,23 +52,35 @@ fn write_sweep<C: Call, W: Write>(
 }
 
 fn single_checks<W: Write>(alloc: Global, schema: &ValidatorSchema, out: &mut W) -> io::Result<()> {
+    let extensions = ExtensionSchemas::default(alloc);
+    let checker = Typechecker::new(schema, &extensions, ValidationMode::Strict);
+    let mut envs = schema.unlinked_request_envs(ValidationMode::Strict);
+    let Some(env) = envs.next() else {
+        return writeln!(out, "there is no environment");
+    };
     for (name, policy) in [
         ("of one finding", one_finding(alloc)?),
         ("of many findings", many_findings(alloc)?),
         ("with a slot", with_slot(alloc)?),
     ] {
-        let policy = &policy;
-        let said = swept(alloc, &SingleCheck { schema, policy })?;
+        let check = SingleCheck {
+            checker: &checker,
+            env: &env,
+            policy: &policy,
+        };
+        let said = swept(alloc, &check)?;
         writeln!(out, "typecheck_by_single_request_env, {name}: {said}")?;
     }
     Ok(())
 }
 
 fn walks<W: Write>(alloc: Global, schema: &ValidatorSchema, out: &mut W) -> io::Result<()> {
+    let extensions = ExtensionSchemas::default(alloc);
     let policy = with_slot(alloc)?;
     // each of two actions with the slot linked in two ways, and the undeclared ones
     let walk = Walk {
         schema,
+        checker: &Typechecker::new(schema, &extensions, MODE),
         policy: &policy,
         environments: 5,
     };
@@ -87,9 +100,19 @@ fn walks<W: Write>(alloc: Global, schema: &ValidatorSchema, out: &mut W) -> io::
 }
 
 fn whole_checks<W: Write>(alloc: Global, schema: &ValidatorSchema, out: &mut W) -> io::Result<()> {
+    let extensions = ExtensionSchemas::default(alloc);
+    let checker = Typechecker::new(schema, &extensions, ValidationMode::Strict);
+    whole_checks_by(alloc, &checker, out)
+}
+
+fn whole_checks_by<W: Write>(
+    alloc: Global,
+    checker: &Typechecker<'_>,
+    out: &mut W,
+) -> io::Result<()> {
     let (one, many) = (one_finding(alloc)?, many_findings(alloc)?);
     let small = WholeCheck {
-        schema,
+        checker,
         policy: &one,
         held: 1,
         holds_finding: false,
@@ -97,7 +120,7 @@ fn whole_checks<W: Write>(alloc: Global, schema: &ValidatorSchema, out: &mut W) 
     };
     // one of the many findings is held before
     let large = WholeCheck {
-        schema,
+        checker,
         policy: &many,
         held: 9,
         holds_finding: true,
@@ -141,20 +164,20 @@ fn all_passes<W: Write>(alloc: Global, validator: &Validator<'_>, out: &mut W) -
 fn questions<W: Write>(alloc: Global, validator: &Validator<'_>, out: &mut W) -> io::Result<()> {
     let (unknown, known) = (bound_to_unknown(alloc)?, bound_to_user(alloc)?);
     let named = unknown_names(alloc)?;
-    for (policy, question, answers) in [
-        (&named, Question::Uids, 9),
-        (&named, Question::TypeNames, 11),
-        (&named, Question::Principals, 1),
-        (&known, Question::Resources, 3),
-        (&named, Question::Application, 1),
-        (&known, Question::Application, 0),
-        (&unknown, Question::LinkedApplication, 1),
-        (&known, Question::LinkedApplication, 0),
+    for (policy, subject, answers) in [
+        (&named, Subject::Uids, 9),
+        (&named, Subject::TypeNames, 11),
+        (&named, Subject::Principals, 1),
+        (&known, Subject::Resources, 3),
+        (&named, Subject::Application, 1),
+        (&known, Subject::Application, 0),
+        (&unknown, Subject::LinkedApplication, 1),
+        (&known, Subject::LinkedApplication, 0),
     ] {
         let asked = Asked {
             validator,
             policy,
-            question,
+            subject,
             answers,
         };
         write_sweep(alloc, out, asked.name(), &asked)?;

@@ -1,4 +1,5 @@
 // A call, made while its first growth is refused, then its second, until one goes through.
+use crate::refusals::{refuse, was_refused};
 use std::alloc::{AllocError, Global};
 
 /// What came of a call while one growth was to be refused.
@@ -62,4 +63,42 @@ impl Attempt {
             _ => Attempt::Wrong(fault),
         }
     }
+}
+
+/// A question that takes memory, with all that it is asked of.
+pub trait Question {
+    type Answer: Drop;
+
+    fn ask(&self, alloc: Global) -> Result<Self::Answer, AllocError>;
+
+    /// All of an answer.
+    fn shown(&self, alloc: Global, answer: Self::Answer) -> Result<String, AllocError>;
+}
+
+/// What comes of a question that is asked while the growth of this number is refused, and again with ample memory.
+pub fn attempt_question<Q: Question>(
+    alloc: Global,
+    question: &Q,
+    number: u16,
+) -> Result<Attempt, AllocError> {
+    let wanted = answered(alloc, question)?;
+    refuse(alloc, number);
+    let answer = question.ask(alloc);
+    let attempt = attempt_of(answer.is_ok(), was_refused(alloc));
+    let is_as_ever = match answer {
+        Ok(answer) => question.shown(alloc, answer)? == wanted,
+        Err(_) => true,
+    };
+    let again = answered(alloc, question)?;
+    Ok(
+        attempt
+            .only_if(is_as_ever, ANOTHER_ANSWER)
+            .only_if(again == wanted, ANOTHER_LATER),
+    )
+}
+
+/// The answer to a question with ample memory.
+fn answered<Q: Question>(alloc: Global, question: &Q) -> Result<String, AllocError> {
+    let answer = question.ask(alloc)?;
+    question.shown(alloc, answer)
 }

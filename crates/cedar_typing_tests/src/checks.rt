@@ -1,57 +1,19 @@
 // The check of one condition in Strict, in a small schema.
+use cedar_reading::schema;
 use cedar_types::base::{
-    ActionConstraint, AttributeType, Attributes, CedarType, EntityType, EntityUID, Expr, ExprKind,
-    ExtensionSchemas, Literal, Loc, Name, OpenTag, PolicyID, PrincipalConstraint,
-    ResourceConstraint, StandardValidatorEntityType, Template, ValidationError, ValidationMode,
-    ValidatorActionId, ValidatorActionKind, ValidatorApplySpec, ValidatorEntityType,
-    ValidatorEntityTypeKind, ValidatorSchema, Var,
+    ActionConstraint, CedarType, Expr, ExprKind, ExtensionSchemas, Literal, Loc, PolicyID,
+    PrincipalConstraint, ResourceConstraint, Template, ValidationError, ValidationMode,
+    ValidatorSchema, Var,
 };
 use cedar_typing::typecheck::{PolicyCheck, Typechecker};
 use std::alloc::{AllocError, Global};
-use std::collections::BTreeSet;
 use std::rc::Rc;
 use std::test::Fail;
 
 const POLICY: Option<Loc> = Some(Loc { start: 5, end: 900 });
 
-fn named(alloc: Global, basename: &str) -> Result<EntityType, AllocError> {
-    Ok(EntityType::from(Name::unqualified_name(alloc, basename)?))
-}
-
-/// `entity User { ok: Bool, boss: User };`
-fn users(alloc: Global) -> Result<ValidatorEntityType, AllocError> {
-    let ok = AttributeType::required_attribute(CedarType::primitive_boolean());
-    let user = CedarType::named_entity_reference(alloc, named(alloc, "User")?)?;
-    let boss = AttributeType::required_attribute(user);
-    let attributes = Attributes::from_list(alloc, vec![in alloc; ("ok", ok), ("boss", boss)]?)?;
-    let kind = ValidatorEntityTypeKind::Standard(StandardValidatorEntityType {
-        attributes,
-        tags: None,
-    });
-    Ok(ValidatorEntityType {
-        name: named(alloc, "User")?,
-        descendants: BTreeSet::new(alloc),
-        kind,
-    })
-}
-
-/// `action greet appliesTo { principal: User, resource: User, context: {} };`
-fn greet(alloc: Global) -> Result<ValidatorActionId, AllocError> {
-    let mut users = BTreeSet::new(alloc);
-    users.insert(named(alloc, "User")?)?;
-    let nothing = Attributes::from_list(alloc, Vec::new(alloc))?;
-    let context = CedarType::record_with_attributes(nothing, OpenTag::ClosedAttributes);
-    let applies_to = ValidatorApplySpec {
-        principal_apply_spec: users.clone()?,
-        resource_apply_spec: users,
-        context: Rc::new(alloc, context)?,
-    };
-    Ok(ValidatorActionId {
-        name: EntityUID::from_components(alloc, named(alloc, "Action")?, "greet", None)?,
-        descendants: BTreeSet::new(alloc),
-        kind: ValidatorActionKind::Defined(applies_to),
-    })
-}
+const SCHEMA: &str =
+    "entity User { ok: Bool, boss: User }; action greet appliesTo { principal: User, resource: User };";
 
 /// `permit(principal, action, resource) when { condition }`.
 pub fn permit_when(alloc: Global, condition: Expr) -> Result<Template, AllocError> {
@@ -67,10 +29,20 @@ pub fn permit_when(alloc: Global, condition: Expr) -> Result<Template, AllocErro
 
 /// The check of a policy.
 pub fn checked_policy(alloc: Global, policy: &Template) -> Result<PolicyCheck, Fail> {
-    let (users, greet) = (users(alloc)?, greet(alloc)?);
-    let schema = ValidatorSchema::new(alloc, vec![in alloc; users]?, vec![in alloc; greet]?)?;
+    let Ok(schema) = schema(alloc, SCHEMA) else {
+        return Err(Fail::from("a schema"));
+    };
+    checked_by(alloc, &schema, policy)
+}
+
+/// The check of a policy in the first environment of a schema.
+fn checked_by(
+    alloc: Global,
+    schema: &ValidatorSchema,
+    policy: &Template,
+) -> Result<PolicyCheck, Fail> {
     let extensions = ExtensionSchemas::default(alloc);
-    let typechecker = Typechecker::new(&schema, &extensions, ValidationMode::Strict);
+    let typechecker = Typechecker::new(schema, &extensions, ValidationMode::Strict);
     let mut envs = schema.unlinked_request_envs(ValidationMode::Strict);
     let env = envs.next().ok_or("an environment")?;
     Ok(typechecker.typecheck_by_single_request_env(alloc, policy, &env)?)

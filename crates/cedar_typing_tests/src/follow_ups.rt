@@ -1,5 +1,5 @@
 // What follows up on one answer.
-use crate::parts::{is_limit, knowing, knows, long, number};
+use crate::parts::{is_limit, is_long, knowing, knows, long, number};
 use cedar_types::base::CedarType;
 use cedar_typing::typecheck::answer::TypecheckAnswer;
 use std::alloc::{AllocError, Global};
@@ -63,7 +63,7 @@ fn followed<'a>(
     is_known: bool,
 ) -> Result<TypecheckAnswer<'a>, AllocError> {
     answer.then_typecheck(alloc, |expr, set| {
-        if expr == long(7) && knows(alloc, &set, "x")? == is_known {
+        if is_long(&expr, 7) && knows(alloc, &set, "x")? == is_known {
             Ok(TypecheckAnswer::success(alloc, number(8, Some(CedarType::String))))
         } else {
             Ok(TypecheckAnswer::RecursionLimit)

@@ -5,7 +5,7 @@ use std::alloc::{AllocError, Global};
 use std::test::Fail;
 
 /// A part of a condition.
-#[derive(Clone, Copy, Debug)]
+#[derive(Clone, Copy)]
 enum Part {
     True,
     False,
@@ -22,7 +22,7 @@ enum Part {
 }
 
 /// A condition.
-#[derive(Clone, Copy, Debug)]
+#[derive(Clone, Copy)]
 enum Form {
     And(Part, Part),
     Or(Part, Part),
@@ -41,21 +41,25 @@ fn made(alloc: Global, part: Part) -> Result<Expr, AllocError> {
         Part::One => Ok(Expr::val(Literal::from(1))),
         Part::Open => Expr::get_attr(alloc, Expr::var(Var::Principal), "ok"),
         Part::Undeclared => Expr::get_attr(alloc, Expr::var(Var::Principal), "nope"),
-        Part::Deep(levels) => {
-            let mut chain = Expr::val(Literal::from(true));
-            for _ in 0..levels {
-                chain = Expr::and(alloc, Expr::val(Literal::from(true)), chain)?;
-            }
-            Ok(chain)
-        }
-        Part::Bosses(levels) => {
-            let mut chain = Expr::var(Var::Principal);
-            for _ in 0..levels {
-                chain = Expr::get_attr(alloc, chain, "boss")?;
-            }
-            Ok(chain)
-        }
+        Part::Deep(levels) => deep(alloc, levels),
+        Part::Bosses(levels) => bosses(alloc, levels),
     }
+}
+
+fn deep(alloc: Global, levels: usize) -> Result<Expr, AllocError> {
+    let mut chain = Expr::val(Literal::from(true));
+    for _ in 0..levels {
+        chain = Expr::and(alloc, Expr::val(Literal::from(true)), chain)?;
+    }
+    Ok(chain)
+}
+
+fn bosses(alloc: Global, levels: usize) -> Result<Expr, AllocError> {
+    let mut chain = Expr::var(Var::Principal);
+    for _ in 0..levels {
+        chain = Expr::get_attr(alloc, chain, "boss")?;
+    }
+    Ok(chain)
 }
 
 fn condition(alloc: Global, form: Form) -> Result<Expr, AllocError> {
@@ -134,29 +138,37 @@ const NOT_VISITED: [(Form, &str); 4] = [
     (Form::If(Part::True, Part::True, AT_401), "success"),
 ];
 
+/// What the check of this condition comes to.
+fn outcome_of(alloc: Global, condition: Expr) -> Result<String, Fail> {
+    let check = checked(alloc, condition)?;
+    Ok(outcome(alloc, &check)?)
+}
+
 #[test]
 fn a_part_deeper_than_400_is_a_failure_where_it_is_visited(rt: HostRuntime) -> Result<(), Fail> {
     let alloc = rt.alloc();
     for table in [DEEP.as_slice(), TOO_DEEP.as_slice(), NOT_VISITED.as_slice()] {
-        for (form, want) in table {
-            let check = checked(alloc, condition(alloc, *form)?)?;
-            let found = outcome(alloc, &check)?;
-            assert_eq!(rt; found.as_str(), *want, "{form:?}");
+        for (number, (form, want)) in table.iter().enumerate() {
+            let found = outcome_of(alloc, condition(alloc, *form)?)?;
+            assert_eq!(rt; found.as_str(), *want, "number {number} of its table");
         }
     }
     Ok(())
 }
 
-#[test]
-fn a_chain_of_300_attributes_is_typed(rt: HostRuntime) -> Result<(), Fail> {
-    let alloc = rt.alloc();
+/// `principal has boss.boss..`, of 300 attributes.
+fn has_bosses(alloc: Global) -> Result<Expr, AllocError> {
     let mut rest = Vec::new(alloc);
     for _ in 1..300 {
         rest.push("boss")?;
     }
     let chain = AttrChain::new(alloc, "boss", rest.as_slice())?;
-    let bosses = Expr::extended_has_attr(alloc, Expr::var(Var::Principal), chain)?;
-    let found = outcome(alloc, &checked(alloc, bosses)?)?;
+    Expr::extended_has_attr(alloc, Expr::var(Var::Principal), chain)
+}
+
+#[test]
+fn a_chain_of_300_attributes_is_typed(rt: HostRuntime) -> Result<(), Fail> {
+    let found = outcome_of(rt.alloc(), has_bosses(rt.alloc())?)?;
     assert_eq!(rt; found.as_str(), "success");
     Ok(())
 }

@@ -19,6 +19,12 @@ pub fn long(value: i64) -> Expr<Option<CedarType>> {
     number(value, Some(CedarType::Long))
 }
 
+/// Whether it is this literal number, typed as a long.
+pub fn is_long(expr: &Expr<Option<CedarType>>, value: i64) -> bool {
+    let is_typed = matches!(&expr.annotation, Some(CedarType::Long));
+    matches!(&expr.kind, ExprKind::Lit(Literal::Long(found)) if is_typed && *found == value)
+}
+
 /// That the principal has the attribute `attr`, alone.
 pub fn knowing<'a>(alloc: Global, attr: &str) -> Result<CapabilitySet<'a>, AllocError> {
     let attr = RcStr::from_str(alloc, attr)?;

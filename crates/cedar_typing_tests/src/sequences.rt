@@ -1,8 +1,9 @@
 // What follows up on a list of answers, which are made as they are taken.
 ghost use Rattle.std.specs.Iterator.{at_most};
 
-use crate::parts::{is_limit, knowing, knows, long, number};
-use cedar_types::base::CedarType;
+use crate::parts::{is_limit, is_long, knowing, knows, long, number};
+use cedar_types::base::{CedarType, Expr};
+use cedar_types::types::capability::CapabilitySet;
 use cedar_typing::typecheck::answer::TypecheckAnswer;
 use std::alloc::{AllocError, Global};
 use std::cell::Cell;
@@ -67,19 +68,28 @@ fn answer<'a>(alloc: Global, item: Item, value: i64) -> Result<TypecheckAnswer<'
     }
 }
 
-/// Which answers these items hand on, each by its number and, where it knows `x`, an x, how many items are asked for, and what
-/// the answer is.
+/// Adds what is handed on: each by its number and, where it knows `x`, an x.
+fn add_handed(
+    alloc: Global,
+    shown: &mut String,
+    handed: &[(Expr<Option<CedarType>>, CapabilitySet<'_>)],
+) -> Result<(), AllocError> {
+    for ((expr, set), value) in handed.iter().zip(0..) {
+        let order = if is_long(expr, value) { "" } else { "?" };
+        let known = if knows(alloc, set, "x")? { "x" } else { "" };
+        write!(shown, " {order}{value}{known}")?;
+    }
+    Ok(())
+}
+
+/// Which answers these items hand on, how many items are asked for, and what the answer is.
 fn sequenced(alloc: Global, items: &[Item]) -> Result<String, AllocError> {
     let asked = Cell::new(0);
     let answers = taken_from(alloc, items, &asked);
     let mut shown = String::from_str(alloc, "not called")?;
     let answer = TypecheckAnswer::sequence_all_then_typecheck(alloc, answers, |handed| {
         shown = String::from_str(alloc, "called with")?;
-        for ((expr, set), value) in handed.into_iter().zip(0..) {
-            let order = if expr == long(value) { "" } else { "?" };
-            let known = if knows(alloc, &set, "x")? { "x" } else { "" };
-            write!(shown, " {order}{value}{known}")?;
-        }
+        add_handed(alloc, &mut shown, &handed)?;
         Ok(TypecheckAnswer::success(alloc, number(0, Some(CedarType::String))))
     });
     let ending = match answer {

@@ -1,20 +1,21 @@
 // The walks over a template's environments, alone and with their checks. Each step takes memory.
-use crate::calls::walks::{Steps, refused_walk, walked};
+use crate::calls::walks::{Steps, attempt_walk, walked};
 use crate::pictures::picture;
-use crate::refusals::{refuse, was_refused};
-use crate::sweep::{ANOTHER_ANSWER, ANOTHER_LATER, ANOTHER_POLICY, Attempt, Call, attempt_of};
-use cedar_types::base::{ExtensionSchemas, Template, ValidationMode, ValidatorSchema};
+use crate::sweep::{ANOTHER_POLICY, Attempt, Call, Question, attempt_question};
+use cedar_types::base::{Template, ValidationMode, ValidatorSchema};
 use cedar_types::types::linked_envs::LinkedRequestEnvs;
 use cedar_types::types::request_env::RequestEnv;
 use cedar_typing::typecheck::{PolicyCheck, RequestEnvChecks, Typechecker};
 use std::alloc::{AllocError, Global};
 
-const MODE: ValidationMode = ValidationMode::Partial;
+/// The mode of these walks.
+pub const MODE: ValidationMode = ValidationMode::Partial;
 
-/// A template by a schema, and how many environments it has.
+/// A template by a schema, and how many environments it has. The checker is one by the same schema, in the mode of these walks.
 #[derive(Clone, Copy)]
 pub struct Walk<'a> {
     pub schema: &'a ValidatorSchema,
+    pub checker: &'a Typechecker<'a>,
     pub policy: &'a Template,
     pub environments: usize,
 }
@@ -33,65 +34,51 @@ pub struct ChecksWalk<'a>(pub Walk<'a>);
 
 impl Call for LinkedWalk<'_> {
     fn attempt(&self, alloc: Global, number: u16) -> Result<Attempt, AllocError> {
-        let Walk {
-            schema,
-            policy,
-            environments,
-        } = self.0;
+        let (schema, policy) = (self.0.schema, self.0.policy);
         let before = picture(alloc, policy)?;
-        let wanted = walked(alloc, schema.linked_request_envs(alloc, MODE, policy)?)?;
-        let steps = schema.linked_request_envs(alloc, MODE, policy)?;
-        let attempt = refused_walk(alloc, steps, &wanted, number)?;
-        let again = walked(alloc, schema.linked_request_envs(alloc, MODE, policy)?)?;
-        Ok(
-            attempt
-                .only_if(wanted.len() == environments, ANOTHER_ANSWER)
-                .only_if(again == wanted, ANOTHER_LATER)
-                .only_if(picture(alloc, policy)? == before, ANOTHER_POLICY),
-        )
-    }
-}
-
-impl Call for ChecksMaking<'_> {
-    fn attempt(&self, alloc: Global, number: u16) -> Result<Attempt, AllocError> {
-        let extensions = ExtensionSchemas::default(alloc);
-        let checker = Typechecker::new(self.0.schema, &extensions, MODE);
-        let policy = self.0.policy;
-        let before = picture(alloc, policy)?;
-        let wanted = walked(alloc, checker.typecheck_by_request_env(alloc, policy)?)?;
-        refuse(alloc, number);
-        let answer = checker.typecheck_by_request_env(alloc, policy);
-        let attempt = attempt_of(answer.is_ok(), was_refused(alloc));
-        let is_as_ever = match answer {
-            Ok(checks) => walked(alloc, checks)? == wanted,
-            Err(_) => true,
-        };
-        let again = walked(alloc, checker.typecheck_by_request_env(alloc, policy)?)?;
-        Ok(
-            attempt
-                .only_if(is_as_ever, ANOTHER_ANSWER)
-                .only_if(again == wanted, ANOTHER_LATER)
-                .only_if(picture(alloc, policy)? == before, ANOTHER_POLICY),
-        )
+        let walks = (
+            schema.linked_request_envs(alloc, MODE, policy)?,
+            schema.linked_request_envs(alloc, MODE, policy)?,
+            schema.linked_request_envs(alloc, MODE, policy)?,
+        );
+        let attempt = attempt_walk(alloc, walks, self.0.environments, number)?;
+        Ok(attempt.only_if(picture(alloc, policy)? == before, ANOTHER_POLICY))
     }
 }
 
 impl Call for ChecksWalk<'_> {
     fn attempt(&self, alloc: Global, number: u16) -> Result<Attempt, AllocError> {
-        let extensions = ExtensionSchemas::default(alloc);
-        let checker = Typechecker::new(self.0.schema, &extensions, MODE);
-        let policy = self.0.policy;
+        let (checker, policy) = (self.0.checker, self.0.policy);
         let before = picture(alloc, policy)?;
-        let wanted = walked(alloc, checker.typecheck_by_request_env(alloc, policy)?)?;
-        let steps = checker.typecheck_by_request_env(alloc, policy)?;
-        let attempt = refused_walk(alloc, steps, &wanted, number)?;
-        let again = walked(alloc, checker.typecheck_by_request_env(alloc, policy)?)?;
-        Ok(
-            attempt
-                .only_if(wanted.len() == self.0.environments, ANOTHER_ANSWER)
-                .only_if(again == wanted, ANOTHER_LATER)
-                .only_if(picture(alloc, policy)? == before, ANOTHER_POLICY),
-        )
+        let walks = (
+            checker.typecheck_by_request_env(alloc, policy)?,
+            checker.typecheck_by_request_env(alloc, policy)?,
+            checker.typecheck_by_request_env(alloc, policy)?,
+        );
+        let attempt = attempt_walk(alloc, walks, self.0.environments, number)?;
+        Ok(attempt.only_if(picture(alloc, policy)? == before, ANOTHER_POLICY))
+    }
+}
+
+impl<'a> Question for ChecksMaking<'a> {
+    type Answer = RequestEnvChecks<'a>;
+
+    fn ask(&self, alloc: Global) -> Result<RequestEnvChecks<'a>, AllocError> {
+        self.0
+            .checker
+            .typecheck_by_request_env(alloc, self.0.policy)
+    }
+
+    fn shown(&self, alloc: Global, answer: RequestEnvChecks<'a>) -> Result<String, AllocError> {
+        picture(alloc, &walked(alloc, answer)?)
+    }
+}
+
+impl Call for ChecksMaking<'_> {
+    fn attempt(&self, alloc: Global, number: u16) -> Result<Attempt, AllocError> {
+        let before = picture(alloc, self.0.policy)?;
+        let attempt = attempt_question(alloc, self, number)?;
+        Ok(attempt.only_if(picture(alloc, self.0.policy)? == before, ANOTHER_POLICY))
     }
 }
 

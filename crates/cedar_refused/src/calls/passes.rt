@@ -1,7 +1,7 @@
 // The passes over the names in a policy and over what its slots are bound to, step by step.
-use crate::calls::walks::{Steps, refused_walk, walked};
+use crate::calls::walks::{Steps, attempt_walk};
 use crate::pictures::picture;
-use crate::sweep::{ANOTHER_ANSWER, ANOTHER_LATER, ANOTHER_POLICY, Attempt, Call};
+use crate::sweep::{ANOTHER_POLICY, Attempt, Call};
 use cedar_typechecker::rbac::{LiteralErrors, SlotTypeErrors, Validator};
 use cedar_types::base::{Mention, Mentions, Policy, ValidationError, ValidatorSchema};
 use std::alloc::{AllocError, Global};
@@ -44,24 +44,6 @@ impl Call for PassWalk<'_> {
         };
         Ok(attempt.only_if(picture(alloc, self.policy)? == before, ANOTHER_POLICY))
     }
-}
-
-/// One walk with ample memory, one while a growth is refused, and again one with ample memory. They come ready made, as
-/// the borrow checker does not cover a closure that makes them.
-fn attempt_walk<S: Steps>(
-    alloc: Global,
-    walks: (S, S, S),
-    items: usize,
-    number: u16,
-) -> Result<Attempt, AllocError> {
-    let wanted = walked(alloc, walks.0)?;
-    let attempt = refused_walk(alloc, walks.1, &wanted, number)?;
-    let again = walked(alloc, walks.2)?;
-    Ok(
-        attempt
-            .only_if(wanted.len() == items, ANOTHER_ANSWER)
-            .only_if(again == wanted, ANOTHER_LATER),
-    )
 }
 
 fn mentions(

@@ -3,9 +3,7 @@ use crate::pictures::{members, picture};
 use crate::refusals::{refuse, was_refused};
 use crate::samples::findings::{errors, first_finding, warnings};
 use crate::sweep::{ANOTHER_ANSWER, ANOTHER_LATER, ANOTHER_POLICY, Attempt, Call, attempt_of};
-use cedar_types::base::{
-    ExtensionSchemas, Template, ValidationError, ValidationMode, ValidationWarning, ValidatorSchema,
-};
+use cedar_types::base::{Template, ValidationError, ValidationWarning};
 use cedar_typing::typecheck::Typechecker;
 use std::alloc::{AllocError, Global};
 use std::collections::HashSet;
@@ -13,7 +11,7 @@ use std::collections::HashSet;
 /// The check of this policy, and what the sets hold before and after it.
 #[derive(Clone, Copy)]
 pub struct WholeCheck<'a> {
-    pub schema: &'a ValidatorSchema,
+    pub checker: &'a Typechecker<'a>,
     pub policy: &'a Template,
     /// How many members each set holds before.
     pub held: usize,
@@ -30,19 +28,12 @@ struct Sets {
     warnings: HashSet<ValidationWarning>,
 }
 
-/// The members of both, as texts.
-#[derive(Drop, PartialEq, Eq)]
-struct Texts {
-    errors: Vec<String>,
-    warnings: Vec<String>,
-}
-
 impl Sets {
-    fn shown(&self, alloc: Global) -> Result<Texts, AllocError> {
-        Ok(Texts {
-            errors: members(alloc, &self.errors)?,
-            warnings: members(alloc, &self.warnings)?,
-        })
+    /// The members of both, as a text.
+    fn shown(&self, alloc: Global) -> Result<String, AllocError> {
+        let errors = members(alloc, &self.errors)?;
+        let warnings = members(alloc, &self.warnings)?;
+        picture(alloc, &(errors, warnings))
     }
 }
 
@@ -57,49 +48,53 @@ impl WholeCheck<'_> {
         Ok(Sets { errors, warnings })
     }
 
-    /// The policies here are refused, and never apply.
-    fn is_right(&self, passes: bool, sets: &Sets) -> bool {
+    /// What the sets hold after a check with ample memory: the policies here are refused, and never apply.
+    fn wanted(&self, alloc: Global) -> Result<Option<String>, AllocError> {
+        let mut sets = self.handed_in(alloc)?;
+        let passes = self.checked(alloc, &mut sets)?;
         let warnings = self.held.saturating_add(1);
-        !passes && sets.errors.len() == self.errors && sets.warnings.len() == warnings
+        if passes || sets.errors.len() != self.errors || sets.warnings.len() != warnings {
+            return Ok(None);
+        }
+        Ok(Some(sets.shown(alloc)?))
+    }
+
+    fn checked(&self, alloc: Global, sets: &mut Sets) -> Result<bool, AllocError> {
+        self.checker
+            .typecheck_policy(alloc, self.policy, &mut sets.errors, &mut sets.warnings)
+    }
+
+    /// The check while a growth is refused, after which the sets hold this or what they held, and again with ample memory.
+    fn refused(&self, alloc: Global, wanted: &str, number: u16) -> Result<Attempt, AllocError> {
+        let mut sets = self.handed_in(alloc)?;
+        let before = sets.shown(alloc)?;
+        refuse(alloc, number);
+        let answer = self.checked(alloc, &mut sets);
+        let attempt = attempt_of(answer.is_ok(), was_refused(alloc));
+        let after = sets.shown(alloc)?;
+        let expected = if answer.is_ok() {
+            wanted
+        } else {
+            before.as_str()
+        };
+        let again = self.checked(alloc, &mut sets)?;
+        let later = sets.shown(alloc)?;
+        Ok(
+            attempt
+                .only_if(!matches!(answer, Ok(true)), ANOTHER_ANSWER)
+                .only_if(after.as_str() == expected, "the sets hold something else")
+                .only_if(!again && later.as_str() == wanted, ANOTHER_LATER),
+        )
     }
 }
 
 impl Call for WholeCheck<'_> {
     fn attempt(&self, alloc: Global, number: u16) -> Result<Attempt, AllocError> {
-        let extensions = ExtensionSchemas::default(alloc);
-        let checker = Typechecker::new(self.schema, &extensions, ValidationMode::Strict);
         let policy = picture(alloc, self.policy)?;
-        let mut ample = self.handed_in(alloc)?;
-        let passes = checked(alloc, &checker, self.policy, &mut ample)?;
-        let wanted = ample.shown(alloc)?;
-        let mut sets = self.handed_in(alloc)?;
-        let before = sets.shown(alloc)?;
-        refuse(alloc, number);
-        let answer = checked(alloc, &checker, self.policy, &mut sets);
-        let attempt = attempt_of(answer.is_ok(), was_refused(alloc));
-        let after = sets.shown(alloc)?;
-        let (is_as_ever, are_as_ever) = match answer {
-            Ok(answer) => (answer == passes, after == wanted),
-            Err(_) => (true, after == before),
+        let Some(wanted) = self.wanted(alloc)? else {
+            return Ok(Attempt::Wrong("its findings are others"));
         };
-        let again = checked(alloc, &checker, self.policy, &mut sets)?;
-        let later = sets.shown(alloc)?;
-        Ok(
-            attempt
-                .only_if(self.is_right(passes, &ample), "its findings are others")
-                .only_if(is_as_ever, ANOTHER_ANSWER)
-                .only_if(are_as_ever, "the sets hold something else")
-                .only_if(again == passes && later == wanted, ANOTHER_LATER)
-                .only_if(picture(alloc, self.policy)? == policy, ANOTHER_POLICY),
-        )
+        let attempt = self.refused(alloc, wanted.as_str(), number)?;
+        Ok(attempt.only_if(picture(alloc, self.policy)? == policy, ANOTHER_POLICY))
     }
-}
-
-fn checked(
-    alloc: Global,
-    checker: &Typechecker<'_>,
-    policy: &Template,
-    sets: &mut Sets,
-) -> Result<bool, AllocError> {
-    checker.typecheck_policy(alloc, policy, &mut sets.errors, &mut sets.warnings)
 }

@@ -11,10 +11,10 @@ pub struct SchemaMaking;
 
 impl Call for SchemaMaking {
     fn attempt(&self, alloc: Global, number: u16) -> Result<Attempt, AllocError> {
-        let (types, actions) = (types(alloc)?, actions(alloc)?);
         let Some(wanted) = made(alloc, &photos(alloc))? else {
             return Ok(Attempt::Wrong("there is no schema"));
         };
+        let (types, actions) = (types(alloc)?, actions(alloc)?);
         refuse(alloc, number);
         let answer = ValidatorSchema::new(alloc, types, actions);
         let attempt = attempt_of(answer.is_ok(), was_refused(alloc));

@@ -1,7 +1,7 @@
 // Walks, each step of which may take memory.
 use crate::pictures::pictures;
 use crate::refusals::{refuse, was_refused};
-use crate::sweep::{Attempt, attempt_of};
+use crate::sweep::{ANOTHER_ANSWER, ANOTHER_LATER, Attempt, attempt_of};
 use std::alloc::{AllocError, Global};
 use std::fmt::Debug;
 
@@ -43,7 +43,7 @@ pub fn walked<S: Steps>(alloc: Global, mut steps: S) -> Result<Vec<String>, Allo
 
 /// A walk while the growth of this number is refused. Items are looked at after the walk is
 /// dropped; after its end it gives nothing, three times.
-pub fn refused_walk<S: Steps>(
+fn refused_walk<S: Steps>(
     alloc: Global,
     mut steps: S,
     wanted: &[String],
@@ -68,5 +68,23 @@ pub fn refused_walk<S: Steps>(
                 !is_whole || shown.len() == wanted.len(),
                 "an item is missing",
             ),
+    )
+}
+
+/// One walk with ample memory, one while a growth is refused, and again one with ample memory. They come ready made, as
+/// the borrow checker does not cover a closure that makes them.
+pub fn attempt_walk<S: Steps>(
+    alloc: Global,
+    walks: (S, S, S),
+    items: usize,
+    number: u16,
+) -> Result<Attempt, AllocError> {
+    let wanted = walked(alloc, walks.0)?;
+    let attempt = refused_walk(alloc, walks.1, &wanted, number)?;
+    let again = walked(alloc, walks.2)?;
+    Ok(
+        attempt
+            .only_if(wanted.len() == items, ANOTHER_ANSWER)
+            .only_if(again == wanted, ANOTHER_LATER),
     )
 }

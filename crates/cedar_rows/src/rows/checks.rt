@@ -53,7 +53,7 @@ fn checked<F: Form>(
     let policy = permit_when(alloc, condition)?;
     let check = checker.typecheck_by_single_request_env(alloc, &policy, env)?;
     let outcome = outcome_of(alloc, &check)?;
-    let is_expected = case.expected.is_met_by(alloc, check)?;
+    let is_expected = case.expected.is_met_by(alloc, &check)?;
     Ok((outcome, is_expected))
 }
 

@@ -6,7 +6,7 @@ use crate::rows::policies::{PolicyForm, UNDECLARED, UNDECLARED_READ};
 use cedar_fixtures::scopes::{ActionForm, ConstraintForm, ReferenceForm, ScopeForm};
 use cedar_types::base::{EntityType, ExtensionSchemas, ValidationMode, ValidatorSchema};
 use cedar_types::types::request_env::RequestEnv;
-use cedar_typing::typecheck::Typechecker;
+use cedar_typing::typecheck::{PolicyCheck, Typechecker};
 use std::alloc::{AllocError, Global};
 
 /// An environment, by the types of its slots.
@@ -121,44 +121,39 @@ pub fn in_environments(
 ) -> Result<Report, AllocError> {
     let policy = case.policy.policy(alloc)?;
     let checker = Typechecker::new(schema, extensions, mode);
-    let mut outcomes = Vec::new(alloc);
+    let mut report = Report::new(alloc);
     let mut left = Vec::new(alloc);
     left.extend_from_slice(case.checks)?;
-    let mut are_met = true;
     for item in checker.typecheck_by_request_env(alloc, &policy)? {
-        let (env, check) = item?;
-        outcomes.push(outcome_of(alloc, &check)?)?;
-        let (others, expected) = without_one(alloc, left, &env)?;
-        let is_met = match expected {
-            Some(expected) => expected.is_met_by(alloc, check)?,
-            None => false,
-        };
-        are_met = are_met && is_met;
-        left = others;
+        left = without_one(alloc, &mut report, left, &item?)?;
     }
-    outcomes.sort()?;
-    Ok(Report {
-        outcomes,
-        is_expected: are_met && left.is_empty(),
-    })
+    report.outcomes.sort()?;
+    report.is_expected = report.is_expected && left.is_empty();
+    Ok(report)
 }
 
-/// The checks other than the first that is wanted in this environment, and what that one comes to.
+/// The checks other than the first that is wanted in the environment of this one, whose outcome is added.
 fn without_one(
     alloc: Global,
+    report: &mut Report,
     checks: Vec<WantedCheck>,
-    env: &RequestEnv<'_>,
-) -> Result<(Vec<WantedCheck>, Option<Expected>), AllocError> {
+    (env, check): &(RequestEnv<'_>, PolicyCheck),
+) -> Result<Vec<WantedCheck>, AllocError> {
     let mut others = Vec::new(alloc);
     let mut expected = None;
-    for check in checks {
-        if expected.is_none() && check.environment.is_met_by(alloc, env)? {
-            expected = Some(check.expected);
+    for wanted in checks {
+        if expected.is_none() && wanted.environment.is_met_by(alloc, env)? {
+            expected = Some(wanted.expected);
         } else {
-            others.push(check)?;
+            others.push(wanted)?;
         }
     }
-    Ok((others, expected))
+    let is_met = match expected {
+        Some(expected) => expected.is_met_by(alloc, check)?,
+        None => false,
+    };
+    report.add(outcome_of(alloc, check)?, is_met)?;
+    Ok(others)
 }
 
 impl WantedEnvironment {

@@ -24,17 +24,14 @@ pub fn policy_id(alloc: Global) -> Result<PolicyID, AllocError> {
 
 impl Expected {
     /// Whether the check came to this, the text of each error included.
-    pub fn is_met_by(self, alloc: Global, check: PolicyCheck) -> Result<bool, AllocError> {
-        match check {
-            PolicyCheck::Success(_typed) => Ok(matches!(self, Expected::Success)),
-            PolicyCheck::Irrelevant(errors, _typed) => {
-                Ok(errors.is_empty() && matches!(self, Expected::Irrelevant))
+    pub fn is_met_by(self, alloc: Global, check: &PolicyCheck) -> Result<bool, AllocError> {
+        match (self, check) {
+            (Expected::Success, PolicyCheck::Success(_)) => Ok(true),
+            (Expected::Irrelevant, PolicyCheck::Irrelevant(errors, _)) => Ok(errors.is_empty()),
+            (Expected::Fail(wanted), PolicyCheck::Fail(errors)) => {
+                are_wanted(alloc, POLICY, errors, wanted)
             }
-            PolicyCheck::Fail(errors) => match self {
-                Expected::Fail(wanted) => are_wanted(alloc, POLICY, errors, wanted),
-                Expected::Success => Ok(false),
-                Expected::Irrelevant => Ok(false),
-            },
+            _ => Ok(false),
         }
     }
 }
@@ -43,13 +40,16 @@ impl Expected {
 pub fn are_wanted(
     alloc: Global,
     policy: &str,
-    errors: Vec<ValidationError>,
+    errors: &[ValidationError],
     wanted: &[WantedError],
 ) -> Result<bool, AllocError> {
-    let mut left = errors;
+    let mut left = Vec::new(alloc);
+    for error in errors {
+        left.push(error)?;
+    }
     for error in wanted {
-        let (others, is_there) = without_one(alloc, left, policy, error)?;
-        if !is_there {
+        let others = without_one(alloc, &left, policy, error)?;
+        if others.len() == left.len() {
             return Ok(false);
         }
         left = others;
@@ -57,24 +57,35 @@ pub fn are_wanted(
     Ok(left.is_empty())
 }
 
-/// The errors other than the first that is wanted, and whether there is such an error.
-fn without_one(
+/// The errors other than the first that is wanted, if there is such an error.
+fn without_one<'e>(
     alloc: Global,
-    errors: Vec<ValidationError>,
+    errors: &[&'e ValidationError],
     policy: &str,
     wanted: &WantedError,
-) -> Result<(Vec<ValidationError>, bool), AllocError> {
-    let wanted_error = wanted.error(alloc, policy)?;
-    let wanted_text = wanted.text(alloc, policy)?;
+) -> Result<Vec<&'e ValidationError>, AllocError> {
     let mut others = Vec::new(alloc);
     let mut is_there = false;
     for error in errors {
-        let text = error.to_string(alloc)?;
-        if !is_there && error == wanted_error && text == wanted_text {
+        if !is_there && is_wanted(alloc, error, policy, wanted)? {
             is_there = true;
         } else {
-            others.push(error)?;
+            others.push(*error)?;
         }
     }
-    Ok((others, is_there))
+    Ok(others)
+}
+
+/// Whether the error has all fields and the text that are wanted.
+fn is_wanted(
+    alloc: Global,
+    error: &ValidationError,
+    policy: &str,
+    wanted: &WantedError,
+) -> Result<bool, AllocError> {
+    if *error != wanted.error(alloc, policy)? {
+        return Ok(false);
+    }
+    let text = error.to_string(alloc)?;
+    Ok(text == wanted.text(alloc, policy)?)
 }

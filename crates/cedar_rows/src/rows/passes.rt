@@ -89,7 +89,7 @@ pub fn passed(
     for case in cases {
         let policy = case.policy.policy(alloc)?;
         let errors = case.pass.findings(alloc, schema, &policy)?;
-        add_errors(alloc, &mut report, POLICY, errors, case.errors)?;
+        add_errors(alloc, &mut report, POLICY, &errors, case.errors)?;
     }
     Ok(report)
 }
@@ -108,7 +108,7 @@ pub fn slot_passed(
         alloc,
         &mut report,
         case.id,
-        collected(alloc, found)?,
+        &collected(alloc, found)?,
         case.errors,
     )?;
     Ok(report)
@@ -126,7 +126,7 @@ fn add_errors(
     alloc: Global,
     report: &mut Report,
     policy: &str,
-    errors: Vec<ValidationError>,
+    errors: &[ValidationError],
     wanted: &[WantedError],
 ) -> Result<(), AllocError> {
     let count = errors.len();

@@ -9,7 +9,8 @@ use cedar_fixtures::conditions::Form;
 use cedar_fixtures::policies::RestForm;
 use cedar_fixtures::scopes::{ANY, ScopeForm};
 use cedar_types::base::{
-    ExtensionSchemas, Loc, Template, ValidationMode, ValidationWarning, ValidatorSchema,
+    ExtensionSchemas, Loc, Template, ValidationError, ValidationMode, ValidationWarning,
+    ValidatorSchema,
 };
 use cedar_typing::typecheck::Typechecker;
 use std::alloc::{AllocError, Global};
@@ -138,40 +139,67 @@ pub fn whole(
     case: &WholeCase,
 ) -> Result<Report, AllocError> {
     let policy = case.policy.policy(alloc)?;
+    let checker = Typechecker::new(schema, extensions, mode);
+    let mut report = Report::new(alloc);
+    add_check(alloc, &mut report, &checker, &policy, case)?;
+    Ok(report)
+}
+
+/// Adds what the check of the policy comes to, and whether it is the case's.
+fn add_check(
+    alloc: Global,
+    report: &mut Report,
+    checker: &Typechecker<'_>,
+    policy: &Template,
+    case: &WholeCase,
+) -> Result<(), AllocError> {
     let mut errors = HashSet::new(alloc);
     let mut warnings = HashSet::new(alloc);
-    let checker = Typechecker::new(schema, extensions, mode);
-    let passes = checker.typecheck_policy(alloc, &policy, &mut errors, &mut warnings)?;
+    let passes = checker.typecheck_policy(alloc, policy, &mut errors, &mut warnings)?;
     let (found, warned) = (errors.len(), warnings.len());
+    let is_warned = is_warned(alloc, &warnings, case)?;
+    let are_errors = are_wanted(alloc, POLICY, &listed(alloc, errors)?, case.errors)?;
     let outcome = format!(in alloc; "{passes} errors={found} warnings={warned}")?;
+    report.add(outcome, passes == case.passes && are_errors && is_warned)
+}
+
+fn listed(
+    alloc: Global,
+    errors: HashSet<ValidationError>,
+) -> Result<Vec<ValidationError>, AllocError> {
     let mut listed = Vec::new(alloc);
     for error in errors {
         listed.push(error)?;
     }
-    let are_errors = are_wanted(alloc, POLICY, listed, case.errors)?;
-    let are_warnings = are_warned(alloc, warnings, case)?;
-    let mut report = Report::new(alloc);
-    report.add(outcome, passes == case.passes && are_errors && are_warnings)?;
-    Ok(report)
+    Ok(listed)
 }
 
 /// Whether there is the warning that the case wants, and no other.
-fn are_warned(
+fn is_warned(
     alloc: Global,
-    warnings: HashSet<ValidationWarning>,
+    warnings: &HashSet<ValidationWarning>,
     case: &WholeCase,
 ) -> Result<bool, AllocError> {
     let mut is_there = false;
     for warning in warnings {
-        let place = case.policy.scope.place();
-        let wanted = ValidationWarning::impossible_policy(place, policy_id(alloc)?);
-        let text = warning.to_string(alloc)?;
-        if is_there || warning != wanted || text.as_str() != IMPOSSIBLE {
+        if is_there || !is_impossible(alloc, warning, case)? {
             return Ok(false);
         }
         is_there = true;
     }
     Ok(is_there == case.is_impossible)
+}
+
+/// Whether it is the warning that the policy is impossible, its text included.
+fn is_impossible(
+    alloc: Global,
+    warning: &ValidationWarning,
+    case: &WholeCase,
+) -> Result<bool, AllocError> {
+    let text = warning.to_string(alloc)?;
+    let place = case.policy.scope.place();
+    let wanted = ValidationWarning::impossible_policy(place, policy_id(alloc)?);
+    Ok(*warning == wanted && text.as_str() == IMPOSSIBLE)
 }
 
 const IMPOSSIBLE: &str =
