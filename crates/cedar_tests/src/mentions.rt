@@ -22,7 +22,18 @@ fn id(alloc: Global, name: &str, at: usize) -> Result<EntityUID, AllocError> {
 
 /// Where a place starts, and 0 where there is none.
 fn start(loc: Option<Loc>) -> usize {
-    loc.map_or(0, |l| l.start)
+    match loc {
+        Some(Loc { start, end: _end }) => start,
+        None => 0,
+    }
+}
+
+/// The same of an id, and 0 where there is none.
+fn id_start(uid: Option<&EntityUID>) -> usize {
+    match uid {
+        Some(uid) => start(uid.loc),
+        None => 0,
+    }
 }
 
 /// Whether it is of this type, which stands here, and its id there, or at 0 where it is no id.
@@ -30,7 +41,7 @@ fn is_of(mention: &Mention<'_>, (name, type_at, id_at): (&str, usize, usize)) ->
     let entity_type = mention.entity_type();
     entity_type.name.basename.as_str() == name
         && start(entity_type.loc) == type_at
-        && mention.uid().map_or(0, |u| start(u.loc)) == id_at
+        && id_start(mention.uid()) == id_at
 }
 
 /// Whether these names come, and nothing after them.

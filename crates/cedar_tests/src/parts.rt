@@ -23,13 +23,9 @@ pub fn policy(alloc: Global) -> Result<PolicyID, AllocError> {
     PolicyID::from_string(alloc, "policy0")
 }
 
-/// The type of this name, which may have one part of a path, without a place.
+/// The type of this name, without a path and without a place.
 pub fn entity_type(alloc: Global, name: &str) -> Result<EntityType, AllocError> {
-    let name = match name.rsplit_once("::") {
-        Some((part, basename)) => Name::new(alloc, basename, &[part])?,
-        None => Name::unqualified_name(alloc, name)?,
-    };
-    Ok(EntityType::new(name, None))
+    Ok(EntityType::from(Name::unqualified_name(alloc, name)?))
 }
 
 pub fn uid(alloc: Global, basename: &str, eid: &str) -> Result<EntityUID, AllocError> {
