@@ -27,6 +27,7 @@ pub mod Environments
 pub mod Values
 pub mod Declarations
 pub mod Schemas
+pub mod FormedSchemas
 pub mod Lookups
 pub mod RequestEnvs
 pub mod Makers

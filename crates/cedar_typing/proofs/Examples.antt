@@ -3,6 +3,7 @@ pub mod World
 pub mod Rules
 pub mod Evaluation
 pub mod Premises
+pub mod Permissive
 pub mod Composition
 pub mod PolicySoundness
 pub mod NeededPremises

@@ -1,49 +1,48 @@
 -- A policy that passes does not go wrong, and one that is warned to be impossible is never true: from what the check of a
 -- policy comes to.
-use Rattle.std.proofs.Common.{◌≡◌, ◌⊎◌, inl, inr, Bool, true, false, cond, List, [], ◌∷◌, None, refl, subst}
+use Rattle.std.proofs.Common.{◌≡◌, ◌⊎◌, inl, inr, Bool, true, false, cond, ◌||◌, List, [], ◌∷◌, None, refl, ap, subst}
 use Rattle.std.specs.Prelude.{IsPermutation}
 use Rattle.cedar_types.specs.Errors.{Finding, Caution}
 use Rattle.cedar_types.specs.ExtensionFunctions.{table_fault}
 use Rattle.cedar_types.specs.Linking.{checked_envs}
-use Rattle.cedar_types.specs.RequestEnvs.{Env, Undeclared}
+use Rattle.cedar_types.specs.Bounds.{is_strict}
+use Rattle.cedar_types.specs.RequestEnvs.{Env, Undeclared, is_partial}
 use Rattle.cedar_types.specs.Schemas.{has_fault}
 use Rattle.cedar_types.specs.Templates.{PlainTemplate, condition_of}
 use Rattle.cedar_types.specs.declared.base.types.BoolType.TheVariants.{False}
 use Rattle.cedar_types.specs.Types.{Ty, TBool}
 use Rattle.cedar_typing.specs.Capabilities.{Caps, no_caps}
-use Rattle.cedar_typing.specs.Composition.{in_env, own_env, IsFaultless, IsIrrelevant, IsIrrelevantInAll}
-use Rattle.cedar_typing.specs.Evaluation.Conformance.{IsOneOf, ConformingRequest, SlotsBound}
+use Rattle.cedar_typing.specs.Composition.{SlotsInScopeAlone, in_env, own_env, IsIrrelevant, IsIrrelevantInAll}
+use Rattle.cedar_types.specs.FormedSchemas.{has_formed_types}
+use Rattle.cedar_typing.specs.Evaluation.Conformance.{IsOneOf, ConformingRequest, has_external}
 use Rattle.cedar_typing.specs.Evaluation.Eval.{eval}
 use Rattle.cedar_typing.specs.Evaluation.World.{World}
 use Rattle.cedar_typing.specs.PolicyCheck.{Verdict, succeeds, irrelevant, fails, PolicyChecks, SameVerdict, same_success, same_irrelevant, same_failure}
 use Rattle.cedar_typing.specs.PolicyOutcome.{Adds, VerdictsOf, is_irrelevant, all_irrelevant, impossible, warnings_of, PolicyOutcome}
-use Rattle.cedar_typing.specs.PolicySoundness.{Basis, IsStrictAndClosed, IsWellFormed, IsConforming, PolicyIsSafe, ImpossibleIsNeverTrue, setting_on, CheckedOn, PromisesAreKept}
-use Rattle.cedar_typing.specs.Rules.{Derives}
+use Rattle.cedar_typing.specs.PolicySoundness.{Basis, IsNamedBySchema, IsWellFormed, IsConforming, setting_on, CheckedOn, PromisesAreKept, PromisesAreKeptInPermissive}
+use Rattle.cedar_typing.specs.Rules.{rules, Derives}
 use Rattle.cedar_typing.specs.Setting.{Setting}
 use Rattle.cedar_typing.specs.Silence.{IsWellNamedTemplate, IsDerivedAs, IsDerivedIn}
 use Rattle.cedar_typing.specs.SoundPolicyCheck.{IsBooleanOrAllowed}
-use Rattle.cedar_typing.specs.Soundness.{IsReliable, IsWorldOf}
+use Rattle.cedar_typing.specs.Soundness.{IsTrueOutcome}
 use Rattle.cedar_typing.specs.TypeTests.{accepts, bool_types}
 use Rattle.cedar_typing.specs.TypedExpr.{Source, TypedTree}
 use Rattle.cedar_typing.proofs.Composition.Links.{own_env_is_checked}
-use Rattle.cedar_typing.proofs.Composition.NeverTrue.{never_true, own_reliable, own_is_world, own_bound, own_kept}
+use Rattle.cedar_typing.proofs.Composition.NeverTrue.{Sure, never_true_in, own_sounds, own_kept}
 use Rattle.cedar_typing.proofs.Composition.OwnBinding.{own_world}
 use Rattle.cedar_typing.proofs.EachEnvironment.{each_has_passing}
 use Rattle.cedar_typing.proofs.Gains.{in_either}
-use Rattle.cedar_typing.proofs.Silence.Policies.{passing_policy_is_derived}
-use Rattle.cedar_typing.proofs.Soundness.Capabilities.{hold_none}
-use Rattle.cedar_typing.proofs.Soundness.Induction.{sounds}
+use Rattle.cedar_typing.proofs.Silence.Policies.{passing_derived_in}
+use Rattle.cedar_typing.proofs.Soundness.Parts.{Sounds}
 use Rattle.cedar_typing.proofs.Soundness.PolicyCheck.{boolean}
 use Rattle.cedar_typing.proofs.Verdicts.{verdict_at_most}
 
 -- ---- what is derived is a boolean or fails in an allowed way
 
-module _ (s : Setting) (e : Source) (world : World)
-    (schema : has_fault s.env.schema ≡ false) (functions : table_fault s.functions ≡ None)
-    (r : IsReliable s) (i : IsWorldOf s world) (b : SlotsBound world.slots e) where
+module _ (s : Setting) (e : Source) (world : World) (sound : Sounds world (eval world e) (rules s e no_caps 1)) where
   typed_outcome : (t : Ty) (c : Caps) (x : TypedTree) → Derives s e no_caps 1 t c x → accepts bool_types t ≡ true → IsBooleanOrAllowed (eval world e)
   typed_outcome t c x d a =
-      let q = (sounds s world r.mode schema functions r.closed r.environment i.environment i.store i.functions e b no_caps 1 (hold_none world)).derivations t c x d in
+      let q = sound.derivations t c x d in
       (q.safe refl, boolean t a (eval world e) q.typed)
 
   derived_outcome : (v : Verdict) → IsDerivedAs s e v → IsBooleanOrAllowed (eval world e)
@@ -84,7 +83,8 @@ irrelevant_too u v (same_failure p) h = cc
 
 -- ---- the promises
 
-module _ (b : Basis) (t : PlainTemplate) (schema : has_fault b.schema ≡ false) (functions : table_fault b.table.functions ≡ None) where
+module _ (firm : Bool) (b : Basis) (t : PlainTemplate) (schema : has_fault b.schema ≡ false) (formed : (firm || has_formed_types b.schema) ≡ true) (functions : table_fault b.table.functions ≡ None)
+    (strict : is_strict b.mode ≡ firm) (total : is_partial b.mode ≡ false) (closed : has_external b.schema ≡ false) where
   -- the setting, whose environment does not matter
   abbrev s : Setting
   s = setting_on b t.id Undeclared
@@ -92,25 +92,21 @@ module _ (b : Basis) (t : PlainTemplate) (schema : has_fault b.schema ≡ false)
   abbrev Checks : Env → Verdict → Type 0
   Checks env = PolicyChecks (in_env s env) (condition_of t)
 
-  faultless : IsStrictAndClosed b → IsFaultless s
-  faultless k = record { mode = k.mode; schema = schema; functions = functions; closed = k.closed }
+  sure : Sure firm s
+  sure = record { strict = strict; total = total; formed = formed; schema = schema; functions = functions; closed = closed }
 
   -- what passes in the own environment is kept in any world of the request
-  safe_if_derived : IsStrictAndClosed b → (world : World) → IsWellFormed t world.slots → IsConforming b world
+  safe_if_derived : (world : World) → IsWellFormed t world.slots → IsConforming b world
       → ((env : Env) → IsOneOf env (checked_envs b.schema b.mode t) → IsDerivedIn s t env)
       → IsBooleanOrAllowed (eval world (condition_of t))
-  safe_if_derived k world w i derived = by i.request
+  safe_if_derived world w i derived = by i.request
     where
       by : ConformingRequest b.schema world.request → IsBooleanOrAllowed (eval world (condition_of t))
       by (d, one, fits) =
-          let f = faultless k in
           let own : Setting = in_env s (own_env t d) in
           let known = derived (own_env t d) (own_env_is_checked b.schema b.mode t w.slots_in_scope d one) in
-          own_kept s t f d one world fits i.store i.functions w.slots_in_scope w.bound
-          (derived_outcome own (condition_of t) (own_world world) schema functions
-          (own_reliable s t f d one world fits i.store i.functions)
-          (own_is_world s t f d one world fits i.store i.functions)
-          (own_bound s t f d one world fits i.store i.functions) known.0 known.2)
+          own_kept firm s t sure d one world fits i.store i.functions w.slots_in_scope w.bound
+          (derived_outcome own (condition_of t) (own_world world) (own_sounds firm s t sure d one world fits i.store i.functions) known.0 known.2)
 
   irrelevant_in_all : (listed : List Env) (vs : List Verdict) → IsPermutation listed (checked_envs b.schema b.mode t) → VerdictsOf Checks listed vs → all_irrelevant vs ≡ true → IsIrrelevantInAll s t
   irrelevant_in_all listed vs p c h env one v k =
@@ -118,21 +114,26 @@ module _ (b : Basis) (t : PlainTemplate) (schema : has_fault b.schema ≡ false)
       irrelevant_too u.0 v (verdict_at_most (in_env s env) (condition_of t) u.0 v u.1 k) u.2
 
   module _ (passes : Bool) (errors errors' : List Finding) (old new : List Caution) (o : CheckedOn b t passes errors errors' old new) where
-    safe : PolicyIsSafe b t passes
-    safe h k n world w i =
+    safe_in : passes ≡ true → IsNamedBySchema b.schema t → (world : World) → IsWellFormed t world.slots → IsConforming b world → IsBooleanOrAllowed (eval world (condition_of t))
+    safe_in h n world w i =
         let P : Bool → Type 0 = λ x. CheckedOn b t x errors errors' old new in
         let names : IsWellNamedTemplate b.schema t = record { unknowns = w.no_unknowns; types = n.types; actions = n.actions } in
-        safe_if_derived k world w i
-        (passing_policy_is_derived s t (record { mode = k.mode; schema = schema; functions = functions }) names errors errors' old new (subst P h o))
+        safe_if_derived world w i (passing_derived_in firm s t strict total formed schema functions names errors errors' old new (subst P h o))
 
-    never : ImpossibleIsNeverTrue b t old new
-    never absent there k alone world i =
-        never_true s t (faultless k) alone
+    never_in : (IsOneOf (impossible t) old → ⊥) → IsOneOf (impossible t) new → SlotsInScopeAlone t → (world : World) → IsConforming b world → IsTrueOutcome (eval world (condition_of t)) → ⊥
+    never_in absent there alone world i =
+        never_true_in firm s t sure alone
         (irrelevant_in_all o.listed o.verdicts o.in_some_order o.checked (due t o.verdicts old new o.warnings_added absent there))
         world i.request i.store i.functions
 
 pub promises_are_kept : PromisesAreKept
 promises_are_kept b t schema functions passes errors errors' old new o = record {
-  safe = safe b t schema functions passes errors errors' old new o;
-  never_true = never b t schema functions passes errors errors' old new o;
+  safe = λ h k. safe_in true b t schema refl functions (ap is_strict k.mode) (ap is_partial k.mode) k.closed passes errors errors' old new o h;
+  never_true = λ absent there k. never_in true b t schema refl functions (ap is_strict k.mode) (ap is_partial k.mode) k.closed passes errors errors' old new o absent there;
+}
+
+pub promises_are_kept_in_permissive : PromisesAreKeptInPermissive
+promises_are_kept_in_permissive b t schema formed functions passes errors errors' old new o = record {
+  safe = λ h k. safe_in false b t schema formed functions (ap is_strict k.mode) (ap is_partial k.mode) k.closed passes errors errors' old new o h;
+  never_true = λ absent there k. never_in false b t schema formed functions (ap is_strict k.mode) (ap is_partial k.mode) k.closed passes errors errors' old new o absent there;
 }

@@ -1,4 +1,5 @@
--- In Strict, what fails without being cut has at least one error, where nothing is unknown.
+-- In Strict and in Permissive, what fails without being cut has at least one error, where nothing is unknown.
+pub mod Settled
 pub mod Parts
 pub mod Eager
 pub mod Branches

@@ -5,6 +5,7 @@ pub mod Expressions
 pub mod Rules
 pub mod Evaluation
 pub mod Premises
+pub mod Permissive
 pub mod Composition
 pub mod PolicySoundness
 pub mod NeededPremises

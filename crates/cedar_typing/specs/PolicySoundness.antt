@@ -1,7 +1,7 @@
 -- What is promised of a policy that passes, and of one that is warned to be impossible.
 use Rattle.std.specs.Prelude.{◌≡◌, Bool, true, false, List, [], None}
 use Rattle.cedar_types.specs.declared.base.types.ValidationMode.{ValidationMode}
-use Rattle.cedar_types.specs.declared.base.types.ValidationMode.TheVariants.{Strict}
+use Rattle.cedar_types.specs.declared.base.types.ValidationMode.TheVariants.{Strict, Permissive}
 use Rattle.cedar_types.specs.Errors.{Finding, Caution}
 use Rattle.cedar_types.specs.ExtensionFunctions.{table_fault}
 use Rattle.cedar_types.specs.Extensions.{ExtensionTable}
@@ -13,6 +13,7 @@ use Rattle.cedar_types.specs.Schemas.{Schema, has_fault}
 use Rattle.cedar_types.specs.Stores.{ConformingStore}
 use Rattle.cedar_types.specs.Templates.{PlainTemplate, condition_of}
 use Rattle.cedar_typing.specs.Composition.{SlotsInScopeAlone}
+use Rattle.cedar_types.specs.FormedSchemas.{has_formed_types}
 use Rattle.cedar_typing.specs.Evaluation.Conformance.{IsOneOf, ConformingRequest, SlotsBound, has_external, KeepsTable}
 use Rattle.cedar_typing.specs.Evaluation.Eval.{eval}
 use Rattle.cedar_typing.specs.Evaluation.World.{Slots, World}
@@ -75,6 +76,26 @@ ImpossibleIsNeverTrue b t old new =
     → (world : World) → IsConforming b world
     → IsTrueOutcome (eval world (condition_of t)) → ⊥
 
+-- ---- the same in another mode
+
+-- of the checker: it is in that mode, and nothing of its schema is external
+pub record IsClosedIn (m : ValidationMode) (b : Basis) : Type 0 where
+  pub mode : b.mode ≡ m
+  pub closed : has_external b.schema ≡ false
+
+abbrev pub PolicyIsSafeIn : ValidationMode → Basis → PlainTemplate → Bool → Type 0
+PolicyIsSafeIn m b t passes =
+    passes ≡ true → IsClosedIn m b → IsNamedBySchema b.schema t
+    → (world : World) → IsWellFormed t world.slots → IsConforming b world
+    → IsBooleanOrAllowed (eval world (condition_of t))
+
+abbrev pub ImpossibleIsNeverTrueIn : ValidationMode → Basis → PlainTemplate → List Caution → List Caution → Type 0
+ImpossibleIsNeverTrueIn m b t old new =
+    (IsOneOf (impossible t) old → ⊥) → IsOneOf (impossible t) new
+    → IsClosedIn m b → SlotsInScopeAlone t
+    → (world : World) → IsConforming b world
+    → IsTrueOutcome (eval world (condition_of t)) → ⊥
+
 -- ---- where they come from
 
 -- what a policy of this name is typed in, in an environment
@@ -111,3 +132,18 @@ PromisesAreKept =
     → has_fault b.schema ≡ false → table_fault b.table.functions ≡ None
     → (passes : Bool) (errors errors' : List Finding) (old new : List Caution)
     → CheckedOn b t passes errors errors' old new → AreBothKept b t passes old new
+
+-- both promises in a mode
+pub record AreBothKeptIn (m : ValidationMode) (b : Basis) (t : PlainTemplate) (passes : Bool)
+    (old new : List Caution) : Type 0 where
+  pub safe : PolicyIsSafeIn m b t passes
+  pub never_true : ImpossibleIsNeverTrueIn m b t old new
+
+-- in Permissive, where the types of the schema are formed as those of the program are
+abbrev pub PromisesAreKeptInPermissive : Type 0
+PromisesAreKeptInPermissive =
+    (b : Basis) (t : PlainTemplate)
+    → has_fault b.schema ≡ false → has_formed_types b.schema ≡ true
+    → table_fault b.table.functions ≡ None
+    → (passes : Bool) (errors errors' : List Finding) (old new : List Caution)
+    → CheckedOn b t passes errors errors' old new → AreBothKeptIn Permissive b t passes old new

@@ -3,7 +3,7 @@
 use Rattle.std.specs.Prelude.{◌≡◌, ℕ, Bool, true, false, List, [], None}
 use Rattle.std.specs.List.{list_any, flat_map}
 use Rattle.cedar_types.specs.declared.base.types.BoolType.TheVariants.{False}
-use Rattle.cedar_types.specs.declared.base.types.ValidationMode.TheVariants.{Strict}
+use Rattle.cedar_types.specs.declared.base.types.ValidationMode.TheVariants.{Strict, Permissive}
 use Rattle.cedar_types.specs.Errors.{Finding, Caution}
 use Rattle.cedar_types.specs.ExtensionFunctions.{table_fault}
 use Rattle.cedar_types.specs.Findings.{uids_named, types_named, is_unknown_type, is_unknown_action, unknown_types, unknown_actions}
@@ -16,6 +16,7 @@ use Rattle.cedar_types.specs.Tree.{Tree, unknown}
 use Rattle.cedar_types.specs.Types.{Ty, TBool}
 use Rattle.cedar_typing.specs.Capabilities.{Caps, no_caps}
 use Rattle.cedar_typing.specs.Composition.{in_env}
+use Rattle.cedar_types.specs.FormedSchemas.{has_formed_types}
 use Rattle.cedar_typing.specs.Evaluation.Conformance.{IsOneOf, IsEnvironmentOf}
 use Rattle.cedar_typing.specs.PolicyCheck.{Verdict, succeeds, irrelevant, fails, PolicyChecks}
 use Rattle.cedar_typing.specs.PolicyOutcome.{is_silent, passes, PolicyOutcome}
@@ -82,6 +83,23 @@ pub record IsSettled (s : Setting) : Type 0 where
 abbrev pub FailuresHaveErrors : Type 0
 FailuresHaveErrors =
     (s : Setting) → IsSettled s → (e : Source) → IsWellNamed s.env.schema e
+    → (prior : Caps) (d : ℕ) (x : TypedTree) (es : List Finding)
+    → Recovers s e prior d x es → is_silent es ≡ false
+
+-- the same in Permissive, by a schema whose types are formed as those of the program are
+pub record IsPermissiveWithoutFaults (s : Setting) : Type 0 where
+  pub mode : s.env.mode ≡ Permissive
+  pub schema : has_fault s.env.schema ≡ false
+  pub formed : has_formed_types s.env.schema ≡ true
+  pub functions : table_fault s.functions ≡ None
+
+pub record IsSettledInPermissive (s : Setting) : Type 0 where
+  pub faultless : IsPermissiveWithoutFaults s
+  pub environment : IsEnvironmentOf s.env.schema s.env.request_env
+
+abbrev pub FailuresHaveErrorsInPermissive : Type 0
+FailuresHaveErrorsInPermissive =
+    (s : Setting) → IsSettledInPermissive s → (e : Source) → IsWellNamed s.env.schema e
     → (prior : Caps) (d : ℕ) (x : TypedTree) (es : List Finding)
     → Recovers s e prior d x es → is_silent es ≡ false
 

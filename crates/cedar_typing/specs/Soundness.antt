@@ -1,7 +1,8 @@
 -- What typing promises of evaluation.
-use Rattle.std.specs.Prelude.{◌≡◌, ℕ, false, List, Option, Some, None, IsTrue}
+use Rattle.std.specs.Prelude.{◌≡◌, ℕ, true, false, List, Option, Some, None, IsTrue}
 use Rattle.cedar_types.specs.declared.base.types.BoolType.TheVariants.{True}
-use Rattle.cedar_types.specs.declared.base.types.ValidationMode.TheVariants.{Strict}
+use Rattle.cedar_types.specs.declared.base.types.ValidationMode.{ValidationMode}
+use Rattle.cedar_types.specs.declared.base.types.ValidationMode.TheVariants.{Strict, Permissive}
 use Rattle.cedar_types.specs.Types.{Ty, TBool}
 use Rattle.cedar_types.specs.Errors.{Finding}
 use Rattle.cedar_types.specs.ExtensionFunctions.{table_fault}
@@ -9,6 +10,7 @@ use Rattle.cedar_types.specs.Schemas.{has_fault}
 use Rattle.cedar_types.specs.Values.{Value, OnBool, HasType}
 use Rattle.cedar_types.specs.Stores.{ConformingStore}
 use Rattle.cedar_typing.specs.Capabilities.{Caps}
+use Rattle.cedar_types.specs.FormedSchemas.{has_formed_types}
 use Rattle.cedar_typing.specs.Evaluation.Conformance.{Fits, IsEnvironmentOf, SlotsBound, has_external, KeepsTable, AllHold}
 use Rattle.cedar_typing.specs.Evaluation.Eval.{eval}
 use Rattle.cedar_typing.specs.Evaluation.World.{World, Failure, TypeFailure, AbsentAttribute, AbsentTag, MissingEntity, Overflow, ExtensionFailure, UnlinkedSlot, UnknownValue, Outcome, Gives, Fails}
@@ -80,12 +82,29 @@ pub record IsReliable (s : Setting) : Type 0 where
   pub closed : has_external s.env.schema ≡ false
   pub environment : IsEnvironmentOf s.env.schema s.env.request_env
 
+-- the same in a given mode
+pub record IsReliableIn (m : ValidationMode) (s : Setting) : Type 0 where
+  pub mode : s.env.mode ≡ m
+  pub closed : has_external s.env.schema ≡ false
+  pub environment : IsEnvironmentOf s.env.schema s.env.request_env
+
 -- what has a type does not go wrong, by a schema and a table without faults
 abbrev pub TypeSoundness : Type 0
 TypeSoundness =
     (s : Setting) (world : World)
     → has_fault s.env.schema ≡ false → table_fault s.functions ≡ None
     → IsReliable s → IsWorldOf s world
+    → (e : Source) → SlotsBound world.slots e
+    → (prior : Caps) (d : ℕ) → AllHold world prior
+    → IsSoundAt s world e prior d
+
+-- the same in Permissive, by a schema whose types are formed as those of the program are
+abbrev pub TypeSoundnessInPermissive : Type 0
+TypeSoundnessInPermissive =
+    (s : Setting) (world : World)
+    → has_fault s.env.schema ≡ false → has_formed_types s.env.schema ≡ true
+    → table_fault s.functions ≡ None
+    → IsReliableIn Permissive s → IsWorldOf s world
     → (e : Source) → SlotsBound world.slots e
     → (prior : Caps) (d : ℕ) → AllHold world prior
     → IsSoundAt s world e prior d

@@ -1,6 +1,7 @@
 // Schemas: what they declare, without faults.
-ghost use Rattle.std.specs.Prelude.{◌≡◌, false, map};
+ghost use Rattle.std.specs.Prelude.{◌≡◌, true, false, map};
 ghost use Rattle.cedar_types.specs.Schemas.{has_fault};
+ghost use Rattle.cedar_types.specs.FormedSchemas.{has_formed_types};
 ghost use Rattle.cedar_types.specs.Tables.{schema_in, actions_in};
 ghost use Rattle.cedar_types.specs.Environments.{declared_env, environments_of};
 
@@ -11,6 +12,7 @@ pub(crate) mod entity_types;
 mod environments;
 pub(crate) mod errors;
 mod faults;
+mod forms;
 mod lookups;
 pub(crate) mod memberships;
 mod queries;
@@ -26,6 +28,7 @@ use crate::base::schema::entity_types::ValidatorEntityType;
 use crate::base::schema::environments::declared_environments;
 use crate::base::schema::errors::SchemaError;
 use crate::base::schema::faults::find_fault;
+use crate::base::schema::forms::schemas_are_formed;
 use crate::base::schema::request_environments::UnlinkedRequestEnv;
 use crate::base::schema::type_tables::EntityTypeTable;
 use std::alloc::Global;
@@ -37,6 +40,7 @@ pub struct ValidatorSchema {
     pub(crate) actions: ActionTable,
     pub(crate) environments: Vec<UnlinkedRequestEnv>,
     pub ghost faultless: { has_fault (schema_in types actions) ≡ false },
+    pub ghost formed: { has_formed_types (schema_in types actions) ≡ true },
     pub ghost listed: { ∥ map declared_env environments.items
         ≡ environments_of (actions_in actions) ∥₁ },
 }
@@ -70,6 +74,7 @@ impl ValidatorSchema {
         if let Some(fault) = find_fault(&types, &actions) {
             return Err(fault);
         }
+        schemas_are_formed(&types, &actions);
         let environments = declared_environments(alloc, &actions)?;
         Ok(ValidatorSchema {
             types,

@@ -1,22 +1,32 @@
 -- What the check in the own environment says of each world of the request.
-use Rattle.std.proofs.Common.{◌≡◌, Bool, true, false, true≢false, Some, sym}
+use Rattle.std.proofs.Common.{◌≡◌, Bool, true, false, true≢false, ◌||◌, Some, None, refl, ap, sym}
 use Rattle.cedar_types.specs.declared.base.names.slots.SlotId.{SlotId}
+use Rattle.cedar_types.specs.Bounds.{is_strict}
+use Rattle.cedar_types.specs.ExtensionFunctions.{table_fault}
+use Rattle.cedar_types.specs.RequestEnvs.{is_partial}
+use Rattle.cedar_types.specs.Schemas.{has_fault}
 use Rattle.cedar_types.specs.Names.{Path, Uid}
+use Rattle.cedar_typing.specs.Capabilities.{no_caps}
+use Rattle.cedar_types.specs.FormedSchemas.{has_formed_types}
+use Rattle.cedar_typing.specs.Rules.{rules}
 use Rattle.cedar_types.specs.Environments.{DeclaredEnv, environments_of}
 use Rattle.cedar_types.specs.Templates.{PlainTemplate, condition_of}
 use Rattle.cedar_types.specs.Values.{VBool}
 use Rattle.cedar_types.specs.Stores.{ConformingStore}
 use Rattle.cedar_types.specs.Linking.{has_slot}
-use Rattle.cedar_typing.specs.Composition.{in_env, SlotsInScopeAlone, own_link, own_env, IsFaultless, IsIrrelevant, NeverTrue, OwnSuccessIsKept}
-use Rattle.cedar_typing.specs.Evaluation.Conformance.{IsOneOf, FitsRequest, FitsSlot, KeepsTable, IsBound, SlotsBound}
+use Rattle.cedar_typing.specs.Composition.{in_env, SlotsInScopeAlone, own_link, own_env, IsFaultless, IsIrrelevant, IsIrrelevantInAll, NeverTrue, OwnSuccessIsKept}
+use Rattle.cedar_typing.specs.Evaluation.Conformance.{IsOneOf, FitsRequest, ConformingRequest, FitsSlot, has_external, KeepsTable, IsBound, SlotsBound}
 use Rattle.cedar_typing.specs.Evaluation.Eval.{eval}
 use Rattle.cedar_typing.specs.Evaluation.World.{World, Outcome, Gives, Fails}
 use Rattle.cedar_typing.specs.PolicyCheck.{Verdict, succeeds, irrelevant, fails, PolicyChecks, policy_check}
 use Rattle.cedar_typing.specs.Setting.{Setting, table}
 use Rattle.cedar_typing.specs.SoundPolicyCheck.{IsBooleanOrAllowed, Promises}
-use Rattle.cedar_typing.specs.Soundness.{IsTrueOutcome, IsReliable, IsWorldOf}
+use Rattle.cedar_typing.specs.Soundness.{IsTrueOutcome, IsWorldOf}
 use Rattle.cedar_typing.proofs.PolicyCheck.{checked}
-use Rattle.cedar_typing.proofs.Soundness.PolicyCheck.{check_sound}
+use Rattle.cedar_typing.proofs.Soundness.Capabilities.{hold_none}
+use Rattle.cedar_typing.proofs.Soundness.Induction.{sounds}
+use Rattle.cedar_typing.proofs.Soundness.Parts.{Sounds}
+use Rattle.cedar_typing.proofs.Soundness.PolicyCheck.{promised}
 use Rattle.cedar_typing.proofs.Composition.Links.{own_env_is_checked}
 use Rattle.cedar_typing.proofs.Composition.Slots.{slots_bound}
 use Rattle.cedar_typing.proofs.Composition.OwnBinding.{own_slots, own_world, IsAtMost, itself, is_false, unlinked, condition_most}
@@ -49,15 +59,30 @@ own_fits : (b : Bool) (own : Path) (u : Uid) → u.entity_type ≡ own → FitsS
 own_fits true own u e = e
 own_fits false own u e = tt
 
-module _ (s : Setting) (t : PlainTemplate) (f : IsFaultless s) (d : DeclaredEnv) (one : IsOneOf d (environments_of s.env.schema.actions))
+-- what is asked of a setting: not Partial, without faults, nothing external, and in Permissive the types of the schema are formed
+pub record Sure (firm : Bool) (s : Setting) : Type 0 where
+  pub strict : is_strict s.env.mode ≡ firm
+  pub total : is_partial s.env.mode ≡ false
+  pub formed : (firm || has_formed_types s.env.schema) ≡ true
+  pub schema : has_fault s.env.schema ≡ false
+  pub functions : table_fault s.functions ≡ None
+  pub closed : has_external s.env.schema ≡ false
+
+pub sure_in_strict : (s : Setting) → IsFaultless s → Sure true s
+sure_in_strict s f = record {
+  strict = ap is_strict f.mode;
+  total = ap is_partial f.mode;
+  formed = refl;
+  schema = f.schema;
+  functions = f.functions;
+  closed = f.closed;
+}
+
+module _ (firm : Bool) (s : Setting) (t : PlainTemplate) (f : Sure firm s) (d : DeclaredEnv) (one : IsOneOf d (environments_of s.env.schema.actions))
     (world : World) (fits : FitsRequest d world.request) (store : ConformingStore s.env.schema world.store) (keeps : KeepsTable (table s) world.functions) where
   both_bound : (x : SlotId) → IsBound (own_slots world.request x)
   both_bound SlotId.Principal = tt
   both_bound SlotId.Resource = tt
-
-  -- typing there can be relied on
-  pub own_reliable : IsReliable (in_env s (own_env t d))
-  own_reliable = record { mode = f.mode; closed = f.closed; environment = one }
 
   pub own_is_world : IsWorldOf (in_env s (own_env t d)) (own_world world)
   own_is_world = record {
@@ -70,10 +95,14 @@ module _ (s : Setting) (t : PlainTemplate) (f : IsFaultless s) (d : DeclaredEnv)
   pub own_bound : SlotsBound (own_slots world.request) (condition_of t)
   own_bound = slots_bound (own_slots world.request) both_bound (condition_of t)
 
+  -- typing there can be relied on
+  pub own_sounds : Sounds (own_world world) (eval (own_world world) (condition_of t)) (rules (in_env s (own_env t d)) (condition_of t) no_caps 1)
+  own_sounds =
+      sounds firm (in_env s (own_env t d)) (own_world world) f.strict f.total f.formed f.schema f.functions f.closed one own_is_world.environment store keeps (condition_of t) own_bound no_caps 1 (hold_none (own_world world))
+
   -- what the check promises there
   own_promise : (v : Verdict) → PolicyChecks (in_env s (own_env t d)) (condition_of t) v → Promises v (eval (own_world world) (condition_of t))
-  own_promise v c =
-      check_sound (in_env s (own_env t d)) (condition_of t) v f.schema f.functions c own_reliable (own_world world) own_is_world own_bound
+  own_promise v c = promised (in_env s (own_env t d)) (condition_of t) (own_world world) own_sounds v c
 
   -- irrelevant there is never true
   own_never : SlotsInScopeAlone t → (v : Verdict) → IsIrrelevant v → PolicyChecks (in_env s (own_env t d)) (condition_of t) v → IsTrueOutcome (eval world (condition_of t)) → ⊥
@@ -87,13 +116,19 @@ module _ (s : Setting) (t : PlainTemplate) (f : IsFaultless s) (d : DeclaredEnv)
   own_kept h b =
       kept_most (eval world (condition_of t)) (eval (own_world world) (condition_of t)) (condition_most ⊥ world t h (λ n. n b))
 
-pub never_true : NeverTrue
-never_true s t f h all world (d, one, fits) store keeps k =
+pub never_true_in : (firm : Bool) (s : Setting) (t : PlainTemplate) → Sure firm s → SlotsInScopeAlone t → IsIrrelevantInAll s t
+    → (world : World) → ConformingRequest s.env.schema world.request → ConformingStore s.env.schema world.store → KeepsTable (table s) world.functions
+    → IsTrueOutcome (eval world (condition_of t)) → ⊥
+never_true_in firm s t f h all world (d, one, fits) store keeps k =
     let own : Setting = in_env s (own_env t d) in
     let c : PolicyChecks own (condition_of t) (policy_check own (condition_of t)) = checked own (condition_of t) in
     let v : Verdict = policy_check own (condition_of t) in
-    own_never s t f d one world fits store keeps h v (all (own_env t d) (own_env_is_checked s.env.schema s.env.mode t h d one) v c) c k
+    own_never firm s t f d one world fits store keeps h v (all (own_env t d) (own_env_is_checked s.env.schema s.env.mode t h d one) v c) c k
+
+pub never_true : NeverTrue
+never_true s t f h all world r store keeps k = never_true_in true s t (sure_in_strict s f) h all world r store keeps k
 
 pub own_success_is_kept : OwnSuccessIsKept
 own_success_is_kept s t f h d one x c world fits store keeps b =
-    own_kept s t f d one world fits store keeps h b (own_promise s t f d one world fits store keeps (succeeds x) c)
+    let g = sure_in_strict s f in
+    own_kept true s t g d one world fits store keeps h b (own_promise true s t g d one world fits store keeps (succeeds x) c)

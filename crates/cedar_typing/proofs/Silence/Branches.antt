@@ -15,8 +15,7 @@ use Rattle.cedar_typing.specs.Rules.ShortCircuit.{Connective, short_circuit_rule
 use Rattle.cedar_typing.specs.TypeEnv.{TypeEnv}
 use Rattle.cedar_typing.specs.TypeTests.{bool_types}
 use Rattle.cedar_typing.specs.TypedExpr.{TypedTree, annotation}
-use Rattle.cedar_typing.proofs.SingleEntity.Rules.{SingleEntities}
-use Rattle.cedar_typing.proofs.Silence.Parts.{IsLoud, loud_before, loud_after, loud_of_two, IsKnown, Loud, part_loud, part_known, operand_loud}
+use Rattle.cedar_typing.proofs.Silence.Parts.{IsLoud, loud_before, loud_after, loud_of_two, IsKnown, Knows, Loud, part_loud, part_known, operand_loud}
 
 -- ---- types without a bound
 
@@ -50,7 +49,7 @@ module _ (env : TypeEnv) (m : Written) (l : Option Loc) (A : Judgment) (B : Caps
     sides_failures x es (side_failed {succeeded = s} {succeeded' = s'} {c = c} {es = before} {es' = after} p n q h) =
         loud_of_two s s' before after (operand_loud A a env bool_types l _ _ _ _ p) (operand_loud _ (b (f.right_prior prior c)) env bool_types l' _ _ _ _ q) h
 
-    pub short_circuit_loud : SingleEntities Sides → Loud Sides
+    pub short_circuit_loud : Knows Sides → Loud Sides
     short_circuit_loud s = record { failures = sides_failures; single = s }
 
   module _ (E : Judgment) (e : Loud E) where
@@ -67,5 +66,5 @@ module _ (env : TypeEnv) (m : Written) (l : Option Loc) (A : Judgment) (B : Caps
         (operand_loud A a env bool_types l _ _ _ _ p) (part_loud _ (b (union prior c)) _ _ _ _ q) (part_loud E e _ _ _ _ q')
         (λ i j. join_loud env m.place Conditional (annotation y) (annotation z) (part_known _ (b (union prior c)) _ _ _ _ q i) (part_known E e _ _ _ _ q' j)) h
 
-    pub if_loud : SingleEntities Choice → Loud Choice
+    pub if_loud : Knows Choice → Loud Choice
     if_loud s = record { failures = if_failures; single = s }

@@ -10,8 +10,7 @@ use Rattle.cedar_typing.specs.Judgments.{Judgment}
 use Rattle.cedar_typing.specs.Rules.Eager.{Judgments, NoneGiven, none_given, no_operands, ExpectedOperand, also_given, one_more, operand_failed, table_refused, eager_rules, one_operand_rules, two_operand_rules}
 use Rattle.cedar_typing.specs.TypeEnv.{TypeEnv}
 use Rattle.cedar_typing.specs.TypedExpr.{TypedTree, annotation}
-use Rattle.cedar_typing.proofs.SingleEntity.Rules.{SingleEntities}
-use Rattle.cedar_typing.proofs.Silence.Parts.{IsLoud, loud_before, loud_after, loud_of_two_back, IsKnown, Loud, part_loud, part_known, operand_loud, operand_known}
+use Rattle.cedar_typing.proofs.Silence.Parts.{IsLoud, loud_before, loud_after, loud_of_two_back, IsKnown, Knows, Loud, part_loud, part_known, operand_loud, operand_known}
 
 -- ---- tables
 
@@ -94,15 +93,15 @@ module _ (f : Form) (n : ℕ) (form : LoudForm n f) (Js : Judgments) (operands :
   form_failures x es (operand_failed {xs = xs} h e) = operands.failures false xs es h refl
   form_failures x es (table_refused {succeeded = s} {t = t} {fs = fs} {xs = xs} {es = before} h e) = refused_loud s xs before t fs h e
 
-  pub form_loud : SingleEntities Whole → Loud Whole
+  pub form_loud : Knows Whole → Loud Whole
   form_loud s = record { failures = form_failures; single = s }
 
 -- a form with one operand
-pub one_operand_loud : (env : TypeEnv) (f : Form) → LoudForm 1 f → (l : Option Loc) (J : Judgment) → Loud J → SingleEntities (one_operand_rules env f l J) → Loud (one_operand_rules env f l J)
+pub one_operand_loud : (env : TypeEnv) (f : Form) → LoudForm 1 f → (l : Option Loc) (J : Judgment) → Loud J → Knows (one_operand_rules env f l J) → Loud (one_operand_rules env f l J)
 one_operand_loud env f form l J a s = form_loud f 1 form _ (more_loud env f.goes_on (first_expectation f.expects) l J a 1 no_operands none_loud) s
 
 -- a form with two operands
-pub two_operands_loud : (env : TypeEnv) (f : Form) → LoudForm 2 f → (l l' : Option Loc) (J J' : Judgment) → Loud J → Loud J' → SingleEntities (two_operand_rules env f l l' J J') → Loud (two_operand_rules env f l l' J J')
+pub two_operands_loud : (env : TypeEnv) (f : Form) → LoudForm 2 f → (l l' : Option Loc) (J J' : Judgment) → Loud J → Loud J' → Knows (two_operand_rules env f l l' J J') → Loud (two_operand_rules env f l l' J J')
 two_operands_loud env f form l l' J J' a b s =
     let right = more_loud env f.goes_on (first_expectation (later_expectations f.expects)) l' J' b 1 no_operands none_loud in
     form_loud f 2 form _ (more_loud env f.goes_on (first_expectation f.expects) l J a 2 _ right) s

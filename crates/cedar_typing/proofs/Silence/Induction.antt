@@ -20,16 +20,16 @@ use Rattle.cedar_typing.specs.Rules.Leaves.{LeafRecovery, leaf_missing, leaf_rul
 use Rattle.cedar_typing.specs.Rules.ShortCircuit.{conjunction, disjunction}
 use Rattle.cedar_typing.specs.Rules.Unary.{unary_form, like_form, is_form}
 use Rattle.cedar_typing.specs.Setting.{Setting}
-use Rattle.cedar_typing.specs.Silence.{IsSettled, FailuresHaveErrors}
+use Rattle.cedar_typing.specs.Silence.{FailuresHaveErrors, FailuresHaveErrorsInPermissive}
 use Rattle.cedar_typing.specs.TypedExpr.{Source, TypedTree, Mark, place_of}
-use Rattle.cedar_typing.proofs.SingleEntity.Induction.{within_single, single_within}
-use Rattle.cedar_typing.proofs.SingleEntity.Rules.{SingleEntities}
+use Rattle.cedar_typing.proofs.SingleEntity.Induction.{single_within}
 use Rattle.cedar_typing.proofs.Silence.Attributes.{has_loud, get_loud, chain_loud}
 use Rattle.cedar_typing.proofs.Silence.Branches.{short_circuit_loud, if_loud}
 use Rattle.cedar_typing.proofs.Silence.Eager.{LoudAll, none_loud, more_loud, form_loud, one_operand_loud, two_operands_loud}
 use Rattle.cedar_typing.proofs.Silence.Names.{AreClean, clean, clean_left, clean_right, literal_declared, action_typed}
 use Rattle.cedar_typing.proofs.Silence.Operators.{binary_loud}
-use Rattle.cedar_typing.proofs.Silence.Parts.{IsLoud, Loud}
+use Rattle.cedar_typing.proofs.Silence.Parts.{IsLoud, Knows, knows_of, Loud}
+use Rattle.cedar_typing.proofs.Silence.Settled.{Settled, in_strict, in_permissive}
 use Rattle.cedar_typing.proofs.Silence.Tables.{unary_loud, like_loud, is_loud, set_loud, record_loud, call_loud}
 
 -- ---- leaves
@@ -38,20 +38,23 @@ module _ (m : Written) (node : Mark → TypedTree) (found : Option Ty) (there : 
   leaf_failures : (x : TypedTree) (es : List Finding) → LeafRecovery found m node x es → IsLoud es
   leaf_failures x es (leaf_missing e) = absurd (there e)
 
-  leaf_loud : SingleEntities (leaf_rules found m node) → Loud (leaf_rules found m node)
+  leaf_loud : Knows (leaf_rules found m node) → Loud (leaf_rules found m node)
   leaf_loud s = record { failures = leaf_failures; single = s }
 
 within_loud : (d : ℕ) (J : Judgment) → Loud J → Loud (within d J)
-within_loud d J h = record { failures = λ x es r. h.failures x es r.1; single = within_single d J h.single }
+within_loud d J h = record {
+  failures = λ x es r. h.failures x es r.1;
+  single = record { derivations = λ t c x r. h.single.derivations t c x r.1; marks = λ t c x r. h.single.marks t c x r.1 };
+}
 
 -- ---- all expressions
 
-module _ (s : Setting) (ok : IsSettled s) where
+module _ (firm : Bool) (s : Setting) (ok : Settled firm s) where
   clean_of : Source → Type 0
   clean_of e = AreClean s.env.schema (subexpressions e)
 
-  single : (e : Source) (prior : Caps) (d : ℕ) → SingleEntities (rules_within s e prior d)
-  single = single_within s ok.faultless.mode ok.faultless.schema ok.faultless.functions ok.environment
+  single : (e : Source) (prior : Caps) (d : ℕ) → Knows (rules_within s e prior d)
+  single e prior d = knows_of firm _ (single_within firm s ok.strict ok.total ok.schema ok.formed ok.functions ok.environment e prior d)
 
   entity_typed : (b : Bool) (t : Ty) (other : Option Ty) → b ≡ true → known_entity_type (if b then Some t else None) other ≡ None → ⊥
   entity_typed true t other h e = cc
@@ -66,7 +69,7 @@ module _ (s : Setting) (ok : IsSettled s) where
 
   variable_typed : (x : Var) → variable_type s.env x ≡ None → ⊥
   variable_typed Var.Principal e = cc
-  variable_typed Var.Action e = action_typed s.env.schema ok.faultless.schema s.env.request_env ok.environment e
+  variable_typed Var.Action e = action_typed s.env.schema ok.schema s.env.request_env ok.environment e
   variable_typed Var.Resource e = cc
   variable_typed Var.Context e = cc
 
@@ -95,7 +98,7 @@ module _ (s : Setting) (ok : IsSettled s) where
     loud_within (unary m o a) h prior d =
         one_operand_loud s.env (unary_form m o) (unary_loud m o) (place_of a) _ (within_loud (d + 1) _ (loud_within a h.1 prior (d + 1))) (single (unary m o a) prior d)
     loud_within (binary m o a b) h prior d =
-        two_operands_loud s.env (binary_form s.env m prior a b o) (binary_loud s.env ok.faultless.schema ok.environment m prior a b o (right_of a b h.1)) (place_of a) (place_of b) _ _
+        two_operands_loud s.env (binary_form s.env m prior a b o) (binary_loud s.env ok.schema ok.environment m prior a b o (right_of a b h.1)) (place_of a) (place_of b) _ _
         (within_loud (d + 1) _ (loud_within a (left_of a b h.1) prior (d + 1))) (within_loud (d + 1) _ (loud_within b (right_of a b h.1) prior (d + 1))) (single (binary m o a b) prior d)
     loud_within (call m n ts) h prior d =
         let f = call_form s.env s.functions m n (arguments ts) in
@@ -135,4 +138,7 @@ module _ (s : Setting) (ok : IsSettled s) where
   loud e h prior d = within_loud d _ (loud_within e h prior d)
 
 pub failures_have_errors : FailuresHaveErrors
-failures_have_errors s ok e h prior d x es r = (loud s ok e (clean s.env.schema e h) prior d).failures x es r
+failures_have_errors s ok e h prior d x es r = (loud true s (in_strict s ok) e (clean s.env.schema e h) prior d).failures x es r
+
+pub failures_have_errors_in_permissive : FailuresHaveErrorsInPermissive
+failures_have_errors_in_permissive s ok e h prior d x es r = (loud false s (in_permissive s ok) e (clean s.env.schema e h) prior d).failures x es r

@@ -1,7 +1,8 @@
 -- What fails has an error: parts and operands.
 use Rattle.std.proofs.Common.{◌≡◌, Bool, true, false, true≢false, ◌&&◌, List, [], ◌∷◌, ◌++◌, Option, Some, None, refl, sym, ◌∙◌, subst}
 use Rattle.cedar_types.specs.declared.base.location.Loc.{Loc}
-use Rattle.cedar_types.specs.Types.{Ty}
+use Rattle.cedar_types.specs.Types.{Ty, TNever}
+use Rattle.cedar_types.specs.Bounds.{is_never}
 use Rattle.cedar_types.specs.Errors.{Finding}
 use Rattle.cedar_typing.specs.Capabilities.{Caps}
 use Rattle.cedar_typing.specs.Judgments.{derived, recovered, accepted, refused, missing, Judgment, PartResult, Operand}
@@ -9,8 +10,9 @@ use Rattle.cedar_typing.specs.PolicyOutcome.{is_silent}
 use Rattle.cedar_typing.specs.TypeEnv.{TypeEnv}
 use Rattle.cedar_typing.specs.TypedExpr.{TypedTree, annotation}
 use Rattle.cedar_typing.proofs.Basics.{none_is}
+use Rattle.cedar_typing.proofs.Agreement.Parts.{Marks}
 use Rattle.cedar_typing.proofs.SingleEntity.Rules.{SingleEntities}
-use Rattle.cedar_typing.proofs.SingleEntity.Types.{has_single_entities}
+use Rattle.cedar_typing.proofs.SingleEntity.Types.{is_kept}
 
 -- ---- lists of errors
 
@@ -43,12 +45,24 @@ loud_of_two_back a true es fs f g h = loud_before es fs (f h)
 -- a type was found, and it is not Never
 abbrev pub IsKnown : Option Ty → Type 0
 IsKnown None = ⊥
-IsKnown (Some t) = has_single_entities t ≡ true
+IsKnown (Some t) = is_never t ≡ false
+
+-- no derived type is Never
+pub record Knows (J : Judgment) : Type 0 where
+  pub derivations : (t : Ty) (c : Caps) (x : TypedTree) → J.derives t c x → is_never t ≡ false
+  pub marks : Marks J.derives
+
+kept_not_never : (firm : Bool) (t : Ty) → is_kept firm t ≡ true → is_never t ≡ false
+kept_not_never firm TNever h = cc
+kept_not_never firm t h = refl
+
+pub knows_of : (firm : Bool) (J : Judgment) → SingleEntities firm J → Knows J
+knows_of firm J s = record { derivations = λ t c x h. kept_not_never firm t (s.derivations t c x h); marks = s.marks }
 
 -- what fails has an error
 pub record Loud (J : Judgment) : Type 0 where
   pub failures : (x : TypedTree) (es : List Finding) → J.recovers x es → IsLoud es
-  pub single : SingleEntities J
+  pub single : Knows J
 
 module _ (J : Judgment) (loud : Loud J) where
   pub part_loud : (b : Bool) (c : Caps) (x : TypedTree) (es : List Finding) → PartResult J b c x es → b ≡ false → IsLoud es

@@ -1,21 +1,27 @@
 -- A policy that passes is derived in each of the environments that it is checked in.
-use Rattle.std.proofs.Common.{inl, inr, List, [], ◌∷◌, ◌++◌, map, Option, refl, sym, subst}
+use Rattle.std.proofs.Common.{◌≡◌, inl, inr, Bool, true, false, ◌||◌, None, ap, List, [], ◌∷◌, ◌++◌, map, Option, refl, sym, subst}
 use Rattle.cedar_types.specs.declared.base.names.slots.SlotId.{SlotId}
-use Rattle.cedar_types.specs.declared.base.types.ValidationMode.TheVariants.{Strict}
+use Rattle.cedar_types.specs.declared.base.types.ValidationMode.{ValidationMode}
+use Rattle.cedar_types.specs.Bounds.{is_strict}
+use Rattle.cedar_types.specs.Errors.{Finding, Caution}
+use Rattle.cedar_types.specs.ExtensionFunctions.{table_fault}
 use Rattle.cedar_types.specs.Environments.{DeclaredEnv, environments_of}
 use Rattle.cedar_types.specs.Linking.{has_slot, slot_links, in_all_ways, linked_envs, checked_envs}
 use Rattle.cedar_types.specs.Names.{Path}
-use Rattle.cedar_types.specs.RequestEnvs.{Env, Declared, Undeclared, unlinked, unlinked_envs}
-use Rattle.cedar_types.specs.Schemas.{Schema}
+use Rattle.cedar_types.specs.RequestEnvs.{Env, Declared, Undeclared, is_partial, unlinked, unlinked_envs}
+use Rattle.cedar_types.specs.Schemas.{Schema, has_fault}
 use Rattle.cedar_types.specs.Templates.{PlainTemplate, condition_of}
 use Rattle.cedar_typing.specs.Composition.{in_env}
 use Rattle.cedar_typing.specs.Evaluation.Conformance.{IsOneOf, IsEnvironmentOf}
-use Rattle.cedar_typing.specs.PolicyOutcome.{passes}
-use Rattle.cedar_typing.specs.Silence.{IsSettled, ChecksOf, PassingPolicyIsDerived}
+use Rattle.cedar_typing.specs.PolicyOutcome.{passes, PolicyOutcome}
+use Rattle.cedar_typing.specs.Silence.{IsWellNamedTemplate, ChecksOf, IsDerivedIn, PassingPolicyIsDerived}
 use Rattle.cedar_typing.proofs.EachEnvironment.{each_has_passing}
 use Rattle.cedar_typing.proofs.Members.{all_flat}
-use Rattle.cedar_typing.proofs.Silence.Checks.{passing_is_derived}
+use Rattle.cedar_typing.proofs.Silence.Checks.{passing_derived}
 use Rattle.cedar_typing.proofs.Silence.Names.{condition_is_well_named}
+use Rattle.cedar_typing.proofs.Silence.Settled.{Settled}
+use Rattle.cedar_types.specs.FormedSchemas.{has_formed_types}
+use Rattle.cedar_typing.specs.Setting.{Setting}
 
 -- ---- the environments of a template
 
@@ -42,23 +48,41 @@ module _ (s : Schema) where
       all_ways d i ps rs e h
   linked_of_schema t Undeclared i e h = absurd i
 
-  checked_of_schema : (t : PlainTemplate) (e : Env) → IsOneOf e (checked_envs s Strict t) → IsEnvironmentOf s e
-  checked_of_schema t =
-      all_flat (linked_envs s t) (IsEnvironmentOf s) (unlinked_envs s Strict)
-      (λ u i. linked_of_schema t u (of_schema (environments_of s.actions) (λ d k. k) u i))
+  -- in every mode but Partial the environments are the schema's
+  unlinked_of_schema : (m : ValidationMode) → is_partial m ≡ false → (u : Env) → IsOneOf u (unlinked_envs s m) → IsEnvironmentOf s u
+  unlinked_of_schema ValidationMode.Strict h u i = of_schema (environments_of s.actions) (λ d k. k) u i
+  unlinked_of_schema ValidationMode.Permissive h u i = of_schema (environments_of s.actions) (λ d k. k) u i
+  unlinked_of_schema ValidationMode.Partial h u i = cc
+
+  checked_of_schema : (m : ValidationMode) → is_partial m ≡ false → (t : PlainTemplate) (e : Env) → IsOneOf e (checked_envs s m t) → IsEnvironmentOf s e
+  checked_of_schema m h t =
+      all_flat (linked_envs s t) (IsEnvironmentOf s) (unlinked_envs s m)
+      (λ u i. linked_of_schema t u (unlinked_of_schema m h u i))
 
 -- ---- the verdicts
 
+module _ (firm : Bool) (s : Setting) (t : PlainTemplate) (strict : is_strict s.env.mode ≡ firm) (total : is_partial s.env.mode ≡ false)
+    (formed : (firm || has_formed_types s.env.schema) ≡ true) (schema : has_fault s.env.schema ≡ false) (functions : table_fault s.functions ≡ None) where
+  pub passing_derived_in : IsWellNamedTemplate s.env.schema t → (errors errors' : List Finding) (warnings warnings' : List Caution)
+      → PolicyOutcome (ChecksOf s t) (checked_envs s.env.schema s.env.mode t) t true errors errors' warnings warnings'
+      → (env : Env) → IsOneOf env (checked_envs s.env.schema s.env.mode t) → IsDerivedIn s t env
+  passing_derived_in named errors errors' warnings warnings' o e i =
+      let envs : List Env = checked_envs s.env.schema s.env.mode t in
+      let p = each_has_passing (ChecksOf s t) passes o.listed envs o.verdicts o.in_some_order o.checked (sym o.answered) e i in
+      let there : IsEnvironmentOf s.env.schema e = checked_of_schema s.env.schema s.env.mode total t e i in
+      let settled : Settled firm (in_env s e) = record {
+        strict = strict;
+        total = total;
+        formed = formed;
+        schema = schema;
+        functions = functions;
+        environment = there;
+      } in (
+        p.0,
+        p.1,
+        passing_derived firm (in_env s e) settled (condition_of t) (condition_is_well_named s.env.schema t named) p.0 p.1 p.2,
+      )
+
 pub passing_policy_is_derived : PassingPolicyIsDerived
 passing_policy_is_derived s t ok named errors errors' warnings warnings' o e i =
-    let envs : List Env = checked_envs s.env.schema s.env.mode t in
-    let p = each_has_passing (ChecksOf s t) passes o.listed envs o.verdicts o.in_some_order o.checked (sym o.answered) e i in
-    let there : IsEnvironmentOf s.env.schema e = checked_of_schema s.env.schema t e (subst (λ m. IsOneOf e (checked_envs s.env.schema m t)) ok.mode i) in
-    let settled : IsSettled (in_env s e) = record {
-      faultless = record { mode = ok.mode; schema = ok.schema; functions = ok.functions };
-      environment = there;
-    } in (
-      p.0,
-      p.1,
-      passing_is_derived (in_env s e) settled (condition_of t) (condition_is_well_named s.env.schema t named) p.0 p.1 p.2,
-    )
+    passing_derived_in true s t (ap is_strict ok.mode) (ap is_partial ok.mode) refl ok.schema ok.functions named errors errors' warnings warnings' o e i

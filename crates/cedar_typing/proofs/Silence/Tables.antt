@@ -18,7 +18,6 @@ use Rattle.cedar_typing.specs.Rules.Numbers.{is_comparable, beside_never, incomp
 use Rattle.cedar_typing.specs.Rules.Unary.{unary_form, like_form, is_form}
 use Rattle.cedar_typing.specs.TypeEnv.{TypeEnv}
 use Rattle.cedar_typing.specs.TypedExpr.{Source}
-use Rattle.cedar_typing.proofs.SingleEntity.Types.{has_single_entities}
 use Rattle.cedar_typing.proofs.Silence.Eager.{IsLoudDecision, AreKnown, LoudForm}
 use Rattle.cedar_typing.proofs.Silence.Parts.{IsLoud}
 
@@ -36,10 +35,6 @@ loud_unless (e ∷ es) t = refl
 loud_list : (b : Bool) (es fs : List Finding) → IsLoud es → IsLoud fs → IsLoud (if b then es else fs)
 loud_list true es fs h k = h
 loud_list false es fs h k = k
-
-pub not_never : (t : Ty) → has_single_entities t ≡ true → is_never t ≡ false
-not_never TNever h = cc
-not_never t h = refl
 
 -- ---- one operand
 
@@ -80,9 +75,9 @@ module _ (env : TypeEnv) (m : Written) (l l' : Option Loc) where
       (loud_list (is_comparable env s) _ _ refl
       (loud_list (is_comparable env t) _ _ refl refl)))
 
-  compared_loud : (s t : Ty) → has_single_entities s ≡ true → IsLoudDecision (compares env l l' s t)
+  compared_loud : (s t : Ty) → is_never s ≡ false → IsLoudDecision (compares env l l' s t)
   compared_loud s t h =
-      apart_loud (is_never s) (is_never t) (is_comparable env s && ty_eq s t) _ _ _ (incomparable env l l' s t) _ (not_never s h)
+      apart_loud (is_never s) (is_never t) (is_comparable env s && ty_eq s t) _ _ _ (incomparable env l l' s t) _ h
       (loud_unless (beside_never env l s) _) tt (incomparable_loud s t)
 
   pub comparison_loud : (o : BinaryOp) → LoudForm 2 (comparison_form env m l l' o)

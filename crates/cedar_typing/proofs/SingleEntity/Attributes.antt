@@ -1,14 +1,20 @@
--- In Strict an attribute names one entity type at most where its base does, by a schema without faults.
-use Rattle.std.proofs.Common.{◌≡◌, Bool, true, false, true≢false, cond, not, List, [], ◌∷◌, Option, Some, None, refl, sym, subst}
+-- An attribute is kept to where its base is, by a schema without faults, whose types are formed in Permissive.
+use Rattle.std.proofs.Common.{◌≡◌, Bool, true, false, true≢false, cond, not, ◌&&◌, ◌||◌, List, [], ◌∷◌, Option, Some, None, option_map, fold, refl, sym, subst}
 use Rattle.std.specs.List.{list_all, find}
-use Rattle.cedar_types.specs.Names.{Text, path_eq}
+use Rattle.cedar_types.specs.declared.base.types.ValidationMode.TheVariants.{Permissive}
+use Rattle.cedar_types.specs.Ascending.{texts_ascending}
+use Rattle.cedar_types.specs.Names.{Text, Path, path_eq}
 use Rattle.cedar_types.specs.Lemmas.Comparisons.{and_left, and_right}
-use Rattle.cedar_types.specs.Types.{Ty, TNever, TBool, TLong, TString, TSet, TAnySet, TRecord, TEntity, TAnyEntity, TExtension}
-use Rattle.cedar_types.specs.Schemas.{Schema, DeclaredType, TypeKind, StandardKind, EnumKind, ExternalKind, has_fault, type_named, are_vague, kind_is_definite, tags_pass, is_vague}
-use Rattle.cedar_types.specs.Lookups.{declared_kind_attribute, kind_attribute, attribute_type}
+use Rattle.cedar_types.specs.Types.{Ty, TNever, TBool, TLong, TString, TSet, TAnySet, TRecord, TEntity, TAnyEntity, TExtension, Attrs, attr_names, is_well_formed, are_well_formed}
+use Rattle.cedar_types.specs.Bounds.{lub, find_attr}
+use Rattle.cedar_types.specs.Schemas.{Schema, DeclaredType, DeclaredAction, TypeKind, StandardKind, EnumKind, ExternalKind, has_fault, type_named, are_vague, kind_is_definite, tags_pass, is_vague}
+use Rattle.cedar_types.specs.Lookups.{declared_kind_attribute, kind_attribute, declared_attribute, joined_attribute, types_attribute, attribute_type}
+use Rattle.cedar_types.proofs.Attributes.FindAttrs.{found_type, all_well_formed}
 use Rattle.cedar_types.proofs.Schema.Faultless.{faultless}
+use Rattle.cedar_types.specs.FormedSchemas.{kind_is_formed, application_is_formed, has_formed_types}
 use Rattle.cedar_typing.proofs.Basics.{some_is, not_true}
-use Rattle.cedar_typing.proofs.SingleEntity.Types.{has_single_entities, definite_attrs, narrow_attr}
+use Rattle.cedar_typing.proofs.Bounds.Attributes.{AttributesFormed}
+use Rattle.cedar_typing.proofs.SingleEntity.Types.{is_kept, are_kept, are_names_kept, HasKept, kept_formed, definite_attrs_kept, kept_attr, kept_lub}
 
 module _ {A : Type 0} (p q : A → Bool) where
   same_passes : (x y : A) → Some x ≡ Some y → p x ≡ true → p y ≡ true
@@ -22,27 +28,101 @@ module _ {A : Type 0} (p q : A → Bool) where
   found_passes [] y h e = cc
   found_passes (x ∷ xs) y h e = first_passes (q x) x y (find q xs) (and_left (p x) (list_all p xs) h) (found_passes xs y (and_right (p x) (list_all p xs) h)) e
 
-kind_narrow : (k : TypeKind) (x : Text) (t : Ty) (r : Bool) → kind_is_definite k ≡ true → ◌≡◌ {A = Option (Ty × Bool)} (kind_attribute x k) (Some (t, r)) → has_single_entities t ≡ true
-kind_narrow (StandardKind attrs tags) x t r d e = narrow_attr x attrs t r (definite_attrs attrs (not_true (are_vague attrs) (and_left (not (are_vague attrs)) (tags_pass (λ t. not (is_vague t)) tags) d))) e
-kind_narrow (EnumKind ids) x t r d e = cc
-kind_narrow ExternalKind x t r d e = cc
+-- ---- what may be left out in Strict
 
-type_narrow : (o : Option DeclaredType) (x : Text) (t : Ty) (r : Bool) → ((d : DeclaredType) → o ≡ Some d → kind_is_definite d.kind ≡ true) → ◌≡◌ {A = Option (Ty × Bool)} (declared_kind_attribute x o) (Some (t, r)) → has_single_entities t ≡ true
-type_narrow None x t r f e = cc
-type_narrow (Some d) x t r f e = kind_narrow d.kind x t r (f d refl) e
+pub either_left : (firm a b : Bool) → (firm || (a && b)) ≡ true → (firm || a) ≡ true
+either_left true a b h = refl
+either_left false a b h = and_left a b h
 
-pub attribute_narrow : (s : Schema) → has_fault s ≡ false → (b : Ty) (x : Text) (t : Ty) (r : Bool) → has_single_entities b ≡ true → ◌≡◌ {A = Option (Ty × Bool)} (attribute_type s b x) (Some (t, r)) → has_single_entities t ≡ true
-attribute_narrow s f TNever x t r n e = cc
-attribute_narrow s f (TBool k) x t r n e = cc
-attribute_narrow s f TLong x t r n e = cc
-attribute_narrow s f TString x t r n e = cc
-attribute_narrow s f (TSet u) x t r n e = cc
-attribute_narrow s f TAnySet x t r n e = cc
-attribute_narrow s f (TRecord xs o) x t r n e = narrow_attr x xs t r n e
-attribute_narrow s f (TEntity []) x t r n e = cc
-attribute_narrow s f (TEntity (p ∷ [])) x t r n e =
-    let definite = and_left (list_all (λ (d : DeclaredType). kind_is_definite d.kind) s.types) _ (faultless s f).definite in
-    type_narrow (type_named s.types p) x t r (λ d. found_passes (λ (d : DeclaredType). kind_is_definite d.kind) (λ d. path_eq p d.name) s.types d definite) e
-attribute_narrow s f (TEntity (p ∷ q ∷ ps)) x t r n e = absurd (true≢false (sym n))
-attribute_narrow s f TAnyEntity x t r n e = cc
-attribute_narrow s f (TExtension m) x t r n e = cc
+pub either_right : (firm a b : Bool) → (firm || (a && b)) ≡ true → (firm || b) ≡ true
+either_right true a b h = refl
+either_right false a b h = and_right a b h
+
+pub either_of : (firm a b : Bool) → (a ≡ true → b ≡ true) → (firm || a) ≡ true → (firm || b) ≡ true
+either_of true a b f h = refl
+either_of false a b f h = f h
+
+-- ---- one entity type
+
+module _ (firm : Bool) where
+  -- the type that was found is kept to
+  abbrev pub FoundKept : Option (Ty × Bool) → Type 0
+  FoundKept None = Unit {0}
+  FoundKept (Some a) = is_kept firm a.0 ≡ true
+
+  kind_kept : (k : TypeKind) (x : Text) (t : Ty) (r : Bool) → kind_is_definite k ≡ true → (firm || kind_is_formed k) ≡ true → ◌≡◌ {A = Option (Ty × Bool)} (kind_attribute x k) (Some (t, r)) → is_kept firm t ≡ true
+  kind_kept (StandardKind attrs tags) x t r d w e =
+      let names = texts_ascending (attr_names attrs) in
+      let formed = either_right firm names (are_well_formed attrs) (either_left firm (is_well_formed (TRecord attrs false)) (tags_pass is_well_formed tags) w) in
+      kept_attr firm x attrs t r (definite_attrs_kept firm attrs (not_true (are_vague attrs) (and_left (not (are_vague attrs)) (tags_pass (λ t. not (is_vague t)) tags) d)) formed) e
+  kind_kept (EnumKind ids) x t r d w e = cc
+  kind_kept ExternalKind x t r d w e = cc
+
+  type_kept : (o : Option DeclaredType) (x : Text) (t : Ty) (r : Bool) → ((d : DeclaredType) → o ≡ Some d → kind_is_definite d.kind ≡ true) → ((d : DeclaredType) → o ≡ Some d → (firm || kind_is_formed d.kind) ≡ true) → ◌≡◌ {A = Option (Ty × Bool)} (declared_kind_attribute x o) (Some (t, r)) → is_kept firm t ≡ true
+  type_kept None x t r f g e = cc
+  type_kept (Some d) x t r f g e = kind_kept d.kind x t r (f d refl) (g d refl) e
+
+  found_kept : (o : Option (Ty × Bool)) → ((t : Ty) (r : Bool) → o ≡ Some (t, r) → is_kept firm t ≡ true) → FoundKept o
+  found_kept None f = tt
+  found_kept (Some a) f = f a.0 a.1 refl
+
+  some_kept : (o : Option (Ty × Bool)) (t : Ty) (r : Bool) → FoundKept o → o ≡ Some (t, r) → is_kept firm t ≡ true
+  some_kept o t r h e = subst FoundKept e h
+
+  module _ (s : Schema) (f : has_fault s ≡ false) (w : (firm || has_formed_types s) ≡ true) where
+    abbrev types_formed : Bool
+    types_formed = list_all (λ (d : DeclaredType). kind_is_formed d.kind) s.types
+
+    pub types_are_formed : (firm || types_formed) ≡ true
+    types_are_formed = either_left firm types_formed (list_all (λ (a : DeclaredAction). application_is_formed a.applies_to) s.actions) w
+
+    declared_kept : (p : Path) (x : Text) → FoundKept (declared_attribute s.types x p)
+    declared_kept p x =
+        let definite = and_left (list_all (λ (d : DeclaredType). kind_is_definite d.kind) s.types) _ (faultless s f).definite in
+        found_kept (declared_attribute s.types x p)
+        (λ t r. type_kept (type_named s.types p) x t r
+        (λ d. found_passes (λ (d : DeclaredType). kind_is_definite d.kind) (λ d. path_eq p d.name) s.types d definite)
+        (λ d e. either_of firm types_formed (kind_is_formed d.kind) (λ h. found_passes (λ (d : DeclaredType). kind_is_formed d.kind) (λ d. path_eq p d.name) s.types d h e) types_are_formed))
+
+-- ---- several entity types, which there are in Permissive alone
+
+bound_kept : (r : Bool) (o : Option Ty) → HasKept false o → FoundKept false (option_map (λ t. (t, r)) o)
+bound_kept r None h = tt
+bound_kept r (Some t) h = h
+
+joined_kept : (x y : Option (Ty × Bool)) → FoundKept false x → FoundKept false y → FoundKept false (joined_attribute x y)
+joined_kept None y h k = tt
+joined_kept (Some a) None h k = tt
+joined_kept (Some a) (Some b) h k = bound_kept (a.1 && b.1) (lub Permissive a.0 b.0) (kept_lub false Permissive refl a.0 b.0 h k)
+
+folded_kept : (s : Schema) → has_fault s ≡ false → (false || has_formed_types s) ≡ true → (x : Text) (ps : List Path) (o : Option (Ty × Bool)) → FoundKept false o → FoundKept false (fold (λ found q. joined_attribute found (declared_attribute s.types x q)) o ps)
+folded_kept s f w x [] o h = h
+folded_kept s f w x (p ∷ ps) o h = folded_kept s f w x ps _ (joined_kept o (declared_attribute s.types x p) h (declared_kept false s f w p x))
+
+choice_kept : (firm : Bool) (s : Schema) → has_fault s ≡ false → (firm || has_formed_types s) ≡ true → (p q : Path) (ps : List Path) (x : Text) → is_kept firm (TEntity (p ∷ q ∷ ps)) ≡ true → FoundKept firm (types_attribute s.types x (p ∷ q ∷ ps))
+choice_kept true s f w p q ps x n = absurd (true≢false (sym n))
+choice_kept false s f w p q ps x n = folded_kept s f w x (q ∷ ps) (declared_attribute s.types x p) (declared_kept false s f w p x)
+
+-- the types of declared attributes are well-formed
+formed_found : (o : Option (Ty × Bool)) (a : Ty × Bool) → FoundKept false o → o ≡ Some a → is_well_formed a.0 ≡ true
+formed_found o a h e = kept_formed a.0 (subst (FoundKept false) e h)
+
+pub declared_formed : (s : Schema) → has_fault s ≡ false → (false || has_formed_types s) ≡ true → AttributesFormed s
+declared_formed s f w x p a e = formed_found (declared_attribute s.types x p) a (declared_kept false s f w p x) e
+
+-- ---- any type
+
+module _ (firm : Bool) (s : Schema) (f : has_fault s ≡ false) (w : (firm || has_formed_types s) ≡ true) where
+  pub attribute_narrow : (b : Ty) (x : Text) (t : Ty) (r : Bool) → is_kept firm b ≡ true → ◌≡◌ {A = Option (Ty × Bool)} (attribute_type s b x) (Some (t, r)) → is_kept firm t ≡ true
+  attribute_narrow TNever x t r n e = cc
+  attribute_narrow (TBool k) x t r n e = cc
+  attribute_narrow TLong x t r n e = cc
+  attribute_narrow TString x t r n e = cc
+  attribute_narrow (TSet u) x t r n e = cc
+  attribute_narrow TAnySet x t r n e = cc
+  attribute_narrow (TRecord xs o) x t r n e = kept_attr firm x xs t r (and_right (are_names_kept firm (attr_names xs)) (are_kept firm xs) n) e
+  attribute_narrow (TEntity []) x t r n e = cc
+  attribute_narrow (TEntity (p ∷ [])) x t r n e = some_kept firm (declared_attribute s.types x p) t r (declared_kept firm s f w p x) e
+  attribute_narrow (TEntity (p ∷ q ∷ ps)) x t r n e = some_kept firm (types_attribute s.types x (p ∷ q ∷ ps)) t r (choice_kept firm s f w p q ps x n) e
+  attribute_narrow TAnyEntity x t r n e = cc
+  attribute_narrow (TExtension m) x t r n e = cc

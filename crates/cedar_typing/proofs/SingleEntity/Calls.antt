@@ -1,4 +1,4 @@
--- In Strict calls name no entity type, as no function of a table without faults returns an entity.
+-- The types of calls are kept to, as no function of a table without faults returns an entity or a record.
 use Rattle.std.proofs.Common.{◌≡◌, Bool, true, false, not, List, [], ◌∷◌, Option, Some, None, if◌then◌else◌, refl, sym, subst}
 use Rattle.std.specs.List.{list_any}
 use Rattle.cedar_types.specs.declared.base.expressions.extensions.ExtensionTableError.{ExtensionTableError}
@@ -12,7 +12,7 @@ use Rattle.cedar_typing.specs.TypeEnv.{TypeEnv}
 use Rattle.cedar_typing.specs.TypedExpr.{Source}
 use Rattle.cedar_typing.proofs.Basics.{some_is, neither_left, neither_right}
 use Rattle.cedar_typing.proofs.SingleEntity.Eager.{decided_type, SingleForm}
-use Rattle.cedar_typing.proofs.SingleEntity.Types.{has_single_entities, HasSingleEntities}
+use Rattle.cedar_typing.proofs.SingleEntity.Types.{is_kept, HasKept, element_kept}
 
 -- ---- what a function of a table without faults returns
 
@@ -38,21 +38,21 @@ no_fault false x r h = refl
 pub function_returns : (n : Path) (fs : List ExtensionFunction) (f : ExtensionFunction) → function_named n fs ≡ Some f → table_fault fs ≡ None → may_be_returned f.return_type ≡ true
 function_returns n fs f e h = named_returns n fs f (no_fault (list_any has_bad_return fs) _ _ h) e
 
-plain_single : (t : Ty) → is_plain_type t ≡ true → has_single_entities t ≡ true
-plain_single TNever h = cc
-plain_single (TBool k) h = refl
-plain_single TLong h = refl
-plain_single TString h = refl
-plain_single (TSet t) h = cc
-plain_single TAnySet h = refl
-plain_single (TRecord xs o) h = cc
-plain_single (TEntity ps) h = cc
-plain_single TAnyEntity h = refl
-plain_single (TExtension n) h = refl
+plain_single : (firm : Bool) (t : Ty) → is_plain_type t ≡ true → is_kept firm t ≡ true
+plain_single firm TNever h = cc
+plain_single firm (TBool k) h = refl
+plain_single firm TLong h = refl
+plain_single firm TString h = refl
+plain_single firm (TSet t) h = cc
+plain_single firm TAnySet h = refl
+plain_single firm (TRecord xs o) h = cc
+plain_single firm (TEntity ps) h = cc
+plain_single firm TAnyEntity h = refl
+plain_single firm (TExtension n) h = refl
 
-returned_single : (t : Ty) → may_be_returned t ≡ true → has_single_entities t ≡ true
-returned_single (TSet t) h = plain_single t h
-returned_single t h = plain_single t h
+returned_single : (firm : Bool) (t : Ty) → may_be_returned t ≡ true → is_kept firm t ≡ true
+returned_single firm (TSet t) h = element_kept firm t (plain_single firm t h)
+returned_single firm t h = plain_single firm t h
 
 -- ---- calls
 
@@ -62,12 +62,12 @@ call_type None es = refl
 call_type (Some t) [] = refl
 call_type (Some t) (e ∷ es) = refl
 
-module _ (env : TypeEnv) (fs : List ExtensionFunction) (faults : table_fault fs ≡ None) (m : Written) (n : Path) (xs : List Source) where
-  return_single : (f : Option ExtensionFunction) → function_named n fs ≡ f → HasSingleEntities (return_type f)
+module _ (firm : Bool) (env : TypeEnv) (fs : List ExtensionFunction) (faults : table_fault fs ≡ None) (m : Written) (n : Path) (xs : List Source) where
+  return_single : (f : Option ExtensionFunction) → function_named n fs ≡ f → HasKept firm (return_type f)
   return_single None e = tt
-  return_single (Some f) e = returned_single f.return_type (function_returns n fs f e faults)
+  return_single (Some f) e = returned_single firm f.return_type (function_returns n fs f e faults)
 
-  pub call_single : SingleForm (call_form env fs m n xs)
+  pub call_single : SingleForm firm (call_form env fs m n xs)
   call_single ts h =
       let f = function_named n fs in
-      subst HasSingleEntities (sym (call_type (return_type f) (call_errors env m.place f n xs))) (return_single f refl)
+      subst (HasKept firm) (sym (call_type (return_type f) (call_errors env m.place f n xs))) (return_single f refl)

@@ -1,4 +1,4 @@
--- In Strict each type that `==`, `contains`, `containsAll` or `containsAny` has names one entity type at most, as it is a Bool.
+-- Each type that `==`, `contains`, `containsAll` or `containsAny` has is kept to, as it is a Bool.
 use Rattle.std.proofs.Common.{◌≡◌, Bool, true, false, List, [], ◌∷◌, Option, Some, None, if◌then◌else◌, refl, sym, subst}
 use Rattle.cedar_types.specs.declared.base.location.Loc.{Loc}
 use Rattle.cedar_types.specs.declared.base.expressions.operators.BinaryOp.{BinaryOp}
@@ -18,7 +18,7 @@ use Rattle.cedar_typing.specs.TypeEnv.{TypeEnv}
 use Rattle.cedar_typing.specs.TypeTests.{is_any_bool}
 use Rattle.cedar_typing.specs.TypedExpr.{Source}
 use Rattle.cedar_typing.proofs.SingleEntity.Eager.{decided_type, SingleForm}
-use Rattle.cedar_typing.proofs.SingleEntity.Types.{has_single_entities, HasSingleEntities}
+use Rattle.cedar_typing.proofs.SingleEntity.Types.{is_kept, HasKept}
 
 -- ---- the type stays, whether or not there are errors
 
@@ -35,34 +35,34 @@ equality_given env l u s t = given_if (is_any_bool u) (strict_errors env l Equal
 
 -- ---- `==`
 
-bool_single : (b : Bool) → has_single_entities (bool_ty b) ≡ true
-bool_single true = refl
-bool_single false = refl
+bool_single : (firm b : Bool) → is_kept firm (bool_ty b) ≡ true
+bool_single firm true = refl
+bool_single firm false = refl
 
-compared_single : (x y : Option Lit) → has_single_entities (compared_literals x y) ≡ true
-compared_single None y = refl
-compared_single (Some x) None = refl
-compared_single (Some x) (Some y) = bool_single (lit_eq x y)
+compared_single : (firm : Bool) (x y : Option Lit) → is_kept firm (compared_literals x y) ≡ true
+compared_single firm None y = refl
+compared_single firm (Some x) None = refl
+compared_single firm (Some x) (Some y) = bool_single firm (lit_eq x y)
 
-apart_single : (apart : Bool) (x y : Option Lit) → has_single_entities (if apart then TBool False else compared_literals x y) ≡ true
-apart_single true x y = refl
-apart_single false x y = compared_single x y
+apart_single : (firm apart : Bool) (x y : Option Lit) → is_kept firm (if apart then TBool False else compared_literals x y) ≡ true
+apart_single firm true x y = refl
+apart_single firm false x y = compared_single firm x y
 
-pub equality_single : (env : TypeEnv) (m : Written) (a b : Source) → SingleForm (equality_form env m a b)
-equality_single env m a b ts h =
+pub equality_single : (firm : Bool) (env : TypeEnv) (m : Written) (a b : Source) → SingleForm firm (equality_form env m a b)
+equality_single firm env m a b ts h =
     let x = literal_of env.request_env a in
     let y = literal_of env.request_env b in
     let s = first_type ts in
     let t = second_type ts in
-    subst HasSingleEntities (sym (equality_given env m.place (equality_type x y s t) s t)) (apart_single (are_apart s t) x y)
+    subst (HasKept firm) (sym (equality_given env m.place (equality_type x y s t) s t)) (apart_single firm (are_apart s t) x y)
 
 -- ---- sets and their members
 
-given_single : (fs : List Finding) → HasSingleEntities (decided_type (gives_unless fs (TBool AnyBool)))
-given_single fs = subst HasSingleEntities (sym (given_type fs (TBool AnyBool))) refl
+given_single : (firm : Bool) (fs : List Finding) → HasKept firm (decided_type (gives_unless fs (TBool AnyBool)))
+given_single firm fs = subst (HasKept firm) (sym (given_type fs (TBool AnyBool))) refl
 
-pub contains_single : (env : TypeEnv) (m : Written) → SingleForm (contains_form env m)
-contains_single env m ts h = given_single (strict_errors env m.place Contains (member_type (first_type ts)) (second_type ts))
+pub contains_single : (firm : Bool) (env : TypeEnv) (m : Written) → SingleForm firm (contains_form env m)
+contains_single firm env m ts h = given_single firm (strict_errors env m.place Contains (member_type (first_type ts)) (second_type ts))
 
-pub contains_several_single : (env : TypeEnv) (m : Written) (o : BinaryOp) → SingleForm (contains_several_form env m o)
-contains_several_single env m o ts h = given_single (strict_errors env m.place ContainsAnyAll (first_type ts) (second_type ts))
+pub contains_several_single : (firm : Bool) (env : TypeEnv) (m : Written) (o : BinaryOp) → SingleForm firm (contains_several_form env m o)
+contains_several_single firm env m o ts h = given_single firm (strict_errors env m.place ContainsAnyAll (first_type ts) (second_type ts))

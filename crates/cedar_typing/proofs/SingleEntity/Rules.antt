@@ -1,11 +1,10 @@
--- In Strict each type that is found names one entity type at most: parts, `&&`, `||` and `if`.
+-- Each type that is found is kept to: parts, `&&`, `||` and `if`.
 use Rattle.std.proofs.Common.{◌≡◌, Bool, true, false, List, Option, Some, None, if◌then◌else◌, refl, sym, ap, subst}
 use Rattle.cedar_types.specs.declared.base.location.Loc.{Loc}
 use Rattle.cedar_types.specs.declared.base.types.ValidationMode.{ValidationMode}
-use Rattle.cedar_types.specs.declared.base.types.ValidationMode.TheVariants.{Strict}
 use Rattle.cedar_types.specs.Types.{Ty}
 use Rattle.cedar_types.specs.View.{Written}
-use Rattle.cedar_types.specs.Bounds.{lub}
+use Rattle.cedar_types.specs.Bounds.{is_strict, lub}
 use Rattle.cedar_types.specs.Errors.{Finding}
 use Rattle.cedar_typing.specs.Capabilities.{Caps, union}
 use Rattle.cedar_typing.specs.Joins.{joined}
@@ -17,84 +16,84 @@ use Rattle.cedar_typing.specs.TypeTests.{bool_types}
 use Rattle.cedar_typing.specs.TypedExpr.{TypedTree, Mark, mark_of, annotation}
 use Rattle.cedar_typing.proofs.Agreement.Parts.{Marks}
 use Rattle.cedar_typing.proofs.Marks.{annotation-at_place, annotation-without_type}
-use Rattle.cedar_typing.proofs.SingleEntity.Types.{has_single_entities, HasSingleEntities, narrow_lub}
+use Rattle.cedar_typing.proofs.SingleEntity.Types.{is_kept, HasKept, kept_lub}
 
--- each type that is derived or recovered names one entity type at most
-pub record SingleEntities (J : Judgment) : Type 0 where
-  pub derivations : (t : Ty) (c : Caps) (x : TypedTree) → J.derives t c x → has_single_entities t ≡ true
-  pub recoveries : (x : TypedTree) (es : List Finding) → J.recovers x es → HasSingleEntities (annotation x)
+-- each type that is derived or recovered is kept to
+pub record SingleEntities (firm : Bool) (J : Judgment) : Type 0 where
+  pub derivations : (t : Ty) (c : Caps) (x : TypedTree) → J.derives t c x → is_kept firm t ≡ true
+  pub recoveries : (x : TypedTree) (es : List Finding) → J.recovers x es → HasKept firm (annotation x)
   pub marks : Marks J.derives
 
 -- ---- parts and operands
 
-module _ (J : Judgment) (n : SingleEntities J) where
-  pub part_single : (succeeded : Bool) (c : Caps) (x : TypedTree) (es : List Finding) → PartResult J succeeded c x es → HasSingleEntities (annotation x)
-  part_single succeeded c x es (derived {t = t} h) = subst HasSingleEntities (sym (n.marks t c x h)) (n.derivations t c x h)
+module _ (firm : Bool) (J : Judgment) (n : SingleEntities firm J) where
+  pub part_single : (succeeded : Bool) (c : Caps) (x : TypedTree) (es : List Finding) → PartResult J succeeded c x es → HasKept firm (annotation x)
+  part_single succeeded c x es (derived {t = t} h) = subst (HasKept firm) (sym (n.marks t c x h)) (n.derivations t c x h)
   part_single succeeded c x es (recovered h) = n.recoveries x es h
 
-  pub operand_single : (env : TypeEnv) (ts : List Ty) (l : Option Loc) (succeeded : Bool) (c : Caps) (x : TypedTree) (es : List Finding) → Operand env ts l J succeeded c x es → HasSingleEntities (annotation x)
+  pub operand_single : (env : TypeEnv) (ts : List Ty) (l : Option Loc) (succeeded : Bool) (c : Caps) (x : TypedTree) (es : List Finding) → Operand env ts l J succeeded c x es → HasKept firm (annotation x)
   operand_single env ts l succeeded c x es (accepted t p m h) = part_single succeeded c x es p
-  operand_single env ts l succeeded c x es (refused {e = e} t p m h) = subst HasSingleEntities (sym (annotation-without_type e)) tt
-  operand_single env ts l succeeded c x es (missing p m) = subst HasSingleEntities (sym m) tt
+  operand_single env ts l succeeded c x es (refused {e = e} t p m h) = subst (HasKept firm) (sym (annotation-without_type e)) tt
+  operand_single env ts l succeeded c x es (missing p m) = subst (HasKept firm) (sym m) tt
 
 -- ---- tables
 
-pub pick : (b : Bool) (s t : Ty) → has_single_entities s ≡ true → has_single_entities t ≡ true → has_single_entities (if b then s else t) ≡ true
-pick true s t h k = h
-pick false s t h k = k
+pub pick : (firm b : Bool) (s t : Ty) → is_kept firm s ≡ true → is_kept firm t ≡ true → is_kept firm (if b then s else t) ≡ true
+pick firm true s t h k = h
+pick firm false s t h k = k
 
-sides_single : (f : Connective) (s t : Ty) → has_single_entities s ≡ true → has_single_entities t ≡ true → has_single_entities (sides_type f s t) ≡ true
-sides_single f s t h k = by_side (side_of f s t)
+sides_single : (firm : Bool) (f : Connective) (s t : Ty) → is_kept firm s ≡ true → is_kept firm t ≡ true → is_kept firm (sides_type f s t) ≡ true
+sides_single firm f s t h k = by_side (side_of f s t)
   where
-    by_side : (x : Side) → has_single_entities (type_of_side x s t) ≡ true
+    by_side : (x : Side) → is_kept firm (type_of_side x s t) ≡ true
     by_side right_ends = k
     by_side left_alone = h
     by_side right_alone = k
     by_side neither = refl
 
-annotation_single : (f : Connective) (x y : Option Ty) → HasSingleEntities x → HasSingleEntities y → has_single_entities (sides_annotation f x y) ≡ true
-annotation_single f None y h k = refl
-annotation_single f (Some s) None h k = refl
-annotation_single f (Some s) (Some t) h k = sides_single f s t h k
+annotation_single : (firm : Bool) (f : Connective) (x y : Option Ty) → HasKept firm x → HasKept firm y → is_kept firm (sides_annotation f x y) ≡ true
+annotation_single firm f None y h k = refl
+annotation_single firm f (Some s) None h k = refl
+annotation_single firm f (Some s) (Some t) h k = sides_single firm f s t h k
 
-joined_single : (m : ValidationMode) → m ≡ Strict → (x y : Option Ty) → HasSingleEntities x → HasSingleEntities y → HasSingleEntities (joined m x y)
-joined_single m e None y h k = tt
-joined_single m e (Some t) None h k = tt
-joined_single m e (Some t) (Some u) h k = subst (λ m. HasSingleEntities (lub m t u)) (sym e) (narrow_lub t u h k)
+joined_single : (firm : Bool) (m : ValidationMode) → is_strict m ≡ firm → (x y : Option Ty) → HasKept firm x → HasKept firm y → HasKept firm (joined m x y)
+joined_single firm m e None y h k = tt
+joined_single firm m e (Some t) None h k = tt
+joined_single firm m e (Some t) (Some u) h k = kept_lub firm m e t u h k
 
 -- ---- the rules
 
-module _ (env : TypeEnv) (m : Written) (l : Option Loc) (A : Judgment) (B : Caps → Judgment) (prior : Caps) (a : SingleEntities A) (b : (p : Caps) → SingleEntities (B p)) where
+module _ (firm : Bool) (env : TypeEnv) (m : Written) (l : Option Loc) (A : Judgment) (B : Caps → Judgment) (prior : Caps) (a : SingleEntities firm A) (b : (p : Caps) → SingleEntities firm (B p)) where
   module _ (f : Connective) (node_mark : (k : Mark) (x y : TypedTree) → mark_of (f.node k x y) ≡ k) (l' : Option Loc) where
     abbrev Sides : Judgment
     Sides = short_circuit_rules env f m l l' A B prior
 
-    sides_derived : (t : Ty) (c : Caps) (x : TypedTree) → Sides.derives t c x → has_single_entities t ≡ true
+    sides_derived : (t : Ty) (c : Caps) (x : TypedTree) → Sides.derives t c x → is_kept firm t ≡ true
     sides_derived t c x (left_ends d p n) = a.derivations _ _ _ d
-    sides_derived t c x (both_sides {s = s} {t = u} {c = k} d p n d' q) = sides_single f s u (a.derivations _ _ _ d) ((b (f.right_prior prior k)).derivations _ _ _ d')
+    sides_derived t c x (both_sides {s = s} {t = u} {c = k} d p n d' q) = sides_single firm f s u (a.derivations _ _ _ d) ((b (f.right_prior prior k)).derivations _ _ _ d')
 
-    sides_recovered : (x : TypedTree) (es : List Finding) → Sides.recovers x es → HasSingleEntities (annotation x)
-    sides_recovered x es (left_ends_failed {a = y} p n) = subst HasSingleEntities (sym (annotation-at_place m.place y)) (operand_single A a env bool_types l _ _ _ _ p)
+    sides_recovered : (x : TypedTree) (es : List Finding) → Sides.recovers x es → HasKept firm (annotation x)
+    sides_recovered x es (left_ends_failed {a = y} p n) = subst (HasKept firm) (sym (annotation-at_place m.place y)) (operand_single firm A a env bool_types l _ _ _ _ p)
     sides_recovered x es (side_failed {c = k} {a = y} {b = z} p n p' q) =
-        let h = annotation_single f _ _ (operand_single A a env bool_types l _ _ _ _ p) (operand_single _ (b (f.right_prior prior k)) env bool_types l' _ _ _ _ p') in
-        subst HasSingleEntities (sym (ap (λ (i : Mark). i.ty) (node_mark _ y z))) h
+        let h = annotation_single firm f _ _ (operand_single firm A a env bool_types l _ _ _ _ p) (operand_single firm _ (b (f.right_prior prior k)) env bool_types l' _ _ _ _ p') in
+        subst (HasKept firm) (sym (ap (λ (i : Mark). i.ty) (node_mark _ y z))) h
 
-    pub short_circuit_single : Marks Sides.derives → SingleEntities Sides
+    pub short_circuit_single : Marks Sides.derives → SingleEntities firm Sides
     short_circuit_single h = record { derivations = sides_derived; recoveries = sides_recovered; marks = h }
 
-  module _ (strict : env.mode ≡ Strict) (E : Judgment) (e : SingleEntities E) where
+  module _ (strict : is_strict env.mode ≡ firm) (E : Judgment) (e : SingleEntities firm E) where
     abbrev Choice : Judgment
     Choice = if_rules env m l A B E prior
 
-    if_derived : (t : Ty) (c : Caps) (x : TypedTree) → Choice.derives t c x → has_single_entities t ≡ true
+    if_derived : (t : Ty) (c : Caps) (x : TypedTree) → Choice.derives t c x → is_kept firm t ≡ true
     if_derived t c x (if_true {c = k} d d') = (b (union prior k)).derivations _ _ _ d'
     if_derived t c x (if_false d d') = e.derivations _ _ _ d'
-    if_derived t c x (if_open {t = s} {u = u} {c = k} d p n n' d' d'' h) = subst HasSingleEntities h (joined_single env.mode strict (Some s) (Some u) ((b (union prior k)).derivations _ _ _ d') (e.derivations _ _ _ d''))
+    if_derived t c x (if_open {t = s} {u = u} {c = k} d p n n' d' d'' h) = subst (HasKept firm) h (joined_single firm env.mode strict (Some s) (Some u) ((b (union prior k)).derivations _ _ _ d') (e.derivations _ _ _ d''))
 
-    if_recovered : (x : TypedTree) (es : List Finding) → Choice.recovers x es → HasSingleEntities (annotation x)
-    if_recovered x es (if_true_recovered {c = k} p n q g) = part_single _ (b (union prior k)) _ _ _ _ q
-    if_recovered x es (if_false_recovered p n q g) = part_single E e _ _ _ _ q
-    if_recovered x es (if_open_recovered {c = k} p n n' q q' g) = joined_single env.mode strict _ _ (part_single _ (b (union prior k)) _ _ _ _ q) (part_single E e _ _ _ _ q')
+    if_recovered : (x : TypedTree) (es : List Finding) → Choice.recovers x es → HasKept firm (annotation x)
+    if_recovered x es (if_true_recovered {c = k} p n q g) = part_single firm _ (b (union prior k)) _ _ _ _ q
+    if_recovered x es (if_false_recovered p n q g) = part_single firm E e _ _ _ _ q
+    if_recovered x es (if_open_recovered {c = k} p n n' q q' g) = joined_single firm env.mode strict _ _ (part_single firm _ (b (union prior k)) _ _ _ _ q) (part_single firm E e _ _ _ _ q')
 
-    pub if_single : Marks Choice.derives → SingleEntities Choice
+    pub if_single : Marks Choice.derives → SingleEntities firm Choice
     if_single h = record { derivations = if_derived; recoveries = if_recovered; marks = h }

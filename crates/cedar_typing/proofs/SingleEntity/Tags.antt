@@ -1,13 +1,13 @@
--- In Strict the types of `hasTag` and `getTag` name one entity type at most, by a schema without faults.
-use Rattle.std.proofs.Common.{◌≡◌, inl, inr, Bool, true, false, not, List, [], ◌∷◌, Option, Some, None, if◌then◌else◌, refl, sym, subst}
+-- The types of `hasTag` and `getTag` are kept to, by a schema without faults, whose types are formed in Permissive.
+use Rattle.std.proofs.Common.{◌≡◌, inl, inr, Bool, true, false, not, ◌||◌, List, [], ◌∷◌, Option, Some, None, if◌then◌else◌, refl, sym, subst}
 use Rattle.std.specs.List.{list_all}
 use Rattle.cedar_types.specs.declared.base.types.BoolType.TheVariants.{AnyBool, True}
-use Rattle.cedar_types.specs.declared.base.types.ValidationMode.TheVariants.{Strict}
+use Rattle.cedar_types.specs.declared.base.types.ValidationMode.{ValidationMode}
 use Rattle.cedar_types.specs.Lemmas.Comparisons.{and_left, and_right}
 use Rattle.cedar_types.specs.Names.{Path, path_eq}
-use Rattle.cedar_types.specs.Types.{Ty, TNever, TBool, TEntity, TAnyEntity}
+use Rattle.cedar_types.specs.Types.{Ty, TNever, TBool, TRecord, TEntity, TAnyEntity, is_well_formed}
 use Rattle.cedar_types.specs.View.{Written}
-use Rattle.cedar_types.specs.Bounds.{lub, list_lub}
+use Rattle.cedar_types.specs.Bounds.{is_strict, lub, list_lub}
 use Rattle.cedar_types.specs.Schemas.{Schema, DeclaredType, TypeKind, StandardKind, EnumKind, ExternalKind, has_fault, type_named, are_vague, is_vague, kind_is_definite}
 use Rattle.cedar_types.specs.Lookups.{kind_tags, declared_tags, tags_of_types, tags_of_any, tag_types}
 use Rattle.cedar_types.specs.Errors.{Finding}
@@ -22,91 +22,95 @@ use Rattle.cedar_typing.proofs.Bounds.Lists.{in_order_all, bound_keeps}
 use Rattle.cedar_typing.proofs.Members.{AreAll, all_flat, found_in, all_pass}
 use Rattle.cedar_typing.proofs.SingleEntity.Eager.{decided_type, SingleForm}
 use Rattle.cedar_typing.proofs.SingleEntity.Rules.{pick}
-use Rattle.cedar_typing.proofs.SingleEntity.Types.{has_single_entities, HasSingleEntities, definite_narrow, narrow_lub}
+use Rattle.cedar_typing.proofs.SingleEntity.Types.{is_kept, HasKept, definite_kept, kept_lub}
+use Rattle.cedar_typing.proofs.SingleEntity.Attributes.{either_right, either_of, types_are_formed}
+use Rattle.cedar_types.specs.FormedSchemas.{kind_is_formed, has_formed_types}
 
 -- ---- the types of tags
 
-abbrev IsNarrow : Ty → Type 0
-IsNarrow t = has_single_entities t ≡ true
+abbrev pub IsNarrow : Bool → Ty → Type 0
+IsNarrow firm t = is_kept firm t ≡ true
 
-kind_narrow : (k : TypeKind) → kind_is_definite k ≡ true → AreAll IsNarrow (kind_tags k)
-kind_narrow (StandardKind attrs (Some u)) d t (inl e) =
-    let n = definite_narrow u (not_true (is_vague u) (and_right (not (are_vague attrs)) (not (is_vague u)) d)) in
-    subst IsNarrow (sym e) n
-kind_narrow (StandardKind attrs (Some u)) d t (inr h) = absurd h
-kind_narrow (StandardKind attrs None) d t h = absurd h
-kind_narrow (EnumKind ids) d t h = absurd h
-kind_narrow ExternalKind d t h = absurd h
+kind_narrow : (firm : Bool) (k : TypeKind) → kind_is_definite k ≡ true → (firm || kind_is_formed k) ≡ true → AreAll (IsNarrow firm) (kind_tags k)
+kind_narrow firm (StandardKind attrs (Some u)) d w t (inl e) =
+    let formed = either_right firm (is_well_formed (TRecord attrs false)) (is_well_formed u) w in
+    let n = definite_kept firm u (not_true (is_vague u) (and_right (not (are_vague attrs)) (not (is_vague u)) d)) formed in
+    subst (IsNarrow firm) (sym e) n
+kind_narrow firm (StandardKind attrs (Some u)) d w t (inr h) = absurd h
+kind_narrow firm (StandardKind attrs None) d w t h = absurd h
+kind_narrow firm (EnumKind ids) d w t h = absurd h
+kind_narrow firm ExternalKind d w t h = absurd h
 
-module _ (s : Schema) (faults : has_fault s ≡ false) where
-  types_narrow : AreAll (λ (d : DeclaredType). AreAll IsNarrow (kind_tags d.kind)) s.types
+module _ (firm : Bool) (s : Schema) (faults : has_fault s ≡ false) (w : (firm || has_formed_types s) ≡ true) where
+  types_narrow : AreAll (λ (d : DeclaredType). AreAll (IsNarrow firm) (kind_tags d.kind)) s.types
   types_narrow d i =
       let definite = and_left (list_all (λ (d : DeclaredType). kind_is_definite d.kind) s.types) _ (faultless s faults).definite in
-      kind_narrow d.kind (all_pass (λ (d : DeclaredType). kind_is_definite d.kind) s.types definite d i)
+      let all_formed = list_all (λ (d : DeclaredType). kind_is_formed d.kind) s.types in
+      kind_narrow firm d.kind (all_pass (λ (d : DeclaredType). kind_is_definite d.kind) s.types definite d i)
+      (either_of firm all_formed (kind_is_formed d.kind) (λ h. all_pass (λ (d : DeclaredType). kind_is_formed d.kind) s.types h d i) (types_are_formed firm s faults w))
 
-  declared_narrow : (p : Path) (o : Option DeclaredType) → type_named s.types p ≡ o → AreAll IsNarrow (declared_tags o)
+  declared_narrow : (p : Path) (o : Option DeclaredType) → type_named s.types p ≡ o → AreAll (IsNarrow firm) (declared_tags o)
   declared_narrow p None e t h = absurd h
   declared_narrow p (Some d) e t h = types_narrow d (found_in (λ d. path_eq p d.name) s.types d e) t h
 
-  tags_narrow : (b : Ty) → AreAll IsNarrow (tag_types s b)
+  pub tags_narrow : (b : Ty) → AreAll (IsNarrow firm) (tag_types s b)
   tags_narrow (TEntity ps) =
-      in_order_all IsNarrow (tags_of_types s.types ps)
-      (all_flat (λ p. declared_tags (type_named s.types p)) IsNarrow ps (λ p i. declared_narrow p (type_named s.types p) refl))
+      in_order_all (IsNarrow firm) (tags_of_types s.types ps)
+      (all_flat (λ p. declared_tags (type_named s.types p)) (IsNarrow firm) ps (λ p i. declared_narrow p (type_named s.types p) refl))
   tags_narrow TAnyEntity =
-      in_order_all IsNarrow (tags_of_any s.types) (all_flat (λ (d : DeclaredType). kind_tags d.kind) IsNarrow s.types types_narrow)
+      in_order_all (IsNarrow firm) (tags_of_any s.types) (all_flat (λ (d : DeclaredType). kind_tags d.kind) (IsNarrow firm) s.types types_narrow)
   tags_narrow b = λ t h. absurd h
 
 -- ---- their bound
 
-pair_narrow : (s t u : Ty) → lub Strict s t ≡ Some u → IsNarrow s → IsNarrow t → IsNarrow u
-pair_narrow s t u e n k = subst HasSingleEntities e (narrow_lub s t n k)
+module _ (firm : Bool) (m : ValidationMode) (strict : is_strict m ≡ firm) where
+  pair_narrow : (s t u : Ty) → lub m s t ≡ Some u → IsNarrow firm s → IsNarrow firm t → IsNarrow firm u
+  pair_narrow s t u e n k = subst (HasKept firm) e (kept_lub firm m strict s t n k)
 
-bound_narrow : (t : Ty) (ts : List Ty) (bound : Option Ty) → list_lub Strict (t ∷ ts) ≡ bound → AreAll IsNarrow (t ∷ ts)
-    → HasSingleEntities bound
-bound_narrow t ts None e n = tt
-bound_narrow t ts (Some u) e n = bound_keeps Strict IsNarrow pair_narrow t u ts e n
+  bound_narrow : (t : Ty) (ts : List Ty) (bound : Option Ty) → list_lub m (t ∷ ts) ≡ bound → AreAll (IsNarrow firm) (t ∷ ts)
+      → HasKept firm bound
+  bound_narrow t ts None e n = tt
+  bound_narrow t ts (Some u) e n = bound_keeps m (IsNarrow firm) pair_narrow t u ts e n
 
 -- ---- `hasTag`
 
-test_narrow : (ts : List Ty) (known : Bool) → IsNarrow (has_tag_type ts known)
-test_narrow [] known = refl
-test_narrow (t ∷ ts) known = pick known (TBool True) (TBool AnyBool) refl refl
+test_narrow : (firm : Bool) (ts : List Ty) (known : Bool) → IsNarrow firm (has_tag_type ts known)
+test_narrow firm [] known = refl
+test_narrow firm (t ∷ ts) known = pick firm known (TBool True) (TBool AnyBool) refl refl
 
-module _ (env : TypeEnv) (m : Written) (prior : Caps) (a b : Source) where
-  test_decided : (s : Ty) → HasSingleEntities (decided_type (has_tag_table env m.place (tag_of a b) (prior (tag_of a b)) (Some s)))
+module _ (firm : Bool) (env : TypeEnv) (m : Written) (prior : Caps) (a b : Source) where
+  test_decided : (s : Ty) → HasKept firm (decided_type (has_tag_table env m.place (tag_of a b) (prior (tag_of a b)) (Some s)))
   test_decided TNever = tt
-  test_decided s = test_narrow (tag_types env.schema s) (prior (tag_of a b))
+  test_decided s = test_narrow firm (tag_types env.schema s) (prior (tag_of a b))
 
-  pub has_tag_single : SingleForm (has_tag_form env m prior a b)
+  pub has_tag_single : SingleForm firm (has_tag_form env m prior a b)
   has_tag_single [] h = tt
   has_tag_single (None ∷ ts) h = tt
   has_tag_single (Some s ∷ ts) h = test_decided s
 
 -- ---- `getTag`
 
-module _ (env : TypeEnv) (strict : env.mode ≡ Strict) (faults : has_fault env.schema ≡ false) (m : Written) (prior : Caps) (a b : Source) where
-  by_bound_narrow : (ts : List Ty) (bound : Option Ty) → HasSingleEntities bound
-      → HasSingleEntities (decided_type (tag_by_bound env m.place ts bound))
+module _ (firm : Bool) (env : TypeEnv) (strict : is_strict env.mode ≡ firm) (faults : has_fault env.schema ≡ false) (formed : (firm || has_formed_types env.schema) ≡ true) (m : Written) (prior : Caps) (a b : Source) where
+  by_bound_narrow : (ts : List Ty) (bound : Option Ty) → HasKept firm bound
+      → HasKept firm (decided_type (tag_by_bound env m.place ts bound))
   by_bound_narrow ts None h = tt
   by_bound_narrow ts (Some u) h = h
 
-  types_decided : (s : Ty) (ts : List Ty) → AreAll IsNarrow ts → HasSingleEntities (decided_type (get_known_tag env m.place s ts))
+  types_decided : (s : Ty) (ts : List Ty) → AreAll (IsNarrow firm) ts → HasKept firm (decided_type (get_known_tag env m.place s ts))
   types_decided s [] n = tt
   types_decided s (t ∷ ts) n =
-      let narrow = bound_narrow t ts (list_lub Strict (t ∷ ts)) refl n in
-      by_bound_narrow (t ∷ ts) (list_lub env.mode (t ∷ ts))
-      (subst (λ y. HasSingleEntities (list_lub y (t ∷ ts))) (sym strict) narrow)
+      by_bound_narrow (t ∷ ts) (list_lub env.mode (t ∷ ts)) (bound_narrow firm env.mode strict t ts (list_lub env.mode (t ∷ ts)) refl n)
 
   known_decided : (known : Bool) (s : Ty) (fs : List Finding)
-      → HasSingleEntities (decided_type (if known then get_known_tag env m.place s (tag_types env.schema s) else refuses None fs))
-  known_decided true s fs = types_decided s (tag_types env.schema s) (tags_narrow env.schema faults s)
+      → HasKept firm (decided_type (if known then get_known_tag env m.place s (tag_types env.schema s) else refuses None fs))
+  known_decided true s fs = types_decided s (tag_types env.schema s) (tags_narrow firm env.schema faults formed s)
   known_decided false s fs = tt
 
-  tag_decided : (s : Ty) → HasSingleEntities (decided_type (get_tag_table env m.place (prior (tag_of a b)) (Some s)))
+  tag_decided : (s : Ty) → HasKept firm (decided_type (get_tag_table env m.place (prior (tag_of a b)) (Some s)))
   tag_decided TNever = tt
   tag_decided s = known_decided (prior (tag_of a b)) s _
 
-  pub get_tag_single : SingleForm (get_tag_form env m prior a b)
+  pub get_tag_single : SingleForm firm (get_tag_form env m prior a b)
   get_tag_single [] h = tt
   get_tag_single (None ∷ ts) h = tt
   get_tag_single (Some s ∷ ts) h = tag_decided s

@@ -2,12 +2,11 @@
 use Rattle.std.proofs.Common.{◌≡◌, Bool, true, false, List, Option, Some, None, option_map, if◌then◌else◌, ◌||◌, refl, sym, ◌∙◌, ap, subst}
 use Rattle.cedar_types.specs.declared.base.location.Loc.{Loc}
 use Rattle.cedar_types.specs.declared.base.types.ValidationMode.{ValidationMode}
-use Rattle.cedar_types.specs.declared.base.types.ValidationMode.TheVariants.{Strict}
 use Rattle.cedar_types.specs.Names.{Path}
 use Rattle.cedar_types.proofs.Comparisons.SameTypes.{ty_to}
 use Rattle.cedar_types.specs.Types.{Attrs, Ty, TNever, TBool, TLong, TString, TSet, TAnySet, TRecord, TEntity, TAnyEntity, TExtension}
 use Rattle.cedar_types.specs.View.{Written}
-use Rattle.cedar_types.specs.Bounds.{is_never, ty_eq, lub, apart_lub, bool_lub, set_lub, any_set_lub, entity_lub, any_entity_lub, record_lub, both_attrs, common_attrs}
+use Rattle.cedar_types.specs.Bounds.{is_strict, is_never, ty_eq, union as union_of_types, closed_lub, wide_lub, lub, apart_lub, bool_lub, set_lub, any_set_lub, entity_lub, any_entity_lub, record_lub, both_attrs, common_attrs}
 use Rattle.cedar_types.specs.Errors.{Finding}
 use Rattle.cedar_typing.specs.Capabilities.{Caps, no_caps, union, intersection}
 use Rattle.cedar_typing.specs.Evaluation.Conformance.{AllHold, SaysTrue}
@@ -19,8 +18,10 @@ use Rattle.cedar_typing.specs.Rules.Conditional.{if_true_recovered, if_false_rec
 use Rattle.cedar_typing.specs.Soundness.{HasFound, IsSafe, IsTrueOutcome}
 use Rattle.cedar_typing.specs.TypeEnv.{TypeEnv}
 use Rattle.cedar_typing.specs.TypedExpr.{TypedTree, annotation}
-use Rattle.cedar_typing.proofs.Bounds.Strict.{lub_right_strict}
+use Rattle.cedar_typing.proofs.Bounds.Kept.{right_kept}
 use Rattle.cedar_typing.proofs.Bounds.Values.{lub_left}
+use Rattle.cedar_typing.proofs.SingleEntity.Rules.{SingleEntities, part_single}
+use Rattle.cedar_typing.proofs.SingleEntity.Types.{HasKept}
 use Rattle.cedar_typing.proofs.Soundness.Capabilities.{hold_either, hold_left, hold_right}
 use Rattle.cedar_typing.proofs.Soundness.Conjunction.{derived_test, true_sort, false_sort}
 use Rattle.cedar_typing.proofs.Soundness.Parts.{IsSureType, Sound, Sounds, IsSure, refused_sound, part_sound}
@@ -94,14 +95,14 @@ left_has m (Some t) (Some u) o h = go (lub m t u) refl o h
     go (Some v) e (Gives x) h = lub_left m t u v e x h
     go (Some v) e (Fails f) h = tt
 
-right_has : (x y : Option Ty) (o : Outcome) → HasFound y o → HasFound (joined Strict x y) o
-right_has None y o h = tt
-right_has (Some t) None o h = tt
-right_has (Some t) (Some u) o h = go (lub Strict t u) refl o h
+right_has : (firm : Bool) (m : ValidationMode) → is_strict m ≡ firm → (x y : Option Ty) → HasKept firm x → HasKept firm y → (o : Outcome) → HasFound y o → HasFound (joined m x y) o
+right_has firm m strict None y n k o h = tt
+right_has firm m strict (Some t) None n k o h = tt
+right_has firm m strict (Some t) (Some u) n k o h = go (lub m t u) refl o h
   where
-    go : (z : Option Ty) → lub Strict t u ≡ z → (o : Outcome) → HasFound (Some u) o → HasFound z o
+    go : (z : Option Ty) → lub m t u ≡ z → (o : Outcome) → HasFound (Some u) o → HasFound z o
     go None e o h = tt
-    go (Some v) e (Gives x) h = lub_right_strict Strict t u v refl e x h
+    go (Some v) e (Gives x) h = right_kept firm m strict t u v n k e x h
     go (Some v) e (Fails f) h = tt
 
 -- a bound that is True or of no value is the right side too
@@ -137,9 +138,14 @@ right_any_set : (u : Ty) → FromRight u (any_set_lub u)
 right_any_set (TSet t) h = absurd h
 right_any_set u h = absurd h
 
-right_entity : (ps : List Path) (u : Ty) → FromRight u (entity_lub Strict ps u)
-right_entity ps TAnyEntity h = absurd h
-right_entity ps u h = absurd h
+right_none : (b : Bool) (x y : Option Ty) (u : Ty) → FromRight u x → FromRight u y → FromRight u (if b then x else y)
+right_none true x y u f g = f
+right_none false x y u f g = g
+
+right_entity : (m : ValidationMode) (ps : List Path) (u : Ty) → FromRight u (entity_lub m ps u)
+right_entity m ps (TEntity qs) = right_none (is_strict m) None (Some (TEntity (union_of_types ps qs))) (TEntity qs) (λ h. absurd h) (λ h. absurd h)
+right_entity m ps TAnyEntity = λ h. absurd h
+right_entity m ps u = λ h. absurd h
 
 right_any_entity : (u : Ty) → FromRight u (any_entity_lub u)
 right_any_entity (TEntity ps) h = absurd h
@@ -150,38 +156,40 @@ right_closed true zs u h = absurd h
 right_closed false None u h = absurd h
 right_closed false (Some zs) u h = absurd h
 
-right_record : (xs : Attrs) (o : Bool) (f : Attrs → Option Attrs) (g : Attrs → Attrs) (u : Ty) → FromRight u (record_lub Strict xs o f g u)
-right_record xs o f g (TRecord ys p) h = right_closed (o || p) (f ys) (TRecord ys p) h
-right_record xs o f g u h = absurd h
+right_record : (m : ValidationMode) (xs : Attrs) (o : Bool) (f : Attrs → Option Attrs) (g : Attrs → Attrs) (u : Ty) → FromRight u (record_lub m xs o f g u)
+right_record m xs o f g (TRecord ys p) =
+    right_none (is_strict m) (closed_lub o p (f ys)) (Some (wide_lub xs o ys p (g ys))) (TRecord ys p) (right_closed (o || p) (f ys) (TRecord ys p)) (λ h. absurd h)
+right_record m xs o f g u = λ h. absurd h
 
-right_apart : (t u : Ty) → FromRight u (apart_lub Strict t u)
-right_apart TNever u h = h
-right_apart (TBool k) u h = right_bool u h
-right_apart TLong u h = absurd h
-right_apart TString u h = absurd h
-right_apart (TSet t) u h = right_sets (lub Strict t) u h
-right_apart TAnySet u h = right_any_set u h
-right_apart (TRecord xs o) u h = right_record xs o (both_attrs Strict xs) (common_attrs Strict xs) u h
-right_apart (TEntity ps) u h = right_entity ps u h
-right_apart TAnyEntity u h = right_any_entity u h
-right_apart (TExtension n) u h = absurd h
+right_apart : (m : ValidationMode) (t u : Ty) → FromRight u (apart_lub m t u)
+right_apart m TNever u h = h
+right_apart m (TBool k) u h = right_bool u h
+right_apart m TLong u h = absurd h
+right_apart m TString u h = absurd h
+right_apart m (TSet t) u h = right_sets (lub m t) u h
+right_apart m TAnySet u h = right_any_set u h
+right_apart m (TRecord xs o) u h = right_record m xs o (both_attrs m xs) (common_attrs m xs) u h
+right_apart m (TEntity ps) u h = right_entity m ps u h
+right_apart m TAnyEntity u h = right_any_entity u h
+right_apart m (TExtension n) u h = absurd h
 
 never_sure : (u : Ty) → is_never u ≡ true → IsSureType u
 never_sure TNever h = tt
 never_sure u h = cc
 
-right_lub : (t u : Ty) → FromRight u (lub Strict t u)
-right_lub t u = right_if u (ty_eq t u) (Some t) _ (λ e h. subst IsSureType (ty_to t u e) h) (right_if u (is_never u) (Some t) (apart_lub Strict t u) (λ e h. never_sure u e) (right_apart t u))
+right_lub : (m : ValidationMode) (t u : Ty) → FromRight u (lub m t u)
+right_lub m t u = right_if u (ty_eq t u) (Some t) _ (λ e h. subst IsSureType (ty_to t u e) h) (right_if u (is_never u) (Some t) (apart_lub m t u) (λ e h. never_sure u e) (right_apart m t u))
 
-right_joined : (x y : Option Ty) → IsSure (joined Strict x y) → IsSure y
-right_joined None y h = absurd h
-right_joined (Some t) None h = absurd h
-right_joined (Some t) (Some u) h = right_lub t u h
+right_joined : (m : ValidationMode) (x y : Option Ty) → IsSure (joined m x y) → IsSure y
+right_joined m None y h = absurd h
+right_joined m (Some t) None h = absurd h
+right_joined m (Some t) (Some u) h = right_lub m t u h
 
 -- ---- the rules
 
-module _ (world : World) (env : TypeEnv) (strict : env.mode ≡ Strict) (m : Written) (l : Option Loc) (o p q : Outcome) (A : Judgment) (B : Caps → Judgment) (E : Judgment) (prior : Caps)
-    (held : AllHold world prior) (test : Sounds world o A) (branch : (p' : Caps) → AllHold world p' → Sounds world p (B p')) (otherwise : Sounds world q E) where
+module _ (firm : Bool) (world : World) (env : TypeEnv) (strict : is_strict env.mode ≡ firm) (m : Written) (l : Option Loc) (o p q : Outcome) (A : Judgment) (B : Caps → Judgment) (E : Judgment) (prior : Caps)
+    (held : AllHold world prior) (test : Sounds world o A) (branch : (p' : Caps) → AllHold world p' → Sounds world p (B p')) (otherwise : Sounds world q E)
+    (branch_kept : (p' : Caps) → SingleEntities firm (B p')) (otherwise_kept : SingleEntities firm E) where
   abbrev choice : Outcome
   choice = choose (test_of o) p q
 
@@ -211,14 +219,15 @@ module _ (world : World) (env : TypeEnv) (strict : env.mode ≡ Strict) (m : Wri
       let h = (derived_test world o s k a (test.derivations _ _ _ d)).test in
       let b = λ (f : SaysTrue (test_of o)). (branch (union prior k) (known k (h.caps_hold_if_true f))).derivations _ _ _ d' in
       let z = otherwise.derivations _ _ _ d'' in
-      let f : joined Strict (Some t') (Some u) ≡ Some t = sym (ap (λ m. lub m t' u) strict) ∙ e in
+      let bk = (branch_kept (union prior k)).derivations _ _ _ d' in
+      let ek = otherwise_kept.derivations _ _ _ d'' in
       let P : Option Ty → Type 0 = λ v. HasFound v choice in
       let Q : Option Ty → Type 0 = λ v. IsSure v → AllHold world (intersection k'' (union k k')) in
       record {
-        typed = subst P f (open_has (joined Strict (Some t') (Some u)) (test_of o) p q (λ i. left_has Strict (Some t') (Some u) p (b i).typed) (right_has (Some t') (Some u) q z.typed));
+        typed = subst P e (open_has (joined env.mode (Some t') (Some u)) (test_of o) p q (λ i. left_has env.mode (Some t') (Some u) p (b i).typed) (right_has firm env.mode strict (Some t') (Some u) bk ek q z.typed));
         safe = λ i. chosen_safe (test_of o) p q (h.safe refl) (λ j. (b j).safe refl) (z.safe refl);
         caps_hold_if_true = λ i. open_taken (test_of o) p q _ (λ j v. hold_right world k'' (union k k') (hold_either world k k' (h.caps_hold_if_true j) ((b j).caps_hold_if_true v))) (λ v. hold_left world k'' (union k k') (z.caps_hold_if_true v)) i;
-        caps_hold_at_true = subst Q f (λ i. hold_left world k'' (union k k') (z.caps_hold_at_true (right_joined (Some t') (Some u) i)));
+        caps_hold_at_true = subst Q e (λ i. hold_left world k'' (union k k') (z.caps_hold_at_true (right_joined env.mode (Some t') (Some u) i)));
       }
 
   if_recovery : (x : TypedTree) (es : List Finding) → (if_rules env m l A B E prior).recovers x es → Sound world choice false (annotation x) no_caps
@@ -238,8 +247,9 @@ module _ (world : World) (env : TypeEnv) (strict : env.mode ≡ Strict) (m : Wri
       let h = tested_operand world o env l A test succeeded k a fs a' in
       let s = λ (f : SaysTrue (test_of o)). part_sound world p (B (union prior k)) (branch (union prior k) (known k (h.caps_hold_if_true f))) succeeded' k' b fs' b' in
       let i = part_sound world q E otherwise succeeded'' k'' z fs'' z' in
-      let P : ValidationMode → Type 0 = λ v. HasFound (joined v (annotation b) (annotation z)) choice in
-      refused_sound world choice _ (subst P (sym strict) (open_has (joined Strict (annotation b) (annotation z)) (test_of o) p q (λ f. left_has Strict (annotation b) (annotation z) p (s f).typed) (right_has (annotation b) (annotation z) q i.typed)))
+      let m' = part_single firm (B (union prior k)) (branch_kept (union prior k)) succeeded' k' b fs' b' in
+      let m'' = part_single firm E otherwise_kept succeeded'' k'' z fs'' z' in
+      refused_sound world choice _ (open_has (joined env.mode (annotation b) (annotation z)) (test_of o) p q (λ f. left_has env.mode (annotation b) (annotation z) p (s f).typed) (right_has firm env.mode strict (annotation b) (annotation z) m' m'' q i.typed))
 
   if_marks : (t : Ty) (c : Caps) (x : TypedTree) → (if_rules env m l A B E prior).derives t c x → annotation x ≡ Some t
   if_marks t c x (if_true d d') = refl

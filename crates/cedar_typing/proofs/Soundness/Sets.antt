@@ -1,7 +1,6 @@
 -- Sets do not go wrong.
-use Rattle.std.proofs.Common.{◌≡◌, inl, inr, Bool, true, false, List, [], ◌∷◌, Option, Some, None, if◌then◌else◌, refl, ap, subst}
+use Rattle.std.proofs.Common.{◌≡◌, inl, inr, Bool, true, false, List, [], ◌∷◌, Option, Some, None, if◌then◌else◌, refl, sym, ap, subst}
 use Rattle.cedar_types.specs.declared.base.types.ValidationMode.{ValidationMode}
-use Rattle.cedar_types.specs.declared.base.types.ValidationMode.TheVariants.{Strict}
 use Rattle.cedar_types.specs.Types.{Ty, TSet}
 use Rattle.cedar_types.specs.Tree.{set_of, Trees, no_trees, tree}
 use Rattle.cedar_types.specs.View.{Written}
@@ -19,9 +18,12 @@ use Rattle.cedar_typing.specs.Soundness.{HasFound, IsAllowed, IsSafe}
 use Rattle.cedar_typing.specs.TypeEnv.{TypeEnv, finding}
 use Rattle.cedar_typing.proofs.Basics.{some_is}
 use Rattle.cedar_typing.proofs.Bounds.Lists.{bound_has}
-use Rattle.cedar_typing.proofs.SingleEntity.Eager.{decided_type}
+use Rattle.cedar_typing.proofs.SingleEntity.Collections.{AreSingle, found_single}
+use Rattle.cedar_typing.proofs.SingleEntity.Eager.{AllSingle, decided_type}
+use Rattle.cedar_typing.proofs.SingleEntity.Types.{is_kept}
+use Rattle.cedar_typing.proofs.Members.{AreAll}
 use Rattle.cedar_typing.proofs.Soundness.Capabilities.{hold_none}
-use Rattle.cedar_typing.proofs.Soundness.Eager.{AllHave, AllSafe, GiftIsSound, SoundForm, SoundsAll, form_sounds}
+use Rattle.cedar_typing.proofs.Soundness.Eager.{AllHave, AllSafe, GiftIsSound, SoundKeptForm, SoundsAll, form_sounds}
 use Rattle.cedar_typing.proofs.Soundness.Parts.{Sounds}
 
 -- ---- the types that were found
@@ -63,8 +65,13 @@ each_has u [] f (o ∷ os) h = absurd h
 each_has u (t ∷ ts) f [] h = absurd h
 each_has u (t ∷ ts) f (o ∷ os) h = (has_also t u (f t (inl refl)) o h.0, each_has u ts (λ s i. f s (inr i)) os h.1)
 
-all_have : (m : ValidationMode) → is_strict m ≡ true → (u : Ty) (ts : List Ty) → list_lub m ts ≡ Some u → (os : List Outcome) → AllTyped ts os → AllOf u os
-all_have m strict u ts e os h = each_has u ts (λ s i v. bound_has m strict v ts u s e i) os h
+each_kept : (firm : Bool) (ts : List Ty) → AreSingle firm ts → AreAll (λ t. is_kept firm t ≡ true) ts
+each_kept firm [] n s i = absurd i
+each_kept firm (t ∷ ts) n s (inl e) = subst (λ z. is_kept firm z ≡ true) (sym e) n.0
+each_kept firm (t ∷ ts) n s (inr i) = each_kept firm ts n.1 s i
+
+all_have : (firm : Bool) (m : ValidationMode) → is_strict m ≡ firm → (u : Ty) (ts : List Ty) → list_lub m ts ≡ Some u → AreSingle firm ts → (os : List Outcome) → AllTyped ts os → AllOf u os
+all_have firm m strict u ts e n os h = each_has u ts (λ s i v. bound_has firm m strict v ts u s e (each_kept firm ts n) i) os h
 
 -- ---- what the elements come to
 
@@ -124,7 +131,7 @@ set_safe (FailAt f) h = h
 
 -- ---- the form
 
-module _ (world : World) (env : TypeEnv) (strict : env.mode ≡ Strict) (m : Written) (os : List Outcome) where
+module _ (firm : Bool) (world : World) (env : TypeEnv) (strict : is_strict env.mode ≡ firm) (m : Written) (os : List Outcome) where
   abbrev whole : Outcome
   whole = set_from (together os)
 
@@ -132,23 +139,23 @@ module _ (world : World) (env : TypeEnv) (strict : env.mode ≡ Strict) (m : Wri
   abbrev without_elements : Bool → Decision
   without_elements b = if b then refuses None (finding env m.place empty_set_forbidden ∷ []) else set_of_types env m.place (Some [])
 
-  bound_typed : (us : List Ty) (bound : Option Ty) → AllTyped us os → list_lub env.mode us ≡ bound
+  bound_typed : (us : List Ty) (bound : Option Ty) → AllTyped us os → AreSingle firm us → list_lub env.mode us ≡ bound
       → HasFound (decided_type (set_by_bound env m.place us bound)) whole
-  bound_typed us (Some u) h e = set_has u (together os) (together_has u os (all_have env.mode (ap is_strict strict) u us e os h))
-  bound_typed us None h e = tt
+  bound_typed us (Some u) h n e = set_has u (together os) (together_has u os (all_have firm env.mode strict u us e n os h))
+  bound_typed us None h n e = tt
 
-  types_typed : (ts : List (Option Ty)) (found : Option (List Ty)) → AllHave ts os → all_types ts ≡ found
+  types_typed : (ts : List (Option Ty)) (found : Option (List Ty)) → AllHave ts os → AllSingle firm ts → all_types ts ≡ found
       → HasFound (decided_type (set_of_types env m.place found)) whole
-  types_typed ts None h e = tt
-  types_typed ts (Some us) h e = bound_typed us (list_lub env.mode us) (found_typed ts us os h e) refl
+  types_typed ts None h n e = tt
+  types_typed ts (Some us) h n e = bound_typed us (list_lub env.mode us) (found_typed ts us os h e) (found_single firm ts us n e) refl
 
   empty_typed : (b : Bool) → AllHave [] os → HasFound (decided_type (without_elements b)) whole
   empty_typed true h = tt
-  empty_typed false h = types_typed [] (Some []) h refl
+  empty_typed false h = types_typed [] (Some []) h tt refl
 
-  decided_typed : (ts : List (Option Ty)) → AllHave ts os → HasFound (decided_type (set_decides env m.place ts)) whole
-  decided_typed [] h = empty_typed (is_strict env.mode) h
-  decided_typed (t ∷ ts) h = types_typed (t ∷ ts) (all_types (t ∷ ts)) h refl
+  decided_typed : (ts : List (Option Ty)) → AllHave ts os → AllSingle firm ts → HasFound (decided_type (set_decides env m.place ts)) whole
+  decided_typed [] h n = empty_typed (is_strict env.mode) h
+  decided_typed (t ∷ ts) h n = types_typed (t ∷ ts) (all_types (t ∷ ts)) h n refl
 
   bound_gift : (us : List Ty) (bound : Option Ty) → GiftIsSound world os whole (set_by_bound env m.place us bound)
   bound_gift us (Some u) = record {
@@ -170,14 +177,14 @@ module _ (world : World) (env : TypeEnv) (strict : env.mode ≡ Strict) (m : Wri
   decided_gift [] = empty_gift (is_strict env.mode)
   decided_gift (t ∷ ts) = types_gift (all_types (t ∷ ts))
 
-  set_sound : SoundForm world (set_form env m) os whole
-  set_sound = record { typed = λ ts a. decided_typed ts a.have; succeeds = λ ts a f. decided_gift ts; failed = λ t h. h }
+  set_sound : SoundKeptForm firm world (set_form env m) os whole
+  set_sound = record { typed = λ ts a n. decided_typed ts a.have n; succeeds = λ ts a n f. decided_gift ts; failed = λ t h. h }
 
 -- ---- evaluation
 
-pub set_sounds : (world : World) (env : TypeEnv) → env.mode ≡ Strict → (m : Written) (ts : Trees Written) (Js : Judgments)
-    → SoundsAll world [] (outcomes world ts) Js → Sounds world (eval world (set_of m ts)) (eager_rules (set_form env m) Js)
-set_sounds world env strict m ts Js operands =
+pub set_sounds : (firm : Bool) (world : World) (env : TypeEnv) → is_strict env.mode ≡ firm → (m : Written) (ts : Trees Written) (Js : Judgments)
+    → SoundsAll firm world [] (outcomes world ts) Js → Sounds world (eval world (set_of m ts)) (eager_rules (set_form env m) Js)
+set_sounds firm world env strict m ts Js operands =
     let os = outcomes world ts in
     subst (λ z. Sounds world (set_from z) (eager_rules (set_form env m) Js)) (evaluated_together world ts)
-    (form_sounds world (set_form env m) (λ k xs. refl) os (set_from (together os)) (set_sound world env strict m os) Js operands)
+    (form_sounds firm world (set_form env m) (λ k xs. refl) os (set_from (together os)) (set_sound firm world env strict m os) Js operands)

@@ -3,8 +3,8 @@ ghost use Rattle.cedar_typing.specs.Composition.{OwnEnvIsChecked, OwnEnvIsChecke
 ghost use Rattle.cedar_typing.specs.Examples.Composition.{EnvironmentsAre, SlotsInTheRestAreNot, OwnEnvMayBeMissing};
 ghost use Rattle.cedar_typing.specs.Examples.NeededPremises.{PremisesAreNeeded};
 ghost use Rattle.cedar_typing.specs.Examples.PolicySoundness.{PolicyPremisesAreMet};
-ghost use Rattle.cedar_typing.specs.PolicySoundness.{PromisesAreKept};
-ghost use Rattle.cedar_typing.specs.Silence.{ConditionIsWellNamed, FailuresHaveErrors, SilentFailureIsCut, PassingIsDerived, PassingPolicyIsDerived};
+ghost use Rattle.cedar_typing.specs.PolicySoundness.{PromisesAreKept, PromisesAreKeptInPermissive};
+ghost use Rattle.cedar_typing.specs.Silence.{ConditionIsWellNamed, FailuresHaveErrors, FailuresHaveErrorsInPermissive, SilentFailureIsCut, PassingIsDerived, PassingPolicyIsDerived};
 
 /// One of the environments that are checked links each slot to its variable's own type, and there the scope's tests of slots
 /// may be true.
@@ -45,6 +45,12 @@ pub fn failures_have_errors()
 /// What is promised of a policy that passes, and of one that is warned to be impossible, follows from what its check comes to.
 pub fn passing_is_safe()
     ensures { PromisesAreKept }
+{}
+
+/// The same in Permissive, and there too what fails without being cut has an error.
+pub fn passing_is_safe_in_permissive()
+    ensures kept { PromisesAreKeptInPermissive }
+    ensures failures { FailuresHaveErrorsInPermissive }
 {}
 
 /// Which environments some templates are checked in, and that what is warned to be impossible may be true where a slot stands

@@ -4,6 +4,7 @@ ghost use Rattle.cedar_typing.specs.Examples.Evaluation.Calls.{PatternExamples, 
 ghost use Rattle.cedar_typing.specs.Examples.Evaluation.Entities.{MembershipExamples, AttributeExamples, TagExamples};
 ghost use Rattle.cedar_typing.specs.Examples.Evaluation.Leaves.{LeafExamples, TestExamples};
 ghost use Rattle.cedar_typing.specs.Examples.Evaluation.Operators.{NumberExamples, EqualityExamples, SetExamples};
+ghost use Rattle.cedar_typing.specs.Examples.Permissive.{PermissivePremisesAreMet, WrongBoundIsRefuted, FormIsNeeded};
 ghost use Rattle.cedar_typing.specs.Examples.Premises.{PremisesAreMet, PremisesCanFail};
 ghost use Rattle.cedar_typing.specs.Examples.Rules.Attributes.{HasTyping, GetTyping};
 ghost use Rattle.cedar_typing.specs.Examples.Rules.Calls.{CallTyping, ArgumentTyping};
@@ -20,7 +21,7 @@ ghost use Rattle.cedar_typing.specs.Examples.Rules.ShortCircuit.{AndTyping, OrTy
 ghost use Rattle.cedar_typing.specs.Examples.Rules.Tags.{HasTagTyping, GetTagTyping};
 ghost use Rattle.cedar_typing.specs.Examples.Rules.Unary.{UnaryTyping};
 ghost use Rattle.cedar_typing.specs.RuleLaws.{TypingIsAFunction, RecoveryIsAFunction, CutIsAFunction, OneOfThreeAtMost, OneOfThreeAtLeast, CutIsByDepth, OneVerdictAtMost, OneVerdictAtLeast, ErrorsInAnyOrder};
-ghost use Rattle.cedar_typing.specs.Soundness.{TypeSoundness};
+ghost use Rattle.cedar_typing.specs.Soundness.{TypeSoundness, TypeSoundnessInPermissive};
 
 /// An expression is derived, recovered and cut in one way at most: with one type, one set of capabilities, one typed expression
 /// and one list of errors.
@@ -48,6 +49,19 @@ pub fn one_verdict()
 /// What has a type does not go wrong: type soundness with capabilities, in Strict.
 pub fn type_soundness()
     ensures { TypeSoundness }
+{}
+
+/// The same in Permissive, where sets of entity types are united and records joined by width.
+pub fn type_soundness_in_permissive()
+    ensures { TypeSoundnessInPermissive }
+{}
+
+/// Its premises hold of some schema, policy, request and store; and a bound of two records that keeps an attribute of one side
+/// alone as required is no bound, nor is one of records in which a name comes twice, which no schema of the program has.
+pub fn permissive_premises_are_met()
+    ensures met { PermissivePremisesAreMet }
+    ensures wrong_bound { WrongBoundIsRefuted }
+    ensures form { FormIsNeeded }
 {}
 
 /// The premises of type soundness hold of some schema, policy, request and store, and five of them fail of other data.

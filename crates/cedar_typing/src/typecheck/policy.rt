@@ -8,7 +8,8 @@ ghost use Rattle.cedar_typing.specs.CheckViews.{schema_by, mode_by, basis_of, ve
 ghost use Rattle.cedar_typing.specs.EnvironmentChecks.{ChecksIn};
 ghost use Rattle.cedar_typing.specs.PolicyCheck.{Verdict};
 ghost use Rattle.cedar_typing.specs.PolicyOutcome.{impossible, PolicyOutcome};
-ghost use Rattle.cedar_typing.specs.PolicySoundness.{PolicyIsSafe, ImpossibleIsNeverTrue};
+ghost use Rattle.cedar_types.specs.declared.base.types.ValidationMode.TheVariants.{Permissive};
+ghost use Rattle.cedar_typing.specs.PolicySoundness.{PolicyIsSafe, ImpossibleIsNeverTrue, PolicyIsSafeIn, ImpossibleIsNeverTrueIn};
 ghost use Rattle.cedar_typing.specs.PolicyViews.{IsTally, TalliesEnvs};
 
 use crate::typecheck::sets::{insert_all, put_all};
@@ -60,6 +61,11 @@ impl<'a, C: ArgumentCheck> Typechecker<'a, C> {
             PolicyIsSafe (basis_of C.refusal self.now) (template_of t.now) answer) }
         ensures never_true { IfOk result (λ answer.
             ImpossibleIsNeverTrue (basis_of C.refusal self.now) (template_of t.now)
+            (map caution_of warnings.old.keys) (map caution_of warnings.new.keys)) }
+        ensures safe_in_permissive { IfOk result (λ answer.
+            PolicyIsSafeIn Permissive (basis_of C.refusal self.now) (template_of t.now) answer) }
+        ensures never_true_in_permissive { IfOk result (λ answer.
+            ImpossibleIsNeverTrueIn Permissive (basis_of C.refusal self.now) (template_of t.now)
             (map caution_of warnings.old.keys) (map caution_of warnings.new.keys)) }
         ensures errors_kept { OnErr result (
             IsPermutation type_errors.old.keys type_errors.new.keys) }

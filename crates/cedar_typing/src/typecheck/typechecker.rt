@@ -5,7 +5,8 @@ ghost use Rattle.cedar_types.specs.Errors.{finding_of};
 ghost use Rattle.cedar_types.specs.Templates.{template_of, condition_of, with_rest};
 ghost use Rattle.cedar_typing.specs.CheckViews.{verdict_of, schema_by, extensions_by, mode_by, setting_for};
 ghost use Rattle.cedar_typing.specs.PolicyCheck.{PolicyChecks, policy_check, part_verdict};
-ghost use Rattle.cedar_typing.specs.SoundPolicyCheck.{IsSoundPolicyCheck};
+ghost use Rattle.cedar_types.specs.declared.base.types.ValidationMode.TheVariants.{Permissive};
+ghost use Rattle.cedar_typing.specs.SoundPolicyCheck.{IsSoundPolicyCheck, IsSoundPolicyCheckIn};
 ghost use Rattle.cedar_typing.specs.SettingViews.{setting_at};
 ghost use Rattle.cedar_typing.specs.Views.{env_at, part_of};
 
@@ -96,6 +97,9 @@ impl<'a, C: ArgumentCheck> Typechecker<'a, C> {
             (condition_of (template_of t.now)) (verdict_of r)) }
         ensures sound { IfOk result (λ r.
             IsSoundPolicyCheck (setting_for C.refusal self.now t.now env.now)
+            (condition_of (template_of t.now)) (verdict_of r)) }
+        ensures sound_in_permissive { IfOk result (λ r.
+            IsSoundPolicyCheckIn Permissive (setting_for C.refusal self.now t.now env.now)
             (condition_of (template_of t.now)) (verdict_of r)) }
     {
         let scope = t.scope_condition(alloc)?;

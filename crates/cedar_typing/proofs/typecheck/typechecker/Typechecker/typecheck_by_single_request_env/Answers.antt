@@ -9,7 +9,7 @@ use Rattle.cedar_typing.specs.PolicyCheck.{Verdict, PolicyChecks}
 use Rattle.cedar_typing.specs.Setting.{Setting}
 use Rattle.cedar_typing.specs.TypedExpr.{Source}
 use Rattle.cedar_typing.proofs.PolicyCheck.{checked}
-use Rattle.cedar_typing.proofs.Soundness.PolicyCheck.{check_sound}
+use Rattle.cedar_typing.proofs.Soundness.PolicyCheck.{check_sound, check_sound_in_permissive}
 use Rattle.cedar_typing.proofs.typecheck.typechecker.Typechecker.typecheck_by_single_request_env.Goals as goal
 
 pub returns : goal.returns
@@ -21,7 +21,11 @@ returns g c =
     let P : Verdict → Type 0 = λ v. PolicyChecks x e v in
     let Q : Source → Type 0 = λ s. PolicyChecks x (with_rest t.place s t.rest) (verdict_of c.in_ok-check.check) in
     let checks = subst Q c.in_ok-scope.ensures (subst P (sym c.in_ok-check.ensures) (checked x e)) in
+    let v = verdict_of c.in_ok-check.check in
+    let schema = c.args.self.now.schema.now in
+    let table = no_fault g.C.ArgumentCheck.refusal c.args.self.now.extensions.now.functions.items c.args.self.now.extensions.now.faultless in
     record {
       exact = checks;
-      sound = check_sound x (condition_of t) (verdict_of c.in_ok-check.check) c.args.self.now.schema.now.faultless (no_fault g.C.ArgumentCheck.refusal c.args.self.now.extensions.now.functions.items c.args.self.now.extensions.now.faultless) checks;
+      sound = check_sound x (condition_of t) v schema.faultless table checks;
+      sound_in_permissive = check_sound_in_permissive x (condition_of t) v schema.faultless schema.formed table checks;
     }

@@ -1,0 +1,21 @@
+-- Schemas whose types are well-formed, as those of every schema of the program are.
+use Rattle.std.specs.Prelude.{Bool, true, false, ◌&&◌, Option, Some, None}
+use Rattle.std.specs.List.{list_all}
+use Rattle.cedar_types.specs.Types.{TRecord, is_well_formed}
+use Rattle.cedar_types.specs.Schemas.{TypeKind, StandardKind, EnumKind, ExternalKind, DeclaredType, Application, DeclaredAction, Schema, tags_pass}
+
+abbrev pub kind_is_formed : TypeKind → Bool
+kind_is_formed (StandardKind attrs tags) =
+    is_well_formed (TRecord attrs false) && tags_pass is_well_formed tags
+kind_is_formed (EnumKind ids) = true
+kind_is_formed ExternalKind = true
+
+abbrev pub application_is_formed : Option Application → Bool
+application_is_formed None = true
+application_is_formed (Some a) = is_well_formed a.context
+
+-- in attributes, tags and contexts, at every depth, names ascend, each once, and an entity set has a member
+abbrev pub has_formed_types : Schema → Bool
+has_formed_types s =
+    list_all (λ (t : DeclaredType). kind_is_formed t.kind) s.types
+    && list_all (λ (a : DeclaredAction). application_is_formed a.applies_to) s.actions
