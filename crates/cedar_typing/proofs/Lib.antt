@@ -27,7 +27,7 @@ pub mod RuleLaws
 pub mod Verdicts
 pub mod Values
 pub mod Bounds
-pub mod SingleEntity
+pub mod KeptTypes
 pub mod Soundness
 pub mod Composition
 pub mod Silence

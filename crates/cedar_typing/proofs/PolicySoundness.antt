@@ -83,8 +83,8 @@ irrelevant_too u v (same_failure p) h = cc
 
 -- ---- the promises
 
-module _ (firm : Bool) (b : Basis) (t : PlainTemplate) (schema : has_fault b.schema ≡ false) (formed : (firm || has_formed_types b.schema) ≡ true) (functions : table_fault b.table.functions ≡ None)
-    (strict : is_strict b.mode ≡ firm) (total : is_partial b.mode ≡ false) (closed : has_external b.schema ≡ false) where
+module _ (strictly : Bool) (b : Basis) (t : PlainTemplate) (schema : has_fault b.schema ≡ false) (formed : (strictly || has_formed_types b.schema) ≡ true) (functions : table_fault b.table.functions ≡ None)
+    (strict : is_strict b.mode ≡ strictly) (total : is_partial b.mode ≡ false) (closed : has_external b.schema ≡ false) where
   -- the setting, whose environment does not matter
   abbrev s : Setting
   s = setting_on b t.id Undeclared
@@ -92,7 +92,7 @@ module _ (firm : Bool) (b : Basis) (t : PlainTemplate) (schema : has_fault b.sch
   abbrev Checks : Env → Verdict → Type 0
   Checks env = PolicyChecks (in_env s env) (condition_of t)
 
-  sure : Sure firm s
+  sure : Sure strictly s
   sure = record { strict = strict; total = total; formed = formed; schema = schema; functions = functions; closed = closed }
 
   -- what passes in the own environment is kept in any world of the request
@@ -105,8 +105,8 @@ module _ (firm : Bool) (b : Basis) (t : PlainTemplate) (schema : has_fault b.sch
       by (d, one, fits) =
           let own : Setting = in_env s (own_env t d) in
           let known = derived (own_env t d) (own_env_is_checked b.schema b.mode t w.slots_in_scope d one) in
-          own_kept firm s t sure d one world fits i.store i.functions w.slots_in_scope w.bound
-          (derived_outcome own (condition_of t) (own_world world) (own_sounds firm s t sure d one world fits i.store i.functions) known.0 known.2)
+          own_kept strictly s t sure d one world fits i.store i.functions w.slots_in_scope w.bound
+          (derived_outcome own (condition_of t) (own_world world) (own_sounds strictly s t sure d one world fits i.store i.functions) known.0 known.2)
 
   irrelevant_in_all : (listed : List Env) (vs : List Verdict) → IsPermutation listed (checked_envs b.schema b.mode t) → VerdictsOf Checks listed vs → all_irrelevant vs ≡ true → IsIrrelevantInAll s t
   irrelevant_in_all listed vs p c h env one v k =
@@ -118,11 +118,11 @@ module _ (firm : Bool) (b : Basis) (t : PlainTemplate) (schema : has_fault b.sch
     safe_in h n world w i =
         let P : Bool → Type 0 = λ x. CheckedOn b t x errors errors' old new in
         let names : IsWellNamedTemplate b.schema t = record { unknowns = w.no_unknowns; types = n.types; actions = n.actions } in
-        safe_if_derived world w i (passing_derived_in firm s t strict total formed schema functions names errors errors' old new (subst P h o))
+        safe_if_derived world w i (passing_derived_in strictly s t strict total formed schema functions names errors errors' old new (subst P h o))
 
     never_in : (IsOneOf (impossible t) old → ⊥) → IsOneOf (impossible t) new → SlotsInScopeAlone t → (world : World) → IsConforming b world → IsTrueOutcome (eval world (condition_of t)) → ⊥
     never_in absent there alone world i =
-        never_true_in firm s t sure alone
+        never_true_in strictly s t sure alone
         (irrelevant_in_all o.listed o.verdicts o.in_some_order o.checked (due t o.verdicts old new o.warnings_added absent there))
         world i.request i.store i.functions
 

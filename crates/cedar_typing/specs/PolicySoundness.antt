@@ -32,10 +32,13 @@ pub record Basis : Type 0 where
 
 -- ---- the premises
 
--- of the checker: it is Strict, and nothing of its schema is external
-pub record IsStrictAndClosed (b : Basis) : Type 0 where
-  pub mode : b.mode ≡ Strict
+-- of the checker: it is in the given mode, and nothing of its schema is external
+pub record IsClosedIn (m : ValidationMode) (b : Basis) : Type 0 where
+  pub mode : b.mode ≡ m
   pub closed : has_external b.schema ≡ false
+
+abbrev pub IsStrictAndClosed : Basis → Type 0
+IsStrictAndClosed = IsClosedIn Strict
 
 -- of the names in the policy: the passes over types and over actions find none that the schema does
 -- not have
@@ -57,44 +60,33 @@ pub record IsConforming (b : Basis) (world : World) : Type 0 where
   pub store : ConformingStore b.schema world.store
   pub functions : KeepsTable b.table world.functions
 
--- ---- the promises
+-- ---- the promises, in a mode
 
 -- where the policy passes, its condition evaluates to a boolean, or fails only for a missing entity, an
 -- overflow or an extension call
-abbrev pub PolicyIsSafe : Basis → PlainTemplate → Bool → Type 0
-PolicyIsSafe b t passes =
-    passes ≡ true → IsStrictAndClosed b → IsNamedBySchema b.schema t
-    → (world : World) → IsWellFormed t world.slots → IsConforming b world
-    → IsBooleanOrAllowed (eval world (condition_of t))
-
--- where the warning that it is impossible is new among the warnings, its condition is never true,
--- whether or not its slots are bound
-abbrev pub ImpossibleIsNeverTrue : Basis → PlainTemplate → List Caution → List Caution → Type 0
-ImpossibleIsNeverTrue b t old new =
-    (IsOneOf (impossible t) old → ⊥) → IsOneOf (impossible t) new
-    → IsStrictAndClosed b → SlotsInScopeAlone t
-    → (world : World) → IsConforming b world
-    → IsTrueOutcome (eval world (condition_of t)) → ⊥
-
--- ---- the same in another mode
-
--- of the checker: it is in that mode, and nothing of its schema is external
-pub record IsClosedIn (m : ValidationMode) (b : Basis) : Type 0 where
-  pub mode : b.mode ≡ m
-  pub closed : has_external b.schema ≡ false
-
 abbrev pub PolicyIsSafeIn : ValidationMode → Basis → PlainTemplate → Bool → Type 0
 PolicyIsSafeIn m b t passes =
     passes ≡ true → IsClosedIn m b → IsNamedBySchema b.schema t
     → (world : World) → IsWellFormed t world.slots → IsConforming b world
     → IsBooleanOrAllowed (eval world (condition_of t))
 
-abbrev pub ImpossibleIsNeverTrueIn : ValidationMode → Basis → PlainTemplate → List Caution → List Caution → Type 0
+-- where the warning that it is impossible is new among the warnings, its condition is never true,
+-- whether or not its slots are bound
+abbrev pub ImpossibleIsNeverTrueIn : ValidationMode → Basis → PlainTemplate
+    → List Caution → List Caution → Type 0
 ImpossibleIsNeverTrueIn m b t old new =
     (IsOneOf (impossible t) old → ⊥) → IsOneOf (impossible t) new
     → IsClosedIn m b → SlotsInScopeAlone t
     → (world : World) → IsConforming b world
     → IsTrueOutcome (eval world (condition_of t)) → ⊥
+
+-- ---- in Strict
+
+abbrev pub PolicyIsSafe : Basis → PlainTemplate → Bool → Type 0
+PolicyIsSafe = PolicyIsSafeIn Strict
+
+abbrev pub ImpossibleIsNeverTrue : Basis → PlainTemplate → List Caution → List Caution → Type 0
+ImpossibleIsNeverTrue = ImpossibleIsNeverTrueIn Strict
 
 -- ---- where they come from
 
@@ -119,10 +111,13 @@ CheckedOn b t =
     (checked_envs b.schema b.mode t) t
 
 -- both promises
-pub record AreBothKept (b : Basis) (t : PlainTemplate) (passes : Bool)
+pub record AreBothKeptIn (m : ValidationMode) (b : Basis) (t : PlainTemplate) (passes : Bool)
     (old new : List Caution) : Type 0 where
-  pub safe : PolicyIsSafe b t passes
-  pub never_true : ImpossibleIsNeverTrue b t old new
+  pub safe : PolicyIsSafeIn m b t passes
+  pub never_true : ImpossibleIsNeverTrueIn m b t old new
+
+abbrev pub AreBothKept : Basis → PlainTemplate → Bool → List Caution → List Caution → Type 0
+AreBothKept = AreBothKeptIn Strict
 
 -- by a schema and a table without faults, as all are that the program makes, both follow from that
 -- alone
@@ -133,13 +128,7 @@ PromisesAreKept =
     → (passes : Bool) (errors errors' : List Finding) (old new : List Caution)
     → CheckedOn b t passes errors errors' old new → AreBothKept b t passes old new
 
--- both promises in a mode
-pub record AreBothKeptIn (m : ValidationMode) (b : Basis) (t : PlainTemplate) (passes : Bool)
-    (old new : List Caution) : Type 0 where
-  pub safe : PolicyIsSafeIn m b t passes
-  pub never_true : ImpossibleIsNeverTrueIn m b t old new
-
--- in Permissive, where the types of the schema are formed as those of the program are
+-- in Permissive, where names also ascend in the types of the schema, as in every schema of the program
 abbrev pub PromisesAreKeptInPermissive : Type 0
 PromisesAreKeptInPermissive =
     (b : Basis) (t : PlainTemplate)

@@ -1,8 +1,9 @@
--- Silence: in Strict, what fails without being cut has at least one error, where nothing is unknown. So
--- what passes is derived.
+-- Silence: in Strict and in Permissive, what fails without being cut has at least one error, where nothing
+-- is unknown. So what passes is derived.
 use Rattle.std.specs.Prelude.{◌≡◌, ℕ, Bool, true, false, List, [], None}
 use Rattle.std.specs.List.{list_any, flat_map}
 use Rattle.cedar_types.specs.declared.base.types.BoolType.TheVariants.{False}
+use Rattle.cedar_types.specs.declared.base.types.ValidationMode.{ValidationMode}
 use Rattle.cedar_types.specs.declared.base.types.ValidationMode.TheVariants.{Strict, Permissive}
 use Rattle.cedar_types.specs.Errors.{Finding, Caution}
 use Rattle.cedar_types.specs.ExtensionFunctions.{table_fault}
@@ -67,16 +68,22 @@ ConditionIsWellNamed =
 
 -- ---- what fails has an error
 
--- Strict, by a schema and a table without faults
-pub record IsStrictWithoutFaults (s : Setting) : Type 0 where
-  pub mode : s.env.mode ≡ Strict
+-- in the given mode, by a schema and a table without faults
+pub record IsWithoutFaultsIn (m : ValidationMode) (s : Setting) : Type 0 where
+  pub mode : s.env.mode ≡ m
   pub schema : has_fault s.env.schema ≡ false
   pub functions : table_fault s.functions ≡ None
 
+abbrev pub IsStrictWithoutFaults : Setting → Type 0
+IsStrictWithoutFaults = IsWithoutFaultsIn Strict
+
 -- there, in an environment of the schema, linked in any way
-pub record IsSettled (s : Setting) : Type 0 where
-  pub faultless : IsStrictWithoutFaults s
+pub record IsSettledIn (m : ValidationMode) (s : Setting) : Type 0 where
+  pub faultless : IsWithoutFaultsIn m s
   pub environment : IsEnvironmentOf s.env.schema s.env.request_env
+
+abbrev pub IsSettled : Setting → Type 0
+IsSettled = IsSettledIn Strict
 
 -- an expression that fails has an error, whatever is known and at any depth. One that is cut need have
 -- none: `Cuts` is no failure of this kind
@@ -86,20 +93,12 @@ FailuresHaveErrors =
     → (prior : Caps) (d : ℕ) (x : TypedTree) (es : List Finding)
     → Recovers s e prior d x es → is_silent es ≡ false
 
--- the same in Permissive, by a schema whose types are formed as those of the program are
-pub record IsPermissiveWithoutFaults (s : Setting) : Type 0 where
-  pub mode : s.env.mode ≡ Permissive
-  pub schema : has_fault s.env.schema ≡ false
-  pub formed : has_formed_types s.env.schema ≡ true
-  pub functions : table_fault s.functions ≡ None
-
-pub record IsSettledInPermissive (s : Setting) : Type 0 where
-  pub faultless : IsPermissiveWithoutFaults s
-  pub environment : IsEnvironmentOf s.env.schema s.env.request_env
-
+-- the same in Permissive, by a schema in whose types names ascend, as they do in every schema of the
+-- program
 abbrev pub FailuresHaveErrorsInPermissive : Type 0
 FailuresHaveErrorsInPermissive =
-    (s : Setting) → IsSettledInPermissive s → (e : Source) → IsWellNamed s.env.schema e
+    (s : Setting) → IsSettledIn Permissive s → has_formed_types s.env.schema ≡ true
+    → (e : Source) → IsWellNamed s.env.schema e
     → (prior : Caps) (d : ℕ) (x : TypedTree) (es : List Finding)
     → Recovers s e prior d x es → is_silent es ≡ false
 

@@ -75,18 +75,15 @@ pub record IsWorldOf (s : Setting) (world : World) : Type 0 where
   pub store : ConformingStore s.env.schema world.store
   pub functions : KeepsTable (table s) world.functions
 
--- typing by this setting promises something of evaluation: in Strict, by a schema without external declarations, in one
--- of its environments
-pub record IsReliable (s : Setting) : Type 0 where
-  pub mode : s.env.mode ≡ Strict
-  pub closed : has_external s.env.schema ≡ false
-  pub environment : IsEnvironmentOf s.env.schema s.env.request_env
-
--- the same in a given mode
+-- typing by this setting promises something of evaluation: in the given mode, by a schema without external declarations,
+-- in one of its environments
 pub record IsReliableIn (m : ValidationMode) (s : Setting) : Type 0 where
   pub mode : s.env.mode ≡ m
   pub closed : has_external s.env.schema ≡ false
   pub environment : IsEnvironmentOf s.env.schema s.env.request_env
+
+abbrev pub IsReliable : Setting → Type 0
+IsReliable = IsReliableIn Strict
 
 -- what has a type does not go wrong, by a schema and a table without faults
 abbrev pub TypeSoundness : Type 0
@@ -98,7 +95,8 @@ TypeSoundness =
     → (prior : Caps) (d : ℕ) → AllHold world prior
     → IsSoundAt s world e prior d
 
--- the same in Permissive, by a schema whose types are formed as those of the program are
+-- the same in Permissive, which joins records by width: by a schema in whose types names ascend, as they do in every schema
+-- of the program
 abbrev pub TypeSoundnessInPermissive : Type 0
 TypeSoundnessInPermissive =
     (s : Setting) (world : World)

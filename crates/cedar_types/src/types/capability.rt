@@ -1,5 +1,5 @@
 //! Capabilities: what is known to be there.
-ghost use Rattle.std.specs.Prelude.{◌≡◌, IfOk, OnOk};
+ghost use Rattle.std.specs.Prelude.{◌≡◌, IfOk, OnOk, OnErr};
 ghost use Rattle.cedar_types.specs.Names.{text_of};
 ghost use Rattle.cedar_types.specs.View.{shape};
 ghost use Rattle.cedar_types.specs.Capability.{attribute, tag, cap_of, known_of, caps, HasNone, HasJust, AddsJust, IsUnionOf, IsIntersectionOf, IsSame};
@@ -117,9 +117,10 @@ impl<'a> CapabilitySet<'a> {
         self.set.contains(c)
     }
 
-    /// Adds a capability.
+    /// Adds a capability. Where memory is refused, the answer is an `AllocError`, and the set is as it was.
     pub fn insert(&mut self, c: Capability<'a>) -> Result<(), AllocError>
-        ensures { OnOk result (AddsJust (cap_of c.entry) (caps self.old) (caps self.new)) }
+        ensures added { OnOk result (AddsJust (cap_of c.entry) (caps self.old) (caps self.new)) }
+        ensures kept { OnErr result (IsSame (caps self.old) (caps self.new)) }
     {
         self.set.insert(c)?;
         Ok(())

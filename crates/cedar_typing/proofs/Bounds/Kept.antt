@@ -6,10 +6,10 @@ use Rattle.cedar_types.specs.Bounds.{is_strict, lub}
 use Rattle.cedar_types.specs.Values.{Value, HasType}
 use Rattle.cedar_typing.proofs.Bounds.Strict.{lub_right_strict}
 use Rattle.cedar_typing.proofs.Bounds.Values.{lub_right}
-use Rattle.cedar_typing.proofs.SingleEntity.Types.{is_kept, kept_formed}
+use Rattle.cedar_typing.proofs.KeptTypes.Types.{is_kept, kept_formed}
 
 -- of the right one: in Strict of any types, else of well-formed ones
-pub right_kept : (firm : Bool) (m : ValidationMode) → is_strict m ≡ firm → (s t u : Ty) → is_kept firm s ≡ true → is_kept firm t ≡ true
+pub right_kept : (strictly : Bool) (m : ValidationMode) → is_strict m ≡ strictly → (s t u : Ty) → is_kept strictly s ≡ true → is_kept strictly t ≡ true
     → lub m s t ≡ Some u → (v : Value) → HasType t v → HasType u v
 right_kept true m strict s t u n k e v h = lub_right_strict m s t u strict e v h
 right_kept false m strict s t u n k e v h = lub_right m s t u (kept_formed s n) (kept_formed t k) e v h

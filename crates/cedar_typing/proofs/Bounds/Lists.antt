@@ -19,7 +19,7 @@ use Rattle.cedar_typing.proofs.Basics.{some_is}
 use Rattle.cedar_typing.proofs.Bounds.Kept.{right_kept}
 use Rattle.cedar_typing.proofs.Bounds.Values.{lub_left}
 use Rattle.cedar_typing.proofs.Members.{AreAll}
-use Rattle.cedar_typing.proofs.SingleEntity.Types.{is_kept, HasKept, kept_lub}
+use Rattle.cedar_typing.proofs.KeptTypes.Types.{is_kept, HasKept, kept_lub}
 
 -- ---- types that compare equal are the same
 
@@ -167,23 +167,23 @@ module _ (m : ValidationMode) (P : Ty → Type 0) (kept : (s t u : Ty) → lub m
   pub bound_keeps : (t u : Ty) (ts : List Ty) → list_lub m (t ∷ ts) ≡ Some u → AreAll P (t ∷ ts) → P u
   bound_keeps t u ts e f = folded_keeps t u ts e (f t (inl refl)) (λ s h. f s (inr h))
 
-module _ (firm : Bool) (m : ValidationMode) (strict : is_strict m ≡ firm) (v : Value) where
+module _ (strictly : Bool) (m : ValidationMode) (strict : is_strict m ≡ strictly) (v : Value) where
   first_under : (t u : Ty) (ts : List Ty) → fold_lub m t ts ≡ Some u → HasType t v → HasType u v
   first_under t u [] e h = subst (λ z. HasType z v) (some_is e) h
   first_under t u (s ∷ ts) e h =
       went_on (lub m t s) u (HasType u v) (λ z. fold_lub m z ts) (λ z b k. first_under z u ts k (lub_left m t s z b v h)) e
 
   abbrev Kept : Ty → Type 0
-  Kept t = is_kept firm t ≡ true
+  Kept t = is_kept strictly t ≡ true
 
   bound_kept : (s t u : Ty) → lub m s t ≡ Some u → Kept s → Kept t → Kept u
-  bound_kept s t u e n k = subst (HasKept firm) e (kept_lub firm m strict s t n k)
+  bound_kept s t u e n k = subst (HasKept strictly) e (kept_lub strictly m strict s t n k)
 
   other_under : (t u s : Ty) (ts : List Ty) → fold_lub m t ts ≡ Some u → Kept t → AreAll Kept ts → IsOneOf s ts → HasType s v → HasType u v
   other_under t u s [] e n f i h = absurd i
   other_under t u s (r ∷ ts) e n f (inl q) h =
       let k = subst (λ z. HasType z v) q h in
-      went_on (lub m t r) u (HasType u v) (λ z. fold_lub m z ts) (λ z b g. first_under z u ts g (right_kept firm m strict t r z n (f r (inl refl)) b v k)) e
+      went_on (lub m t r) u (HasType u v) (λ z. fold_lub m z ts) (λ z b g. first_under z u ts g (right_kept strictly m strict t r z n (f r (inl refl)) b v k)) e
   other_under t u s (r ∷ ts) e n f (inr i) h =
       went_on (lub m t r) u (HasType u v) (λ z. fold_lub m z ts) (λ z b g. other_under z u s ts g (bound_kept t r z b n (f r (inl refl))) (λ x j. f x (inr j)) i h) e
 

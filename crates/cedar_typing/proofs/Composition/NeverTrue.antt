@@ -60,10 +60,10 @@ own_fits true own u e = e
 own_fits false own u e = tt
 
 -- what is asked of a setting: not Partial, without faults, nothing external, and in Permissive the types of the schema are formed
-pub record Sure (firm : Bool) (s : Setting) : Type 0 where
-  pub strict : is_strict s.env.mode ≡ firm
+pub record Sure (strictly : Bool) (s : Setting) : Type 0 where
+  pub strict : is_strict s.env.mode ≡ strictly
   pub total : is_partial s.env.mode ≡ false
-  pub formed : (firm || has_formed_types s.env.schema) ≡ true
+  pub formed : (strictly || has_formed_types s.env.schema) ≡ true
   pub schema : has_fault s.env.schema ≡ false
   pub functions : table_fault s.functions ≡ None
   pub closed : has_external s.env.schema ≡ false
@@ -78,7 +78,7 @@ sure_in_strict s f = record {
   closed = f.closed;
 }
 
-module _ (firm : Bool) (s : Setting) (t : PlainTemplate) (f : Sure firm s) (d : DeclaredEnv) (one : IsOneOf d (environments_of s.env.schema.actions))
+module _ (strictly : Bool) (s : Setting) (t : PlainTemplate) (f : Sure strictly s) (d : DeclaredEnv) (one : IsOneOf d (environments_of s.env.schema.actions))
     (world : World) (fits : FitsRequest d world.request) (store : ConformingStore s.env.schema world.store) (keeps : KeepsTable (table s) world.functions) where
   both_bound : (x : SlotId) → IsBound (own_slots world.request x)
   both_bound SlotId.Principal = tt
@@ -98,7 +98,7 @@ module _ (firm : Bool) (s : Setting) (t : PlainTemplate) (f : Sure firm s) (d : 
   -- typing there can be relied on
   pub own_sounds : Sounds (own_world world) (eval (own_world world) (condition_of t)) (rules (in_env s (own_env t d)) (condition_of t) no_caps 1)
   own_sounds =
-      sounds firm (in_env s (own_env t d)) (own_world world) f.strict f.total f.formed f.schema f.functions f.closed one own_is_world.environment store keeps (condition_of t) own_bound no_caps 1 (hold_none (own_world world))
+      sounds strictly (in_env s (own_env t d)) (own_world world) f.strict f.total f.formed f.schema f.functions f.closed one own_is_world.environment store keeps (condition_of t) own_bound no_caps 1 (hold_none (own_world world))
 
   -- what the check promises there
   own_promise : (v : Verdict) → PolicyChecks (in_env s (own_env t d)) (condition_of t) v → Promises v (eval (own_world world) (condition_of t))
@@ -116,14 +116,14 @@ module _ (firm : Bool) (s : Setting) (t : PlainTemplate) (f : Sure firm s) (d : 
   own_kept h b =
       kept_most (eval world (condition_of t)) (eval (own_world world) (condition_of t)) (condition_most ⊥ world t h (λ n. n b))
 
-pub never_true_in : (firm : Bool) (s : Setting) (t : PlainTemplate) → Sure firm s → SlotsInScopeAlone t → IsIrrelevantInAll s t
+pub never_true_in : (strictly : Bool) (s : Setting) (t : PlainTemplate) → Sure strictly s → SlotsInScopeAlone t → IsIrrelevantInAll s t
     → (world : World) → ConformingRequest s.env.schema world.request → ConformingStore s.env.schema world.store → KeepsTable (table s) world.functions
     → IsTrueOutcome (eval world (condition_of t)) → ⊥
-never_true_in firm s t f h all world (d, one, fits) store keeps k =
+never_true_in strictly s t f h all world (d, one, fits) store keeps k =
     let own : Setting = in_env s (own_env t d) in
     let c : PolicyChecks own (condition_of t) (policy_check own (condition_of t)) = checked own (condition_of t) in
     let v : Verdict = policy_check own (condition_of t) in
-    own_never firm s t f d one world fits store keeps h v (all (own_env t d) (own_env_is_checked s.env.schema s.env.mode t h d one) v c) c k
+    own_never strictly s t f d one world fits store keeps h v (all (own_env t d) (own_env_is_checked s.env.schema s.env.mode t h d one) v c) c k
 
 pub never_true : NeverTrue
 never_true s t f h all world r store keeps k = never_true_in true s t (sure_in_strict s f) h all world r store keeps k

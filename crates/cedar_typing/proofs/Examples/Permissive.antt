@@ -1,30 +1,75 @@
--- In Permissive the premises of type soundness hold for the world of the examples, and a bound of records that keeps an attribute of
--- one side alone as required is no bound.
-use Rattle.std.proofs.Common.{◌≡◌, inl, true, false, refl}
-use Rattle.std.specs.Prelude.{codes}
-use Rattle.cedar_types.specs.declared.base.types.ValidationMode.TheVariants.{Permissive}
-use Rattle.cedar_types.specs.Capability.{attribute}
-use Rattle.cedar_typing.specs.Examples.Expressions.{principal}
-use Rattle.cedar_typing.specs.Examples.Greeting.{greeting}
-use Rattle.cedar_typing.specs.Examples.Permissive.{PermissivePremisesAreMet, WrongBoundIsRefuted, FormIsNeeded}
-use Rattle.cedar_typing.specs.Examples.Premises.{guarded_condition}
-use Rattle.cedar_typing.specs.Examples.World.{sample}
-use Rattle.cedar_typing.proofs.Examples.World.{greeting_conforms}
-use Rattle.cedar_typing.proofs.PolicyCheck.{checked}
-use Rattle.cedar_typing.proofs.Soundness.Capabilities.{hold_just}
+-- In Permissive all premises hold together, a bound of records that keeps an attribute of one side alone as required is none, and that
+-- names ascend is needed.
+use Rattle.std.proofs.Common.{◌≡◌, inl, Bool, true, false, ◌&&◌, ◌||◌, Some, refl, sym, subst}
+use Rattle.cedar_types.specs.Lemmas.Comparisons.{uid_same}
+use Rattle.cedar_types.specs.Names.{Uid, uid_eq}
+use Rattle.cedar_types.specs.Schemas.{Schema, type_named, declares_action}
+use Rattle.cedar_types.specs.Stores.{Entity, Store, entity_at, FitsDeclaration, ConformingStore}
+use Rattle.cedar_types.specs.Templates.{condition_of}
+use Rattle.cedar_typing.specs.Examples.Permissive.{join, team_schema, team_store, owners, twice_schema, twice_greeting, has_b_goes_wrong, PermissivePremisesAreMet, WrongBoundIsRefuted, FormIsNeeded}
+use Rattle.cedar_typing.specs.Examples.PolicySoundness.{meeting_slots}
+use Rattle.cedar_typing.specs.Examples.World.{greet}
+use Rattle.cedar_typing.proofs.Composition.Slots.{slots_bound}
+use Rattle.cedar_typing.proofs.Examples.PolicySoundness.{passing, formed, both_bound}
+use Rattle.cedar_typing.proofs.Examples.World.{AllEntities, all_found, none_among, only_one, greeting_conforms}
+
+-- ---- stores of a schema with one action, which has no ancestors
+
+module _ (s : Schema) (u : Uid) (one : (v : Uid) → declares_action s.actions v ≡ (uid_eq v u || false)) (store : Store) where
+  abbrev Fitting : Uid → Entity → Type 0
+  Fitting v e = FitsDeclaration s v (type_named s.types v.entity_type) e
+
+  abbrev IsStored : Uid → Type 0
+  IsStored v = (e : Entity) × (entity_at store v ≡ Some e)
+
+  conforms : AllEntities Fitting store → IsStored u → ConformingStore s store
+  conforms fitting there = record {
+    entities = λ v e h. all_found Fitting store fitting v e h;
+    actions = λ v h. subst IsStored (sym (uid_same.to v u (only_one (uid_eq v u) (subst (λ b. b ≡ true) (one v) h)))) there;
+  }
+
+no_ancestors : (a : Bool) → false ≡ ((a && false) || false)
+no_ancestors true = refl
+no_ancestors false = refl
+
+-- ---- all premises hold
+
+team_conforms : ConformingStore team_schema team_store
+team_conforms =
+    conforms team_schema join (λ v. refl) team_store (
+      record { attributes = ((tt, (refl, (refl, tt))), (refl, (refl, tt))); tagged = (tt, tt); ancestors = λ v h. none_among h },
+      (
+        record { attributes = ((tt, (refl, (refl, tt))), (refl, (refl, tt))); tagged = tt; ancestors = λ v h. none_among h },
+        ((refl, record { attributes = refl; ancestors = λ v. no_ancestors (uid_eq v join); tags = refl }), tt),
+      ),
+    )
+    (_, refl)
 
 pub permissive_premises : PermissivePremisesAreMet
 permissive_premises = record {
   faultless = refl;
   formed = refl;
-  faultless_functions = refl;
   reliable = record { mode = refl; closed = refl; environment = inl refl };
-  world = record { environment = greeting_conforms.environment; store = greeting_conforms.store; functions = greeting_conforms.functions };
-  bound = (((tt, tt), tt), (tt, ((tt, (tt, ((tt, tt), ((tt, tt), tt)))), tt), tt));
-  held = hold_just greeting (attribute principal (codes "vip")) refl;
-  checks = (_, checked (sample Permissive) guarded_condition);
+  world = record {
+    environment = (record { principal = refl; action = refl; resource = refl; context = (tt, tt) }, tt, tt);
+    store = team_conforms;
+    functions = greeting_conforms.functions;
+  };
+  bound = slots_bound meeting_slots both_bound (condition_of owners);
+  passes = passing _ _ _ refl refl refl;
+  basis = record { mode = refl; closed = refl };
+  named = record { types = refl; actions = refl };
+  well_formed = formed owners refl (λ x. refl);
+  conforming = record {
+    request = (_, inl refl, record { principal = refl; action = refl; resource = refl; context = (tt, tt) });
+    store = team_conforms;
+    functions = greeting_conforms.functions;
+  };
   evaluates = refl;
+  strict_refuses = refl;
 }
+
+-- ---- a wrong bound
 
 no_value : false ≡ true → ⊥
 no_value h = cc
@@ -32,9 +77,38 @@ no_value h = cc
 pub wrong_bound_refuted : WrongBoundIsRefuted
 wrong_bound_refuted = record { has = (tt, tt); lacks = λ h. no_value h.0.0 }
 
+-- ---- names that do not ascend
+
+twice_conforms : ConformingStore twice_schema twice_greeting.store
+twice_conforms =
+    conforms twice_schema greet (λ v. refl) twice_greeting.store
+    ((refl, record { attributes = refl; ancestors = λ v. no_ancestors (uid_eq v greet); tags = refl }), tt) (_, refl)
+
 pub form_is_needed : FormIsNeeded
 form_is_needed = record {
-  bound = refl;
-  has = ((tt, (tt, tt)), (refl, (refl, tt)));
-  lacks = λ h. no_value h.1.1.0;
+  faultless = refl;
+  unformed = refl;
+  basis = record { mode = refl; closed = refl };
+  conforming = record {
+    request = (
+      _,
+      inl refl,
+      record {
+        principal = refl;
+        action = refl;
+        resource = refl;
+        context = (
+          (((tt, (tt, tt)), (refl, (refl, tt))), (((tt, (tt, tt)), (refl, tt)), tt)),
+          (refl, (refl, tt)),
+        );
+      },
+    );
+    store = twice_conforms;
+    functions = greeting_conforms.functions;
+  };
+  passes = passing _ _ _ refl refl refl;
+  named = record { types = refl; actions = refl };
+  well_formed = formed has_b_goes_wrong refl (λ x. refl);
+  wrong = refl;
+  broken = λ h. h.0;
 }

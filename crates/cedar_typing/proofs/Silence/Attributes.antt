@@ -18,7 +18,7 @@ use Rattle.cedar_typing.specs.TypeTests.{is_false}
 use Rattle.cedar_typing.specs.TypedExpr.{Source, place_of}
 use Rattle.cedar_typing.proofs.Silence.Eager.{IsLoudDecision, LoudForm}
 use Rattle.cedar_typing.proofs.Silence.Tables.{loud_if}
-use Rattle.cedar_typing.proofs.SingleEntity.Chains.{after_step}
+use Rattle.cedar_typing.proofs.KeptTypes.Chains.{after_step}
 
 -- ---- `has` and `.`
 

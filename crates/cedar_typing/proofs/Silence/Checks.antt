@@ -23,11 +23,11 @@ reordered_loud : (es fs : List Finding) → IsPermutation es fs → IsLoud es �
 reordered_loud es [] p h = absurd (true≢false (subst IsLoud (none es (IsPermutation-sym es [] p)) h))
 reordered_loud es (f ∷ fs) p h = refl
 
-module _ (firm : Bool) (s : Setting) (ok : Settled firm s) (e : Source) (named : IsWellNamed s.env.schema e) where
+module _ (strictly : Bool) (s : Setting) (ok : Settled strictly s) (e : Source) (named : IsWellNamed s.env.schema e) where
   -- a refused condition has an error
   refused_loud : (x : TypedTree) (es fs : List Finding) → RefusedCondition s e x es → IsPermutation es fs → is_silent fs ≡ true → ⊥
   refused_loud x es fs (c, o) p q =
-      let h = operand_loud (rules s e no_caps 1) (loud firm s ok e (clean s.env.schema e named) no_caps 1) s.env bool_types (place_of e) false c x es o refl in
+      let h = operand_loud (rules s e no_caps 1) (loud strictly s ok e (clean s.env.schema e named) no_caps 1) s.env bool_types (place_of e) false c x es o refl in
       true≢false (sym q ∙ reordered_loud es fs p h)
 
   silent_cut : (fs : List Finding) → PolicyChecks s e (fails fs) → is_silent fs ≡ true → IsCut s e no_caps 1

@@ -22,7 +22,7 @@ use Rattle.cedar_typing.specs.Rules.Unary.{unary_form, like_form, is_form}
 use Rattle.cedar_typing.specs.Setting.{Setting}
 use Rattle.cedar_typing.specs.Silence.{FailuresHaveErrors, FailuresHaveErrorsInPermissive}
 use Rattle.cedar_typing.specs.TypedExpr.{Source, TypedTree, Mark, place_of}
-use Rattle.cedar_typing.proofs.SingleEntity.Induction.{single_within}
+use Rattle.cedar_typing.proofs.KeptTypes.Induction.{kept_within}
 use Rattle.cedar_typing.proofs.Silence.Attributes.{has_loud, get_loud, chain_loud}
 use Rattle.cedar_typing.proofs.Silence.Branches.{short_circuit_loud, if_loud}
 use Rattle.cedar_typing.proofs.Silence.Eager.{LoudAll, none_loud, more_loud, form_loud, one_operand_loud, two_operands_loud}
@@ -49,12 +49,12 @@ within_loud d J h = record {
 
 -- ---- all expressions
 
-module _ (firm : Bool) (s : Setting) (ok : Settled firm s) where
+module _ (strictly : Bool) (s : Setting) (ok : Settled strictly s) where
   clean_of : Source → Type 0
   clean_of e = AreClean s.env.schema (subexpressions e)
 
   single : (e : Source) (prior : Caps) (d : ℕ) → Knows (rules_within s e prior d)
-  single e prior d = knows_of firm _ (single_within firm s ok.strict ok.total ok.schema ok.formed ok.functions ok.environment e prior d)
+  single e prior d = knows_of strictly _ (kept_within strictly s ok.strict ok.total ok.schema ok.formed ok.functions ok.environment e prior d)
 
   entity_typed : (b : Bool) (t : Ty) (other : Option Ty) → b ≡ true → known_entity_type (if b then Some t else None) other ≡ None → ⊥
   entity_typed true t other h e = cc
@@ -141,4 +141,4 @@ pub failures_have_errors : FailuresHaveErrors
 failures_have_errors s ok e h prior d x es r = (loud true s (in_strict s ok) e (clean s.env.schema e h) prior d).failures x es r
 
 pub failures_have_errors_in_permissive : FailuresHaveErrorsInPermissive
-failures_have_errors_in_permissive s ok e h prior d x es r = (loud false s (in_permissive s ok) e (clean s.env.schema e h) prior d).failures x es r
+failures_have_errors_in_permissive s ok w e h prior d x es r = (loud false s (in_permissive s ok w) e (clean s.env.schema e h) prior d).failures x es r

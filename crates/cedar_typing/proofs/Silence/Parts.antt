@@ -11,8 +11,8 @@ use Rattle.cedar_typing.specs.TypeEnv.{TypeEnv}
 use Rattle.cedar_typing.specs.TypedExpr.{TypedTree, annotation}
 use Rattle.cedar_typing.proofs.Basics.{none_is}
 use Rattle.cedar_typing.proofs.Agreement.Parts.{Marks}
-use Rattle.cedar_typing.proofs.SingleEntity.Rules.{SingleEntities}
-use Rattle.cedar_typing.proofs.SingleEntity.Types.{is_kept}
+use Rattle.cedar_typing.proofs.KeptTypes.Rules.{KeepsTypes}
+use Rattle.cedar_typing.proofs.KeptTypes.Types.{is_kept}
 
 -- ---- lists of errors
 
@@ -52,12 +52,12 @@ pub record Knows (J : Judgment) : Type 0 where
   pub derivations : (t : Ty) (c : Caps) (x : TypedTree) → J.derives t c x → is_never t ≡ false
   pub marks : Marks J.derives
 
-kept_not_never : (firm : Bool) (t : Ty) → is_kept firm t ≡ true → is_never t ≡ false
-kept_not_never firm TNever h = cc
-kept_not_never firm t h = refl
+kept_not_never : (strictly : Bool) (t : Ty) → is_kept strictly t ≡ true → is_never t ≡ false
+kept_not_never strictly TNever h = cc
+kept_not_never strictly t h = refl
 
-pub knows_of : (firm : Bool) (J : Judgment) → SingleEntities firm J → Knows J
-knows_of firm J s = record { derivations = λ t c x h. kept_not_never firm t (s.derivations t c x h); marks = s.marks }
+pub knows_of : (strictly : Bool) (J : Judgment) → KeepsTypes strictly J → Knows J
+knows_of strictly J s = record { derivations = λ t c x h. kept_not_never strictly t (s.derivations t c x h); marks = s.marks }
 
 -- what fails has an error
 pub record Loud (J : Judgment) : Type 0 where

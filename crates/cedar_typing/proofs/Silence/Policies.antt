@@ -61,8 +61,8 @@ module _ (s : Schema) where
 
 -- ---- the verdicts
 
-module _ (firm : Bool) (s : Setting) (t : PlainTemplate) (strict : is_strict s.env.mode ≡ firm) (total : is_partial s.env.mode ≡ false)
-    (formed : (firm || has_formed_types s.env.schema) ≡ true) (schema : has_fault s.env.schema ≡ false) (functions : table_fault s.functions ≡ None) where
+module _ (strictly : Bool) (s : Setting) (t : PlainTemplate) (strict : is_strict s.env.mode ≡ strictly) (total : is_partial s.env.mode ≡ false)
+    (formed : (strictly || has_formed_types s.env.schema) ≡ true) (schema : has_fault s.env.schema ≡ false) (functions : table_fault s.functions ≡ None) where
   pub passing_derived_in : IsWellNamedTemplate s.env.schema t → (errors errors' : List Finding) (warnings warnings' : List Caution)
       → PolicyOutcome (ChecksOf s t) (checked_envs s.env.schema s.env.mode t) t true errors errors' warnings warnings'
       → (env : Env) → IsOneOf env (checked_envs s.env.schema s.env.mode t) → IsDerivedIn s t env
@@ -70,7 +70,7 @@ module _ (firm : Bool) (s : Setting) (t : PlainTemplate) (strict : is_strict s.e
       let envs : List Env = checked_envs s.env.schema s.env.mode t in
       let p = each_has_passing (ChecksOf s t) passes o.listed envs o.verdicts o.in_some_order o.checked (sym o.answered) e i in
       let there : IsEnvironmentOf s.env.schema e = checked_of_schema s.env.schema s.env.mode total t e i in
-      let settled : Settled firm (in_env s e) = record {
+      let settled : Settled strictly (in_env s e) = record {
         strict = strict;
         total = total;
         formed = formed;
@@ -80,7 +80,7 @@ module _ (firm : Bool) (s : Setting) (t : PlainTemplate) (strict : is_strict s.e
       } in (
         p.0,
         p.1,
-        passing_derived firm (in_env s e) settled (condition_of t) (condition_is_well_named s.env.schema t named) p.0 p.1 p.2,
+        passing_derived strictly (in_env s e) settled (condition_of t) (condition_is_well_named s.env.schema t named) p.0 p.1 p.2,
       )
 
 pub passing_policy_is_derived : PassingPolicyIsDerived

@@ -16,7 +16,7 @@ use Rattle.cedar_typing.specs.Rules.Calls.{arguments, return_type, call_decides,
 use Rattle.cedar_typing.specs.Rules.Eager.{Judgments, eager_rules}
 use Rattle.cedar_typing.specs.Setting.{Setting, table}
 use Rattle.cedar_typing.specs.Soundness.{HasFound, IsSafe}
-use Rattle.cedar_typing.proofs.SingleEntity.Calls.{call_type}
+use Rattle.cedar_typing.proofs.KeptTypes.Calls.{call_type}
 use Rattle.cedar_typing.proofs.Soundness.Eager.{GiftIsSound, SoundForm, SoundsAll, of_any, form_sounds}
 use Rattle.cedar_typing.proofs.Soundness.FixedTypes.{silent_gift}
 use Rattle.cedar_typing.proofs.Soundness.Parts.{Sounds}
@@ -70,11 +70,11 @@ module _ (s : Setting) (world : World) (keeps : KeepsTable (table s) world.funct
 
   -- ---- evaluation
 
-  pub call_sounds : (firm : Bool) (m : Written) (ts : Trees Written) (Js : Judgments) → SoundsAll firm world (call_form s.env s.functions m n (arguments ts)).expects (outcomes world ts) Js
+  pub call_sounds : (strictly : Bool) (m : Written) (ts : Trees Written) (Js : Judgments) → SoundsAll strictly world (call_form s.env s.functions m n (arguments ts)).expects (outcomes world ts) Js
       → Sounds world (eval world (call m n ts)) (eager_rules (call_form s.env s.functions m n (arguments ts)) Js)
-  call_sounds firm m ts Js operands =
+  call_sounds strictly m ts Js operands =
       let f = call_form s.env s.functions m n (arguments ts) in
       let os = outcomes world ts in
       let h = returned (function_named n s.functions) refl (together os) in
       subst (λ z. Sounds world (call_from z) (eager_rules f Js)) (evaluated_together world ts)
-      (form_sounds firm world f (λ k xs. refl) os (call_from (together os)) (of_any firm world f os (call_from (together os)) (call_sound m os _ _ _ h)) Js operands)
+      (form_sounds strictly world f (λ k xs. refl) os (call_from (together os)) (of_any strictly world f os (call_from (together os)) (call_sound m os _ _ _ h)) Js operands)

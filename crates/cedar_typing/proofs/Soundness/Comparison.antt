@@ -20,8 +20,8 @@ use Rattle.cedar_typing.specs.Evaluation.World.{World, TypeFailure, has_pair, Ou
 use Rattle.cedar_typing.specs.Rules.Numbers.{is_comparable, beside_never, compares, comparison_form}
 use Rattle.cedar_typing.specs.Soundness.{HasFound, IsSafe}
 use Rattle.cedar_typing.specs.TypeEnv.{TypeEnv}
-use Rattle.cedar_typing.proofs.SingleEntity.Eager.{decided_type}
-use Rattle.cedar_typing.proofs.SingleEntity.Operators.{compares_is}
+use Rattle.cedar_typing.proofs.KeptTypes.Eager.{decided_type}
+use Rattle.cedar_typing.proofs.KeptTypes.Operators.{compares_is}
 use Rattle.cedar_typing.proofs.Soundness.Eager.{AllFound, AreTypes, GiftIsSound, SoundForm}
 use Rattle.cedar_typing.proofs.Soundness.FixedTypes.{silent_gift}
 

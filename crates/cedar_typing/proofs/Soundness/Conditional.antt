@@ -20,8 +20,8 @@ use Rattle.cedar_typing.specs.TypeEnv.{TypeEnv}
 use Rattle.cedar_typing.specs.TypedExpr.{TypedTree, annotation}
 use Rattle.cedar_typing.proofs.Bounds.Kept.{right_kept}
 use Rattle.cedar_typing.proofs.Bounds.Values.{lub_left}
-use Rattle.cedar_typing.proofs.SingleEntity.Rules.{SingleEntities, part_single}
-use Rattle.cedar_typing.proofs.SingleEntity.Types.{HasKept}
+use Rattle.cedar_typing.proofs.KeptTypes.Rules.{KeepsTypes, part_kept}
+use Rattle.cedar_typing.proofs.KeptTypes.Types.{HasKept}
 use Rattle.cedar_typing.proofs.Soundness.Capabilities.{hold_either, hold_left, hold_right}
 use Rattle.cedar_typing.proofs.Soundness.Conjunction.{derived_test, true_sort, false_sort}
 use Rattle.cedar_typing.proofs.Soundness.Parts.{IsSureType, Sound, Sounds, IsSure, refused_sound, part_sound}
@@ -95,14 +95,14 @@ left_has m (Some t) (Some u) o h = go (lub m t u) refl o h
     go (Some v) e (Gives x) h = lub_left m t u v e x h
     go (Some v) e (Fails f) h = tt
 
-right_has : (firm : Bool) (m : ValidationMode) → is_strict m ≡ firm → (x y : Option Ty) → HasKept firm x → HasKept firm y → (o : Outcome) → HasFound y o → HasFound (joined m x y) o
-right_has firm m strict None y n k o h = tt
-right_has firm m strict (Some t) None n k o h = tt
-right_has firm m strict (Some t) (Some u) n k o h = go (lub m t u) refl o h
+right_has : (strictly : Bool) (m : ValidationMode) → is_strict m ≡ strictly → (x y : Option Ty) → HasKept strictly x → HasKept strictly y → (o : Outcome) → HasFound y o → HasFound (joined m x y) o
+right_has strictly m strict None y n k o h = tt
+right_has strictly m strict (Some t) None n k o h = tt
+right_has strictly m strict (Some t) (Some u) n k o h = go (lub m t u) refl o h
   where
     go : (z : Option Ty) → lub m t u ≡ z → (o : Outcome) → HasFound (Some u) o → HasFound z o
     go None e o h = tt
-    go (Some v) e (Gives x) h = right_kept firm m strict t u v n k e x h
+    go (Some v) e (Gives x) h = right_kept strictly m strict t u v n k e x h
     go (Some v) e (Fails f) h = tt
 
 -- a bound that is True or of no value is the right side too
@@ -187,9 +187,9 @@ right_joined m (Some t) (Some u) h = right_lub m t u h
 
 -- ---- the rules
 
-module _ (firm : Bool) (world : World) (env : TypeEnv) (strict : is_strict env.mode ≡ firm) (m : Written) (l : Option Loc) (o p q : Outcome) (A : Judgment) (B : Caps → Judgment) (E : Judgment) (prior : Caps)
+module _ (strictly : Bool) (world : World) (env : TypeEnv) (strict : is_strict env.mode ≡ strictly) (m : Written) (l : Option Loc) (o p q : Outcome) (A : Judgment) (B : Caps → Judgment) (E : Judgment) (prior : Caps)
     (held : AllHold world prior) (test : Sounds world o A) (branch : (p' : Caps) → AllHold world p' → Sounds world p (B p')) (otherwise : Sounds world q E)
-    (branch_kept : (p' : Caps) → SingleEntities firm (B p')) (otherwise_kept : SingleEntities firm E) where
+    (branch_kept : (p' : Caps) → KeepsTypes strictly (B p')) (otherwise_kept : KeepsTypes strictly E) where
   abbrev choice : Outcome
   choice = choose (test_of o) p q
 
@@ -224,7 +224,7 @@ module _ (firm : Bool) (world : World) (env : TypeEnv) (strict : is_strict env.m
       let P : Option Ty → Type 0 = λ v. HasFound v choice in
       let Q : Option Ty → Type 0 = λ v. IsSure v → AllHold world (intersection k'' (union k k')) in
       record {
-        typed = subst P e (open_has (joined env.mode (Some t') (Some u)) (test_of o) p q (λ i. left_has env.mode (Some t') (Some u) p (b i).typed) (right_has firm env.mode strict (Some t') (Some u) bk ek q z.typed));
+        typed = subst P e (open_has (joined env.mode (Some t') (Some u)) (test_of o) p q (λ i. left_has env.mode (Some t') (Some u) p (b i).typed) (right_has strictly env.mode strict (Some t') (Some u) bk ek q z.typed));
         safe = λ i. chosen_safe (test_of o) p q (h.safe refl) (λ j. (b j).safe refl) (z.safe refl);
         caps_hold_if_true = λ i. open_taken (test_of o) p q _ (λ j v. hold_right world k'' (union k k') (hold_either world k k' (h.caps_hold_if_true j) ((b j).caps_hold_if_true v))) (λ v. hold_left world k'' (union k k') (z.caps_hold_if_true v)) i;
         caps_hold_at_true = subst Q e (λ i. hold_left world k'' (union k k') (z.caps_hold_at_true (right_joined env.mode (Some t') (Some u) i)));
@@ -247,9 +247,9 @@ module _ (firm : Bool) (world : World) (env : TypeEnv) (strict : is_strict env.m
       let h = tested_operand world o env l A test succeeded k a fs a' in
       let s = λ (f : SaysTrue (test_of o)). part_sound world p (B (union prior k)) (branch (union prior k) (known k (h.caps_hold_if_true f))) succeeded' k' b fs' b' in
       let i = part_sound world q E otherwise succeeded'' k'' z fs'' z' in
-      let m' = part_single firm (B (union prior k)) (branch_kept (union prior k)) succeeded' k' b fs' b' in
-      let m'' = part_single firm E otherwise_kept succeeded'' k'' z fs'' z' in
-      refused_sound world choice _ (open_has (joined env.mode (annotation b) (annotation z)) (test_of o) p q (λ f. left_has env.mode (annotation b) (annotation z) p (s f).typed) (right_has firm env.mode strict (annotation b) (annotation z) m' m'' q i.typed))
+      let m' = part_kept strictly (B (union prior k)) (branch_kept (union prior k)) succeeded' k' b fs' b' in
+      let m'' = part_kept strictly E otherwise_kept succeeded'' k'' z fs'' z' in
+      refused_sound world choice _ (open_has (joined env.mode (annotation b) (annotation z)) (test_of o) p q (λ f. left_has env.mode (annotation b) (annotation z) p (s f).typed) (right_has strictly env.mode strict (annotation b) (annotation z) m' m'' q i.typed))
 
   if_marks : (t : Ty) (c : Caps) (x : TypedTree) → (if_rules env m l A B E prior).derives t c x → annotation x ≡ Some t
   if_marks t c x (if_true d d') = refl

@@ -12,9 +12,9 @@ use Rattle.cedar_typing.specs.Rules.Eager.{Judgments, NoneDerived, none_derived,
 use Rattle.cedar_typing.specs.Soundness.{HasFound, IsSafe, IsTrueOutcome}
 use Rattle.cedar_typing.specs.TypeEnv.{TypeEnv}
 use Rattle.cedar_typing.specs.TypedExpr.{TypedTree, Mark, mark_of, typed, typed_as, annotation}
-use Rattle.cedar_typing.proofs.SingleEntity.Eager.{AllSingle, decided_type, expected_single}
-use Rattle.cedar_typing.proofs.SingleEntity.Rules.{SingleEntities}
-use Rattle.cedar_typing.proofs.SingleEntity.Types.{HasKept}
+use Rattle.cedar_typing.proofs.KeptTypes.Eager.{AllKept, decided_type, expected_kept}
+use Rattle.cedar_typing.proofs.KeptTypes.Rules.{KeepsTypes}
+use Rattle.cedar_typing.proofs.KeptTypes.Types.{HasKept}
 use Rattle.cedar_typing.proofs.Soundness.Parts.{IsSure, Sound, Sounds, IsAccepted, refused_sound, part_sound, operand_sound, operand_accepted}
 
 -- ---- what is known of operands
@@ -72,13 +72,13 @@ pub record SoundForm (world : World) (f : Form) (os : List Outcome) (o : Outcome
   pub failed : (t : Ty) → HasFound (Some t) o → HasFound (Some (f.type_if_failed t)) o
 
 -- the same, where typing keeps to the types of the operands
-pub record SoundKeptForm (firm : Bool) (world : World) (f : Form) (os : List Outcome) (o : Outcome) : Type 0 where
-  pub typed : (ts : List (Option Ty)) → AreTypes f os ts → AllSingle firm ts → HasFound (decided_type (f.decides ts)) o
-  pub succeeds : (ts : List (Option Ty)) → AreTypes f os ts → AllSingle firm ts → AllFound ts → GiftIsSound world os o (f.decides ts)
+pub record SoundKeptForm (strictly : Bool) (world : World) (f : Form) (os : List Outcome) (o : Outcome) : Type 0 where
+  pub typed : (ts : List (Option Ty)) → AreTypes f os ts → AllKept strictly ts → HasFound (decided_type (f.decides ts)) o
+  pub succeeds : (ts : List (Option Ty)) → AreTypes f os ts → AllKept strictly ts → AllFound ts → GiftIsSound world os o (f.decides ts)
   pub failed : (t : Ty) → HasFound (Some t) o → HasFound (Some (f.type_if_failed t)) o
 
-pub of_any : (firm : Bool) (world : World) (f : Form) (os : List Outcome) (o : Outcome) → SoundForm world f os o → SoundKeptForm firm world f os o
-of_any firm world f os o s = record { typed = λ ts a n. s.typed ts a; succeeds = λ ts a n. s.succeeds ts a; failed = s.failed }
+pub of_any : (strictly : Bool) (world : World) (f : Form) (os : List Outcome) (o : Outcome) → SoundForm world f os o → SoundKeptForm strictly world f os o
+of_any strictly world f os o s = record { typed = λ ts a n. s.typed ts a; succeeds = λ ts a n. s.succeeds ts a; failed = s.failed }
 
 -- ---- an operand that has to be of certain types, or may be anything
 
@@ -101,29 +101,29 @@ module _ (J : Judgment) (env : TypeEnv) where
 
 -- ---- operands, one after another
 
-pub record AreSound (firm : Bool) (qs : List Expectation) (os : List Outcome) (ts : List (Option Ty)) : Type 0 where
+pub record AreSound (strictly : Bool) (qs : List Expectation) (os : List Outcome) (ts : List (Option Ty)) : Type 0 where
   pub have : AllHave ts os
   pub meet : AllMeet qs ts
-  pub single : AllSingle firm ts
+  pub single : AllKept strictly ts
 
-pub record SoundsAll (firm : Bool) (world : World) (qs : List Expectation) (os : List Outcome) (Js : Judgments) : Type 0 where
-  pub derivations : (xs : List TypedTree) → Js.derive xs → AreSound firm qs os (types_found xs) × AllFound (types_found xs) × AllSafe os
-  pub givings : (b : Bool) (xs : List TypedTree) (es : List Finding) → Js.give b xs es → AreSound firm qs os (types_found xs)
+pub record SoundsAll (strictly : Bool) (world : World) (qs : List Expectation) (os : List Outcome) (Js : Judgments) : Type 0 where
+  pub derivations : (xs : List TypedTree) → Js.derive xs → AreSound strictly qs os (types_found xs) × AllFound (types_found xs) × AllSafe os
+  pub givings : (b : Bool) (xs : List TypedTree) (es : List Finding) → Js.give b xs es → AreSound strictly qs os (types_found xs)
 
-no_derivations : (firm : Bool) (qs : List Expectation) (xs : List TypedTree) → NoneDerived xs → AreSound firm qs [] (types_found xs) × AllFound (types_found xs) × AllSafe []
-no_derivations firm qs xs none_derived = (record { have = tt; meet = tt; single = tt }, tt, tt)
+no_derivations : (strictly : Bool) (qs : List Expectation) (xs : List TypedTree) → NoneDerived xs → AreSound strictly qs [] (types_found xs) × AllFound (types_found xs) × AllSafe []
+no_derivations strictly qs xs none_derived = (record { have = tt; meet = tt; single = tt }, tt, tt)
 
-no_givings : (firm : Bool) (qs : List Expectation) (b : Bool) (xs : List TypedTree) (es : List Finding) → NoneGiven b xs es → AreSound firm qs [] (types_found xs)
-no_givings firm qs b xs es none_given = record { have = tt; meet = tt; single = tt }
+no_givings : (strictly : Bool) (qs : List Expectation) (b : Bool) (xs : List TypedTree) (es : List Finding) → NoneGiven b xs es → AreSound strictly qs [] (types_found xs)
+no_givings strictly qs b xs es none_given = record { have = tt; meet = tt; single = tt }
 
-pub none_sounds : (firm : Bool) (world : World) (qs : List Expectation) → SoundsAll firm world qs [] no_operands
-none_sounds firm world qs = record { derivations = no_derivations firm qs; givings = no_givings firm qs }
+pub none_sounds : (strictly : Bool) (world : World) (qs : List Expectation) → SoundsAll strictly world qs [] no_operands
+none_sounds strictly world qs = record { derivations = no_derivations strictly qs; givings = no_givings strictly qs }
 
-module _ (firm : Bool) (world : World) (env : TypeEnv) (goes_on : Bool) (qs : List Expectation) (l : Option Loc) (o : Outcome) (J : Judgment) (operand : Sounds world o J) (single : SingleEntities firm J) (os : List Outcome) (Js : Judgments) (others : SoundsAll firm world (later_expectations qs) os Js) where
+module _ (strictly : Bool) (world : World) (env : TypeEnv) (goes_on : Bool) (qs : List Expectation) (l : Option Loc) (o : Outcome) (J : Judgment) (operand : Sounds world o J) (single : KeepsTypes strictly J) (os : List Outcome) (Js : Judgments) (others : SoundsAll strictly world (later_expectations qs) os Js) where
   abbrev More : Judgments
   More = one_more env goes_on (first_expectation qs) l J Js
 
-  more_derivations : (xs : List TypedTree) → More.derive xs → AreSound firm qs (o ∷ os) (types_found xs) × AllFound (types_found xs) × AllSafe (o ∷ os)
+  more_derivations : (xs : List TypedTree) → More.derive xs → AreSound strictly qs (o ∷ os) (types_found xs) × AllFound (types_found xs) × AllSafe (o ∷ os)
   more_derivations xs (also_derived {t = t} {c = c} {x = x} {xs = ys} d h ds) =
       let s = operand.derivations t c x d in
       let e = sym (operand.marks t c x d) in
@@ -131,34 +131,34 @@ module _ (firm : Bool) (world : World) (env : TypeEnv) (goes_on : Bool) (qs : Li
         record {
           have = (subst (λ y. HasFound y o) e s.typed, r.0.have);
           meet = (subst (Meets (first_expectation qs)) e h, r.0.meet);
-          single = (subst (HasKept firm) e (single.derivations t c x d), r.0.single);
+          single = (subst (HasKept strictly) e (single.derivations t c x d), r.0.single);
         },
         (subst IsFound e tt, r.1),
         (s.safe refl, r.2),
       )
 
-  more_givings : (b : Bool) (xs : List TypedTree) (es : List Finding) → More.give b xs es → AreSound firm qs (o ∷ os) (types_found xs)
+  more_givings : (b : Bool) (xs : List TypedTree) (es : List Finding) → More.give b xs es → AreSound strictly qs (o ∷ os) (types_found xs)
   more_givings b xs es (also_given {succeeded = s} {later = s'} {c = c} {x = x} {xs = ys} {es = before} {es' = after} p hs) =
       let r = others.givings s' ys after hs in
       record {
         have = ((expected_sound J env world o operand (first_expectation qs) l s c x before p).typed, r.have);
         meet = (expected_meets J env (first_expectation qs) l s c x before p, r.meet);
-        single = (expected_single firm J single env (first_expectation qs) l s c x before p, r.single);
+        single = (expected_kept strictly J single env (first_expectation qs) l s c x before p, r.single);
       }
 
-  pub more_sounds : SoundsAll firm world qs (o ∷ os) More
+  pub more_sounds : SoundsAll strictly world qs (o ∷ os) More
   more_sounds = record { derivations = more_derivations; givings = more_givings }
 
 -- ---- a form
 
-module _ (firm : Bool) (world : World) (f : Form) (node_mark : (k : Mark) (xs : List TypedTree) → mark_of (f.node k xs) ≡ k) (os : List Outcome) (o : Outcome) (form : SoundKeptForm firm world f os o) (Js : Judgments) (operands : SoundsAll firm world f.expects os Js) where
+module _ (strictly : Bool) (world : World) (f : Form) (node_mark : (k : Mark) (xs : List TypedTree) → mark_of (f.node k xs) ≡ k) (os : List Outcome) (o : Outcome) (form : SoundKeptForm strictly world f os o) (Js : Judgments) (operands : SoundsAll strictly world f.expects os Js) where
   abbrev Whole : Judgment
   Whole = eager_rules f Js
 
   at_root : (k : Mark) (xs : List TypedTree) → annotation (f.node k xs) ≡ k.ty
   at_root k xs = ap (λ (z : Mark). z.ty) (node_mark k xs)
 
-  types_of : (ts : List (Option Ty)) → AreSound firm f.expects os ts → AreTypes f os ts
+  types_of : (ts : List (Option Ty)) → AreSound strictly f.expects os ts → AreTypes f os ts
   types_of ts a = record { have = a.have; meet = a.meet }
 
   form_derived : (t : Ty) (c : Caps) (x : TypedTree) → Whole.derives t c x → Sound world o true (Some t) c
@@ -200,15 +200,15 @@ module _ (firm : Bool) (world : World) (f : Form) (node_mark : (k : Mark) (xs : 
   form_sounds = record { derivations = form_derived; recoveries = form_recovery; marks = form_marks }
 
 -- a form with one operand
-pub one_operand_sounds : (firm : Bool) (world : World) (env : TypeEnv) (f : Form) → ((k : Mark) (xs : List TypedTree) → mark_of (f.node k xs) ≡ k) → (l : Option Loc) (o o' : Outcome) (J : Judgment) → SoundKeptForm firm world f (o ∷ []) o' → Sounds world o J → SingleEntities firm J
+pub one_operand_sounds : (strictly : Bool) (world : World) (env : TypeEnv) (f : Form) → ((k : Mark) (xs : List TypedTree) → mark_of (f.node k xs) ≡ k) → (l : Option Loc) (o o' : Outcome) (J : Judgment) → SoundKeptForm strictly world f (o ∷ []) o' → Sounds world o J → KeepsTypes strictly J
     → Sounds world o' (one_operand_rules env f l J)
-one_operand_sounds firm world env f node_mark l o o' J form s n =
-    form_sounds firm world f node_mark (o ∷ []) o' form _ (more_sounds firm world env f.goes_on f.expects l o J s n [] no_operands (none_sounds firm world (later_expectations f.expects)))
+one_operand_sounds strictly world env f node_mark l o o' J form s n =
+    form_sounds strictly world f node_mark (o ∷ []) o' form _ (more_sounds strictly world env f.goes_on f.expects l o J s n [] no_operands (none_sounds strictly world (later_expectations f.expects)))
 
 -- a form with two operands
-pub two_operands_sound : (firm : Bool) (world : World) (env : TypeEnv) (f : Form) → ((k : Mark) (xs : List TypedTree) → mark_of (f.node k xs) ≡ k) → (l l' : Option Loc) (o o' o'' : Outcome) (J J' : Judgment) → SoundKeptForm firm world f (o ∷ o' ∷ []) o''
-    → Sounds world o J → SingleEntities firm J → Sounds world o' J' → SingleEntities firm J' → Sounds world o'' (two_operand_rules env f l l' J J')
-two_operands_sound firm world env f node_mark l l' o o' o'' J J' form s n s' n' =
+pub two_operands_sound : (strictly : Bool) (world : World) (env : TypeEnv) (f : Form) → ((k : Mark) (xs : List TypedTree) → mark_of (f.node k xs) ≡ k) → (l l' : Option Loc) (o o' o'' : Outcome) (J J' : Judgment) → SoundKeptForm strictly world f (o ∷ o' ∷ []) o''
+    → Sounds world o J → KeepsTypes strictly J → Sounds world o' J' → KeepsTypes strictly J' → Sounds world o'' (two_operand_rules env f l l' J J')
+two_operands_sound strictly world env f node_mark l l' o o' o'' J J' form s n s' n' =
     let later = later_expectations f.expects in
-    let right = more_sounds firm world env f.goes_on later l' o' J' s' n' [] no_operands (none_sounds firm world (later_expectations later)) in
-    form_sounds firm world f node_mark (o ∷ o' ∷ []) o'' form _ (more_sounds firm world env f.goes_on f.expects l o J s n (o' ∷ []) _ right)
+    let right = more_sounds strictly world env f.goes_on later l' o' J' s' n' [] no_operands (none_sounds strictly world (later_expectations later)) in
+    form_sounds strictly world f node_mark (o ∷ o' ∷ []) o'' form _ (more_sounds strictly world env f.goes_on f.expects l o J s n (o' ∷ []) _ right)

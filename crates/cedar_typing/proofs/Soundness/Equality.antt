@@ -31,8 +31,8 @@ use Rattle.cedar_typing.specs.TypeEnv.{TypeEnv}
 use Rattle.cedar_typing.specs.TypeTests.{accepts, set_types, is_any_bool}
 use Rattle.cedar_typing.specs.TypedExpr.{TypedTree, Mark, Source}
 use Rattle.cedar_typing.proofs.Basics.{or_left, or_right}
-use Rattle.cedar_typing.proofs.SingleEntity.Eager.{decided_type}
-use Rattle.cedar_typing.proofs.SingleEntity.Equality.{given_type, equality_given}
+use Rattle.cedar_typing.proofs.KeptTypes.Eager.{decided_type}
+use Rattle.cedar_typing.proofs.KeptTypes.Equality.{given_type, equality_given}
 use Rattle.cedar_typing.proofs.Soundness.Capabilities.{hold_none}
 use Rattle.cedar_typing.proofs.Soundness.Eager.{AreTypes, AllHave, AllFound, SoundGift, GiftIsSound, SoundForm}
 

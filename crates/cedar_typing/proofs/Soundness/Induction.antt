@@ -34,10 +34,10 @@ use Rattle.cedar_typing.specs.Soundness.{HasFound, IsSoundAt, TypeSoundness, Typ
 use Rattle.cedar_typing.specs.TypedExpr.{Source, TypedTree, annotation, place_of}
 use Rattle.cedar_typing.proofs.Agreement.Operators.{unary_marked, binary_marked}
 use Rattle.cedar_typing.proofs.Bounds.Attributes.{AttributesFormed, Joins}
-use Rattle.cedar_typing.proofs.SingleEntity.Induction.{single_entity_types}
-use Rattle.cedar_typing.proofs.SingleEntity.Rules.{SingleEntities}
-use Rattle.cedar_typing.proofs.SingleEntity.Types.{is_kept}
-use Rattle.cedar_typing.proofs.SingleEntity.Attributes.{declared_formed}
+use Rattle.cedar_typing.proofs.KeptTypes.Induction.{types_are_kept}
+use Rattle.cedar_typing.proofs.KeptTypes.Rules.{KeepsTypes}
+use Rattle.cedar_typing.proofs.KeptTypes.Types.{is_kept}
+use Rattle.cedar_typing.proofs.KeptTypes.Attributes.{declared_formed}
 use Rattle.cedar_typing.proofs.Soundness.Attributes.{has_sound, get_sound}
 use Rattle.cedar_typing.proofs.Soundness.Calls.{call_sounds}
 use Rattle.cedar_typing.proofs.Soundness.Chains.{chain_sound}
@@ -74,15 +74,15 @@ module _ (world : World) (o : Outcome) where
   }
 
 -- what a type declares can be joined: in Strict there is no choice, in Permissive all of it is formed
-choice_joins : (firm : Bool) (s : Schema) → has_fault s ≡ false → (firm || has_formed_types s) ≡ true → (p q : Path) (ps : List Path) → is_kept firm (TEntity (p ∷ q ∷ ps)) ≡ true → AttributesFormed s
+choice_joins : (strictly : Bool) (s : Schema) → has_fault s ≡ false → (strictly || has_formed_types s) ≡ true → (p q : Path) (ps : List Path) → is_kept strictly (TEntity (p ∷ q ∷ ps)) ≡ true → AttributesFormed s
 choice_joins true s f w p q ps n = absurd (true≢false (sym n))
 choice_joins false s f w p q ps n = declared_formed s f w
 
-module _ (firm : Bool) (s : Schema) (f : has_fault s ≡ false) (w : (firm || has_formed_types s) ≡ true) where
-  kept_joins : (t : Ty) → is_kept firm t ≡ true → Joins s t
+module _ (strictly : Bool) (s : Schema) (f : has_fault s ≡ false) (w : (strictly || has_formed_types s) ≡ true) where
+  kept_joins : (t : Ty) → is_kept strictly t ≡ true → Joins s t
   kept_joins (TEntity []) n h = cc
   kept_joins (TEntity (p ∷ [])) n h = cc
-  kept_joins (TEntity (p ∷ q ∷ ps)) n h = choice_joins firm s f w p q ps n
+  kept_joins (TEntity (p ∷ q ∷ ps)) n h = choice_joins strictly s f w p q ps n
   kept_joins TNever n h = cc
   kept_joins (TBool k) n h = cc
   kept_joins TLong n h = cc
@@ -100,19 +100,19 @@ unary_sound world o m UnaryOp.Not = not_sound world o m
 unary_sound world o m UnaryOp.Neg = negation_sound world m o
 unary_sound world o m UnaryOp.IsEmpty = is_empty_sound world m o
 
-module _ (firm : Bool) (s : Setting) (world : World) (strict : is_strict s.env.mode ≡ firm) (partial : is_partial s.env.mode ≡ false) (formed : (firm || has_formed_types s.env.schema) ≡ true) (faults : has_fault s.env.schema ≡ false) (table_faults : table_fault s.functions ≡ None) (closed : has_external s.env.schema ≡ false) (environment : IsEnvironmentOf s.env.schema s.env.request_env) (fits : Fits s.env.request_env world.request world.slots) (store : ConformingStore s.env.schema world.store) (keeps : KeepsTable (table s) world.functions) where
-  single_at : (e : Source) (prior : Caps) (d : ℕ) → SingleEntities firm (rules s e prior d)
-  single_at = single_entity_types firm s strict partial faults formed table_faults environment
+module _ (strictly : Bool) (s : Setting) (world : World) (strict : is_strict s.env.mode ≡ strictly) (partial : is_partial s.env.mode ≡ false) (formed : (strictly || has_formed_types s.env.schema) ≡ true) (faults : has_fault s.env.schema ≡ false) (table_faults : table_fault s.functions ≡ None) (closed : has_external s.env.schema ≡ false) (environment : IsEnvironmentOf s.env.schema s.env.request_env) (fits : Fits s.env.request_env world.request world.slots) (store : ConformingStore s.env.schema world.store) (keeps : KeepsTable (table s) world.functions) where
+  kept_at : (e : Source) (prior : Caps) (d : ℕ) → KeepsTypes strictly (rules s e prior d)
+  kept_at = types_are_kept strictly s strict partial faults formed table_faults environment
 
-  joins : (t : Ty) → is_kept firm t ≡ true → Joins s.env.schema t
-  joins = kept_joins firm s.env.schema faults formed
+  joins : (t : Ty) → is_kept strictly t ≡ true → Joins s.env.schema t
+  joins = kept_joins strictly s.env.schema faults formed
 
   -- what an operator on two operands promises
   abbrev OperatorIsSound : Written → Caps → Source → Source → BinaryOp → Type 0
-  OperatorIsSound m prior x y o = SoundKeptForm firm world (binary_form s.env m prior x y o) (eval world x ∷ eval world y ∷ []) (eval world (binary m o x y))
+  OperatorIsSound m prior x y o = SoundKeptForm strictly world (binary_form s.env m prior x y o) (eval world x ∷ eval world y ∷ []) (eval world (binary m o x y))
 
   any_operator : (m : Written) (prior : Caps) (x y : Source) (o : BinaryOp) → SoundForm world (binary_form s.env m prior x y o) (eval world x ∷ eval world y ∷ []) (eval world (binary m o x y)) → OperatorIsSound m prior x y o
-  any_operator m prior x y o f = of_any firm world (binary_form s.env m prior x y o) (eval world x ∷ eval world y ∷ []) (eval world (binary m o x y)) f
+  any_operator m prior x y o f = of_any strictly world (binary_form s.env m prior x y o) (eval world x ∷ eval world y ∷ []) (eval world (binary m o x y)) f
 
   binary_sound : (m : Written) (prior : Caps) (x y : Source) (o : BinaryOp) → AllHold world prior → OperatorIsSound m prior x y o
   binary_sound m prior x y BinaryOp.Eq h = any_operator m prior x y BinaryOp.Eq (equality_sound world s.env m x y (eval world x) (eval world y) (literal_outcome world s.env.request_env fits x) (literal_outcome world s.env.request_env fits y))
@@ -125,7 +125,7 @@ module _ (firm : Bool) (s : Setting) (world : World) (strict : is_strict s.env.m
   binary_sound m prior x y BinaryOp.Contains h = any_operator m prior x y BinaryOp.Contains (contains_sound world s.env m (eval world x) (eval world y))
   binary_sound m prior x y BinaryOp.ContainsAll h = any_operator m prior x y BinaryOp.ContainsAll (contains_all_sound world s.env m (eval world x) (eval world y))
   binary_sound m prior x y BinaryOp.ContainsAny h = any_operator m prior x y BinaryOp.ContainsAny (contains_any_sound world s.env m (eval world x) (eval world y))
-  binary_sound m prior x y BinaryOp.GetTag h = any_operator m prior x y BinaryOp.GetTag (get_tag_sound firm s.env world strict faults formed closed store m prior h x y)
+  binary_sound m prior x y BinaryOp.GetTag h = any_operator m prior x y BinaryOp.GetTag (get_tag_sound strictly s.env world strict faults formed closed store m prior h x y)
   binary_sound m prior x y BinaryOp.HasTag h = any_operator m prior x y BinaryOp.HasTag (has_tag_sound s.env world closed store m prior h x y)
 
   mutual
@@ -135,44 +135,44 @@ module _ (firm : Bool) (s : Setting) (world : World) (strict : is_strict s.env.m
     sounds_within (slot m x) b prior d h = always_sounds world m (λ k. slot k x) (λ k. refl) _ _ (slot_sound world s.env.request_env world.request world.slots fits x b)
     sounds_within (unknown m n) b prior d h = unknown_sounds world _ n m
     sounds_within (if_then_else m x y z) b prior d h =
-        if_sounds firm world s.env strict m (place_of x) _ _ _ _ _ _ prior h (within_sounds world _ (d + 1) _ (sounds_within x b.0 prior (d + 1) h)) (λ p k. within_sounds world _ (d + 1) _ (sounds_within y b.1 p (d + 1) k)) (within_sounds world _ (d + 1) _ (sounds_within z b.2 prior (d + 1) h)) (λ p. single_at y p (d + 1)) (single_at z prior (d + 1))
+        if_sounds strictly world s.env strict m (place_of x) _ _ _ _ _ _ prior h (within_sounds world _ (d + 1) _ (sounds_within x b.0 prior (d + 1) h)) (λ p k. within_sounds world _ (d + 1) _ (sounds_within y b.1 p (d + 1) k)) (within_sounds world _ (d + 1) _ (sounds_within z b.2 prior (d + 1) h)) (λ p. kept_at y p (d + 1)) (kept_at z prior (d + 1))
     sounds_within (and m x y) b prior d h =
         and_sounds world s.env m (place_of x) (place_of y) _ _ _ _ prior h (within_sounds world _ (d + 1) _ (sounds_within x b.0 prior (d + 1) h)) (λ p k. within_sounds world _ (d + 1) _ (sounds_within y b.1 p (d + 1) k))
     sounds_within (or m x y) b prior d h =
         or_sounds world s.env m (place_of x) (place_of y) _ _ _ _ prior (within_sounds world _ (d + 1) _ (sounds_within x b.0 prior (d + 1) h)) (within_sounds world _ (d + 1) _ (sounds_within y b.1 prior (d + 1) h))
     sounds_within (unary m o x) b prior d h =
-        one_operand_sounds firm world s.env (unary_form m o) (unary_marked m o) (place_of x) (eval world x) _ _ (of_any firm world (unary_form m o) (eval world x ∷ []) _ (unary_sound world (eval world x) m o)) (within_sounds world _ (d + 1) _ (sounds_within x b prior (d + 1) h)) (single_at x prior (d + 1))
+        one_operand_sounds strictly world s.env (unary_form m o) (unary_marked m o) (place_of x) (eval world x) _ _ (of_any strictly world (unary_form m o) (eval world x ∷ []) _ (unary_sound world (eval world x) m o)) (within_sounds world _ (d + 1) _ (sounds_within x b prior (d + 1) h)) (kept_at x prior (d + 1))
     sounds_within (binary m o x y) b prior d h =
-        two_operands_sound firm world s.env (binary_form s.env m prior x y o) (binary_marked s.env m prior x y o) (place_of x) (place_of y) (eval world x) (eval world y) _ _ _ (binary_sound m prior x y o h)
-        (within_sounds world _ (d + 1) _ (sounds_within x b.0 prior (d + 1) h)) (single_at x prior (d + 1))
-        (within_sounds world _ (d + 1) _ (sounds_within y b.1 prior (d + 1) h)) (single_at y prior (d + 1))
+        two_operands_sound strictly world s.env (binary_form s.env m prior x y o) (binary_marked s.env m prior x y o) (place_of x) (place_of y) (eval world x) (eval world y) _ _ _ (binary_sound m prior x y o h)
+        (within_sounds world _ (d + 1) _ (sounds_within x b.0 prior (d + 1) h)) (kept_at x prior (d + 1))
+        (within_sounds world _ (d + 1) _ (sounds_within y b.1 prior (d + 1) h)) (kept_at y prior (d + 1))
     sounds_within (call m n ts) b prior d h =
         let f = call_form s.env s.functions m n (arguments ts) in
-        call_sounds s world keeps n firm m ts _ (all_sound f.goes_on f.expects ts b prior (d + 1) h)
+        call_sounds s world keeps n strictly m ts _ (all_sound f.goes_on f.expects ts b prior (d + 1) h)
     sounds_within (get_attr m x a) b prior d h =
-        one_operand_sounds firm world s.env (get_form s.env m prior x a) (λ k xs. refl) (place_of x) (eval world x) _ _ (get_sound s.env world store m prior h x a firm partial joins) (within_sounds world _ (d + 1) _ (sounds_within x b prior (d + 1) h)) (single_at x prior (d + 1))
+        one_operand_sounds strictly world s.env (get_form s.env m prior x a) (λ k xs. refl) (place_of x) (eval world x) _ _ (get_sound s.env world store m prior h x a strictly partial joins) (within_sounds world _ (d + 1) _ (sounds_within x b prior (d + 1) h)) (kept_at x prior (d + 1))
     sounds_within (has_attr m x a) b prior d h =
-        one_operand_sounds firm world s.env (has_form s.env m prior x a) (λ k xs. refl) (place_of x) (eval world x) _ _ (of_any firm world (has_form s.env m prior x a) (eval world x ∷ []) _ (has_sound s.env world store m prior h x a)) (within_sounds world _ (d + 1) _ (sounds_within x b prior (d + 1) h)) (single_at x prior (d + 1))
+        one_operand_sounds strictly world s.env (has_form s.env m prior x a) (λ k xs. refl) (place_of x) (eval world x) _ _ (of_any strictly world (has_form s.env m prior x a) (eval world x ∷ []) _ (has_sound s.env world store m prior h x a)) (within_sounds world _ (d + 1) _ (sounds_within x b prior (d + 1) h)) (kept_at x prior (d + 1))
     sounds_within (ext_has_attr m x a xs) b prior d h =
-        one_operand_sounds firm world s.env (chain_form s.env m prior x a xs) (λ k ys. refl) (place_of x) (eval world x) _ _ (chain_sound s.env world store m prior h x a xs firm faults formed partial joins) (within_sounds world _ (d + 1) _ (sounds_within x b prior (d + 1) h)) (single_at x prior (d + 1))
+        one_operand_sounds strictly world s.env (chain_form s.env m prior x a xs) (λ k ys. refl) (place_of x) (eval world x) _ _ (chain_sound s.env world store m prior h x a xs strictly faults formed partial joins) (within_sounds world _ (d + 1) _ (sounds_within x b prior (d + 1) h)) (kept_at x prior (d + 1))
     sounds_within (like m x p) b prior d h =
-        one_operand_sounds firm world s.env (like_form m p) (λ k xs. refl) (place_of x) (eval world x) _ _ (of_any firm world (like_form m p) (eval world x ∷ []) _ (like_sound world m p (eval world x))) (within_sounds world _ (d + 1) _ (sounds_within x b prior (d + 1) h)) (single_at x prior (d + 1))
+        one_operand_sounds strictly world s.env (like_form m p) (λ k xs. refl) (place_of x) (eval world x) _ _ (of_any strictly world (like_form m p) (eval world x ∷ []) _ (like_sound world m p (eval world x))) (within_sounds world _ (d + 1) _ (sounds_within x b prior (d + 1) h)) (kept_at x prior (d + 1))
     sounds_within (is_type m x n) b prior d h =
-        one_operand_sounds firm world s.env (is_form m n) (λ k xs. refl) (place_of x) (eval world x) _ _ (of_any firm world (is_form m n) (eval world x ∷ []) _ (is_sound world m n (eval world x))) (within_sounds world _ (d + 1) _ (sounds_within x b prior (d + 1) h)) (single_at x prior (d + 1))
-    sounds_within (set_of m ts) b prior d h = set_sounds firm world s.env strict m ts _ (all_sound true [] ts b prior (d + 1) h)
-    sounds_within (record_of m fs) b prior d h = record_sounds firm world s.env m fs _ (fields_sound fs b prior (d + 1) h)
+        one_operand_sounds strictly world s.env (is_form m n) (λ k xs. refl) (place_of x) (eval world x) _ _ (of_any strictly world (is_form m n) (eval world x ∷ []) _ (is_sound world m n (eval world x))) (within_sounds world _ (d + 1) _ (sounds_within x b prior (d + 1) h)) (kept_at x prior (d + 1))
+    sounds_within (set_of m ts) b prior d h = set_sounds strictly world s.env strict m ts _ (all_sound true [] ts b prior (d + 1) h)
+    sounds_within (record_of m fs) b prior d h = record_sounds strictly world s.env m fs _ (fields_sound fs b prior (d + 1) h)
 
     -- expressions one after another
-    all_sound : (goes_on : Bool) (qs : List Expectation) (ts : Trees Written) → AllSlotsBound world.slots ts → (prior : Caps) (d : ℕ) → AllHold world prior → SoundsAll firm world qs (outcomes world ts) (rules_all s goes_on qs ts prior d)
-    all_sound goes_on qs no_trees b prior d h = none_sounds firm world qs
+    all_sound : (goes_on : Bool) (qs : List Expectation) (ts : Trees Written) → AllSlotsBound world.slots ts → (prior : Caps) (d : ℕ) → AllHold world prior → SoundsAll strictly world qs (outcomes world ts) (rules_all s goes_on qs ts prior d)
+    all_sound goes_on qs no_trees b prior d h = none_sounds strictly world qs
     all_sound goes_on qs (tree e ts) b prior d h =
-        more_sounds firm world s.env goes_on qs (place_of e) (eval world e) _ (within_sounds world _ d _ (sounds_within e b.0 prior d h)) (single_at e prior d) (outcomes world ts) _ (all_sound goes_on (later_expectations qs) ts b.1 prior d h)
+        more_sounds strictly world s.env goes_on qs (place_of e) (eval world e) _ (within_sounds world _ d _ (sounds_within e b.0 prior d h)) (kept_at e prior d) (outcomes world ts) _ (all_sound goes_on (later_expectations qs) ts b.1 prior d h)
 
     -- the values of fields
-    fields_sound : (fs : Fields Written) → FieldSlotsBound world.slots fs → (prior : Caps) (d : ℕ) → AllHold world prior → SoundsAll firm world [] (field_outcomes world fs) (rules_fields s fs prior d)
-    fields_sound no_fields b prior d h = none_sounds firm world []
+    fields_sound : (fs : Fields Written) → FieldSlotsBound world.slots fs → (prior : Caps) (d : ℕ) → AllHold world prior → SoundsAll strictly world [] (field_outcomes world fs) (rules_fields s fs prior d)
+    fields_sound no_fields b prior d h = none_sounds strictly world []
     fields_sound (field k e fs) b prior d h =
-        more_sounds firm world s.env false [] (place_of e) (eval world e) _ (within_sounds world _ d _ (sounds_within e b.0 prior d h)) (single_at e prior d) (field_outcomes world fs) _ (fields_sound fs b.1 prior d h)
+        more_sounds strictly world s.env false [] (place_of e) (eval world e) _ (within_sounds world _ d _ (sounds_within e b.0 prior d h)) (kept_at e prior d) (field_outcomes world fs) _ (fields_sound fs b.1 prior d h)
 
   pub sounds : (e : Source) → SlotsBound world.slots e → (prior : Caps) (d : ℕ) → AllHold world prior → Sounds world (eval world e) (rules s e prior d)
   sounds e b prior d h = within_sounds world _ d _ (sounds_within e b prior d h)

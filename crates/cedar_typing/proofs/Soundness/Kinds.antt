@@ -17,7 +17,7 @@ use Rattle.cedar_typing.specs.Evaluation.World.{World, Outcome, Gives, Fails}
 use Rattle.cedar_typing.specs.Rules.Unary.{is_empty_form, like_form, is_type_of, is_decides, is_form}
 use Rattle.cedar_typing.specs.Soundness.{HasFound, IsSafe}
 use Rattle.cedar_typing.specs.TypeTests.{accepts, string_types, set_types, entity_types}
-use Rattle.cedar_typing.proofs.SingleEntity.Eager.{decided_type}
+use Rattle.cedar_typing.proofs.KeptTypes.Eager.{decided_type}
 use Rattle.cedar_typing.proofs.Soundness.Eager.{AllFound, AreTypes, GiftIsSound, SoundForm}
 use Rattle.cedar_typing.proofs.Soundness.FixedTypes.{silent_gift, one_value_sound}
 

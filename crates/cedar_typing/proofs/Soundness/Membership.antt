@@ -26,7 +26,7 @@ use Rattle.cedar_typing.specs.Soundness.{HasFound, IsSafe}
 use Rattle.cedar_typing.specs.TypeEnv.{TypeEnv}
 use Rattle.cedar_typing.specs.TypeTests.{accepts, entity_types, ancestor_types}
 use Rattle.cedar_typing.specs.TypedExpr.{Source}
-use Rattle.cedar_typing.proofs.SingleEntity.Eager.{decided_type}
+use Rattle.cedar_typing.proofs.KeptTypes.Eager.{decided_type}
 use Rattle.cedar_typing.proofs.Soundness.Eager.{AllFound, AreTypes, GiftIsSound, SoundForm}
 use Rattle.cedar_typing.proofs.Soundness.Equality.{IsLiteral, literal_outcome}
 use Rattle.cedar_typing.proofs.Soundness.FixedTypes.{silent_gift}

@@ -24,7 +24,7 @@ use Rattle.cedar_typing.specs.Rules.Eager.{Judgments, eager_rules}
 use Rattle.cedar_typing.specs.Soundness.{HasFound, IsAllowed, IsSafe}
 use Rattle.cedar_typing.specs.TypeEnv.{TypeEnv, finding}
 use Rattle.cedar_typing.proofs.Basics.{or_left, or_right}
-use Rattle.cedar_typing.proofs.SingleEntity.Eager.{decided_type}
+use Rattle.cedar_typing.proofs.KeptTypes.Eager.{decided_type}
 use Rattle.cedar_typing.proofs.Soundness.Eager.{AllHave, AllSafe, GiftIsSound, SoundForm, SoundsAll, of_any, form_sounds}
 use Rattle.cedar_typing.proofs.Soundness.FixedTypes.{silent_gift}
 use Rattle.cedar_typing.proofs.Soundness.Parts.{Sounds}
@@ -167,10 +167,10 @@ module _ (world : World) (env : TypeEnv) (m : Written) (ks : List Text) (os : Li
 
 -- ---- evaluation
 
-pub record_sounds : (firm : Bool) (world : World) (env : TypeEnv) (m : Written) (fs : Fields Written) (Js : Judgments)
-    → SoundsAll firm world [] (field_outcomes world fs) Js → Sounds world (eval world (record_of m fs)) (eager_rules (record_form env m (field_keys fs)) Js)
-record_sounds firm world env m fs Js operands =
+pub record_sounds : (strictly : Bool) (world : World) (env : TypeEnv) (m : Written) (fs : Fields Written) (Js : Judgments)
+    → SoundsAll strictly world [] (field_outcomes world fs) Js → Sounds world (eval world (record_of m fs)) (eager_rules (record_form env m (field_keys fs)) Js)
+record_sounds strictly world env m fs Js operands =
     let ks = field_keys fs in
     let os = field_outcomes world fs in
     subst (λ z. Sounds world (record_outcome z) (eager_rules (record_form env m ks) Js)) (evaluated_together world fs)
-    (form_sounds firm world (record_form env m ks) (λ k xs. refl) os (record_outcome (entries_together ks os)) (of_any firm world (record_form env m ks) os (record_outcome (entries_together ks os)) (record_sound world env m ks os)) Js operands)
+    (form_sounds strictly world (record_form env m ks) (λ k xs. refl) os (record_outcome (entries_together ks os)) (of_any strictly world (record_form env m ks) os (record_outcome (entries_together ks os)) (record_sound world env m ks os)) Js operands)

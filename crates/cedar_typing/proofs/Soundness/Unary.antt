@@ -8,7 +8,7 @@ use Rattle.cedar_typing.specs.Evaluation.World.{World, Outcome}
 use Rattle.cedar_typing.specs.Rules.Unary.{not_type, not_form}
 use Rattle.cedar_typing.specs.Soundness.{HasFound, IsSafe}
 use Rattle.cedar_typing.specs.TypeTests.{accepts, bool_types}
-use Rattle.cedar_typing.proofs.SingleEntity.Eager.{decided_type}
+use Rattle.cedar_typing.proofs.KeptTypes.Eager.{decided_type}
 use Rattle.cedar_typing.proofs.Soundness.Capabilities.{hold_none}
 use Rattle.cedar_typing.proofs.Soundness.Conjunction.{of_test_safe}
 use Rattle.cedar_typing.proofs.Soundness.Eager.{AreTypes, GiftIsSound, AllFound, SoundForm}

@@ -1,5 +1,6 @@
 // The check of a policy in all of its environments.
 ghost use Rattle.std.specs.Prelude.{◌≡◌, ◌∷◌, List, IfOk, OnOk, OnErr, IsPermutation, map};
+ghost use Rattle.cedar_types.specs.declared.base.types.ValidationMode.TheVariants.{Permissive};
 ghost use Rattle.cedar_types.specs.Errors.{finding_of, caution_of};
 ghost use Rattle.cedar_types.specs.Linking.{checked_envs};
 ghost use Rattle.cedar_types.specs.SchemaContents.{schema_of};
@@ -8,7 +9,6 @@ ghost use Rattle.cedar_typing.specs.CheckViews.{schema_by, mode_by, basis_of, ve
 ghost use Rattle.cedar_typing.specs.EnvironmentChecks.{ChecksIn};
 ghost use Rattle.cedar_typing.specs.PolicyCheck.{Verdict};
 ghost use Rattle.cedar_typing.specs.PolicyOutcome.{impossible, PolicyOutcome};
-ghost use Rattle.cedar_types.specs.declared.base.types.ValidationMode.TheVariants.{Permissive};
 ghost use Rattle.cedar_typing.specs.PolicySoundness.{PolicyIsSafe, ImpossibleIsNeverTrue, PolicyIsSafeIn, ImpossibleIsNeverTrueIn};
 ghost use Rattle.cedar_typing.specs.PolicyViews.{IsTally, TalliesEnvs};
 
@@ -35,12 +35,12 @@ impl<'a, C: ArgumentCheck> Typechecker<'a, C> {
     /// `type_errors` gains each error that some check found. `warnings` gains `ImpossiblePolicy`, at the template's place,
     /// exactly where each check is irrelevant, so where there is no environment too. One typed condition is held at a time.
     ///
-    /// In Strict, by a schema without external declarations, a policy that passes does not go wrong (clause `safe`): where it
-    /// has no unknowns, the passes over types and actions find no unknown name in it, its slots stand in the scope alone and
-    /// are bound, the request and the store conform and the extension functions keep to their table, evaluation gives a boolean
-    /// or fails only for a missing entity, an overflow or an extension function. A policy that this call newly warns to be
-    /// impossible is then never true (clause `never_true`), whether or not it passes, what names it has, and what its slots are
-    /// bound to, if they are.
+    /// In Strict and in Permissive, by a schema without external declarations, a policy that passes does not go wrong
+    /// (clauses `safe` and `safe_in_permissive`): where it has no unknowns, the passes over types and actions find no unknown
+    /// name in it, its slots stand in the scope alone and are bound, the request and the store conform and the extension
+    /// functions keep to their table, evaluation gives a boolean or fails only for a missing entity, an overflow or an
+    /// extension function. A policy that this call newly warns to be impossible is then never true (clauses `never_true` and
+    /// `never_true_in_permissive`), whether or not it passes, what names it has, and what its slots are bound to, if they are.
     ///
     /// Where memory is refused, the answer is an `AllocError`, and both sets hold what they held.
     pub fn typecheck_policy(

@@ -1,11 +1,11 @@
 // The check of a policy in one environment.
 ghost use Rattle.std.specs.Prelude.{◌≡◌, IfOk, map, option_map};
 ghost use Rattle.cedar_types.specs.View.{written};
+ghost use Rattle.cedar_types.specs.declared.base.types.ValidationMode.TheVariants.{Permissive};
 ghost use Rattle.cedar_types.specs.Errors.{finding_of};
 ghost use Rattle.cedar_types.specs.Templates.{template_of, condition_of, with_rest};
 ghost use Rattle.cedar_typing.specs.CheckViews.{verdict_of, schema_by, extensions_by, mode_by, setting_for};
 ghost use Rattle.cedar_typing.specs.PolicyCheck.{PolicyChecks, policy_check, part_verdict};
-ghost use Rattle.cedar_types.specs.declared.base.types.ValidationMode.TheVariants.{Permissive};
 ghost use Rattle.cedar_typing.specs.SoundPolicyCheck.{IsSoundPolicyCheck, IsSoundPolicyCheckIn};
 ghost use Rattle.cedar_typing.specs.SettingViews.{setting_at};
 ghost use Rattle.cedar_typing.specs.Views.{env_at, part_of};
@@ -37,8 +37,8 @@ pub enum PolicyCheck {
     Irrelevant(Vec<ValidationError>, Expr<Option<CedarType>>),
     /// The condition is refused. There may be no error: an entity whose type the schema does not know, an action that it
     /// does not declare and an unknown fail without one, and so does what is nested too deep. A host that prints errors
-    /// alone would show such a policy as clean. The passes over names and ids name the first two. In Strict there is no
-    /// other failure without an error (`composition::failures_have_errors`).
+    /// alone would show such a policy as clean. The passes over names and ids name the first two. In Strict and in
+    /// Permissive there is no other failure without an error (`composition::failures_have_errors`).
     Fail(Vec<ValidationError>),
 }
 
@@ -74,11 +74,11 @@ impl<'a, C: ArgumentCheck> Typechecker<'a, C> {
     /// The check of a template's condition in this environment: a success, irrelevant, or failed, perhaps without an error
     /// (`PolicyCheck::Fail`).
     ///
-    /// In Strict, by a schema without external declarations, in one of its own environments, whose slots are linked in any
-    /// way: where a request and slots fit the environment, the store conforms, the extension functions keep to their table
-    /// and each slot of the condition is bound, a success promises that evaluation gives a boolean or fails only for a
-    /// missing entity, an overflow or an extension function, and an irrelevant condition is never true. Nothing is promised
-    /// of another environment or mode.
+    /// In Strict and in Permissive (clauses `sound` and `sound_in_permissive`), by a schema without external declarations, in
+    /// one of its own environments, whose slots are linked in any way: where a request and slots fit the environment, the
+    /// store conforms, the extension functions keep to their table and each slot of the condition is bound, a success promises
+    /// that evaluation gives a boolean or fails only for a missing entity, an overflow or an extension function, and an
+    /// irrelevant condition is never true. Nothing is promised of another environment, nor in Partial.
     ///
     /// That each type and action that the policy names is the schema's, also in parts that are not visited, and each id of an
     /// enumerated type one of its ids, is left to the passes over names and ids.

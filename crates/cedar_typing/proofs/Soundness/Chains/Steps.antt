@@ -25,8 +25,8 @@ use Rattle.cedar_typing.specs.TypeTests.{accepts, object_types, is_false, is_tru
 use Rattle.cedar_typing.specs.TypedExpr.{Source}
 use Rattle.cedar_typing.proofs.Basics.{or_cases}
 use Rattle.cedar_typing.proofs.Operands.{record_accepted}
-use Rattle.cedar_typing.proofs.SingleEntity.Chains.{IsBool, end_bool}
-use Rattle.cedar_typing.proofs.SingleEntity.Eager.{decided_type}
+use Rattle.cedar_typing.proofs.KeptTypes.Chains.{IsBool, end_bool}
+use Rattle.cedar_typing.proofs.KeptTypes.Eager.{decided_type}
 use Rattle.cedar_typing.proofs.Soundness.Capabilities.{eval_form, hold_none, hold_just, hold_either}
 use Rattle.cedar_typing.proofs.Soundness.Parts.{IsSure}
 use Rattle.cedar_typing.proofs.Values.Attributes.{required_has, has_says, has_not}

@@ -9,8 +9,8 @@ turned true false = refl
 turned false true = refl
 turned false false = refl
 
-pub returns : goal.returns
+pub returns-clause-added : goal.returns-clause-added
 unfolding caps
-returns c = λ q.
+returns-clause-added c = λ q.
     let old = c.args.self.now.set.keys in
     ap (λ ks. among ks q) c.in_ok-insert.ensures.keys ∙ insert_is q c.args.c old ∙ turned (cap_eq q (cap_of c.args.c)) (among old q)

@@ -14,7 +14,7 @@ use Rattle.cedar_types.proofs.Schema.Faultless.{faultless}
 use Rattle.cedar_types.specs.FormedSchemas.{kind_is_formed, application_is_formed, has_formed_types}
 use Rattle.cedar_typing.proofs.Basics.{some_is, not_true}
 use Rattle.cedar_typing.proofs.Bounds.Attributes.{AttributesFormed}
-use Rattle.cedar_typing.proofs.SingleEntity.Types.{is_kept, are_kept, are_names_kept, HasKept, kept_formed, definite_attrs_kept, kept_attr, kept_lub}
+use Rattle.cedar_typing.proofs.KeptTypes.Types.{is_kept, are_kept, are_names_kept, HasKept, kept_formed, definite_attrs_kept, kept_attr, kept_lub}
 
 module _ {A : Type 0} (p q : A → Bool) where
   same_passes : (x y : A) → Some x ≡ Some y → p x ≡ true → p y ≡ true
@@ -30,51 +30,51 @@ module _ {A : Type 0} (p q : A → Bool) where
 
 -- ---- what may be left out in Strict
 
-pub either_left : (firm a b : Bool) → (firm || (a && b)) ≡ true → (firm || a) ≡ true
+pub either_left : (strictly a b : Bool) → (strictly || (a && b)) ≡ true → (strictly || a) ≡ true
 either_left true a b h = refl
 either_left false a b h = and_left a b h
 
-pub either_right : (firm a b : Bool) → (firm || (a && b)) ≡ true → (firm || b) ≡ true
+pub either_right : (strictly a b : Bool) → (strictly || (a && b)) ≡ true → (strictly || b) ≡ true
 either_right true a b h = refl
 either_right false a b h = and_right a b h
 
-pub either_of : (firm a b : Bool) → (a ≡ true → b ≡ true) → (firm || a) ≡ true → (firm || b) ≡ true
+pub either_of : (strictly a b : Bool) → (a ≡ true → b ≡ true) → (strictly || a) ≡ true → (strictly || b) ≡ true
 either_of true a b f h = refl
 either_of false a b f h = f h
 
 -- ---- one entity type
 
-module _ (firm : Bool) where
+module _ (strictly : Bool) where
   -- the type that was found is kept to
   abbrev pub FoundKept : Option (Ty × Bool) → Type 0
   FoundKept None = Unit {0}
-  FoundKept (Some a) = is_kept firm a.0 ≡ true
+  FoundKept (Some a) = is_kept strictly a.0 ≡ true
 
-  kind_kept : (k : TypeKind) (x : Text) (t : Ty) (r : Bool) → kind_is_definite k ≡ true → (firm || kind_is_formed k) ≡ true → ◌≡◌ {A = Option (Ty × Bool)} (kind_attribute x k) (Some (t, r)) → is_kept firm t ≡ true
+  kind_kept : (k : TypeKind) (x : Text) (t : Ty) (r : Bool) → kind_is_definite k ≡ true → (strictly || kind_is_formed k) ≡ true → ◌≡◌ {A = Option (Ty × Bool)} (kind_attribute x k) (Some (t, r)) → is_kept strictly t ≡ true
   kind_kept (StandardKind attrs tags) x t r d w e =
       let names = texts_ascending (attr_names attrs) in
-      let formed = either_right firm names (are_well_formed attrs) (either_left firm (is_well_formed (TRecord attrs false)) (tags_pass is_well_formed tags) w) in
-      kept_attr firm x attrs t r (definite_attrs_kept firm attrs (not_true (are_vague attrs) (and_left (not (are_vague attrs)) (tags_pass (λ t. not (is_vague t)) tags) d)) formed) e
+      let formed = either_right strictly names (are_well_formed attrs) (either_left strictly (is_well_formed (TRecord attrs false)) (tags_pass is_well_formed tags) w) in
+      kept_attr strictly x attrs t r (definite_attrs_kept strictly attrs (not_true (are_vague attrs) (and_left (not (are_vague attrs)) (tags_pass (λ t. not (is_vague t)) tags) d)) formed) e
   kind_kept (EnumKind ids) x t r d w e = cc
   kind_kept ExternalKind x t r d w e = cc
 
-  type_kept : (o : Option DeclaredType) (x : Text) (t : Ty) (r : Bool) → ((d : DeclaredType) → o ≡ Some d → kind_is_definite d.kind ≡ true) → ((d : DeclaredType) → o ≡ Some d → (firm || kind_is_formed d.kind) ≡ true) → ◌≡◌ {A = Option (Ty × Bool)} (declared_kind_attribute x o) (Some (t, r)) → is_kept firm t ≡ true
+  type_kept : (o : Option DeclaredType) (x : Text) (t : Ty) (r : Bool) → ((d : DeclaredType) → o ≡ Some d → kind_is_definite d.kind ≡ true) → ((d : DeclaredType) → o ≡ Some d → (strictly || kind_is_formed d.kind) ≡ true) → ◌≡◌ {A = Option (Ty × Bool)} (declared_kind_attribute x o) (Some (t, r)) → is_kept strictly t ≡ true
   type_kept None x t r f g e = cc
   type_kept (Some d) x t r f g e = kind_kept d.kind x t r (f d refl) (g d refl) e
 
-  found_kept : (o : Option (Ty × Bool)) → ((t : Ty) (r : Bool) → o ≡ Some (t, r) → is_kept firm t ≡ true) → FoundKept o
+  found_kept : (o : Option (Ty × Bool)) → ((t : Ty) (r : Bool) → o ≡ Some (t, r) → is_kept strictly t ≡ true) → FoundKept o
   found_kept None f = tt
   found_kept (Some a) f = f a.0 a.1 refl
 
-  some_kept : (o : Option (Ty × Bool)) (t : Ty) (r : Bool) → FoundKept o → o ≡ Some (t, r) → is_kept firm t ≡ true
+  some_kept : (o : Option (Ty × Bool)) (t : Ty) (r : Bool) → FoundKept o → o ≡ Some (t, r) → is_kept strictly t ≡ true
   some_kept o t r h e = subst FoundKept e h
 
-  module _ (s : Schema) (f : has_fault s ≡ false) (w : (firm || has_formed_types s) ≡ true) where
+  module _ (s : Schema) (f : has_fault s ≡ false) (w : (strictly || has_formed_types s) ≡ true) where
     abbrev types_formed : Bool
     types_formed = list_all (λ (d : DeclaredType). kind_is_formed d.kind) s.types
 
-    pub types_are_formed : (firm || types_formed) ≡ true
-    types_are_formed = either_left firm types_formed (list_all (λ (a : DeclaredAction). application_is_formed a.applies_to) s.actions) w
+    pub types_are_formed : (strictly || types_formed) ≡ true
+    types_are_formed = either_left strictly types_formed (list_all (λ (a : DeclaredAction). application_is_formed a.applies_to) s.actions) w
 
     declared_kept : (p : Path) (x : Text) → FoundKept (declared_attribute s.types x p)
     declared_kept p x =
@@ -82,7 +82,7 @@ module _ (firm : Bool) where
         found_kept (declared_attribute s.types x p)
         (λ t r. type_kept (type_named s.types p) x t r
         (λ d. found_passes (λ (d : DeclaredType). kind_is_definite d.kind) (λ d. path_eq p d.name) s.types d definite)
-        (λ d e. either_of firm types_formed (kind_is_formed d.kind) (λ h. found_passes (λ (d : DeclaredType). kind_is_formed d.kind) (λ d. path_eq p d.name) s.types d h e) types_are_formed))
+        (λ d e. either_of strictly types_formed (kind_is_formed d.kind) (λ h. found_passes (λ (d : DeclaredType). kind_is_formed d.kind) (λ d. path_eq p d.name) s.types d h e) types_are_formed))
 
 -- ---- several entity types, which there are in Permissive alone
 
@@ -99,7 +99,7 @@ folded_kept : (s : Schema) → has_fault s ≡ false → (false || has_formed_ty
 folded_kept s f w x [] o h = h
 folded_kept s f w x (p ∷ ps) o h = folded_kept s f w x ps _ (joined_kept o (declared_attribute s.types x p) h (declared_kept false s f w p x))
 
-choice_kept : (firm : Bool) (s : Schema) → has_fault s ≡ false → (firm || has_formed_types s) ≡ true → (p q : Path) (ps : List Path) (x : Text) → is_kept firm (TEntity (p ∷ q ∷ ps)) ≡ true → FoundKept firm (types_attribute s.types x (p ∷ q ∷ ps))
+choice_kept : (strictly : Bool) (s : Schema) → has_fault s ≡ false → (strictly || has_formed_types s) ≡ true → (p q : Path) (ps : List Path) (x : Text) → is_kept strictly (TEntity (p ∷ q ∷ ps)) ≡ true → FoundKept strictly (types_attribute s.types x (p ∷ q ∷ ps))
 choice_kept true s f w p q ps x n = absurd (true≢false (sym n))
 choice_kept false s f w p q ps x n = folded_kept s f w x (q ∷ ps) (declared_attribute s.types x p) (declared_kept false s f w p x)
 
@@ -112,17 +112,17 @@ declared_formed s f w x p a e = formed_found (declared_attribute s.types x p) a 
 
 -- ---- any type
 
-module _ (firm : Bool) (s : Schema) (f : has_fault s ≡ false) (w : (firm || has_formed_types s) ≡ true) where
-  pub attribute_narrow : (b : Ty) (x : Text) (t : Ty) (r : Bool) → is_kept firm b ≡ true → ◌≡◌ {A = Option (Ty × Bool)} (attribute_type s b x) (Some (t, r)) → is_kept firm t ≡ true
-  attribute_narrow TNever x t r n e = cc
-  attribute_narrow (TBool k) x t r n e = cc
-  attribute_narrow TLong x t r n e = cc
-  attribute_narrow TString x t r n e = cc
-  attribute_narrow (TSet u) x t r n e = cc
-  attribute_narrow TAnySet x t r n e = cc
-  attribute_narrow (TRecord xs o) x t r n e = kept_attr firm x xs t r (and_right (are_names_kept firm (attr_names xs)) (are_kept firm xs) n) e
-  attribute_narrow (TEntity []) x t r n e = cc
-  attribute_narrow (TEntity (p ∷ [])) x t r n e = some_kept firm (declared_attribute s.types x p) t r (declared_kept firm s f w p x) e
-  attribute_narrow (TEntity (p ∷ q ∷ ps)) x t r n e = some_kept firm (types_attribute s.types x (p ∷ q ∷ ps)) t r (choice_kept firm s f w p q ps x n) e
-  attribute_narrow TAnyEntity x t r n e = cc
-  attribute_narrow (TExtension m) x t r n e = cc
+module _ (strictly : Bool) (s : Schema) (f : has_fault s ≡ false) (w : (strictly || has_formed_types s) ≡ true) where
+  pub attribute_kept : (b : Ty) (x : Text) (t : Ty) (r : Bool) → is_kept strictly b ≡ true → ◌≡◌ {A = Option (Ty × Bool)} (attribute_type s b x) (Some (t, r)) → is_kept strictly t ≡ true
+  attribute_kept TNever x t r n e = cc
+  attribute_kept (TBool k) x t r n e = cc
+  attribute_kept TLong x t r n e = cc
+  attribute_kept TString x t r n e = cc
+  attribute_kept (TSet u) x t r n e = cc
+  attribute_kept TAnySet x t r n e = cc
+  attribute_kept (TRecord xs o) x t r n e = kept_attr strictly x xs t r (and_right (are_names_kept strictly (attr_names xs)) (are_kept strictly xs) n) e
+  attribute_kept (TEntity []) x t r n e = cc
+  attribute_kept (TEntity (p ∷ [])) x t r n e = some_kept strictly (declared_attribute s.types x p) t r (declared_kept strictly s f w p x) e
+  attribute_kept (TEntity (p ∷ q ∷ ps)) x t r n e = some_kept strictly (types_attribute s.types x (p ∷ q ∷ ps)) t r (choice_kept strictly s f w p q ps x n) e
+  attribute_kept TAnyEntity x t r n e = cc
+  attribute_kept (TExtension m) x t r n e = cc

@@ -15,15 +15,15 @@ use Rattle.cedar_typing.specs.Rules.Chains.{Progress, no_steps, is_object, step_
 use Rattle.cedar_typing.specs.TypeEnv.{TypeEnv}
 use Rattle.cedar_typing.specs.TypeTests.{is_false}
 use Rattle.cedar_typing.specs.TypedExpr.{Source, place_of}
-use Rattle.cedar_typing.proofs.SingleEntity.Eager.{decided_type, SingleForm}
-use Rattle.cedar_typing.proofs.SingleEntity.Types.{HasKept}
+use Rattle.cedar_typing.proofs.KeptTypes.Eager.{decided_type, KeptForm}
+use Rattle.cedar_typing.proofs.KeptTypes.Types.{HasKept}
 
 -- a type was found, and it is a Boolean
 abbrev pub IsBool : Option Ty → Type 0
 IsBool t = (k : BoolType) × (t ≡ Some (TBool k))
 
-bool_single : (firm : Bool) (t : Option Ty) → IsBool t → HasKept firm t
-bool_single firm t h = subst (HasKept firm) (sym h.1) refl
+bool_kept : (strictly : Bool) (t : Option Ty) → IsBool t → HasKept strictly t
+bool_kept strictly t h = subst (HasKept strictly) (sym h.1) refl
 
 bool_if : (b : Bool) (d d' : Decision) → IsBool (decided_type d) → IsBool (decided_type d') → IsBool (decided_type (if b then d else d'))
 bool_if true d d' h k = h
@@ -58,7 +58,7 @@ module _ (env : TypeEnv) where
   chain_bool l l' prior [] e s x p = step_bool l (attribute_of e x) (union prior p.earned (attribute_of e x)) s x p end_of_chain (λ q. end_bool q.all_true)
   chain_bool l l' prior (y ∷ ys) e s x p = link_bool l prior e s x p (λ t q. chain env l' l' prior ys (made_up e x) t y q) (λ t q. chain_bool l' l' prior ys (made_up e x) t y q)
 
-pub chain_single : (firm : Bool) (env : TypeEnv) (m : Written) (prior : Caps) (e : Source) (x : Text) (xs : List Text) → SingleForm firm (chain_form env m prior e x xs)
-chain_single firm env m prior e x xs [] h = refl
-chain_single firm env m prior e x xs (None ∷ ts) h = refl
-chain_single firm env m prior e x xs (Some s ∷ ts) h = bool_single firm _ (chain_bool env (place_of e) m.place prior xs e s x no_steps)
+pub chain_kept : (strictly : Bool) (env : TypeEnv) (m : Written) (prior : Caps) (e : Source) (x : Text) (xs : List Text) → KeptForm strictly (chain_form env m prior e x xs)
+chain_kept strictly env m prior e x xs [] h = refl
+chain_kept strictly env m prior e x xs (None ∷ ts) h = refl
+chain_kept strictly env m prior e x xs (Some s ∷ ts) h = bool_kept strictly _ (chain_bool env (place_of e) m.place prior xs e s x no_steps)

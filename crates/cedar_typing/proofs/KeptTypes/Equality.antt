@@ -17,8 +17,8 @@ use Rattle.cedar_typing.specs.Rules.Leaves.{bool_ty}
 use Rattle.cedar_typing.specs.TypeEnv.{TypeEnv}
 use Rattle.cedar_typing.specs.TypeTests.{is_any_bool}
 use Rattle.cedar_typing.specs.TypedExpr.{Source}
-use Rattle.cedar_typing.proofs.SingleEntity.Eager.{decided_type, SingleForm}
-use Rattle.cedar_typing.proofs.SingleEntity.Types.{is_kept, HasKept}
+use Rattle.cedar_typing.proofs.KeptTypes.Eager.{decided_type, KeptForm}
+use Rattle.cedar_typing.proofs.KeptTypes.Types.{is_kept, HasKept}
 
 -- ---- the type stays, whether or not there are errors
 
@@ -35,34 +35,34 @@ equality_given env l u s t = given_if (is_any_bool u) (strict_errors env l Equal
 
 -- ---- `==`
 
-bool_single : (firm b : Bool) → is_kept firm (bool_ty b) ≡ true
-bool_single firm true = refl
-bool_single firm false = refl
+bool_kept : (strictly b : Bool) → is_kept strictly (bool_ty b) ≡ true
+bool_kept strictly true = refl
+bool_kept strictly false = refl
 
-compared_single : (firm : Bool) (x y : Option Lit) → is_kept firm (compared_literals x y) ≡ true
-compared_single firm None y = refl
-compared_single firm (Some x) None = refl
-compared_single firm (Some x) (Some y) = bool_single firm (lit_eq x y)
+compared_kept : (strictly : Bool) (x y : Option Lit) → is_kept strictly (compared_literals x y) ≡ true
+compared_kept strictly None y = refl
+compared_kept strictly (Some x) None = refl
+compared_kept strictly (Some x) (Some y) = bool_kept strictly (lit_eq x y)
 
-apart_single : (firm apart : Bool) (x y : Option Lit) → is_kept firm (if apart then TBool False else compared_literals x y) ≡ true
-apart_single firm true x y = refl
-apart_single firm false x y = compared_single firm x y
+apart_kept : (strictly apart : Bool) (x y : Option Lit) → is_kept strictly (if apart then TBool False else compared_literals x y) ≡ true
+apart_kept strictly true x y = refl
+apart_kept strictly false x y = compared_kept strictly x y
 
-pub equality_single : (firm : Bool) (env : TypeEnv) (m : Written) (a b : Source) → SingleForm firm (equality_form env m a b)
-equality_single firm env m a b ts h =
+pub equality_kept : (strictly : Bool) (env : TypeEnv) (m : Written) (a b : Source) → KeptForm strictly (equality_form env m a b)
+equality_kept strictly env m a b ts h =
     let x = literal_of env.request_env a in
     let y = literal_of env.request_env b in
     let s = first_type ts in
     let t = second_type ts in
-    subst (HasKept firm) (sym (equality_given env m.place (equality_type x y s t) s t)) (apart_single firm (are_apart s t) x y)
+    subst (HasKept strictly) (sym (equality_given env m.place (equality_type x y s t) s t)) (apart_kept strictly (are_apart s t) x y)
 
 -- ---- sets and their members
 
-given_single : (firm : Bool) (fs : List Finding) → HasKept firm (decided_type (gives_unless fs (TBool AnyBool)))
-given_single firm fs = subst (HasKept firm) (sym (given_type fs (TBool AnyBool))) refl
+given_kept : (strictly : Bool) (fs : List Finding) → HasKept strictly (decided_type (gives_unless fs (TBool AnyBool)))
+given_kept strictly fs = subst (HasKept strictly) (sym (given_type fs (TBool AnyBool))) refl
 
-pub contains_single : (firm : Bool) (env : TypeEnv) (m : Written) → SingleForm firm (contains_form env m)
-contains_single firm env m ts h = given_single firm (strict_errors env m.place Contains (member_type (first_type ts)) (second_type ts))
+pub contains_kept : (strictly : Bool) (env : TypeEnv) (m : Written) → KeptForm strictly (contains_form env m)
+contains_kept strictly env m ts h = given_kept strictly (strict_errors env m.place Contains (member_type (first_type ts)) (second_type ts))
 
-pub contains_several_single : (firm : Bool) (env : TypeEnv) (m : Written) (o : BinaryOp) → SingleForm firm (contains_several_form env m o)
-contains_several_single firm env m o ts h = given_single firm (strict_errors env m.place ContainsAnyAll (first_type ts) (second_type ts))
+pub contains_several_kept : (strictly : Bool) (env : TypeEnv) (m : Written) (o : BinaryOp) → KeptForm strictly (contains_several_form env m o)
+contains_several_kept strictly env m o ts h = given_kept strictly (strict_errors env m.place ContainsAnyAll (first_type ts) (second_type ts))

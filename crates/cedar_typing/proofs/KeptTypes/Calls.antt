@@ -11,8 +11,8 @@ use Rattle.cedar_typing.specs.Rules.Calls.{return_type, call_decides, call_error
 use Rattle.cedar_typing.specs.TypeEnv.{TypeEnv}
 use Rattle.cedar_typing.specs.TypedExpr.{Source}
 use Rattle.cedar_typing.proofs.Basics.{some_is, neither_left, neither_right}
-use Rattle.cedar_typing.proofs.SingleEntity.Eager.{decided_type, SingleForm}
-use Rattle.cedar_typing.proofs.SingleEntity.Types.{is_kept, HasKept, element_kept}
+use Rattle.cedar_typing.proofs.KeptTypes.Eager.{decided_type, KeptForm}
+use Rattle.cedar_typing.proofs.KeptTypes.Types.{is_kept, HasKept, element_kept}
 
 -- ---- what a function of a table without faults returns
 
@@ -38,21 +38,21 @@ no_fault false x r h = refl
 pub function_returns : (n : Path) (fs : List ExtensionFunction) (f : ExtensionFunction) → function_named n fs ≡ Some f → table_fault fs ≡ None → may_be_returned f.return_type ≡ true
 function_returns n fs f e h = named_returns n fs f (no_fault (list_any has_bad_return fs) _ _ h) e
 
-plain_single : (firm : Bool) (t : Ty) → is_plain_type t ≡ true → is_kept firm t ≡ true
-plain_single firm TNever h = cc
-plain_single firm (TBool k) h = refl
-plain_single firm TLong h = refl
-plain_single firm TString h = refl
-plain_single firm (TSet t) h = cc
-plain_single firm TAnySet h = refl
-plain_single firm (TRecord xs o) h = cc
-plain_single firm (TEntity ps) h = cc
-plain_single firm TAnyEntity h = refl
-plain_single firm (TExtension n) h = refl
+plain_kept : (strictly : Bool) (t : Ty) → is_plain_type t ≡ true → is_kept strictly t ≡ true
+plain_kept strictly TNever h = cc
+plain_kept strictly (TBool k) h = refl
+plain_kept strictly TLong h = refl
+plain_kept strictly TString h = refl
+plain_kept strictly (TSet t) h = cc
+plain_kept strictly TAnySet h = refl
+plain_kept strictly (TRecord xs o) h = cc
+plain_kept strictly (TEntity ps) h = cc
+plain_kept strictly TAnyEntity h = refl
+plain_kept strictly (TExtension n) h = refl
 
-returned_single : (firm : Bool) (t : Ty) → may_be_returned t ≡ true → is_kept firm t ≡ true
-returned_single firm (TSet t) h = element_kept firm t (plain_single firm t h)
-returned_single firm t h = plain_single firm t h
+returned_kept : (strictly : Bool) (t : Ty) → may_be_returned t ≡ true → is_kept strictly t ≡ true
+returned_kept strictly (TSet t) h = element_kept strictly t (plain_kept strictly t h)
+returned_kept strictly t h = plain_kept strictly t h
 
 -- ---- calls
 
@@ -62,12 +62,12 @@ call_type None es = refl
 call_type (Some t) [] = refl
 call_type (Some t) (e ∷ es) = refl
 
-module _ (firm : Bool) (env : TypeEnv) (fs : List ExtensionFunction) (faults : table_fault fs ≡ None) (m : Written) (n : Path) (xs : List Source) where
-  return_single : (f : Option ExtensionFunction) → function_named n fs ≡ f → HasKept firm (return_type f)
-  return_single None e = tt
-  return_single (Some f) e = returned_single firm f.return_type (function_returns n fs f e faults)
+module _ (strictly : Bool) (env : TypeEnv) (fs : List ExtensionFunction) (faults : table_fault fs ≡ None) (m : Written) (n : Path) (xs : List Source) where
+  return_kept : (f : Option ExtensionFunction) → function_named n fs ≡ f → HasKept strictly (return_type f)
+  return_kept None e = tt
+  return_kept (Some f) e = returned_kept strictly f.return_type (function_returns n fs f e faults)
 
-  pub call_single : SingleForm firm (call_form env fs m n xs)
-  call_single ts h =
+  pub call_kept : KeptForm strictly (call_form env fs m n xs)
+  call_kept ts h =
       let f = function_named n fs in
-      subst (HasKept firm) (sym (call_type (return_type f) (call_errors env m.place f n xs))) (return_single f refl)
+      subst (HasKept strictly) (sym (call_type (return_type f) (call_errors env m.place f n xs))) (return_kept f refl)

@@ -1,4 +1,5 @@
--- In Strict a type that is found names one entity type at most, and is not Never.
+-- What typing keeps to: no type that is found is Never; in Strict none names several entity types, and in Permissive names
+-- ascend in all of them.
 pub mod Types
 pub mod Rules
 pub mod Eager

@@ -1,6 +1,6 @@
--- Types that typing keeps to, in Strict and in Permissive: Never stands nowhere that an expression may come to. In Strict, which is
--- said by `firm`, no choice of entity types stands in them; in Permissive their names ascend, as sets of entity types are united
--- and records joined by width.
+-- The types that typing finds, in Strict and in Permissive. None is Never, which occurs as the type of a set's elements alone, in
+-- Permissive. In Strict (`strictly`) none names several entity types; in Permissive, which unites sets of entity types and joins
+-- records by width, names ascend in each.
 use Rattle.std.proofs.Common.{◌≡◌, ℕ, suc, Bool, true, false, true≢false, arith, ◌&&◌, ◌||◌, List, [], ◌∷◌, Option, Some, None, option_map, if◌then◌else◌, refl, sym, ◌∙◌, ap, subst, nat_lt}
 use Rattle.std.specs.Prelude.{length}
 use Rattle.std.proofs.lemmas.Grind.{common_steps}
@@ -34,25 +34,25 @@ are_names_kept false ks = texts_ascending ks
 abbrev mutual
   -- Never stands nowhere but in a set in Permissive, where `[]` has it; no expression comes to an element of a set
   pub is_kept : Bool → Ty → Bool
-  is_kept firm TNever = false
-  is_kept firm (TBool k) = true
-  is_kept firm TLong = true
-  is_kept firm TString = true
-  is_kept firm (TSet t) = if firm then is_kept firm t else is_well_formed t
-  is_kept firm TAnySet = true
-  is_kept firm (TRecord xs o) = are_names_kept firm (attr_names xs) && are_kept firm xs
-  is_kept firm (TEntity ps) = is_choice_kept firm ps
-  is_kept firm TAnyEntity = true
-  is_kept firm (TExtension n) = true
+  is_kept strictly TNever = false
+  is_kept strictly (TBool k) = true
+  is_kept strictly TLong = true
+  is_kept strictly TString = true
+  is_kept strictly (TSet t) = if strictly then is_kept strictly t else is_well_formed t
+  is_kept strictly TAnySet = true
+  is_kept strictly (TRecord xs o) = are_names_kept strictly (attr_names xs) && are_kept strictly xs
+  is_kept strictly (TEntity ps) = is_choice_kept strictly ps
+  is_kept strictly TAnyEntity = true
+  is_kept strictly (TExtension n) = true
 
   pub are_kept : Bool → Attrs → Bool
-  are_kept firm no_attrs = true
-  are_kept firm (attr k t r xs) = is_kept firm t && are_kept firm xs
+  are_kept strictly no_attrs = true
+  are_kept strictly (attr k t r xs) = is_kept strictly t && are_kept strictly xs
 
 -- the type is kept to, if one was found
 abbrev pub HasKept : Bool → Option Ty → Type 0
-HasKept firm None = Unit {0}
-HasKept firm (Some t) = is_kept firm t ≡ true
+HasKept strictly None = Unit {0}
+HasKept strictly (Some t) = is_kept strictly t ≡ true
 
 -- ---- in Permissive: well-formed, and no attribute is Never
 
@@ -133,12 +133,12 @@ mutual
       and_both (is_kept false t) (are_kept false xs) (both_kept t (and_left (is_well_formed t) (are_well_formed xs) w) (and_left (is_known t) (are_known xs) h)) (both_attrs_kept xs (and_right (is_well_formed t) (are_well_formed xs) w) (and_right (is_known t) (are_known xs) h))
 
 -- what an element of a set needs
-pub element_kept : (firm : Bool) (t : Ty) → is_kept firm t ≡ true → is_kept firm (TSet t) ≡ true
+pub element_kept : (strictly : Bool) (t : Ty) → is_kept strictly t ≡ true → is_kept strictly (TSet t) ≡ true
 element_kept true t h = h
 element_kept false t h = kept_formed t h
 
 -- one entity type is no choice
-pub one_kept : (firm : Bool) (p : Path) → is_kept firm (TEntity (p ∷ [])) ≡ true
+pub one_kept : (strictly : Bool) (p : Path) → is_kept strictly (TEntity (p ∷ [])) ≡ true
 one_kept true p = refl
 one_kept false p = refl
 
@@ -147,27 +147,27 @@ one_kept false p = refl
 past_one : (n : ℕ) → nat_lt 1 (suc (suc n)) ≡ true
 past_one n = grind (arith, common_steps)
 
-few_single : (ps : List Path) → nat_lt 1 (length ps) ≡ false → is_single ps ≡ true
-few_single [] h = refl
-few_single (p ∷ []) h = refl
-few_single (p ∷ q ∷ ps) h = absurd (true≢false (sym (past_one (length ps)) ∙ h))
+few_kept : (ps : List Path) → nat_lt 1 (length ps) ≡ false → is_single ps ≡ true
+few_kept [] h = refl
+few_kept (p ∷ []) h = refl
+few_kept (p ∷ q ∷ ps) h = absurd (true≢false (sym (past_one (length ps)) ∙ h))
 
 mutual
-  definite_narrow : (t : Ty) → is_vague t ≡ false → is_kept true t ≡ true
-  definite_narrow TNever h = absurd (true≢false h)
-  definite_narrow (TBool k) h = refl
-  definite_narrow TLong h = refl
-  definite_narrow TString h = refl
-  definite_narrow (TSet t) h = definite_narrow t h
-  definite_narrow TAnySet h = refl
-  definite_narrow (TRecord xs o) h = definite_attrs xs (neither_right o (are_vague xs) h)
-  definite_narrow (TEntity ps) h = few_single ps h
-  definite_narrow TAnyEntity h = refl
-  definite_narrow (TExtension n) h = refl
+  definite_strictly : (t : Ty) → is_vague t ≡ false → is_kept true t ≡ true
+  definite_strictly TNever h = absurd (true≢false h)
+  definite_strictly (TBool k) h = refl
+  definite_strictly TLong h = refl
+  definite_strictly TString h = refl
+  definite_strictly (TSet t) h = definite_strictly t h
+  definite_strictly TAnySet h = refl
+  definite_strictly (TRecord xs o) h = definite_attrs xs (neither_right o (are_vague xs) h)
+  definite_strictly (TEntity ps) h = few_kept ps h
+  definite_strictly TAnyEntity h = refl
+  definite_strictly (TExtension n) h = refl
 
   definite_attrs : (xs : Attrs) → are_vague xs ≡ false → are_kept true xs ≡ true
   definite_attrs no_attrs h = refl
-  definite_attrs (attr k t r xs) h = and_both (is_kept true t) (are_kept true xs) (definite_narrow t (neither_left (is_vague t) (are_vague xs) h)) (definite_attrs xs (neither_right (is_vague t) (are_vague xs) h))
+  definite_attrs (attr k t r xs) h = and_both (is_kept true t) (are_kept true xs) (definite_strictly t (neither_left (is_vague t) (are_vague xs) h)) (definite_attrs xs (neither_right (is_vague t) (are_vague xs) h))
 
 mutual
   definite_known : (t : Ty) → is_vague t ≡ false → is_known t ≡ true
@@ -187,27 +187,27 @@ mutual
   definite_attrs_known (attr k t r xs) h = and_both (is_known t) (are_known xs) (definite_known t (neither_left (is_vague t) (are_vague xs) h)) (definite_attrs_known xs (neither_right (is_vague t) (are_vague xs) h))
 
 -- a type that says enough is kept to, where it is well-formed in Permissive
-pub definite_kept : (firm : Bool) (t : Ty) → is_vague t ≡ false → (firm || is_well_formed t) ≡ true → is_kept firm t ≡ true
-definite_kept true t v w = definite_narrow t v
+pub definite_kept : (strictly : Bool) (t : Ty) → is_vague t ≡ false → (strictly || is_well_formed t) ≡ true → is_kept strictly t ≡ true
+definite_kept true t v w = definite_strictly t v
 definite_kept false t v w = both_kept t w (definite_known t v)
 
-pub definite_attrs_kept : (firm : Bool) (xs : Attrs) → are_vague xs ≡ false → (firm || are_well_formed xs) ≡ true → are_kept firm xs ≡ true
+pub definite_attrs_kept : (strictly : Bool) (xs : Attrs) → are_vague xs ≡ false → (strictly || are_well_formed xs) ≡ true → are_kept strictly xs ≡ true
 definite_attrs_kept true xs v w = definite_attrs xs v
 definite_attrs_kept false xs v w = both_attrs_kept xs w (definite_attrs_known xs v)
 
 -- ---- an attribute of some
 
-module _ (firm : Bool) where
-  first_kept : (u t : Ty) (q r : Bool) → is_kept firm u ≡ true → ◌≡◌ {A = Option (Ty × Bool)} (Some (u, q)) (Some (t, r)) → is_kept firm t ≡ true
-  first_kept u t q r n e = sym (ap (is_kept firm) (some_is (ap (option_map (λ (a : Ty × Bool). a.0)) e))) ∙ n
+module _ (strictly : Bool) where
+  first_kept : (u t : Ty) (q r : Bool) → is_kept strictly u ≡ true → ◌≡◌ {A = Option (Ty × Bool)} (Some (u, q)) (Some (t, r)) → is_kept strictly t ≡ true
+  first_kept u t q r n e = sym (ap (is_kept strictly) (some_is (ap (option_map (λ (a : Ty × Bool). a.0)) e))) ∙ n
 
-  kept_find : (b : Bool) (u t : Ty) (q r : Bool) (o : Option (Ty × Bool)) → is_kept firm u ≡ true → (o ≡ Some (t, r) → is_kept firm t ≡ true) → ◌≡◌ {A = Option (Ty × Bool)} (if b then Some (u, q) else o) (Some (t, r)) → is_kept firm t ≡ true
+  kept_find : (b : Bool) (u t : Ty) (q r : Bool) (o : Option (Ty × Bool)) → is_kept strictly u ≡ true → (o ≡ Some (t, r) → is_kept strictly t ≡ true) → ◌≡◌ {A = Option (Ty × Bool)} (if b then Some (u, q) else o) (Some (t, r)) → is_kept strictly t ≡ true
   kept_find true u t q r o n f e = first_kept u t q r n e
   kept_find false u t q r o n f e = f e
 
-  pub kept_attr : (k : Text) (xs : Attrs) (t : Ty) (r : Bool) → are_kept firm xs ≡ true → find_attr k xs ≡ Some (t, r) → is_kept firm t ≡ true
+  pub kept_attr : (k : Text) (xs : Attrs) (t : Ty) (r : Bool) → are_kept strictly xs ≡ true → find_attr k xs ≡ Some (t, r) → is_kept strictly t ≡ true
   kept_attr k no_attrs t r n h = cc
-  kept_attr k (attr l u q xs) t r n h = kept_find (text_eq k l) u t q r (find_attr k xs) (and_left (is_kept firm u) (are_kept firm xs) n) (kept_attr k xs t r (and_right (is_kept firm u) (are_kept firm xs) n)) h
+  kept_attr k (attr l u q xs) t r n h = kept_find (text_eq k l) u t q r (find_attr k xs) (and_left (is_kept strictly u) (are_kept strictly xs) n) (kept_attr k xs t r (and_right (is_kept strictly u) (are_kept strictly xs) n)) h
 
 -- ---- bounds in Strict
 
@@ -384,6 +384,6 @@ strict_is Strict e = refl
 strict_is m e = cc
 
 -- the bound of types that are kept to is kept to
-pub kept_lub : (firm : Bool) (m : ValidationMode) → is_strict m ≡ firm → (s t : Ty) → is_kept firm s ≡ true → is_kept firm t ≡ true → HasKept firm (lub m s t)
+pub kept_lub : (strictly : Bool) (m : ValidationMode) → is_strict m ≡ strictly → (s t : Ty) → is_kept strictly s ≡ true → is_kept strictly t ≡ true → HasKept strictly (lub m s t)
 kept_lub true m e s t n q = subst (λ l. HasKept true (lub l s t)) (sym (strict_is m e)) (narrow_lub s t n q)
 kept_lub false m e s t n q = wide_kept m e s t (lub m s t) refl n q
