@@ -1,7 +1,7 @@
 -- Permissive, which unites sets of entity types and joins records by width: a schema, a policy and a
 -- world for which every premise holds; a bound of records that is none; and that names in the types of
 -- the schema have to ascend.
-use Rattle.std.specs.Prelude.{◌≡◌, pos, true, false, Bool, [], ◌∷◌, Option, Some, None, codes}
+use Rattle.std.specs.Prelude.{◌≡◌, ◌&&◌, pos, true, false, Bool, [], ◌∷◌, Option, Some, None, codes}
 use Rattle.cedar_types.specs.declared.base.expressions.operators.Var.{Var}
 use Rattle.cedar_types.specs.declared.base.types.BoolType.TheVariants.{AnyBool}
 use Rattle.cedar_types.specs.declared.base.types.ValidationMode.{ValidationMode}
