@@ -6,6 +6,7 @@ ghost use Rattle.cedar_typing.specs.Examples.Evaluation.Leaves.{LeafExamples, Te
 ghost use Rattle.cedar_typing.specs.Examples.Evaluation.Operators.{NumberExamples, EqualityExamples, SetExamples};
 ghost use Rattle.cedar_typing.specs.Examples.Permissive.{PermissivePremisesAreMet, WrongBoundIsRefuted, FormIsNeeded};
 ghost use Rattle.cedar_typing.specs.Examples.Premises.{PremisesAreMet, PremisesCanFail};
+ghost use Rattle.cedar_typing.specs.Examples.Promises.{PromiseExamples, PromisesCanBreak};
 ghost use Rattle.cedar_typing.specs.Examples.Rules.Attributes.{HasTyping, GetTyping};
 ghost use Rattle.cedar_typing.specs.Examples.Rules.Calls.{CallTyping, ArgumentTyping};
 ghost use Rattle.cedar_typing.specs.Examples.Rules.Chains.{ChainTyping};
@@ -68,6 +69,13 @@ pub fn permissive_premises_are_met()
 pub fn premises_are_met()
     ensures met { PremisesAreMet }
     ensures unmet { PremisesCanFail }
+{}
+
+/// Which outcomes keep the promises of a check, and which break them: each kind of value, and each failure. And what is promised
+/// of a success is false of a condition that goes wrong, and of a policy; what a new warning promises, of a policy that is true.
+pub fn examples_of_promises()
+    ensures outcomes { PromiseExamples }
+    ensures policies { PromisesCanBreak }
 {}
 
 /// Equality of values, of sets by their members and of records by their keys, is an equivalence.
