@@ -1,10 +1,13 @@
--- Each premise of the promises on a policy is needed: policies that pass and go wrong, or that are
--- warned to be impossible and are true. Of each, all premises hold but the one that is named.
-use Rattle.std.specs.Prelude.{◌≡◌, pos, false, [], ◌∷◌, Some, None, codes}
+-- Each premise of the promises on a policy is needed, in Strict and in Permissive: policies that
+-- pass and go wrong, or that are warned to be impossible and are true. Of each, all premises hold
+-- but the one that is named, and the promise is broken.
+use Rattle.std.specs.Prelude.{◌≡◌, pos, true, false, [], ◌∷◌, Some, None, codes}
 use Rattle.cedar_types.specs.declared.base.expressions.operators.Var.{Var}
 use Rattle.cedar_types.specs.declared.base.names.slots.SlotId.{SlotId}
-use Rattle.cedar_types.specs.declared.base.types.ValidationMode.TheVariants.{Strict, Partial}
+use Rattle.cedar_types.specs.declared.base.types.ValidationMode.{ValidationMode}
+use Rattle.cedar_types.specs.declared.base.types.ValidationMode.TheVariants.{Strict, Permissive, Partial}
 use Rattle.cedar_types.specs.Findings.{unknown_types, unknown_actions}
+use Rattle.cedar_types.specs.FormedSchemas.{has_formed_types}
 use Rattle.cedar_types.specs.Names.{Path, Uid}
 use Rattle.cedar_types.specs.Schemas.{ExternalKind, DeclaredType, has_fault}
 use Rattle.cedar_types.specs.Stores.{ConformingStore}
@@ -20,19 +23,24 @@ use Rattle.cedar_typing.specs.Examples.Expressions.{true_lit, false_lit, one, tw
 use Rattle.cedar_typing.specs.Examples.Greeting.{number, words, one_value, sample_functions, stored_alice, stored_action, sample_store, greeting}
 use Rattle.cedar_typing.specs.Examples.PolicySoundness.{sample_basis, Passes, PassesWarned, policy_when, meeting}
 use Rattle.cedar_typing.specs.Examples.World.{named, robot, group, decimal, alice, bob, greet, wave, declared_user, declared_greet, sample_schema}
-use Rattle.cedar_typing.specs.PolicySoundness.{Basis, IsStrictAndClosed, IsNamedBySchema, IsWellFormed, IsConforming}
+use Rattle.cedar_typing.specs.PolicySoundness.{Basis, IsClosedIn, IsNamedBySchema, IsWellFormed, IsConforming}
 use Rattle.cedar_typing.specs.Silence.{HasNoUnknowns}
+use Rattle.cedar_typing.specs.SoundPolicyCheck.{IsBooleanOrAllowed}
 use Rattle.cedar_typing.specs.Soundness.{IsTrueOutcome}
 
--- what is asked of the checker and of the world
-pub record IsAsAsked (world : World) : Type 0 where
-  pub basis : IsStrictAndClosed (sample_basis Strict)
-  pub conforming : IsConforming (sample_basis Strict) world
+-- what is asked of the checker and of the world, in a mode
+pub record IsAsAskedIn (m : ValidationMode) (world : World) : Type 0 where
+  pub basis : IsClosedIn m (sample_basis m)
+  pub conforming : IsConforming (sample_basis m) world
+
+-- the outcome of the policy's condition is what a policy that passes never has
+abbrev pub BreaksPromise : World → PlainTemplate → Type 0
+BreaksPromise world t = IsBooleanOrAllowed (eval world (condition_of t)) → ⊥
 
 -- ---- names and unknowns
 
--- `(Group::"a" < 1) && false` and `(Action::"wave" < 1) && false`, of a type and of an action that the
--- schema does not have: what has no type is no error of its own, and the whole is False
+-- `(Group::"a" < 1) && false` and `(Action::"wave" < 1) && false`, of a type and of an action that
+-- the schema does not have: what has no type is no error of its own, and the whole is False
 abbrev pub of_unknown_type : PlainTemplate
 of_unknown_type =
     policy_when
@@ -41,60 +49,65 @@ of_unknown_type =
 abbrev pub of_unknown_action : PlainTemplate
 of_unknown_action = policy_when (and tt (less (the wave) one) false_lit)
 
-pub record NamesMustBeKnown : Type 0 where
-  pub others : IsAsAsked meeting
-  pub type_passes : PassesWarned (sample_basis Strict) of_unknown_type
+pub record NamesMustBeKnownIn (m : ValidationMode) : Type 0 where
+  pub others : IsAsAskedIn m meeting
+  pub type_passes : PassesWarned (sample_basis m) of_unknown_type
   pub type_formed : IsWellFormed of_unknown_type meeting.slots
   pub type_actions : unknown_actions sample_schema of_unknown_type ≡ []
   pub type_wrong : eval meeting (condition_of of_unknown_type) ≡ Fails TypeFailure
-  pub action_passes : PassesWarned (sample_basis Strict) of_unknown_action
+  pub type_broken : BreaksPromise meeting of_unknown_type
+  pub action_passes : PassesWarned (sample_basis m) of_unknown_action
   pub action_formed : IsWellFormed of_unknown_action meeting.slots
   pub action_types : unknown_types sample_schema of_unknown_action ≡ []
   pub action_wrong : eval meeting (condition_of of_unknown_action) ≡ Fails TypeFailure
+  pub action_broken : BreaksPromise meeting of_unknown_action
 
 -- `(unknown("x") < 1) && false`
 abbrev pub of_unknown : PlainTemplate
 of_unknown = policy_when (and tt (less (unknown tt (named (codes "x"))) one) false_lit)
 
-pub record UnknownsGoWrong : Type 0 where
-  pub others : IsAsAsked meeting
-  pub passes : PassesWarned (sample_basis Strict) of_unknown
+pub record UnknownsGoWrongIn (m : ValidationMode) : Type 0 where
+  pub others : IsAsAskedIn m meeting
+  pub passes : PassesWarned (sample_basis m) of_unknown
   pub named : IsNamedBySchema sample_schema of_unknown
   pub slots_in_scope : SlotsInScopeAlone of_unknown
   pub bound : SlotsBound meeting.slots (condition_of of_unknown)
   pub wrong : eval meeting (condition_of of_unknown) ≡ Fails UnknownValue
+  pub broken : BreaksPromise meeting of_unknown
 
 -- ---- slots
 
--- `permit(principal == User::"alice", action, resource == User::"bob") when { ?resource is Robot && 1 +
--- true }`: the slot is linked to User alone, and bound to a robot
+-- `permit(principal == User::"alice", action, resource == User::"bob") when { ?resource is Robot &&
+-- 1 + true }`: the slot is linked to User alone, and bound to a robot
 abbrev pub slot_in_rest : PlainTemplate
 slot_in_rest =
     template (equal (to_entity (the_entity alice))) (equal (to_entity (the_entity bob)))
     (Some (and tt (slot_is_robot SlotId.Resource) mistyped))
 
-pub record SlotsInTheRestGoWrong : Type 0 where
-  pub others : IsAsAsked robot_greeting
-  pub passes : PassesWarned (sample_basis Strict) slot_in_rest
+pub record SlotsInTheRestGoWrongIn (m : ValidationMode) : Type 0 where
+  pub others : IsAsAskedIn m robot_greeting
+  pub passes : PassesWarned (sample_basis m) slot_in_rest
   pub named : IsNamedBySchema sample_schema slot_in_rest
   pub no_unknowns : HasNoUnknowns (condition_of slot_in_rest)
   pub bound : SlotsBound robot_greeting.slots (condition_of slot_in_rest)
   pub wrong : eval robot_greeting (condition_of slot_in_rest) ≡ Fails TypeFailure
+  pub broken : BreaksPromise robot_greeting slot_in_rest
   -- and with `?principal is Robot || ?resource is Robot` it is true, warned as it is
-  pub warned : PassesWarned (sample_basis Strict) robots_template
+  pub warned : PassesWarned (sample_basis m) robots_template
   pub is_true : IsTrueOutcome (eval robot_greeting (condition_of robots_template))
 
 -- `permit(principal == ?principal, action, resource)`, and the slot is not bound
 abbrev pub equal_to_slot : PlainTemplate
 equal_to_slot = template (equal to_slot) any None
 
-pub record UnboundSlotsGoWrong : Type 0 where
-  pub others : IsAsAsked greeting
-  pub passes : Passes (sample_basis Strict) equal_to_slot
+pub record UnboundSlotsGoWrongIn (m : ValidationMode) : Type 0 where
+  pub others : IsAsAskedIn m greeting
+  pub passes : Passes (sample_basis m) equal_to_slot
   pub named : IsNamedBySchema sample_schema equal_to_slot
   pub no_unknowns : HasNoUnknowns (condition_of equal_to_slot)
   pub slots_in_scope : SlotsInScopeAlone equal_to_slot
   pub wrong : eval greeting (condition_of equal_to_slot) ≡ Fails UnlinkedSlot
+  pub broken : BreaksPromise greeting equal_to_slot
 
 -- ---- requests, stores and functions
 
@@ -109,14 +122,15 @@ a_robot_greets = record meeting {
   };
 }
 
-pub record RequestsMustConform : Type 0 where
-  pub basis : IsStrictAndClosed (sample_basis Strict)
-  pub passes : PassesWarned (sample_basis Strict) robots_only
+pub record RequestsMustConformIn (m : ValidationMode) : Type 0 where
+  pub basis : IsClosedIn m (sample_basis m)
+  pub passes : PassesWarned (sample_basis m) robots_only
   pub named : IsNamedBySchema sample_schema robots_only
   pub well_formed : IsWellFormed robots_only a_robot_greets.slots
   pub store : ConformingStore sample_schema a_robot_greets.store
-  pub functions : KeepsTable (sample_basis Strict).table a_robot_greets.functions
+  pub functions : KeepsTable (sample_basis m).table a_robot_greets.functions
   pub wrong : eval a_robot_greets (condition_of robots_only) ≡ Fails TypeFailure
+  pub broken : BreaksPromise a_robot_greets robots_only
 
 -- `principal.age < 1`, and alice's age is a text
 abbrev pub young : PlainTemplate
@@ -133,14 +147,15 @@ age_in_words = record meeting {
       ∷ sample_store;
 }
 
-pub record StoresMustConform : Type 0 where
-  pub basis : IsStrictAndClosed (sample_basis Strict)
-  pub passes : Passes (sample_basis Strict) young
+pub record StoresMustConformIn (m : ValidationMode) : Type 0 where
+  pub basis : IsClosedIn m (sample_basis m)
+  pub passes : Passes (sample_basis m) young
   pub named : IsNamedBySchema sample_schema young
   pub well_formed : IsWellFormed young age_in_words.slots
   pub request : ConformingRequest sample_schema age_in_words.request
-  pub functions : KeepsTable (sample_basis Strict).table age_in_words.functions
+  pub functions : KeepsTable (sample_basis m).table age_in_words.functions
   pub wrong : eval age_in_words (condition_of young) ≡ Fails TypeFailure
+  pub broken : BreaksPromise age_in_words young
 
 -- `decimal("1.0") < decimal("2.0")`, where the first of the two is a number
 abbrev pub decimals_in_order : PlainTemplate
@@ -159,14 +174,15 @@ with_a_number = record meeting {
   };
 }
 
-pub record FunctionsMustKeepTheTable : Type 0 where
-  pub basis : IsStrictAndClosed (sample_basis Strict)
-  pub passes : Passes (sample_basis Strict) decimals_in_order
+pub record FunctionsMustKeepTheTableIn (m : ValidationMode) : Type 0 where
+  pub basis : IsClosedIn m (sample_basis m)
+  pub passes : Passes (sample_basis m) decimals_in_order
   pub named : IsNamedBySchema sample_schema decimals_in_order
   pub well_formed : IsWellFormed decimals_in_order with_a_number.slots
   pub request : ConformingRequest sample_schema with_a_number.request
   pub store : ConformingStore sample_schema with_a_number.store
   pub wrong : eval with_a_number (condition_of decimals_in_order) ≡ Fails TypeFailure
+  pub broken : BreaksPromise with_a_number decimals_in_order
 
 -- ---- external types
 
@@ -177,8 +193,8 @@ guest = named (codes "Guest")
 abbrev pub declared_guest : DeclaredType
 declared_guest = record { name = guest; descendants = []; kind = ExternalKind }
 
-abbrev pub guest_basis : Basis
-guest_basis = record (sample_basis Strict) {
+abbrev pub guest_basis : ValidationMode → Basis
+guest_basis m = record (sample_basis m) {
   schema = record {
     types = declared_user ∷ declared_guest ∷ [];
     actions = declared_greet ∷ [];
@@ -210,16 +226,18 @@ guest_has_role = has_tag (the a_guest) (text (codes "role"))
 abbrev pub guest_goes_wrong : PlainTemplate
 guest_goes_wrong = policy_when (and tt guest_has_role mistyped)
 
-pub record ExternalTypesGoWrong : Type 0 where
-  pub mode : guest_basis.mode ≡ Strict
-  pub faultless : has_fault guest_basis.schema ≡ false
-  pub conforming : IsConforming guest_basis guest_greeting
-  pub passes : PassesWarned guest_basis guest_goes_wrong
-  pub named : IsNamedBySchema guest_basis.schema guest_goes_wrong
+pub record ExternalTypesGoWrongIn (m : ValidationMode) : Type 0 where
+  pub mode : (guest_basis m).mode ≡ m
+  pub faultless : has_fault (guest_basis m).schema ≡ false
+  pub formed : has_formed_types (guest_basis m).schema ≡ true
+  pub conforming : IsConforming (guest_basis m) guest_greeting
+  pub passes : PassesWarned (guest_basis m) guest_goes_wrong
+  pub named : IsNamedBySchema (guest_basis m).schema guest_goes_wrong
   pub well_formed : IsWellFormed guest_goes_wrong guest_greeting.slots
   pub wrong : eval guest_greeting (condition_of guest_goes_wrong) ≡ Fails TypeFailure
+  pub broken : BreaksPromise guest_greeting guest_goes_wrong
   -- and the first alone is true, warned as it is
-  pub warned : PassesWarned guest_basis (policy_when guest_has_role)
+  pub warned : PassesWarned (guest_basis m) (policy_when guest_has_role)
   pub is_true : IsTrueOutcome (eval guest_greeting (condition_of (policy_when guest_has_role)))
 
 -- ---- the mode
@@ -236,21 +254,26 @@ attribute_of_one =
     two)
 
 pub record PartialGoesWrong : Type 0 where
-  pub others : IsAsAsked meeting
+  pub others : IsAsAskedIn Partial meeting
   pub passes : Passes (sample_basis Partial) attribute_of_one
   pub named : IsNamedBySchema sample_schema attribute_of_one
   pub well_formed : IsWellFormed attribute_of_one meeting.slots
   pub wrong : eval meeting (condition_of attribute_of_one) ≡ Fails AbsentAttribute
+  pub broken : BreaksPromise meeting attribute_of_one
 
 -- ---- all of them
 
+pub record PremisesAreNeededIn (m : ValidationMode) : Type 0 where
+  pub names : NamesMustBeKnownIn m
+  pub unknowns : UnknownsGoWrongIn m
+  pub slots_in_scope : SlotsInTheRestGoWrongIn m
+  pub bound : UnboundSlotsGoWrongIn m
+  pub request : RequestsMustConformIn m
+  pub store : StoresMustConformIn m
+  pub functions : FunctionsMustKeepTheTableIn m
+  pub closed : ExternalTypesGoWrongIn m
+
 pub record PremisesAreNeeded : Type 0 where
-  pub names : NamesMustBeKnown
-  pub unknowns : UnknownsGoWrong
-  pub slots_in_scope : SlotsInTheRestGoWrong
-  pub bound : UnboundSlotsGoWrong
-  pub request : RequestsMustConform
-  pub store : StoresMustConform
-  pub functions : FunctionsMustKeepTheTable
-  pub closed : ExternalTypesGoWrong
+  pub strict : PremisesAreNeededIn Strict
+  pub permissive : PremisesAreNeededIn Permissive
   pub mode : PartialGoesWrong

@@ -61,8 +61,8 @@ pub fn examples_of_environments()
     ensures own { OwnEnvMayBeMissing }
 {}
 
-/// A policy that passes, in a world that conforms; and that each premise on such a policy is needed: without it one that passes
-/// goes wrong.
+/// A policy that passes, in a world that conforms; and that each premise on such a policy is needed, in Strict and in Permissive:
+/// without it one that passes breaks the promise.
 pub fn examples_of_policies()
     ensures met { PolicyPremisesAreMet }
     ensures needed { PremisesAreNeeded }
