@@ -1,5 +1,6 @@
 -- The examples of evaluation, computed.
 use Rattle.std.proofs.Common.{refl}
+use Rattle.cedar_typing.specs.Examples.Evaluation.Ancestors.{AncestorExamples}
 use Rattle.cedar_typing.specs.Examples.Evaluation.Calls.{PatternExamples, CallExamples, OrderExamples}
 use Rattle.cedar_typing.specs.Examples.Evaluation.Entities.{MembershipExamples, AttributeExamples, TagExamples}
 use Rattle.cedar_typing.specs.Examples.Evaluation.Leaves.{LeafExamples, TestExamples}
@@ -124,6 +125,7 @@ equality_examples = record {
   extension_other = refl;
   extension_other_type = refl;
   extension_and_text = refl;
+  extension_same_text = refl;
   other_kind = refl;
   set_and_record = refl;
   set_and_member = refl;
@@ -136,6 +138,7 @@ set_examples = record {
   empty = refl;
   not_empty = refl;
   empty_of_record = refl;
+  empty_of_text = refl;
   contains = refl;
   contains_not = refl;
   contains_set = refl;
@@ -172,6 +175,16 @@ membership_examples = record {
   is_of_missing = refl;
   is_of_long = refl;
   is_fails = refl;
+}
+
+pub ancestor_examples : AncestorExamples
+ancestor_examples = record {
+  not_stored = refl;
+  in_ancestor = refl;
+  in_missing = refl;
+  in_set_of_missing = refl;
+  in_second = refl;
+  in_set_of_second = refl;
 }
 
 pub attribute_examples : AttributeExamples

@@ -3,6 +3,7 @@
 pub mod Leaves
 pub mod Operators
 pub mod Entities
+pub mod Ancestors
 pub mod Calls
 use Rattle.std.specs.Prelude.{◌≡◌, true, false}
 use Rattle.cedar_types.specs.Tree.{Shape}

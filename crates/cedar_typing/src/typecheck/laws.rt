@@ -1,5 +1,6 @@
 //! Laws of the rules of typing and of evaluation, and computed examples of both, each on a function that does nothing.
 ghost use Rattle.cedar_typing.specs.Evaluation.Equality.{EqualityIsAnEquivalence, EqualityHasNoOrder};
+ghost use Rattle.cedar_typing.specs.Examples.Evaluation.Ancestors.{AncestorExamples};
 ghost use Rattle.cedar_typing.specs.Examples.Evaluation.Calls.{PatternExamples, CallExamples, OrderExamples};
 ghost use Rattle.cedar_typing.specs.Examples.Evaluation.Entities.{MembershipExamples, AttributeExamples, TagExamples};
 ghost use Rattle.cedar_typing.specs.Examples.Evaluation.Leaves.{LeafExamples, TestExamples};
@@ -119,6 +120,7 @@ pub fn examples_of_evaluation()
     ensures equality { EqualityExamples }
     ensures sets { SetExamples }
     ensures memberships { MembershipExamples }
+    ensures ancestors { AncestorExamples }
     ensures attributes { AttributeExamples }
     ensures tags { TagExamples }
     ensures patterns { PatternExamples }

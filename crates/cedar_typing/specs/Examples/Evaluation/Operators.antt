@@ -1,5 +1,5 @@
 -- What operators on numbers, on any values and on sets come to.
-use Rattle.std.specs.Prelude.{pos, neg_ℤ, codes}
+use Rattle.std.specs.Prelude.{pos, neg_ℤ, [], codes}
 use Rattle.cedar_types.specs.declared.base.expressions.operators.UnaryOp.{UnaryOp}
 use Rattle.cedar_types.specs.declared.base.expressions.operators.BinaryOp.{BinaryOp}
 use Rattle.cedar_types.specs.Tree.{unary, binary, record_of, no_fields}
@@ -141,6 +141,8 @@ pub record EqualityExamples : Type 0 where
   pub extension_other_type : YieldsFalse
       (binary tt BinaryOp.Eq decimal_one (dot context (codes "address")))
   pub extension_and_text : YieldsFalse (binary tt BinaryOp.Eq decimal_one (text (codes "1.0")))
+  -- `decimal("2.0") == duration(decimal("1.0"), 1)`: two types, and one text, which is `2.0`
+  pub extension_same_text : YieldsFalse (binary tt BinaryOp.Eq decimal_two a_duration)
   -- `1 == "1"`, `[] == {}`, `[1] == 1`: kinds that differ are no failure
   pub other_kind : YieldsFalse (binary tt BinaryOp.Eq one (text (codes "1")))
   pub set_and_record : YieldsFalse (binary tt BinaryOp.Eq set0 (record_of tt no_fields))
@@ -156,6 +158,8 @@ pub record SetExamples : Type 0 where
   pub not_empty : YieldsFalse (unary tt UnaryOp.IsEmpty (set1 one))
   -- `{}.isEmpty()`
   pub empty_of_record : FailsAs (unary tt UnaryOp.IsEmpty (record_of tt no_fields)) TypeFailure
+  -- `"".isEmpty()`
+  pub empty_of_text : FailsAs (unary tt UnaryOp.IsEmpty (text [])) TypeFailure
   -- `[1, 2].contains(2)`, `[1, 2].contains(3)`
   pub contains : YieldsTrue (binary tt BinaryOp.Contains (set2 one two) two)
   pub contains_not : YieldsFalse (binary tt BinaryOp.Contains (set2 one two) three)

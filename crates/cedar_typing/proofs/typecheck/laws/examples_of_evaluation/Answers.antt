@@ -1,4 +1,4 @@
-use Rattle.cedar_typing.proofs.Examples.Evaluation.{leaf_examples, test_examples, number_examples, equality_examples, set_examples, membership_examples, attribute_examples, tag_examples, pattern_examples, call_examples, order_examples}
+use Rattle.cedar_typing.proofs.Examples.Evaluation.{leaf_examples, test_examples, number_examples, equality_examples, set_examples, membership_examples, ancestor_examples, attribute_examples, tag_examples, pattern_examples, call_examples, order_examples}
 use Rattle.cedar_typing.proofs.typecheck.laws.examples_of_evaluation.Goals as goal
 
 pub returns : goal.returns
@@ -9,6 +9,7 @@ returns c = record {
   equality = equality_examples;
   sets = set_examples;
   memberships = membership_examples;
+  ancestors = ancestor_examples;
   attributes = attribute_examples;
   tags = tag_examples;
   patterns = pattern_examples;
