@@ -7,4 +7,5 @@ pub mod Premises
 pub mod Permissive
 pub mod Composition
 pub mod PolicySoundness
+pub mod Conforming
 pub mod NeededPremises

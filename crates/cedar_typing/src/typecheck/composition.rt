@@ -1,6 +1,7 @@
 //! What the checks of a template in its environments say together: laws, each on a function that does nothing.
 ghost use Rattle.cedar_typing.specs.Composition.{OwnEnvIsChecked, OwnEnvIsCheckedOfTypes, OwnTestsAreBool, LinksDoNotMatter, ScopeIsBoolean, Coverage, NeverTrue, OwnSuccessIsKept};
 ghost use Rattle.cedar_typing.specs.Examples.Composition.{EnvironmentsAre, SlotsInTheRestAreNot, OwnEnvMayBeMissing};
+ghost use Rattle.cedar_typing.specs.Examples.Conforming.{ConformityAllows};
 ghost use Rattle.cedar_typing.specs.Examples.NeededPremises.{PremisesAreNeeded};
 ghost use Rattle.cedar_typing.specs.Examples.PolicySoundness.{PolicyPremisesAreMet};
 ghost use Rattle.cedar_typing.specs.PolicySoundness.{PromisesAreKept, PromisesAreKeptInPermissive};
@@ -61,9 +62,10 @@ pub fn examples_of_environments()
     ensures own { OwnEnvMayBeMissing }
 {}
 
-/// A policy that passes, in a world that conforms; and that each premise on such a policy is needed, in Strict and in Permissive:
-/// without it one that passes breaks the promise.
+/// A policy that passes, in a world that conforms; what a world that conforms may still hold; and that each premise on such a
+/// policy is needed, in Strict and in Permissive: without it one that passes breaks the promise.
 pub fn examples_of_policies()
     ensures met { PolicyPremisesAreMet }
+    ensures allows { ConformityAllows }
     ensures needed { PremisesAreNeeded }
 {}
