@@ -2,6 +2,7 @@
 pub mod World
 pub mod Rules
 pub mod Evaluation
+pub mod Values
 pub mod Promises
 pub mod Premises
 pub mod Permissive

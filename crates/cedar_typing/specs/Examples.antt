@@ -4,6 +4,7 @@ pub mod Greeting
 pub mod Expressions
 pub mod Rules
 pub mod Evaluation
+pub mod Values
 pub mod Promises
 pub mod Premises
 pub mod Permissive

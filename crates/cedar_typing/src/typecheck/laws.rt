@@ -22,6 +22,7 @@ ghost use Rattle.cedar_typing.specs.Examples.Rules.Numbers.{OperatorTyping, Numb
 ghost use Rattle.cedar_typing.specs.Examples.Rules.ShortCircuit.{AndTyping, OrTyping};
 ghost use Rattle.cedar_typing.specs.Examples.Rules.Tags.{HasTagTyping, GetTagTyping};
 ghost use Rattle.cedar_typing.specs.Examples.Rules.Unary.{UnaryTyping};
+ghost use Rattle.cedar_typing.specs.Examples.Values.{RecordsOfType, SetsOfType, EntitiesOfType, LeavesOfType};
 ghost use Rattle.cedar_typing.specs.RuleLaws.{TypingIsAFunction, RecoveryIsAFunction, CutIsAFunction, OneOfThreeAtMost, OneOfThreeAtLeast, CutIsByDepth, OneVerdictAtMost, OneVerdictAtLeast, ErrorsInAnyOrder};
 ghost use Rattle.cedar_typing.specs.Soundness.{TypeSoundness, TypeSoundnessInPermissive};
 
@@ -77,6 +78,14 @@ pub fn premises_are_met()
 pub fn examples_of_promises()
     ensures outcomes { PromiseExamples }
     ensures policies { PromisesCanBreak }
+{}
+
+/// Which values have a type, and which have not: records that are open or closed, sets, entities of several types, and leaves.
+pub fn examples_of_values()
+    ensures records { RecordsOfType }
+    ensures sets { SetsOfType }
+    ensures entities { EntitiesOfType }
+    ensures leaves { LeavesOfType }
 {}
 
 /// Equality of values, of sets by their members and of records by their keys, is an equivalence.
