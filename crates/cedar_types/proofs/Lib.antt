@@ -9,4 +9,5 @@ pub mod Slots
 pub mod Expressions
 pub mod Linking
 pub mod FallibleIterators
+pub mod Items
 pub mod Mentions

@@ -6,7 +6,6 @@ use Rattle.std.specs.Borrow.{Bor}
 use Rattle.cedar_types.specs.declared.base.expressions.Expr.{Expr}
 use Rattle.cedar_types.specs.declared.base.expressions.subexpressions.ExprIterator.{ExprIterator}
 use Rattle.cedar_types.specs.declared.base.templates.mentions.Mention.{Mention as DeclaredMention}
-use Rattle.cedar_types.specs.declared.base.templates.mentions.Mention.TheVariants as DeclaredMention
 use Rattle.cedar_types.specs.declared.base.templates.mentions.Mentions.{Mentions}
 use Rattle.cedar_types.specs.declared.base.templates.rest_mentions.RestMentions.{RestMentions}
 use Rattle.cedar_types.specs.declared.base.templates.scope_mentions.ConstraintMentions.{ConstraintMentions}

@@ -21,12 +21,12 @@ use Rattle.cedar_typing.specs.Evaluation.Eval.{eval}
 use Rattle.cedar_typing.specs.Evaluation.World.{World, TypeFailure, Gives, Fails}
 use Rattle.cedar_typing.specs.Examples.Expressions.{true_lit, one, two, principal, context, text, dot, has, record1, record2, equal, has_tag, get_tag, mistyped}
 use Rattle.cedar_typing.specs.Examples.Greeting.{number, words, stored_action}
+use Rattle.cedar_typing.specs.Examples.NeededPremises.{BreaksPromise}
 use Rattle.cedar_typing.specs.Examples.PolicySoundness.{sample_basis, Passes, PassesWarned, policy_when, meeting}
 use Rattle.cedar_typing.specs.Examples.World.{named, user, alice, bob, greet, an_action_named, declared_user}
 use Rattle.cedar_typing.specs.PolicyCheck.{Verdict, policy_check}
 use Rattle.cedar_typing.specs.PolicyOutcome.{all_pass}
 use Rattle.cedar_typing.specs.PolicySoundness.{Basis, IsClosedIn, IsNamedBySchema, IsWellFormed, IsConforming, setting_on}
-use Rattle.cedar_typing.specs.SoundPolicyCheck.{IsBooleanOrAllowed}
 use Rattle.cedar_typing.specs.Soundness.{IsReliableIn, IsWorldOf}
 
 -- ---- users join teams
@@ -270,4 +270,4 @@ pub record FormIsNeeded : Type 0 where
   pub named : IsNamedBySchema twice_schema has_b_goes_wrong
   pub well_formed : IsWellFormed has_b_goes_wrong twice_greeting.slots
   pub wrong : eval twice_greeting (condition_of has_b_goes_wrong) ≡ Fails TypeFailure
-  pub broken : IsBooleanOrAllowed (eval twice_greeting (condition_of has_b_goes_wrong)) → ⊥
+  pub broken : BreaksPromise twice_greeting has_b_goes_wrong

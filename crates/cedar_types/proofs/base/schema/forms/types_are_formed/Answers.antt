@@ -1,12 +1,10 @@
-use Rattle.std.proofs.Common.{◌≡◌, ℕ, suc, ◌+◌, ◌<◌, Bool, true, ◌&&◌, List, ◌∷◌, length, get_or, map, drop, add-one, drop-cons, arith, ap, sym, ◌∙◌}
+use Rattle.std.proofs.Common.{◌+◌, ◌<◌, ◌&&◌, length, map, drop, arith, ap, sym, ◌∙◌}
 use Rattle.std.specs.List.{list_all}
-use Rattle.cedar_types.specs.Declarations.{declared_type, type_kind}
+use Rattle.cedar_types.specs.Declarations.{declared_type}
 use Rattle.cedar_types.specs.FormedSchemas.{kind_is_formed}
 use Rattle.cedar_types.specs.Schemas.{DeclaredType}
+use Rattle.cedar_types.proofs.Items.{next_item}
 use Rattle.cedar_types.proofs.base.schema.forms.types_are_formed.Goals as goal
-
-next_item : {A : Type 0} (xs : List A) (i : ℕ) (x : A) → i < length xs → x ≡ get_or xs i x → drop i xs ≡ x ∷ drop (i + 1) xs
-next_item xs i x h k = rw (add-one, drop-cons xs i x) (ap (λ y. y ∷ drop (suc i) xs) (sym k))
 
 pub loop-entity_type-preserved : goal.loop-entity_type-preserved
 loop-entity_type-preserved c =

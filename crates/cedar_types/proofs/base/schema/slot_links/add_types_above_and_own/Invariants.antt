@@ -1,4 +1,4 @@
-use Rattle.std.proofs.Common.{◌≡◌, ◌++◌, ◌∷◌, [], map, drop, Some}
+use Rattle.std.proofs.Common.{◌≡◌, ◌++◌, map, drop, Some}
 use Rattle.cedar_types.specs.Declarations.{declared_type}
 use Rattle.cedar_types.specs.Linking.{types_above}
 use Rattle.cedar_types.specs.LinkViews.{link_of}

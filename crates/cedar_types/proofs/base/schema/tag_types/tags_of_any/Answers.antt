@@ -1,11 +1,9 @@
-use Rattle.std.proofs.Common.{◌≡◌, ℕ, suc, ◌+◌, ◌<◌, List, ◌∷◌, ◌++◌, length, get_or, map, drop, add-one, drop-cons, append_assoc, arith, ap, sym, ◌∙◌}
+use Rattle.std.proofs.Common.{◌+◌, ◌<◌, ◌++◌, length, map, drop, append_assoc, arith, ap, sym, ◌∙◌}
 use Rattle.cedar_types.specs.Declarations.{declared_type, type_kind}
 use Rattle.cedar_types.specs.Types.{ty_of}
 use Rattle.cedar_types.specs.Lookups.{kind_tags, tags_of_any}
+use Rattle.cedar_types.proofs.Items.{next_item}
 use Rattle.cedar_types.proofs.base.schema.tag_types.tags_of_any.Goals as goal
-
-next_item : {A : Type 0} (xs : List A) (i : ℕ) (x : A) → i < length xs → x ≡ get_or xs i x → drop i xs ≡ x ∷ drop (i + 1) xs
-next_item xs i x h k = rw (add-one, drop-cons xs i x) (ap (λ y. y ∷ drop (suc i) xs) (sym k))
 
 pub loop-entity_type-preserved : goal.loop-entity_type-preserved
 loop-entity_type-preserved c =

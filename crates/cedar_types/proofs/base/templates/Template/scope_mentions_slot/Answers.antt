@@ -1,4 +1,4 @@
-use Rattle.std.proofs.Common.{◌≡◌, sym, ◌∙◌}
+use Rattle.std.proofs.Common.{sym, ◌∙◌}
 use Rattle.cedar_types.specs.Templates.{template_of}
 use Rattle.cedar_types.proofs.Linking.Mentions.{principal_slot, resource_slot}
 use Rattle.cedar_types.proofs.base.templates.Template.scope_mentions_slot.Goals as goal

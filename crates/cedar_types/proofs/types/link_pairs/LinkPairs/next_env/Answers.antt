@@ -1,4 +1,4 @@
-use Rattle.std.proofs.Common.{◌≡◌, ◌∷◌, ◌∙◌, ap, sym, refl, rules, arith}
+use Rattle.std.proofs.Common.{rules}
 use Rattle.cedar_types.proofs.Linking.Pairs.{no_principal, no_resource, step_in_row, step_row_end}
 use Rattle.cedar_types.proofs.types.link_pairs.LinkPairs.next_env.Goals as goal
 use Rattle.cedar_types.proofs.types.link_pairs.LinkPairs.next_env.Goals.{then-self-len, else-self-len}
