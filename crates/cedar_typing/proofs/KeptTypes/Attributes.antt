@@ -5,11 +5,10 @@ use Rattle.cedar_types.specs.declared.base.types.ValidationMode.TheVariants.{Per
 use Rattle.cedar_types.specs.Ascending.{texts_ascending}
 use Rattle.cedar_types.specs.Names.{Text, Path, path_eq}
 use Rattle.cedar_types.specs.Lemmas.Comparisons.{and_left, and_right}
-use Rattle.cedar_types.specs.Types.{Ty, TNever, TBool, TLong, TString, TSet, TAnySet, TRecord, TEntity, TAnyEntity, TExtension, Attrs, attr_names, is_well_formed, are_well_formed}
-use Rattle.cedar_types.specs.Bounds.{lub, find_attr}
+use Rattle.cedar_types.specs.Types.{Ty, TNever, TBool, TLong, TString, TSet, TAnySet, TRecord, TEntity, TAnyEntity, TExtension, attr_names, is_well_formed, are_well_formed}
+use Rattle.cedar_types.specs.Bounds.{lub}
 use Rattle.cedar_types.specs.Schemas.{Schema, DeclaredType, DeclaredAction, TypeKind, StandardKind, EnumKind, ExternalKind, has_fault, type_named, are_vague, kind_is_definite, tags_pass, is_vague}
 use Rattle.cedar_types.specs.Lookups.{declared_kind_attribute, kind_attribute, declared_attribute, joined_attribute, types_attribute, attribute_type}
-use Rattle.cedar_types.proofs.Attributes.FindAttrs.{found_type, all_well_formed}
 use Rattle.cedar_types.proofs.Schema.Faultless.{faultless}
 use Rattle.cedar_types.specs.FormedSchemas.{kind_is_formed, application_is_formed, has_formed_types}
 use Rattle.cedar_typing.proofs.Basics.{some_is, not_true}

@@ -1,12 +1,12 @@
 -- The types of sets and records are kept to where those of their elements and fields are.
-use Rattle.std.proofs.Common.{◌≡◌, Bool, true, false, true≢false, ◌&&◌, List, [], ◌∷◌, Option, Some, None, if◌then◌else◌, refl, sym, ◌∙◌, ap, subst}
+use Rattle.std.proofs.Common.{◌≡◌, Bool, true, false, true≢false, List, [], ◌∷◌, Option, Some, None, if◌then◌else◌, refl, sym, subst}
 use Rattle.std.specs.List.{list_all}
 use Rattle.std.specs.Ordering.{is_lt}
 use Rattle.cedar_types.specs.declared.base.types.ValidationMode.{ValidationMode}
 use Rattle.cedar_types.specs.Ascending.{texts_ascending}
 use Rattle.cedar_types.specs.Lemmas.Comparisons.{and_left, and_right, and_both}
 use Rattle.cedar_types.specs.Names.{Text, text_cmp}
-use Rattle.cedar_types.specs.Types.{Ty, TNever, TSet, TRecord, attr_names, is_well_formed}
+use Rattle.cedar_types.specs.Types.{Ty, TNever, TSet, TRecord, attr_names}
 use Rattle.cedar_types.specs.View.{Written}
 use Rattle.cedar_types.specs.Bounds.{is_strict, lub, go_on, fold_lub, list_lub}
 use Rattle.cedar_types.specs.Errors.{empty_set_forbidden, internal_invariant_violation}

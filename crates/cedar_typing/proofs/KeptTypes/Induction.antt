@@ -1,5 +1,5 @@
 -- Each type that is found is kept to: all expressions, in every mode but Partial.
-use Rattle.std.proofs.Common.{◌≡◌, inl, inr, ℕ, ◌+◌, Bool, true, false, not, List, [], ◌∷◌, ◌++◌, map, Option, Some, None, ◌&&◌, ◌||◌, if◌then◌else◌, refl, sym, ap, subst}
+use Rattle.std.proofs.Common.{◌≡◌, inl, inr, ℕ, ◌+◌, Bool, true, false, not, List, [], ◌∷◌, ◌++◌, map, Option, Some, None, ◌&&◌, ◌||◌, if◌then◌else◌, refl, sym, subst}
 use Rattle.std.specs.List.{list_all, flat_map}
 use Rattle.cedar_types.specs.declared.base.expressions.operators.Var.{Var}
 use Rattle.cedar_types.specs.declared.base.names.slots.SlotId.{SlotId}
@@ -7,7 +7,7 @@ use Rattle.cedar_types.specs.declared.base.types.BoolType.TheVariants.{AnyBool, 
 use Rattle.cedar_types.specs.declared.base.types.ValidationMode.{ValidationMode}
 use Rattle.cedar_types.specs.Names.{Text, Path, Uid}
 use Rattle.cedar_types.specs.Lemmas.Comparisons.{and_left, and_right}
-use Rattle.cedar_types.specs.Types.{Ty, TNever, TBool, TEntity, is_well_formed}
+use Rattle.cedar_types.specs.Types.{Ty, TNever, TBool, TEntity}
 use Rattle.cedar_types.specs.Bounds.{is_strict}
 use Rattle.cedar_types.specs.Tree.{Lit, bool, long, string, entity, lit, var, slot, unknown, if_then_else, and, or, unary, binary, call, get_attr, has_attr, ext_has_attr, like, is_type, set_of, record_of, Trees, no_trees, tree, Fields, no_fields, field}
 use Rattle.cedar_types.specs.View.{Written}

@@ -4,7 +4,7 @@ use Rattle.cedar_types.specs.declared.base.location.Loc.{Loc}
 use Rattle.cedar_types.specs.declared.base.types.ValidationMode.{ValidationMode}
 use Rattle.cedar_types.specs.Types.{Ty}
 use Rattle.cedar_types.specs.View.{Written}
-use Rattle.cedar_types.specs.Bounds.{is_strict, lub}
+use Rattle.cedar_types.specs.Bounds.{is_strict}
 use Rattle.cedar_types.specs.Errors.{Finding}
 use Rattle.cedar_typing.specs.Capabilities.{Caps, union}
 use Rattle.cedar_typing.specs.Joins.{joined}

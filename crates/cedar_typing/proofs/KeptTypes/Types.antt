@@ -11,7 +11,7 @@ use Rattle.cedar_types.specs.Names.{Text, Path, text_eq}
 use Rattle.cedar_types.specs.Lemmas.Comparisons.{and_left, and_right, and_both}
 use Rattle.cedar_types.specs.Types.{Ty, TNever, TBool, TLong, TString, TSet, TAnySet, TRecord, TEntity, TAnyEntity, TExtension, Attrs, no_attrs, attr, attr_names, is_well_formed, are_well_formed}
 use Rattle.cedar_types.specs.Schemas.{is_vague, are_vague}
-use Rattle.cedar_types.specs.Bounds.{mark_eq, ty_eq, is_never, is_strict, bool_lub, set_lub, any_set_lub, entity_lub, any_entity_lub, closed_lub, wide_lub, record_lub, with_both, with_bound, with_common, apart_lub, both_attrs, common_attrs, lub, find_attr, union}
+use Rattle.cedar_types.specs.Bounds.{mark_eq, ty_eq, is_never, is_strict, bool_lub, set_lub, any_set_lub, entity_lub, any_entity_lub, closed_lub, wide_lub, with_both, with_bound, with_common, apart_lub, both_attrs, common_attrs, lub, find_attr, union}
 use Rattle.cedar_types.proofs.Bounds.Laws.{bound_form}
 use Rattle.cedar_typing.proofs.Basics.{some_is, neither_left, neither_right}
 

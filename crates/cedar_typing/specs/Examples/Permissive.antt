@@ -15,7 +15,7 @@ use Rattle.cedar_types.specs.Stores.{Entity, Store}
 use Rattle.cedar_types.specs.Templates.{PlainTemplate, condition_of}
 use Rattle.cedar_types.specs.Tree.{Shape, var, and, if_then_else}
 use Rattle.cedar_types.specs.Types.{Ty, TBool, TLong, TString, TRecord, TEntity, Attrs, no_attrs, attr}
-use Rattle.cedar_types.specs.Values.{Value, VBool, VEntity, VRecord, no_entries, more_entries, HasType}
+use Rattle.cedar_types.specs.Values.{VBool, VEntity, VRecord, no_entries, more_entries, HasType}
 use Rattle.cedar_typing.specs.Evaluation.Conformance.{SlotsBound}
 use Rattle.cedar_typing.specs.Evaluation.Eval.{eval}
 use Rattle.cedar_typing.specs.Evaluation.World.{World, TypeFailure, Gives, Fails}
