@@ -9,6 +9,7 @@ mod members;
 mod names;
 mod operators;
 mod parts;
+mod positions;
 mod schemas;
 mod scopes;
 mod texts;
@@ -16,5 +17,6 @@ mod tokens;
 
 pub use cursor::MAX_LENGTH;
 pub use faults::{Fault, ReadError};
-pub use schemas::{SchemaReadError, schema};
+pub use positions::{Position, position};
+pub use schemas::{RefusedName, SchemaReadError, refused_name, schema};
 pub use scopes::{condition, policy, scope_alone, uid_alone, whole_policy};

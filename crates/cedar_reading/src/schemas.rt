@@ -7,6 +7,7 @@ mod descendants;
 mod entity_types;
 mod lists;
 mod meanings;
+mod refusals;
 mod types;
 
 use crate::faults::ReadError;
@@ -14,6 +15,8 @@ use blocks::all_declarations;
 use cedar_types::base::{SchemaError, ValidatorSchema};
 use closed::{closed_actions, closed_types};
 use declarations::Declarations;
+use meanings::Names;
+pub use refusals::{RefusedName, refused_name};
 use std::alloc::Global;
 
 /// Why a text gives no schema.
@@ -46,11 +49,17 @@ impl From<SchemaError> for SchemaReadError {
 ///
 /// Descendants are what `in` says, over any number of steps. An action without `appliesTo` applies to nothing.
 pub fn schema(alloc: Global, text: &str) -> Result<ValidatorSchema, SchemaReadError> {
-    // what a name means depends on what stands behind it, so the first reading only finds what is declared
-    let first = all_declarations(alloc, text, &Declarations::new(alloc))?;
-    let read = all_declarations(alloc, text, &first)?;
+    let read = declarations_of(alloc, text)?;
     read.check_parents()?;
     let types = closed_types(alloc, &read).map_err(ReadError::from)?;
     let actions = closed_actions(alloc, &read).map_err(ReadError::from)?;
     Ok(ValidatorSchema::new(alloc, types, actions)?)
+}
+
+/// What a text declares.
+fn declarations_of(alloc: Global, text: &str) -> Result<Declarations, ReadError> {
+    // what a name means depends on what stands behind it, so the first reading only finds what is declared
+    let nothing = Declarations::new(alloc);
+    let first = all_declarations(text, Names::outside(alloc, &nothing))?;
+    all_declarations(text, Names::outside(alloc, &first))
 }

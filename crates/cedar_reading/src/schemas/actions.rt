@@ -42,14 +42,19 @@ pub fn action_declaration(
 }
 
 /// Reads the ids that are declared.
-fn own_actions(cursor: &mut Cursor<'_>, names: &Names<'_>) -> Result<Vec<EntityUID>, ReadError> {
+fn own_actions(
+    cursor: &mut Cursor<'_>,
+    names: &Names<'_>,
+) -> Result<Vec<Placed<EntityUID>>, ReadError> {
     let mut declared = Vec::new(cursor.alloc);
     for _ in 0..cursor.most_left() {
         if !Listing::WithCommas.goes_on(cursor, declared.len())? {
             break;
         }
+        let start = cursor.start();
         let eid = key(cursor)?;
-        declared.push(names.own_action(eid.as_str())?)?;
+        let name = names.own_action(eid.as_str())?;
+        declared.push(Placed { name, start })?;
     }
     Ok(declared)
 }

@@ -5,27 +5,17 @@ use crate::schemas::actions::action_declaration;
 use crate::schemas::declarations::Declarations;
 use crate::schemas::entity_types::entity_declaration;
 use crate::schemas::meanings::Names;
-use std::alloc::Global;
 
-/// Reads the declarations of a text. What its names mean rests on what is known to be declared.
-pub fn all_declarations(
-    alloc: Global,
-    text: &str,
-    declared: &Declarations,
-) -> Result<Declarations, ReadError> {
-    let mut cursor = Cursor::new(alloc, text)?;
-    let mut read = Declarations::new(alloc);
-    let outside = Names {
-        alloc,
-        namespace: &[],
-        declared,
-    };
+/// Reads the declarations of a text, whose names mean this outside of namespaces.
+pub fn all_declarations(text: &str, outside: Names<'_>) -> Result<Declarations, ReadError> {
+    let mut cursor = Cursor::new(outside.alloc, text)?;
+    let mut read = Declarations::new(outside.alloc);
     for _ in 0..cursor.most_left() {
         if cursor.is_at_end() {
             break;
         }
         if cursor.takes("namespace") {
-            namespace(&mut cursor, declared, &mut read)?;
+            namespace(&mut cursor, outside, &mut read)?;
         } else {
             declaration(&mut cursor, &outside, &mut read)?;
         }
@@ -36,14 +26,13 @@ pub fn all_declarations(
 /// Reads a namespace behind its first word.
 fn namespace(
     cursor: &mut Cursor<'_>,
-    declared: &Declarations,
+    outside: Names<'_>,
     read: &mut Declarations,
 ) -> Result<(), ReadError> {
     let path = path(cursor)?;
     let names = Names {
-        alloc: cursor.alloc,
         namespace: path.as_slice(),
-        declared,
+        ..outside
     };
     cursor.expect("{")?;
     for _ in 0..cursor.most_left() {

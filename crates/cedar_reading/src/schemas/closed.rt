@@ -15,10 +15,10 @@ pub fn closed_types(
     let declared = read.entity_types.as_slice();
     let mut types = Vec::new(alloc);
     for declaration in declared {
-        for name in &declaration.names {
+        for own in &declaration.names {
             types.push(ValidatorEntityType {
-                name: name.clone()?,
-                descendants: descendants(alloc, declared, name)?,
+                name: own.name.clone()?,
+                descendants: descendants(alloc, declared, &own.name)?,
                 kind: copy_of_kind(&declaration.kind)?,
             })?;
         }
@@ -47,11 +47,11 @@ pub fn closed_actions(
     let declared = read.actions.as_slice();
     let mut actions = Vec::new(alloc);
     for declaration in declared {
-        for name in &declaration.names {
+        for own in &declaration.names {
             let applies_to = copy_of_application(&declaration.kind)?;
             actions.push(ValidatorActionId {
-                name: name.clone()?,
-                descendants: descendants(alloc, declared, name)?,
+                name: own.name.clone()?,
+                descendants: descendants(alloc, declared, &own.name)?,
                 kind: ValidatorActionKind::Defined(applies_to),
             })?;
         }

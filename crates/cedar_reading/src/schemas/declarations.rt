@@ -13,7 +13,7 @@ pub struct Placed<N> {
 /// A declaration of entity types or actions.
 #[derive(Drop)]
 pub struct Declaration<N, K> {
-    pub names: Vec<N>,
+    pub names: Vec<Placed<N>>,
     /// What each of them is in, as the declaration says.
     pub parents: Vec<Placed<N>>,
     pub kind: K,
@@ -56,7 +56,9 @@ impl Declarations {
 }
 
 fn is_declared<N: PartialEq, K>(declared: &[Declaration<N, K>], name: &N) -> bool {
-    declared.iter().any(|d| d.names.contains(name))
+    declared
+        .iter()
+        .any(|d| d.names.iter().any(|own| own.name == *name))
 }
 
 /// Where the first parent stands that is not declared.

@@ -34,9 +34,12 @@ fn add_children<N: Ord + Clone + Drop, K>(
     Ok(found.len() != before)
 }
 
-fn add_all<N: Ord + Clone + Drop>(names: &[N], found: &mut BTreeSet<N>) -> Result<(), AllocError> {
-    for name in names {
-        found.insert(name.clone()?)?;
+fn add_all<N: Ord + Clone + Drop>(
+    names: &[Placed<N>],
+    found: &mut BTreeSet<N>,
+) -> Result<(), AllocError> {
+    for own in names {
+        found.insert(own.name.clone()?)?;
     }
     Ok(())
 }

@@ -37,13 +37,18 @@ pub fn entity_declaration(
 }
 
 /// Reads the names that are declared.
-fn own_types(cursor: &mut Cursor<'_>, names: &Names<'_>) -> Result<Vec<EntityType>, ReadError> {
+fn own_types(
+    cursor: &mut Cursor<'_>,
+    names: &Names<'_>,
+) -> Result<Vec<Placed<EntityType>>, ReadError> {
     let mut declared = Vec::new(cursor.alloc);
     for _ in 0..cursor.most_left() {
         if !Listing::WithCommas.goes_on(cursor, declared.len())? {
             break;
         }
-        declared.push(names.own_type(cursor.word()?)?)?;
+        let start = cursor.start();
+        let name = names.own_type(cursor.word()?)?;
+        declared.push(Placed { name, start })?;
     }
     Ok(declared)
 }
@@ -75,6 +80,7 @@ pub fn one_or_more_types(
         }
         let start = cursor.start();
         let name = names.entity_type(placed_name(cursor)?.name)?;
+        names.check_known(&name, start)?;
         types.push(Placed { name, start })?;
     }
     Ok(types)

@@ -1,4 +1,5 @@
 // What the names of a schema's text mean. None has a place: places are those of a policy's text.
+use crate::faults::{Fault, ReadError};
 use crate::schemas::declarations::Declarations;
 use cedar_types::base::{EntityType, EntityUID, Name};
 use std::alloc::{AllocError, Global};
@@ -11,9 +12,29 @@ pub struct Names<'a> {
     pub namespace: &'a [&'a str],
     /// What is known to be declared.
     pub declared: &'a Declarations,
+    /// Whether an entity type that is named has to be declared, or be one of actions.
+    pub have_to_be_known: bool,
 }
 
-impl Names<'_> {
+impl<'a> Names<'a> {
+    /// Outside of namespaces, where any name may be used.
+    pub fn outside(alloc: Global, declared: &'a Declarations) -> Names<'a> {
+        Names {
+            alloc,
+            namespace: &[],
+            declared,
+            have_to_be_known: false,
+        }
+    }
+
+    /// Fails at the entity type that stands at this byte, if it has to be known and is not.
+    pub fn check_known(&self, named: &EntityType, start: usize) -> Result<(), ReadError> {
+        if self.have_to_be_known && !named.is_action() && !self.declared.has_type(named) {
+            return Err(ReadError::At(start, Fault::Undeclared));
+        }
+        Ok(())
+    }
+
     /// The entity type of this name that a declaration here declares.
     pub fn own_type(&self, basename: &str) -> Result<EntityType, AllocError> {
         let name = Name::new(self.alloc, basename, self.namespace)?;

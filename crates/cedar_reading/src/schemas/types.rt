@@ -78,6 +78,7 @@ pub fn attributes(
 
 /// Reads the name of a type.
 fn named_type(cursor: &mut Cursor<'_>, names: &Names<'_>) -> Result<CedarType, ReadError> {
+    let start = cursor.start();
     let name = placed_name(cursor)?.name;
     if let Some(primitive) = primitive(&name) {
         return Ok(primitive);
@@ -87,6 +88,7 @@ fn named_type(cursor: &mut Cursor<'_>, names: &Names<'_>) -> Result<CedarType, R
     if is_extension && !names.declared.has_type(&meant) {
         return Ok(CedarType::extension(cursor.alloc, meant.name)?);
     }
+    names.check_known(&meant, start)?;
     Ok(CedarType::named_entity_reference(cursor.alloc, meant)?)
 }
 

@@ -1,0 +1,19 @@
+// Where a byte of a text stands, as people count.
+
+/// A line of a text and a column of that line, in characters, each from 1 on.
+#[derive(Clone, Copy, PartialEq, Eq, Debug)]
+pub struct Position {
+    pub line: usize,
+    pub column: usize,
+}
+
+/// Where a byte of a text stands. A line ends with `\n`, and what stands before that, as in `\r\n`, is of the line.
+pub fn position(text: &str, at: usize) -> Position {
+    let before = text.get(..at).unwrap_or(text);
+    let line = before.split('\n').count();
+    let column = before.rsplit('\n').next().unwrap_or("").chars().count();
+    Position {
+        line,
+        column: column.saturating_add(1),
+    }
+}
