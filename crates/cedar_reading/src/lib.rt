@@ -17,6 +17,6 @@ mod tokens;
 
 pub use cursor::MAX_LENGTH;
 pub use faults::{Fault, ReadError};
-pub use positions::{Position, position};
+pub use positions::Position;
 pub use schemas::{RefusedName, SchemaReadError, refused_name, schema};
 pub use scopes::{condition, policy, scope_alone, uid_alone, whole_policy};

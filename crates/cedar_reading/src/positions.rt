@@ -7,13 +7,15 @@ pub struct Position {
     pub column: usize,
 }
 
-/// Where a byte of a text stands. A line ends with `\n`, and what stands before that, as in `\r\n`, is of the line.
-pub fn position(text: &str, at: usize) -> Position {
-    let before = text.get(..at).unwrap_or(text);
-    let line = before.split('\n').count();
-    let column = before.rsplit('\n').next().unwrap_or("").chars().count();
-    Position {
-        line,
-        column: column.saturating_add(1),
+impl Position {
+    /// Where a byte of a text stands. A line ends with `\n`; a `\r` before that is the line's last character.
+    pub fn in_text(text: &str, at: usize) -> Position {
+        let before = text.get(..at).unwrap_or(text);
+        let line = before.split('\n').count();
+        let column = before.rsplit('\n').next().unwrap_or("").chars().count();
+        Position {
+            line,
+            column: column.saturating_add(1),
+        }
     }
 }
