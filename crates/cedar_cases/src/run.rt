@@ -1,9 +1,11 @@
 // What the program does, over any files and any two writers.
 use crate::cases::{CaseFile, FileFault, Rules, Tally, run_cases};
 use crate::tables::Tables;
-use cedar_reading::{Fault, MAX_LENGTH, ReadError, SchemaReadError, schema};
+use cedar_reading::{
+    Fault, MAX_LENGTH, Position, ReadError, SchemaReadError, refused_name, schema,
+};
 use cedar_typechecker::rbac::Validator;
-use cedar_types::base::ValidatorSchema;
+use cedar_types::base::{SchemaError, ValidatorSchema};
 use std::alloc::{AllocError, Global};
 use std::io::Write;
 use std::rt::Files;
@@ -78,8 +80,16 @@ fn run_file<R: Files + AllocGlobal, O: Write>(
         extensions,
     };
     let tally = run_cases(alloc, name, &file, rules, out)?;
-    writeln!(out, "{name}: {} ran, {} differ", tally.ran, tally.wrong)?;
+    write_tally(out, name, tally, file.skipped())?;
     Ok(tally.wrong == 0)
+}
+
+fn write_tally<O: Write>(out: &mut O, name: &str, tally: Tally, skipped: usize) -> io::Result<()> {
+    write!(out, "{name}: {} ran, {} differ", tally.ran, tally.wrong)?;
+    if skipped > 0 {
+        write!(out, "; columns skipped: {skipped}")?;
+    }
+    writeln!(out)
 }
 
 /// The text of a file. Where it cannot be had, that is written, and the answer is `None`.
@@ -121,6 +131,9 @@ fn write_file_fault<O: Write>(out: &mut O, name: &str, fault: FileFault) -> io::
         FileFault::NoColumn(column) => {
             writeln!(out, "{name}:2:{column}: the name of a column is expected")
         }
+        FileFault::SameColumn(column) => {
+            writeln!(out, "{name}:2:{column}: the same column twice")
+        }
     }
 }
 
@@ -134,16 +147,36 @@ fn read_schema<O: Write>(
     match schema(alloc, text) {
         Ok(schema) => Ok(Some(schema)),
         Err(SchemaReadError::Refused(fault)) => {
-            writeln!(out, "{name}: {fault}")?;
+            write_refusal(alloc, name, text, &fault, out)?;
             Ok(None)
         }
         Err(SchemaReadError::Read(ReadError::Memory(error))) => Err(io::Error::from(error)),
         Err(SchemaReadError::Read(ReadError::At(at, fault))) => {
-            let before = text.get(..at).unwrap_or(text);
-            let line = before.split('\n').count();
-            let column = before.rsplit('\n').next().unwrap_or("").chars().count();
-            writeln!(out, "{name}:{line}:{}: {fault}", column.saturating_add(1))?;
+            let at = Position::in_text(text, at);
+            writeln!(out, "{name}:{}:{}: {fault}", at.line, at.column)?;
             Ok(None)
+        }
+    }
+}
+
+/// Writes why a schema is refused, and for which name of its text.
+fn write_refusal<O: Write>(
+    alloc: Global,
+    name: &str,
+    text: &str,
+    fault: &SchemaError,
+    out: &mut O,
+) -> io::Result<()> {
+    match refused_name(alloc, text, fault)? {
+        None => writeln!(out, "{name}: {fault}"),
+        Some(refused) => {
+            let at = Position::in_text(text, refused.start);
+            let refused = refused.name;
+            writeln!(
+                out,
+                "{name}:{}:{}: {fault}: `{refused}`",
+                at.line, at.column
+            )
         }
     }
 }

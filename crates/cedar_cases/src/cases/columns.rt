@@ -14,6 +14,8 @@ pub enum Column {
     Condition,
     /// The entity that a slot is bound to.
     Slot(SlotId),
+    /// What is wanted of the levels of a policy, which is not asked yet: it is skipped.
+    Levels,
     /// What is wanted of the policy.
     Wanted(Wanted),
 }
@@ -67,6 +69,7 @@ impl Column {
             "condition" => Some(Column::Condition),
             "?principal" => Some(Column::Slot(SlotId::Principal)),
             "?resource" => Some(Column::Slot(SlotId::Resource)),
+            _ if is_about_levels(name) => Some(Column::Levels),
             _ => Some(Column::Wanted(Wanted::named(name)?)),
         }
     }
@@ -88,14 +91,34 @@ impl Wanted {
             Some((mode, "environments")) => (mode, Subject::Environments),
             Some(_) => return None,
         };
-        let mode = match mode {
-            "strict" => ValidationMode::Strict,
-            "permissive" => ValidationMode::Permissive,
-            "partial" => ValidationMode::Partial,
-            _ => return None,
-        };
-        Some(Wanted::Checks(mode, subject))
+        Some(Wanted::Checks(mode_named(mode)?, subject))
     }
+}
+
+fn mode_named(name: &str) -> Option<ValidationMode> {
+    match name {
+        "strict" => Some(ValidationMode::Strict),
+        "permissive" => Some(ValidationMode::Permissive),
+        "partial" => Some(ValidationMode::Partial),
+        _ => None,
+    }
+}
+
+/// Whether a column of this name wants something of levels: `required` or `level N` behind a mode.
+fn is_about_levels(name: &str) -> bool {
+    let Some((mode, asked)) = name.split_once(' ') else {
+        return false;
+    };
+    let is_asked = match asked.strip_prefix("level ") {
+        Some(level) => is_level(level),
+        None => asked == "required",
+    };
+    is_asked && mode_named(mode).is_some()
+}
+
+/// Whether a text is a level, in digits: 0 to 4294967295.
+fn is_level(text: &str) -> bool {
+    text.chars().all(|c| c.is_ascii_digit()) && text.parse::<u32>().is_ok()
 }
 
 impl Question {

@@ -1,5 +1,6 @@
 // The lines of a case file.
 use crate::cases::columns::{Column, Wanted};
+use cedar_reading::Fault;
 use cedar_types::base::SlotId;
 use std::alloc::{AllocError, Global};
 
@@ -43,8 +44,7 @@ pub struct CaseFile<'a> {
     pub has_ordered_addresses: bool,
     /// With their names.
     pub columns: Vec<(&'a str, Column)>,
-    /// The lines after the names of the columns.
-    pub lines: &'a str,
+    text: &'a str,
 }
 
 /// What is wrong with the first two lines of a case file.
@@ -56,6 +56,8 @@ pub enum FileFault {
     NoOrder,
     /// The second line has a name that no column has, as its field of this number, from 1 on.
     NoColumn(usize),
+    /// Its field of this number has the name of a column before it.
+    SameColumn(usize),
 }
 
 /// The third field of the first line, where addresses are ordered.
@@ -74,7 +76,7 @@ impl<'a> Case<'a> {
     /// Adds what the column of this name has.
     fn add(&mut self, name: &'a str, column: Column, field: Field<'a>) -> Result<(), AllocError> {
         match column {
-            Column::About => {}
+            Column::About | Column::Levels => {}
             Column::Policy => self.policy = field,
             Column::Scope => self.scope = field,
             Column::Condition => self.condition = field,
@@ -97,8 +99,9 @@ impl<'a> CaseFile<'a> {
         alloc: Global,
         text: &'a str,
     ) -> Result<Result<CaseFile<'a>, FileFault>, AllocError> {
-        let (first, rest) = text.split_once('\n').unwrap_or((text, ""));
-        let (names, lines) = rest.split_once('\n').unwrap_or((rest, ""));
+        let mut lines = text.lines();
+        let first = lines.next().unwrap_or("");
+        let names = lines.next().unwrap_or("");
         let Some(named) = first.strip_prefix("schema\t") else {
             return Ok(Err(FileFault::NoSchema));
         };
@@ -107,29 +110,43 @@ impl<'a> CaseFile<'a> {
             Some((schema, ORDERED)) => (schema, true),
             Some(_) => return Ok(Err(FileFault::NoOrder)),
         };
-        let mut columns = Vec::new(alloc);
-        for name in names.split('\t') {
-            let Some(column) = Column::named(name) else {
-                let number = columns.len().saturating_add(1);
-                return Ok(Err(FileFault::NoColumn(number)));
-            };
-            columns.push((name, column))?;
-        }
-        Ok(Ok(CaseFile {
+        let columns = columns_named(alloc, names)?;
+        Ok(columns.map(|columns| CaseFile {
             schema,
             has_ordered_addresses,
             columns,
-            lines,
+            text,
         }))
+    }
+
+    /// How many columns are skipped.
+    pub fn skipped(&self) -> usize {
+        self.columns
+            .iter()
+            .filter(|(_, column)| *column == Column::Levels)
+            .count()
+    }
+
+    /// Where a line has another number of fields than there are columns, and what is expected there.
+    pub fn fault_of_fields(&self, line: &str) -> Option<(usize, Fault)> {
+        let (wanted, count) = (self.columns.len(), line.split('\t').count());
+        if count < wanted {
+            return Some((line.len(), Fault::Expected("another field")));
+        }
+        if count > wanted {
+            let end = end_of_fields(line, wanted);
+            return Some((end, Fault::Expected("the end of the line")));
+        }
+        None
     }
 
     /// The cases: the lines that neither are empty nor begin with `#`.
     pub fn cases(&self, alloc: Global) -> Result<Vec<Case<'a>>, AllocError> {
         let mut cases = Vec::new(alloc);
-        let mut number = HEAD;
-        for line in self.lines.split('\n') {
+        let mut number: usize = 0;
+        for line in self.text.lines() {
             number = number.saturating_add(1);
-            if !line.is_empty() && !line.starts_with('#') {
+            if number > HEAD && !line.is_empty() && !line.starts_with('#') {
                 cases.push(self.case(alloc, number, line)?)?;
             }
         }
@@ -154,4 +171,32 @@ impl<'a> CaseFile<'a> {
         }
         Ok(case)
     }
+}
+
+/// The columns of these names, each with its own.
+fn columns_named<'a>(
+    alloc: Global,
+    names: &'a str,
+) -> Result<Result<Vec<(&'a str, Column)>, FileFault>, AllocError> {
+    let mut columns: Vec<(&'a str, Column)> = Vec::new(alloc);
+    for name in names.split('\t') {
+        let number = columns.len().saturating_add(1);
+        let Some(column) = Column::named(name) else {
+            return Ok(Err(FileFault::NoColumn(number)));
+        };
+        if columns.iter().any(|(before, _)| *before == name) {
+            return Ok(Err(FileFault::SameColumn(number)));
+        }
+        columns.push((name, column))?;
+    }
+    Ok(Ok(columns))
+}
+
+/// The byte behind the first so many fields of a line.
+fn end_of_fields(line: &str, count: usize) -> usize {
+    let mut next: usize = 0;
+    for field in line.split('\t').take(count) {
+        next = next.saturating_add(field.len()).saturating_add(1);
+    }
+    next.saturating_sub(1)
 }

@@ -2,7 +2,9 @@
 use crate::cases::answers::{Rules, answers, in_order};
 use crate::cases::files::{Case, CaseFile, Field};
 use crate::shown::Source;
-use cedar_reading::{Fault, ReadError, condition, policy, scope_alone, uid_alone, whole_policy};
+use cedar_reading::{
+    Fault, Position, ReadError, condition, policy, scope_alone, uid_alone, whole_policy,
+};
 use cedar_types::base::{Policy, SlotEnv, Template};
 use std::alloc::{AllocError, Global};
 use std::io;
@@ -29,7 +31,11 @@ pub fn run_cases<W: Write>(
     let mut tally = Tally { ran: 0, wrong: 0 };
     for case in file.cases(alloc)? {
         tally.ran = tally.ran.saturating_add(1);
-        if !run_case(alloc, name, &case, rules, out)? {
+        let agrees = match file.fault_of_fields(case.line) {
+            Some(fault) => write_fault(name, &case, fault, out)?,
+            None => run_case(alloc, name, &case, rules, out)?,
+        };
+        if !agrees {
             tally.wrong = tally.wrong.saturating_add(1);
         }
     }
@@ -46,11 +52,7 @@ fn run_case<W: Write>(
 ) -> io::Result<bool> {
     let policy = match policy_of(alloc, case)? {
         Ok(policy) => policy,
-        Err((at, fault)) => {
-            let column = column_at(case.line, at);
-            writeln!(out, "{name}:{}:{column}: {fault}", case.number)?;
-            return Ok(false);
-        }
+        Err(fault) => return write_fault(name, case, fault, out),
     };
     let source = source_of(case, &policy.template);
     let mut agrees = true;
@@ -65,6 +67,18 @@ fn run_case<W: Write>(
         }
     }
     Ok(agrees)
+}
+
+/// Writes what is wrong at a byte of a case's line, and answers that the case does not agree.
+fn write_fault<W: Write>(
+    name: &str,
+    case: &Case<'_>,
+    (at, fault): (usize, Fault),
+    out: &mut W,
+) -> io::Result<bool> {
+    let column = Position::in_text(case.line, at).column;
+    writeln!(out, "{name}:{}:{column}: {fault}", case.number)?;
+    Ok(false)
 }
 
 /// The text that the places of a case's policy are in.
@@ -128,13 +142,4 @@ fn fault_in<T>(
         ReadError::Memory(error) => Err(error),
         ReadError::At(at, fault) => Ok(Err((field.start.saturating_add(at), fault))),
     }
-}
-
-/// The column of a byte of a line, in characters, from 1 on.
-pub fn column_at(line: &str, at: usize) -> usize {
-    line.get(..at)
-        .unwrap_or(line)
-        .chars()
-        .count()
-        .saturating_add(1)
 }
