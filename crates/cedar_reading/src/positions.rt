@@ -8,7 +8,8 @@ pub struct Position {
 }
 
 impl Position {
-    /// Where a byte of a text stands. A line ends with `\n`; a `\r` before that is the line's last character.
+    /// Where a byte of a text stands. A line ends with `\n`; a `\r` before that is the line's last
+    /// character.
     pub fn in_text(text: &str, at: usize) -> Position {
         let before = text.get(..at).unwrap_or(text);
         let line = before.split('\n').count();

@@ -58,7 +58,8 @@ pub fn schema(alloc: Global, text: &str) -> Result<ValidatorSchema, SchemaReadEr
 
 /// What a text declares.
 fn declarations_of(alloc: Global, text: &str) -> Result<Declarations, ReadError> {
-    // what a name means depends on what stands behind it, so the first reading only finds what is declared
+    // what a name means depends on what stands behind it, so the first reading only finds what is
+    // declared
     let nothing = Declarations::new(alloc);
     let first = all_declarations(text, Names::outside(alloc, &nothing))?;
     all_declarations(text, Names::outside(alloc, &first))

@@ -127,7 +127,8 @@ impl<'a> CaseFile<'a> {
             .count()
     }
 
-    /// Where a line has another number of fields than there are columns, and what is expected there.
+    /// The byte at which a field is missing or one too many begins, and what is expected there.
+    /// `None` where the line has a field for each column.
     pub fn fault_of_fields(&self, line: &str) -> Option<(usize, Fault)> {
         let (wanted, count) = (self.columns.len(), line.split('\t').count());
         if count < wanted {

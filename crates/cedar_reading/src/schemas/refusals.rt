@@ -20,8 +20,9 @@ pub struct RefusedName {
     pub start: usize,
 }
 
-/// The name in a text that this fault of its schema is about: the first that is declared for a second time, that is one of
-/// actions, whose type has no ids, or that is not known. `None` where there is no such name.
+/// The name in a text that this fault of its schema is about: the first that is declared for a
+/// second time, that is one of actions, whose type has no ids, or that is not known. `None` where
+/// there is no such name, as for the other faults, which no text has.
 pub fn refused_name(
     alloc: Global,
     text: &str,
@@ -106,7 +107,8 @@ fn has_no_ids(kind: &ValidatorEntityTypeKind) -> bool {
     }
 }
 
-/// The first type that is named and neither declared nor one of actions, found by a reading in which each has to be known.
+/// The first type that is named and neither declared nor one of actions, found by a reading in
+/// which each has to be known.
 fn unknown(
     alloc: Global,
     text: &str,
