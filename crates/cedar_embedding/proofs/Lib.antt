@@ -1,2 +1,3 @@
 mod Passes
+mod Promises
 mod Warnings

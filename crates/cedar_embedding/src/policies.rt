@@ -23,9 +23,14 @@ pub const FROM_RANGE: &str =
 pub const FROM_NOWHERE: &str =
     "permit(principal, action, resource) when { principal.address.isInRange(ip(\"\")) };";
 
-/// No type has the name `Ghost`. In `&& false` typing says no more than that it is False.
+/// No type has the name `Ghost`. Of sharing, typing does not look at that part, and of viewing it
+/// says no more than that the part is False.
 pub const HAUNTED: &str =
-    "permit(principal, action, resource) when { (Ghost::\"casper\" < 1) && false };";
+    "permit(principal, action, resource) when { action == Action::\"share\" || ((Ghost::\"casper\" < 1) && false) };";
+
+/// The contact of a user or of a document. In Strict these two types do not agree.
+pub const OF_EITHER: &str =
+    "permit(principal, action, resource) when { (if principal has vip then principal else resource).contact == principal };";
 
 /// About the user that the slot is bound to.
 pub const OF_ONE_USER: &str = "permit(principal == ?principal, action, resource);";
@@ -72,15 +77,53 @@ pub fn misspelt(alloc: Global) -> Result<Template, AllocError> {
     permit_when(alloc, MISSPELT, test)
 }
 
-/// `(Ghost::"casper" < 1) && false`, where the type of `casper` is at its place
+/// `action == Action::"share" || ((Ghost::"casper" < 1) && false)`, where the type of `casper` is at
+/// its place
 pub fn haunted(alloc: Global) -> Result<Template, AllocError> {
+    let right = Expr::and(alloc, below_one(alloc)?, Expr::val(Literal::from(false)))?;
+    permit_when(alloc, HAUNTED, Expr::or(alloc, is_sharing(alloc)?, right)?)
+}
+
+/// `action == Action::"share"`
+fn is_sharing(alloc: Global) -> Result<Expr, AllocError> {
+    let actions = EntityType::from(Name::unqualified_name(alloc, "Action")?);
+    let share = EntityUID::from_components(alloc, actions, "share", None)?;
+    Expr::is_eq(
+        alloc,
+        Expr::var(Var::Action),
+        Expr::val(Literal::from(share)),
+    )
+}
+
+/// `Ghost::"casper" < 1`
+fn below_one(alloc: Global) -> Result<Expr, AllocError> {
     let name = Name::unqualified_name(alloc, "Ghost")?;
     let ghosts = EntityType::new(name, place_in(HAUNTED, "Ghost"));
     let casper = EntityUID::from_components(alloc, ghosts, "casper", None)?;
     let one = Expr::val(Literal::from(1));
-    let test = Expr::less(alloc, Expr::val(Literal::from(casper)), one)?;
-    let never = Expr::val(Literal::from(false));
-    permit_when(alloc, HAUNTED, Expr::and(alloc, test, never)?)
+    Expr::less(alloc, Expr::val(Literal::from(casper)), one)
+}
+
+/// `(if principal has vip then principal else resource).contact == principal`, where the `if` is at
+/// its place
+pub fn of_either(alloc: Global) -> Result<Template, AllocError> {
+    let marked = Expr::has_attr(alloc, Expr::var(Var::Principal), "vip")?;
+    let either = Expr::ite(
+        alloc,
+        marked,
+        Expr::var(Var::Principal),
+        Expr::var(Var::Resource),
+    )?;
+    let place = place_in(
+        OF_EITHER,
+        "if principal has vip then principal else resource",
+    );
+    let contact = Expr::get_attr(alloc, either.with_maybe_source_loc(place), "contact")?;
+    permit_when(
+        alloc,
+        OF_EITHER,
+        Expr::is_eq(alloc, contact, Expr::var(Var::Principal))?,
+    )
 }
 
 /// `principal == ?principal`, in the scope

@@ -4,14 +4,14 @@ ghost use Rattle.cedar_types.specs.SchemaContents.{schema_of};
 ghost use Rattle.cedar_types.specs.Templates.{template_of};
 ghost use Rattle.cedar_typing.specs.PolicySoundness.{IsNamedBySchema};
 ghost use Rattle.cedar_typechecker.specs.Passes.{errors_left};
-ghost use Rattle.cedar_embedding.specs.Safety.{strict_basis, DoesNotGoWrong, IsNeverTrue, IsRight};
+ghost use Rattle.cedar_embedding.specs.Safety.{basis_in, PassesEverywhere, DoesNotGoWrong, IsNeverTrue, IsRight};
 
-use crate::admission::{reason, unexplained};
+use crate::reports::{PolicyReport, report};
+use crate::safety::{SoundMode, typechecker_in};
 use cedar_typechecker::rbac::{LiteralErrors, Validator};
 use cedar_types::base::{
-    ArgumentCheck, Template, ValidationError, ValidationMode, ValidationWarning, ValidatorSchema,
+    ArgumentCheck, Template, ValidationError, ValidationWarning, ValidatorSchema,
 };
-use cedar_typing::typecheck::Typechecker;
 use std::alloc::{AllocError, Global};
 use std::collections::HashSet;
 
@@ -33,54 +33,46 @@ pub struct Findings {
     pub warnings: HashSet<ValidationWarning>,
 }
 
-/// What the host says of a policy.
-#[derive(Debug, Drop)]
-pub struct PolicyReport<'a> {
-    pub policy: &'a WrittenPolicy,
-    pub is_accepted: bool,
-    pub is_impossible: bool,
-    /// A line for each error, in ascending order.
-    pub errors: Vec<String>,
-    /// A line for each warning, in ascending order.
-    pub warnings: Vec<String>,
-}
-
-/// A report on each policy of the set. Those that are accepted do not go wrong, and those that are
-/// impossible are never true.
+/// A report on each policy of the set, which is checked in this mode. Those that are accepted do not
+/// go wrong, and those that are impossible are never true.
 pub fn validate_set<'a, C: ArgumentCheck>(
     alloc: Global,
     validator: &Validator<'_, C>,
+    mode: SoundMode,
     policies: &'a [WrittenPolicy],
 ) -> Result<Vec<PolicyReport<'a>>, AllocError>
     ensures each { IfOk result (λ reports. map (λ r. r.policy.now) reports.items ≡ policies.now) }
     ensures right { IfOk result (λ reports.
-        All (IsRight (strict_basis C.refusal validator.now)) reports.items) }
+        All (IsRight (basis_in mode C.refusal validator.now)) reports.items) }
 {
     let mut reports = Vec::with_capacity(alloc, policies.len())?;
     for policy in policies {
-        let findings = validate(alloc, validator, &policy.template)?;
+        let findings = validate(alloc, validator, mode, &policy.template)?;
         reports.push(report(alloc, policy, findings)?)?;
     }
     Ok(reports)
 }
 
 /// What is found in a policy: the types, actions and ids that the schema does not have, what typing
-/// finds in all environments, and whether no action fits the scope.
+/// finds in all environments, in this mode, and whether no action fits the scope.
 pub fn validate<C: ArgumentCheck>(
     alloc: Global,
     validator: &Validator<'_, C>,
+    mode: SoundMode,
     policy: &Template,
 ) -> Result<Findings, AllocError>
+    ensures checked { IfOk result (λ found. found.is_accepted ≡ true
+        → PassesEverywhere (basis_in mode C.refusal validator.now) (template_of policy.now)) }
     ensures safe { IfOk result (λ found. found.is_accepted ≡ true
-        → DoesNotGoWrong (strict_basis C.refusal validator.now) (template_of policy.now)) }
+        → DoesNotGoWrong (basis_in mode C.refusal validator.now) (template_of policy.now)) }
     ensures never_true { IfOk result (λ found. found.is_impossible ≡ true
-        → IsNeverTrue (strict_basis C.refusal validator.now) (template_of policy.now)) }
+        → IsNeverTrue (basis_in mode C.refusal validator.now) (template_of policy.now)) }
 {
     let schema = validator.schema();
     let mut errors = HashSet::new(alloc);
     let mut warnings = HashSet::new(alloc);
     let is_named = is_named(alloc, schema, policy, &mut errors)?;
-    let checker = Typechecker::new(schema, validator.extensions(), ValidationMode::Strict);
+    let checker = typechecker_in(validator, mode);
     let passes = checker.typecheck_policy(alloc, policy, &mut errors, &mut warnings)?;
     let is_impossible = !warnings.is_empty();
     if let Err(warning) = validator.validate_template_action_application(alloc, policy)? {
@@ -126,54 +118,4 @@ fn is_empty(
         empty = false;
     }
     Ok(empty)
-}
-
-/// What the host says of a policy in which this was found. One that is refused has a line at least.
-fn report<'a>(
-    alloc: Global,
-    policy: &'a WrittenPolicy,
-    findings: Findings,
-) -> Result<PolicyReport<'a>, AllocError>
-    ensures policy { IfOk result (λ r. r.policy ≡ policy.entry) }
-    ensures accepted { IfOk result (λ r. r.is_accepted ≡ findings.is_accepted) }
-    ensures impossible { IfOk result (λ r. r.is_impossible ≡ findings.is_impossible) }
-{
-    let mut errors = error_lines(alloc, &policy.text, &findings.errors)?;
-    if !findings.is_accepted && errors.is_empty() {
-        errors.push(unexplained(alloc, &policy.template.id)?)?;
-    }
-    let warnings = warning_lines(alloc, &findings.warnings)?;
-    Ok(PolicyReport {
-        policy,
-        is_accepted: findings.is_accepted,
-        is_impossible: findings.is_impossible,
-        errors,
-        warnings,
-    })
-}
-
-/// A line for each error, with its place in the text.
-fn error_lines(
-    alloc: Global,
-    text: &str,
-    errors: &HashSet<ValidationError>,
-) -> Result<Vec<String>, AllocError> {
-    let mut lines = Vec::new(alloc);
-    for error in errors {
-        lines.push(reason(alloc, text, error)?)?;
-    }
-    lines.sort()?;
-    Ok(lines)
-}
-
-fn warning_lines(
-    alloc: Global,
-    warnings: &HashSet<ValidationWarning>,
-) -> Result<Vec<String>, AllocError> {
-    let mut lines = Vec::new(alloc);
-    for warning in warnings {
-        lines.push(warning.to_string(alloc)?)?;
-    }
-    lines.sort()?;
-    Ok(lines)
 }

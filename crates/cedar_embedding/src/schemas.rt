@@ -35,11 +35,24 @@ pub fn address(alloc: Global) -> Result<CedarType, AllocError> {
     CedarType::extension(alloc, Name::unqualified_name(alloc, "ipaddr")?)
 }
 
-/// The attributes of users: an address, and the mark `vip`, which may be absent.
+/// The attribute of a user to ask.
+fn contact(alloc: Global) -> Result<AttributeType, AllocError> {
+    let user = CedarType::named_entity_reference(alloc, entity_type(alloc, "User")?)?;
+    Ok(AttributeType::required_attribute(user))
+}
+
+/// The attributes of users: an address, a user to ask, and the mark `vip`, which may be absent.
 fn user_attributes(alloc: Global) -> Result<Attributes, AllocError> {
     let address = AttributeType::required_attribute(address(alloc)?);
+    let contact = contact(alloc)?;
     let vip = AttributeType::optional_attribute(CedarType::primitive_boolean());
-    let listed = vec![in alloc; ("address", address), ("vip", vip)]?;
+    let listed = vec![in alloc; ("address", address), ("contact", contact), ("vip", vip)]?;
+    Attributes::from_list(alloc, listed)
+}
+
+/// The attribute of documents: a user to ask.
+fn document_attributes(alloc: Global) -> Result<Attributes, AllocError> {
+    let listed = vec![in alloc; ("contact", contact(alloc)?)]?;
     Attributes::from_list(alloc, listed)
 }
 
@@ -78,7 +91,7 @@ fn action(alloc: Global, eid: &str, context: Attributes) -> Result<ValidatorActi
 /// Users and documents.
 fn types(alloc: Global) -> Result<Vec<ValidatorEntityType>, AllocError> {
     let users = entities(alloc, "User", user_attributes(alloc)?)?;
-    let documents = entities(alloc, "Document", no_attributes(alloc)?)?;
+    let documents = entities(alloc, "Document", document_attributes(alloc)?)?;
     Ok(vec![in alloc; users, documents]?)
 }
 

@@ -1,8 +1,8 @@
-//! What the host does with policies of each kind, and what it says of a set of them. They stand apart, since a crate with tests
+//! What the host says of a set of policies, and in which environments one is safe. They stand apart, since a crate with tests
 //! is proved twice.
 #![tactic(auto)]
 
 #[cfg(test)]
-mod admission;
-#[cfg(test)]
 mod policy_sets;
+#[cfg(test)]
+mod safety;

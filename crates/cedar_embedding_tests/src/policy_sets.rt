@@ -1,21 +1,26 @@
 // What the host says of a set of policies.
+use cedar_embedding::functions::{RefusesEmptyAddress, ip, is_in_range};
 use cedar_embedding::policies::{
-    APPROVED_SHARING, BY_A_DOCUMENT, HAUNTED, MISSPELT, OF_ONE_USER, UNGUARDED, approved_sharing,
-    by_a_document, haunted, misspelt, of_one_user, unguarded,
+    APPROVED_SHARING, BY_A_DOCUMENT, FROM_NOWHERE, FROM_RANGE, HAUNTED, MISSPELT, OF_EITHER,
+    OF_ONE_USER, UNGUARDED, approved_sharing, by_a_document, from_nowhere, from_range, haunted,
+    misspelt, of_either, of_one_user, permit_when, unguarded,
 };
-use cedar_embedding::policy_sets::{PolicyReport, WrittenPolicy, validate_set};
+use cedar_embedding::policy_sets::{WrittenPolicy, validate_set};
+use cedar_embedding::reports::PolicyReport;
+use cedar_embedding::safety::SoundMode;
 use cedar_embedding::schemas::documents;
 use cedar_typechecker::rbac::Validator;
-use cedar_types::base::{ExtensionSchemas, PolicyID, Template};
+use cedar_types::base::{Expr, ExtensionSchemas, Literal, Name, PolicyID, Template, Var};
 use std::alloc::{AllocError, Global};
+use std::collections::BTreeSet;
 use std::process::Abort;
 use std::test::Fail;
 
+const IMPOSSIBLE_0: &str =
+    "for policy `policy0`, policy is impossible: it evaluates to false for every valid request";
+
 const IMPOSSIBLE_2: &str =
     "for policy `policy2`, policy is impossible: it evaluates to false for every valid request";
-
-const IMPOSSIBLE_3: &str =
-    "for policy `policy3`, policy is impossible: it evaluates to false for every valid request";
 
 const IMPOSSIBLE_5: &str =
     "for policy `policy5`, policy is impossible: it evaluates to false for every valid request";
@@ -32,6 +37,7 @@ fn policies(alloc: Global) -> Result<Vec<WrittenPolicy>, AllocError> {
         policy(alloc, "policy3", haunted(alloc)?, HAUNTED)?,
         policy(alloc, "policy4", of_one_user(alloc)?, OF_ONE_USER)?,
         policy(alloc, "policy5", by_a_document(alloc)?, BY_A_DOCUMENT)?,
+        policy(alloc, "policy6", of_either(alloc)?, OF_EITHER)?,
     ]?)
 }
 
@@ -55,13 +61,16 @@ struct Want {
     warnings: &'static [&'static str],
 }
 
+const ACCEPTED: Want = Want {
+    is_accepted: true,
+    is_impossible: false,
+    errors: &[],
+    warnings: &[],
+};
+
+/// Of the policies before the last one, in each mode.
 const WANTED: &[Want] = &[
-    Want {
-        is_accepted: true,
-        is_impossible: false,
-        errors: &[],
-        warnings: &[],
-    },
+    ACCEPTED,
     Want {
         is_accepted: false,
         is_impossible: false,
@@ -78,16 +87,11 @@ const WANTED: &[Want] = &[
     },
     Want {
         is_accepted: false,
-        is_impossible: true,
-        errors: &["44..49 `Ghost`: for policy `policy3`, unrecognized entity type `Ghost`"],
-        warnings: &[IMPOSSIBLE_3],
-    },
-    Want {
-        is_accepted: true,
         is_impossible: false,
-        errors: &[],
+        errors: &["74..79 `Ghost`: for policy `policy3`, unrecognized entity type `Ghost`"],
         warnings: &[],
     },
+    ACCEPTED,
     Want {
         is_accepted: true,
         is_impossible: true,
@@ -95,6 +99,16 @@ const WANTED: &[Want] = &[
         warnings: &[IMPOSSIBLE_5, UNFIT_5],
     },
 ];
+
+/// Of the last one in Strict.
+const DISAGREES: Want = Want {
+    is_accepted: false,
+    is_impossible: false,
+    errors: &[
+        "44..93 `if principal has vip then principal else resource`: for policy `policy6`, the types `Document`, `User` are not compatible",
+    ],
+    warnings: &[],
+};
 
 fn is_said(rt: &impl Abort, report: &PolicyReport<'_>, want: &Want) -> Result<(), Fail> {
     assert_eq!(rt; report.is_accepted, want.is_accepted);
@@ -111,16 +125,104 @@ fn are_lines(rt: &impl Abort, lines: &[String], wanted: &[&str]) -> Result<(), F
     Ok(())
 }
 
-#[test]
-fn each_policy_of_a_set_has_its_report(rt: HostRuntime) -> Result<(), Fail> {
-    let alloc = rt.alloc();
+/// Of the whole set in this mode, where this is what is said of the last policy.
+fn are_said(rt: &impl Abort, alloc: Global, mode: SoundMode, last: &Want) -> Result<(), Fail> {
     let extensions = ExtensionSchemas::default(alloc);
     let validator = Validator::new(documents(alloc)?, &extensions);
     let policies = policies(alloc)?;
-    let reports = validate_set(alloc, &validator, &policies)?;
-    assert_eq!(&rt; reports.len(), WANTED.len());
-    for (report, want) in reports.iter().zip(WANTED) {
-        is_said(&rt, report, want)?;
+    let reports = validate_set(alloc, &validator, mode, &policies)?;
+    assert_eq!(rt; reports.len(), WANTED.len() + 1);
+    for (report, want) in reports.iter().zip(WANTED.iter().chain([last])) {
+        is_said(rt, report, want)?;
     }
     Ok(())
+}
+
+#[test]
+fn each_policy_of_a_set_has_its_report(rt: HostRuntime) -> Result<(), Fail> {
+    let alloc = rt.alloc();
+    are_said(&rt, alloc, SoundMode::Strict, &DISAGREES)
+}
+
+#[test]
+fn in_permissive_a_policy_may_unite_types(rt: HostRuntime) -> Result<(), Fail> {
+    let alloc = rt.alloc();
+    are_said(&rt, alloc, SoundMode::Permissive, &ACCEPTED)
+}
+
+/// Of a policy alone, by a table with `ip`, whose check is made here, and `isInRange`.
+fn is_said_alone(
+    rt: &impl Abort,
+    alloc: Global,
+    template: Template,
+    text: &str,
+    want: &Want,
+) -> Result<(), Fail> {
+    let ip = ip(alloc, Box::new(alloc, RefusesEmptyAddress { alloc })?)?;
+    let functions = vec![in alloc; ip, is_in_range(alloc)?]?;
+    let extensions = ExtensionSchemas::new(functions, BTreeSet::new(alloc))?;
+    let validator = Validator::new(documents(alloc)?, &extensions);
+    let policies = vec![in alloc; policy(alloc, "policy0", template, text)?]?;
+    let reports = validate_set(alloc, &validator, SoundMode::Strict, &policies)?;
+    assert_eq!(rt; reports.len(), 1);
+    for report in &reports {
+        is_said(rt, report, want)?;
+    }
+    Ok(())
+}
+
+#[test]
+fn a_policy_may_call_functions_of_the_table(rt: HostRuntime) -> Result<(), Fail> {
+    let alloc = rt.alloc();
+    is_said_alone(&rt, alloc, from_range(alloc)?, FROM_RANGE, &ACCEPTED)
+}
+
+const OF_EMPTY_ADDRESS: Want = Want {
+    is_accepted: false,
+    is_impossible: false,
+    errors: &["71..77 `ip(\"\")`: for policy `policy0`, invalid argument: empty address"],
+    warnings: &[],
+};
+
+#[test]
+fn what_a_check_refuses_is_refused_at_its_place(rt: HostRuntime) -> Result<(), Fail> {
+    let alloc = rt.alloc();
+    is_said_alone(
+        &rt,
+        alloc,
+        from_nowhere(alloc)?,
+        FROM_NOWHERE,
+        &OF_EMPTY_ADDRESS,
+    )
+}
+
+const UNGUARDED_AND_FALSE: Want = Want {
+    is_accepted: false,
+    is_impossible: true,
+    errors: &["for policy `policy0`, access to optional attribute `vip` on `User` is not guarded"],
+    warnings: &[IMPOSSIBLE_0],
+};
+
+#[test]
+fn an_error_counts_where_a_policy_is_impossible_too(rt: HostRuntime) -> Result<(), Fail> {
+    let alloc = rt.alloc();
+    let access = Expr::get_attr(alloc, Expr::var(Var::Principal), "vip")?;
+    let condition = Expr::and(alloc, access, Expr::val(Literal::from(false)))?;
+    let policy = permit_when(alloc, "", condition)?;
+    is_said_alone(&rt, alloc, policy, "", &UNGUARDED_AND_FALSE)
+}
+
+const UNEXPLAINED: Want = Want {
+    is_accepted: false,
+    is_impossible: false,
+    errors: &["for policy `policy0`, no error says why: an unknown, or too deep a nesting"],
+    warnings: &[],
+};
+
+#[test]
+fn a_policy_that_is_refused_without_an_error_has_a_line(rt: HostRuntime) -> Result<(), Fail> {
+    let alloc = rt.alloc();
+    let condition = Expr::unknown(Name::unqualified_name(alloc, "later")?);
+    let policy = permit_when(alloc, "", condition)?;
+    is_said_alone(&rt, alloc, policy, "", &UNEXPLAINED)
 }

@@ -1,37 +1,58 @@
-use Rattle.std.proofs.Common.{◌≡◌, List, map, ap, subst, ◌∙◌}
-use Rattle.cedar_types.specs.Errors.{Caution, caution_of}
-use Rattle.cedar_types.specs.Extensions.{functions_of, overloaded_types_of}
+use Rattle.std.proofs.Common.{◌≡◌, List, map, refl, ap, subst}
+use Rattle.cedar_types.specs.declared.base.types.ValidationMode.{ValidationMode}
+use Rattle.cedar_types.specs.Errors.{Caution, caution_of, finding_of}
+use Rattle.cedar_types.specs.Lemmas.Comparisons.{and_left, and_right}
 use Rattle.cedar_types.specs.SchemaContents.{schema_of}
 use Rattle.cedar_types.specs.Templates.{template_of}
-use Rattle.cedar_typing.specs.CheckViews.{basis_of}
 use Rattle.cedar_typing.specs.Evaluation.Conformance.{IsOneOf}
 use Rattle.cedar_typing.specs.PolicyOutcome.{impossible}
+use Rattle.cedar_typing.specs.PolicySoundness.{IsNamedBySchema, CheckedOn, PolicyIsSafeIn, ImpossibleIsNeverTrueIn}
 use Rattle.cedar_typing.proofs.PolicySoundness.{warned_impossible}
-use Rattle.cedar_embedding.specs.Safety.{strict_basis, IsNeverTrue}
+use Rattle.cedar_embedding.specs.Safety.{basis_in}
+use Rattle.cedar_embedding.proofs.Promises.{passes_everywhere, accepted_is_safe, warned_is_never_true}
 use Rattle.cedar_embedding.proofs.Warnings.{some_warning}
 use Rattle.cedar_embedding.proofs.policy_sets.validate.Goals as goal
 
+pub returns-clause-checked : goal.returns-clause-checked
+returns-clause-checked g c h =
+    let mode = c.args.mode in
+    let t = template_of c.args.policy.now in
+    let b = basis_in mode g.C.ArgumentCheck.refusal c.args.validator.now in
+    let answer = c.in_ok-passes.field-0 in
+    let errors = map finding_of c.is_named-is_named.new.errors.keys in
+    let errors' = map finding_of c.typecheck_policy.new.type_errors.keys in
+    let old = map caution_of c.new-warnings.result.keys in
+    let new = map caution_of c.typecheck_policy.new.warnings.keys in
+    let same = c.typechecker_in-checker.ensures in
+    let checked = subst (λ b. CheckedOn b t answer errors errors' old new) same c.in_ok-passes.ensures.exact in
+    passes_everywhere mode b t refl answer errors errors' old new checked (and_right _ _ h)
+
+pub returns-clause-safe : goal.returns-clause-safe
+returns-clause-safe g c h =
+    let mode = c.args.mode in
+    let t = template_of c.args.policy.now in
+    let b = basis_in mode g.C.ArgumentCheck.refusal c.args.validator.now in
+    let answer = c.in_ok-passes.field-0 in
+    let same = c.typechecker_in-checker.ensures in
+    let strict = subst (λ b. PolicyIsSafeIn ValidationMode.Strict b t answer) same c.in_ok-passes.ensures.safe in
+    let permissive = subst (λ b. PolicyIsSafeIn ValidationMode.Permissive b t answer) same c.in_ok-passes.ensures.safe_in_permissive in
+    let schema = ap schema_of c.schema-schema.ensures in
+    let named = subst (λ s. IsNamedBySchema s t) schema (c.in_ok-is_named.ensures (and_left _ _ h)) in
+    accepted_is_safe mode b t refl answer strict permissive (and_right _ _ h) named
+
 pub returns-clause-never_true : goal.returns-clause-never_true
 returns-clause-never_true g c h =
-    let m = g.C.ArgumentCheck.refusal in
+    let mode = c.args.mode in
     let t = template_of c.args.policy.now in
-    let schema = ap (λ s. s.now) c.new-checker.ensures.schema ∙ c.schema-schema.ensures in
-    let lent = c.new-checker.ensures.extensions ∙ c.extensions.ensures in
-    let extensions = ap (λ x. x.now) lent in
-    let same : basis_of m c.new-checker.result ≡ strict_basis m c.args.validator.now = λ i. record {
-      schema = schema_of (schema i);
-      mode = c.new-checker.ensures.mode i;
-      table = record {
-        functions = functions_of m (extensions i);
-        overloaded_types = overloaded_types_of (extensions i);
-      };
-    } in
+    let b = basis_in mode g.C.ArgumentCheck.refusal c.args.validator.now in
     let old : List Caution = map caution_of c.new-warnings.result.keys in
+    let new : List Caution = map caution_of c.typecheck_policy.new.warnings.keys in
     let none = ap (map caution_of) c.new-warnings.ensures.empty in
-    let found = c.typecheck_policy.new.warnings.keys in
     let is_empty = c.is_empty-is_impossible in
-    let some = some_warning found is_empty.result is_empty.ensures h in
-    let outcome = c.in_ok-passes.ensures.exact in
-    let warned = warned_impossible t old (map caution_of found) outcome none some.0 some.1 in
-    let never = c.in_ok-passes.ensures.never_true (λ k. subst (IsOneOf (impossible t)) none k) in
-    subst (λ b. IsNeverTrue b t) same (never warned)
+    let some = some_warning c.typecheck_policy.new.warnings.keys is_empty.result is_empty.ensures h in
+    let warned = warned_impossible t old new c.in_ok-passes.ensures.exact none some.0 some.1 in
+    let absent = λ (k : IsOneOf (impossible t) old). subst (IsOneOf (impossible t)) none k in
+    let same = c.typechecker_in-checker.ensures in
+    let strict = subst (λ b. ImpossibleIsNeverTrueIn ValidationMode.Strict b t old new) same c.in_ok-passes.ensures.never_true in
+    let permissive = subst (λ b. ImpossibleIsNeverTrueIn ValidationMode.Permissive b t old new) same c.in_ok-passes.ensures.never_true_in_permissive in
+    warned_is_never_true mode b t refl old new strict permissive absent warned

@@ -4,17 +4,19 @@ use Rattle.std.proofs.lemmas.List.Elements.{All-push}
 use Rattle.cedar_types.specs.Templates.{template_of}
 use Rattle.cedar_embedding.specs.declared.policy_sets.PolicyReport.{PolicyReport}
 use Rattle.cedar_embedding.specs.declared.policy_sets.WrittenPolicy.{WrittenPolicy}
-use Rattle.cedar_embedding.specs.Safety.{strict_basis, DoesNotGoWrong, IsNeverTrue, IsRight}
+use Rattle.cedar_embedding.specs.Safety.{basis_in, PassesEverywhere, DoesNotGoWrong, IsNeverTrue, IsRight}
 use Rattle.cedar_embedding.proofs.policy_sets.validate_set.Goals as goal
 
 pub loop-policy-preserved : goal.loop-policy-preserved
 loop-policy-preserved g c =
-    let b = strict_basis g.C.ArgumentCheck.refusal c.args.validator.now in
+    let b = basis_in c.args.mode g.C.ArgumentCheck.refusal c.args.validator.now in
     let said = c.in_ok-report.field-0 in
     let report = c.in_ok-report.ensures in
     let found = c.in_ok-findings.ensures in
     let of_policy = sym (ap (λ p. template_of p.now.template) report.policy) in
     let right_now : IsRight b said = record {
+      checked =
+          λ h. subst (PassesEverywhere b) of_policy (found.checked (sym report.accepted ∙ h));
       safe = λ h. subst (DoesNotGoWrong b) of_policy (found.safe (sym report.accepted ∙ h));
       never_true =
           λ h. subst (IsNeverTrue b) of_policy (found.never_true (sym report.impossible ∙ h));
