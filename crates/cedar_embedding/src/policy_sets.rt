@@ -4,7 +4,8 @@ ghost use Rattle.cedar_types.specs.SchemaContents.{schema_of};
 ghost use Rattle.cedar_types.specs.Templates.{template_of};
 ghost use Rattle.cedar_typing.specs.PolicySoundness.{IsNamedBySchema};
 ghost use Rattle.cedar_typechecker.specs.Passes.{errors_left};
-ghost use Rattle.cedar_embedding.specs.Safety.{basis_in, PassesEverywhere, DoesNotGoWrong, IsNeverTrue, IsRight};
+ghost use Rattle.cedar_embedding.specs.Safety.{basis_in, PassesEverywhere, DoesNotGoWrong};
+ghost use Rattle.cedar_embedding.specs.Safety.{IsNeverTrue, IsRight};
 
 use crate::reports::{PolicyReport, report};
 use crate::safety::{SoundMode, typechecker_in};

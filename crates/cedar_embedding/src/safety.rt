@@ -11,8 +11,8 @@ use cedar_types::types::request_env::RequestEnv;
 use cedar_typing::typecheck::{PolicyCheck, Typechecker};
 use std::alloc::{AllocError, Global};
 
-/// A mode in which something is promised of evaluation. Nothing is in Partial, which is therefore
-/// none of them.
+/// A mode in which validation promises something of evaluation. Of Partial nothing is promised, so it
+/// is none of them.
 #[derive(Clone, Copy, PartialEq, Eq, Debug)]
 pub enum SoundMode {
     /// Types that meet have to agree.

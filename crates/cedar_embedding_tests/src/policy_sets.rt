@@ -10,9 +10,12 @@ use cedar_embedding::reports::PolicyReport;
 use cedar_embedding::safety::SoundMode;
 use cedar_embedding::schemas::documents;
 use cedar_typechecker::rbac::Validator;
-use cedar_types::base::{Expr, ExtensionSchemas, Literal, Name, PolicyID, Template, Var};
+use cedar_types::base::{
+    Expr, ExtensionSchemas, Literal, Name, PolicyID, Template, ValidationMode, Var,
+};
+use cedar_typing::typecheck::Typechecker;
 use std::alloc::{AllocError, Global};
-use std::collections::BTreeSet;
+use std::collections::{BTreeSet, HashSet};
 use std::process::Abort;
 use std::test::Fail;
 
@@ -148,6 +151,21 @@ fn each_policy_of_a_set_has_its_report(rt: HostRuntime) -> Result<(), Fail> {
 fn in_permissive_a_policy_may_unite_types(rt: HostRuntime) -> Result<(), Fail> {
     let alloc = rt.alloc();
     are_said(&rt, alloc, SoundMode::Permissive, &ACCEPTED)
+}
+
+#[test]
+fn the_check_alone_passes_what_names_an_unknown_type(rt: HostRuntime) -> Result<(), Fail> {
+    let alloc = rt.alloc();
+    let schema = documents(alloc)?;
+    let extensions = ExtensionSchemas::default(alloc);
+    let policy = haunted(alloc)?;
+    let mut errors = HashSet::new(alloc);
+    let mut warnings = HashSet::new(alloc);
+    let checker = Typechecker::new(&schema, &extensions, ValidationMode::Strict);
+    assert!(rt; checker.typecheck_policy(alloc, &policy, &mut errors, &mut warnings)?);
+    assert!(rt; errors.is_empty());
+    assert!(rt; warnings.is_empty());
+    Ok(())
 }
 
 /// Of a policy alone, by a table with `ip`, whose check is made here, and `isInRange`.
