@@ -15,13 +15,24 @@ use Rattle.cedar_typing.proofs.EachEnvironment.{each_has_passing}
 use Rattle.cedar_embedding.specs.declared.safety.SoundMode.{SoundMode}
 use Rattle.cedar_embedding.specs.Safety.{validation_mode, IsSafeToEvaluate, PassesEverywhere, DoesNotGoWrong, IsNeverTrue}
 
+-- what passes passes in each environment
+pub passes_everywhere :
+    (b : Basis) (t : PlainTemplate) (answer : Bool)
+    (errors errors' : List Finding) (old new : List Caution)
+    → CheckedOn b t answer errors errors' old new → answer ≡ true → PassesEverywhere b t
+passes_everywhere b t answer errors errors' old new o h =
+    each_has_passing (λ env. PolicyChecks (setting_on b t.id env) (condition_of t)) passes
+    o.listed (checked_envs b.schema b.mode t) o.verdicts o.in_some_order o.checked
+    (sym o.answered ∙ h)
+
 -- what holds in Strict and in Permissive holds in the host's mode
 in_each : (P : ValidationMode → Type 0) → P ValidationMode.Strict → P ValidationMode.Permissive
     → (mode : SoundMode) → P (validation_mode mode)
 in_each P strict permissive SoundMode.Strict = strict
 in_each P strict permissive SoundMode.Permissive = permissive
 
-module _ (mode : SoundMode) (b : Basis) (t : PlainTemplate) (asked : b.mode ≡ validation_mode mode) where
+-- in the mode that the host asked for
+module _ (asked : SoundMode) (b : Basis) (t : PlainTemplate) (same : b.mode ≡ validation_mode asked) where
   abbrev SoundIn : Env → TypedTree → ValidationMode → Type 0
   SoundIn env e m = IsSoundPolicyCheckIn m (setting_on b t.id env) (condition_of t) (succeeds e)
 
@@ -30,29 +41,21 @@ module _ (mode : SoundMode) (b : Basis) (t : PlainTemplate) (asked : b.mode ≡ 
       → SoundIn env e ValidationMode.Strict → SoundIn env e ValidationMode.Permissive
       → IsSafeToEvaluate b t env
   success_is_safe env e strict permissive closed of_schema =
-      in_each (SoundIn env e) strict permissive mode
-      (record { mode = asked; closed = closed; environment = of_schema })
-
-  -- what passes passes in each environment
-  pub passes_everywhere : (answer : Bool) (errors errors' : List Finding) (old new : List Caution)
-      → CheckedOn b t answer errors errors' old new → answer ≡ true → PassesEverywhere b t
-  passes_everywhere answer errors errors' old new o h =
-      each_has_passing (λ env. PolicyChecks (setting_on b t.id env) (condition_of t)) passes
-      o.listed (checked_envs b.schema b.mode t) o.verdicts o.in_some_order o.checked
-      (sym o.answered ∙ h)
+      in_each (SoundIn env e) strict permissive asked
+      (record { mode = same; closed = closed; environment = of_schema })
 
   pub accepted_is_safe : (answer : Bool)
       → PolicyIsSafeIn ValidationMode.Strict b t answer
       → PolicyIsSafeIn ValidationMode.Permissive b t answer
       → answer ≡ true → IsNamedBySchema b.schema t → DoesNotGoWrong b t
   accepted_is_safe answer strict permissive h named closed =
-      in_each (λ m. PolicyIsSafeIn m b t answer) strict permissive mode h
-      (record { mode = asked; closed = closed }) named
+      in_each (λ m. PolicyIsSafeIn m b t answer) strict permissive asked h
+      (record { mode = same; closed = closed }) named
 
   pub warned_is_never_true : (old new : List Caution)
       → ImpossibleIsNeverTrueIn ValidationMode.Strict b t old new
       → ImpossibleIsNeverTrueIn ValidationMode.Permissive b t old new
       → (IsOneOf (impossible t) old → ⊥) → IsOneOf (impossible t) new → IsNeverTrue b t
   warned_is_never_true old new strict permissive absent there closed =
-      in_each (λ m. ImpossibleIsNeverTrueIn m b t old new) strict permissive mode absent there
-      (record { mode = asked; closed = closed })
+      in_each (λ m. ImpossibleIsNeverTrueIn m b t old new) strict permissive asked absent there
+      (record { mode = same; closed = closed })

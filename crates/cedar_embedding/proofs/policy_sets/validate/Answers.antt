@@ -25,7 +25,7 @@ returns-clause-checked g c h =
     let new = map caution_of c.typecheck_policy.new.warnings.keys in
     let same = c.typechecker_in-checker.ensures in
     let checked = subst (λ b. CheckedOn b t answer errors errors' old new) same c.in_ok-passes.ensures.exact in
-    passes_everywhere mode b t refl answer errors errors' old new checked (and_right _ _ h)
+    passes_everywhere b t answer errors errors' old new checked (and_right _ _ h)
 
 pub returns-clause-safe : goal.returns-clause-safe
 returns-clause-safe g c h =

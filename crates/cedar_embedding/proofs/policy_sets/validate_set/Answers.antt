@@ -2,7 +2,7 @@ use Rattle.std.proofs.Common.{take, map, All, ◌++◌, ◌∷◌, [], sym, ap, 
 use Rattle.std.proofs.lemmas.List.{map_push, take_more}
 use Rattle.std.proofs.lemmas.List.Elements.{All-push}
 use Rattle.cedar_types.specs.Templates.{template_of}
-use Rattle.cedar_embedding.specs.declared.policy_sets.PolicyReport.{PolicyReport}
+use Rattle.cedar_embedding.specs.declared.reports.PolicyReport.{PolicyReport}
 use Rattle.cedar_embedding.specs.declared.policy_sets.WrittenPolicy.{WrittenPolicy}
 use Rattle.cedar_embedding.specs.Safety.{basis_in, PassesEverywhere, DoesNotGoWrong, IsNeverTrue, IsRight}
 use Rattle.cedar_embedding.proofs.policy_sets.validate_set.Goals as goal
