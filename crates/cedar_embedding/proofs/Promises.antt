@@ -32,7 +32,8 @@ in_each P strict permissive SoundMode.Strict = strict
 in_each P strict permissive SoundMode.Permissive = permissive
 
 -- in the mode that the host asked for
-module _ (asked : SoundMode) (b : Basis) (t : PlainTemplate) (same : b.mode ≡ validation_mode asked) where
+module _ (asked : SoundMode) (b : Basis) (t : PlainTemplate)
+    (same : b.mode ≡ validation_mode asked) where
   abbrev SoundIn : Env → TypedTree → ValidationMode → Type 0
   SoundIn env e m = IsSoundPolicyCheckIn m (setting_on b t.id env) (condition_of t) (succeeds e)
 

@@ -1,4 +1,4 @@
--- What a host may rely on where a policy is accepted, and where it is impossible: in each of its modes.
+-- What a host may rely on in its mode, where a policy is accepted and where it is impossible.
 use Rattle.std.specs.Prelude.{◌≡◌, true, false}
 use Rattle.cedar_types.specs.declared.base.types.ValidationMode.{ValidationMode}
 use Rattle.cedar_types.specs.Extensions.{functions_of, overloaded_types_of}
@@ -53,8 +53,8 @@ IsSafeToEvaluate b t env =
 
 -- ---- in all of them
 
--- in the mode, the check of the policy passes in each of its environments: it is a success there, or
--- irrelevant without errors
+-- in the mode, the check of the policy passes in each of its environments: it is a success there,
+-- or irrelevant without errors
 abbrev pub PassesEverywhere : Basis → PlainTemplate → Type 0
 PassesEverywhere b t =
     (env : Env) → IsOneOf env (checked_envs b.schema b.mode t)
@@ -77,8 +77,8 @@ IsNeverTrue b t =
     → (world : World) → IsConforming b world
     → IsTrueOutcome (eval world (condition_of t)) → ⊥
 
--- a report of a policy says no more than is so: if it is accepted it passes its check and does not go
--- wrong, and if it is impossible it is never true
+-- a report of a policy says no more than is so: if it is accepted it passes its check and does not
+-- go wrong, and if it is impossible it is never true
 pub record IsRight (b : Basis) (r : PolicyReport) : Type 0 where
   pub checked : r.is_accepted ≡ true → PassesEverywhere b (template_of r.policy.now.template)
   pub safe : r.is_accepted ≡ true → DoesNotGoWrong b (template_of r.policy.now.template)

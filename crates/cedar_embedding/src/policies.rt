@@ -26,11 +26,12 @@ pub const FROM_NOWHERE: &str =
 /// No type has the name `Ghost`. Of sharing, typing does not look at that part, and of viewing it
 /// says no more than that the part is False.
 pub const HAUNTED: &str =
-    "permit(principal, action, resource) when { action == Action::\"share\" || ((Ghost::\"casper\" < 1) && false) };";
+    "permit(principal, action, resource) when { action == Action::\"share\" || \
+     ((Ghost::\"casper\" < 1) && false) };";
 
 /// The contact of a user or of a document. In Strict these two types do not agree.
-pub const OF_EITHER: &str =
-    "permit(principal, action, resource) when { (if principal has vip then principal else resource).contact == principal };";
+pub const OF_EITHER: &str = "permit(principal, action, resource) when { \
+     (if principal has vip then principal else resource).contact == principal };";
 
 /// About the user that the slot is bound to.
 pub const OF_ONE_USER: &str = "permit(principal == ?principal, action, resource);";
@@ -77,8 +78,8 @@ pub fn misspelt(alloc: Global) -> Result<Template, AllocError> {
     permit_when(alloc, MISSPELT, test)
 }
 
-/// `action == Action::"share" || ((Ghost::"casper" < 1) && false)`, where the type of `casper` is at
-/// its place
+/// `action == Action::"share" || ((Ghost::"casper" < 1) && false)`, where the type of `casper` is
+/// at its place
 pub fn haunted(alloc: Global) -> Result<Template, AllocError> {
     let right = Expr::and(alloc, below_one(alloc)?, Expr::val(Literal::from(false)))?;
     permit_when(alloc, HAUNTED, Expr::or(alloc, is_sharing(alloc)?, right)?)

@@ -34,8 +34,8 @@ pub struct Findings {
     pub warnings: HashSet<ValidationWarning>,
 }
 
-/// A report on each policy of the set, which is checked in this mode. Those that are accepted do not
-/// go wrong, and those that are impossible are never true.
+/// A report on each policy of the set, checked in this mode. Those that are accepted do not go wrong,
+/// and those that are impossible are never true.
 pub fn validate_set<'a, C: ArgumentCheck>(
     alloc: Global,
     validator: &Validator<'_, C>,

@@ -11,7 +11,7 @@ use cedar_types::types::request_env::RequestEnv;
 use cedar_typing::typecheck::{PolicyCheck, Typechecker};
 use std::alloc::{AllocError, Global};
 
-/// A mode in which validation promises something of evaluation. Of Partial nothing is promised, so it
+/// A mode in which validation promises something of evaluation. Partial, of which nothing is promised,
 /// is none of them.
 #[derive(Clone, Copy, PartialEq, Eq, Debug)]
 pub enum SoundMode {

@@ -78,7 +78,8 @@ const WANTED: &[Want] = &[
         is_accepted: false,
         is_impossible: false,
         errors: &[
-            "43..56 `principal.vip`: for policy `policy1`, access to optional attribute `vip` on `User` is not guarded",
+            "43..56 `principal.vip`: for policy `policy1`, \
+             access to optional attribute `vip` on `User` is not guarded",
         ],
         warnings: &[],
     },
@@ -108,7 +109,8 @@ const DISAGREES: Want = Want {
     is_accepted: false,
     is_impossible: false,
     errors: &[
-        "44..93 `if principal has vip then principal else resource`: for policy `policy6`, the types `Document`, `User` are not compatible",
+        "44..93 `if principal has vip then principal else resource`: for policy `policy6`, \
+         the types `Document`, `User` are not compatible",
     ],
     warnings: &[],
 };

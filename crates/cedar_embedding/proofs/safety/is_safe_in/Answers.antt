@@ -20,6 +20,7 @@ returns-in-Success g c h =
     let same = c.typechecker_in-typechecker.ensures in
     let SoundIn : ValidationMode → Basis → Type 0 =
     λ m b. IsSoundPolicyCheckIn m (setting_on b t.id env) (condition_of t) (succeeds e) in
-    let strict = subst (SoundIn ValidationMode.Strict) same c.in-Success.ensures.sound in
-    let permissive = subst (SoundIn ValidationMode.Permissive) same c.in-Success.ensures.sound_in_permissive in
+    let found = c.in-Success.ensures in
+    let strict = subst (SoundIn ValidationMode.Strict) same found.sound in
+    let permissive = subst (SoundIn ValidationMode.Permissive) same found.sound_in_permissive in
     success_is_safe mode b t refl env e strict permissive
