@@ -61,7 +61,8 @@ pub fn is_safe_in<C: ArgumentCheck>(
         (template_of policy.now) (env_of env.now)) }
 {
     let typechecker = typechecker_in(validator, mode);
-    match typechecker.typecheck_by_single_request_env(alloc, policy, env)? {
+    let check = typechecker.typecheck_by_single_request_env(alloc, policy, env)?;
+    match check {
         PolicyCheck::Success(_typed) => Ok(true),
         PolicyCheck::Irrelevant(_errors, _typed) => Ok(false),
         PolicyCheck::Fail(_errors) => Ok(false),
