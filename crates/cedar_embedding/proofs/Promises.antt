@@ -1,12 +1,12 @@
 -- What a host is promised in its mode, from what the libraries promise in each.
-use Rattle.std.proofs.Common.{◌≡◌, Bool, true, List, refl, sym, ◌∙◌}
+use Rattle.std.proofs.Common.{◌≡◌, Bool, true, List, sym, ◌∙◌}
 use Rattle.cedar_types.specs.declared.base.types.ValidationMode.{ValidationMode}
 use Rattle.cedar_types.specs.Errors.{Finding, Caution}
 use Rattle.cedar_types.specs.Linking.{checked_envs}
 use Rattle.cedar_types.specs.RequestEnvs.{Env}
 use Rattle.cedar_types.specs.Templates.{PlainTemplate, condition_of}
 use Rattle.cedar_typing.specs.Evaluation.Conformance.{IsOneOf}
-use Rattle.cedar_typing.specs.PolicyCheck.{Verdict, succeeds, PolicyChecks}
+use Rattle.cedar_typing.specs.PolicyCheck.{succeeds, PolicyChecks}
 use Rattle.cedar_typing.specs.PolicyOutcome.{passes, impossible}
 use Rattle.cedar_typing.specs.PolicySoundness.{Basis, IsNamedBySchema, PolicyIsSafeIn, ImpossibleIsNeverTrueIn, CheckedOn, setting_on}
 use Rattle.cedar_typing.specs.SoundPolicyCheck.{IsSoundPolicyCheckIn}

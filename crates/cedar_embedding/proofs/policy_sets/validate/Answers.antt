@@ -1,4 +1,4 @@
-use Rattle.std.proofs.Common.{◌≡◌, List, map, refl, ap, subst}
+use Rattle.std.proofs.Common.{List, map, refl, ap, subst}
 use Rattle.cedar_types.specs.declared.base.types.ValidationMode.{ValidationMode}
 use Rattle.cedar_types.specs.Errors.{Caution, caution_of, finding_of}
 use Rattle.cedar_types.specs.Lemmas.Comparisons.{and_left, and_right}
@@ -19,7 +19,7 @@ returns-clause-checked g c h =
     let t = template_of c.args.policy.now in
     let b = basis_in mode g.C.ArgumentCheck.refusal c.args.validator.now in
     let answer = c.in_ok-passes.passes in
-    let errors = map finding_of c.is_named-is_named.new.errors.keys in
+    let errors = map finding_of c.is_named.new.errors.keys in
     let errors' = map finding_of c.typecheck_policy.new.type_errors.keys in
     let old = map caution_of c.new-warnings.result.keys in
     let new = map caution_of c.typecheck_policy.new.warnings.keys in

@@ -1,4 +1,4 @@
-use Rattle.std.proofs.Common.{◌≡◌, refl, ap, subst}
+use Rattle.std.proofs.Common.{refl, ap, subst}
 use Rattle.cedar_types.specs.declared.base.types.ValidationMode.{ValidationMode}
 use Rattle.cedar_types.specs.RequestEnvs.{env_of}
 use Rattle.cedar_types.specs.Templates.{template_of, condition_of}
@@ -19,13 +19,13 @@ returns-in-Success g c h =
     let b = basis_in mode g.C.ArgumentCheck.refusal c.args.validator.now in
     let e = typed_tree c.in-Success._typed in
     let SoundIn : ValidationMode → Basis → Verdict → Type 0 =
-        λ m b v. IsSoundPolicyCheckIn m (setting_on b t.id env) (condition_of t) v in
+    λ m b v. IsSoundPolicyCheckIn m (setting_on b t.id env) (condition_of t) v in
     let same = c.typechecker_in-typechecker.ensures in
     let verdict = verdict_of c.in_ok-check.check in
     let found = c.in_ok-check.ensures in
     let sound = subst (λ b. SoundIn ValidationMode.Strict b verdict) same found.sound in
     let sound_in_permissive =
-        subst (λ b. SoundIn ValidationMode.Permissive b verdict) same found.sound_in_permissive in
+    subst (λ b. SoundIn ValidationMode.Permissive b verdict) same found.sound_in_permissive in
     let success = ap verdict_of c.in-Success.is in
     success_is_safe mode b t refl env e
     (subst (SoundIn ValidationMode.Strict b) success sound)

@@ -1,4 +1,4 @@
-use Rattle.std.proofs.Common.{◌≡◌, ap, ◌∙◌}
+use Rattle.std.proofs.Common.{ap, ◌∙◌}
 use Rattle.cedar_types.specs.Extensions.{functions_of, overloaded_types_of}
 use Rattle.cedar_types.specs.SchemaContents.{schema_of}
 use Rattle.cedar_embedding.proofs.safety.typechecker_in.Goals as goal
