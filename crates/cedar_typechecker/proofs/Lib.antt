@@ -1,3 +1,4 @@
 mod Lists
 mod Answers
 mod Passes
+pub mod Levels

@@ -4,3 +4,4 @@ pub mod Applications
 pub mod Members
 pub mod Passes
 pub mod SlotTypes
+pub mod Levels

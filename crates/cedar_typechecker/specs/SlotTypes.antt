@@ -1,6 +1,5 @@
 -- What the slots of a policy are bound to, of a type that the schema does not know.
 use Rattle.std.specs.Prelude.{Bool, List, [], cond, map, filter, None}
-use Rattle.std.specs.BTreeMap.{values}
 use Rattle.cedar_types.specs.declared.base.names.entities.EntityUID.{EntityUID}
 use Rattle.cedar_types.specs.Errors.{Finding, unrecognized_entity_type}
 use Rattle.cedar_types.specs.Findings.{is_unknown_type}

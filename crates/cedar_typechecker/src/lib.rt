@@ -1,6 +1,7 @@
 //! What a policy set validator asks of a policy: its names, its scope, its types.
 #![tactic(auto)]
 
+pub mod level_validate;
 pub mod rbac;
 
 pub use cedar_types::{base, types};

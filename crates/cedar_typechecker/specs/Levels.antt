@@ -1,0 +1,14 @@
+-- Levels: how many entities a policy accesses, one after another, from what the request names.
+pub mod Setting
+pub mod Chains
+pub mod Costs
+pub mod Dereferences
+pub mod Errors
+pub mod Walk
+pub mod Laws
+pub mod Examples
+pub mod Rows
+pub mod Details
+pub mod Shared
+pub mod InOrder
+pub mod Bases

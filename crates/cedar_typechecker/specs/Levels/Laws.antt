@@ -1,0 +1,65 @@
+-- Laws of access chains and of level errors.
+use Rattle.std.specs.Prelude.{◌≡◌, ◌↔◌, ℕ, ◌≤◌, List, [], Option}
+use Rattle.cedar_types.specs.Errors.{Finding}
+use Rattle.cedar_types.specs.Names.{Text, Uid}
+use Rattle.cedar_typing.specs.Evaluation.Conformance.{IsOneOf}
+use Rattle.cedar_typing.specs.PolicyCheck.{Verdict, succeeds, irrelevant, fails, PolicyChecks}
+use Rattle.cedar_typing.specs.Setting.{Setting}
+use Rattle.cedar_typing.specs.TypedExpr.{Source, TypedTree}
+use Rattle.cedar_typechecker.specs.Levels.Chains.{Leaf, HasChain, chains, level}
+use Rattle.cedar_typechecker.specs.Levels.Errors.{IsLevelError, IsWithinLevel}
+use Rattle.cedar_typechecker.specs.Levels.InOrder.{add_errors}
+use Rattle.cedar_typechecker.specs.Levels.Setting.{LevelSetting}
+use Rattle.cedar_typechecker.specs.Levels.Shared.{BranchesAreShared}
+use Rattle.cedar_typechecker.specs.Levels.Walk.{checked_errors}
+
+-- the list of an expression's chains has each chain, and nothing else
+abbrev pub ChainsAreListed : Type 0
+ChainsAreListed =
+    (a : Option Uid) (x : TypedTree) (path : List Text) (k : ℕ) (l : Leaf)
+    → HasChain a x path k l ↔ IsOneOf (record { accesses = k; leaf = l }) (chains a x path)
+
+-- the level is that of some chain, and no chain accesses more
+abbrev pub LevelIsGreatest : Type 0
+LevelIsGreatest =
+    (a : Option Uid) (x : TypedTree) (path : List Text)
+    → ((l : Leaf) × HasChain a x path (level a x path) l)
+    × ((k : ℕ) (l : Leaf) → HasChain a x path k l → k ≤ level a x path)
+
+-- where there is no level error at a maximum, there is none at any larger one
+abbrev pub LargerLevelsAreWithin : Type 0
+LargerLevelsAreWithin =
+    (s : LevelSetting) (n : ℕ) (root : TypedTree)
+    → s.maximum ≤ n → IsWithinLevel s root → IsWithinLevel (record s { maximum = n }) root
+
+-- the walk finds each level error, and nothing else
+abbrev pub WalkFindsErrors : Type 0
+WalkFindsErrors =
+    (s : LevelSetting) (root : TypedTree) (e : Finding)
+    → IsLevelError s root e ↔ IsOneOf e (checked_errors s root)
+
+-- so an expression is within the level exactly where the walk finds nothing
+abbrev pub SilentWalkIsWithin : Type 0
+SilentWalkIsWithin =
+    (s : LevelSetting) (root : TypedTree)
+    → (checked_errors s root ≡ []) ↔ IsWithinLevel s root
+
+-- ---- one branch twice
+
+-- what the check of a condition typed, if it did not fail
+abbrev pub VerdictIsShared : Verdict → Type 0
+VerdictIsShared (succeeds x) = BranchesAreShared x
+VerdictIsShared (irrelevant es x) = BranchesAreShared x
+VerdictIsShared (fails es) = Unit {0}
+
+-- typing gives an `if` whose test is True or False one branch twice
+abbrev pub TypedBranchesAreShared : Type 0
+TypedBranchesAreShared =
+    (s : Setting) (e : Source) (v : Verdict) → PolicyChecks s e v → VerdictIsShared v
+
+-- what the program adds, one node after another, has each level error, and nothing else
+abbrev pub ErrorsAreAdded : Type 0
+ErrorsAreAdded =
+    (s : LevelSetting) (root : TypedTree) (e : Finding)
+    → s.maximum ≤ 4294967295 → BranchesAreShared root
+    → IsOneOf e (add_errors s root []) ↔ IsLevelError s root e

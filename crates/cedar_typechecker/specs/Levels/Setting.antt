@@ -1,0 +1,19 @@
+-- What levels are checked by.
+use Rattle.std.specs.Prelude.{ℕ, Option, Some, None}
+use Rattle.cedar_types.specs.Names.{Text, Uid}
+use Rattle.cedar_types.specs.RequestEnvs.{Env, Declared, Undeclared}
+use Rattle.cedar_types.specs.Schemas.{Schema}
+
+pub record LevelSetting : Type 0 where
+  -- the action of the environment, where that is of a declared one
+  pub action : Option Uid
+  pub schema : Schema
+  -- the greatest level that is allowed
+  pub maximum : ℕ
+  -- the policy whose errors these are
+  pub policy : Text
+
+-- the action of an environment, where that is of a declared one
+abbrev pub action_of : Env → Option Uid
+action_of (Declared d ps rs) = Some d.action
+action_of Undeclared = None

@@ -1,0 +1,6 @@
+//! How many entities a policy dereferences, one after another (RFC 76).
+mod bases;
+mod costs;
+pub mod laws;
+
+pub use costs::attr_chain_cost_from_root;

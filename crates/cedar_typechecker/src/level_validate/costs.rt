@@ -1,0 +1,87 @@
+// What a chain of attributes costs, as extended `has` tests it.
+ghost use Rattle.std.specs.Prelude.{◌≡◌, IfOk, map};
+ghost use Rattle.cedar_types.specs.Names.{text_of};
+ghost use Rattle.cedar_types.specs.SchemaContents.{schema_of};
+ghost use Rattle.cedar_types.specs.Types.{ty_of};
+ghost use Rattle.cedar_typechecker.specs.Levels.Costs.{root_cost, entity_cost, chain_cost, attributes_cost};
+ghost use Rattle.cedar_typechecker.specs.Levels.Bases.{base_seen};
+
+use crate::level_validate::bases::{Base, base_of_type};
+use cedar_types::base::{CedarType, ValidatorSchema};
+use std::alloc::{AllocError, Global};
+use std::rc::RcStr;
+
+/// How many entities are dereferenced by the test that a value of this type has a chain of attributes: 0 for no attributes;
+/// else one for a root that is an entity, of some types or of any, and one for each attribute but the last that is an entity
+/// of some types. The chain ends before the first attribute that is not declared. Where memory is refused, the answer is an
+/// `AllocError`.
+pub fn attr_chain_cost_from_root(
+    alloc: Global,
+    schema: &ValidatorSchema,
+    root: &CedarType,
+    attrs: &[RcStr],
+) -> Result<u64, AllocError>
+    ensures { IfOk result (λ n. n
+        ≡ attributes_cost (schema_of schema.now) (ty_of root.now) (map text_of attrs.now)) }
+{
+    match attrs.split_first() {
+        Some((first, rest)) => chain_cost(alloc, schema, root, first, rest),
+        None => Ok(0),
+    }
+}
+
+/// The same of a chain that has a first attribute.
+fn chain_cost(
+    alloc: Global,
+    schema: &ValidatorSchema,
+    root: &CedarType,
+    first: &RcStr,
+    rest: &[RcStr],
+) -> Result<u64, AllocError>
+    ensures { IfOk result (λ n. n
+        ≡ chain_cost (schema_of schema.now) (ty_of root.now) (text_of first.now)
+        (map text_of rest.now)) }
+{
+    let mut cost = root_cost(root);
+    let mut reached = root.clone()?;
+    let mut attr = first;
+    for next in rest {
+        let found = CedarType::lookup_attribute_type(alloc, schema, &reached, attr)?;
+        let Some(found) = found else {
+            return Ok(cost);
+        };
+        reached = found.attr_type;
+        cost += entity_cost(base_of_type(&reached));
+        attr = next;
+    }
+    Ok(cost)
+}
+
+fn root_cost(ty: &CedarType) -> u64
+    ensures { result ≡ root_cost (ty_of ty.now) }
+{
+    match ty {
+        CedarType::Entity(_) => 1,
+        CedarType::Record {
+            attributes: _attributes,
+            is_open: _open,
+        } => 0,
+        CedarType::Never => 0,
+        CedarType::Bool(_) => 0,
+        CedarType::Long => 0,
+        CedarType::String => 0,
+        CedarType::Set(_) => 0,
+        CedarType::AnySet => 0,
+        CedarType::Extension(_) => 0,
+    }
+}
+
+fn entity_cost(base: Base) -> u64
+    ensures { result ≡ entity_cost (base_seen base) }
+{
+    match base {
+        Base::Entity => 1,
+        Base::Record => 0,
+        Base::Other => 0,
+    }
+}

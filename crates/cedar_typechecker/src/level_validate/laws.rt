@@ -1,0 +1,34 @@
+//! Laws of levels, and computed examples, each on a function that does nothing.
+ghost use Rattle.cedar_typechecker.specs.Levels.Details.{LevelDetails};
+ghost use Rattle.cedar_typechecker.specs.Levels.Laws.{ChainsAreListed, LevelIsGreatest, LargerLevelsAreWithin, WalkFindsErrors, SilentWalkIsWithin, TypedBranchesAreShared, ErrorsAreAdded};
+ghost use Rattle.cedar_typechecker.specs.Levels.Rows.{LevelRows};
+
+/// The list of an expression's chains has those that the rules give, and its level is the greatest.
+pub fn access_chains()
+    ensures listed { ChainsAreListed }
+    ensures greatest { LevelIsGreatest }
+{}
+
+/// What has no level error at a maximum has none at any larger one.
+pub fn larger_levels()
+    ensures { LargerLevelsAreWithin }
+{}
+
+/// A walk down a typed expression finds each of its level errors, and nothing else.
+pub fn walk_finds_errors()
+    ensures errors { WalkFindsErrors }
+    ensures silent { SilentWalkIsWithin }
+{}
+
+/// An `if` whose test has the type True or False has one branch twice where typing made it, so it is walked once: what the walk
+/// of the program adds then has each level error, and nothing else.
+pub fn one_branch_is_enough()
+    ensures shared { TypedBranchesAreShared }
+    ensures errors { ErrorsAreAdded }
+{}
+
+/// The errors of some expressions: the worked rows, and what is easily got wrong.
+pub fn examples_of_levels()
+    ensures rows { LevelRows }
+    ensures details { LevelDetails }
+{}
