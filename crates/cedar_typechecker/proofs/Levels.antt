@@ -15,3 +15,5 @@ pub mod AddedParts
 pub mod InOrder
 pub mod TypedParts
 pub mod Typing
+pub mod TypedViews
+pub mod Keys

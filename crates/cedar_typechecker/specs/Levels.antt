@@ -11,4 +11,5 @@ pub mod Rows
 pub mod Details
 pub mod Shared
 pub mod InOrder
-pub mod Bases
+pub mod Paths
+pub mod Views

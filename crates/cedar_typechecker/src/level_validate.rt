@@ -2,5 +2,9 @@
 mod bases;
 mod costs;
 pub mod laws;
+mod paths;
+mod reports;
+mod targets;
+mod walk;
 
 pub use costs::attr_chain_cost_from_root;

@@ -1,10 +1,12 @@
 // What is dereferenced, by the type that was found.
 ghost use Rattle.std.specs.Prelude.{◌≡◌};
 ghost use Rattle.cedar_types.specs.Types.{ty_of};
-ghost use Rattle.cedar_typechecker.specs.Levels.Chains.{base_of_type};
-ghost use Rattle.cedar_typechecker.specs.Levels.Bases.{base_seen};
+ghost use Rattle.cedar_typing.specs.TypedExpr.{typed_tree, annotation};
+ghost use Rattle.cedar_typechecker.specs.Levels.Chains.{base_of, base_of_type};
+ghost use Rattle.cedar_typechecker.specs.Levels.Shared.{is_constant, is_constant_type};
+ghost use Rattle.cedar_typechecker.specs.Levels.Views.{base_seen};
 
-use cedar_types::base::{CedarType, EntityKind};
+use cedar_types::base::{BoolType, CedarType, EntityKind, Expr};
 
 /// What the base of an access is.
 #[derive(Clone, Copy, Debug)]
@@ -34,5 +36,47 @@ pub(crate) fn base_of_type(ty: &CedarType) -> Base
         CedarType::Set(_) => Base::Other,
         CedarType::AnySet => Base::Other,
         CedarType::Extension(_) => Base::Other,
+    }
+}
+
+#[tactic(auto, using(crate::proofs::Levels::TypedViews::annotation_is))]
+pub(crate) fn base_of(e: &Expr<Option<CedarType>>) -> Base
+    ensures { base_seen result ≡ base_of (annotation (typed_tree e.now)) }
+{
+    match &e.annotation {
+        Some(ty) => base_of_type(ty),
+        None => Base::Other,
+    }
+}
+
+fn is_constant_type(ty: &CedarType) -> bool
+    ensures { result ≡ is_constant_type (ty_of ty.now) }
+{
+    match ty {
+        CedarType::Bool(BoolType::False) => true,
+        CedarType::Bool(BoolType::True) => true,
+        CedarType::Bool(BoolType::AnyBool) => false,
+        CedarType::Never => false,
+        CedarType::Long => false,
+        CedarType::String => false,
+        CedarType::Set(_) => false,
+        CedarType::AnySet => false,
+        CedarType::Record {
+            attributes: _attributes,
+            is_open: _open,
+        } => false,
+        CedarType::Entity(_) => false,
+        CedarType::Extension(_) => false,
+    }
+}
+
+/// Whether the type True or False was found of a test: then its two branches are one tree.
+#[tactic(auto, using(crate::proofs::Levels::TypedViews::annotation_is))]
+pub(crate) fn is_constant(test: &Expr<Option<CedarType>>) -> bool
+    ensures { result ≡ is_constant (annotation (typed_tree test.now)) }
+{
+    match &test.annotation {
+        Some(ty) => is_constant_type(ty),
+        None => false,
     }
 }

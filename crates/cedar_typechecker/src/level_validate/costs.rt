@@ -1,10 +1,11 @@
 // What a chain of attributes costs, as extended `has` tests it.
-ghost use Rattle.std.specs.Prelude.{◌≡◌, IfOk, map};
+ghost use Rattle.std.specs.Prelude.{◌≡◌, ◌∷◌, IfOk, map, option_map, take};
 ghost use Rattle.cedar_types.specs.Names.{text_of};
 ghost use Rattle.cedar_types.specs.SchemaContents.{schema_of};
 ghost use Rattle.cedar_types.specs.Types.{ty_of};
-ghost use Rattle.cedar_typechecker.specs.Levels.Costs.{root_cost, entity_cost, chain_cost, attributes_cost};
-ghost use Rattle.cedar_typechecker.specs.Levels.Bases.{base_seen};
+ghost use Rattle.cedar_typechecker.specs.Levels.Costs.{root_cost, entity_cost, chain_cost, attributes_cost, keys_to_entity};
+ghost use Rattle.cedar_typechecker.specs.Levels.InOrder.{entity_after};
+ghost use Rattle.cedar_typechecker.specs.Levels.Views.{base_seen};
 
 use crate::level_validate::bases::{Base, base_of_type};
 use cedar_types::base::{CedarType, ValidatorSchema};
@@ -31,7 +32,7 @@ pub fn attr_chain_cost_from_root(
 }
 
 /// The same of a chain that has a first attribute.
-fn chain_cost(
+pub(crate) fn chain_cost(
     alloc: Global,
     schema: &ValidatorSchema,
     root: &CedarType,
@@ -84,4 +85,65 @@ fn entity_cost(base: Base) -> u64
         Base::Record => 0,
         Base::Other => 0,
     }
+}
+
+/// The attributes after the first that lead to the first entity, where one comes before the last attribute of the chain.
+pub(crate) fn keys_to_entity<'c>(
+    alloc: Global,
+    schema: &ValidatorSchema,
+    root: &CedarType,
+    first: &RcStr,
+    rest: &'c [RcStr],
+) -> Result<Option<&'c [RcStr]>, AllocError>
+    ensures { IfOk result (λ found.
+        option_map (λ ks. text_of first.now ∷ map text_of ks.now) found
+        ≡ keys_to_entity (schema_of schema.now) (ty_of root.now) (text_of first.now)
+        (map text_of rest.now)) }
+{
+    match first_entity(alloc, schema, root, first, rest)? {
+        Some(count) => Ok(Some(first_keys(rest, count))),
+        None => Ok(None),
+    }
+}
+
+/// So many of these keys, or all of them.
+#[tactic(auto, using(crate::proofs::Levels::Keys::keys_taken, crate::proofs::Levels::Keys::all_taken))]
+fn first_keys(keys: &[RcStr], count: usize) -> &[RcStr]
+    ensures { map text_of result.now ≡ take count (map text_of keys.now) }
+{
+    if count < keys.len() {
+        &keys[..count]
+    } else {
+        keys
+    }
+}
+
+/// How many attributes after the first lead to the first entity.
+fn first_entity(
+    alloc: Global,
+    schema: &ValidatorSchema,
+    root: &CedarType,
+    first: &RcStr,
+    rest: &[RcStr],
+) -> Result<Option<usize>, AllocError>
+    ensures { IfOk result (λ found. found
+        ≡ entity_after (schema_of schema.now) 0 (ty_of root.now) (text_of first.now)
+        (map text_of rest.now)) }
+{
+    let mut reached = root.clone()?;
+    let mut attr = first;
+    for (count, next) in rest.iter().enumerate() {
+        let found = CedarType::lookup_attribute_type(alloc, schema, &reached, attr)?;
+        let Some(found) = found else {
+            return Ok(None);
+        };
+        reached = found.attr_type;
+        match base_of_type(&reached) {
+            Base::Entity => return Ok(Some(count)),
+            Base::Record => {}
+            Base::Other => {}
+        }
+        attr = next;
+    }
+    Ok(None)
 }

@@ -1,0 +1,35 @@
+// The keys that are selected of a value.
+ghost use Rattle.std.specs.Prelude.{◌≡◌, ◌∷◌, option_map};
+ghost use Rattle.cedar_types.specs.Names.{text_of};
+ghost use Rattle.cedar_typechecker.specs.Levels.Paths.{keys_along, split_keys};
+
+use std::rc::RcStr;
+
+/// The keys that are selected of a value, one after another. It lies on the stack.
+#[derive(Clone, Copy)]
+pub(crate) enum Path<'p> {
+    /// These.
+    Keys(&'p [RcStr]),
+    /// This one, and then the others.
+    Then(&'p RcStr, &'p Path<'p>),
+}
+
+/// The first key, and the others, if there is one.
+pub(crate) fn split<'p>(path: Path<'p>) -> Option<(&'p RcStr, Path<'p>)>
+    ensures { option_map (λ s. (text_of s.0.now, keys_along s.1)) result ≡ split_keys (keys_along path.entry) }
+{
+    match path {
+        Path::Keys(keys) => match keys.split_first() {
+            Some((first, rest)) => Some((first, Path::Keys(rest))),
+            None => None,
+        },
+        Path::Then(first, rest) => Some((first, *rest)),
+    }
+}
+
+/// This key, and then the others.
+pub(crate) fn longer<'p>(key: &'p RcStr, rest: &'p Path<'p>) -> Path<'p>
+    ensures { keys_along result ≡ text_of key.now ∷ keys_along rest.now }
+{
+    Path::Then(key, rest)
+}
