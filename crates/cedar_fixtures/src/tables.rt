@@ -1,12 +1,19 @@
 // The functions of the tables that the rows and the cases are typed by.
 ghost use Rattle.std.specs.Prelude.{◌≡◌, [], ◌∷◌, map, IfOk};
+ghost use Rattle.cedar_types.specs.Types.{ty_of};
 ghost use Rattle.cedar_types.specs.ExtensionFunctions.{function_of};
-ghost use Rattle.cedar_fixtures.specs.Tables.{ip, is_in_range, sum};
+ghost use Rattle.cedar_fixtures.specs.Tables.{address, ip, is_in_range, sum};
 
-use crate::declarations::address;
 use cedar_types::base::{ArgumentCheck, CedarType, ExtensionFunctionType, Name};
 use std::alloc::{AllocError, Global};
 use std::collections::BTreeSet;
+
+/// The extension type of addresses.
+fn address(alloc: Global) -> Result<CedarType, AllocError>
+    ensures { IfOk result (λ t. ty_of t ≡ address) }
+{
+    CedarType::extension(alloc, Name::unqualified_name(alloc, "ipaddr")?)
+}
 
 /// `ip`, from a String to an address.
 fn ip(alloc: Global, check: Box<dyn ArgumentCheck>) -> Result<ExtensionFunctionType, AllocError>

@@ -1,266 +1,132 @@
-// Whether a check that came to this is taken for what is expected of it.
-use cedar_fixtures::addresses::RefusesEmptyAddress;
-use cedar_fixtures::calls::CallForm;
-use cedar_fixtures::conditions::Form;
-use cedar_fixtures::equality::EqualityForm;
-use cedar_fixtures::guards::GuardForm;
-use cedar_fixtures::operators::OperatorForm;
-use cedar_fixtures::schemas::photos_with_options;
-use cedar_fixtures::tables::address_functions;
-use cedar_rows::rows::Report;
-use cedar_rows::rows::checks::{Case, compared};
-use cedar_rows::rows::expected::Expected;
-use cedar_rows::rows::wanted_calls::WantedCallError;
-use cedar_rows::rows::wanted_errors::WantedError;
-use cedar_rows::rows::wanted_types::WantedType;
-use cedar_types::base::{ExtensionSchemas, Loc, SchemaError};
-use std::alloc::{AllocError, Global};
-use std::collections::BTreeSet;
+// Whether what a step came to is taken for what it expects, and for nothing else.
+use crate::tables::{x1, x2};
+use crate::wrong_expectations::{ERRORS, NAMES, OUTCOMES, UNREAD, WARNINGS};
+use cedar_rows::rows::{Report, Row, Steps, WORKED};
+use std::alloc::Global;
 use std::process::Abort;
 use std::test::Fail;
 
-/// The mark is not guarded where it is read.
-const MARK: WantedError = WantedError::UnguardedAccess {
-    at: Loc { start: 0, end: 13 },
-    attr: "vip",
-};
+/// Findings in another order than that of their bytes, and steps of which no row has the like.
+const EXPECTED: &str = r#"
+? S1 Strict check: "a" < "b"
+Fail errors=2
+! UnexpectedType Long but String @ "b"
+for policy `policy0`, unexpected type: expected `Long` but saw `String`
+! UnexpectedType Long but String @ "a"
+for policy `policy0`, unexpected type: expected `Long` but saw `String`
+? S4 slot types with User::"a": permit(principal == ?principal, action, resource)
+errors=0
+? S1 action ids: (Unk::"a" < 1) && false
+errors=0
+? S1 enumerated ids: (Unk::"a" < 1) && false
+errors=0
+? S1 entity types: action == Action::"edit"
+errors=0
+? S1 enumerated ids: action == Action::"edit"
+errors=0
+? S0 table: f(Long) -> Long
+a table
+? S4 Strict check: true
+no environment
+? S1 Strict check: ?principal.getTag("t") == ?principal
+Fail errors=1
+! UnsafeTagAccess AnyEntity @ ?principal.getTag("t")
+for policy `policy0`, access to a tag of `entity` is not guarded
+"#;
 
-/// The same at another place.
-const MARK_ELSEWHERE: WantedError = WantedError::UnguardedAccess {
-    at: Loc { start: 0, end: 12 },
-    attr: "vip",
-};
-
-/// The same of another attribute.
-const NICKNAME: WantedError = WantedError::UnguardedAccess {
-    at: Loc { start: 0, end: 13 },
-    attr: "nick",
-};
-
-/// The left side is a string.
-const LEFT: WantedError = WantedError::UnexpectedType {
-    at: Loc { start: 0, end: 3 },
-    expected: &[WantedType::Long],
-    actual: WantedType::String,
-};
-
-/// The right side is a string.
-const RIGHT: WantedError = WantedError::UnexpectedType {
-    at: Loc { start: 6, end: 9 },
-    expected: &[WantedType::Long],
-    actual: WantedType::String,
-};
-
-/// The same, where a text would be accepted too.
-const RIGHT_OF_EITHER: WantedError = WantedError::UnexpectedType {
-    at: Loc { start: 6, end: 9 },
-    expected: &[WantedType::Long, WantedType::String],
-    actual: WantedType::String,
-};
-
-/// The right side is a user.
-const RIGHT_USER: WantedError = WantedError::UnexpectedType {
-    at: Loc { start: 6, end: 9 },
-    expected: &[WantedType::Long],
-    actual: WantedType::User,
-};
-
-/// Whether `1 == "a"` comes to this.
-const DIFFERENT_LITERALS: [(Expected, bool); 3] = [
-    (Expected::Irrelevant, true),
-    (Expected::Success, false),
-    (Expected::Fail(&[]), false),
-];
-
-/// Whether `principal.vip` comes to this.
-const MARK_IS_READ: [(Expected, bool); 6] = [
-    (Expected::Fail(&[MARK]), true),
-    (Expected::Fail(&[MARK_ELSEWHERE]), false),
-    (Expected::Fail(&[NICKNAME]), false),
-    (Expected::Fail(&[]), false),
-    (Expected::Irrelevant, false),
-    (Expected::Success, false),
-];
-
-/// Whether `"a" < "b"` comes to this.
-const STRINGS_ARE_COMPARED: [(Expected, bool); 7] = [
-    (Expected::Fail(&[LEFT, RIGHT]), true),
-    (Expected::Fail(&[RIGHT, LEFT]), true),
-    (Expected::Fail(&[LEFT, LEFT]), false),
-    (Expected::Fail(&[LEFT]), false),
-    (Expected::Fail(&[LEFT, RIGHT, RIGHT]), false),
-    (Expected::Fail(&[LEFT, RIGHT_OF_EITHER]), false),
-    (Expected::Fail(&[LEFT, RIGHT_USER]), false),
-];
-
-/// Whether `ip("")` and `== principal.ip` come to this.
-const EMPTY_ADDRESS: [(Expected, bool); 5] = [
-    (Expected::Fail(&[REFUSED]), true),
-    (Expected::Fail(&[REFUSED_ELSEWHERE]), false),
-    (Expected::Fail(&[REFUSED_FOR_NOTHING]), false),
-    (Expected::Fail(&[NO_ARGUMENT]), false),
-    (Expected::Success, false),
-];
-
-/// Whether `ip()` and `== principal.ip` come to this.
-const ADDRESS_OF_NOTHING: [(Expected, bool); 4] = [
-    (Expected::Fail(&[NO_ARGUMENT]), true),
-    (Expected::Fail(&[ONE_ARGUMENT_TOO_MANY]), false),
-    (Expected::Fail(&[UNDEFINED]), false),
-    (Expected::Fail(&[]), false),
-];
-
-/// The check refuses what stands here.
-const REFUSED: WantedError = WantedError::Call {
-    at: Loc { start: 0, end: 6 },
-    error: WantedCallError::Refused {
-        msg: "empty address",
-    },
-};
-
-/// The same at another place.
-const REFUSED_ELSEWHERE: WantedError = WantedError::Call {
-    at: Loc { start: 0, end: 22 },
-    error: WantedCallError::Refused {
-        msg: "empty address",
-    },
-};
-
-/// The same without a reason.
-const REFUSED_FOR_NOTHING: WantedError = WantedError::Call {
-    at: Loc { start: 0, end: 6 },
-    error: WantedCallError::Refused { msg: "" },
-};
-
-/// There is no argument where there should be one.
-const NO_ARGUMENT: WantedError = WantedError::Call {
-    at: Loc { start: 0, end: 4 },
-    error: WantedCallError::WrongNumber {
-        expected: 1,
-        actual: 0,
-    },
-};
-
-/// There is one where there should be none.
-const ONE_ARGUMENT_TOO_MANY: WantedError = WantedError::Call {
-    at: Loc { start: 0, end: 4 },
-    error: WantedCallError::WrongNumber {
-        expected: 0,
-        actual: 1,
-    },
-};
-
-/// There is no function `ip`.
-const UNDEFINED: WantedError = WantedError::Call {
-    at: Loc { start: 0, end: 4 },
-    error: WantedCallError::Undefined { name: "ip" },
-};
-
-/// Whether this condition's check is taken for what is expected, where there are no functions.
-fn is_expected<F: Form + Copy + Drop>(
-    alloc: Global,
-    text: &'static str,
-    form: F,
-    expected: Expected,
-) -> Result<bool, SchemaError> {
-    is_expected_by(
-        alloc,
-        &ExtensionSchemas::default(alloc),
-        text,
-        form,
-        expected,
-    )
-}
-
-/// Whether it is by this table.
-fn is_expected_by<F: Form + Copy + Drop>(
-    alloc: Global,
-    extensions: &ExtensionSchemas,
-    text: &'static str,
-    form: F,
-    expected: Expected,
-) -> Result<bool, SchemaError> {
-    let schema = photos_with_options(alloc)?;
-    let cases = alone(
-        alloc,
-        Case {
-            text,
-            form,
-            expected,
-        },
-    )?;
-    Ok(compared(alloc, &schema, extensions, &cases)?.is_expected)
-}
-
-/// The case alone.
-fn alone<F: Drop>(alloc: Global, case: Case<F>) -> Result<Vec<Case<F>>, AllocError> {
-    let mut cases = Vec::new(alloc);
-    cases.push(case)?;
-    Ok(cases)
+/// What comes of a row of this text.
+fn report_of(alloc: Global, text: &'static str) -> Result<Report, Fail> {
+    Ok(Steps(text, &[]).report(alloc, &x1(alloc)?, &x2(alloc)?)?)
 }
 
 #[test]
-fn an_outcome_is_no_other(rt: HostRuntime) -> Result<(), Fail> {
-    let text = "1 == \"a\"";
-    for (expected, is_met) in DIFFERENT_LITERALS {
-        let form = EqualityForm::NumberWithString;
-        assert_eq!(rt; is_expected(rt.alloc(), text, form, expected)?, is_met);
+fn what_is_expected_is_met(rt: HostRuntime) -> Result<(), Fail> {
+    for step in EXPECTED.split("\n? ").skip(1) {
+        assert!(rt; report_of(rt.alloc(), step)?.is_expected, "{step}");
+    }
+    Ok(())
+}
+
+/// The outcome that a step expects.
+fn expected_outcome(step: &str) -> &str {
+    step.split('\n').nth(1).unwrap_or("")
+}
+
+#[test]
+fn other_findings_are_not_taken_for_it(rt: HostRuntime) -> Result<(), Fail> {
+    for text in [ERRORS, NAMES, WARNINGS] {
+        for step in text.split("\n? ").skip(1) {
+            let report = report_of(rt.alloc(), step)?;
+            let outcome = report.outcomes.as_slice().join(rt.alloc(), "; ")?;
+            assert!(rt; !report.is_expected, "{step}");
+            assert_eq!(rt; outcome.as_str(), expected_outcome(step));
+        }
     }
     Ok(())
 }
 
 #[test]
-fn an_error_has_its_place_and_fields(rt: HostRuntime) -> Result<(), Fail> {
-    let text = "principal.vip";
-    for (expected, is_met) in MARK_IS_READ {
-        let form = GuardForm::Read;
-        assert_eq!(rt; is_expected(rt.alloc(), text, form, expected)?, is_met);
+fn other_outcomes_are_not_taken_for_it(rt: HostRuntime) -> Result<(), Fail> {
+    for (text, is_read) in [(OUTCOMES, true), (UNREAD, false)] {
+        for step in text.split("\n? ").skip(1) {
+            let report = report_of(rt.alloc(), step)?;
+            let outcome = report.outcomes.as_slice().join(rt.alloc(), "; ")?;
+            assert!(rt; !report.is_expected, "{step}");
+            assert_eq!(rt; outcome.ends_with("is expected"), !is_read, "{step}");
+        }
     }
     Ok(())
 }
 
-#[test]
-fn errors_come_in_any_order_each_as_often(rt: HostRuntime) -> Result<(), Fail> {
-    let text = "\"a\" < \"b\"";
-    for (expected, is_met) in STRINGS_ARE_COMPARED {
-        let form = OperatorForm::StringLessThanString;
-        assert_eq!(rt; is_expected(rt.alloc(), text, form, expected)?, is_met);
-    }
-    Ok(())
-}
+/// A step that comes to what it expects, and one that does not, in both orders.
+const ONE_OF_TWO: [(&str, &str); 2] = [
+    (
+        "S1 Strict check: true\nSuccess\n? S1 Strict check: false\nSuccess",
+        "Success; Irrelevant errors=0",
+    ),
+    (
+        "S1 Strict check: false\nSuccess\n? S1 Strict check: true\nSuccess",
+        "Irrelevant errors=0; Success",
+    ),
+];
 
 #[test]
-fn an_error_of_a_call_has_its_place_and_fields(rt: HostRuntime) -> Result<(), Fail> {
-    let alloc = rt.alloc();
-    let check = Box::new(alloc, RefusesEmptyAddress { alloc })?;
-    let x1 = ExtensionSchemas::new(address_functions(alloc, check)?, BTreeSet::new(alloc))?;
-    let text = "ip(\"\") == principal.ip";
-    for (expected, is_met) in EMPTY_ADDRESS {
-        let form = CallForm::AddressOfEmptyText;
-        assert_eq!(rt; is_expected_by(alloc, &x1, text, form, expected)?, is_met);
-    }
-    let text = "ip() == principal.ip";
-    for (expected, is_met) in ADDRESS_OF_NOTHING {
-        let form = CallForm::AddressOfNothing;
-        assert_eq!(rt; is_expected_by(alloc, &x1, text, form, expected)?, is_met);
-    }
-    Ok(())
-}
-
-#[test]
-fn a_report_that_is_added_counts(rt: HostRuntime) -> Result<(), Fail> {
-    let alloc = rt.alloc();
-    for (first, second) in [(true, true), (true, false), (false, true)] {
-        let mut report = Report::new(alloc);
-        report.add(String::from_str(alloc, "a")?, first)?;
-        let mut other = Report::new(alloc);
-        other.add(String::from_str(alloc, "b")?, second)?;
-        report.append(other)?;
-        assert_eq!(rt; report.is_expected, first && second);
+fn each_step_of_a_row_counts(rt: HostRuntime) -> Result<(), Fail> {
+    for (text, outcomes) in ONE_OF_TWO {
+        let report = report_of(rt.alloc(), text)?;
+        assert!(rt; !report.is_expected);
         assert_eq!(rt;
-            report.outcomes.as_slice().join(alloc, " ")?.as_str(),
-            "a b"
+            report.outcomes.as_slice().join(rt.alloc(), "; ")?.as_str(),
+            outcomes
         );
+    }
+    Ok(())
+}
+
+/// Whether a step is about a set of errors.
+fn is_of_set(step: &str) -> bool {
+    let (line, _) = step.split_once('\n').unwrap_or((step, ""));
+    line.contains(" policy: ")
+}
+
+/// Whether a step expects a finding twice.
+fn repeats_finding(step: &str) -> bool {
+    for finding in step.split("\n! ").skip(1) {
+        if step.split(finding).count() > 2 {
+            return true;
+        }
+    }
+    false
+}
+
+/// In a list two errors at two parts of one text are two in any case.
+#[test]
+fn no_set_has_two_errors_at_one_text(rt: HostRuntime) -> Result<(), Fail> {
+    for row in &WORKED {
+        let Steps(text, _) = row.row;
+        for step in text.split("\n? ") {
+            assert!(rt; !is_of_set(step) || !repeats_finding(step), "{step}");
+        }
     }
     Ok(())
 }

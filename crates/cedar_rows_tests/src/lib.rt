@@ -3,10 +3,10 @@
 #![tactic(auto)]
 
 #[cfg(test)]
-mod applications;
-#[cfg(test)]
 mod expectations;
 #[cfg(test)]
-mod passes;
-#[cfg(test)]
 mod runs;
+#[cfg(test)]
+mod tables;
+#[cfg(test)]
+mod wrong_expectations;

@@ -1,11 +1,9 @@
 // The frame, over sample rows and over writers in memory.
-use cedar_fixtures::addresses::RefusesEmptyAddress;
-use cedar_fixtures::tables::{address_functions, addresses_alone, functions_with_sum};
+use crate::tables::{x1, x2};
 use cedar_rows::rows::{NamedRow, Report, Row};
 use cedar_rows::run::{run, run_among};
 use cedar_types::base::ExtensionSchemas;
 use std::alloc::{AllocError, Global};
-use std::collections::BTreeSet;
 use std::io;
 use std::io::{ErrorKind, Write};
 use std::process::Abort;
@@ -13,78 +11,43 @@ use std::test::Fail;
 
 const USAGE: &[u8] = b"usage: cedar-check [ROW]\n";
 
-const ROW_30: &[u8] = b"row 30: Success; Irrelevant errors=0; \
-    true errors=0 warnings=1; errors=1; ok\n";
-
-const ROW_33: &[u8] = b"row 33: Success; Fail errors=1; Fail errors=2; Fail errors=1; \
-    Irrelevant errors=0; Success; Fail errors=1; ok\n";
-
-const ROW_34: &[u8] = b"row 34: Success; Irrelevant errors=0; Success; Irrelevant errors=0; \
-    Fail errors=0; Fail errors=1; ok\n";
-
-const ROW_35: &[u8] = b"row 35: Success; Fail errors=1; Success; Irrelevant errors=0; \
-    Irrelevant errors=0; Fail errors=1; ok\n";
-
-const ROW_36: &[u8] = b"row 36: BadReturnType; VariadicWithoutArguments; DuplicateFunction; \
-    VariadicWithoutArguments; ok\n";
-
-const ROW_37: &[u8] = b"row 37: Success; Success; Fail errors=1; Fail errors=1; Success; \
-    Fail errors=2; ok\n";
-
-const ROW_41: &[u8] = b"row 41: applies; warning principal=true resource=false; \
-    warning principal=false resource=false; warning principal=false resource=false; ok\n";
-
-const ROW_42: &[u8] = b"row 42: warning principal=true resource=false; applies; ok\n";
-
-/// The rows that are built, in order, and the line of each.
-const BUILT: [(&str, &[u8]); 28] = [
-    ("9", b"row 9: true errors=0 warnings=1; errors=1; ok\n"),
-    ("10", b"row 10: Success; Fail errors=1; ok\n"),
-    ("11", b"row 11: true errors=0 warnings=1; ok\n"),
-    ("12", b"row 12: Fail errors=1; ok\n"),
-    ("13", b"row 13: Success; Success; ok\n"),
-    ("14", b"row 14: warning principal=true resource=true; ok\n"),
-    (
-        "15",
-        b"row 15: Success; Fail errors=0; false errors=0 warnings=0; ok\n",
-    ),
-    (
-        "17",
-        b"row 17: Irrelevant errors=0; Fail errors=1; Fail errors=1; ok\n",
-    ),
-    ("19", b"row 19: BadReturnType; errors=1; ok\n"),
-    ("20", b"row 20: User; ok\n"),
-    ("21", b"row 21: errors=1; ok\n"),
-    ("22", b"row 22: errors=1; ok\n"),
-    (
-        "27",
-        b"row 27: Fail errors=1; Fail errors=1; Fail errors=1; Fail errors=1; ok\n",
-    ),
-    (
-        "28",
-        b"row 28: Success; Fail errors=1; Irrelevant errors=0; ok\n",
-    ),
-    (
-        "29",
-        b"row 29: Fail errors=1; Success; false errors=1 warnings=0; ok\n",
-    ),
-    ("30", ROW_30),
-    (
-        "31",
-        b"row 31: Fail errors=1; Success; Fail errors=1; Fail errors=1; Success; ok\n",
-    ),
-    ("32", b"row 32: Success; Success; Fail errors=1; ok\n"),
-    ("33", ROW_33),
-    ("34", ROW_34),
-    ("35", ROW_35),
-    ("36", ROW_36),
-    ("37", ROW_37),
-    ("38", b"row 38: Success; Success; ok\n"),
-    ("39", b"row 39: false errors=1 warnings=1; ok\n"),
-    ("40", b"row 40: errors=1; errors=2; ok\n"),
-    ("41", ROW_41),
-    ("42", ROW_42),
-];
+/// The line of each row that is built, in order.
+const BUILT: &str = "\
+row 9: true errors=0 warnings=1; errors=1; ok\n\
+row 10: Success; Fail errors=1; ok\n\
+row 11: true errors=0 warnings=1; ok\n\
+row 12: Fail errors=1; ok\n\
+row 13: Success; Success; ok\n\
+row 14: warning principal=true resource=true; ok\n\
+row 15: Success; Fail errors=0; false errors=0 warnings=0; ok\n\
+row 17: Irrelevant errors=0; Fail errors=1; Fail errors=1; ok\n\
+row 19: BadReturnType; errors=1; ok\n\
+row 20: User; ok\n\
+row 21: errors=1; ok\n\
+row 22: errors=1; ok\n\
+row 27: Fail errors=1; Fail errors=1; Fail errors=1; Fail errors=1; ok\n\
+row 28: Success; Fail errors=1; Irrelevant errors=0; ok\n\
+row 29: Fail errors=1; Success; false errors=1 warnings=0; ok\n\
+row 30: Success; Irrelevant errors=0; true errors=0 warnings=1; errors=1; ok\n\
+row 31: Fail errors=1; Success; Fail errors=1; Fail errors=1; Success; ok\n\
+row 32: Success; Success; Fail errors=1; ok\n\
+row 33: Success; Fail errors=1; Fail errors=2; Fail errors=1; Irrelevant errors=0; Success; \
+    Fail errors=1; ok\n\
+row 34: Success; Irrelevant errors=0; Success; Irrelevant errors=0; Fail errors=0; \
+    Fail errors=1; ok\n\
+row 35: Success; Fail errors=1; Success; Irrelevant errors=0; Irrelevant errors=0; \
+    Fail errors=1; ok\n\
+row 36: BadReturnType; VariadicWithoutArguments; DuplicateFunction; \
+    VariadicWithoutArguments; ok\n\
+row 37: Success; Success; Fail errors=1; Fail errors=1; Success; Fail errors=2; ok\n\
+row 38: Success; Success; ok\n\
+row 39: false errors=1 warnings=1; ok\n\
+row 40: errors=1; errors=2; ok\n\
+row 41: applies; warning principal=true resource=false; warning principal=false resource=false; \
+    warning principal=false resource=false; ok\n\
+row 42: warning principal=true resource=false; applies; ok\n\
+row 52: Success; Fail errors=1; Success; Success; Success; Fail errors=1; ok\n\
+";
 
 /// The ways in which a row can end.
 enum Sample {
@@ -166,10 +129,7 @@ struct Answer {
 /// What the rows that are built answer to these words.
 fn answer_to(alloc: Global, words: &[&str]) -> Result<Answer, Fail> {
     let words = texts(alloc, words)?;
-    let check = Box::new(alloc, RefusesEmptyAddress { alloc })?;
-    let x1 = ExtensionSchemas::new(address_functions(alloc, check)?, BTreeSet::new(alloc))?;
-    let check = Box::new(alloc, RefusesEmptyAddress { alloc })?;
-    let x2 = ExtensionSchemas::new(functions_with_sum(alloc, check)?, addresses_alone(alloc)?)?;
+    let (x1, x2) = (x1(alloc)?, x2(alloc)?);
     let mut out = Vec::new(alloc);
     let mut err = Vec::new(alloc);
     let status = run(alloc, words.as_slice(), &x1, &x2, &mut out, &mut err);
@@ -205,14 +165,25 @@ fn check(rt: &impl Abort, words: &[&str], answer: Answer, status: u8, out: &[u8]
     assert_eq!(rt; answer.err.as_slice(), err, "{words:?}");
 }
 
+/// The name of the row of this line.
+fn name_in(line: &str) -> &str {
+    let (name, _) = line.split_once(':').unwrap_or((line, ""));
+    name.strip_prefix("row ").unwrap_or(name)
+}
+
 #[test]
 fn each_row_that_is_built_is_as_expected(rt: HostRuntime) -> Result<(), Fail> {
-    let mut lines = Vec::new(rt.alloc());
-    for (word, line) in BUILT {
-        check(&rt, &[word], answer_to(rt.alloc(), &[word])?, 0, line);
-        lines.extend_from_slice(line)?;
+    check(&rt, &[], answer_to(rt.alloc(), &[])?, 0, BUILT.as_bytes());
+    for line in BUILT.split_inclusive('\n') {
+        let word = name_in(line);
+        check(
+            &rt,
+            &[word],
+            answer_to(rt.alloc(), &[word])?,
+            0,
+            line.as_bytes(),
+        );
     }
-    check(&rt, &[], answer_to(rt.alloc(), &[])?, 0, lines.as_slice());
     Ok(())
 }
 

@@ -1,90 +1,120 @@
-// The checks that rows make, and what they say of them.
-use crate::rows::expected::{Expected, policy_id};
-use crate::rows::{Report, other_outcome};
-use cedar_fixtures::conditions::Form;
-use cedar_types::base::{
-    ActionConstraint, Expr, ExtensionSchemas, PrincipalConstraint, ResourceConstraint, Template,
-    ValidationMode, ValidatorSchema,
-};
+// The checks of a policy.
+use crate::rows::answers::{Answer, Asked, BETWEEN_OUTCOMES, in_order};
+use cedar_fixtures::findings::{push_environment, push_error, push_warning};
+use cedar_types::base::{ValidationError, ValidationMode, ValidationWarning};
 use cedar_types::types::request_env::RequestEnv;
 use cedar_typing::typecheck::{PolicyCheck, Typechecker};
-use std::alloc::{AllocError, Global};
+use std::alloc::AllocError;
+use std::collections::HashSet;
 
-/// A condition, and what its check comes to.
-#[derive(Clone, Copy)]
-pub struct Case<F> {
-    pub text: &'static str,
-    pub form: F,
-    pub expected: Expected,
+impl<'a> Asked<'a> {
+    fn checker(self, mode: ValidationMode) -> Typechecker<'a> {
+        Typechecker::new(self.validator.schema(), self.validator.extensions(), mode)
+    }
+
+    /// The check in the first environment of the schema.
+    pub fn in_first_environment(self, mode: ValidationMode) -> Result<Answer, AllocError> {
+        let (alloc, policy) = (self.alloc, &*self.policy.template);
+        let mut answer = Answer::new(alloc, String::new(alloc));
+        match self.validator.schema().unlinked_request_envs(mode).next() {
+            None => answer.outcome.push_str("no environment")?,
+            Some(env) => {
+                let checker = self.checker(mode);
+                let check = checker.typecheck_by_single_request_env(alloc, policy, &env)?;
+                self.add_check(&mut answer, &check)?;
+            }
+        }
+        Ok(answer)
+    }
+
+    /// Adds what a check came to, and its errors.
+    fn add_check(self, answer: &mut Answer, check: &PolicyCheck) -> Result<(), AllocError> {
+        push_outcome(&mut answer.outcome, check)?;
+        for error in errors_of(check) {
+            push_error(&mut answer.findings, self.text, error)?;
+        }
+        Ok(())
+    }
+
+    /// The check in each environment. The outcomes are sorted by bytes.
+    pub fn in_environments(self, mode: ValidationMode) -> Result<Answer, AllocError> {
+        let (alloc, policy) = (self.alloc, &*self.policy.template);
+        let checker = self.checker(mode);
+        let mut answer = Answer::new(alloc, String::new(alloc));
+        for item in checker.typecheck_by_request_env(alloc, policy)? {
+            self.add_environment(&mut answer, &item?)?;
+        }
+        let outcomes = in_order(alloc, answer.outcome.as_str(), BETWEEN_OUTCOMES)?;
+        answer.outcome = outcomes;
+        Ok(answer)
+    }
+
+    /// Adds what a check came to, behind the outcomes before it, its environment and its errors.
+    fn add_environment(
+        self,
+        answer: &mut Answer,
+        (env, check): &(RequestEnv<'_>, PolicyCheck),
+    ) -> Result<(), AllocError> {
+        push_environment(&mut answer.findings, env)?;
+        push_outcome(&mut answer.findings, check)?;
+        if !answer.outcome.is_empty() {
+            answer.outcome.push_str(BETWEEN_OUTCOMES)?;
+        }
+        self.add_check(answer, check)
+    }
+
+    /// What the check in all environments adds to empty sets.
+    pub fn in_all(self, mode: ValidationMode) -> Result<Answer, AllocError> {
+        let (alloc, policy) = (self.alloc, &*self.policy.template);
+        let mut errors = HashSet::new(alloc);
+        let mut warnings = HashSet::new(alloc);
+        let checker = self.checker(mode);
+        let passes = checker.typecheck_policy(alloc, policy, &mut errors, &mut warnings)?;
+        self.added(passes, &errors, &warnings)
+    }
+
+    fn added(
+        self,
+        passes: bool,
+        errors: &HashSet<ValidationError>,
+        warnings: &HashSet<ValidationWarning>,
+    ) -> Result<Answer, AllocError> {
+        let (alloc, found, warned) = (self.alloc, errors.len(), warnings.len());
+        let outcome = format!(in alloc; "{passes} errors={found} warnings={warned}")?;
+        let mut answer = Answer::new(alloc, outcome);
+        self.add_warnings(&mut answer, warnings)?;
+        for error in errors {
+            push_error(&mut answer.findings, self.text, error)?;
+        }
+        Ok(answer)
+    }
+
+    fn add_warnings(
+        self,
+        answer: &mut Answer,
+        warnings: &HashSet<ValidationWarning>,
+    ) -> Result<(), AllocError> {
+        for warning in warnings {
+            push_warning(&mut answer.findings, self.text, warning)?;
+        }
+        Ok(())
+    }
 }
 
-/// `permit(principal, action, resource) when { condition };`.
-fn permit_when(alloc: Global, condition: Expr) -> Result<Template, AllocError> {
-    let principal = PrincipalConstraint::any();
-    let action = ActionConstraint::any();
-    let resource = ResourceConstraint::any();
-    let id = policy_id(alloc)?;
-    Ok(Template::new(id, None, principal, action, resource, Some(condition)))
-}
-
-/// What the check came to, and how many errors there are where it may have some.
-pub fn outcome_of(alloc: Global, check: &PolicyCheck) -> Result<String, AllocError> {
+/// Adds what a check came to, and how many errors there are where it may have some.
+fn push_outcome(shown: &mut String, check: &PolicyCheck) -> Result<(), AllocError> {
+    let count = errors_of(check).len();
     match check {
-        PolicyCheck::Success(_) => String::from_str(alloc, "Success"),
-        PolicyCheck::Irrelevant(errors, _) => {
-            let count = errors.len();
-            format!(in alloc; "Irrelevant errors={count}")
-        }
-        PolicyCheck::Fail(errors) => {
-            let count = errors.len();
-            format!(in alloc; "Fail errors={count}")
-        }
+        PolicyCheck::Success(_) => shown.push_str("Success"),
+        PolicyCheck::Irrelevant(_, _) => write!(shown, "Irrelevant errors={count}"),
+        PolicyCheck::Fail(_) => write!(shown, "Fail errors={count}"),
     }
 }
 
-/// What the case's check came to, and whether that is as it should be.
-fn checked<F: Form>(
-    alloc: Global,
-    checker: &Typechecker<'_>,
-    env: &RequestEnv<'_>,
-    case: &Case<F>,
-) -> Result<(String, bool), AllocError> {
-    let condition = case.form.condition(alloc, case.text)?;
-    let policy = permit_when(alloc, condition)?;
-    let check = checker.typecheck_by_single_request_env(alloc, &policy, env)?;
-    let outcome = outcome_of(alloc, &check)?;
-    let is_expected = case.expected.is_met_by(alloc, &check)?;
-    Ok((outcome, is_expected))
-}
-
-/// Checks each condition in this environment, in order.
-fn all_checked<F: Form>(
-    alloc: Global,
-    checker: &Typechecker<'_>,
-    env: &RequestEnv<'_>,
-    cases: &[Case<F>],
-) -> Result<Report, AllocError> {
-    let mut report = Report::new(alloc);
-    for case in cases {
-        let (outcome, is_expected) = checked(alloc, checker, env, case)?;
-        report.add(outcome, is_expected)?;
-    }
-    Ok(report)
-}
-
-/// Checks each condition in the strict mode and the first environment of the schema.
-pub fn compared<F: Form>(
-    alloc: Global,
-    schema: &ValidatorSchema,
-    extensions: &ExtensionSchemas,
-    cases: &[Case<F>],
-) -> Result<Report, AllocError> {
-    let mode = ValidationMode::Strict;
-    match schema.unlinked_request_envs(mode).next() {
-        Some(env) => {
-            let checker = Typechecker::new(schema, extensions, mode);
-            all_checked(alloc, &checker, &env, cases)
-        }
-        None => other_outcome(alloc, "no environment"),
+fn errors_of(check: &PolicyCheck) -> &[ValidationError] {
+    match check {
+        PolicyCheck::Success(_) => &[],
+        PolicyCheck::Irrelevant(errors, _) => errors,
+        PolicyCheck::Fail(errors) => errors,
     }
 }

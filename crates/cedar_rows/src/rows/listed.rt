@@ -1,119 +1,138 @@
 // The rows that are built, by their names.
-use crate::rows::NamedRow;
-use crate::rows::worked::WorkedRow;
+use crate::rows::{NamedRow, Nested, Steps, conditions, policies};
 
-/// The rows that are built, in the order in which they run.
-pub const WORKED: [NamedRow<WorkedRow>; 28] = [
+/// `true` under so many negations that it stands at the limit of depth, and beyond it.
+const NEGATIONS: [Nested; 2] = [
+    Nested {
+        word: "TRUE_UNDER_398",
+        around: ["!", ""],
+        times: 398,
+        inner: "true",
+    },
+    Nested {
+        word: "TRUE_UNDER_399",
+        around: ["!", ""],
+        times: 399,
+        inner: "true",
+    },
+];
+
+/// The rows, in the order in which they run.
+pub const WORKED: [NamedRow<Steps>; 29] = [
     NamedRow {
         name: "9",
-        row: WorkedRow::UnknownAndFalse,
+        row: Steps(policies::UNKNOWN_TYPE, &[]),
     },
     NamedRow {
         name: "10",
-        row: WorkedRow::GuardedAccess,
+        row: Steps(conditions::GUARDED_ACCESS, &[]),
     },
     NamedRow {
         name: "11",
-        row: WorkedRow::NoEnvironment,
+        row: Steps(policies::NO_ENVIRONMENT, &[]),
     },
     NamedRow {
         name: "12",
-        row: WorkedRow::TestBesideEquality,
+        row: Steps(conditions::TEST_BESIDE_EQUALITY, &[]),
     },
     NamedRow {
         name: "13",
-        row: WorkedRow::RepeatedEnvironments,
+        row: Steps(policies::REPEATED_ENVIRONMENTS, &[]),
     },
     NamedRow {
         name: "14",
-        row: WorkedRow::GroupsInScope,
+        row: Steps(policies::GROUPS_IN_SCOPE, &[]),
     },
     NamedRow {
         name: "15",
-        row: WorkedRow::Nesting,
+        row: Steps(policies::NESTING, &NEGATIONS),
     },
     NamedRow {
         name: "17",
-        row: WorkedRow::SidesWithoutBound,
+        row: Steps(conditions::SIDES_WITHOUT_BOUND, &[]),
     },
     NamedRow {
         name: "19",
-        row: WorkedRow::UnknownTypeInSlot,
+        row: Steps(policies::UNKNOWN_TYPE_IN_SLOT, &[]),
     },
     NamedRow {
         name: "20",
-        row: WorkedRow::AnyType,
+        row: Steps(policies::ANY_TYPE, &[]),
     },
     NamedRow {
         name: "21",
-        row: WorkedRow::UnknownTypeInScope,
+        row: Steps(policies::UNKNOWN_TYPE_IN_SCOPE, &[]),
     },
     NamedRow {
         name: "22",
-        row: WorkedRow::UnknownActionInScope,
+        row: Steps(policies::UNKNOWN_ACTION_IN_SCOPE, &[]),
     },
     NamedRow {
         name: "27",
-        row: WorkedRow::WrongCalls,
+        row: Steps(conditions::WRONG_CALLS, &[]),
     },
     NamedRow {
         name: "28",
-        row: WorkedRow::Tags,
+        row: Steps(conditions::TAGS, &[]),
     },
     NamedRow {
         name: "29",
-        row: WorkedRow::UndeclaredActions,
+        row: Steps(policies::UNDECLARED_ACTIONS, &[]),
     },
     NamedRow {
         name: "30",
-        row: WorkedRow::UnknownAction,
+        row: Steps(policies::UNKNOWN_ACTION, &[]),
     },
     NamedRow {
         name: "31",
-        row: WorkedRow::GuardingForms,
+        row: Steps(conditions::GUARDING_FORMS, &[]),
     },
     NamedRow {
         name: "32",
-        row: WorkedRow::ConditionalGuards,
+        row: Steps(conditions::CONDITIONAL_GUARDS, &[]),
     },
     NamedRow {
         name: "33",
-        row: WorkedRow::Operators,
+        row: Steps(conditions::OPERATORS, &[]),
     },
     NamedRow {
         name: "34",
-        row: WorkedRow::Memberships,
+        row: Steps(conditions::MEMBERSHIPS, &[]),
     },
     NamedRow {
         name: "35",
-        row: WorkedRow::Chains,
+        row: Steps(conditions::CHAINS, &[]),
     },
     NamedRow {
         name: "36",
-        row: WorkedRow::FaultyTables,
+        row: Steps(policies::FAULTY_TABLES, &[]),
     },
     NamedRow {
         name: "37",
-        row: WorkedRow::VariadicCalls,
+        row: Steps(conditions::VARIADIC_CALLS, &[]),
     },
     NamedRow {
         name: "38",
-        row: WorkedRow::LinkedSlots,
+        row: Steps(policies::LINKED_SLOTS, &[]),
     },
     NamedRow {
         name: "39",
-        row: WorkedRow::FalseWithError,
+        row: Steps(policies::FALSE_WITH_ERROR, &[]),
     },
     NamedRow {
         name: "40",
-        row: WorkedRow::NoMembers,
+        row: Steps(policies::NO_MEMBERS, &[]),
     },
     NamedRow {
         name: "41",
-        row: WorkedRow::Applications,
+        row: Steps(policies::APPLICATIONS, &[]),
     },
     NamedRow {
         name: "42",
-        row: WorkedRow::LinkedApplications,
+        row: Steps(policies::LINKED_APPLICATIONS, &[]),
+    },
+    NamedRow {
+        name: "52",
+        row: Steps(conditions::PERMISSIVE_BOUNDS, &[]),
     },
 ];

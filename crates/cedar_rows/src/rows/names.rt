@@ -1,169 +1,106 @@
-// The policies and bindings of the rows on names and ids, and what is found in them.
-use crate::rows::checks::Case;
-use crate::rows::expected::Expected;
-use crate::rows::passes::{Pass, PassCase, SlotCase};
-use crate::rows::policies::PolicyForm;
-use crate::rows::wanted_errors::WantedError;
-use crate::rows::wanted_names::WantedNameError;
-use cedar_fixtures::policies::RestForm;
-use cedar_fixtures::scopes::{ANY, ActionForm, ConstraintForm, ReferenceForm, ScopeForm};
-use cedar_fixtures::uids::WrittenUid;
-use cedar_types::base::Loc;
+// What a validator says of names and scopes, and why there is no table of functions.
+ghost use Rattle.std.specs.Iterator.{IsFinite};
 
-/// A type that is not declared, in a condition that is never true.
-pub const UNKNOWN_LESS: PolicyForm = PolicyForm {
-    scope: ANY,
-    rest: Some(("(Unk::\"a\" < 1) && false", RestForm::UnknownLessAndFalse)),
-};
+use crate::rows::answers::{Answer, Asked};
+use cedar_fixtures::faulty_functions::listed;
+use cedar_fixtures::findings::{push_error, push_warning};
+use cedar_fixtures::questions::Subject;
+use cedar_typechecker::rbac::Validator;
+use cedar_types::base::{ExtensionSchemas, ValidationError, ValidationWarning};
+use std::alloc::{AllocError, Global};
+use std::collections::BTreeSet;
 
-/// It is found all the same.
-pub const UNKNOWN_TYPE: [PassCase; 1] = [PassCase {
-    policy: UNKNOWN_LESS,
-    pass: Pass::EntityTypes,
-    errors: &[WantedError::Name {
-        at: Some(Loc { start: 1, end: 4 }),
-        error: WantedNameError::UnknownType { name: "Unk" },
-    }],
-}];
+impl Asked<'_> {
+    /// What the question comes to, where it is about no check.
+    pub fn about_names(self, subject: Subject) -> Result<Answer, AllocError> {
+        let (alloc, validator, policy) = (self.alloc, self.validator, self.policy);
+        let (schema, template) = (validator.schema(), &*policy.template);
+        match subject {
+            Subject::EntityTypes => {
+                self.found(Validator::validate_entity_types(alloc, schema, template))
+            }
+            Subject::ActionIds => {
+                self.found(Validator::validate_action_ids(alloc, schema, template))
+            }
+            Subject::EnumeratedIds => {
+                self.found(Validator::validate_enum_entity(alloc, schema, template))
+            }
+            Subject::SlotTypes => {
+                let (id, slots) = (&template.id, &policy.values);
+                self.found(validator.validate_entity_types_in_slots(alloc, id, slots))
+            }
+            Subject::Application => {
+                self.applied(&validator.validate_template_action_application(alloc, template)?)
+            }
+            Subject::LinkedApplication => {
+                self.applied(&validator.validate_linked_action_application(alloc, policy)?)
+            }
+            _ => self.principal_types(),
+        }
+    }
 
-/// A type that is not declared, in the scope.
-pub const UNKNOWN_TYPE_IN_SCOPE: [PassCase; 1] = [PassCase {
-    policy: PolicyForm {
-        scope: ScopeForm {
-            text: "permit(principal, action, resource == foo_type::\"foo_name\")",
-            principal: ConstraintForm::Any,
-            action: ActionForm::Any,
-            resource: ConstraintForm::Eq(ReferenceForm::Uid(WrittenUid {
-                entity_type: "foo_type",
-                eid: "foo_name",
-            })),
-        },
-        rest: None,
-    },
-    pass: Pass::EntityTypes,
-    errors: &[WantedError::Name {
-        at: Some(Loc { start: 38, end: 46 }),
-        error: WantedNameError::UnknownType { name: "foo_type" },
-    }],
-}];
+    /// What a pass finds.
+    fn found<I: Iterator<Item = Result<ValidationError, AllocError>> + Drop>(
+        self,
+        pass: I,
+    ) -> Result<Answer, AllocError>
+        requires can { I.can_next pass }
+        requires ends { IsFinite (I.remaining pass) }
+    {
+        let mut answer = Answer::new(self.alloc, String::new(self.alloc));
+        let mut count: usize = 0;
+        for error in pass {
+            push_error(&mut answer.findings, self.text, &error?)?;
+            count = count.saturating_add(1);
+        }
+        write!(answer.outcome, "errors={count}")?;
+        Ok(answer)
+    }
 
-const FOO: WrittenUid = WrittenUid {
-    entity_type: "Action",
-    eid: "foo_name",
-};
+    /// Whether an action applies to what the scope admits.
+    fn applied(self, applied: &Result<(), ValidationWarning>) -> Result<Answer, AllocError> {
+        let mut answer = Answer::new(self.alloc, String::new(self.alloc));
+        match applied {
+            Ok(()) => answer.outcome.push_str("applies")?,
+            Err(warning) => {
+                push_flags(&mut answer.outcome, warning)?;
+                push_warning(&mut answer.findings, self.text, warning)?;
+            }
+        }
+        Ok(answer)
+    }
 
-/// An action that is not declared, in the scope.
-pub const UNKNOWN_ACTION_IN_SCOPE: [PassCase; 1] = [PassCase {
-    policy: PolicyForm {
-        scope: ScopeForm {
-            text: "permit(principal, action == Action::\"foo_name\", resource)",
-            principal: ConstraintForm::Any,
-            action: ActionForm::Eq(FOO),
-            resource: ConstraintForm::Any,
-        },
-        rest: None,
-    },
-    pass: Pass::ActionIds,
-    errors: &[WantedError::Name {
-        at: Some(Loc { start: 28, end: 46 }),
-        error: WantedNameError::UnknownAction { uid: FOO },
-    }],
-}];
+    /// The names of the principal types that the scope admits, sorted by bytes.
+    fn principal_types(self) -> Result<Answer, AllocError> {
+        let (alloc, constraint) = (self.alloc, &self.policy.template.principal_constraint);
+        let types = self
+            .validator
+            .get_principals_satisfying_constraint(alloc, constraint)?;
+        let mut names = Vec::new(alloc);
+        for named in types {
+            names.push(named.to_string(alloc)?)?;
+        }
+        names.sort()?;
+        Ok(Answer::new(alloc, names.as_slice().join(alloc, ",")?))
+    }
+}
 
-const EDIT: WrittenUid = WrittenUid {
-    entity_type: "Action",
-    eid: "edit",
-};
+fn push_flags(shown: &mut String, warning: &ValidationWarning) -> Result<(), AllocError> {
+    match warning {
+        ValidationWarning::InvalidActionApplication(warning) => {
+            let principal = warning.would_in_fix_principal;
+            let resource = warning.would_in_fix_resource;
+            write!(shown, "warning principal={principal} resource={resource}")
+        }
+        other => write!(shown, "{other}"),
+    }
+}
 
-/// The action is compared with the one that there is, and with another.
-pub const ACTIONS: [Case<RestForm>; 2] = [
-    Case {
-        text: "action == Action::\"view\"",
-        form: RestForm::ActionEquals(WrittenUid {
-            entity_type: "Action",
-            eid: "view",
-        }),
-        expected: Expected::Success,
-    },
-    Case {
-        text: "action == Action::\"edit\"",
-        form: RestForm::ActionEquals(EDIT),
-        expected: Expected::Irrelevant,
-    },
-];
-
-/// The second of these.
-pub const ACTION_IS_EDIT: PolicyForm = PolicyForm {
-    scope: ANY,
-    rest: Some(("action == Action::\"edit\"", RestForm::ActionEquals(EDIT))),
-};
-
-/// The action is not declared, and found.
-pub const UNKNOWN_ACTION: [PassCase; 1] = [PassCase {
-    policy: ACTION_IS_EDIT,
-    pass: Pass::ActionIds,
-    errors: &[WantedError::Name {
-        at: Some(Loc { start: 10, end: 24 }),
-        error: WantedNameError::UnknownAction { uid: EDIT },
-    }],
-}];
-
-const RED: WrittenUid = WrittenUid {
-    entity_type: "Color",
-    eid: "red",
-};
-
-const BLUE: WrittenUid = WrittenUid {
-    entity_type: "Color",
-    eid: "blue",
-};
-
-const NO_BLUE: WantedNameError = WantedNameError::NoMember { uid: BLUE };
-
-/// No member of its type, at the beginning of the condition.
-pub const FIRST_BLUE: WantedError = WantedError::Name {
-    at: Some(Loc { start: 0, end: 13 }),
-    error: NO_BLUE,
-};
-
-/// Each occurrence of an id that its type does not have counts.
-pub const NO_MEMBERS: [PassCase; 2] = [
-    PassCase {
-        policy: PolicyForm {
-            scope: ANY,
-            rest: Some((
-                "Color::\"red\" == Color::\"blue\"",
-                RestForm::UidsEqual(RED, BLUE),
-            )),
-        },
-        pass: Pass::EnumEntities,
-        errors: &[WantedError::Name {
-            at: Some(Loc { start: 16, end: 29 }),
-            error: NO_BLUE,
-        }],
-    },
-    PassCase {
-        policy: PolicyForm {
-            scope: ANY,
-            rest: Some((
-                "Color::\"blue\" == Color::\"blue\"",
-                RestForm::UidsEqual(BLUE, BLUE),
-            )),
-        },
-        pass: Pass::EnumEntities,
-        errors: &[FIRST_BLUE, FIRST_BLUE],
-    },
-];
-
-/// A slot that is bound to an entity of a type that is not declared.
-pub const UNKNOWN_TYPE_IN_SLOT: SlotCase = SlotCase {
-    id: "0",
-    bound: WrittenUid {
-        entity_type: "Undefined",
-        eid: "foo",
-    },
-    errors: &[WantedError::Name {
-        at: None,
-        error: WantedNameError::UnknownType { name: "Undefined" },
-    }],
-};
+/// Why there is no table of these functions.
+pub fn refusal(alloc: Global, functions: &str) -> Result<Answer, AllocError> {
+    let outcome = match ExtensionSchemas::new(listed(alloc, functions)?, BTreeSet::new(alloc)) {
+        Ok(_table) => String::from_str(alloc, "a table")?,
+        Err(refusal) => refusal.to_string(alloc)?,
+    };
+    Ok(Answer::new(alloc, outcome))
+}

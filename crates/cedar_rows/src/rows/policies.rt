@@ -1,206 +1,181 @@
-// The rows on whole policies, and what their checks add to empty sets.
-use crate::rows::Report;
-use crate::rows::checks::Case;
-use crate::rows::expected::{Expected, POLICY, are_wanted, policy_id};
-use crate::rows::names::{ACTION_IS_EDIT, UNKNOWN_LESS};
-use crate::rows::wanted_errors::WantedError;
-use crate::rows::wanted_types::WantedType;
-use cedar_fixtures::conditions::Form;
-use cedar_fixtures::policies::RestForm;
-use cedar_fixtures::scopes::{ANY, ScopeForm};
-use cedar_types::base::{
-    ExtensionSchemas, Loc, Template, ValidationError, ValidationMode, ValidationWarning,
-    ValidatorSchema,
-};
-use cedar_typing::typecheck::Typechecker;
-use std::alloc::{AllocError, Global};
-use std::collections::HashSet;
+// The rows on policies in their environments, on names and scopes, and on tables, as texts.
 
-/// A policy: its scope, and its condition, if it has one.
-#[derive(Clone, Copy)]
-pub struct PolicyForm {
-    pub scope: ScopeForm,
-    pub rest: Option<(&'static str, RestForm)>,
-}
-
-impl PolicyForm {
-    pub fn policy(&self, alloc: Global) -> Result<Template, AllocError> {
-        let mut rest = None;
-        if let Some((text, form)) = &self.rest {
-            rest = Some(form.condition(alloc, text)?);
-        }
-        self.scope.policy(alloc, policy_id(alloc)?, rest)
-    }
-}
-
-/// A policy, and what its check in all environments comes to.
-#[derive(Clone, Copy)]
-pub struct WholeCase {
-    pub policy: PolicyForm,
-    pub passes: bool,
-    pub errors: &'static [WantedError],
-    /// Whether there is the warning that it is impossible.
-    pub is_impossible: bool,
-}
+/// A type that is not declared stands where it is never evaluated. It is found all the same.
+pub const UNKNOWN_TYPE: &str = r#"
+? S1 Strict policy: (Unk::"a" < 1) && false
+true errors=0 warnings=1
+! ImpossiblePolicy @ the policy
+for policy `policy0`, policy is impossible: it evaluates to false for every valid request
+? S1 entity types: (Unk::"a" < 1) && false
+errors=1
+! UnrecognizedEntityType @ Unk
+for policy `policy0`, unrecognized entity type `Unk`
+"#;
 
 /// A schema without actions has no environment.
-pub const NO_ENVIRONMENT: WholeCase = WholeCase {
-    policy: PolicyForm {
-        scope: ANY,
-        rest: None,
-    },
-    passes: true,
-    errors: &[],
-    is_impossible: true,
-};
+pub const NO_ENVIRONMENT: &str = r#"
+? S0 Strict policy: permit(principal, action, resource)
+true errors=0 warnings=1
+! ImpossiblePolicy @ the policy
+for policy `policy0`, policy is impossible: it evaluates to false for every valid request
+"#;
+
+/// Users may be in users, so the slot is linked to them twice.
+pub const REPEATED_ENVIRONMENTS: &str = r#"
+? S1 Strict environments: permit(principal in ?principal, action, resource)
+Success; Success
+! User Action::"view" Photo, linked to User and none: Success
+! User Action::"view" Photo, linked to User and none: Success
+"#;
+
+/// The action is on users and widgets, and the scope has entities that they may be in.
+pub const GROUPS_IN_SCOPE: &str = r#"
+? S3 applies: permit(principal == admins::"admin1", action == Action::"act", resource == bin::"bin")
+warning principal=true resource=true
+! InvalidActionApplication @ the policy
+for policy `policy0`, unable to find an applicable action given the policy scope constraints
+"#;
 
 /// A literal at the limit of depth, and one beyond it.
-pub const NESTED: [Case<RestForm>; 2] = [
-    Case {
-        text: "true",
-        form: RestForm::Negated(398),
-        expected: Expected::Success,
-    },
-    Case {
-        text: "true",
-        form: RestForm::Negated(399),
-        expected: Expected::Fail(&[]),
-    },
-];
+pub const NESTING: &str = r#"
+? S1 Strict check: TRUE_UNDER_398
+Success
+? S1 Strict check: TRUE_UNDER_399
+Fail errors=0
+? S1 Strict policy: TRUE_UNDER_399
+false errors=0 warnings=0
+"#;
 
-/// The second of these, in all environments.
-pub const NESTED_TOO_DEEP: WholeCase = WholeCase {
-    policy: PolicyForm {
-        scope: ANY,
-        rest: Some(("true", RestForm::Negated(399))),
-    },
-    passes: false,
-    errors: &[],
-    is_impossible: false,
-};
+/// A function that returns any entity, and a slot that is bound to an entity of a type that is not declared.
+pub const UNKNOWN_TYPE_IN_SLOT: &str = r#"
+? S4 table: f() -> entity
+BadReturnType
+? S4 slot types with Undefined::"foo": permit(principal == ?principal, action, resource)
+errors=1
+! UnrecognizedEntityType @ nowhere
+for policy `0`, unrecognized entity type `Undefined`
+"#;
 
-/// An attribute that users do not have.
-pub const UNDECLARED_READ: PolicyForm = PolicyForm {
-    scope: ANY,
-    rest: Some(("principal.nope == 1", RestForm::UndeclaredCompared)),
-};
+/// A slot may be bound to an entity of any type.
+pub const ANY_TYPE: &str = r#"
+? S4 principal types: permit(principal == ?principal, action, resource)
+User
+"#;
 
-/// Why it is refused.
-pub const UNDECLARED: WantedError = WantedError::UndeclaredAttribute {
-    at: Loc { start: 0, end: 14 },
-    attr: "nope",
-};
+/// A type that is not declared, in the scope.
+pub const UNKNOWN_TYPE_IN_SCOPE: &str = r#"
+? S0 entity types: permit(principal, action, resource == foo_type::"foo_name")
+errors=1
+! UnrecognizedEntityType @ foo_type
+for policy `policy0`, unrecognized entity type `foo_type`
+"#;
 
-/// The same where the action need not be declared.
-pub const UNDECLARED_ATTRIBUTE: WholeCase = WholeCase {
-    policy: UNDECLARED_READ,
-    passes: false,
-    errors: &[UNDECLARED],
-    is_impossible: false,
-};
+/// An action that is not declared, in the scope.
+pub const UNKNOWN_ACTION_IN_SCOPE: &str = r#"
+? S0 action ids: permit(principal, action == Action::"foo_name", resource)
+errors=1
+! UnrecognizedActionId @ Action::"foo_name"
+for policy `policy0`, unrecognized action `Action::"foo_name"`
+"#;
+
+/// In Partial the action need not be declared.
+pub const UNDECLARED_ACTIONS: &str = r#"
+? S1 Partial environments: principal.nope == 1
+Fail errors=1; Success
+! User Action::"view" Photo, linked to none and none: Fail errors=1
+! undeclared: Success
+! UnsafeAttributeAccess Entity @ principal.nope
+for policy `policy0`, attribute `nope` does not exist on `User`
+? S1 Partial policy: principal.nope == 1
+false errors=1 warnings=0
+! UnsafeAttributeAccess Entity @ principal.nope
+for policy `policy0`, attribute `nope` does not exist on `User`
+"#;
+
+/// The action is compared with the one that there is, and with another, which is found.
+pub const UNKNOWN_ACTION: &str = r#"
+? S1 Strict check: action == Action::"view"
+Success
+? S1 Strict check: action == Action::"edit"
+Irrelevant errors=0
+? S1 Strict policy: action == Action::"edit"
+true errors=0 warnings=1
+! ImpossiblePolicy @ the policy
+for policy `policy0`, policy is impossible: it evaluates to false for every valid request
+? S1 action ids: action == Action::"edit"
+errors=1
+! UnrecognizedActionId @ Action::"edit"
+for policy `policy0`, unrecognized action `Action::"edit"`
+"#;
+
+/// Functions of which there is no table. Of several faults the first counts.
+pub const FAULTY_TABLES: &str = r#"
+? S0 table: f() -> {}
+BadReturnType
+? S0 table: f(..) -> Long
+VariadicWithoutArguments
+? S0 table: f(Long) -> Long, f(Long) -> Long
+DuplicateFunction
+? S0 table: f(..) -> Long, f(..) -> Long
+VariadicWithoutArguments
+"#;
+
+/// Users may be in admins, and a widget equals itself alone.
+pub const LINKED_SLOTS: &str = r#"
+? S3 Strict environments: permit(principal in ?principal, action, resource == ?resource)
+Success; Success
+! user Action::"act" widget, linked to admins and widget: Success
+! user Action::"act" widget, linked to user and widget: Success
+"#;
 
 /// A condition that is False, and has an error.
-pub const FALSE_WITH_ERROR: WholeCase = WholeCase {
-    policy: PolicyForm {
-        scope: ANY,
-        rest: Some(("(1 + \"a\") == 2 && false", RestForm::WrongSumAndFalse)),
-    },
-    passes: false,
-    errors: &[WantedError::UnexpectedType {
-        at: Loc { start: 5, end: 8 },
-        expected: &[WantedType::Long],
-        actual: WantedType::String,
-    }],
-    is_impossible: true,
-};
+pub const FALSE_WITH_ERROR: &str = r#"
+? S1 Strict policy: (1 + "a") == 2 && false
+false errors=1 warnings=1
+! UnexpectedType Long but String @ "a"
+for policy `policy0`, unexpected type: expected `Long` but saw `String`
+! ImpossiblePolicy @ the policy
+for policy `policy0`, policy is impossible: it evaluates to false for every valid request
+"#;
 
-/// A part that fails without an error, in a condition that is False.
-pub const UNKNOWN_AND_FALSE: WholeCase = WholeCase {
-    policy: UNKNOWN_LESS,
-    passes: true,
-    errors: &[],
-    is_impossible: true,
-};
+/// Each occurrence of an id that its type does not have counts.
+pub const NO_MEMBERS: &str = r#"
+? S5 enumerated ids: Color::"red" == Color::"blue"
+errors=1
+! InvalidEnumEntity @ Color::"blue"
+for policy `policy0`, entity `Color::"blue"` is not a member of its enumerated type
+? S5 enumerated ids: Color::"blue" == Color::"blue"
+errors=2
+! InvalidEnumEntity @ Color::"blue"
+for policy `policy0`, entity `Color::"blue"` is not a member of its enumerated type
+! InvalidEnumEntity @ Color::"blue"
+for policy `policy0`, entity `Color::"blue"` is not a member of its enumerated type
+"#;
 
-/// An action that is never asked about.
-pub const EDITED: WholeCase = WholeCase {
-    policy: ACTION_IS_EDIT,
-    passes: true,
-    errors: &[],
-    is_impossible: true,
-};
+/// Scopes that an action fits, or for which `in` might help, or might not.
+pub const APPLICATIONS: &str = r#"
+? S3 applies: permit(principal in admins::"a", action, resource)
+applies
+? S3 applies: permit(principal == admins::"a", action, resource)
+warning principal=true resource=false
+! InvalidActionApplication @ the policy
+for policy `policy0`, unable to find an applicable action given the policy scope constraints
+? S3 applies: permit(principal, action in [Action::"gone"], resource)
+warning principal=false resource=false
+! InvalidActionApplication @ the policy
+for policy `policy0`, unable to find an applicable action given the policy scope constraints
+? S3 applies: permit(principal is user in bin::"b", action, resource)
+warning principal=false resource=false
+! InvalidActionApplication @ the policy
+for policy `policy0`, unable to find an applicable action given the policy scope constraints
+"#;
 
-/// Checks the policy in all environments.
-pub fn whole(
-    alloc: Global,
-    schema: &ValidatorSchema,
-    extensions: &ExtensionSchemas,
-    mode: ValidationMode,
-    case: &WholeCase,
-) -> Result<Report, AllocError> {
-    let policy = case.policy.policy(alloc)?;
-    let checker = Typechecker::new(schema, extensions, mode);
-    let mut report = Report::new(alloc);
-    add_check(alloc, &mut report, &checker, &policy, case)?;
-    Ok(report)
-}
-
-/// Adds what the check of the policy comes to, and whether it is the case's.
-fn add_check(
-    alloc: Global,
-    report: &mut Report,
-    checker: &Typechecker<'_>,
-    policy: &Template,
-    case: &WholeCase,
-) -> Result<(), AllocError> {
-    let mut errors = HashSet::new(alloc);
-    let mut warnings = HashSet::new(alloc);
-    let passes = checker.typecheck_policy(alloc, policy, &mut errors, &mut warnings)?;
-    let (found, warned) = (errors.len(), warnings.len());
-    let is_warned = is_warned(alloc, &warnings, case)?;
-    let are_errors = are_wanted(alloc, POLICY, &listed(alloc, errors)?, case.errors)?;
-    let outcome = format!(in alloc; "{passes} errors={found} warnings={warned}")?;
-    report.add(outcome, passes == case.passes && are_errors && is_warned)
-}
-
-fn listed(
-    alloc: Global,
-    errors: HashSet<ValidationError>,
-) -> Result<Vec<ValidationError>, AllocError> {
-    let mut listed = Vec::new(alloc);
-    for error in errors {
-        listed.push(error)?;
-    }
-    Ok(listed)
-}
-
-/// Whether there is the warning that the case wants, and no other.
-fn is_warned(
-    alloc: Global,
-    warnings: &HashSet<ValidationWarning>,
-    case: &WholeCase,
-) -> Result<bool, AllocError> {
-    let mut is_there = false;
-    for warning in warnings {
-        if is_there || !is_impossible(alloc, warning, case)? {
-            return Ok(false);
-        }
-        is_there = true;
-    }
-    Ok(is_there == case.is_impossible)
-}
-
-/// Whether it is the warning that the policy is impossible, its text included.
-fn is_impossible(
-    alloc: Global,
-    warning: &ValidationWarning,
-    case: &WholeCase,
-) -> Result<bool, AllocError> {
-    let text = warning.to_string(alloc)?;
-    let place = case.policy.scope.place();
-    let wanted = ValidationWarning::impossible_policy(place, policy_id(alloc)?);
-    Ok(*warning == wanted && text.as_str() == IMPOSSIBLE)
-}
-
-const IMPOSSIBLE: &str =
-    "for policy `policy0`, policy is impossible: it evaluates to false for every valid request";
+/// The slot is bound to a group, and then to a user.
+pub const LINKED_APPLICATIONS: &str = r#"
+? S3 applies linked with admins::"a": permit(principal == ?principal, action, resource)
+warning principal=true resource=false
+! InvalidActionApplication @ the policy
+for policy `policy0`, unable to find an applicable action given the policy scope constraints
+? S3 applies linked with user::"u": permit(principal == ?principal, action, resource)
+applies
+"#;

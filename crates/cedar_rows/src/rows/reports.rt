@@ -24,13 +24,4 @@ impl Report {
         self.is_expected = self.is_expected && is_expected;
         Ok(())
     }
-
-    /// Adds what another report has.
-    pub fn append(&mut self, other: Report) -> Result<(), AllocError> {
-        for outcome in other.outcomes {
-            self.outcomes.push(outcome)?;
-        }
-        self.is_expected = self.is_expected && other.is_expected;
-        Ok(())
-    }
 }

@@ -1,0 +1,95 @@
+// What a step asks, as its first line says it.
+use crate::schemas::schema_named;
+use cedar_types::base::ValidationMode;
+
+/// The first line of a step: `S1 Strict check: principal.bool`.
+#[derive(Clone, Copy)]
+pub struct Question<'a> {
+    /// The text of the schema.
+    pub schema: &'static str,
+    pub table: Table,
+    pub subject: Subject,
+    /// What `?principal` is bound to.
+    pub bound: Option<&'a str>,
+    /// What is asked about: a policy, or its condition alone, or functions.
+    pub text: &'a str,
+}
+
+/// The table of extension functions that a policy is typed by.
+#[derive(Clone, Copy)]
+pub enum Table {
+    X1,
+    X2,
+}
+
+/// What is asked.
+#[derive(Clone, Copy)]
+pub enum Subject {
+    /// The check in the first environment of the schema.
+    Check(ValidationMode),
+    /// The checks in all environments.
+    Environments(ValidationMode),
+    /// What the check of the policy adds to empty sets.
+    Policy(ValidationMode),
+    /// The entity types that the schema does not know.
+    EntityTypes,
+    /// The actions that it does not declare.
+    ActionIds,
+    /// The ids that their enumerated type does not have.
+    EnumeratedIds,
+    /// The entity types of what slots are bound to, in a policy of the id `0`.
+    SlotTypes,
+    /// Whether an action applies to what the scope admits.
+    Application,
+    /// The same with the slots bound.
+    LinkedApplication,
+    /// The principal types that the scope admits.
+    PrincipalTypes,
+    /// Why there is no table of these functions.
+    Refusal,
+}
+
+impl<'a> Question<'a> {
+    /// Reads it. `None` where it is none.
+    pub fn read(line: &'a str) -> Option<Question<'a>> {
+        let (head, text) = line.split_once(": ")?;
+        let (schema, subject) = head.split_once(' ')?;
+        let (table, subject) = match subject.strip_prefix("X2 ") {
+            Some(subject) => (Table::X2, subject),
+            None => (Table::X1, subject),
+        };
+        let (subject, bound) = match subject.split_once(" with ") {
+            Some((subject, bound)) => (subject, Some(bound)),
+            None => (subject, None),
+        };
+        Some(Question {
+            schema: schema_named(schema)?,
+            table,
+            subject: Subject::named(subject)?,
+            bound,
+            text,
+        })
+    }
+}
+
+impl Subject {
+    fn named(name: &str) -> Option<Subject> {
+        match name {
+            "Strict check" => Some(Subject::Check(ValidationMode::Strict)),
+            "Permissive check" => Some(Subject::Check(ValidationMode::Permissive)),
+            "Strict environments" => Some(Subject::Environments(ValidationMode::Strict)),
+            "Partial environments" => Some(Subject::Environments(ValidationMode::Partial)),
+            "Strict policy" => Some(Subject::Policy(ValidationMode::Strict)),
+            "Partial policy" => Some(Subject::Policy(ValidationMode::Partial)),
+            "entity types" => Some(Subject::EntityTypes),
+            "action ids" => Some(Subject::ActionIds),
+            "enumerated ids" => Some(Subject::EnumeratedIds),
+            "slot types" => Some(Subject::SlotTypes),
+            "applies" => Some(Subject::Application),
+            "applies linked" => Some(Subject::LinkedApplication),
+            "principal types" => Some(Subject::PrincipalTypes),
+            "table" => Some(Subject::Refusal),
+            _ => None,
+        }
+    }
+}

@@ -1,0 +1,153 @@
+// A row as a text: what it asks, in order, and what it expects.
+use crate::rows::answers::{Answer, Asked};
+use crate::rows::names::refusal;
+use crate::rows::{Report, Row};
+use cedar_fixtures::questions::{Question, Subject, Table};
+use cedar_reading::{Fault, ReadError, SchemaReadError, schema, uid_alone, whole_policy};
+use cedar_typechecker::rbac::Validator;
+use cedar_types::base::{ExtensionSchemas, Policy, PolicyID, SlotEnv, SlotId, ValidatorSchema};
+use std::alloc::{AllocError, Global};
+use std::rc::Rc;
+
+/// What stands before each step.
+const BEFORE_STEP: &str = "\n? ";
+
+/// A row: steps, each of which begins behind `? ` with what is asked. On its next line stands what
+/// the program prints, and behind `! ` each finding, as often as it is found, in any order. Beside
+/// the text stands what words in it stand for.
+#[derive(Clone, Copy)]
+pub struct Steps(pub &'static str, pub &'static [Nested]);
+
+/// A word, and what it stands for: a text within others.
+#[derive(Clone, Copy)]
+pub struct Nested {
+    pub word: &'static str,
+    /// What stands before the inner text and behind it, each so many times.
+    pub around: [&'static str; 2],
+    pub times: usize,
+    pub inner: &'static str,
+}
+
+impl Nested {
+    fn text(&self, alloc: Global) -> Result<String, AllocError> {
+        let [before, after] = self.around;
+        let before = before.repeat(alloc, self.times)?;
+        let after = after.repeat(alloc, self.times)?;
+        let inner = self.inner;
+        format!(in alloc; "{before}{inner}{after}")
+    }
+}
+
+impl Steps {
+    /// The text with what its words stand for.
+    fn written(&self, alloc: Global) -> Result<String, AllocError> {
+        let mut text = String::from_str(alloc, self.0)?;
+        for nested in self.1 {
+            text = text.replace(alloc, nested.word, nested.text(alloc)?.as_str())?;
+        }
+        Ok(text)
+    }
+}
+
+impl Row for Steps {
+    fn report(
+        &self,
+        alloc: Global,
+        x1: &ExtensionSchemas,
+        x2: &ExtensionSchemas,
+    ) -> Result<Report, AllocError> {
+        let text = self.written(alloc)?;
+        let mut report = Report::new(alloc);
+        let steps = text.as_str();
+        let steps = steps.strip_prefix(BEFORE_STEP).unwrap_or(steps);
+        for step in steps.split(BEFORE_STEP) {
+            match judged(alloc, step.trim_end(), x1, x2) {
+                Ok((outcome, is_expected)) => report.add(outcome, is_expected)?,
+                Err(ReadError::Memory(error)) => return Err(error),
+                Err(ReadError::At(_, fault)) => report.add(fault.to_string(alloc)?, false)?,
+            }
+        }
+        Ok(report)
+    }
+}
+
+/// What a step comes to, and whether that is what it expects.
+fn judged(
+    alloc: Global,
+    step: &str,
+    x1: &ExtensionSchemas,
+    x2: &ExtensionSchemas,
+) -> Result<(String, bool), ReadError> {
+    let (line, expected) = step.split_once('\n').unwrap_or((step, ""));
+    let Some(question) = Question::read(line) else {
+        return Err(ReadError::At(0, Fault::Expected("a question")));
+    };
+    let table = match question.table {
+        Table::X1 => x1,
+        Table::X2 => x2,
+    };
+    let answer = answer_to(alloc, question, table)?;
+    let is_expected = answer.is(alloc, expected)?;
+    Ok((answer.outcome, is_expected))
+}
+
+fn answer_to(
+    alloc: Global,
+    question: Question<'_>,
+    table: &ExtensionSchemas,
+) -> Result<Answer, ReadError> {
+    if let Subject::Refusal = question.subject {
+        return Ok(refusal(alloc, question.text)?);
+    }
+    let text = policy_text(alloc, question.text)?;
+    let policy = bound_policy(alloc, text.as_str(), question)?;
+    let validator = Validator::new(read_schema(alloc, question.schema)?, table);
+    let asked = Asked {
+        alloc,
+        validator: &validator,
+        policy: &policy,
+        text: text.as_str(),
+    };
+    Ok(asked.about(question.subject)?)
+}
+
+/// The text of a policy, of which this may be the condition alone.
+fn policy_text(alloc: Global, text: &str) -> Result<String, AllocError> {
+    if text.starts_with("permit(") {
+        format!(in alloc; "{text};")
+    } else {
+        format!(in alloc; "permit(principal, action, resource) when {{ {text} }};")
+    }
+}
+
+/// The policy of this text, with its slot bound.
+fn bound_policy(alloc: Global, text: &str, question: Question<'_>) -> Result<Policy, ReadError> {
+    let values = values_of(alloc, question.bound)?;
+    let id = match question.subject {
+        Subject::SlotTypes => PolicyID::from_string(alloc, "0")?,
+        _ => PolicyID::from_string(alloc, "policy0")?,
+    };
+    let mut template = whole_policy(alloc, text)?;
+    template.id = id;
+    Ok(Policy {
+        template: Rc::new(alloc, template)?,
+        values,
+    })
+}
+
+/// What binds `?principal` to this, if anything.
+fn values_of(alloc: Global, bound: Option<&str>) -> Result<SlotEnv, ReadError> {
+    let mut values = SlotEnv::new(alloc);
+    if let Some(bound) = bound {
+        drop(values.insert(SlotId::Principal, uid_alone(alloc, bound)?)?);
+    }
+    Ok(values)
+}
+
+fn read_schema(alloc: Global, text: &str) -> Result<ValidatorSchema, ReadError> {
+    match schema(alloc, text) {
+        Ok(schema) => Ok(schema),
+        Err(SchemaReadError::Read(error)) => Err(error),
+        Err(_) => Err(ReadError::At(0, Fault::Expected("a schema without faults"))),
+    }
+}
