@@ -1,4 +1,4 @@
-// Errors and warnings as texts that leave nothing of them open.
+// Errors and warnings as texts, which leave open nothing in which those of rows could differ.
 ghost use Rattle.std.specs.Prelude.{◌≡◌, IfSome, slice_range};
 
 use cedar_types::base::{
