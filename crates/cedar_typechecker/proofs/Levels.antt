@@ -17,3 +17,5 @@ pub mod TypedParts
 pub mod Typing
 pub mod TypedViews
 pub mod Keys
+pub mod Tallies
+pub mod Outcomes

@@ -13,3 +13,6 @@ pub mod Shared
 pub mod InOrder
 pub mod Paths
 pub mod Views
+pub mod Answers
+pub mod Outcome
+pub mod Tallies

@@ -1,0 +1,24 @@
+use Rattle.std.proofs.Common.{◌≡◌, List, map, sym, subst}
+use Rattle.cedar_types.specs.declared.base.errors.validation_errors.ValidationError.{ValidationError}
+use Rattle.cedar_types.specs.contracts.base.errors.validation_errors.ValidationErrorPartialEq.TheImpl as error_impl
+use Rattle.cedar_types.specs.Errors.{Finding, finding_of}
+use Rattle.cedar_typing.specs.PolicyOutcome.{Adds}
+use Rattle.cedar_typing.specs.TypedExpr.{typed_tree}
+use Rattle.cedar_typing.proofs.Gains.{union_adds}
+use Rattle.cedar_typing.proofs.Tallies.{error_decides}
+use Rattle.cedar_typechecker.specs.Levels.InOrder.{add_errors}
+use Rattle.cedar_typechecker.specs.Levels.Views.{setting_of, findings}
+use Rattle.cedar_typechecker.proofs.level_validate.tally.LevelTally.take_in_levels.Goals as goal
+
+pub returns-clause-levels : goal.returns-clause-levels
+returns-clause-levels c =
+    let old = c.args.self.now.level_errors.keys in
+    let new = c.insert_all.new.set.keys in
+    let found = c.check.new.errors.items in
+    let walked : List ValidationError → Type 0 = λ xs. add_errors (setting_of c.args.walk.now)
+    (typed_tree c.args.condition.now) (findings xs) ≡ findings found in
+    let from_none = subst walked c.new-found.ensures.items c.in_ok-check.ensures in
+    let gained = union_adds error_impl.ghosts.eq finding_of error_decides old found new
+    c.in_ok-insert_all.ensures in
+    let P : List Finding → Type 0 = λ es. Adds (map finding_of old) es (map finding_of new) in
+    subst P (sym from_none) gained

@@ -1,0 +1,5 @@
+use Rattle.std.specs.Set.{IsUnion}
+use Rattle.cedar_typechecker.proofs.level_validate.tally.insert_all.Given as goal
+
+abbrev pub invariant-loop-x : goal.invariant-loop-x
+invariant-loop-x g l = IsUnion g.E.PartialEq.eq l.initial.set.keys l.yielded l.set.keys

@@ -1,0 +1,179 @@
+// The validation of a policy with levels.
+ghost use Rattle.std.specs.Prelude.{◌≡◌, ◌++◌, IfOk, OnOk, IsPermutation, map, cond, [], ◌∷◌};
+ghost use Rattle.cedar_types.specs.Errors.{caution_of};
+ghost use Rattle.cedar_types.specs.Linking.{checked_envs};
+ghost use Rattle.cedar_types.specs.SchemaContents.{schema_of};
+ghost use Rattle.cedar_types.specs.Templates.{template_of};
+ghost use Rattle.cedar_typing.specs.PolicyOutcome.{impossible};
+ghost use Rattle.cedar_typechecker.specs.Levels.Answers.{level_errors_left, level_warnings_left};
+ghost use Rattle.cedar_typechecker.specs.Levels.Outcome.{ChecksOn, levels_on, name_findings, application_warnings, AreApart, LevelOutcome};
+ghost use Rattle.cedar_typechecker.specs.Levels.Tallies.{basis_in, TalliesLevels};
+ghost use Rattle.cedar_typechecker.specs.Levels.Views.{findings};
+ghost use Rattle.cedar_typechecker.specs.Passes.{errors_left};
+ghost use Rattle.cedar_typechecker.specs.ValidatorViews.{schema_in};
+
+use crate::level_validate::answers::{LevelErrors, LevelWarnings};
+use crate::level_validate::tally::LevelTally;
+use crate::level_validate::walk::LevelWalk;
+use crate::rbac::{LiteralErrors, Validator};
+use cedar_types::base::{
+    ArgumentCheck, ImpossiblePolicy, Template, ValidationError, ValidationMode, ValidationWarning,
+};
+use cedar_typing::typecheck::Typechecker;
+use std::alloc::{AllocError, Global};
+use std::collections::HashSet;
+
+impl<C: ArgumentCheck> Validator<'_, C> {
+    /// Validates a policy in a mode, and says where it dereferences more than `max_deref_level` entities, one after another
+    /// (RFC 76).
+    ///
+    /// The errors are, in Strict and in Permissive, each finding of the passes over the names of the template; in each mode
+    /// each error of its check in some environment, once; and each level error of an environment whose check does not fail,
+    /// once. The warnings are that no action fits the scope, in Strict and in Permissive, and that the policy is impossible:
+    /// irrelevant in each environment. Each environment is typed once, and one typed condition is held at a time.
+    ///
+    /// No error does not mean that the policy passes: where it is nested too deep, its check fails without one.
+    /// Where memory is refused, the answer is an `AllocError`.
+    pub fn validate_policy_with_level(
+        &self,
+        alloc: Global,
+        p: &Template,
+        mode: ValidationMode,
+        max_deref_level: u32,
+    ) -> Result<(LevelErrors, LevelWarnings), AllocError>
+        ensures { IfOk result (λ r.
+            LevelOutcome (basis_in C.refusal self.now mode) (template_of p.now) max_deref_level
+            (level_errors_left r.0) (level_warnings_left r.1)) }
+    {
+        let tally = self.level_tally(alloc, p, mode, max_deref_level)?;
+        let mut errors = self.name_errors(alloc, p, mode)?;
+        append(&mut errors, tally.type_errors)?;
+        append(&mut errors, tally.level_errors)?;
+        let warnings = self.level_warnings(alloc, p, mode, tally.all_irrelevant)?;
+        let errors = LevelErrors {
+            errors: errors.into_iter(),
+        };
+        let warnings = LevelWarnings {
+            warnings: warnings.into_iter(),
+        };
+        Ok((errors, warnings))
+    }
+
+    /// What the checks of the policy in its environments find, and the walks over what they typed.
+    fn level_tally(
+        &self,
+        alloc: Global,
+        p: &Template,
+        mode: ValidationMode,
+        maximum: u32,
+    ) -> Result<LevelTally, AllocError>
+        ensures { IfOk result (
+            TalliesLevels (ChecksOn (basis_in C.refusal self.now mode) (template_of p.now))
+            (levels_on (basis_in C.refusal self.now mode) (template_of p.now) maximum)
+            (checked_envs (schema_of (schema_in self.now)) mode (template_of p.now))) }
+    {
+        let checker = Typechecker::new(&self.schema, self.extensions, mode);
+        let mut tally = LevelTally {
+            type_errors: HashSet::new(alloc),
+            level_errors: HashSet::new(alloc),
+            all_irrelevant: true,
+        };
+        for item in checker.typecheck_by_request_env(alloc, p)? {
+            let (env, check) = item?;
+            let action = env.action_entity_uid();
+            drop(env);
+            let walk = LevelWalk {
+                alloc,
+                schema: &self.schema,
+                action,
+                policy_id: &p.id,
+                maximum,
+            };
+            tally.take_in(&walk, check)?;
+        }
+        Ok(tally)
+    }
+
+    /// The findings of the passes over the names, in the modes that make them.
+    fn name_errors(
+        &self,
+        alloc: Global,
+        p: &Template,
+        mode: ValidationMode,
+    ) -> Result<Vec<ValidationError>, AllocError>
+        ensures { IfOk result (λ found. IsPermutation (findings found.items)
+            (name_findings mode (schema_of (schema_in self.now)) (template_of p.now))) }
+    {
+        let mut found = Vec::new(alloc);
+        if mode == ValidationMode::Partial {
+            return Ok(found);
+        }
+        let schema = &self.schema;
+        collect(
+            &mut found,
+            Validator::validate_enum_entity(alloc, schema, p),
+        )?;
+        collect(
+            &mut found,
+            Validator::validate_entity_types(alloc, schema, p),
+        )?;
+        collect(&mut found, Validator::validate_action_ids(alloc, schema, p))?;
+        Ok(found)
+    }
+
+    fn level_warnings(
+        &self,
+        alloc: Global,
+        p: &Template,
+        mode: ValidationMode,
+        is_impossible: bool,
+    ) -> Result<Vec<ValidationWarning>, AllocError>
+        ensures { IfOk result (λ found. map caution_of found.items
+            ≡ application_warnings mode (schema_of (schema_in self.now)) (template_of p.now)
+            ++ cond is_impossible (impossible (template_of p.now) ∷ []) []) }
+    {
+        let mut found = Vec::new(alloc);
+        if mode != ValidationMode::Partial {
+            if let Err(warning) = self.validate_template_action_application(alloc, p)? {
+                found.push(warning)?;
+            }
+        }
+        if is_impossible {
+            found.push(impossible_policy(p)?)?;
+        }
+        Ok(found)
+    }
+}
+
+/// Adds all that is left of a pass.
+fn collect(found: &mut Vec<ValidationError>, pass: LiteralErrors<'_>) -> Result<(), AllocError>
+    ensures { OnOk result (
+        findings found.new.items ≡ findings found.old.items ++ errors_left pass.entry) }
+{
+    for error in pass {
+        found.push(error?)?;
+    }
+    Ok(())
+}
+
+/// Adds each member of a set, once.
+fn append(found: &mut Vec<ValidationError>, set: HashSet<ValidationError>) -> Result<(), AllocError>
+    ensures all { OnOk result (
+        findings found.new.items ≡ findings found.old.items ++ findings set.keys) }
+    ensures once { OnOk result (AreApart (findings set.keys)) }
+{
+    for error in set {
+        found.push(error)?;
+    }
+    Ok(())
+}
+
+/// The warning that this policy is impossible.
+fn impossible_policy(p: &Template) -> Result<ValidationWarning, AllocError>
+    ensures { IfOk result (λ w. caution_of w ≡ impossible (template_of p.now)) }
+{
+    Ok(ValidationWarning::ImpossiblePolicy(ImpossiblePolicy {
+        source_loc: p.loc,
+        policy_id: p.id.clone()?,
+    }))
+}
