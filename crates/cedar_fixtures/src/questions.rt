@@ -11,7 +11,7 @@ pub struct Question<'a> {
     pub subject: Subject,
     /// What `?principal` is bound to.
     pub bound: Option<&'a str>,
-    /// What is asked about: a policy, or its condition alone, or functions.
+    /// What is asked about: a policy, or its condition alone, or functions, or a chain.
     pub text: &'a str,
 }
 
@@ -31,6 +31,10 @@ pub enum Subject {
     Environments(ValidationMode),
     /// What the check of the policy adds to empty sets.
     Policy(ValidationMode),
+    /// What the validation with levels finds, where this is the greatest level.
+    Level(ValidationMode, u32),
+    /// What a chain of attributes costs, behind its root: `User.user.bool`.
+    ChainCost,
     /// The entity types that the schema does not know.
     EntityTypes,
     /// The actions that it does not declare.
@@ -74,6 +78,10 @@ impl<'a> Question<'a> {
 
 impl Subject {
     fn named(name: &str) -> Option<Subject> {
+        if let Some((mode, level)) = name.split_once(" level ") {
+            let level = level.parse::<u32>().ok()?;
+            return Some(Subject::Level(mode_named(mode)?, level));
+        }
         match name {
             "Strict check" => Some(Subject::Check(ValidationMode::Strict)),
             "Permissive check" => Some(Subject::Check(ValidationMode::Permissive)),
@@ -81,6 +89,7 @@ impl Subject {
             "Partial environments" => Some(Subject::Environments(ValidationMode::Partial)),
             "Strict policy" => Some(Subject::Policy(ValidationMode::Strict)),
             "Partial policy" => Some(Subject::Policy(ValidationMode::Partial)),
+            "chain cost" => Some(Subject::ChainCost),
             "entity types" => Some(Subject::EntityTypes),
             "action ids" => Some(Subject::ActionIds),
             "enumerated ids" => Some(Subject::EnumeratedIds),
@@ -91,5 +100,14 @@ impl Subject {
             "table" => Some(Subject::Refusal),
             _ => None,
         }
+    }
+}
+
+fn mode_named(name: &str) -> Option<ValidationMode> {
+    match name {
+        "Strict" => Some(ValidationMode::Strict),
+        "Permissive" => Some(ValidationMode::Permissive),
+        "Partial" => Some(ValidationMode::Partial),
+        _ => None,
     }
 }

@@ -1,7 +1,10 @@
 // The worked rows.
 pub mod answers;
+pub mod chains;
 pub mod checks;
 pub mod conditions;
+pub mod dereferences;
+pub mod levels;
 pub mod listed;
 pub mod names;
 pub mod policies;

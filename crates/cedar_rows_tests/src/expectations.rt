@@ -1,6 +1,7 @@
 // Whether what a step came to is taken for what it expects, and for nothing else.
 use crate::tables::{x1, x2};
 use crate::wrong_expectations::{ERRORS, NAMES, OUTCOMES, UNREAD, WARNINGS};
+use crate::wrong_levels::{LEVELS, OUTCOMES_AT_LEVELS, UNREAD_LEVELS};
 use cedar_rows::rows::{Report, Row, Steps, WORKED};
 use std::alloc::Global;
 use std::process::Abort;
@@ -32,6 +33,22 @@ no environment
 Fail errors=1
 ! UnsafeTagAccess AnyEntity @ ?principal.getTag("t")
 for policy `policy0`, access to a tag of `entity` is not guarded
+? S1 Partial level 0: principal.bool
+errors=2 warnings=0
+! MaximumLevelExceeded @ principal.bool
+for policy `policy0`, this policy requires level 1, which exceeds the maximum allowed level (0)
+! InternalInvariantViolation @ principal.bool
+for policy `policy0`, internal invariant violated
+? S3 Strict level 0: permit(principal == admins::"a", action, resource)
+errors=0 warnings=2
+! InvalidActionApplication @ the policy
+for policy `policy0`, unable to find an applicable action given the policy scope constraints
+! ImpossiblePolicy @ the policy
+for policy `policy0`, policy is impossible: it evaluates to false for every valid request
+? S1 chain cost: Nope.user.user
+1
+? S1 chain cost: User.nope.user
+1
 "#;
 
 /// What comes of a row of this text.
@@ -54,7 +71,7 @@ fn expected_outcome(step: &str) -> &str {
 
 #[test]
 fn other_findings_are_not_taken_for_it(rt: HostRuntime) -> Result<(), Fail> {
-    for text in [ERRORS, NAMES, WARNINGS] {
+    for text in [ERRORS, NAMES, WARNINGS, LEVELS] {
         for step in text.split("\n? ").skip(1) {
             let report = report_of(rt.alloc(), step)?;
             let outcome = report.outcomes.as_slice().join(rt.alloc(), "; ")?;
@@ -67,7 +84,12 @@ fn other_findings_are_not_taken_for_it(rt: HostRuntime) -> Result<(), Fail> {
 
 #[test]
 fn other_outcomes_are_not_taken_for_it(rt: HostRuntime) -> Result<(), Fail> {
-    for (text, is_read) in [(OUTCOMES, true), (UNREAD, false)] {
+    for (text, is_read) in [
+        (OUTCOMES, true),
+        (OUTCOMES_AT_LEVELS, true),
+        (UNREAD, false),
+        (UNREAD_LEVELS, false),
+    ] {
         for step in text.split("\n? ").skip(1) {
             let report = report_of(rt.alloc(), step)?;
             let outcome = report.outcomes.as_slice().join(rt.alloc(), "; ")?;
@@ -103,10 +125,10 @@ fn each_step_of_a_row_counts(rt: HostRuntime) -> Result<(), Fail> {
     Ok(())
 }
 
-/// Whether a step is about a set of errors.
+/// Whether a step is about a set of errors, as a level run is where no name is unknown.
 fn is_of_set(step: &str) -> bool {
     let (line, _) = step.split_once('\n').unwrap_or((step, ""));
-    line.contains(" policy: ")
+    line.contains(" policy: ") || line.contains(" level ")
 }
 
 /// Whether a step expects a finding twice.

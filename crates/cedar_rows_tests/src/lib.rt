@@ -10,3 +10,5 @@ mod runs;
 mod tables;
 #[cfg(test)]
 mod wrong_expectations;
+#[cfg(test)]
+mod wrong_levels;

@@ -13,6 +13,14 @@ const USAGE: &[u8] = b"usage: cedar-check [ROW]\n";
 
 /// The line of each row that is built, in order.
 const BUILT: &str = "\
+row 1: errors=0 warnings=0; ok\n\
+row 2: errors=1 warnings=0; errors=0 warnings=0; ok\n\
+row 3: errors=1 warnings=0; errors=0 warnings=0; ok\n\
+row 4: errors=1 warnings=0; errors=0 warnings=0; ok\n\
+row 5: errors=1 warnings=0; errors=0 warnings=0; ok\n\
+row 6: errors=1 warnings=0; ok\n\
+row 7: errors=0 warnings=1; ok\n\
+row 8: errors=1 warnings=0; errors=0 warnings=0; ok\n\
 row 9: true errors=0 warnings=1; errors=1; ok\n\
 row 10: Success; Fail errors=1; ok\n\
 row 11: true errors=0 warnings=1; ok\n\
@@ -20,11 +28,17 @@ row 12: Fail errors=1; ok\n\
 row 13: Success; Success; ok\n\
 row 14: warning principal=true resource=true; ok\n\
 row 15: Success; Fail errors=0; false errors=0 warnings=0; ok\n\
+row 16: 1; 0; 2; 0; 1; ok\n\
 row 17: Irrelevant errors=0; Fail errors=1; Fail errors=1; ok\n\
+row 18: errors=1 warnings=0; errors=0 warnings=0; ok\n\
 row 19: BadReturnType; errors=1; ok\n\
 row 20: User; ok\n\
 row 21: errors=1; ok\n\
 row 22: errors=1; ok\n\
+row 23: errors=1 warnings=0; errors=0 warnings=0; ok\n\
+row 24: errors=1 warnings=0; ok\n\
+row 25: errors=0 warnings=0; errors=1 warnings=0; errors=0 warnings=0; ok\n\
+row 26: errors=1 warnings=0; errors=0 warnings=0; ok\n\
 row 27: Fail errors=1; Fail errors=1; Fail errors=1; Fail errors=1; ok\n\
 row 28: Success; Fail errors=1; Irrelevant errors=0; ok\n\
 row 29: Fail errors=1; Success; false errors=1 warnings=0; ok\n\
@@ -46,7 +60,14 @@ row 40: errors=1; errors=2; ok\n\
 row 41: applies; warning principal=true resource=false; warning principal=false resource=false; \
     warning principal=false resource=false; ok\n\
 row 42: warning principal=true resource=false; applies; ok\n\
+row 43: errors=1 warnings=1; errors=0 warnings=1; ok\n\
+row 44: errors=1 warnings=0; errors=0 warnings=0; ok\n\
+row 47: 10000; ok\n\
+row 48: errors=1 warnings=0; errors=0 warnings=0; ok\n\
+row 51: Success; Fail errors=1; Success; errors=1 warnings=0; ok\n\
 row 52: Success; Fail errors=1; Success; Success; Success; Fail errors=1; ok\n\
+row 54: errors=1 warnings=0; errors=0 warnings=0; ok\n\
+row 55: errors=1 warnings=0; errors=0 warnings=0; errors=1 warnings=0; errors=0 warnings=0; ok\n\
 ";
 
 /// The ways in which a row can end.
@@ -192,7 +213,7 @@ fn a_word_that_is_no_row_and_a_second_word_get_the_usage(rt: HostRuntime) -> Res
     for words in [
         ["x"].as_slice(),
         ["07"].as_slice(),
-        ["1"].as_slice(),
+        ["53"].as_slice(),
         ["310"].as_slice(),
         ["1", "2"].as_slice(),
     ] {

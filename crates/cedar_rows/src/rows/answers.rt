@@ -57,12 +57,13 @@ pub fn in_order(alloc: Global, text: &str, between: &str) -> Result<String, Allo
 }
 
 impl Asked<'_> {
-    /// What the question comes to. Functions are not asked about here.
+    /// What the question comes to. Functions and chains are not asked about here.
     pub fn about(self, subject: Subject) -> Result<Answer, AllocError> {
         match subject {
             Subject::Check(mode) => self.in_first_environment(mode),
             Subject::Environments(mode) => self.in_environments(mode),
             Subject::Policy(mode) => self.in_all(mode),
+            Subject::Level(mode, level) => self.at_level(mode, level),
             _ => self.about_names(subject),
         }
     }

@@ -1,5 +1,5 @@
 // The rows that are built, by their names.
-use crate::rows::{NamedRow, Nested, Steps, conditions, policies};
+use crate::rows::{NamedRow, Nested, Steps, conditions, dereferences, policies};
 
 /// `true` under so many negations that it stands at the limit of depth, and beyond it.
 const NEGATIONS: [Nested; 2] = [
@@ -17,8 +17,65 @@ const NEGATIONS: [Nested; 2] = [
     },
 ];
 
+/// A chain of so many attributes, behind its root and alone.
+const USERS: [Nested; 2] = [
+    Nested {
+        word: "USER_AND_10000",
+        around: ["", ".user"],
+        times: 10_000,
+        inner: "User",
+    },
+    Nested {
+        word: "ATTRIBUTES_300",
+        around: ["user.", ""],
+        times: 299,
+        inner: "user",
+    },
+];
+
+/// An access under so many conditionals. Parentheses would make the same tree, but reading them is
+/// too deep.
+const CONDITIONALS: [Nested; 1] = [Nested {
+    word: "ACCESS_UNDER_64",
+    around: ["if true then ", " else false"],
+    times: 64,
+    inner: "principal.bool",
+}];
+
 /// The rows, in the order in which they run.
-pub const WORKED: [NamedRow<Steps>; 29] = [
+pub const WORKED: [NamedRow<Steps>; 50] = [
+    NamedRow {
+        name: "1",
+        row: Steps(dereferences::NO_DEREFERENCE, &[]),
+    },
+    NamedRow {
+        name: "2",
+        row: Steps(dereferences::ONE_ACCESS, &[]),
+    },
+    NamedRow {
+        name: "3",
+        row: Steps(dereferences::ACTION_LITERAL, &[]),
+    },
+    NamedRow {
+        name: "4",
+        row: Steps(dereferences::OTHER_KEY, &[]),
+    },
+    NamedRow {
+        name: "5",
+        row: Steps(dereferences::CONDITIONAL_TARGET, &[]),
+    },
+    NamedRow {
+        name: "6",
+        row: Steps(dereferences::ENTITY_LITERALS, &[]),
+    },
+    NamedRow {
+        name: "7",
+        row: Steps(dereferences::DROPPED_ACCESS, &[]),
+    },
+    NamedRow {
+        name: "8",
+        row: Steps(dereferences::CHAIN_OF_TESTS, &[]),
+    },
     NamedRow {
         name: "9",
         row: Steps(policies::UNKNOWN_TYPE, &[]),
@@ -48,8 +105,16 @@ pub const WORKED: [NamedRow<Steps>; 29] = [
         row: Steps(policies::NESTING, &NEGATIONS),
     },
     NamedRow {
+        name: "16",
+        row: Steps(dereferences::CHAIN_COSTS, &[]),
+    },
+    NamedRow {
         name: "17",
         row: Steps(conditions::SIDES_WITHOUT_BOUND, &[]),
+    },
+    NamedRow {
+        name: "18",
+        row: Steps(dereferences::GREATEST_LEVEL, &[]),
     },
     NamedRow {
         name: "19",
@@ -66,6 +131,22 @@ pub const WORKED: [NamedRow<Steps>; 29] = [
     NamedRow {
         name: "22",
         row: Steps(policies::UNKNOWN_ACTION_IN_SCOPE, &[]),
+    },
+    NamedRow {
+        name: "23",
+        row: Steps(dereferences::LEFT_OF_TRUE, &[]),
+    },
+    NamedRow {
+        name: "24",
+        row: Steps(dereferences::THROUGH_RECORD, &[]),
+    },
+    NamedRow {
+        name: "25",
+        row: Steps(dereferences::CHAINS_FROM_RECORDS, &[]),
+    },
+    NamedRow {
+        name: "26",
+        row: Steps(dereferences::ARGUMENT, &[]),
     },
     NamedRow {
         name: "27",
@@ -132,7 +213,35 @@ pub const WORKED: [NamedRow<Steps>; 29] = [
         row: Steps(policies::LINKED_APPLICATIONS, &[]),
     },
     NamedRow {
+        name: "43",
+        row: Steps(dereferences::IMPOSSIBLE, &[]),
+    },
+    NamedRow {
+        name: "44",
+        row: Steps(dereferences::EQUAL_ENVIRONMENTS, &[]),
+    },
+    NamedRow {
+        name: "47",
+        row: Steps(dereferences::LONG_CHAIN, &USERS),
+    },
+    NamedRow {
+        name: "48",
+        row: Steps(dereferences::LONG_CHAIN_OF_TESTS, &USERS),
+    },
+    NamedRow {
+        name: "51",
+        row: Steps(dereferences::SLOT_IN_CONDITION, &[]),
+    },
+    NamedRow {
         name: "52",
         row: Steps(conditions::PERMISSIVE_BOUNDS, &[]),
+    },
+    NamedRow {
+        name: "54",
+        row: Steps(dereferences::SHARED_BRANCHES, &CONDITIONALS),
+    },
+    NamedRow {
+        name: "55",
+        row: Steps(dereferences::UNITED_TYPES, &[]),
     },
 ];

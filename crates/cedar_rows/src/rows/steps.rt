@@ -1,5 +1,6 @@
 // A row as a text: what it asks, in order, and what it expects.
 use crate::rows::answers::{Answer, Asked};
+use crate::rows::chains::chain_cost;
 use crate::rows::names::refusal;
 use crate::rows::{Report, Row};
 use cedar_fixtures::questions::{Question, Subject, Table};
@@ -96,9 +97,21 @@ fn answer_to(
     question: Question<'_>,
     table: &ExtensionSchemas,
 ) -> Result<Answer, ReadError> {
-    if let Subject::Refusal = question.subject {
-        return Ok(refusal(alloc, question.text)?);
+    match question.subject {
+        Subject::Refusal => Ok(refusal(alloc, question.text)?),
+        Subject::ChainCost => {
+            let schema = read_schema(alloc, question.schema)?;
+            Ok(chain_cost(alloc, &schema, question.text)?)
+        }
+        _ => about_policy(alloc, question, table),
     }
+}
+
+fn about_policy(
+    alloc: Global,
+    question: Question<'_>,
+    table: &ExtensionSchemas,
+) -> Result<Answer, ReadError> {
     let text = policy_text(alloc, question.text)?;
     let policy = bound_policy(alloc, text.as_str(), question)?;
     let validator = Validator::new(read_schema(alloc, question.schema)?, table);
