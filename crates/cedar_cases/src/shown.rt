@@ -9,6 +9,6 @@ mod typed;
 
 pub use applications::application;
 pub use environments::environment;
-pub use outcomes::{findings, outcome, policy_outcome};
+pub use outcomes::{findings, level_outcome, outcome, policy_outcome};
 pub use places::Source;
 pub use typed::typed_condition;

@@ -1,7 +1,7 @@
 // What the checks of a policy answer, as a column shows it.
 use crate::cases::columns::{Subject, Wanted};
 use crate::cases::names::about_names;
-use crate::shown::{Source, environment, outcome, policy_outcome, typed_condition};
+use crate::shown::{Source, environment, level_outcome, outcome, policy_outcome, typed_condition};
 use cedar_typechecker::rbac::Validator;
 use cedar_types::base::{ExtensionSchemas, Policy, Template, ValidationMode};
 use cedar_typing::typecheck::{PolicyCheck, Typechecker};
@@ -18,8 +18,8 @@ pub struct Rules<'a> {
     pub extensions: &'a ExtensionSchemas,
 }
 
-/// What is shown of a policy: of its names and its scope, of all of its checks, or of the check in
-/// each environment, with ` | ` between them, sorted by bytes.
+/// What is shown of a policy: of its names and its scope, of its validation with levels, of all of
+/// its checks, or of the check in each environment, with ` | ` between them, sorted by bytes.
 pub fn answers(
     alloc: Global,
     rules: Rules<'_>,
@@ -32,7 +32,30 @@ pub fn answers(
         Wanted::Checks(mode, subject) => {
             about_checks(alloc, rules, &policy.template, source, mode, subject)
         }
+        Wanted::Levels(mode, maximum) => {
+            about_levels(
+                alloc,
+                rules.validator,
+                &policy.template,
+                source,
+                mode,
+                maximum,
+            )
+        }
     }
+}
+
+/// What a policy's validation with levels answers for this maximum.
+fn about_levels(
+    alloc: Global,
+    validator: &Validator<'_>,
+    policy: &Template,
+    source: Source<'_>,
+    mode: ValidationMode,
+    maximum: u32,
+) -> Result<String, AllocError> {
+    let (errors, warnings) = validator.validate_policy_with_level(alloc, policy, mode, maximum)?;
+    level_outcome(alloc, errors, warnings, source)
 }
 
 fn about_checks(

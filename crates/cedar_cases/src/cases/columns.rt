@@ -14,8 +14,8 @@ pub enum Column {
     Condition,
     /// The entity that a slot is bound to.
     Slot(SlotId),
-    /// What is wanted of the levels of a policy, which is not asked yet: it is skipped.
-    Levels,
+    /// The least level at which the policy has no level error, which is not asked yet: it is skipped.
+    RequiredLevel,
     /// What is wanted of the policy.
     Wanted(Wanted),
 }
@@ -25,6 +25,8 @@ pub enum Column {
 pub enum Wanted {
     /// Of its checks in a mode.
     Checks(ValidationMode, Subject),
+    /// Of its validation with levels in a mode, for this maximum.
+    Levels(ValidationMode, u32),
     /// Of its names and its scope.
     Names(Question),
 }
@@ -69,7 +71,7 @@ impl Column {
             "condition" => Some(Column::Condition),
             "?principal" => Some(Column::Slot(SlotId::Principal)),
             "?resource" => Some(Column::Slot(SlotId::Resource)),
-            _ if is_about_levels(name) => Some(Column::Levels),
+            _ if is_required_level(name) => Some(Column::RequiredLevel),
             _ => Some(Column::Wanted(Wanted::named(name)?)),
         }
     }
@@ -79,19 +81,31 @@ impl Wanted {
     fn named(name: &str) -> Option<Wanted> {
         match Question::named(name) {
             Some(question) => Some(Wanted::Names(question)),
-            None => Wanted::of_checks(name),
+            None => Wanted::in_mode(name),
         }
     }
 
-    fn of_checks(name: &str) -> Option<Wanted> {
-        let (mode, subject) = match name.split_once(' ') {
-            None => (name, Subject::Outcome),
-            Some((mode, "typed")) => (mode, Subject::Typed),
-            Some((mode, "policy")) => (mode, Subject::Policy),
-            Some((mode, "environments")) => (mode, Subject::Environments),
-            Some(_) => return None,
+    /// What is asked in the mode that the name begins with: nothing behind it is the outcome.
+    fn in_mode(name: &str) -> Option<Wanted> {
+        let Some((mode, asked)) = name.split_once(' ') else {
+            return Some(Wanted::Checks(mode_named(name)?, Subject::Outcome));
         };
-        Some(Wanted::Checks(mode_named(mode)?, subject))
+        let mode = mode_named(mode)?;
+        match Subject::named(asked) {
+            Some(subject) => Some(Wanted::Checks(mode, subject)),
+            None => Some(Wanted::Levels(mode, maximum_named(asked)?)),
+        }
+    }
+}
+
+impl Subject {
+    fn named(name: &str) -> Option<Subject> {
+        match name {
+            "typed" => Some(Subject::Typed),
+            "policy" => Some(Subject::Policy),
+            "environments" => Some(Subject::Environments),
+            _ => None,
+        }
     }
 }
 
@@ -104,21 +118,21 @@ fn mode_named(name: &str) -> Option<ValidationMode> {
     }
 }
 
-/// Whether a column of this name wants something of levels: `required` or `level N` behind a mode.
-fn is_about_levels(name: &str) -> bool {
-    let Some((mode, asked)) = name.split_once(' ') else {
-        return false;
-    };
-    let is_asked = match asked.strip_prefix("level ") {
-        Some(level) => is_level(level),
-        None => asked == "required",
-    };
-    is_asked && mode_named(mode).is_some()
+/// Whether a column of this name wants the least level: `required` behind a mode.
+fn is_required_level(name: &str) -> bool {
+    match name.split_once(' ') {
+        Some((mode, "required")) => mode_named(mode).is_some(),
+        _ => false,
+    }
 }
 
-/// Whether a text is a level, in digits: 0 to 4294967295.
-fn is_level(text: &str) -> bool {
-    text.chars().all(|c| c.is_ascii_digit()) && text.parse::<u32>().is_ok()
+/// The number behind `level `, in digits: 0 to 4294967295.
+fn maximum_named(asked: &str) -> Option<u32> {
+    let digits = asked.strip_prefix("level ")?;
+    if !digits.chars().all(|c| c.is_ascii_digit()) {
+        return None;
+    }
+    digits.parse::<u32>().ok()
 }
 
 impl Question {

@@ -76,7 +76,7 @@ impl<'a> Case<'a> {
     /// Adds what the column of this name has.
     fn add(&mut self, name: &'a str, column: Column, field: Field<'a>) -> Result<(), AllocError> {
         match column {
-            Column::About | Column::Levels => {}
+            Column::About | Column::RequiredLevel => {}
             Column::Policy => self.policy = field,
             Column::Scope => self.scope = field,
             Column::Condition => self.condition = field,
@@ -123,7 +123,7 @@ impl<'a> CaseFile<'a> {
     pub fn skipped(&self) -> usize {
         self.columns
             .iter()
-            .filter(|(_, column)| *column == Column::Levels)
+            .filter(|(_, column)| *column == Column::RequiredLevel)
             .count()
     }
 

@@ -1,5 +1,6 @@
 // The outcome of a check, with its errors.
 use crate::shown::places::{Source, push_place};
+use cedar_typechecker::level_validate::{LevelErrors, LevelWarnings};
 use cedar_types::base::{Loc, ValidationError, ValidationWarning};
 use cedar_typing::typecheck::PolicyCheck;
 use std::alloc::{AllocError, Global};
@@ -44,11 +45,50 @@ pub fn policy_outcome(
     push_sorted(&mut shown, texts)?;
     let mut texts = Vec::new(alloc);
     for warning in warnings {
-        let text = warning.to_string(alloc)?;
-        texts.push(placed_text(alloc, text.as_str(), warning.source_loc(), source)?)?;
+        texts.push(warning_text(alloc, warning, source)?)?;
     }
     push_sorted(&mut shown, texts)?;
     Ok(shown)
+}
+
+/// Each error and then each warning, as often as it comes, sorted by bytes, with `; ` between them.
+pub fn level_outcome(
+    alloc: Global,
+    errors: LevelErrors,
+    warnings: LevelWarnings,
+    source: Source<'_>,
+) -> Result<String, AllocError> {
+    let mut shown = sorted_errors(alloc, errors, source)?;
+    for warning in sorted_warnings(alloc, warnings, source)? {
+        shown.push(warning)?;
+    }
+    shown.as_slice().join(alloc, "; ")
+}
+
+fn sorted_errors(
+    alloc: Global,
+    errors: LevelErrors,
+    source: Source<'_>,
+) -> Result<Vec<String>, AllocError> {
+    let mut texts = Vec::new(alloc);
+    for error in errors {
+        texts.push(error_text(alloc, &error, source)?)?;
+    }
+    texts.sort()?;
+    Ok(texts)
+}
+
+fn sorted_warnings(
+    alloc: Global,
+    warnings: LevelWarnings,
+    source: Source<'_>,
+) -> Result<Vec<String>, AllocError> {
+    let mut texts = Vec::new(alloc);
+    for warning in warnings {
+        texts.push(warning_text(alloc, &warning, source)?)?;
+    }
+    texts.sort()?;
+    Ok(texts)
 }
 
 /// The errors of a pass, sorted by bytes, with `; ` between them. One without a place is shown
@@ -87,6 +127,16 @@ fn error_text(
 ) -> Result<String, AllocError> {
     let text = error.to_string(alloc)?;
     placed_text(alloc, text.as_str(), error.source_loc(), source)
+}
+
+/// A warning's text, and the text that it stands at.
+fn warning_text(
+    alloc: Global,
+    warning: &ValidationWarning,
+    source: Source<'_>,
+) -> Result<String, AllocError> {
+    let text = warning.to_string(alloc)?;
+    placed_text(alloc, text.as_str(), warning.source_loc(), source)
 }
 
 fn placed_text(
