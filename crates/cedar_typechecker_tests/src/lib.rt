@@ -2,6 +2,8 @@
 #![tactic(auto)]
 
 #[cfg(test)]
+mod levels;
+#[cfg(test)]
 mod names;
 #[cfg(test)]
 mod satisfying_types;

@@ -1,11 +1,13 @@
-// A small schema.
+// Small schemas.
 use crate::names::{typed, uid};
 use cedar_typechecker::base::{
-    EntityType, ValidatorActionId, ValidatorActionKind, ValidatorEntityType,
+    AttributeType, Attributes, CedarType, EntityType, OpenTag, StandardValidatorEntityType,
+    ValidatorActionId, ValidatorActionKind, ValidatorApplySpec, ValidatorEntityType,
     ValidatorEntityTypeKind, ValidatorSchema,
 };
 use std::alloc::{AllocError, Global};
 use std::collections::BTreeSet;
+use std::rc::Rc;
 use std::test::Fail;
 
 fn types(alloc: Global, names: &[&str]) -> Result<BTreeSet<EntityType>, AllocError> {
@@ -49,4 +51,48 @@ pub fn users_and_files(alloc: Global) -> Result<ValidatorSchema, Fail> {
         types.push(external(alloc, name, descendants)?)?;
     }
     Ok(ValidatorSchema::new(alloc, types, vec![in alloc; read(alloc)?]?)?)
+}
+
+/// A type of whose entities each has these attributes, and no tags.
+fn standard(
+    alloc: Global,
+    name: &str,
+    attributes: Attributes,
+) -> Result<ValidatorEntityType, AllocError> {
+    Ok(ValidatorEntityType {
+        name: typed(alloc, name)?,
+        descendants: BTreeSet::new(alloc),
+        kind: ValidatorEntityTypeKind::Standard(StandardValidatorEntityType {
+            attributes,
+            tags: None,
+        }),
+    })
+}
+
+/// The action `view` of users on photos.
+fn view(alloc: Global) -> Result<ValidatorActionId, AllocError> {
+    let nothing = Attributes::from_list(alloc, Vec::new(alloc))?;
+    let context = CedarType::record_with_attributes(nothing, OpenTag::ClosedAttributes);
+    Ok(ValidatorActionId {
+        name: uid(alloc, "Action", "view")?,
+        descendants: BTreeSet::new(alloc),
+        kind: ValidatorActionKind::Defined(ValidatorApplySpec {
+            principal_apply_spec: types(alloc, &["User"])?,
+            resource_apply_spec: types(alloc, &["Photo"])?,
+            context: Rc::new(alloc, context)?,
+        }),
+    })
+}
+
+/// Users, each with a `user` and a `bool`, who view photos.
+pub fn users_and_photos(alloc: Global) -> Result<ValidatorSchema, Fail> {
+    let user = CedarType::named_entity_reference(alloc, typed(alloc, "User")?)?;
+    let user = AttributeType::required_attribute(user);
+    let boolean = AttributeType::required_attribute(CedarType::primitive_boolean());
+    let of_users = vec![in alloc; ("user", user), ("bool", boolean)]?;
+    let users = standard(alloc, "User", Attributes::from_list(alloc, of_users)?)?;
+    let nothing = Attributes::from_list(alloc, Vec::new(alloc))?;
+    let photos = standard(alloc, "Photo", nothing)?;
+    let types = vec![in alloc; users, photos]?;
+    Ok(ValidatorSchema::new(alloc, types, vec![in alloc; view(alloc)?]?)?)
 }
