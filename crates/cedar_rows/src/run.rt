@@ -32,7 +32,8 @@ pub fn run<O: Write, E: Write>(
     run_among(alloc, &WORKED, words, x1, x2, out, err)
 }
 
-/// The same among these rows, which need not be the worked ones.
+/// The same among these rows, which need not be the worked ones. Its clauses are those of `run`, whose proof then need not
+/// look at the rows.
 pub fn run_among<R: Row, O: Write, E: Write>(
     alloc: Global,
     rows: &[NamedRow<R>],
@@ -44,7 +45,10 @@ pub fn run_among<R: Row, O: Write, E: Write>(
 ) -> u8
     ensures status { result ≤ 2 }
     ensures no_row { IsNone (rows_asked rows.now words.now) → 1 ≤ result }
-    ensures usage_alone { result ≡ 2 → IsNone (rows_asked rows.now words.now) × (out.new ≡ out.old) }
+    ensures no_word { words.now ≡ [] → result ≤ 1 }
+    ensures second_word { 1 < length words.now → 1 ≤ result }
+    ensures usage_of_no_row { result ≡ 2 → IsNone (rows_asked rows.now words.now) }
+    ensures usage_alone { result ≡ 2 → out.new ≡ out.old }
     ensures usage { result ≡ 2 → Appends (E.contents err.old) (E.contents err.new) USAGE.now }
     ensures ok_is_silent { result ≡ 0 → err.new ≡ err.old }
 {
