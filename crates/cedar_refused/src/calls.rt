@@ -1,6 +1,7 @@
 // The calls that are made while memory is refused, a file for each subject.
 pub mod at_once;
 pub mod environments;
+pub mod levels;
 pub mod passes;
 pub mod policies;
 pub mod schemas;

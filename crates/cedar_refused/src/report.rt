@@ -1,6 +1,7 @@
 // A line for each call: its name, and what came of it.
 use crate::calls::at_once::{Asked, Subject};
 use crate::calls::environments::{ChecksMaking, ChecksWalk, LinkedWalk, MODE, Walk};
+use crate::calls::levels::LevelRun;
 use crate::calls::passes::{Pass, PassWalk};
 use crate::calls::policies::WholeCheck;
 use crate::calls::schemas::SchemaMaking;
@@ -38,6 +39,7 @@ pub fn report<W: Write>(alloc: Global, out: &mut W) -> io::Result<()> {
     let validator = Validator::new(schema, &extensions);
     all_passes(alloc, &validator, out)?;
     questions(alloc, &validator, out)?;
+    level_runs(alloc, &validator, out)?;
     without_memory(alloc, &validator, out)
 }
 
@@ -181,6 +183,27 @@ fn questions<W: Write>(alloc: Global, validator: &Validator<'_>, out: &mut W) ->
             answers,
         };
         write_sweep(alloc, out, asked.name(), &asked)?;
+    }
+    Ok(())
+}
+
+fn level_runs<W: Write>(alloc: Global, validator: &Validator<'_>, out: &mut W) -> io::Result<()> {
+    // a slot in the scope and an access, each of which requires level 1; and an impossible policy, with a finding for each sum
+    for (name, policy, findings) in [
+        ("of two level errors", with_slot(alloc)?, 2),
+        (
+            "of many findings",
+            many_findings(alloc)?,
+            MANY.saturating_add(1),
+        ),
+    ] {
+        let run = LevelRun {
+            validator,
+            policy: &policy,
+            findings,
+        };
+        let said = swept(alloc, &run)?;
+        writeln!(out, "validate_policy_with_level, {name}: {said}")?;
     }
     Ok(())
 }
