@@ -3,8 +3,10 @@ mod answers;
 mod columns;
 mod files;
 mod names;
+mod refusals;
 mod report;
 
 pub use answers::Rules;
 pub use files::{CaseFile, FileFault};
+pub use refusals::{fault_of_columns, has_own_declarations, run_refusals};
 pub use report::{Tally, run_cases};

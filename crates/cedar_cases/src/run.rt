@@ -1,5 +1,8 @@
 // What the program does, over any files and any two writers.
-use crate::cases::{CaseFile, FileFault, Rules, Tally, run_cases};
+use crate::cases::{
+    CaseFile, FileFault, Rules, Tally, fault_of_columns, has_own_declarations, run_cases,
+    run_refusals,
+};
 use crate::tables::Tables;
 use cedar_reading::{
     Fault, MAX_LENGTH, Position, ReadError, SchemaReadError, refused_name, schema,
@@ -59,6 +62,9 @@ fn run_file<R: Files + AllocGlobal, O: Write>(
     let Some(text) = read(rt, name, out)? else {
         return Ok(false);
     };
+    if has_own_declarations(text.as_str()) {
+        return run_schemas(alloc, name, text.as_str(), out);
+    }
     let file = match CaseFile::new(alloc, text.as_str())? {
         Ok(file) => file,
         Err(fault) => {
@@ -81,6 +87,17 @@ fn run_file<R: Files + AllocGlobal, O: Write>(
     };
     let tally = run_cases(alloc, name, &file, rules, out)?;
     write_tally(out, name, tally, file.skipped())?;
+    Ok(tally.wrong == 0)
+}
+
+/// Runs the cases of a file that have their own declarations, and answers whether all agree.
+fn run_schemas<O: Write>(alloc: Global, name: &str, text: &str, out: &mut O) -> io::Result<bool> {
+    if let Some(fault) = fault_of_columns(text) {
+        write_file_fault(out, name, fault)?;
+        return Ok(false);
+    }
+    let tally = run_refusals(alloc, name, text, out)?;
+    write_tally(out, name, tally, 0)?;
     Ok(tally.wrong == 0)
 }
 

@@ -1,0 +1,123 @@
+// Case files whose cases bring their own declarations: why they are refused, if they are.
+use crate::cases::files::FileFault;
+use crate::cases::report::Tally;
+use cedar_reading::{Fault, Position, ReadError, SchemaReadError, schema};
+use std::alloc::{AllocError, Global};
+use std::io;
+use std::io::Write;
+
+/// The first line of such a file.
+const FIRST: &str = "schemas";
+
+/// Its second line.
+const COLUMNS: &str = "declarations\trefusal";
+
+/// What is answered where the declarations are a schema.
+const NO_REFUSAL: &str = "ok";
+
+/// How many lines there are before the cases.
+const HEAD: usize = 2;
+
+/// Whether each case of a file of this text brings its own declarations.
+pub fn has_own_declarations(text: &str) -> bool {
+    text.lines().next() == Some(FIRST)
+}
+
+/// What is wrong with the second line of such a file: with all of its names, since it has these two.
+pub fn fault_of_columns(text: &str) -> Option<FileFault> {
+    if text.lines().nth(1) == Some(COLUMNS) {
+        None
+    } else {
+        Some(FileFault::NoColumn(1))
+    }
+}
+
+/// Runs each case of a file, and writes those that differ or cannot be read.
+pub fn run_refusals<W: Write>(
+    alloc: Global,
+    name: &str,
+    text: &str,
+    out: &mut W,
+) -> io::Result<Tally> {
+    let mut tally = Tally { ran: 0, wrong: 0 };
+    let mut number: usize = 0;
+    for line in text.lines() {
+        number = number.saturating_add(1);
+        if number <= HEAD || line.is_empty() || line.starts_with('#') {
+            continue;
+        }
+        tally.ran = tally.ran.saturating_add(1);
+        if !run_line(alloc, name, number, line, out)? {
+            tally.wrong = tally.wrong.saturating_add(1);
+        }
+    }
+    Ok(tally)
+}
+
+/// Runs the case of a line, and answers whether it agrees.
+fn run_line<W: Write>(
+    alloc: Global,
+    name: &str,
+    number: usize,
+    line: &str,
+    out: &mut W,
+) -> io::Result<bool> {
+    let (declarations, wanted) = match fields_of(line) {
+        Ok(fields) => fields,
+        Err(fault) => return write_fault(name, number, line, fault, out),
+    };
+    let got = match refusal_of(alloc, declarations)? {
+        Ok(got) => got,
+        Err(fault) => return write_fault(name, number, line, fault, out),
+    };
+    let agrees = got.as_str() == wanted;
+    if !agrees {
+        writeln!(out, "{name}:{number}: refusal: wanted {wanted}")?;
+        writeln!(out, "{name}:{number}: refusal: got {got}")?;
+    }
+    Ok(agrees)
+}
+
+/// The declarations of a line and the refusal that is wanted; or the byte at which a field is
+/// missing or one too many begins.
+fn fields_of(line: &str) -> Result<(&str, &str), (usize, Fault)> {
+    let Some((declarations, wanted)) = line.split_once('\t') else {
+        return Err((line.len(), Fault::Expected("another field")));
+    };
+    match wanted.split_once('\t') {
+        None => Ok((declarations, wanted)),
+        Some((wanted, _)) => {
+            let end = declarations
+                .len()
+                .saturating_add(1)
+                .saturating_add(wanted.len());
+            Err((end, Fault::Expected("the end of the line")))
+        }
+    }
+}
+
+/// The name of the refusal of these declarations, or `ok`; or the byte at which they cannot be read.
+fn refusal_of(
+    alloc: Global,
+    declarations: &str,
+) -> Result<Result<String, (usize, Fault)>, AllocError> {
+    match schema(alloc, declarations) {
+        Ok(_) => Ok(Ok(String::from_str(alloc, NO_REFUSAL)?)),
+        Err(SchemaReadError::Refused(refusal)) => Ok(Ok(refusal.to_string(alloc)?)),
+        Err(SchemaReadError::Read(ReadError::Memory(error))) => Err(error),
+        Err(SchemaReadError::Read(ReadError::At(at, fault))) => Ok(Err((at, fault))),
+    }
+}
+
+/// Writes what is wrong at a byte of a line, and answers that its case does not agree.
+fn write_fault<W: Write>(
+    name: &str,
+    number: usize,
+    line: &str,
+    (at, fault): (usize, Fault),
+    out: &mut W,
+) -> io::Result<bool> {
+    let column = Position::in_text(line, at).column;
+    writeln!(out, "{name}:{number}:{column}: {fault}")?;
+    Ok(false)
+}
