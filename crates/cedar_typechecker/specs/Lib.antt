@@ -5,3 +5,4 @@ pub mod Members
 pub mod Passes
 pub mod SlotTypes
 pub mod Levels
+pub mod Slices

@@ -1,0 +1,5 @@
+-- Parts of a store: what a request reaches, and what evaluation in a part of the store gives.
+pub mod Reach
+pub mod Soundness
+pub mod Policies
+pub mod Validation

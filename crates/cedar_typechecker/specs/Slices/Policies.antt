@@ -1,0 +1,105 @@
+-- What silence of the level rules promises of a policy that passes, in a part of a store.
+use Rattle.std.specs.Prelude.{◌≡◌, ℕ, true, false, List, None}
+use Rattle.cedar_types.specs.declared.base.types.ValidationMode.{ValidationMode}
+use Rattle.cedar_types.specs.declared.base.types.ValidationMode.TheVariants.{Strict, Permissive}
+use Rattle.cedar_types.specs.Errors.{Finding, Caution}
+use Rattle.cedar_types.specs.ExtensionFunctions.{table_fault}
+use Rattle.cedar_types.specs.FormedSchemas.{has_formed_types}
+use Rattle.cedar_types.specs.Linking.{checked_envs}
+use Rattle.cedar_types.specs.RequestEnvs.{Env}
+use Rattle.cedar_types.specs.Schemas.{has_fault}
+use Rattle.cedar_types.specs.Stores.{Store}
+use Rattle.cedar_types.specs.Templates.{PlainTemplate, condition_of}
+use Rattle.cedar_types.specs.Tree.{map_tree}
+use Rattle.cedar_typing.specs.Composition.{MentionsNoSlot}
+use Rattle.cedar_typing.specs.Evaluation.Conformance.{IsOneOf}
+use Rattle.cedar_typing.specs.Evaluation.Eval.{eval}
+use Rattle.cedar_typing.specs.Evaluation.World.{World}
+use Rattle.cedar_typing.specs.PolicyCheck.{Verdict, succeeds, irrelevant, fails}
+use Rattle.cedar_typing.specs.PolicySoundness.{Basis, IsClosedIn, IsNamedBySchema, IsWellFormed, IsConforming, CheckedOn}
+use Rattle.cedar_typing.specs.TypedExpr.{Source, form_of}
+use Rattle.cedar_typechecker.specs.Levels.Outcome.{ChecksOn, levels_on, IsErrorOfVerdict}
+use Rattle.cedar_typechecker.specs.Levels.Setting.{LevelSetting}
+use Rattle.cedar_typechecker.specs.Slices.Reach.{HoldsSlice}
+use Rattle.cedar_typechecker.specs.Slices.Soundness.{with_store}
+
+-- ---- the level pass is silent
+
+-- no level error in what a check typed
+abbrev pub VerdictIsWithin : LevelSetting → Verdict → Type 0
+VerdictIsWithin s v = (e : Finding) → IsErrorOfVerdict s v e → ⊥
+
+-- nor in any environment that the policy is checked in
+abbrev pub PolicyIsWithinLevel : Basis → PlainTemplate → ℕ → Type 0
+PolicyIsWithinLevel b t n =
+    (env : Env) → IsOneOf env (checked_envs b.schema b.mode t)
+    → (v : Verdict) → ChecksOn b t env v → VerdictIsWithin (levels_on b t n env) v
+
+-- ---- what that promises
+
+-- its condition evaluates to the same in a part of the store: the same value, or the same failure
+abbrev pub IsSameIn : PlainTemplate → World → Store → Type 0
+IsSameIn t world part =
+    eval (with_store world part) (condition_of t) ≡ eval world (condition_of t)
+
+-- in each part that has the slice of n steps
+abbrev pub IsSameInSlices : PlainTemplate → World → ℕ → Type 0
+IsSameInSlices t world n =
+    (part : Store) → HoldsSlice world.request world.store n part → IsSameIn t world part
+
+-- in each world that conforms, at each n at which the level pass is silent
+abbrev pub SliceSufficesIn : ValidationMode → Basis → PlainTemplate → Type 0
+SliceSufficesIn m b t =
+    (n : ℕ) → IsClosedIn m b → IsNamedBySchema b.schema t → PolicyIsWithinLevel b t n
+    → (world : World) → IsWellFormed t world.slots → IsConforming b world
+    → IsSameInSlices t world n
+
+-- ---- of each policy that passes
+
+-- by a schema and a table without faults it follows from what the check of the policy came to
+abbrev pub PassingNeedsSliceAlone : Type 0
+PassingNeedsSliceAlone =
+    (b : Basis) (t : PlainTemplate)
+    → has_fault b.schema ≡ false → table_fault b.table.functions ≡ None
+    → (errors errors' : List Finding) (old new : List Caution)
+    → CheckedOn b t true errors errors' old new → SliceSufficesIn Strict b t
+
+-- in Permissive, where names also ascend in the types of the schema
+abbrev pub PassingNeedsSliceAloneInPermissive : Type 0
+PassingNeedsSliceAloneInPermissive =
+    (b : Basis) (t : PlainTemplate)
+    → has_fault b.schema ≡ false → has_formed_types b.schema ≡ true
+    → table_fault b.table.functions ≡ None
+    → (errors errors' : List Finding) (old new : List Caution)
+    → CheckedOn b t true errors errors' old new → SliceSufficesIn Permissive b t
+
+-- ---- of less, each a case of it
+
+-- without slots: no environment that fits has to be found for what they are bound to
+abbrev pub PassingNeedsSliceWithoutSlots : Type 0
+PassingNeedsSliceWithoutSlots =
+    (b : Basis) (t : PlainTemplate)
+    → has_fault b.schema ≡ false → table_fault b.table.functions ≡ None
+    → (errors errors' : List Finding) (old new : List Caution)
+    → CheckedOn b t true errors errors' old new
+    → MentionsNoSlot (condition_of t) → SliceSufficesIn Strict b t
+
+-- a typed copy has the form of the expression: no part of it was dropped
+abbrev pub IsWholeCopy : Source → Verdict → Type 0
+IsWholeCopy e (succeeds x) = map_tree (λ m. tt) x ≡ form_of e
+IsWholeCopy e (irrelevant es x) = map_tree (λ m. tt) x ≡ form_of e
+IsWholeCopy e (fails es) = Unit {0}
+
+abbrev pub CopiesAreWhole : Basis → PlainTemplate → Type 0
+CopiesAreWhole b t =
+    (env : Env) → IsOneOf env (checked_envs b.schema b.mode t)
+    → (v : Verdict) → ChecksOn b t env v → IsWholeCopy (condition_of t) v
+
+-- and with whole copies alone: nothing has to be known of what typing drops
+abbrev pub PassingNeedsSliceForWholeCopies : Type 0
+PassingNeedsSliceForWholeCopies =
+    (b : Basis) (t : PlainTemplate)
+    → has_fault b.schema ≡ false → table_fault b.table.functions ≡ None
+    → (errors errors' : List Finding) (old new : List Caution)
+    → CheckedOn b t true errors errors' old new
+    → MentionsNoSlot (condition_of t) → CopiesAreWhole b t → SliceSufficesIn Strict b t

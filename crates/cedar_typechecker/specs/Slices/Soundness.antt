@@ -1,0 +1,121 @@
+-- What silence of the level rules promises of an expression that is evaluated in a part of a store.
+use Rattle.std.specs.Prelude.{◌≡◌, ℕ, ◌≤◌, true, false, List, [], ◌∷◌, Option, Some, None}
+use Rattle.cedar_types.specs.declared.base.types.ValidationMode.{ValidationMode}
+use Rattle.cedar_types.specs.declared.base.types.ValidationMode.TheVariants.{Strict, Permissive}
+use Rattle.cedar_types.specs.ExtensionFunctions.{table_fault}
+use Rattle.cedar_types.specs.FormedSchemas.{has_formed_types}
+use Rattle.cedar_types.specs.Names.{Text, Uid}
+use Rattle.cedar_types.specs.RequestEnvs.{Env, Declared}
+use Rattle.cedar_types.specs.Schemas.{has_fault}
+use Rattle.cedar_types.specs.Stores.{Store}
+use Rattle.cedar_types.specs.Types.{Ty}
+use Rattle.cedar_types.specs.Values.{Value, VEntity, VRecord, entry_at}
+use Rattle.cedar_typing.specs.Capabilities.{Caps}
+use Rattle.cedar_typing.specs.Evaluation.Conformance.{IsOneOf, SlotsBound, AllHold}
+use Rattle.cedar_typing.specs.Evaluation.Eval.{eval}
+use Rattle.cedar_typing.specs.Evaluation.World.{World, Outcome}
+use Rattle.cedar_typing.specs.Rules.{Derives}
+use Rattle.cedar_typing.specs.Setting.{Setting}
+use Rattle.cedar_typing.specs.Soundness.{OnValue, IsReliableIn, IsWorldOf}
+use Rattle.cedar_typing.specs.TypedExpr.{Source, TypedTree}
+use Rattle.cedar_typechecker.specs.Levels.Chains.{level}
+use Rattle.cedar_typechecker.specs.Levels.Dereferences.{IsTarget}
+use Rattle.cedar_typechecker.specs.Levels.Errors.{IsWithinLevel}
+use Rattle.cedar_typechecker.specs.Levels.Setting.{LevelSetting, action_of}
+use Rattle.cedar_typechecker.specs.Slices.Reach.{ids_in, reach, HoldsSlice}
+
+-- the world with another store
+abbrev pub with_store : World → Store → World
+with_store world part = record world { store = part }
+
+-- what levels are checked by where typing is by this setting, at the maximum n
+abbrev pub levels_in : Setting → ℕ → LevelSetting
+levels_in s n = record {
+  action = action_of s.env.request_env;
+  schema = s.env.schema;
+  maximum = n;
+  policy = s.env.policy;
+}
+
+-- ---- the premises
+
+-- both slots are linked to types
+abbrev pub LinksBothSlots : Env → Type 0
+LinksBothSlots (Declared d (Some p) (Some r)) = Unit {0}
+LinksBothSlots e = ⊥
+
+-- typing can be relied on in the world, and a part of its store holds the slice of n steps
+pub record IsSlicedIn (m : ValidationMode) (s : Setting) (world : World) (n : ℕ) (part : Store) :
+    Type 0 where
+  pub schema : has_fault s.env.schema ≡ false
+  pub functions : table_fault s.functions ≡ None
+  pub setting : IsReliableIn m s
+  pub links : LinksBothSlots s.env.request_env
+  pub reliable : IsWorldOf s world
+  pub slice : HoldsSlice world.request world.store n part
+
+-- ---- the promises
+
+-- each expression that has a type, and no level error at n, evaluates to the same in the part,
+-- whatever is known and at any depth
+abbrev pub EvaluatesAlike : Setting → World → ℕ → Store → Type 0
+EvaluatesAlike s world n part =
+    (e : Source) → SlotsBound world.slots e
+    → (prior : Caps) (d : ℕ) → AllHold world prior
+    → (t : Ty) (c : Caps) (x : TypedTree) → Derives s e prior d t c x
+    → IsWithinLevel (levels_in s n) x
+    → eval (with_store world part) e ≡ eval world e
+
+abbrev pub ids_found : (Value → List Uid) → Option Value → List Uid
+ids_found ids None = []
+ids_found ids (Some v) = ids v
+
+-- the ids in the part of a value that a path selects: an entity stands for itself, whatever
+-- attributes are left
+abbrev pub ids_along : List Text → Value → List Uid
+ids_along [] v = ids_in v
+ids_along (x ∷ path) (VRecord es) = ids_found (ids_along path) (entry_at x es)
+ids_along (x ∷ path) (VEntity u) = u ∷ []
+ids_along (x ∷ path) v = []
+
+-- the id is reached in k steps, or in fewer
+abbrev pub IsReachedIn : World → ℕ → Uid → Type 0
+IsReachedIn world k u =
+    (j : ℕ) × (j ≤ k) × IsOneOf u (reach world.request world.store j)
+
+-- of each target in an expression without level errors at n, what its value holds along its path is
+-- reached in no more steps than the target's level
+abbrev pub TargetsReach : Setting → World → ℕ → Type 0
+TargetsReach s world n =
+    (e : Source) → SlotsBound world.slots e
+    → (prior : Caps) (d : ℕ) → AllHold world prior
+    → (t : Ty) (c : Caps) (x : TypedTree) → Derives s e prior d t c x
+    → (root : TypedTree) → IsWithinLevel (levels_in s n) root
+    → (path : List Text) → IsTarget (levels_in s n) root x path
+    → OnValue (λ v. (u : Uid) → IsOneOf u (ids_along path v)
+        → IsReachedIn world (level (levels_in s n).action x path) u) (eval world e)
+
+-- ---- in Strict
+
+abbrev pub SliceSoundness : Type 0
+SliceSoundness =
+    (s : Setting) (world : World) (n : ℕ) (part : Store) → IsSlicedIn Strict s world n part
+    → EvaluatesAlike s world n part
+
+abbrev pub TargetsAreReached : Type 0
+TargetsAreReached =
+    (s : Setting) (world : World) (n : ℕ) (part : Store) → IsSlicedIn Strict s world n part
+    → TargetsReach s world n
+
+-- ---- in Permissive, by a schema in whose types names ascend, as they do in every schema of the
+-- program
+
+abbrev pub SliceSoundnessInPermissive : Type 0
+SliceSoundnessInPermissive =
+    (s : Setting) (world : World) (n : ℕ) (part : Store) → has_formed_types s.env.schema ≡ true
+    → IsSlicedIn Permissive s world n part → EvaluatesAlike s world n part
+
+abbrev pub TargetsAreReachedInPermissive : Type 0
+TargetsAreReachedInPermissive =
+    (s : Setting) (world : World) (n : ℕ) (part : Store) → has_formed_types s.env.schema ≡ true
+    → IsSlicedIn Permissive s world n part → TargetsReach s world n

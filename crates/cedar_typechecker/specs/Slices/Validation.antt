@@ -1,0 +1,47 @@
+-- What the validation of a policy with levels promises where it finds no error.
+use Rattle.std.specs.Prelude.{◌≡◌, ℕ, ◌≤◌, true, List, []}
+use Rattle.cedar_types.specs.declared.base.types.ValidationMode.{ValidationMode}
+use Rattle.cedar_types.specs.Errors.{Finding, Caution}
+use Rattle.cedar_types.specs.Linking.{checked_envs}
+use Rattle.cedar_types.specs.RequestEnvs.{Env}
+use Rattle.cedar_types.specs.Templates.{PlainTemplate, condition_of}
+use Rattle.cedar_typing.specs.Capabilities.{no_caps}
+use Rattle.cedar_typing.specs.Evaluation.Conformance.{IsOneOf}
+use Rattle.cedar_typing.specs.Evaluation.Eval.{eval}
+use Rattle.cedar_typing.specs.Evaluation.World.{World}
+use Rattle.cedar_typing.specs.PolicySoundness.{Basis, IsClosedIn, IsWellFormed, IsConforming, setting_on, CheckedOn}
+use Rattle.cedar_typing.specs.RuleLaws.{IsCut}
+use Rattle.cedar_typing.specs.SoundPolicyCheck.{IsBooleanOrAllowed}
+use Rattle.cedar_typechecker.specs.Slices.Policies.{IsSameInSlices}
+
+-- ---- nothing is nested too deep
+
+-- no check of the policy is cut: whatever is visited stands within the limit of depth
+abbrev pub IsCutNowhere : Basis → PlainTemplate → Type 0
+IsCutNowhere b t =
+    (env : Env) → IsOneOf env (checked_envs b.schema b.mode t)
+    → IsCut (setting_on b t.id env) (condition_of t) no_caps 1 → ⊥
+
+-- so it is of a policy whose check passes
+abbrev pub PassingIsCutNowhere : Type 0
+PassingIsCutNowhere =
+    (b : Basis) (t : PlainTemplate)
+    → (errors errors' : List Finding) (old new : List Caution)
+    → CheckedOn b t true errors errors' old new → IsCutNowhere b t
+
+-- ---- what no error is worth
+
+-- of a condition in a world
+pub record IsKeptInSlices (t : PlainTemplate) (n : ℕ) (world : World) : Type 0 where
+  -- it evaluates to a boolean, or fails only for a missing entity, an overflow or an extension call
+  pub safe : IsBooleanOrAllowed (eval world (condition_of t))
+  -- and to the very same in each part of the store that has the slice of n steps
+  pub same : IsSameInSlices t world n
+
+-- where validation at the maximum n finds no error, and nothing is nested too deep: in each world
+-- that conforms, of a policy without unknowns, whose slots stand in its scope alone and are bound
+abbrev pub SilenceIsKeptIn : ValidationMode → Basis → PlainTemplate → ℕ → List Finding → Type 0
+SilenceIsKeptIn m b t n errors =
+    errors ≡ [] → IsCutNowhere b t → IsClosedIn m b
+    → (world : World) → IsWellFormed t world.slots → IsConforming b world
+    → IsKeptInSlices t n world
