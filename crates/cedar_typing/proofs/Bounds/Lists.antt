@@ -19,7 +19,9 @@ use Rattle.cedar_typing.proofs.Basics.{some_is}
 use Rattle.cedar_typing.proofs.Bounds.Kept.{right_kept}
 use Rattle.cedar_typing.proofs.Bounds.Values.{lub_left}
 use Rattle.cedar_typing.proofs.Members.{AreAll}
-use Rattle.cedar_typing.proofs.KeptTypes.Types.{is_kept, HasKept, kept_lub}
+use Rattle.cedar_typing.proofs.KeptTypes.Bounds.{kept_lub}
+use Rattle.cedar_typing.proofs.KeptTypes.Keeping.{HasKept}
+use Rattle.cedar_typing.proofs.KeptTypes.Types.{keeping, KeptIn, strict_if}
 
 -- ---- types that compare equal are the same
 
@@ -174,10 +176,10 @@ module _ (strictly : Bool) (m : ValidationMode) (strict : is_strict m ≡ strict
       went_on (lub m t s) u (HasType u v) (λ z. fold_lub m z ts) (λ z b k. first_under z u ts k (lub_left m t s z b v h)) e
 
   abbrev Kept : Ty → Type 0
-  Kept t = is_kept strictly t ≡ true
+  Kept = KeptIn strictly
 
   bound_kept : (s t u : Ty) → lub m s t ≡ Some u → Kept s → Kept t → Kept u
-  bound_kept s t u e n k = subst (HasKept strictly) e (kept_lub strictly m strict s t n k)
+  bound_kept s t u e n k = subst (HasKept Kept) e (kept_lub (keeping strictly) m (strict_if strictly m strict) s t n k)
 
   other_under : (t u s : Ty) (ts : List Ty) → fold_lub m t ts ≡ Some u → Kept t → AreAll Kept ts → IsOneOf s ts → HasType s v → HasType u v
   other_under t u s [] e n f i h = absurd i

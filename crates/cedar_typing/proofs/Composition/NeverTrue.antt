@@ -15,7 +15,7 @@ use Rattle.cedar_types.specs.Values.{VBool}
 use Rattle.cedar_types.specs.Stores.{ConformingStore}
 use Rattle.cedar_types.specs.Linking.{has_slot}
 use Rattle.cedar_typing.specs.Composition.{in_env, SlotsInScopeAlone, own_link, own_env, IsFaultless, IsIrrelevant, IsIrrelevantInAll, NeverTrue, OwnSuccessIsKept}
-use Rattle.cedar_typing.specs.Evaluation.Conformance.{IsOneOf, FitsRequest, ConformingRequest, FitsSlot, has_external, KeepsTable, IsBound, SlotsBound}
+use Rattle.cedar_typing.specs.Evaluation.Conformance.{IsOneOf, FitsRequest, ConformingRequest, FitsSlot, has_external, KeepsTable, SlotsBound}
 use Rattle.cedar_typing.specs.Evaluation.Eval.{eval}
 use Rattle.cedar_typing.specs.Evaluation.World.{World, Outcome, Gives, Fails}
 use Rattle.cedar_typing.specs.PolicyCheck.{Verdict, succeeds, irrelevant, fails, PolicyChecks, policy_check}
@@ -29,18 +29,18 @@ use Rattle.cedar_typing.proofs.Soundness.Parts.{Sounds}
 use Rattle.cedar_typing.proofs.Soundness.PolicyCheck.{promised}
 use Rattle.cedar_typing.proofs.Composition.Links.{own_env_is_checked}
 use Rattle.cedar_typing.proofs.Composition.Slots.{slots_bound}
-use Rattle.cedar_typing.proofs.Composition.OwnBinding.{own_slots, own_world, IsAtMost, itself, is_false, unlinked, condition_most}
+use Rattle.cedar_typing.proofs.Composition.OwnBinding.{own_slots, both_bound, own_world, IsAtMost, itself, is_false, unlinked, condition_most}
 
 -- ---- outcomes
 
 -- what is at most another is true only where that is
-true_most : (U : Type 0) (o o' : Outcome) → IsAtMost U o o' → IsTrueOutcome o → IsTrueOutcome o'
+pub true_most : (U : Type 0) (o o' : Outcome) → IsAtMost U o o' → IsTrueOutcome o → IsTrueOutcome o'
 true_most U o o' itself h = h
 true_most U o o' is_false h = absurd (true≢false (sym h))
 true_most U o o' (unlinked u) h = absurd h
 
 -- and is a boolean or an allowed failure where that is
-kept_most : (o o' : Outcome) → IsAtMost ⊥ o o' → IsBooleanOrAllowed o' → IsBooleanOrAllowed o
+pub kept_most : (o o' : Outcome) → IsAtMost ⊥ o o' → IsBooleanOrAllowed o' → IsBooleanOrAllowed o
 kept_most o o' itself h = h
 kept_most o o' is_false h = (tt, tt)
 kept_most o o' (unlinked u) h = absurd u
@@ -55,7 +55,8 @@ not_true (fails es) o i h k = i
 
 -- ---- the own environment, and the world with own slots
 
-own_fits : (b : Bool) (own : Path) (u : Uid) → u.entity_type ≡ own → FitsSlot (own_link b own) (Some u)
+-- an own slot fits its variable's own entity, linked or not
+pub own_fits : (b : Bool) (own : Path) (u : Uid) → u.entity_type ≡ own → FitsSlot (own_link b own) (Some u)
 own_fits true own u e = e
 own_fits false own u e = tt
 
@@ -80,10 +81,6 @@ sure_in_strict s f = record {
 
 module _ (strictly : Bool) (s : Setting) (t : PlainTemplate) (f : Sure strictly s) (d : DeclaredEnv) (one : IsOneOf d (environments_of s.env.schema.actions))
     (world : World) (fits : FitsRequest d world.request) (store : ConformingStore s.env.schema world.store) (keeps : KeepsTable (table s) world.functions) where
-  both_bound : (x : SlotId) → IsBound (own_slots world.request x)
-  both_bound SlotId.Principal = tt
-  both_bound SlotId.Resource = tt
-
   pub own_is_world : IsWorldOf (in_env s (own_env t d)) (own_world world)
   own_is_world = record {
     environment =
@@ -93,7 +90,7 @@ module _ (strictly : Bool) (s : Setting) (t : PlainTemplate) (f : Sure strictly 
   }
 
   pub own_bound : SlotsBound (own_slots world.request) (condition_of t)
-  own_bound = slots_bound (own_slots world.request) both_bound (condition_of t)
+  own_bound = slots_bound (own_slots world.request) (both_bound world.request) (condition_of t)
 
   -- typing there can be relied on
   pub own_sounds : Sounds (own_world world) (eval (own_world world) (condition_of t)) (rules (in_env s (own_env t d)) (condition_of t) no_caps 1)

@@ -25,6 +25,10 @@ abbrev pub own_slots : Request → Slots
 own_slots r SlotId.Principal = Some r.principal
 own_slots r SlotId.Resource = Some r.resource
 
+pub both_bound : (r : Request) (x : SlotId) → IsBound (own_slots r x)
+both_bound r SlotId.Principal = tt
+both_bound r SlotId.Resource = tt
+
 abbrev pub own_world : World → World
 own_world world = with_slots world (own_slots world.request)
 
@@ -40,23 +44,24 @@ module _ (U : Type 0) where
   below_true true = itself
   below_true false = is_false
 
-  same : (o o' : Outcome) → o ≡ o' → IsAtMost o o'
+  pub same : (o o' : Outcome) → o ≡ o' → IsAtMost o o'
   same o o' e = subst (IsAtMost o) e itself
 
-  right_most : (s : Test) (p p' : Outcome) → IsAtMost p p' → IsAtMost (of_test (and_test s (test_of p))) (of_test (and_test s (test_of p')))
+  -- `&&` keeps it
+  pub right_most : (s : Test) (p p' : Outcome) → IsAtMost p p' → IsAtMost (of_test (and_test s (test_of p))) (of_test (and_test s (test_of p')))
   right_most (Says true) p p' itself = itself
   right_most (Says true) p p' is_false = is_false
   right_most (Says true) p p' (unlinked u) = unlinked u
   right_most (Says false) p p' h = itself
   right_most (Stops f) p p' h = itself
 
-  and_most : (o o' p p' : Outcome) → IsAtMost o o' → IsAtMost p p' → IsAtMost (of_test (and_test (test_of o) (test_of p))) (of_test (and_test (test_of o') (test_of p')))
+  pub and_most : (o o' p p' : Outcome) → IsAtMost o o' → IsAtMost p p' → IsAtMost (of_test (and_test (test_of o) (test_of p))) (of_test (and_test (test_of o') (test_of p')))
   and_most o o' p p' itself h = right_most (test_of o) p p' h
   and_most o o' p p' is_false h = is_false
   and_most o o' p p' (unlinked u) h = unlinked u
 
   -- a test of a slot that is true of v is at most what it is where the slot is bound to v
-  against : (f : Value → Outcome) (test : Uid → Bool) → ((w : Uid) → f (VEntity w) ≡ Gives (VBool (test w))) → (v : Uid) → test v ≡ true
+  pub against : (f : Value → Outcome) (test : Uid → Bool) → ((w : Uid) → f (VEntity w) ≡ Gives (VBool (test w))) → (v : Uid) → test v ≡ true
       → (b : Option Uid) → ((IsBound b → ⊥) → U) → IsAtMost (on_value (bound_outcome b) f) (f (VEntity v))
   against f test is v h None u = unlinked (u (λ k. k))
   against f test is v h (Some w) u =
@@ -64,14 +69,16 @@ module _ (U : Type 0) where
       (subst (IsAtMost (Gives (VBool (test w)))) (sym (is v ∙ ap (λ b. Gives (VBool b)) h)) (below_true (test w)))
 
   module _ (world : World) where
-    itself_in : (v : Uid) → is_in world.store v v ≡ true
+    -- each entity is in itself
+    pub itself_in : (v : Uid) → is_in world.store v v ≡ true
     itself_in v = or_left (uid_eq v v) (has_ancestor (entity_at world.store v) v) (uid_same.itself v)
 
-    equal_most : (v : Uid) (b : Option Uid) → ((IsBound b → ⊥) → U)
+    -- `==` and `in` with an own slot
+    pub equal_most : (v : Uid) (b : Option Uid) → ((IsBound b → ⊥) → U)
         → IsAtMost (on_value (bound_outcome b) (binary_outcome world.store world.functions BinaryOp.Eq (VEntity v))) (binary_outcome world.store world.functions BinaryOp.Eq (VEntity v) (VEntity v))
     equal_most v = against (binary_outcome world.store world.functions BinaryOp.Eq (VEntity v)) (uid_eq v) (λ w. refl) v (uid_same.itself v)
 
-    within_most : (v : Uid) (b : Option Uid) → ((IsBound b → ⊥) → U)
+    pub within_most : (v : Uid) (b : Option Uid) → ((IsBound b → ⊥) → U)
         → IsAtMost (on_value (bound_outcome b) (binary_outcome world.store world.functions BinaryOp.In (VEntity v))) (binary_outcome world.store world.functions BinaryOp.In (VEntity v) (VEntity v))
     within_most v = against (binary_outcome world.store world.functions BinaryOp.In (VEntity v)) (is_in world.store v) (λ w. refl) v (itself_in v)
 
@@ -108,7 +115,7 @@ module _ (U : Type 0) where
           (within_most world.request.resource (world.slots SlotId.Resource) (λ n. u (λ b. n b.1.1)))
 
     -- what mentions no slot is the same
-    unmentioned : (e : Source) → MentionsNoSlot e → EvalAtMost e
+    pub unmentioned : (e : Source) → MentionsNoSlot e → EvalAtMost e
     unmentioned e h = same (eval world e) (eval (own_world world) e) (eval_alike world world.slots (own_slots world.request) e (λ x m. absurd (true≢false (sym m ∙ h x))))
 
     scope_most : (t : PlainTemplate) → UnboundIs (scope_condition t) → EvalAtMost (scope_condition t)

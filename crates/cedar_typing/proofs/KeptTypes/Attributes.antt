@@ -1,127 +1,102 @@
--- An attribute is kept to where its base is, by a schema without faults, whose types are formed in Permissive.
-use Rattle.std.proofs.Common.{◌≡◌, Bool, true, false, true≢false, cond, not, ◌&&◌, ◌||◌, List, [], ◌∷◌, Option, Some, None, option_map, fold, refl, sym, subst}
-use Rattle.std.specs.List.{list_all, find}
+-- What a schema without faults declares is kept to, where its types are formed in Permissive: attributes.
+use Rattle.std.proofs.Common.{◌≡◌, Bool, true, false, not, ◌&&◌, List, [], ◌∷◌, Option, Some, None, option_map, fold, refl, subst}
+use Rattle.std.specs.List.{list_all}
 use Rattle.cedar_types.specs.declared.base.types.ValidationMode.TheVariants.{Permissive}
-use Rattle.cedar_types.specs.Ascending.{texts_ascending}
 use Rattle.cedar_types.specs.Names.{Text, Path, path_eq}
-use Rattle.cedar_types.specs.Lemmas.Comparisons.{and_left, and_right}
-use Rattle.cedar_types.specs.Types.{Ty, TNever, TBool, TLong, TString, TSet, TAnySet, TRecord, TEntity, TAnyEntity, TExtension, attr_names, is_well_formed, are_well_formed}
-use Rattle.cedar_types.specs.Bounds.{lub}
-use Rattle.cedar_types.specs.Schemas.{Schema, DeclaredType, DeclaredAction, TypeKind, StandardKind, EnumKind, ExternalKind, has_fault, type_named, are_vague, kind_is_definite, tags_pass, is_vague}
+use Rattle.cedar_types.specs.Lemmas.Comparisons.{and_left}
+use Rattle.cedar_types.specs.Types.{Ty, TNever, TBool, TLong, TString, TSet, TAnySet, TRecord, TEntity, TAnyEntity, TExtension, is_well_formed}
+use Rattle.cedar_types.specs.Bounds.{is_strict, lub}
+use Rattle.cedar_types.specs.Schemas.{Schema, DeclaredType, DeclaredAction, TypeKind, StandardKind, EnumKind, ExternalKind, has_fault, type_named, are_vague, is_vague, kind_is_definite, tags_pass}
 use Rattle.cedar_types.specs.Lookups.{declared_kind_attribute, kind_attribute, declared_attribute, joined_attribute, types_attribute, attribute_type}
-use Rattle.cedar_types.proofs.Schema.Faultless.{faultless}
 use Rattle.cedar_types.specs.FormedSchemas.{kind_is_formed, application_is_formed, has_formed_types}
-use Rattle.cedar_typing.proofs.Basics.{some_is, not_true}
+use Rattle.cedar_types.proofs.Schema.Faultless.{faultless}
+use Rattle.cedar_typing.specs.Evaluation.Conformance.{IsOneOf}
+use Rattle.cedar_typing.proofs.Basics.{not_true}
 use Rattle.cedar_typing.proofs.Bounds.Attributes.{AttributesFormed}
-use Rattle.cedar_typing.proofs.KeptTypes.Types.{is_kept, are_kept, are_names_kept, HasKept, kept_formed, definite_attrs_kept, kept_attr, kept_lub}
+use Rattle.cedar_typing.proofs.Members.{all_pass, found_in}
+use Rattle.cedar_typing.proofs.KeptTypes.Bounds.{kept_lub}
+use Rattle.cedar_typing.proofs.KeptTypes.Keeping.{HasKept}
+use Rattle.cedar_typing.proofs.KeptTypes.Types.{Keeping, one_type, ascending, no_any_entity, IsKept, field_kept, definite_kept}
 
-module _ {A : Type 0} (p q : A → Bool) where
-  same_passes : (x y : A) → Some x ≡ Some y → p x ≡ true → p y ≡ true
-  same_passes x y e h = subst (λ z. p z ≡ true) (some_is e) h
+-- what several entity types declare is joined in Permissive; where no type names several, there is nothing to join
+no_choice : (k : Keeping) (p q : Path) (ps : List Path) → IsKept k (TEntity (p ∷ q ∷ ps)) → k ≡ one_type → is_strict Permissive ≡ true
+no_choice one_type p q ps n e = n.0
+no_choice ascending p q ps n e = cc
+no_choice no_any_entity p q ps n e = cc
 
-  first_passes : (b : Bool) (x y : A) (o : Option A) → p x ≡ true → (o ≡ Some y → p y ≡ true) → cond b (Some x) o ≡ Some y → p y ≡ true
-  first_passes true x y o h f e = same_passes x y e h
-  first_passes false x y o h f e = f e
-
-  found_passes : (xs : List A) (y : A) → list_all p xs ≡ true → find q xs ≡ Some y → p y ≡ true
-  found_passes [] y h e = cc
-  found_passes (x ∷ xs) y h e = first_passes (q x) x y (find q xs) (and_left (p x) (list_all p xs) h) (found_passes xs y (and_right (p x) (list_all p xs) h)) e
-
--- ---- what may be left out in Strict
-
-pub either_left : (strictly a b : Bool) → (strictly || (a && b)) ≡ true → (strictly || a) ≡ true
-either_left true a b h = refl
-either_left false a b h = and_left a b h
-
-pub either_right : (strictly a b : Bool) → (strictly || (a && b)) ≡ true → (strictly || b) ≡ true
-either_right true a b h = refl
-either_right false a b h = and_right a b h
-
-pub either_of : (strictly a b : Bool) → (a ≡ true → b ≡ true) → (strictly || a) ≡ true → (strictly || b) ≡ true
-either_of true a b f h = refl
-either_of false a b f h = f h
-
--- ---- one entity type
-
-module _ (strictly : Bool) where
+module _ (k : Keeping) where
   -- the type that was found is kept to
   abbrev pub FoundKept : Option (Ty × Bool) → Type 0
   FoundKept None = Unit {0}
-  FoundKept (Some a) = is_kept strictly a.0 ≡ true
+  FoundKept (Some a) = IsKept k a.0
 
-  kind_kept : (k : TypeKind) (x : Text) (t : Ty) (r : Bool) → kind_is_definite k ≡ true → (strictly || kind_is_formed k) ≡ true → ◌≡◌ {A = Option (Ty × Bool)} (kind_attribute x k) (Some (t, r)) → is_kept strictly t ≡ true
-  kind_kept (StandardKind attrs tags) x t r d w e =
-      let names = texts_ascending (attr_names attrs) in
-      let formed = either_right strictly names (are_well_formed attrs) (either_left strictly (is_well_formed (TRecord attrs false)) (tags_pass is_well_formed tags) w) in
-      kept_attr strictly x attrs t r (definite_attrs_kept strictly attrs (not_true (are_vague attrs) (and_left (not (are_vague attrs)) (tags_pass (λ t. not (is_vague t)) tags) d)) formed) e
-  kind_kept (EnumKind ids) x t r d w e = cc
-  kind_kept ExternalKind x t r d w e = cc
+  bound_kept : (r : Bool) (o : Option Ty) → HasKept (IsKept k) o → FoundKept (option_map (λ t. (t, r)) o)
+  bound_kept r None h = tt
+  bound_kept r (Some t) h = h
 
-  type_kept : (o : Option DeclaredType) (x : Text) (t : Ty) (r : Bool) → ((d : DeclaredType) → o ≡ Some d → kind_is_definite d.kind ≡ true) → ((d : DeclaredType) → o ≡ Some d → (strictly || kind_is_formed d.kind) ≡ true) → ◌≡◌ {A = Option (Ty × Bool)} (declared_kind_attribute x o) (Some (t, r)) → is_kept strictly t ≡ true
-  type_kept None x t r f g e = cc
-  type_kept (Some d) x t r f g e = kind_kept d.kind x t r (f d refl) (g d refl) e
+  joined_kept : (k ≡ one_type → is_strict Permissive ≡ true) → (x y : Option (Ty × Bool)) → FoundKept x → FoundKept y → FoundKept (joined_attribute x y)
+  joined_kept f None y h n = tt
+  joined_kept f (Some a) None h n = tt
+  joined_kept f (Some a) (Some b) h n = bound_kept (a.1 && b.1) (lub Permissive a.0 b.0) (kept_lub k Permissive f a.0 b.0 h n)
 
-  found_kept : (o : Option (Ty × Bool)) → ((t : Ty) (r : Bool) → o ≡ Some (t, r) → is_kept strictly t ≡ true) → FoundKept o
-  found_kept None f = tt
-  found_kept (Some a) f = f a.0 a.1 refl
+  if_found : (o : Option (Ty × Bool)) → ((t : Ty) (r : Bool) → o ≡ Some (t, r) → IsKept k t) → FoundKept o
+  if_found None f = tt
+  if_found (Some a) f = f a.0 a.1 refl
 
-  some_kept : (o : Option (Ty × Bool)) (t : Ty) (r : Bool) → FoundKept o → o ≡ Some (t, r) → is_kept strictly t ≡ true
-  some_kept o t r h e = subst FoundKept e h
+  kind_kept : (kind : TypeKind) (x : Text) → kind_is_definite kind ≡ true → (k ≡ ascending → kind_is_formed kind ≡ true) → FoundKept (kind_attribute x kind)
+  kind_kept (StandardKind attrs tags) x d w =
+      let definite = not_true (are_vague attrs) (and_left (not (are_vague attrs)) (tags_pass (λ t. not (is_vague t)) tags) d) in
+      let record_type = TRecord attrs false in
+      let kept = definite_kept k record_type definite (λ e. and_left (is_well_formed record_type) (tags_pass is_well_formed tags) (w e)) in
+      if_found (kind_attribute x (StandardKind attrs tags)) (λ t r. field_kept k x attrs false t r kept)
+  kind_kept (EnumKind ids) x d w = tt
+  kind_kept ExternalKind x d w = tt
 
-  module _ (s : Schema) (f : has_fault s ≡ false) (w : (strictly || has_formed_types s) ≡ true) where
-    abbrev types_formed : Bool
-    types_formed = list_all (λ (d : DeclaredType). kind_is_formed d.kind) s.types
-
-    pub types_are_formed : (strictly || types_formed) ≡ true
-    types_are_formed = either_left strictly types_formed (list_all (λ (a : DeclaredAction). application_is_formed a.applies_to) s.actions) w
-
-    declared_kept : (p : Path) (x : Text) → FoundKept (declared_attribute s.types x p)
-    declared_kept p x =
+  module _ (s : Schema) (f : has_fault s ≡ false) (w : k ≡ ascending → has_formed_types s ≡ true) where
+    -- the kind of each declared type says enough, and in Permissive it is formed
+    pub kind_says_enough : (d : DeclaredType) → IsOneOf d s.types → (kind_is_definite d.kind ≡ true) × (k ≡ ascending → kind_is_formed d.kind ≡ true)
+    kind_says_enough d i =
         let definite = and_left (list_all (λ (d : DeclaredType). kind_is_definite d.kind) s.types) _ (faultless s f).definite in
-        found_kept (declared_attribute s.types x p)
-        (λ t r. type_kept (type_named s.types p) x t r
-        (λ d. found_passes (λ (d : DeclaredType). kind_is_definite d.kind) (λ d. path_eq p d.name) s.types d definite)
-        (λ d e. either_of strictly types_formed (kind_is_formed d.kind) (λ h. found_passes (λ (d : DeclaredType). kind_is_formed d.kind) (λ d. path_eq p d.name) s.types d h e) types_are_formed))
+        let types_formed = list_all (λ (d : DeclaredType). kind_is_formed d.kind) s.types in
+        let actions_formed = list_all (λ (a : DeclaredAction). application_is_formed a.applies_to) s.actions in (
+          all_pass (λ (d : DeclaredType). kind_is_definite d.kind) s.types definite d i,
+          λ e. all_pass (λ (d : DeclaredType). kind_is_formed d.kind) s.types (and_left types_formed actions_formed (w e)) d i,
+        )
 
--- ---- several entity types, which there are in Permissive alone
+    module _ (x : Text) where
+      type_kept : (p : Path) (o : Option DeclaredType) → type_named s.types p ≡ o → FoundKept (declared_kind_attribute x o)
+      type_kept p None e = tt
+      type_kept p (Some d) e =
+          let enough = kind_says_enough d (found_in (λ d. path_eq p d.name) s.types d e) in
+          kind_kept d.kind x enough.0 enough.1
 
-bound_kept : (r : Bool) (o : Option Ty) → HasKept false o → FoundKept false (option_map (λ t. (t, r)) o)
-bound_kept r None h = tt
-bound_kept r (Some t) h = h
+      pub declared_kept : (p : Path) → FoundKept (declared_attribute s.types x p)
+      declared_kept p = type_kept p (type_named s.types p) refl
 
-joined_kept : (x y : Option (Ty × Bool)) → FoundKept false x → FoundKept false y → FoundKept false (joined_attribute x y)
-joined_kept None y h k = tt
-joined_kept (Some a) None h k = tt
-joined_kept (Some a) (Some b) h k = bound_kept (a.1 && b.1) (lub Permissive a.0 b.0) (kept_lub false Permissive refl a.0 b.0 h k)
+      folded_kept : (k ≡ one_type → is_strict Permissive ≡ true) → (ps : List Path) (o : Option (Ty × Bool)) → FoundKept o → FoundKept (fold (λ found q. joined_attribute found (declared_attribute s.types x q)) o ps)
+      folded_kept c [] o h = h
+      folded_kept c (p ∷ ps) o h = folded_kept c ps _ (joined_kept c o (declared_attribute s.types x p) h (declared_kept p))
 
-folded_kept : (s : Schema) → has_fault s ≡ false → (false || has_formed_types s) ≡ true → (x : Text) (ps : List Path) (o : Option (Ty × Bool)) → FoundKept false o → FoundKept false (fold (λ found q. joined_attribute found (declared_attribute s.types x q)) o ps)
-folded_kept s f w x [] o h = h
-folded_kept s f w x (p ∷ ps) o h = folded_kept s f w x ps _ (joined_kept o (declared_attribute s.types x p) h (declared_kept false s f w p x))
+      types_kept : (ps : List Path) → IsKept k (TEntity ps) → FoundKept (types_attribute s.types x ps)
+      types_kept [] n = tt
+      types_kept (p ∷ []) n = declared_kept p
+      types_kept (p ∷ q ∷ ps) n = folded_kept (no_choice k p q ps n) (q ∷ ps) (declared_attribute s.types x p) (declared_kept p)
 
-choice_kept : (strictly : Bool) (s : Schema) → has_fault s ≡ false → (strictly || has_formed_types s) ≡ true → (p q : Path) (ps : List Path) (x : Text) → is_kept strictly (TEntity (p ∷ q ∷ ps)) ≡ true → FoundKept strictly (types_attribute s.types x (p ∷ q ∷ ps))
-choice_kept true s f w p q ps x n = absurd (true≢false (sym n))
-choice_kept false s f w p q ps x n = folded_kept s f w x (q ∷ ps) (declared_attribute s.types x p) (declared_kept false s f w p x)
+    pub attribute_kept : (b : Ty) (x : Text) (t : Ty) (r : Bool) → IsKept k b → ◌≡◌ {A = Option (Ty × Bool)} (attribute_type s b x) (Some (t, r)) → IsKept k t
+    attribute_kept TNever x t r n e = cc
+    attribute_kept (TBool j) x t r n e = cc
+    attribute_kept TLong x t r n e = cc
+    attribute_kept TString x t r n e = cc
+    attribute_kept (TSet u) x t r n e = cc
+    attribute_kept TAnySet x t r n e = cc
+    attribute_kept (TRecord xs o) x t r n e = field_kept k x xs o t r n e
+    attribute_kept (TEntity ps) x t r n e = subst FoundKept e (types_kept x ps n)
+    attribute_kept TAnyEntity x t r n e = cc
+    attribute_kept (TExtension m) x t r n e = cc
 
 -- the types of declared attributes are well-formed
-formed_found : (o : Option (Ty × Bool)) (a : Ty × Bool) → FoundKept false o → o ≡ Some a → is_well_formed a.0 ≡ true
-formed_found o a h e = kept_formed a.0 (subst (FoundKept false) e h)
+formed_found : (o : Option (Ty × Bool)) (a : Ty × Bool) → FoundKept ascending o → o ≡ Some a → is_well_formed a.0 ≡ true
+formed_found o a h e = (subst (FoundKept ascending) e h).1 refl
 
-pub declared_formed : (s : Schema) → has_fault s ≡ false → (false || has_formed_types s) ≡ true → AttributesFormed s
-declared_formed s f w x p a e = formed_found (declared_attribute s.types x p) a (declared_kept false s f w p x) e
-
--- ---- any type
-
-module _ (strictly : Bool) (s : Schema) (f : has_fault s ≡ false) (w : (strictly || has_formed_types s) ≡ true) where
-  pub attribute_kept : (b : Ty) (x : Text) (t : Ty) (r : Bool) → is_kept strictly b ≡ true → ◌≡◌ {A = Option (Ty × Bool)} (attribute_type s b x) (Some (t, r)) → is_kept strictly t ≡ true
-  attribute_kept TNever x t r n e = cc
-  attribute_kept (TBool k) x t r n e = cc
-  attribute_kept TLong x t r n e = cc
-  attribute_kept TString x t r n e = cc
-  attribute_kept (TSet u) x t r n e = cc
-  attribute_kept TAnySet x t r n e = cc
-  attribute_kept (TRecord xs o) x t r n e = kept_attr strictly x xs t r (and_right (are_names_kept strictly (attr_names xs)) (are_kept strictly xs) n) e
-  attribute_kept (TEntity []) x t r n e = cc
-  attribute_kept (TEntity (p ∷ [])) x t r n e = some_kept strictly (declared_attribute s.types x p) t r (declared_kept strictly s f w p x) e
-  attribute_kept (TEntity (p ∷ q ∷ ps)) x t r n e = some_kept strictly (types_attribute s.types x (p ∷ q ∷ ps)) t r (choice_kept strictly s f w p q ps x n) e
-  attribute_kept TAnyEntity x t r n e = cc
-  attribute_kept (TExtension m) x t r n e = cc
+pub declared_formed : (s : Schema) → has_fault s ≡ false → has_formed_types s ≡ true → AttributesFormed s
+declared_formed s f w x p a e = formed_found (declared_attribute s.types x p) a (declared_kept ascending s f (λ k. w) x p) e

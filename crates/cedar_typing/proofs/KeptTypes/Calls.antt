@@ -1,7 +1,8 @@
 -- The types of calls are kept to, as no function of a table without faults returns an entity or a record.
-use Rattle.std.proofs.Common.{◌≡◌, Bool, true, false, not, List, [], ◌∷◌, Option, Some, None, if◌then◌else◌, refl, sym, subst}
+use Rattle.std.proofs.Common.{◌≡◌, Bool, true, false, true≢false, not, List, [], ◌∷◌, Option, Some, None, if◌then◌else◌, refl, sym, subst}
 use Rattle.std.specs.List.{list_any}
 use Rattle.cedar_types.specs.declared.base.expressions.extensions.ExtensionTableError.{ExtensionTableError}
+use Rattle.cedar_types.specs.declared.base.types.BoolType.TheVariants.{AnyBool}
 use Rattle.cedar_types.specs.Names.{Path, path_eq}
 use Rattle.cedar_types.specs.Types.{Ty, TNever, TBool, TLong, TString, TSet, TAnySet, TRecord, TEntity, TAnyEntity, TExtension}
 use Rattle.cedar_types.specs.View.{Written}
@@ -12,7 +13,7 @@ use Rattle.cedar_typing.specs.TypeEnv.{TypeEnv}
 use Rattle.cedar_typing.specs.TypedExpr.{Source}
 use Rattle.cedar_typing.proofs.Basics.{some_is, neither_left, neither_right}
 use Rattle.cedar_typing.proofs.KeptTypes.Eager.{decided_type, KeptForm}
-use Rattle.cedar_typing.proofs.KeptTypes.Types.{is_kept, HasKept, element_kept}
+use Rattle.cedar_typing.proofs.KeptTypes.Keeping.{HasKept, IsKeeping}
 
 -- ---- what a function of a table without faults returns
 
@@ -38,22 +39,6 @@ no_fault false x r h = refl
 pub function_returns : (n : Path) (fs : List ExtensionFunction) (f : ExtensionFunction) → function_named n fs ≡ Some f → table_fault fs ≡ None → may_be_returned f.return_type ≡ true
 function_returns n fs f e h = named_returns n fs f (no_fault (list_any has_bad_return fs) _ _ h) e
 
-plain_kept : (strictly : Bool) (t : Ty) → is_plain_type t ≡ true → is_kept strictly t ≡ true
-plain_kept strictly TNever h = cc
-plain_kept strictly (TBool k) h = refl
-plain_kept strictly TLong h = refl
-plain_kept strictly TString h = refl
-plain_kept strictly (TSet t) h = cc
-plain_kept strictly TAnySet h = refl
-plain_kept strictly (TRecord xs o) h = cc
-plain_kept strictly (TEntity ps) h = cc
-plain_kept strictly TAnyEntity h = refl
-plain_kept strictly (TExtension n) h = refl
-
-returned_kept : (strictly : Bool) (t : Ty) → may_be_returned t ≡ true → is_kept strictly t ≡ true
-returned_kept strictly (TSet t) h = element_kept strictly t (plain_kept strictly t h)
-returned_kept strictly t h = plain_kept strictly t h
-
 -- ---- calls
 
 -- the return type stays, whatever is decided
@@ -62,12 +47,30 @@ call_type None es = refl
 call_type (Some t) [] = refl
 call_type (Some t) (e ∷ es) = refl
 
-module _ (strictly : Bool) (env : TypeEnv) (fs : List ExtensionFunction) (faults : table_fault fs ≡ None) (m : Written) (n : Path) (xs : List Source) where
-  return_kept : (f : Option ExtensionFunction) → function_named n fs ≡ f → HasKept strictly (return_type f)
-  return_kept None e = tt
-  return_kept (Some f) e = returned_kept strictly f.return_type (function_returns n fs f e faults)
+module _ (Kept : Ty → Type 0) (env : TypeEnv) (keeps : IsKeeping Kept env) where
+  plain_kept : (t : Ty) → is_plain_type t ≡ true → Kept t
+  plain_kept TNever h = absurd (true≢false (sym h))
+  plain_kept (TBool AnyBool) h = keeps.booleans AnyBool
+  plain_kept (TBool k) h = absurd (true≢false (sym h))
+  plain_kept TLong h = keeps.longs
+  plain_kept TString h = keeps.strings
+  plain_kept (TSet t) h = absurd (true≢false (sym h))
+  plain_kept TAnySet h = absurd (true≢false (sym h))
+  plain_kept (TRecord xs o) h = absurd (true≢false (sym h))
+  plain_kept (TEntity ps) h = absurd (true≢false (sym h))
+  plain_kept TAnyEntity h = absurd (true≢false (sym h))
+  plain_kept (TExtension n) h = keeps.extensions n
 
-  pub call_kept : KeptForm strictly (call_form env fs m n xs)
-  call_kept ts h =
-      let f = function_named n fs in
-      subst (HasKept strictly) (sym (call_type (return_type f) (call_errors env m.place f n xs))) (return_kept f refl)
+  returned_kept : (t : Ty) → may_be_returned t ≡ true → Kept t
+  returned_kept (TSet t) h = keeps.sets t (plain_kept t h)
+  returned_kept t h = plain_kept t h
+
+  module _ (fs : List ExtensionFunction) (faults : table_fault fs ≡ None) (m : Written) (n : Path) (xs : List Source) where
+    return_kept : (f : Option ExtensionFunction) → function_named n fs ≡ f → HasKept Kept (return_type f)
+    return_kept None e = tt
+    return_kept (Some f) e = returned_kept f.return_type (function_returns n fs f e faults)
+
+    pub call_kept : KeptForm Kept (call_form env fs m n xs)
+    call_kept ts h =
+        let f = function_named n fs in
+        subst (HasKept Kept) (sym (call_type (return_type f) (call_errors env m.place f n xs))) (return_kept f refl)

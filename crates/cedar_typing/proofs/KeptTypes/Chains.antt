@@ -1,4 +1,4 @@
--- Each type that extended `has` gives or lets stay is a Boolean, which names no entity type.
+-- Each type that extended `has` gives or lets stay is a Boolean.
 use Rattle.std.proofs.Common.{◌≡◌, Bool, true, false, List, [], ◌∷◌, Option, Some, None, if◌then◌else◌, refl, sym, subst}
 use Rattle.cedar_types.specs.declared.base.location.Loc.{Loc}
 use Rattle.cedar_types.specs.declared.base.types.BoolType.{BoolType}
@@ -16,14 +16,14 @@ use Rattle.cedar_typing.specs.TypeEnv.{TypeEnv}
 use Rattle.cedar_typing.specs.TypeTests.{is_false}
 use Rattle.cedar_typing.specs.TypedExpr.{Source, place_of}
 use Rattle.cedar_typing.proofs.KeptTypes.Eager.{decided_type, KeptForm}
-use Rattle.cedar_typing.proofs.KeptTypes.Types.{HasKept}
+use Rattle.cedar_typing.proofs.KeptTypes.Keeping.{HasKept, IsKeeping}
 
 -- a type was found, and it is a Boolean
 abbrev pub IsBool : Option Ty → Type 0
 IsBool t = (k : BoolType) × (t ≡ Some (TBool k))
 
-bool_kept : (strictly : Bool) (t : Option Ty) → IsBool t → HasKept strictly t
-bool_kept strictly t h = subst (HasKept strictly) (sym h.1) refl
+pub bool_kept : (Kept : Ty → Type 0) (env : TypeEnv) → IsKeeping Kept env → (t : Option Ty) → IsBool t → HasKept Kept t
+bool_kept Kept env keeps t h = subst (HasKept Kept) (sym h.1) (keeps.booleans h.0)
 
 bool_if : (b : Bool) (d d' : Decision) → IsBool (decided_type d) → IsBool (decided_type d') → IsBool (decided_type (if b then d else d'))
 bool_if true d d' h k = h
@@ -58,7 +58,7 @@ module _ (env : TypeEnv) where
   chain_bool l l' prior [] e s x p = step_bool l (attribute_of e x) (union prior p.earned (attribute_of e x)) s x p end_of_chain (λ q. end_bool q.all_true)
   chain_bool l l' prior (y ∷ ys) e s x p = link_bool l prior e s x p (λ t q. chain env l' l' prior ys (made_up e x) t y q) (λ t q. chain_bool l' l' prior ys (made_up e x) t y q)
 
-pub chain_kept : (strictly : Bool) (env : TypeEnv) (m : Written) (prior : Caps) (e : Source) (x : Text) (xs : List Text) → KeptForm strictly (chain_form env m prior e x xs)
-chain_kept strictly env m prior e x xs [] h = refl
-chain_kept strictly env m prior e x xs (None ∷ ts) h = refl
-chain_kept strictly env m prior e x xs (Some s ∷ ts) h = bool_kept strictly _ (chain_bool env (place_of e) m.place prior xs e s x no_steps)
+pub chain_kept : (Kept : Ty → Type 0) (env : TypeEnv) → IsKeeping Kept env → (m : Written) (prior : Caps) (e : Source) (x : Text) (xs : List Text) → KeptForm Kept (chain_form env m prior e x xs)
+chain_kept Kept env keeps m prior e x xs [] h = keeps.booleans AnyBool
+chain_kept Kept env keeps m prior e x xs (None ∷ ts) h = keeps.booleans AnyBool
+chain_kept Kept env keeps m prior e x xs (Some s ∷ ts) h = bool_kept Kept env keeps _ (chain_bool env (place_of e) m.place prior xs e s x no_steps)

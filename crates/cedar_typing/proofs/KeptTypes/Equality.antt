@@ -13,12 +13,11 @@ use Rattle.cedar_typing.specs.Capabilities.{no_caps}
 use Rattle.cedar_typing.specs.Eager.{gives, gives_unless, first_type, second_type}
 use Rattle.cedar_typing.specs.Joins.{strict_errors}
 use Rattle.cedar_typing.specs.Rules.Equality.{literal_of, compared_literals, are_apart, equality_type, equality_decides, equality_form, member_type, contains_form, contains_several_form}
-use Rattle.cedar_typing.specs.Rules.Leaves.{bool_ty}
 use Rattle.cedar_typing.specs.TypeEnv.{TypeEnv}
 use Rattle.cedar_typing.specs.TypeTests.{is_any_bool}
 use Rattle.cedar_typing.specs.TypedExpr.{Source}
 use Rattle.cedar_typing.proofs.KeptTypes.Eager.{decided_type, KeptForm}
-use Rattle.cedar_typing.proofs.KeptTypes.Types.{is_kept, HasKept}
+use Rattle.cedar_typing.proofs.KeptTypes.Keeping.{HasKept, IsKeeping, truth_value_kept}
 
 -- ---- the type stays, whether or not there are errors
 
@@ -35,34 +34,31 @@ equality_given env l u s t = given_if (is_any_bool u) (strict_errors env l Equal
 
 -- ---- `==`
 
-bool_kept : (strictly b : Bool) → is_kept strictly (bool_ty b) ≡ true
-bool_kept strictly true = refl
-bool_kept strictly false = refl
+module _ (Kept : Ty → Type 0) (env : TypeEnv) (keeps : IsKeeping Kept env) (m : Written) where
+  compared_kept : (x y : Option Lit) → Kept (compared_literals x y)
+  compared_kept None y = keeps.booleans AnyBool
+  compared_kept (Some x) None = keeps.booleans AnyBool
+  compared_kept (Some x) (Some y) = truth_value_kept Kept env keeps (lit_eq x y)
 
-compared_kept : (strictly : Bool) (x y : Option Lit) → is_kept strictly (compared_literals x y) ≡ true
-compared_kept strictly None y = refl
-compared_kept strictly (Some x) None = refl
-compared_kept strictly (Some x) (Some y) = bool_kept strictly (lit_eq x y)
+  apart_kept : (apart : Bool) (x y : Option Lit) → Kept (if apart then TBool False else compared_literals x y)
+  apart_kept true x y = keeps.booleans False
+  apart_kept false x y = compared_kept x y
 
-apart_kept : (strictly apart : Bool) (x y : Option Lit) → is_kept strictly (if apart then TBool False else compared_literals x y) ≡ true
-apart_kept strictly true x y = refl
-apart_kept strictly false x y = compared_kept strictly x y
+  pub equality_kept : (a b : Source) → KeptForm Kept (equality_form env m a b)
+  equality_kept a b ts h =
+      let x = literal_of env.request_env a in
+      let y = literal_of env.request_env b in
+      let s = first_type ts in
+      let t = second_type ts in
+      subst (HasKept Kept) (sym (equality_given env m.place (equality_type x y s t) s t)) (apart_kept (are_apart s t) x y)
 
-pub equality_kept : (strictly : Bool) (env : TypeEnv) (m : Written) (a b : Source) → KeptForm strictly (equality_form env m a b)
-equality_kept strictly env m a b ts h =
-    let x = literal_of env.request_env a in
-    let y = literal_of env.request_env b in
-    let s = first_type ts in
-    let t = second_type ts in
-    subst (HasKept strictly) (sym (equality_given env m.place (equality_type x y s t) s t)) (apart_kept strictly (are_apart s t) x y)
+  -- ---- sets and their members
 
--- ---- sets and their members
+  given_kept : (fs : List Finding) → HasKept Kept (decided_type (gives_unless fs (TBool AnyBool)))
+  given_kept fs = subst (HasKept Kept) (sym (given_type fs (TBool AnyBool))) (keeps.booleans AnyBool)
 
-given_kept : (strictly : Bool) (fs : List Finding) → HasKept strictly (decided_type (gives_unless fs (TBool AnyBool)))
-given_kept strictly fs = subst (HasKept strictly) (sym (given_type fs (TBool AnyBool))) refl
+  pub contains_kept : KeptForm Kept (contains_form env m)
+  contains_kept ts h = given_kept (strict_errors env m.place Contains (member_type (first_type ts)) (second_type ts))
 
-pub contains_kept : (strictly : Bool) (env : TypeEnv) (m : Written) → KeptForm strictly (contains_form env m)
-contains_kept strictly env m ts h = given_kept strictly (strict_errors env m.place Contains (member_type (first_type ts)) (second_type ts))
-
-pub contains_several_kept : (strictly : Bool) (env : TypeEnv) (m : Written) (o : BinaryOp) → KeptForm strictly (contains_several_form env m o)
-contains_several_kept strictly env m o ts h = given_kept strictly (strict_errors env m.place ContainsAnyAll (first_type ts) (second_type ts))
+  pub contains_several_kept : (o : BinaryOp) → KeptForm Kept (contains_several_form env m o)
+  contains_several_kept o ts h = given_kept (strict_errors env m.place ContainsAnyAll (first_type ts) (second_type ts))

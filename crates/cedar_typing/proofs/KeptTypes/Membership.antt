@@ -1,5 +1,5 @@
 -- Each type that `in` has is kept to, as it is a Bool.
-use Rattle.std.proofs.Common.{Bool, true, false, List, [], Option, Some, if◌then◌else◌, refl}
+use Rattle.std.proofs.Common.{Bool, true, false, List, [], Option, Some, if◌then◌else◌}
 use Rattle.std.specs.List.{list_all}
 use Rattle.cedar_types.specs.declared.base.types.BoolType.TheVariants.{AnyBool, False}
 use Rattle.cedar_types.specs.Names.{Uid}
@@ -14,43 +14,39 @@ use Rattle.cedar_typing.specs.Rules.Membership.{entity_of, ancestors_of, is_acti
 use Rattle.cedar_typing.specs.TypeEnv.{TypeEnv}
 use Rattle.cedar_typing.specs.TypedExpr.{Source}
 use Rattle.cedar_typing.proofs.KeptTypes.Eager.{decided_type, KeptForm, KeptIfFailed}
-use Rattle.cedar_typing.proofs.KeptTypes.Types.{HasKept}
+use Rattle.cedar_typing.proofs.KeptTypes.Keeping.{HasKept, IsKeeping, truth_value_kept}
 
-module _ (strictly : Bool) where
+module _ (Kept : Ty → Type 0) (env : TypeEnv) (keeps : IsKeeping Kept env) (m : Written) where
   abbrev DecidesKept : Decision → Type 0
-  DecidesKept d = HasKept strictly (decided_type d)
+  DecidesKept d = HasKept Kept (decided_type d)
 
   either_kept : (b : Bool) (d e : Decision) → DecidesKept d → DecidesKept e → DecidesKept (if b then d else e)
   either_kept true d e h k = h
   either_kept false d e h k = k
 
-  bool_kept : (b : Bool) → DecidesKept (gives (bool_ty b) no_caps)
-  bool_kept true = refl
-  bool_kept false = refl
-
   action_kept : (declared partial is_in : Bool)
       → DecidesKept (if declared then gives (bool_ty is_in) no_caps else if partial then gives (TBool AnyBool) no_caps else refuses (Some (TBool AnyBool)) [])
-  action_kept true partial is_in = bool_kept is_in
-  action_kept false true is_in = refl
-  action_kept false false is_in = refl
+  action_kept true partial is_in = truth_value_kept Kept env keeps is_in
+  action_kept false true is_in = keeps.booleans AnyBool
+  action_kept false false is_in = keeps.booleans AnyBool
 
   schema_kept : (b : Bool) → DecidesKept (gives (if b then TBool AnyBool else TBool False) no_caps)
-  schema_kept true = refl
-  schema_kept false = refl
+  schema_kept true = keeps.booleans AnyBool
+  schema_kept false = keeps.booleans False
 
-  entity_kept : (env : TypeEnv) (s t : Option Ty) → DecidesKept (entity_decides env s t)
-  entity_kept env s t = schema_kept (may_be_among env.schema (types_of_entity s) (types_of_ancestors t))
+  entity_kept : (s t : Option Ty) → DecidesKept (entity_decides env s t)
+  entity_kept s t = schema_kept (may_be_among env.schema (types_of_entity s) (types_of_ancestors t))
 
-  decides_kept : (env : TypeEnv) (u : Option Uid) (vs : Option (List Uid)) (s t : Option Ty) → DecidesKept (in_decides env u vs s t)
-  decides_kept env (Some u) (Some vs) s t =
+  decides_kept : (u : Option Uid) (vs : Option (List Uid)) (s t : Option Ty) → DecidesKept (in_decides env u vs s t)
+  decides_kept (Some u) (Some vs) s t =
       let ws = only_actions vs in
       let actions = env.schema.actions in
       either_kept (is_action u) (action_decides env u ws) (entity_decides env s t)
-      (action_kept (list_all (declares_action actions) ws) (is_partial env.mode) (is_action_in actions u ws)) (entity_kept env s t)
-  decides_kept env u vs s t = entity_kept env s t
+      (action_kept (list_all (declares_action actions) ws) (is_partial env.mode) (is_action_in actions u ws)) (entity_kept s t)
+  decides_kept u vs s t = entity_kept s t
 
-  pub in_kept : (env : TypeEnv) (m : Written) (a b : Source) → KeptForm strictly (in_form env m a b)
-  in_kept env m a b ts h = decides_kept env (entity_of env.request_env a) (ancestors_of env.request_env b) (first_type ts) (second_type ts)
+  pub in_kept : (a b : Source) → KeptForm Kept (in_form env m a b)
+  in_kept a b ts h = decides_kept (entity_of env.request_env a) (ancestors_of env.request_env b) (first_type ts) (second_type ts)
 
-  pub in_failed_kept : (env : TypeEnv) (m : Written) (a b : Source) → KeptIfFailed strictly (in_form env m a b)
-  in_failed_kept env m a b t h = refl
+  pub in_failed_kept : (a b : Source) → KeptIfFailed Kept (in_form env m a b)
+  in_failed_kept a b t h = keeps.booleans AnyBool

@@ -23,6 +23,8 @@ use Rattle.cedar_typing.specs.Setting.{Setting}
 use Rattle.cedar_typing.specs.Silence.{FailuresHaveErrors, FailuresHaveErrorsInPermissive}
 use Rattle.cedar_typing.specs.TypedExpr.{Source, TypedTree, Mark, place_of}
 use Rattle.cedar_typing.proofs.KeptTypes.Induction.{kept_within}
+use Rattle.cedar_typing.proofs.KeptTypes.Modes.{keeps_in_mode}
+use Rattle.cedar_typing.proofs.KeptTypes.Types.{KeptIn}
 use Rattle.cedar_typing.proofs.Silence.Attributes.{has_loud, get_loud, chain_loud}
 use Rattle.cedar_typing.proofs.Silence.Branches.{short_circuit_loud, if_loud}
 use Rattle.cedar_typing.proofs.Silence.Eager.{LoudAll, none_loud, more_loud, form_loud, one_operand_loud, two_operands_loud}
@@ -54,7 +56,7 @@ module _ (strictly : Bool) (s : Setting) (ok : Settled strictly s) where
   clean_of e = AreClean s.env.schema (subexpressions e)
 
   single : (e : Source) (prior : Caps) (d : ℕ) → Knows (rules_within s e prior d)
-  single e prior d = knows_of strictly _ (kept_within strictly s ok.strict ok.total ok.schema ok.formed ok.functions ok.environment e prior d)
+  single e prior d = knows_of strictly _ (kept_within (KeptIn strictly) s (keeps_in_mode strictly s.env ok.strict ok.total ok.schema ok.formed) ok.functions ok.environment e prior d)
 
   entity_typed : (b : Bool) (t : Ty) (other : Option Ty) → b ≡ true → known_entity_type (if b then Some t else None) other ≡ None → ⊥
   entity_typed true t other h e = cc

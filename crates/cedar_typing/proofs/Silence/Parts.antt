@@ -12,7 +12,7 @@ use Rattle.cedar_typing.specs.TypedExpr.{TypedTree, annotation}
 use Rattle.cedar_typing.proofs.Basics.{none_is}
 use Rattle.cedar_typing.proofs.Agreement.Parts.{Marks}
 use Rattle.cedar_typing.proofs.KeptTypes.Rules.{KeepsTypes}
-use Rattle.cedar_typing.proofs.KeptTypes.Types.{is_kept}
+use Rattle.cedar_typing.proofs.KeptTypes.Types.{KeptIn}
 
 -- ---- lists of errors
 
@@ -52,11 +52,12 @@ pub record Knows (J : Judgment) : Type 0 where
   pub derivations : (t : Ty) (c : Caps) (x : TypedTree) → J.derives t c x → is_never t ≡ false
   pub marks : Marks J.derives
 
-kept_not_never : (strictly : Bool) (t : Ty) → is_kept strictly t ≡ true → is_never t ≡ false
-kept_not_never strictly TNever h = cc
+kept_not_never : (strictly : Bool) (t : Ty) → KeptIn strictly t → is_never t ≡ false
+kept_not_never true TNever h = sym h.0
+kept_not_never false TNever h = sym h.0
 kept_not_never strictly t h = refl
 
-pub knows_of : (strictly : Bool) (J : Judgment) → KeepsTypes strictly J → Knows J
+pub knows_of : (strictly : Bool) (J : Judgment) → KeepsTypes (KeptIn strictly) J → Knows J
 knows_of strictly J s = record { derivations = λ t c x h. kept_not_never strictly t (s.derivations t c x h); marks = s.marks }
 
 -- what fails has an error

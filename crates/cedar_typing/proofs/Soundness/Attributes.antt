@@ -22,8 +22,9 @@ use Rattle.cedar_typing.specs.TypeTests.{accepts, object_types, is_record}
 use Rattle.cedar_typing.specs.TypedExpr.{Source}
 use Rattle.cedar_typing.proofs.Basics.{or_cases}
 use Rattle.cedar_typing.proofs.Bounds.Attributes.{Joins}
-use Rattle.cedar_typing.proofs.KeptTypes.Eager.{AllKept, decided_type}
-use Rattle.cedar_typing.proofs.KeptTypes.Types.{is_kept}
+use Rattle.cedar_typing.proofs.KeptTypes.Eager.{decided_type}
+use Rattle.cedar_typing.proofs.KeptTypes.Keeping.{AllKept}
+use Rattle.cedar_typing.proofs.KeptTypes.Types.{KeptIn}
 use Rattle.cedar_typing.proofs.Soundness.Capabilities.{eval_form, hold_none, hold_just}
 use Rattle.cedar_typing.proofs.Soundness.Eager.{AreTypes, GiftIsSound, AllFound, SoundForm, SoundKeptForm}
 use Rattle.cedar_typing.proofs.Soundness.Parts.{IsSure}
@@ -180,15 +181,15 @@ module _ (env : TypeEnv) (world : World) (conforms : ConformingStore env.schema 
     get_gift (Some a) q = guarded_gift (a.1 || known) a _ refl q
     get_gift None q = rw total tt
 
-  pub get_sound : (strictly : Bool) → is_partial env.mode ≡ false → ((s : Ty) → is_kept strictly s ≡ true → Joins env.schema s) → SoundKeptForm strictly world (get_form env m prior e x) (base ∷ []) (eval world (get_attr m e x))
+  pub get_sound : (strictly : Bool) → is_partial env.mode ≡ false → ((s : Ty) → KeptIn strictly s → Joins env.schema s) → SoundKeptForm strictly world (get_form env m prior e x) (base ∷ []) (eval world (get_attr m e x))
   get_sound strictly total joins = record { typed = typed; succeeds = succeeds; failed = λ t h. h }
     where
-      typed : (ts : List (Option Ty)) → AreTypes (get_form env m prior e x) (base ∷ []) ts → AllKept strictly ts → HasFound (decided_type ((get_form env m prior e x).decides ts)) (eval world (get_attr m e x))
+      typed : (ts : List (Option Ty)) → AreTypes (get_form env m prior e x) (base ∷ []) ts → AllKept (KeptIn strictly) ts → HasFound (decided_type ((get_form env m prior e x).decides ts)) (eval world (get_attr m e x))
       typed [] a n = absurd a.have
       typed (None ∷ ts) a n = tt
       typed (Some s ∷ ts) a n = get_decided total s a.have.0 (joins s n.0) (attribute_type env.schema s x) refl
 
-      succeeds : (ts : List (Option Ty)) → AreTypes (get_form env m prior e x) (base ∷ []) ts → AllKept strictly ts → AllFound ts → GiftIsSound world (base ∷ []) (eval world (get_attr m e x)) ((get_form env m prior e x).decides ts)
+      succeeds : (ts : List (Option Ty)) → AreTypes (get_form env m prior e x) (base ∷ []) ts → AllKept (KeptIn strictly) ts → AllFound ts → GiftIsSound world (base ∷ []) (eval world (get_attr m e x)) ((get_form env m prior e x).decides ts)
       succeeds [] a n f = absurd a.have
       succeeds (None ∷ ts) a n f = absurd f.0
       succeeds (Some s ∷ ts) a n f = get_gift total s a.have.0 (joins s n.0) (attribute_type env.schema s x) refl

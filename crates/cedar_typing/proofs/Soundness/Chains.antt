@@ -25,18 +25,19 @@ use Rattle.cedar_typing.specs.TypedExpr.{Source, place_of}
 use Rattle.cedar_typing.proofs.Bounds.Attributes.{Joins}
 use Rattle.cedar_typing.proofs.KeptTypes.Attributes.{attribute_kept}
 use Rattle.cedar_typing.proofs.KeptTypes.Chains.{after_step}
-use Rattle.cedar_typing.proofs.KeptTypes.Eager.{AllKept, decided_type}
-use Rattle.cedar_typing.proofs.KeptTypes.Types.{is_kept}
+use Rattle.cedar_typing.proofs.KeptTypes.Eager.{decided_type}
+use Rattle.cedar_typing.proofs.KeptTypes.Keeping.{AllKept}
+use Rattle.cedar_typing.proofs.KeptTypes.Types.{keeping, KeptIn, formed_if}
 use Rattle.cedar_typing.proofs.Soundness.Capabilities.{hold_none}
 use Rattle.cedar_typing.proofs.Soundness.Eager.{AreTypes, GiftIsSound, AllFound, SoundKeptForm}
 use Rattle.cedar_typing.proofs.Values.Attributes.{get_typed, get_safe}
 use Rattle.cedar_typing.proofs.Soundness.Chains.Steps.{RestIsSound, SoundRest, HoldsIfSure, any_test, refused_rest, end_rest, last_step, first_step, known, known_there, step_rest}
 pub mod Steps
 
-module _ (strictly : Bool) (env : TypeEnv) (world : World) (conforms : ConformingStore env.schema world.store) (prior : Caps) (hold : AllHold world prior) (faults : has_fault env.schema ≡ false) (formed : (strictly || has_formed_types env.schema) ≡ true) (total : is_partial env.mode ≡ false) (joins : (s : Ty) → is_kept strictly s ≡ true → Joins env.schema s) where
+module _ (strictly : Bool) (env : TypeEnv) (world : World) (conforms : ConformingStore env.schema world.store) (prior : Caps) (hold : AllHold world prior) (faults : has_fault env.schema ≡ false) (formed : (strictly || has_formed_types env.schema) ≡ true) (total : is_partial env.mode ≡ false) (joins : (s : Ty) → KeptIn strictly s → Joins env.schema s) where
   -- ---- the access between two steps
 
-  module _ (e : Source) (s : Ty) (h : HasFound (Some s) (eval world e)) (n : is_kept strictly s ≡ true) (x : Text) (p : Progress) where
+  module _ (e : Source) (s : Ty) (h : HasFound (Some s) (eval world e)) (n : KeptIn strictly s) (x : Text) (p : Progress) where
     -- what the access results in
     abbrev got : Outcome → Outcome
     got o = on_value o (get world.store x)
@@ -53,7 +54,7 @@ module _ (strictly : Bool) (env : TypeEnv) (world : World) (conforms : Conformin
     got_safe u r (Gives v) i k f c g = get_safe env.schema x world.store conforms s u r known_now v (joins s n) k f i c
     got_safe u r (Fails z) i k f c g = g
 
-    module _ (t : Test) (next : Ty → Decision) (rest : (u : Ty) → HasFound (Some u) (got (eval world e)) → is_kept strictly u ≡ true → SoundRest world (got (eval world e)) p t (next u)) where
+    module _ (t : Test) (next : Ty → Decision) (rest : (u : Ty) → HasFound (Some u) (got (eval world e)) → KeptIn strictly u → SoundRest world (got (eval world e)) p t (next u)) where
       got_gift : (u : Ty) (r : Bool) → attribute_type env.schema s x ≡ Some (u, r) → (r || known_now) ≡ true → (d : Decision) → RestIsSound world (got (eval world e)) p t d → RestIsSound world (eval world e) p t d
       got_gift u r f c (gives w cs) k = record {
         safe = λ i g. k.safe i (got_safe u r (eval world e) (known_there world prior hold e x p i) h f c g);
@@ -65,7 +66,7 @@ module _ (strictly : Bool) (env : TypeEnv) (world : World) (conforms : Conformin
       declared_rest : (u : Ty) (r b : Bool) (fs : List Finding) → attribute_type env.schema s x ≡ Some (u, r) → (r || known_now) ≡ b
           → SoundRest world (eval world e) p t (after_access (if b then gives u no_caps else refuses (Some u) fs) next)
       declared_rest u r true fs f c =
-          let k = rest u (got_typed u r (eval world e) h f) (attribute_kept strictly env.schema faults formed s x u r n f) in
+          let k = rest u (got_typed u r (eval world e) h f) (attribute_kept (keeping strictly) env.schema faults (formed_if strictly (has_formed_types env.schema) formed) s x u r n f) in
           record { typed = k.typed; boolean = k.boolean; sure = k.sure; succeeds = got_gift u r f c (next u) k.succeeds }
       declared_rest u r false fs f c = refused_rest world (eval world e) p t fs
 
@@ -75,7 +76,7 @@ module _ (strictly : Bool) (env : TypeEnv) (world : World) (conforms : Conformin
 
   -- ---- from step to step
 
-  chain_rest : (l l' : Option Loc) (xs : List Text) (e : Source) (s : Ty) (x : Text) (p : Progress) → HasFound (Some s) (eval world e) → is_kept strictly s ≡ true → HoldsIfSure world p
+  chain_rest : (l l' : Option Loc) (xs : List Text) (e : Source) (s : Ty) (x : Text) (p : Progress) → HasFound (Some s) (eval world e) → KeptIn strictly s → HoldsIfSure world p
       → SoundRest world (eval world e) p (then_test (eval world e) (path_test world.store x xs)) (chain env l l' prior xs e s x p)
   chain_rest l l' [] e s x p h n holds =
       subst (λ t. SoundRest world (eval world e) p t (chain env l l' prior [] e s x p)) (sym (last_step world x (eval world e)))
@@ -107,18 +108,18 @@ module _ (env : TypeEnv) (world : World) (conforms : ConformingStore env.schema 
   }
   gift_of_rest (refuses u fs) r = tt
 
-  pub chain_sound : (strictly : Bool) → has_fault env.schema ≡ false → (strictly || has_formed_types env.schema) ≡ true → is_partial env.mode ≡ false → ((s : Ty) → is_kept strictly s ≡ true → Joins env.schema s) → SoundKeptForm strictly world (chain_form env m prior e x xs) (base ∷ []) whole
+  pub chain_sound : (strictly : Bool) → has_fault env.schema ≡ false → (strictly || has_formed_types env.schema) ≡ true → is_partial env.mode ≡ false → ((s : Ty) → KeptIn strictly s → Joins env.schema s) → SoundKeptForm strictly world (chain_form env m prior e x xs) (base ∷ []) whole
   chain_sound strictly faults formed total joins = record { typed = typed; succeeds = succeeds; failed = λ t h. h }
     where
-      from_base : (s : Ty) → HasFound (Some s) base → is_kept strictly s ≡ true → SoundRest world base no_steps test (chain env (place_of e) m.place prior xs e s x no_steps)
+      from_base : (s : Ty) → HasFound (Some s) base → KeptIn strictly s → SoundRest world base no_steps test (chain env (place_of e) m.place prior xs e s x no_steps)
       from_base s h n = chain_rest strictly env world conforms prior hold faults formed total joins (place_of e) m.place xs e s x no_steps h n (λ k. hold_none world)
 
-      typed : (ts : List (Option Ty)) → AreTypes (chain_form env m prior e x xs) (base ∷ []) ts → AllKept strictly ts → HasFound (decided_type ((chain_form env m prior e x xs).decides ts)) whole
+      typed : (ts : List (Option Ty)) → AreTypes (chain_form env m prior e x xs) (base ∷ []) ts → AllKept (KeptIn strictly) ts → HasFound (decided_type ((chain_form env m prior e x xs).decides ts)) whole
       typed [] a n = absurd a.have
       typed (None ∷ ts) a n = any_test test
       typed (Some s ∷ ts) a n = (from_base s a.have.0 n.0).typed
 
-      succeeds : (ts : List (Option Ty)) → AreTypes (chain_form env m prior e x xs) (base ∷ []) ts → AllKept strictly ts → AllFound ts → GiftIsSound world (base ∷ []) whole ((chain_form env m prior e x xs).decides ts)
+      succeeds : (ts : List (Option Ty)) → AreTypes (chain_form env m prior e x xs) (base ∷ []) ts → AllKept (KeptIn strictly) ts → AllFound ts → GiftIsSound world (base ∷ []) whole ((chain_form env m prior e x xs).decides ts)
       succeeds [] a n f = absurd a.have
       succeeds (None ∷ ts) a n f = absurd f.0
       succeeds (Some s ∷ ts) a n f = gift_of_rest (chain env (place_of e) m.place prior xs e s x no_steps) (from_base s a.have.0 n.0).succeeds

@@ -20,8 +20,9 @@ use Rattle.cedar_typing.specs.TypeEnv.{TypeEnv}
 use Rattle.cedar_typing.specs.TypedExpr.{TypedTree, annotation}
 use Rattle.cedar_typing.proofs.Bounds.Kept.{right_kept}
 use Rattle.cedar_typing.proofs.Bounds.Values.{lub_left}
+use Rattle.cedar_typing.proofs.KeptTypes.Keeping.{HasKept}
 use Rattle.cedar_typing.proofs.KeptTypes.Rules.{KeepsTypes, part_kept}
-use Rattle.cedar_typing.proofs.KeptTypes.Types.{HasKept}
+use Rattle.cedar_typing.proofs.KeptTypes.Types.{KeptIn}
 use Rattle.cedar_typing.proofs.Soundness.Capabilities.{hold_either, hold_left, hold_right}
 use Rattle.cedar_typing.proofs.Soundness.Conjunction.{derived_test, true_sort, false_sort}
 use Rattle.cedar_typing.proofs.Soundness.Parts.{IsSureType, Sound, Sounds, IsSure, refused_sound, part_sound}
@@ -95,7 +96,7 @@ left_has m (Some t) (Some u) o h = go (lub m t u) refl o h
     go (Some v) e (Gives x) h = lub_left m t u v e x h
     go (Some v) e (Fails f) h = tt
 
-right_has : (strictly : Bool) (m : ValidationMode) → is_strict m ≡ strictly → (x y : Option Ty) → HasKept strictly x → HasKept strictly y → (o : Outcome) → HasFound y o → HasFound (joined m x y) o
+right_has : (strictly : Bool) (m : ValidationMode) → is_strict m ≡ strictly → (x y : Option Ty) → HasKept (KeptIn strictly) x → HasKept (KeptIn strictly) y → (o : Outcome) → HasFound y o → HasFound (joined m x y) o
 right_has strictly m strict None y n k o h = tt
 right_has strictly m strict (Some t) None n k o h = tt
 right_has strictly m strict (Some t) (Some u) n k o h = go (lub m t u) refl o h
@@ -189,7 +190,7 @@ right_joined m (Some t) (Some u) h = right_lub m t u h
 
 module _ (strictly : Bool) (world : World) (env : TypeEnv) (strict : is_strict env.mode ≡ strictly) (m : Written) (l : Option Loc) (o p q : Outcome) (A : Judgment) (B : Caps → Judgment) (E : Judgment) (prior : Caps)
     (held : AllHold world prior) (test : Sounds world o A) (branch : (p' : Caps) → AllHold world p' → Sounds world p (B p')) (otherwise : Sounds world q E)
-    (branch_kept : (p' : Caps) → KeepsTypes strictly (B p')) (otherwise_kept : KeepsTypes strictly E) where
+    (branch_kept : (p' : Caps) → KeepsTypes (KeptIn strictly) (B p')) (otherwise_kept : KeepsTypes (KeptIn strictly) E) where
   abbrev choice : Outcome
   choice = choose (test_of o) p q
 
@@ -247,8 +248,8 @@ module _ (strictly : Bool) (world : World) (env : TypeEnv) (strict : is_strict e
       let h = tested_operand world o env l A test succeeded k a fs a' in
       let s = λ (f : SaysTrue (test_of o)). part_sound world p (B (union prior k)) (branch (union prior k) (known k (h.caps_hold_if_true f))) succeeded' k' b fs' b' in
       let i = part_sound world q E otherwise succeeded'' k'' z fs'' z' in
-      let m' = part_kept strictly (B (union prior k)) (branch_kept (union prior k)) succeeded' k' b fs' b' in
-      let m'' = part_kept strictly E otherwise_kept succeeded'' k'' z fs'' z' in
+      let m' = part_kept (KeptIn strictly) (B (union prior k)) (branch_kept (union prior k)) succeeded' k' b fs' b' in
+      let m'' = part_kept (KeptIn strictly) E otherwise_kept succeeded'' k'' z fs'' z' in
       refused_sound world choice _ (open_has (joined env.mode (annotation b) (annotation z)) (test_of o) p q (λ f. left_has env.mode (annotation b) (annotation z) p (s f).typed) (right_has strictly env.mode strict (annotation b) (annotation z) m' m'' q i.typed))
 
   if_marks : (t : Ty) (c : Caps) (x : TypedTree) → (if_rules env m l A B E prior).derives t c x → annotation x ≡ Some t

@@ -12,9 +12,10 @@ use Rattle.cedar_typing.specs.Rules.Eager.{Judgments, NoneDerived, none_derived,
 use Rattle.cedar_typing.specs.Soundness.{HasFound, IsSafe, IsTrueOutcome}
 use Rattle.cedar_typing.specs.TypeEnv.{TypeEnv}
 use Rattle.cedar_typing.specs.TypedExpr.{TypedTree, Mark, mark_of, typed, typed_as, annotation}
-use Rattle.cedar_typing.proofs.KeptTypes.Eager.{AllKept, decided_type, expected_kept}
+use Rattle.cedar_typing.proofs.KeptTypes.Eager.{decided_type, expected_kept}
+use Rattle.cedar_typing.proofs.KeptTypes.Keeping.{HasKept, AllKept}
 use Rattle.cedar_typing.proofs.KeptTypes.Rules.{KeepsTypes}
-use Rattle.cedar_typing.proofs.KeptTypes.Types.{HasKept}
+use Rattle.cedar_typing.proofs.KeptTypes.Types.{KeptIn}
 use Rattle.cedar_typing.proofs.Soundness.Parts.{IsSure, Sound, Sounds, IsAccepted, refused_sound, part_sound, operand_sound, operand_accepted}
 
 -- ---- what is known of operands
@@ -73,8 +74,8 @@ pub record SoundForm (world : World) (f : Form) (os : List Outcome) (o : Outcome
 
 -- the same, where typing keeps to the types of the operands
 pub record SoundKeptForm (strictly : Bool) (world : World) (f : Form) (os : List Outcome) (o : Outcome) : Type 0 where
-  pub typed : (ts : List (Option Ty)) → AreTypes f os ts → AllKept strictly ts → HasFound (decided_type (f.decides ts)) o
-  pub succeeds : (ts : List (Option Ty)) → AreTypes f os ts → AllKept strictly ts → AllFound ts → GiftIsSound world os o (f.decides ts)
+  pub typed : (ts : List (Option Ty)) → AreTypes f os ts → AllKept (KeptIn strictly) ts → HasFound (decided_type (f.decides ts)) o
+  pub succeeds : (ts : List (Option Ty)) → AreTypes f os ts → AllKept (KeptIn strictly) ts → AllFound ts → GiftIsSound world os o (f.decides ts)
   pub failed : (t : Ty) → HasFound (Some t) o → HasFound (Some (f.type_if_failed t)) o
 
 pub of_any : (strictly : Bool) (world : World) (f : Form) (os : List Outcome) (o : Outcome) → SoundForm world f os o → SoundKeptForm strictly world f os o
@@ -104,7 +105,7 @@ module _ (J : Judgment) (env : TypeEnv) where
 pub record AreSound (strictly : Bool) (qs : List Expectation) (os : List Outcome) (ts : List (Option Ty)) : Type 0 where
   pub have : AllHave ts os
   pub meet : AllMeet qs ts
-  pub single : AllKept strictly ts
+  pub single : AllKept (KeptIn strictly) ts
 
 pub record SoundsAll (strictly : Bool) (world : World) (qs : List Expectation) (os : List Outcome) (Js : Judgments) : Type 0 where
   pub derivations : (xs : List TypedTree) → Js.derive xs → AreSound strictly qs os (types_found xs) × AllFound (types_found xs) × AllSafe os
@@ -119,7 +120,7 @@ no_givings strictly qs b xs es none_given = record { have = tt; meet = tt; singl
 pub none_sounds : (strictly : Bool) (world : World) (qs : List Expectation) → SoundsAll strictly world qs [] no_operands
 none_sounds strictly world qs = record { derivations = no_derivations strictly qs; givings = no_givings strictly qs }
 
-module _ (strictly : Bool) (world : World) (env : TypeEnv) (goes_on : Bool) (qs : List Expectation) (l : Option Loc) (o : Outcome) (J : Judgment) (operand : Sounds world o J) (single : KeepsTypes strictly J) (os : List Outcome) (Js : Judgments) (others : SoundsAll strictly world (later_expectations qs) os Js) where
+module _ (strictly : Bool) (world : World) (env : TypeEnv) (goes_on : Bool) (qs : List Expectation) (l : Option Loc) (o : Outcome) (J : Judgment) (operand : Sounds world o J) (single : KeepsTypes (KeptIn strictly) J) (os : List Outcome) (Js : Judgments) (others : SoundsAll strictly world (later_expectations qs) os Js) where
   abbrev More : Judgments
   More = one_more env goes_on (first_expectation qs) l J Js
 
@@ -131,7 +132,7 @@ module _ (strictly : Bool) (world : World) (env : TypeEnv) (goes_on : Bool) (qs 
         record {
           have = (subst (λ y. HasFound y o) e s.typed, r.0.have);
           meet = (subst (Meets (first_expectation qs)) e h, r.0.meet);
-          single = (subst (HasKept strictly) e (single.derivations t c x d), r.0.single);
+          single = (subst (HasKept (KeptIn strictly)) e (single.derivations t c x d), r.0.single);
         },
         (subst IsFound e tt, r.1),
         (s.safe refl, r.2),
@@ -143,7 +144,7 @@ module _ (strictly : Bool) (world : World) (env : TypeEnv) (goes_on : Bool) (qs 
       record {
         have = ((expected_sound J env world o operand (first_expectation qs) l s c x before p).typed, r.have);
         meet = (expected_meets J env (first_expectation qs) l s c x before p, r.meet);
-        single = (expected_kept strictly J single env (first_expectation qs) l s c x before p, r.single);
+        single = (expected_kept (KeptIn strictly) J single env (first_expectation qs) l s c x before p, r.single);
       }
 
   pub more_sounds : SoundsAll strictly world qs (o ∷ os) More
@@ -200,14 +201,14 @@ module _ (strictly : Bool) (world : World) (f : Form) (node_mark : (k : Mark) (x
   form_sounds = record { derivations = form_derived; recoveries = form_recovery; marks = form_marks }
 
 -- a form with one operand
-pub one_operand_sounds : (strictly : Bool) (world : World) (env : TypeEnv) (f : Form) → ((k : Mark) (xs : List TypedTree) → mark_of (f.node k xs) ≡ k) → (l : Option Loc) (o o' : Outcome) (J : Judgment) → SoundKeptForm strictly world f (o ∷ []) o' → Sounds world o J → KeepsTypes strictly J
+pub one_operand_sounds : (strictly : Bool) (world : World) (env : TypeEnv) (f : Form) → ((k : Mark) (xs : List TypedTree) → mark_of (f.node k xs) ≡ k) → (l : Option Loc) (o o' : Outcome) (J : Judgment) → SoundKeptForm strictly world f (o ∷ []) o' → Sounds world o J → KeepsTypes (KeptIn strictly) J
     → Sounds world o' (one_operand_rules env f l J)
 one_operand_sounds strictly world env f node_mark l o o' J form s n =
     form_sounds strictly world f node_mark (o ∷ []) o' form _ (more_sounds strictly world env f.goes_on f.expects l o J s n [] no_operands (none_sounds strictly world (later_expectations f.expects)))
 
 -- a form with two operands
 pub two_operands_sound : (strictly : Bool) (world : World) (env : TypeEnv) (f : Form) → ((k : Mark) (xs : List TypedTree) → mark_of (f.node k xs) ≡ k) → (l l' : Option Loc) (o o' o'' : Outcome) (J J' : Judgment) → SoundKeptForm strictly world f (o ∷ o' ∷ []) o''
-    → Sounds world o J → KeepsTypes strictly J → Sounds world o' J' → KeepsTypes strictly J' → Sounds world o'' (two_operand_rules env f l l' J J')
+    → Sounds world o J → KeepsTypes (KeptIn strictly) J → Sounds world o' J' → KeepsTypes (KeptIn strictly) J' → Sounds world o'' (two_operand_rules env f l l' J J')
 two_operands_sound strictly world env f node_mark l l' o o' o'' J J' form s n s' n' =
     let later = later_expectations f.expects in
     let right = more_sounds strictly world env f.goes_on later l' o' J' s' n' [] no_operands (none_sounds strictly world (later_expectations later)) in

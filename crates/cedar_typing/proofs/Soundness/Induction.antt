@@ -33,10 +33,11 @@ use Rattle.cedar_typing.specs.Soundness.{HasFound, IsSoundAt, TypeSoundness, Typ
 use Rattle.cedar_typing.specs.TypedExpr.{Source, TypedTree, annotation, place_of}
 use Rattle.cedar_typing.proofs.Agreement.Operators.{unary_marked, binary_marked}
 use Rattle.cedar_typing.proofs.Bounds.Attributes.{AttributesFormed, Joins}
-use Rattle.cedar_typing.proofs.KeptTypes.Induction.{types_are_kept}
-use Rattle.cedar_typing.proofs.KeptTypes.Rules.{KeepsTypes}
-use Rattle.cedar_typing.proofs.KeptTypes.Types.{is_kept}
 use Rattle.cedar_typing.proofs.KeptTypes.Attributes.{declared_formed}
+use Rattle.cedar_typing.proofs.KeptTypes.Induction.{types_are_kept}
+use Rattle.cedar_typing.proofs.KeptTypes.Modes.{keeps_in_mode}
+use Rattle.cedar_typing.proofs.KeptTypes.Rules.{KeepsTypes}
+use Rattle.cedar_typing.proofs.KeptTypes.Types.{KeptIn}
 use Rattle.cedar_typing.proofs.Soundness.Attributes.{has_sound, get_sound}
 use Rattle.cedar_typing.proofs.Soundness.Calls.{call_sounds}
 use Rattle.cedar_typing.proofs.Soundness.Chains.{chain_sound}
@@ -73,12 +74,12 @@ module _ (world : World) (o : Outcome) where
   }
 
 -- what a type declares can be joined: in Strict there is no choice, in Permissive all of it is formed
-choice_joins : (strictly : Bool) (s : Schema) → has_fault s ≡ false → (strictly || has_formed_types s) ≡ true → (p q : Path) (ps : List Path) → is_kept strictly (TEntity (p ∷ q ∷ ps)) ≡ true → AttributesFormed s
-choice_joins true s f w p q ps n = absurd (true≢false (sym n))
+choice_joins : (strictly : Bool) (s : Schema) → has_fault s ≡ false → (strictly || has_formed_types s) ≡ true → (p q : Path) (ps : List Path) → KeptIn strictly (TEntity (p ∷ q ∷ ps)) → AttributesFormed s
+choice_joins true s f w p q ps n = absurd (true≢false (sym n.0))
 choice_joins false s f w p q ps n = declared_formed s f w
 
 module _ (strictly : Bool) (s : Schema) (f : has_fault s ≡ false) (w : (strictly || has_formed_types s) ≡ true) where
-  kept_joins : (t : Ty) → is_kept strictly t ≡ true → Joins s t
+  pub kept_joins : (t : Ty) → KeptIn strictly t → Joins s t
   kept_joins (TEntity []) n h = cc
   kept_joins (TEntity (p ∷ [])) n h = cc
   kept_joins (TEntity (p ∷ q ∷ ps)) n h = choice_joins strictly s f w p q ps n
@@ -100,10 +101,10 @@ unary_sound world o m UnaryOp.Neg = negation_sound world m o
 unary_sound world o m UnaryOp.IsEmpty = is_empty_sound world m o
 
 module _ (strictly : Bool) (s : Setting) (world : World) (strict : is_strict s.env.mode ≡ strictly) (partial : is_partial s.env.mode ≡ false) (formed : (strictly || has_formed_types s.env.schema) ≡ true) (faults : has_fault s.env.schema ≡ false) (table_faults : table_fault s.functions ≡ None) (closed : has_external s.env.schema ≡ false) (environment : IsEnvironmentOf s.env.schema s.env.request_env) (fits : Fits s.env.request_env world.request world.slots) (store : ConformingStore s.env.schema world.store) (keeps : KeepsTable (table s) world.functions) where
-  kept_at : (e : Source) (prior : Caps) (d : ℕ) → KeepsTypes strictly (rules s e prior d)
-  kept_at = types_are_kept strictly s strict partial faults formed table_faults environment
+  kept_at : (e : Source) (prior : Caps) (d : ℕ) → KeepsTypes (KeptIn strictly) (rules s e prior d)
+  kept_at = types_are_kept (KeptIn strictly) s (keeps_in_mode strictly s.env strict partial faults formed) table_faults environment
 
-  joins : (t : Ty) → is_kept strictly t ≡ true → Joins s.env.schema t
+  joins : (t : Ty) → KeptIn strictly t → Joins s.env.schema t
   joins = kept_joins strictly s.env.schema faults formed
 
   -- what an operator on two operands promises
@@ -176,7 +177,8 @@ module _ (strictly : Bool) (s : Setting) (world : World) (strict : is_strict s.e
   pub sounds : (e : Source) → SlotsBound world.slots e → (prior : Caps) (d : ℕ) → AllHold world prior → Sounds world (eval world e) (rules s e prior d)
   sounds e b prior d h = within_sounds world _ d _ (sounds_within e b prior d h)
 
-  sound_at : (e : Source) → SlotsBound world.slots e → (prior : Caps) (d : ℕ) → AllHold world prior → IsSoundAt s world e prior d
+  -- type soundness in Strict and in Permissive
+  pub sound_at : (e : Source) → SlotsBound world.slots e → (prior : Caps) (d : ℕ) → AllHold world prior → IsSoundAt s world e prior d
   sound_at e b prior d h =
       let r = sounds e b prior d h in
       record {

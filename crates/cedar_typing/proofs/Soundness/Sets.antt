@@ -18,9 +18,10 @@ use Rattle.cedar_typing.specs.Soundness.{HasFound, IsAllowed, IsSafe}
 use Rattle.cedar_typing.specs.TypeEnv.{TypeEnv, finding}
 use Rattle.cedar_typing.proofs.Basics.{some_is}
 use Rattle.cedar_typing.proofs.Bounds.Lists.{bound_has}
-use Rattle.cedar_typing.proofs.KeptTypes.Collections.{AreKept, found_kept}
-use Rattle.cedar_typing.proofs.KeptTypes.Eager.{AllKept, decided_type}
-use Rattle.cedar_typing.proofs.KeptTypes.Types.{is_kept}
+use Rattle.cedar_typing.proofs.KeptTypes.Collections.{found_kept}
+use Rattle.cedar_typing.proofs.KeptTypes.Eager.{decided_type}
+use Rattle.cedar_typing.proofs.KeptTypes.Keeping.{AreKept, AllKept}
+use Rattle.cedar_typing.proofs.KeptTypes.Types.{KeptIn}
 use Rattle.cedar_typing.proofs.Members.{AreAll}
 use Rattle.cedar_typing.proofs.Soundness.Capabilities.{hold_none}
 use Rattle.cedar_typing.proofs.Soundness.Eager.{AllHave, AllSafe, GiftIsSound, SoundKeptForm, SoundsAll, form_sounds}
@@ -65,12 +66,12 @@ each_has u [] f (o ∷ os) h = absurd h
 each_has u (t ∷ ts) f [] h = absurd h
 each_has u (t ∷ ts) f (o ∷ os) h = (has_also t u (f t (inl refl)) o h.0, each_has u ts (λ s i. f s (inr i)) os h.1)
 
-each_kept : (strictly : Bool) (ts : List Ty) → AreKept strictly ts → AreAll (λ t. is_kept strictly t ≡ true) ts
+each_kept : (strictly : Bool) (ts : List Ty) → AreKept (KeptIn strictly) ts → AreAll (KeptIn strictly) ts
 each_kept strictly [] n s i = absurd i
-each_kept strictly (t ∷ ts) n s (inl e) = subst (λ z. is_kept strictly z ≡ true) (sym e) n.0
+each_kept strictly (t ∷ ts) n s (inl e) = subst (KeptIn strictly) (sym e) n.0
 each_kept strictly (t ∷ ts) n s (inr i) = each_kept strictly ts n.1 s i
 
-all_have : (strictly : Bool) (m : ValidationMode) → is_strict m ≡ strictly → (u : Ty) (ts : List Ty) → list_lub m ts ≡ Some u → AreKept strictly ts → (os : List Outcome) → AllTyped ts os → AllOf u os
+all_have : (strictly : Bool) (m : ValidationMode) → is_strict m ≡ strictly → (u : Ty) (ts : List Ty) → list_lub m ts ≡ Some u → AreKept (KeptIn strictly) ts → (os : List Outcome) → AllTyped ts os → AllOf u os
 all_have strictly m strict u ts e n os h = each_has u ts (λ s i v. bound_has strictly m strict v ts u s e (each_kept strictly ts n) i) os h
 
 -- ---- what the elements come to
@@ -139,21 +140,21 @@ module _ (strictly : Bool) (world : World) (env : TypeEnv) (strict : is_strict e
   abbrev without_elements : Bool → Decision
   without_elements b = if b then refuses None (finding env m.place empty_set_forbidden ∷ []) else set_of_types env m.place (Some [])
 
-  bound_typed : (us : List Ty) (bound : Option Ty) → AllTyped us os → AreKept strictly us → list_lub env.mode us ≡ bound
+  bound_typed : (us : List Ty) (bound : Option Ty) → AllTyped us os → AreKept (KeptIn strictly) us → list_lub env.mode us ≡ bound
       → HasFound (decided_type (set_by_bound env m.place us bound)) whole
   bound_typed us (Some u) h n e = set_has u (together os) (together_has u os (all_have strictly env.mode strict u us e n os h))
   bound_typed us None h n e = tt
 
-  types_typed : (ts : List (Option Ty)) (found : Option (List Ty)) → AllHave ts os → AllKept strictly ts → all_types ts ≡ found
+  types_typed : (ts : List (Option Ty)) (found : Option (List Ty)) → AllHave ts os → AllKept (KeptIn strictly) ts → all_types ts ≡ found
       → HasFound (decided_type (set_of_types env m.place found)) whole
   types_typed ts None h n e = tt
-  types_typed ts (Some us) h n e = bound_typed us (list_lub env.mode us) (found_typed ts us os h e) (found_kept strictly ts us n e) refl
+  types_typed ts (Some us) h n e = bound_typed us (list_lub env.mode us) (found_typed ts us os h e) (found_kept (KeptIn strictly) ts us n e) refl
 
   empty_typed : (b : Bool) → AllHave [] os → HasFound (decided_type (without_elements b)) whole
   empty_typed true h = tt
   empty_typed false h = types_typed [] (Some []) h tt refl
 
-  decided_typed : (ts : List (Option Ty)) → AllHave ts os → AllKept strictly ts → HasFound (decided_type (set_decides env m.place ts)) whole
+  decided_typed : (ts : List (Option Ty)) → AllHave ts os → AllKept (KeptIn strictly) ts → HasFound (decided_type (set_decides env m.place ts)) whole
   decided_typed [] h n = empty_typed (is_strict env.mode) h
   decided_typed (t ∷ ts) h n = types_typed (t ∷ ts) (all_types (t ∷ ts)) h n refl
 

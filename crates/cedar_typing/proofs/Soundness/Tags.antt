@@ -26,8 +26,9 @@ use Rattle.cedar_typing.specs.TypeTests.{accepts, entity_types, string_types}
 use Rattle.cedar_typing.specs.TypedExpr.{Source, form_of}
 use Rattle.cedar_typing.proofs.Bounds.Lists.{bound_has}
 use Rattle.cedar_typing.proofs.Members.{AreAll}
+use Rattle.cedar_typing.proofs.KeptTypes.Declarations.{tags_kept}
 use Rattle.cedar_typing.proofs.KeptTypes.Eager.{decided_type}
-use Rattle.cedar_typing.proofs.KeptTypes.Tags.{IsKept, tags_kept}
+use Rattle.cedar_typing.proofs.KeptTypes.Types.{keeping, KeptIn, formed_if}
 use Rattle.cedar_typing.proofs.Soundness.Capabilities.{eval_form, hold_just}
 use Rattle.cedar_typing.proofs.Soundness.Eager.{AreTypes, GiftIsSound, AllFound, SoundForm}
 use Rattle.cedar_typing.proofs.Soundness.FixedTypes.{silent_gift}
@@ -120,12 +121,12 @@ module _ (env : TypeEnv) (world : World) (closed : has_external env.schema ≡ f
     get_safe (Fails f) o' h k g g' = g
 
   module _ (strictly : Bool) (strict : is_strict env.mode ≡ strictly) where
-    under_bound : (ts : List Ty) (u : Ty) → AreAll (IsKept strictly) ts → list_lub env.mode ts ≡ Some u
+    under_bound : (ts : List Ty) (u : Ty) → AreAll (KeptIn strictly) ts → list_lub env.mode ts ≡ Some u
         → (o : Outcome) → OnValue (HasOneOf ts) o → OnValue (HasType u) o
     under_bound ts u n e (Gives v) h = bound_has strictly env.mode strict v ts u h.0 e n h.1 h.2
     under_bound ts u n e (Fails f) h = tt
 
-    got_typed : (s u : Ty) → AreAll (IsKept strictly) (tag_types env.schema s) → list_lub env.mode (tag_types env.schema s) ≡ Some u
+    got_typed : (s u : Ty) → AreAll (KeptIn strictly) (tag_types env.schema s) → list_lub env.mode (tag_types env.schema s) ≡ Some u
         → (o o' : Outcome) → HasFound (Some s) o → HasFound (Some u) (whole_get o o')
     got_typed s u n e (Gives v) (Gives w) h =
         under_bound (tag_types env.schema s) u n e (get_tag world.store v w) (tag_got env.schema closed world.store conforms s v w h)
@@ -225,7 +226,7 @@ module _ (strictly : Bool) (env : TypeEnv) (world : World) (strict : is_strict e
   bound_typed : (s : Ty) (bound : Option Ty) → HasFound (Some s) (eval world a) → list_lub env.mode (tag_types env.schema s) ≡ bound
       → HasFound (decided_type (tag_by_bound env m.place (tag_types env.schema s) bound)) got
   bound_typed s None h e = tt
-  bound_typed s (Some u) h e = got_typed env world closed conforms strictly strict s u (tags_kept strictly env.schema faults formed s) e (eval world a) (eval world b) h
+  bound_typed s (Some u) h e = got_typed env world closed conforms strictly strict s u (tags_kept (keeping strictly) env.schema faults (formed_if strictly (has_formed_types env.schema) formed) s) e (eval world a) (eval world b) h
 
   types_typed : (s : Ty) (ts : List Ty) → HasFound (Some s) (eval world a) → tag_types env.schema s ≡ ts
       → HasFound (decided_type (get_known_tag env m.place s ts)) got

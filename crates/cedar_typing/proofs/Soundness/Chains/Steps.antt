@@ -95,7 +95,8 @@ true_if : (b : Bool) → is_true (if b then TBool True else TBool AnyBool) ≡ t
 true_if true h = refl
 true_if false h = cc
 
-declared_not_false : (b : Bool) → is_false (if b then TBool True else TBool AnyBool) ≡ true → ⊥
+-- the test of a declared attribute is not False
+pub declared_not_false : (b : Bool) → is_false (if b then TBool True else TBool AnyBool) ≡ true → ⊥
 declared_not_false true h = cc
 declared_not_false false h = cc
 
@@ -103,11 +104,13 @@ undeclared_not_true : (b : Bool) → is_true (if b then TBool AnyBool else TBool
 undeclared_not_true true h = cc
 undeclared_not_true false h = cc
 
-false_if : (b : Bool) → is_false (if b then TBool AnyBool else TBool False) ≡ true → b ≡ false
+-- that of another is False where no value has it
+pub false_if : (b : Bool) → is_false (if b then TBool AnyBool else TBool False) ≡ true → b ≡ false
 false_if true h = cc
 false_if false h = refl
 
-object_accepted : (s : Ty) → is_object s ≡ true → accepts object_types s ≡ true
+-- an entity or a record is accepted where an object is wanted
+pub object_accepted : (s : Ty) → is_object s ≡ true → accepts object_types s ≡ true
 object_accepted (TRecord xs o) h = record_accepted xs o
 object_accepted (TEntity ps) h = refl
 object_accepted TAnyEntity h = refl
