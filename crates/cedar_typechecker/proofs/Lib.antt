@@ -2,3 +2,4 @@ mod Lists
 mod Answers
 mod Passes
 pub mod Levels
+pub mod Slices

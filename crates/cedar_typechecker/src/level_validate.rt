@@ -7,6 +7,7 @@ mod paths;
 mod policy;
 mod reports;
 mod shared;
+pub mod slices;
 mod tally;
 mod targets;
 mod walk;

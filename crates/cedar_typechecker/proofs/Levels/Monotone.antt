@@ -139,7 +139,7 @@ module _ (s : LevelSetting) (m : ℕ) (l : s.maximum ≤ m) where
         if_more (text_eq p q) _ _ _ _ (λ i. (targeted_more t path k k' e i.0, fields_more fs i.1))
         (λ i. (silent_more t i.0, field_more fs p path k k' e i.1)) h
 
-silent_of : (s : LevelSetting) (root : TypedTree) → IsWithinLevel s root → Silent s root
+pub silent_of : (s : LevelSetting) (root : TypedTree) → IsWithinLevel s root → Silent s root
 silent_of s root h = silent_if_none s root ((silent_walk_is_within s root).1 h)
 
 within_of : (s : LevelSetting) (root : TypedTree) → Silent s root → IsWithinLevel s root

@@ -1,0 +1,120 @@
+-- What is shown of an expression by induction: that it evaluates to the same in a part of the
+-- store, and what it reaches where it is a target.
+use Rattle.std.proofs.Common.{◌≡◌, ℕ, ◌≤◌, true, false, List, Some, refl, ap}
+use Rattle.cedar_types.specs.declared.base.types.BoolType.TheVariants.{True, False}
+use Rattle.cedar_types.specs.Names.{Text, Uid}
+use Rattle.cedar_types.specs.Types.{Ty, TBool}
+use Rattle.cedar_types.specs.Values.{Value, VBool}
+use Rattle.cedar_typing.specs.Capabilities.{Caps}
+use Rattle.cedar_typing.specs.Evaluation.Conformance.{AllHold}
+use Rattle.cedar_typing.specs.Evaluation.Outcomes.{Test, Says, Stops, test_of, of_test, choose, and_test, or_test}
+use Rattle.cedar_typing.specs.Evaluation.World.{World, Failure, Outcome, Gives, Fails}
+use Rattle.cedar_typing.specs.Judgments.{Judgment}
+use Rattle.cedar_typing.specs.Soundness.{OnValue, HasFound, IsTrueOutcome}
+use Rattle.cedar_typing.specs.TypedExpr.{TypedTree, annotation}
+use Rattle.cedar_typechecker.specs.Levels.Setting.{LevelSetting}
+use Rattle.cedar_typechecker.proofs.Levels.Silent.{Silent, Targeted}
+use Rattle.cedar_typechecker.proofs.Slices.Ids.{Selected, select_bool}
+
+-- ---- what soundness says of the derivations of an expression that evaluates to o
+
+pub record IsTold (world : World) (o : Outcome) (J : Judgment) : Type 0 where
+  pub typed : (t : Ty) (c : Caps) (x : TypedTree) → J.derives t c x → HasFound (Some t) o
+  pub found : (t : Ty) (c : Caps) (x : TypedTree) → J.derives t c x → HasFound (annotation x) o
+  pub caps_hold_if_true : (t : Ty) (c : Caps) (x : TypedTree) → J.derives t c x
+      → IsTrueOutcome o → AllHold world c
+  pub caps_hold_at_true : (c : Caps) (x : TypedTree) → J.derives (TBool True) c x
+      → AllHold world c
+
+-- less of it: what `&&` needs of its left side
+pub record IsToldLeft (world : World) (o : Outcome) (J : Judgment) : Type 0 where
+  pub is_false : (c : Caps) (x : TypedTree) → J.derives (TBool False) c x
+      → HasFound (Some (TBool False)) o
+  pub caps_hold_if_true : (t : Ty) (c : Caps) (x : TypedTree) → J.derives t c x
+      → IsTrueOutcome o → AllHold world c
+
+pub told_left : (world : World) (o : Outcome) (J : Judgment) → IsTold world o J
+    → IsToldLeft world o J
+told_left world o J k = record {
+  is_false = k.typed (TBool False);
+  caps_hold_if_true = k.caps_hold_if_true;
+}
+
+-- ---- what is shown
+
+-- o in the whole store and o' in the part are the same, and what a target selects is reached
+pub record IsReached (P : ℕ → Uid → Type 0) (path : List Text) (k : ℕ) (o o' : Outcome) :
+    Type 0 where
+  pub same : o' ≡ o
+  pub ids : OnValue (Selected (P k) path) o
+
+-- of a derivation in which no level error is found
+pub record IsSame (s : LevelSetting) (P : ℕ → Uid → Type 0) (o o' : Outcome) (J : Judgment) :
+    Type 0 where
+  pub checked : (t : Ty) (c : Caps) (x : TypedTree) → J.derives t c x → Silent s x → o' ≡ o
+  pub target : (t : Ty) (c : Caps) (x : TypedTree) → J.derives t c x
+      → (path : List Text) (k : ℕ) → k ≤ s.maximum → Targeted s x path k
+      → IsReached P path k o o'
+
+-- ---- outcomes
+
+pub value_map : {Q R : Value → Type 0} (o : Outcome) → ((v : Value) → Q v → R v) → OnValue Q o
+    → OnValue R o
+value_map (Gives v) f h = f v h
+value_map (Fails e) f h = tt
+
+pub fails_reached : (P : ℕ → Uid → Type 0) (path : List Text) (k : ℕ) (f : Failure)
+    → IsReached P path k (Fails f) (Fails f)
+fails_reached P path k f = record { same = refl; ids = tt }
+
+pub test_ids : (Q : Uid → Type 0) (path : List Text) (t : Test)
+    → OnValue (Selected Q path) (of_test t)
+test_ids Q path (Says b) = select_bool Q path b
+test_ids Q path (Stops f) = tt
+
+-- what holds of both branches, or of the one that is taken, and of each failure, holds of an `if`
+module _ (Q : Outcome → Outcome → Type 0) (fails : (f : Failure) → Q (Fails f) (Fails f))
+    (p q p' q' : Outcome) where
+  pub chosen_true : (o : Outcome) → HasFound (Some (TBool True)) o → Q p p'
+      → Q (choose (test_of o) p q) (choose (test_of o) p' q')
+  chosen_true (Gives (VBool true)) h e = e
+  chosen_true (Gives (VBool false)) h e = cc
+  chosen_true (Gives v) h e = absurd h
+  chosen_true (Fails f) h e = fails f
+
+  pub chosen_false : (o : Outcome) → HasFound (Some (TBool False)) o → Q q q'
+      → Q (choose (test_of o) p q) (choose (test_of o) p' q')
+  chosen_false (Gives (VBool true)) h e = cc
+  chosen_false (Gives (VBool false)) h e = e
+  chosen_false (Gives v) h e = absurd h
+  chosen_false (Fails f) h e = fails f
+
+  pub chosen_open : (o : Outcome) → (IsTrueOutcome o → Q p p') → Q q q'
+      → Q (choose (test_of o) p q) (choose (test_of o) p' q')
+  chosen_open (Gives (VBool true)) f e = f refl
+  chosen_open (Gives (VBool false)) f e = e
+  chosen_open (Gives v) f e = fails _
+  chosen_open (Fails g) f e = fails g
+
+-- the right side of `&&` counts where the left one is true, that of `||` where it is not
+module _ (p p' : Outcome) where
+  pub and_left_false : (o : Outcome) → HasFound (Some (TBool False)) o
+      → of_test (and_test (test_of o) (test_of p')) ≡ of_test (and_test (test_of o) (test_of p))
+  and_left_false (Gives (VBool true)) h = cc
+  and_left_false (Gives (VBool false)) h = refl
+  and_left_false (Gives v) h = absurd h
+  and_left_false (Fails f) h = refl
+
+  pub or_left_true : (o : Outcome) → HasFound (Some (TBool True)) o
+      → of_test (or_test (test_of o) (test_of p')) ≡ of_test (or_test (test_of o) (test_of p))
+  or_left_true (Gives (VBool true)) h = refl
+  or_left_true (Gives (VBool false)) h = cc
+  or_left_true (Gives v) h = absurd h
+  or_left_true (Fails f) h = refl
+
+  pub and_sides : (o : Outcome) → (IsTrueOutcome o → p' ≡ p)
+      → of_test (and_test (test_of o) (test_of p')) ≡ of_test (and_test (test_of o) (test_of p))
+  and_sides (Gives (VBool true)) f = ap (λ z. of_test (test_of z)) (f refl)
+  and_sides (Gives (VBool false)) f = refl
+  and_sides (Gives v) f = refl
+  and_sides (Fails g) f = refl
