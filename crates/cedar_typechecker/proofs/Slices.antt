@@ -16,3 +16,7 @@ pub mod Forms
 pub mod Induction
 pub mod TargetLevels
 pub mod Expressions
+pub mod Conditions
+pub mod Policies
+pub mod Validation
+pub mod Nesting

@@ -3,3 +3,4 @@ pub mod Reach
 pub mod Soundness
 pub mod Policies
 pub mod Validation
+pub mod Nesting

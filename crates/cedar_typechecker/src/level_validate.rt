@@ -5,6 +5,7 @@ mod costs;
 pub mod laws;
 mod paths;
 mod policy;
+pub mod promises;
 mod reports;
 mod shared;
 pub mod slices;

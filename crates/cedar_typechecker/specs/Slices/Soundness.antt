@@ -93,7 +93,7 @@ TargetsReach s world n =
     → (root : TypedTree) → IsWithinLevel (levels_in s n) root
     → (path : List Text) → IsTarget (levels_in s n) root x path
     → OnValue (λ v. (u : Uid) → IsOneOf u (ids_along path v)
-        → IsReachedIn world (level (levels_in s n).action x path) u) (eval world e)
+    → IsReachedIn world (level (levels_in s n).action x path) u) (eval world e)
 
 -- ---- in Strict
 

@@ -1,17 +1,22 @@
 -- What the validation of a policy with levels promises where it finds no error.
-use Rattle.std.specs.Prelude.{◌≡◌, ℕ, ◌≤◌, true, List, []}
+use Rattle.std.specs.Prelude.{◌≡◌, ℕ, true, false, List, [], None}
 use Rattle.cedar_types.specs.declared.base.types.ValidationMode.{ValidationMode}
+use Rattle.cedar_types.specs.declared.base.types.ValidationMode.TheVariants.{Strict, Permissive}
 use Rattle.cedar_types.specs.Errors.{Finding, Caution}
+use Rattle.cedar_types.specs.ExtensionFunctions.{table_fault}
+use Rattle.cedar_types.specs.FormedSchemas.{has_formed_types}
 use Rattle.cedar_types.specs.Linking.{checked_envs}
 use Rattle.cedar_types.specs.RequestEnvs.{Env}
+use Rattle.cedar_types.specs.Schemas.{has_fault}
 use Rattle.cedar_types.specs.Templates.{PlainTemplate, condition_of}
 use Rattle.cedar_typing.specs.Capabilities.{no_caps}
 use Rattle.cedar_typing.specs.Evaluation.Conformance.{IsOneOf}
 use Rattle.cedar_typing.specs.Evaluation.Eval.{eval}
 use Rattle.cedar_typing.specs.Evaluation.World.{World}
-use Rattle.cedar_typing.specs.PolicySoundness.{Basis, IsClosedIn, IsWellFormed, IsConforming, setting_on, CheckedOn}
+use Rattle.cedar_typing.specs.PolicySoundness.{Basis, IsClosedIn, IsWellFormed, IsConforming, ImpossibleIsNeverTrueIn, setting_on, CheckedOn}
 use Rattle.cedar_typing.specs.RuleLaws.{IsCut}
 use Rattle.cedar_typing.specs.SoundPolicyCheck.{IsBooleanOrAllowed}
+use Rattle.cedar_typechecker.specs.Levels.Outcome.{LevelOutcome}
 use Rattle.cedar_typechecker.specs.Slices.Policies.{IsSameInSlices}
 
 -- ---- nothing is nested too deep
@@ -45,3 +50,34 @@ SilenceIsKeptIn m b t n errors =
     errors ≡ [] → IsCutNowhere b t → IsClosedIn m b
     → (world : World) → IsWellFormed t world.slots → IsConforming b world
     → IsKeptInSlices t n world
+
+-- where it warns that the policy is impossible, the condition is never true, with errors or without
+abbrev pub WarnedIsNeverTrueIn : ValidationMode → Basis → PlainTemplate → List Caution → Type 0
+WarnedIsNeverTrueIn m b t warnings = ImpossibleIsNeverTrueIn m b t [] warnings
+
+-- ---- where they come from
+
+-- both promises
+pub record OutcomeIsKeptIn (m : ValidationMode) (b : Basis) (t : PlainTemplate) (n : ℕ)
+    (errors : List Finding) (warnings : List Caution) : Type 0 where
+  pub silent : SilenceIsKeptIn m b t n errors
+  pub never_true : WarnedIsNeverTrueIn m b t warnings
+
+-- by a schema and a table without faults, as all are that the program makes, both follow from what
+-- the validation comes to
+abbrev pub OutcomesAreKept : Type 0
+OutcomesAreKept =
+    (b : Basis) (t : PlainTemplate)
+    → has_fault b.schema ≡ false → table_fault b.table.functions ≡ None
+    → (n : ℕ) (errors : List Finding) (warnings : List Caution)
+    → LevelOutcome b t n errors warnings → OutcomeIsKeptIn Strict b t n errors warnings
+
+-- in Permissive, where names also ascend in the types of the schema, as in every schema of the
+-- program
+abbrev pub OutcomesAreKeptInPermissive : Type 0
+OutcomesAreKeptInPermissive =
+    (b : Basis) (t : PlainTemplate)
+    → has_fault b.schema ≡ false → has_formed_types b.schema ≡ true
+    → table_fault b.table.functions ≡ None
+    → (n : ℕ) (errors : List Finding) (warnings : List Caution)
+    → LevelOutcome b t n errors warnings → OutcomeIsKeptIn Permissive b t n errors warnings

@@ -1,5 +1,6 @@
 // The validation of a policy with levels.
 ghost use Rattle.std.specs.Prelude.{◌≡◌, ◌++◌, IfOk, OnOk, IsPermutation, map, cond, [], ◌∷◌};
+ghost use Rattle.cedar_types.specs.declared.base.types.ValidationMode.TheVariants.{Strict, Permissive};
 ghost use Rattle.cedar_types.specs.Errors.{caution_of};
 ghost use Rattle.cedar_types.specs.Linking.{checked_envs};
 ghost use Rattle.cedar_types.specs.SchemaContents.{schema_of};
@@ -10,6 +11,7 @@ ghost use Rattle.cedar_typechecker.specs.Levels.Outcome.{ChecksOn, levels_on, na
 ghost use Rattle.cedar_typechecker.specs.Levels.Tallies.{basis_in, TalliesLevels};
 ghost use Rattle.cedar_typechecker.specs.Levels.Views.{findings};
 ghost use Rattle.cedar_typechecker.specs.Passes.{errors_left};
+ghost use Rattle.cedar_typechecker.specs.Slices.Validation.{SilenceIsKeptIn, WarnedIsNeverTrueIn};
 ghost use Rattle.cedar_typechecker.specs.ValidatorViews.{schema_in};
 
 use crate::level_validate::answers::{LevelErrors, LevelWarnings};
@@ -32,8 +34,16 @@ impl<C: ArgumentCheck> Validator<'_, C> {
     /// once. The warnings are that no action fits the scope, in Strict and in Permissive, and that the policy is impossible:
     /// irrelevant in each environment. Each environment is typed once, and one typed condition is held at a time.
     ///
-    /// No error does not mean that the policy passes: where it is nested too deep, its check fails without one.
-    /// Where memory is refused, the answer is an `AllocError`.
+    /// In Strict and in Permissive no error means that the policy passes and needs no more of a store than `max_deref_level`
+    /// steps reach (clauses `silent` and `silent_in_permissive`): by a schema without external declarations, where no part that
+    /// is visited is nested too deep, where the policy has no unknowns, its slots stand in the scope alone and are bound, the
+    /// request and the store conform and the extension functions keep to their table, evaluation gives a boolean or fails only
+    /// for a missing entity, an overflow or an extension function; and it gives the very same in each part of the store that
+    /// has at least the slice of `max_deref_level` steps. A policy that is warned to be impossible is then never true (clauses
+    /// `never_true` and `never_true_in_permissive`), with errors or without.
+    ///
+    /// Where a part is nested too deep the check fails, and there need be no error: `typecheck_policy` answers `true` of no
+    /// such policy. Where memory is refused, the answer is an `AllocError`.
     pub fn validate_policy_with_level(
         &self,
         alloc: Global,
@@ -41,9 +51,21 @@ impl<C: ArgumentCheck> Validator<'_, C> {
         mode: ValidationMode,
         max_deref_level: u32,
     ) -> Result<(LevelErrors, LevelWarnings), AllocError>
-        ensures { IfOk result (λ r.
+        ensures exact { IfOk result (λ r.
             LevelOutcome (basis_in C.refusal self.now mode) (template_of p.now) max_deref_level
             (level_errors_left r.0) (level_warnings_left r.1)) }
+        ensures silent { IfOk result (λ r.
+            SilenceIsKeptIn Strict (basis_in C.refusal self.now mode) (template_of p.now)
+            max_deref_level (level_errors_left r.0)) }
+        ensures never_true { IfOk result (λ r.
+            WarnedIsNeverTrueIn Strict (basis_in C.refusal self.now mode) (template_of p.now)
+            (level_warnings_left r.1)) }
+        ensures silent_in_permissive { IfOk result (λ r.
+            SilenceIsKeptIn Permissive (basis_in C.refusal self.now mode) (template_of p.now)
+            max_deref_level (level_errors_left r.0)) }
+        ensures never_true_in_permissive { IfOk result (λ r.
+            WarnedIsNeverTrueIn Permissive (basis_in C.refusal self.now mode) (template_of p.now)
+            (level_warnings_left r.1)) }
     {
         let tally = self.level_tally(alloc, p, mode, max_deref_level)?;
         let mut errors = self.name_errors(alloc, p, mode)?;

@@ -30,7 +30,7 @@ module _ (strictly : Bool) (s : Setting) (ok : Settled strictly s) (e : Source) 
       let h = operand_loud (rules s e no_caps 1) (loud strictly s ok e (clean s.env.schema e named) no_caps 1) s.env bool_types (place_of e) false c x es o refl in
       true≢false (sym q ∙ reordered_loud es fs p h)
 
-  silent_cut : (fs : List Finding) → PolicyChecks s e (fails fs) → is_silent fs ≡ true → IsCut s e no_caps 1
+  pub silent_cut : (fs : List Finding) → PolicyChecks s e (fails fs) → is_silent fs ≡ true → IsCut s e no_caps 1
   silent_cut fs (check_refused {e' = x} {es = es} r n p) q = absurd (refused_loud x es fs r p q)
   silent_cut fs (check_cut {es = es} c p) q = (es, c)
 

@@ -54,7 +54,7 @@ module _ (s : Schema) where
   unlinked_of_schema ValidationMode.Permissive h u i = of_schema (environments_of s.actions) (λ d k. k) u i
   unlinked_of_schema ValidationMode.Partial h u i = cc
 
-  checked_of_schema : (m : ValidationMode) → is_partial m ≡ false → (t : PlainTemplate) (e : Env) → IsOneOf e (checked_envs s m t) → IsEnvironmentOf s e
+  pub checked_of_schema : (m : ValidationMode) → is_partial m ≡ false → (t : PlainTemplate) (e : Env) → IsOneOf e (checked_envs s m t) → IsEnvironmentOf s e
   checked_of_schema m h t =
       all_flat (linked_envs s t) (IsEnvironmentOf s) (unlinked_envs s m)
       (λ u i. linked_of_schema t u (unlinked_of_schema m h u i))

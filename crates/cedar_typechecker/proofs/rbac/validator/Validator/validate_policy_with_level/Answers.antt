@@ -1,19 +1,23 @@
 use Rattle.std.proofs.Common.{◌++◌, ◌∷◌, [], List, map, cond, sym, ap, subst, ◌∙◌}
 use Rattle.std.specs.Prelude.{IsPermutation}
 use Rattle.cedar_types.specs.Errors.{Finding, finding_of, caution_of}
+use Rattle.cedar_types.specs.Extensions.{functions_of}
 use Rattle.cedar_types.specs.SchemaContents.{schema_of}
 use Rattle.cedar_types.specs.Templates.{template_of}
+use Rattle.cedar_types.proofs.Expressions.SortedTables.{no_fault}
 use Rattle.cedar_typing.specs.PolicyOutcome.{impossible}
 use Rattle.cedar_typechecker.specs.Levels.Answers.{level_errors_left, level_warnings_left}
 use Rattle.cedar_typechecker.specs.Levels.Outcome.{name_findings, application_warnings}
+use Rattle.cedar_typechecker.specs.Levels.Tallies.{basis_in}
 use Rattle.cedar_typechecker.specs.Levels.Views.{findings}
-use Rattle.cedar_typechecker.specs.ValidatorViews.{schema_in}
+use Rattle.cedar_typechecker.specs.ValidatorViews.{schema_in, extensions_in}
 use Rattle.cedar_typechecker.proofs.Levels.Outcomes.{all_given}
+use Rattle.cedar_typechecker.proofs.Slices.Validation.{outcomes_are_kept, outcomes_are_kept_in_permissive}
 use Rattle.cedar_typechecker.proofs.rbac.validator.Validator.validate_policy_with_level.Goals as goal
 
-pub returns : goal.returns
+pub returns-clause-exact : goal.returns-clause-exact
 unfolding level_errors_left level_warnings_left
-returns g c =
+returns-clause-exact g c =
     let s = schema_of (schema_in c.args.self.now) in
     let t = template_of c.args.p.now in
     let k = c.in_ok-tally.ensures in
@@ -44,3 +48,39 @@ returns g c =
           ∙ ap (λ i. application_warnings c.args.mode s t ++ cond i (impossible t ∷ []) [])
           k.tallied.irrelevant);
     }
+
+pub returns-clause-silent : goal.returns-clause-silent
+unfolding schema_of functions_of schema_in extensions_in
+returns-clause-silent g c =
+    let o = returns-clause-exact g c in
+    let b = basis_in g.C.ArgumentCheck.refusal c.args.self.now c.args.mode in
+    let extensions = c.args.self.now.extensions.now in
+    let table = no_fault g.C.ArgumentCheck.refusal extensions.functions.items extensions.faultless in
+    (outcomes_are_kept b (template_of c.args.p.now) c.args.self.now.schema.faultless table _ _ _ o).silent
+
+pub returns-clause-never_true : goal.returns-clause-never_true
+unfolding schema_of functions_of schema_in extensions_in
+returns-clause-never_true g c =
+    let o = returns-clause-exact g c in
+    let b = basis_in g.C.ArgumentCheck.refusal c.args.self.now c.args.mode in
+    let extensions = c.args.self.now.extensions.now in
+    let table = no_fault g.C.ArgumentCheck.refusal extensions.functions.items extensions.faultless in
+    (outcomes_are_kept b (template_of c.args.p.now) c.args.self.now.schema.faultless table _ _ _ o).never_true
+
+pub returns-clause-silent_in_permissive : goal.returns-clause-silent_in_permissive
+unfolding schema_of functions_of schema_in extensions_in
+returns-clause-silent_in_permissive g c =
+    let o = returns-clause-exact g c in
+    let b = basis_in g.C.ArgumentCheck.refusal c.args.self.now c.args.mode in
+    let extensions = c.args.self.now.extensions.now in
+    let table = no_fault g.C.ArgumentCheck.refusal extensions.functions.items extensions.faultless in
+    (outcomes_are_kept_in_permissive b (template_of c.args.p.now) c.args.self.now.schema.faultless c.args.self.now.schema.formed table _ _ _ o).silent
+
+pub returns-clause-never_true_in_permissive : goal.returns-clause-never_true_in_permissive
+unfolding schema_of functions_of schema_in extensions_in
+returns-clause-never_true_in_permissive g c =
+    let o = returns-clause-exact g c in
+    let b = basis_in g.C.ArgumentCheck.refusal c.args.self.now c.args.mode in
+    let extensions = c.args.self.now.extensions.now in
+    let table = no_fault g.C.ArgumentCheck.refusal extensions.functions.items extensions.faultless in
+    (outcomes_are_kept_in_permissive b (template_of c.args.p.now) c.args.self.now.schema.faultless c.args.self.now.schema.formed table _ _ _ o).never_true

@@ -1,0 +1,98 @@
+-- A policy that passes, and has no level error, in a part of a store: in Strict and in Permissive.
+use Rattle.std.proofs.Common.{◌≡◌, ℕ, Bool, true, false, ◌||◌, List, None, refl, ap}
+use Rattle.cedar_types.specs.Bounds.{is_strict}
+use Rattle.cedar_types.specs.Environments.{DeclaredEnv, environments_of}
+use Rattle.cedar_types.specs.Errors.{Finding, Caution}
+use Rattle.cedar_types.specs.ExtensionFunctions.{table_fault}
+use Rattle.cedar_types.specs.FormedSchemas.{has_formed_types}
+use Rattle.cedar_types.specs.Linking.{checked_envs}
+use Rattle.cedar_types.specs.RequestEnvs.{Env, Undeclared, is_partial}
+use Rattle.cedar_types.specs.Schemas.{has_fault}
+use Rattle.cedar_types.specs.Stores.{Store}
+use Rattle.cedar_types.specs.Templates.{PlainTemplate, condition_of}
+use Rattle.cedar_typing.specs.Composition.{in_env, own_env}
+use Rattle.cedar_typing.specs.Evaluation.Conformance.{IsOneOf, FitsRequest, ConformingRequest, SlotsBound, has_external}
+use Rattle.cedar_typing.specs.Evaluation.World.{World}
+use Rattle.cedar_typing.specs.PolicyCheck.{Verdict}
+use Rattle.cedar_typing.specs.PolicySoundness.{Basis, IsNamedBySchema, IsWellFormed, IsConforming, setting_on, CheckedOn}
+use Rattle.cedar_typing.specs.Setting.{Setting}
+use Rattle.cedar_typing.specs.Silence.{IsWellNamedTemplate, IsDerivedAs}
+use Rattle.cedar_typing.specs.TypedExpr.{Source}
+use Rattle.cedar_typing.proofs.Composition.Links.{own_env_is_checked}
+use Rattle.cedar_typing.proofs.Composition.NeverTrue.{Sure, own_is_world}
+use Rattle.cedar_typing.proofs.Composition.OwnBinding.{own_slots, own_world, both_bound}
+use Rattle.cedar_typing.proofs.Composition.Slots.{slots_bound}
+use Rattle.cedar_typing.proofs.Silence.Policies.{passing_derived_in}
+use Rattle.cedar_typing.proofs.Soundness.Induction.{sound_at}
+use Rattle.cedar_typechecker.specs.Levels.Outcome.{levels_on}
+use Rattle.cedar_typechecker.specs.Slices.Policies.{VerdictIsWithin, PolicyIsWithinLevel, IsSameIn, IsSameInSlices, PassingNeedsSliceAlone, PassingNeedsSliceAloneInPermissive, PassingNeedsSliceWithoutSlots, PassingNeedsSliceForWholeCopies}
+use Rattle.cedar_typechecker.specs.Slices.Reach.{HoldsSlice}
+use Rattle.cedar_typechecker.proofs.Slices.Conditions.{linked, derived_same}
+use Rattle.cedar_typechecker.proofs.Slices.Expressions.{same_at}
+
+-- ---- in one of both modes
+
+module _ (strictly : Bool) (b : Basis) (t : PlainTemplate) (schema : has_fault b.schema ≡ false) (formed : (strictly || has_formed_types b.schema) ≡ true)
+    (functions : table_fault b.table.functions ≡ None) (strict : is_strict b.mode ≡ strictly) (total : is_partial b.mode ≡ false) (closed : has_external b.schema ≡ false) where
+  -- the setting, whose environment does not matter
+  abbrev s : Setting
+  s = setting_on b t.id Undeclared
+
+  sure : Sure strictly s
+  sure = record { strict = strict; total = total; formed = formed; schema = schema; functions = functions; closed = closed }
+
+  module _ (n : ℕ) (world : World) (w : IsWellFormed t world.slots) (i : IsConforming b world) (part : Store) (holds : HoldsSlice world.request world.store n part) where
+    bound : (e : Source) → SlotsBound (own_slots world.request) e
+    bound = slots_bound (own_slots world.request) (both_bound world.request)
+
+    -- what is derived in the own environment, and has no level error there, is the same in the part
+    in_own : (d : DeclaredEnv) → IsOneOf d (environments_of b.schema.actions) → FitsRequest d world.request
+        → (v : Verdict) → IsDerivedAs (setting_on b t.id (own_env t d)) (condition_of t) v
+        → VerdictIsWithin (levels_on b t n (own_env t d)) v → IsSameIn t world part
+    in_own d one fits =
+        derived_same s t d world n part holds
+        (λ e prior k h.
+        same_at strictly (linked s d) (own_world world) n part strict total formed schema functions closed one tt
+        (fits, fits.principal, fits.resource) i.store i.functions holds e (bound e) prior k h)
+        (λ e prior k h.
+        sound_at strictly (in_env s (own_env t d)) (own_world world) strict total formed schema functions closed one
+        (own_is_world strictly s t sure d one world fits i.store i.functions).environment i.store i.functions e (bound e) prior k h)
+        w.slots_in_scope w.bound
+
+    same_if_known : ((env : Env) → IsOneOf env (checked_envs b.schema b.mode t)
+        → (v : Verdict) × IsDerivedAs (setting_on b t.id env) (condition_of t) v × VerdictIsWithin (levels_on b t n env) v)
+        → IsSameIn t world part
+    same_if_known known = by i.request
+      where
+        by : ConformingRequest b.schema world.request → IsSameIn t world part
+        by (d, one, fits) =
+            let k = known (own_env t d) (own_env_is_checked b.schema b.mode t w.slots_in_scope d one) in
+            in_own d one fits k.0 k.1 k.2
+
+  suffices : (errors errors' : List Finding) (old new : List Caution) → CheckedOn b t true errors errors' old new
+      → (n : ℕ) → IsNamedBySchema b.schema t → PolicyIsWithinLevel b t n
+      → (world : World) → IsWellFormed t world.slots → IsConforming b world → IsSameInSlices t world n
+  suffices errors errors' old new o n names quiet world w i part holds =
+      let named : IsWellNamedTemplate b.schema t = record { unknowns = w.no_unknowns; types = names.types; actions = names.actions } in
+      same_if_known n world w i part holds
+      (λ env k.
+      let p = passing_derived_in strictly s t strict total formed schema functions named errors errors' old new o env k in
+      (p.0, p.2, quiet env k p.0 p.1))
+
+-- ---- the laws
+
+pub passing_needs_slice_alone : PassingNeedsSliceAlone
+passing_needs_slice_alone b t schema functions errors errors' old new o n k names quiet world w i =
+    suffices true b t schema refl functions (ap is_strict k.mode) (ap is_partial k.mode) k.closed errors errors' old new o n names quiet world w i
+
+pub passing_needs_slice_alone_in_permissive : PassingNeedsSliceAloneInPermissive
+passing_needs_slice_alone_in_permissive b t schema formed functions errors errors' old new o n k names quiet world w i =
+    suffices false b t schema formed functions (ap is_strict k.mode) (ap is_partial k.mode) k.closed errors errors' old new o n names quiet world w i
+
+pub passing_needs_slice_without_slots : PassingNeedsSliceWithoutSlots
+passing_needs_slice_without_slots b t schema functions errors errors' old new o no_slots =
+    passing_needs_slice_alone b t schema functions errors errors' old new o
+
+pub passing_needs_slice_for_whole_copies : PassingNeedsSliceForWholeCopies
+passing_needs_slice_for_whole_copies b t schema functions errors errors' old new o no_slots whole =
+    passing_needs_slice_alone b t schema functions errors errors' old new o
