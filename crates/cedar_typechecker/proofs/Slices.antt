@@ -20,3 +20,4 @@ pub mod Conditions
 pub mod Policies
 pub mod Validation
 pub mod Nesting
+pub mod Examples

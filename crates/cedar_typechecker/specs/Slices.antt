@@ -4,3 +4,5 @@ pub mod Soundness
 pub mod Policies
 pub mod Validation
 pub mod Nesting
+pub mod Examples
+pub mod NeededPremises

@@ -8,6 +8,7 @@ mod policy;
 pub mod promises;
 mod reports;
 mod shared;
+pub mod slice_examples;
 pub mod slices;
 mod tally;
 mod targets;

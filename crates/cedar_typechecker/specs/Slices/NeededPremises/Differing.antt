@@ -1,0 +1,61 @@
+-- What is said of the examples of premises that are needed: what holds of each, and that evaluation
+-- in the part of the store differs from evaluation in the store.
+use Rattle.std.specs.Prelude.{◌≡◌, ℕ, true, false, None}
+use Rattle.cedar_types.specs.declared.base.types.ValidationMode.{ValidationMode}
+use Rattle.cedar_types.specs.Errors.{Fault, Finding}
+use Rattle.cedar_types.specs.ExtensionFunctions.{table_fault}
+use Rattle.cedar_types.specs.FormedSchemas.{has_formed_types}
+use Rattle.cedar_types.specs.Linking.{checked_envs}
+use Rattle.cedar_types.specs.RequestEnvs.{Env}
+use Rattle.cedar_types.specs.Schemas.{has_fault}
+use Rattle.cedar_types.specs.Stores.{Store}
+use Rattle.cedar_types.specs.Templates.{PlainTemplate, condition_of}
+use Rattle.cedar_typing.specs.Evaluation.Conformance.{IsOneOf}
+use Rattle.cedar_typing.specs.Evaluation.Eval.{eval}
+use Rattle.cedar_typing.specs.Evaluation.World.{World, Outcome}
+use Rattle.cedar_typing.specs.PolicyCheck.{Verdict}
+use Rattle.cedar_typing.specs.PolicySoundness.{Basis, IsClosedIn, IsNamedBySchema, IsWellFormed, IsConforming}
+use Rattle.cedar_typechecker.specs.Levels.Outcome.{ChecksOn, levels_on, IsErrorOfVerdict}
+use Rattle.cedar_typechecker.specs.Slices.Examples.{HasLevelError}
+use Rattle.cedar_typechecker.specs.Slices.Policies.{IsSameIn}
+use Rattle.cedar_typechecker.specs.Slices.Soundness.{with_store}
+
+-- ---- what holds
+
+-- of the checker
+pub record IsAskedCheckerIn (m : ValidationMode) (b : Basis) : Type 0 where
+  pub faultless : has_fault b.schema ≡ false
+  pub formed : has_formed_types b.schema ≡ true
+  pub faultless_functions : table_fault b.table.functions ≡ None
+  pub closed : IsClosedIn m b
+
+-- of the checker and of the world
+pub record IsAskedIn (m : ValidationMode) (b : Basis) (world : World) : Type 0 where
+  pub checker : IsAskedCheckerIn m b
+  pub conforming : IsConforming b world
+
+-- of the policy, in that world
+pub record IsAskedPolicy (b : Basis) (t : PlainTemplate) (world : World) : Type 0 where
+  pub named : IsNamedBySchema b.schema t
+  pub well_formed : IsWellFormed t world.slots
+
+-- each level error, in each environment that the policy is checked in, is this fault
+abbrev pub NoOtherFault : Basis → PlainTemplate → ℕ → Fault → Type 0
+NoOtherFault b t n f =
+    (env : Env) → IsOneOf env (checked_envs b.schema b.mode t)
+    → (v : Verdict) → ChecksOn b t env v
+    → (e : Finding) → IsErrorOfVerdict (levels_on b t n env) v e → e.fault ≡ f
+
+-- this is wrong at the maximum n, and nothing else
+pub record OnlyFaultIs (b : Basis) (t : PlainTemplate) (n : ℕ) (f : Fault) : Type 0 where
+  pub there : HasLevelError b t n f
+  pub alone : NoOtherFault b t n f
+
+-- ---- what differs
+
+-- the condition has the one outcome in the part, and the other in the store
+pub record DiffersIn (t : PlainTemplate) (world : World) (part : Store)
+    (in_part in_store : Outcome) : Type 0 where
+  pub of_part : eval (with_store world part) (condition_of t) ≡ in_part
+  pub of_store : eval world (condition_of t) ≡ in_store
+  pub broken : IsSameIn t world part → ⊥

@@ -1,0 +1,72 @@
+-- That the level pass is silent is needed, and each of its errors counts: policies that pass, with
+-- one thing wrong, and that evaluate to something else in the slice of as many steps.
+use Rattle.std.specs.Prelude.{ℕ, true, false}
+use Rattle.cedar_types.specs.declared.base.types.ValidationMode.{ValidationMode}
+use Rattle.cedar_types.specs.Errors.{literal_dereference_target}
+use Rattle.cedar_types.specs.Linking.{checked_envs}
+use Rattle.cedar_types.specs.RequestEnvs.{Env}
+use Rattle.cedar_types.specs.Templates.{PlainTemplate}
+use Rattle.cedar_types.specs.Tree.{and}
+use Rattle.cedar_types.specs.Values.{VBool}
+use Rattle.cedar_typing.specs.Evaluation.Conformance.{IsOneOf}
+use Rattle.cedar_typing.specs.Evaluation.World.{MissingEntity, Gives, Fails}
+use Rattle.cedar_typing.specs.Examples.Expressions.{false_lit, the, principal}
+use Rattle.cedar_typing.specs.Examples.PolicySoundness.{Passes, PassesWarned, policy_when}
+use Rattle.cedar_typing.specs.PolicyCheck.{succeeds}
+use Rattle.cedar_typing.specs.PolicySoundness.{Basis}
+use Rattle.cedar_typing.specs.TypedExpr.{TypedTree}
+use Rattle.cedar_typechecker.specs.Levels.Errors.{exceeds, IsWithinLevel}
+use Rattle.cedar_typechecker.specs.Levels.Outcome.{ChecksOn, levels_on}
+use Rattle.cedar_typechecker.specs.Slices.Examples.{active_of, guided_page}
+use Rattle.cedar_typechecker.specs.Slices.Examples.World.{dan, wiki_basis, reading, slice_of}
+use Rattle.cedar_typechecker.specs.Slices.NeededPremises.Differing.{IsAskedIn, IsAskedPolicy, OnlyFaultIs, DiffersIn}
+use Rattle.cedar_typechecker.specs.Slices.Reach.{HoldsSlice}
+
+-- one level less than is required, which is 3
+pub record OneLevelLessGoesWrongIn (m : ValidationMode) : Type 0 where
+  pub asked : IsAskedIn m (wiki_basis m) reading
+  pub policy : IsAskedPolicy (wiki_basis m) guided_page reading
+  pub passes : Passes (wiki_basis m) guided_page
+  pub wrong : OnlyFaultIs (wiki_basis m) guided_page 2 (exceeds 2 3)
+  pub held : HoldsSlice reading.request reading.store 2 (slice_of reading 2)
+  pub differs : DiffersIn guided_page reading (slice_of reading 2)
+      (Fails MissingEntity) (Gives (VBool true))
+
+-- `User::"dan".active`, of a user who is not reached
+abbrev pub dan_is_active : PlainTemplate
+dan_is_active = policy_when (active_of (the dan))
+
+pub record LiteralTargetsGoWrongIn (m : ValidationMode) : Type 0 where
+  pub asked : IsAskedIn m (wiki_basis m) reading
+  pub policy : IsAskedPolicy (wiki_basis m) dan_is_active reading
+  pub passes : Passes (wiki_basis m) dan_is_active
+  pub wrong : OnlyFaultIs (wiki_basis m) dan_is_active 1 literal_dereference_target
+  pub held : HoldsSlice reading.request reading.store 1 (slice_of reading 1)
+  pub differs : DiffersIn dan_is_active reading (slice_of reading 1)
+      (Fails MissingEntity) (Gives (VBool true))
+
+-- `principal.active && false`, which is False in each environment
+abbrev pub never_active : PlainTemplate
+never_active = policy_when (and tt (active_of principal) false_lit)
+
+-- no environment has level errors in which the check succeeds: those that are irrelevant are left
+-- out
+abbrev pub SuccessesAreWithinLevel : Basis → PlainTemplate → ℕ → Type 0
+SuccessesAreWithinLevel b t n =
+    (env : Env) → IsOneOf env (checked_envs b.schema b.mode t)
+    → (x : TypedTree) → ChecksOn b t env (succeeds x) → IsWithinLevel (levels_on b t n env) x
+
+pub record IrrelevantEnvironmentsCountIn (m : ValidationMode) : Type 0 where
+  pub asked : IsAskedIn m (wiki_basis m) reading
+  pub policy : IsAskedPolicy (wiki_basis m) never_active reading
+  pub passes : PassesWarned (wiki_basis m) never_active
+  pub wrong : OnlyFaultIs (wiki_basis m) never_active 0 (exceeds 0 1)
+  pub others_within : SuccessesAreWithinLevel (wiki_basis m) never_active 0
+  pub held : HoldsSlice reading.request reading.store 0 (slice_of reading 0)
+  pub differs : DiffersIn never_active reading (slice_of reading 0)
+      (Fails MissingEntity) (Gives (VBool false))
+
+pub record LevelsAreNeededIn (m : ValidationMode) : Type 0 where
+  pub less : OneLevelLessGoesWrongIn m
+  pub literal : LiteralTargetsGoWrongIn m
+  pub irrelevant : IrrelevantEnvironmentsCountIn m

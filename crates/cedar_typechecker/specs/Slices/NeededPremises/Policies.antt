@@ -1,0 +1,128 @@
+-- What is asked of the policy is needed: that its check passes, that all in it is known, and that
+-- its slots stand in its scope alone. (That they are bound is not needed here: where a slot is not
+-- bound, evaluation fails for it in each part alike.)
+use Rattle.std.specs.Prelude.{◌≡◌, true, false, [], ◌∷◌, Some, codes}
+use Rattle.cedar_types.specs.declared.base.names.slots.SlotId.{SlotId}
+use Rattle.cedar_types.specs.declared.base.types.ValidationMode.{ValidationMode}
+use Rattle.cedar_types.specs.Errors.{Finding, unsafe_tag_access}
+use Rattle.cedar_types.specs.Findings.{unknown_types, unknown_actions}
+use Rattle.cedar_types.specs.Templates.{to_entity, any, equal, PlainTemplate, condition_of}
+use Rattle.cedar_types.specs.Tree.{Shape, slot, unknown, if_then_else, and, is_type}
+use Rattle.cedar_types.specs.Values.{VBool}
+use Rattle.cedar_typing.specs.Composition.{SlotsInScopeAlone}
+use Rattle.cedar_typing.specs.Evaluation.Conformance.{SlotsBound}
+use Rattle.cedar_typing.specs.Evaluation.World.{TypeFailure, MissingEntity, UnknownValue, Gives, Fails}
+use Rattle.cedar_typing.specs.Examples.Composition.{template, the_entity}
+use Rattle.cedar_typing.specs.Examples.Expressions.{false_lit, one, the, principal, context, dot, has2, less, node}
+use Rattle.cedar_typing.specs.Examples.Permissive.{team}
+use Rattle.cedar_typing.specs.Examples.PolicySoundness.{PassesWarned, policy_when}
+use Rattle.cedar_typing.specs.Examples.World.{named, group, alice, wave}
+use Rattle.cedar_typing.specs.PolicySoundness.{IsNamedBySchema, IsWellFormed, CheckedOn}
+use Rattle.cedar_typing.specs.Silence.{HasNoUnknowns}
+use Rattle.cedar_typechecker.specs.Slices.Examples.{active_of, guide_of, resource}
+use Rattle.cedar_typechecker.specs.Slices.Examples.World.{page, wiki_schema, wiki_basis, reading, slice_of}
+use Rattle.cedar_typechecker.specs.Slices.NeededPremises.Differing.{IsAskedIn, IsAskedPolicy, DiffersIn}
+use Rattle.cedar_typechecker.specs.Slices.Policies.{PolicyIsWithinLevel}
+use Rattle.cedar_typechecker.specs.Slices.Reach.{HoldsSlice}
+
+-- what is asked but of the policy: at level 0, in the part without any entry
+pub record IsReadingIn (m : ValidationMode) : Type 0 where
+  pub asked : IsAskedIn m (wiki_basis m) reading
+  pub held : HoldsSlice reading.request reading.store 0 (slice_of reading 0)
+
+-- ---- that its check passes
+
+-- `resource.getTag("guide").active`, where it is not known that there is a guide
+abbrev pub unguarded : PlainTemplate
+unguarded = policy_when (active_of (guide_of resource))
+
+abbrev pub unguarded_access : Finding
+unguarded_access = record {
+  place = (node 2).place;
+  policy = codes "policy0";
+  fault = unsafe_tag_access (Some (page ∷ []));
+}
+
+-- a check that fails types no condition, so no level error is looked for
+pub record RefusedPoliciesGoWrongIn (m : ValidationMode) : Type 0 where
+  pub others : IsReadingIn m
+  pub policy : IsAskedPolicy (wiki_basis m) unguarded reading
+  pub fails : CheckedOn (wiki_basis m) unguarded false [] (unguarded_access ∷ []) [] []
+  pub within : PolicyIsWithinLevel (wiki_basis m) unguarded 0
+  pub differs : DiffersIn unguarded reading (slice_of reading 0)
+      (Fails MissingEntity) (Gives (VBool true))
+
+-- ---- that all in it is known
+
+-- `((if context.urgent then principal else e) has profile.city && e < 1) && false`: where e has no
+-- type the `if` has none, no error is found in the extended `has`, and the whole is False
+abbrev pub naming : Shape → PlainTemplate
+naming e =
+    policy_when
+    (and tt
+    (and tt
+    (has2 (if_then_else tt (dot context (codes "urgent")) principal e) (codes "profile")
+    (codes "city"))
+    (less e one))
+    false_lit)
+
+-- of `Group::"a"` and of `Action::"wave"`, of a type and of an action that the schema does not have
+abbrev pub of_unknown_type : PlainTemplate
+of_unknown_type = naming (the (record { entity_type = group; eid = codes "a" }))
+
+abbrev pub of_unknown_action : PlainTemplate
+of_unknown_action = naming (the wave)
+
+-- of `unknown("x")`
+abbrev pub of_unknown : PlainTemplate
+of_unknown = naming (unknown tt (named (codes "x")))
+
+pub record NamesMustBeKnownIn (m : ValidationMode) : Type 0 where
+  pub others : IsReadingIn m
+  pub type_passes : PassesWarned (wiki_basis m) of_unknown_type
+  pub type_formed : IsWellFormed of_unknown_type reading.slots
+  pub type_actions : unknown_actions wiki_schema of_unknown_type ≡ []
+  pub type_within : PolicyIsWithinLevel (wiki_basis m) of_unknown_type 0
+  pub type_differs : DiffersIn of_unknown_type reading (slice_of reading 0)
+      (Gives (VBool false)) (Fails TypeFailure)
+  pub action_passes : PassesWarned (wiki_basis m) of_unknown_action
+  pub action_formed : IsWellFormed of_unknown_action reading.slots
+  pub action_types : unknown_types wiki_schema of_unknown_action ≡ []
+  pub action_within : PolicyIsWithinLevel (wiki_basis m) of_unknown_action 0
+  pub action_differs : DiffersIn of_unknown_action reading (slice_of reading 0)
+      (Gives (VBool false)) (Fails TypeFailure)
+
+pub record UnknownsGoWrongIn (m : ValidationMode) : Type 0 where
+  pub others : IsReadingIn m
+  pub passes : PassesWarned (wiki_basis m) of_unknown
+  pub named : IsNamedBySchema wiki_schema of_unknown
+  pub slots_in_scope : SlotsInScopeAlone of_unknown
+  pub bound : SlotsBound reading.slots (condition_of of_unknown)
+  pub within : PolicyIsWithinLevel (wiki_basis m) of_unknown 0
+  pub differs : DiffersIn of_unknown reading (slice_of reading 0)
+      (Gives (VBool false)) (Fails UnknownValue)
+
+-- ---- that its slots stand in its scope alone
+
+-- `permit(principal == User::"alice", action, resource) when { ?principal is Team &&
+-- principal.active }`: the slot is linked to User alone, and bound to a team
+abbrev pub slot_in_rest : PlainTemplate
+slot_in_rest =
+    template (equal (to_entity (the_entity alice))) any
+    (Some (and tt (is_type tt (slot tt SlotId.Principal) team) (active_of principal)))
+
+pub record SlotsInTheRestGoWrongIn (m : ValidationMode) : Type 0 where
+  pub others : IsReadingIn m
+  pub passes : PassesWarned (wiki_basis m) slot_in_rest
+  pub named : IsNamedBySchema wiki_schema slot_in_rest
+  pub no_unknowns : HasNoUnknowns (condition_of slot_in_rest)
+  pub bound : SlotsBound reading.slots (condition_of slot_in_rest)
+  pub within : PolicyIsWithinLevel (wiki_basis m) slot_in_rest 0
+  pub differs : DiffersIn slot_in_rest reading (slice_of reading 0)
+      (Fails MissingEntity) (Gives (VBool true))
+
+pub record PoliciesAreNeededIn (m : ValidationMode) : Type 0 where
+  pub refused : RefusedPoliciesGoWrongIn m
+  pub names : NamesMustBeKnownIn m
+  pub unknowns : UnknownsGoWrongIn m
+  pub slots : SlotsInTheRestGoWrongIn m

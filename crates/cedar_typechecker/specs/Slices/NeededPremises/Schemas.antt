@@ -1,0 +1,194 @@
+-- What is asked of the schema and of the table is needed: that neither has a fault, that nothing in
+-- the schema is external, and, in Permissive, that names ascend in its types.
+use Rattle.std.specs.Prelude.{◌≡◌, true, false, [], ◌∷◌, Some, None, codes}
+use Rattle.cedar_types.specs.declared.base.expressions.extensions.ExtensionTableError.{ExtensionTableError}
+use Rattle.cedar_types.specs.declared.base.expressions.operators.Var.{Var}
+use Rattle.cedar_types.specs.declared.base.schema.errors.SchemaError.TheVariants.{DuplicateAction}
+use Rattle.cedar_types.specs.declared.base.types.ValidationMode.{ValidationMode}
+use Rattle.cedar_types.specs.declared.base.types.ValidationMode.TheVariants.{Permissive}
+use Rattle.cedar_types.specs.ExtensionFunctions.{ExtensionFunction, table_fault}
+use Rattle.cedar_types.specs.FormedSchemas.{has_formed_types}
+use Rattle.cedar_types.specs.Names.{Path}
+use Rattle.cedar_types.specs.Schemas.{Schema, first_fault, has_fault}
+use Rattle.cedar_types.specs.Templates.{PlainTemplate}
+use Rattle.cedar_types.specs.Tree.{var, and, if_then_else, ext_has_attr}
+use Rattle.cedar_types.specs.Types.{TAnyEntity}
+use Rattle.cedar_types.specs.Values.{VBool, VEntity, no_values}
+use Rattle.cedar_typing.specs.Evaluation.World.{Interpretation, World, MissingEntity, Gives, Fails}
+use Rattle.cedar_typing.specs.Examples.Expressions.{the, principal, context, dot, has, equal, is_in, call0}
+use Rattle.cedar_typing.specs.Examples.Greeting.{stored_action}
+use Rattle.cedar_typing.specs.Examples.NeededPremises.{guest, declared_guest, a_guest}
+use Rattle.cedar_typing.specs.Examples.Permissive.{twice_context, twice_greeting}
+use Rattle.cedar_typing.specs.Examples.PolicySoundness.{Passes, PassesWarned, policy_when}
+use Rattle.cedar_typing.specs.Examples.World.{named, alice, bob, meet, declared_group}
+use Rattle.cedar_typing.specs.PolicySoundness.{Basis, IsClosedIn, IsConforming}
+use Rattle.cedar_typechecker.specs.Slices.Examples.{active_of, has_guide, guide_of, resource}
+use Rattle.cedar_typechecker.specs.Slices.Examples.World.{page, read, wiki_types, read_context, declared_read, wiki_schema, wiki_basis, page_guided_by, guided_wiki, wiki_store, reading, slice_of}
+use Rattle.cedar_typechecker.specs.Slices.NeededPremises.Differing.{IsAskedPolicy, DiffersIn}
+use Rattle.cedar_typechecker.specs.Slices.Policies.{PolicyIsWithinLevel}
+use Rattle.cedar_typechecker.specs.Slices.Reach.{HoldsSlice}
+
+-- by another schema, with the sample functions, in a mode
+abbrev pub by_schema : Schema → ValidationMode → Basis
+by_schema s m = record (wiki_basis m) { schema = s }
+
+-- ---- a fault of the schema
+
+-- `Action::"meet"`, once without descendants, and once more with this one
+abbrev pub twice_declared : Schema
+twice_declared = record {
+  types = wiki_types;
+  actions =
+      declared_read page read_context
+      ∷ declared_group meet []
+      ∷ declared_group meet (read ∷ [])
+      ∷ [];
+}
+
+-- `action in Action::"meet" && resource.getTag("guide").active`, of which the first is False
+abbrev pub read_is_meeting : PlainTemplate
+read_is_meeting =
+    policy_when (and tt (is_in (var tt Var.Action) (the meet)) (active_of (guide_of resource)))
+
+abbrev pub meeting_to_read : World
+meeting_to_read = record reading {
+  store = (read, stored_action (meet ∷ [])) ∷ (meet, stored_action []) ∷ guided_wiki bob;
+}
+
+pub record FaultsGoWrongIn (m : ValidationMode) : Type 0 where
+  pub faulty : first_fault twice_declared ≡ Some DuplicateAction
+  pub formed : has_formed_types twice_declared ≡ true
+  pub functions : table_fault (by_schema twice_declared m).table.functions ≡ None
+  pub closed : IsClosedIn m (by_schema twice_declared m)
+  pub conforming : IsConforming (by_schema twice_declared m) meeting_to_read
+  pub policy : IsAskedPolicy (by_schema twice_declared m) read_is_meeting meeting_to_read
+  pub passes : PassesWarned (by_schema twice_declared m) read_is_meeting
+  pub within : PolicyIsWithinLevel (by_schema twice_declared m) read_is_meeting 1
+  pub held : HoldsSlice meeting_to_read.request meeting_to_read.store 1
+      (slice_of meeting_to_read 1)
+  pub differs : DiffersIn read_is_meeting meeting_to_read (slice_of meeting_to_read 1)
+      (Fails MissingEntity) (Gives (VBool true))
+
+-- ---- a fault of the table
+
+-- a function that gives any entity, which is alice
+abbrev pub owner : Path
+owner = named (codes "owner")
+
+abbrev pub owner_function : ExtensionFunction
+owner_function = record {
+  name = owner;
+  argument_types = [];
+  is_variadic = false;
+  return_type = TAnyEntity;
+  check = None;
+}
+
+abbrev pub alice_owns : Interpretation
+alice_owns = record {
+  calls = record { function = owner; arguments = no_values; value = VEntity alice } ∷ [];
+  overloaded_types = [];
+  less = [];
+  less_or_equal = [];
+}
+
+abbrev pub owned_basis : ValidationMode → Basis
+owned_basis m = record (wiki_basis m) {
+  table = record { functions = owner_function ∷ []; overloaded_types = [] };
+}
+
+-- `owner() has profile`, as an extended `has` of one attribute: of any entity it has no level error
+abbrev pub owner_has_profile : PlainTemplate
+owner_has_profile = policy_when (ext_has_attr tt (call0 owner) (codes "profile") [])
+
+abbrev pub owned : World
+owned = record reading { functions = alice_owns }
+
+pub record TableFaultsGoWrongIn (m : ValidationMode) : Type 0 where
+  pub faultless : has_fault wiki_schema ≡ false
+  pub formed : has_formed_types wiki_schema ≡ true
+  pub faulty : table_fault (owned_basis m).table.functions
+      ≡ Some ExtensionTableError.BadReturnType
+  pub closed : IsClosedIn m (owned_basis m)
+  pub conforming : IsConforming (owned_basis m) owned
+  pub policy : IsAskedPolicy (owned_basis m) owner_has_profile owned
+  pub passes : Passes (owned_basis m) owner_has_profile
+  pub within : PolicyIsWithinLevel (owned_basis m) owner_has_profile 0
+  pub held : HoldsSlice owned.request owned.store 0 (slice_of owned 0)
+  pub differs : DiffersIn owner_has_profile owned (slice_of owned 0)
+      (Gives (VBool false)) (Gives (VBool true))
+
+-- ---- an external type
+
+-- users read guests, of whom nothing is known
+abbrev pub guests : Schema
+guests = record {
+  types = declared_guest ∷ wiki_types;
+  actions = declared_read guest read_context ∷ [];
+}
+
+-- `resource.hasTag("guide") && resource.getTag("guide").active`, of which the first is False
+abbrev pub guided_guest : PlainTemplate
+guided_guest = policy_when (and tt (has_guide resource) (active_of (guide_of resource)))
+
+-- a guest has a guide all the same
+abbrev pub reading_a_guest : World
+reading_a_guest = record reading {
+  request = record reading.request { resource = a_guest };
+  store = (a_guest, page_guided_by bob) ∷ wiki_store;
+}
+
+pub record ExternalTypesGoWrongIn (m : ValidationMode) : Type 0 where
+  pub faultless : has_fault guests ≡ false
+  pub formed : has_formed_types guests ≡ true
+  pub functions : table_fault (by_schema guests m).table.functions ≡ None
+  pub mode : (by_schema guests m).mode ≡ m
+  pub conforming : IsConforming (by_schema guests m) reading_a_guest
+  pub policy : IsAskedPolicy (by_schema guests m) guided_guest reading_a_guest
+  pub passes : PassesWarned (by_schema guests m) guided_guest
+  pub within : PolicyIsWithinLevel (by_schema guests m) guided_guest 1
+  pub held : HoldsSlice reading_a_guest.request reading_a_guest.store 1
+      (slice_of reading_a_guest 1)
+  pub differs : DiffersIn guided_guest reading_a_guest (slice_of reading_a_guest 1)
+      (Fails MissingEntity) (Gives (VBool true))
+
+pub record SchemasAreNeededIn (m : ValidationMode) : Type 0 where
+  pub faults : FaultsGoWrongIn m
+  pub table : TableFaultsGoWrongIn m
+  pub closed : ExternalTypesGoWrongIn m
+
+-- ---- names that do not ascend
+
+-- a request comes with a record of two attributes, and with one that has one name twice
+abbrev pub unformed : Schema
+unformed = record { types = wiki_types; actions = declared_read page twice_context ∷ [] }
+
+-- `(if principal == User::"bob" then context.twice else context.both) has b && principal.active`,
+-- of which the first is False
+abbrev pub active_with_b : PlainTemplate
+active_with_b =
+    policy_when
+    (and tt
+    (has
+    (if_then_else tt (equal principal (the bob)) (dot context (codes "twice"))
+    (dot context (codes "both")))
+    (codes "b"))
+    (active_of principal))
+
+abbrev pub reading_with_b : World
+reading_with_b = record reading {
+  request = record reading.request { context = twice_greeting.request.context };
+}
+
+pub record FormIsNeeded : Type 0 where
+  pub faultless : has_fault unformed ≡ false
+  pub not_formed : has_formed_types unformed ≡ false
+  pub functions : table_fault (by_schema unformed Permissive).table.functions ≡ None
+  pub closed : IsClosedIn Permissive (by_schema unformed Permissive)
+  pub conforming : IsConforming (by_schema unformed Permissive) reading_with_b
+  pub policy : IsAskedPolicy (by_schema unformed Permissive) active_with_b reading_with_b
+  pub passes : PassesWarned (by_schema unformed Permissive) active_with_b
+  pub within : PolicyIsWithinLevel (by_schema unformed Permissive) active_with_b 0
+  pub held : HoldsSlice reading_with_b.request reading_with_b.store 0 (slice_of reading_with_b 0)
+  pub differs : DiffersIn active_with_b reading_with_b (slice_of reading_with_b 0)
+      (Fails MissingEntity) (Gives (VBool true))

@@ -1,0 +1,68 @@
+-- What is asked of the world is needed: that the request and the store conform. (That the extension
+-- functions keep their table is not needed here: no value that they give is looked up in the
+-- store.)
+use Rattle.std.specs.Prelude.{true, [], ◌∷◌, codes}
+use Rattle.cedar_types.specs.declared.base.types.ValidationMode.{ValidationMode}
+use Rattle.cedar_types.specs.Stores.{ConformingStore}
+use Rattle.cedar_types.specs.Templates.{PlainTemplate}
+use Rattle.cedar_types.specs.Tree.{Shape, and, is_type}
+use Rattle.cedar_types.specs.Values.{VBool}
+use Rattle.cedar_typing.specs.Evaluation.Conformance.{ConformingRequest, KeepsTable}
+use Rattle.cedar_typing.specs.Evaluation.World.{World, MissingEntity, Gives, Fails}
+use Rattle.cedar_typing.specs.Examples.Expressions.{principal, dot}
+use Rattle.cedar_typing.specs.Examples.Greeting.{stored_action}
+use Rattle.cedar_typing.specs.Examples.Permissive.{team, staff}
+use Rattle.cedar_typing.specs.Examples.PolicySoundness.{PassesWarned, policy_when}
+use Rattle.cedar_typechecker.specs.Slices.Examples.{active_of, has_guide, guide_of, resource}
+use Rattle.cedar_typechecker.specs.Slices.Examples.World.{read, wiki_schema, wiki_basis, guided_wiki, reading, slice_of}
+use Rattle.cedar_typechecker.specs.Slices.NeededPremises.Differing.{IsAskedCheckerIn, IsAskedPolicy, DiffersIn}
+use Rattle.cedar_typechecker.specs.Slices.Policies.{PolicyIsWithinLevel}
+use Rattle.cedar_typechecker.specs.Slices.Reach.{HoldsSlice}
+
+-- `a is Team && a.lead.active`
+abbrev pub is_led : Shape → Shape
+is_led a = and tt (is_type tt a team) (active_of (dot a (codes "lead")))
+
+-- ---- the request
+
+-- that of the principal, of whom it is False, and the staff reads
+abbrev pub teams_read : PlainTemplate
+teams_read = policy_when (is_led principal)
+
+abbrev pub staff_reads : World
+staff_reads = record reading { request = record reading.request { principal = staff } }
+
+pub record RequestsMustConformIn (m : ValidationMode) : Type 0 where
+  pub checker : IsAskedCheckerIn m (wiki_basis m)
+  pub store : ConformingStore wiki_schema staff_reads.store
+  pub functions : KeepsTable (wiki_basis m).table staff_reads.functions
+  pub policy : IsAskedPolicy (wiki_basis m) teams_read staff_reads
+  pub passes : PassesWarned (wiki_basis m) teams_read
+  pub within : PolicyIsWithinLevel (wiki_basis m) teams_read 0
+  pub held : HoldsSlice staff_reads.request staff_reads.store 0 (slice_of staff_reads 0)
+  pub differs : DiffersIn teams_read staff_reads (slice_of staff_reads 0)
+      (Fails MissingEntity) (Gives (VBool true))
+
+-- ---- the store
+
+-- `resource.hasTag("guide") && ..` with that of the guide, of whom it is False, and it is the staff
+abbrev pub teams_guide : PlainTemplate
+teams_guide = policy_when (and tt (has_guide resource) (is_led (guide_of resource)))
+
+abbrev pub staff_guides : World
+staff_guides = record reading { store = (read, stored_action []) ∷ guided_wiki staff }
+
+pub record StoresMustConformIn (m : ValidationMode) : Type 0 where
+  pub checker : IsAskedCheckerIn m (wiki_basis m)
+  pub request : ConformingRequest wiki_schema staff_guides.request
+  pub functions : KeepsTable (wiki_basis m).table staff_guides.functions
+  pub policy : IsAskedPolicy (wiki_basis m) teams_guide staff_guides
+  pub passes : PassesWarned (wiki_basis m) teams_guide
+  pub within : PolicyIsWithinLevel (wiki_basis m) teams_guide 1
+  pub held : HoldsSlice staff_guides.request staff_guides.store 1 (slice_of staff_guides 1)
+  pub differs : DiffersIn teams_guide staff_guides (slice_of staff_guides 1)
+      (Fails MissingEntity) (Gives (VBool true))
+
+pub record WorldsAreNeededIn (m : ValidationMode) : Type 0 where
+  pub request : RequestsMustConformIn m
+  pub store : StoresMustConformIn m
