@@ -1,6 +1,8 @@
 -- Levels: the rules, the walks that find their errors, and the laws.
 pub mod Greatest
 pub mod Inclusions
+pub mod InclusionsBelow
+pub mod InclusionsHere
 pub mod Walk
 pub mod Chains
 pub mod Silent
@@ -11,9 +13,11 @@ pub mod Examples
 pub mod Costs
 pub mod CountedLevels
 pub mod Gains
+pub mod Capped
 pub mod AddedParts
 pub mod InOrder
 pub mod TypedParts
+pub mod TypedForms
 pub mod Typing
 pub mod TypedViews
 pub mod Keys

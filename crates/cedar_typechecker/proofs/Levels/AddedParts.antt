@@ -1,50 +1,17 @@
 -- What the program adds at a node and for its parts are the errors of the walk there.
-use Rattle.std.proofs.Common.{◌≡◌, ℕ, ◌+◌, ◌≤◌, ◌<◌, Bool, true, false, nat_lt, nat_le, List, [], ◌∷◌, ◌++◌, Option, Some, None, is_some, if◌then◌else◌, refl, sym, subst, arith}
-use Rattle.std.proofs.lemmas.Bool.{ltb-true, ltb-false, leb-true, leb-false, le-leb, lt-ltb}
+use Rattle.std.proofs.Common.{◌≡◌, ℕ, ◌+◌, ◌≤◌, Bool, true, false, nat_lt, nat_le, List, [], ◌∷◌, ◌++◌, Option, Some, None, is_some, if◌then◌else◌, refl, sym, subst}
 use Rattle.cedar_types.specs.Errors.{Fault, Finding, maximum_level_exceeded, internal_invariant_violation, literal_dereference_target}
 use Rattle.cedar_types.specs.Names.{Text, text_eq}
 use Rattle.cedar_types.specs.Tree.{Fields, no_fields, field}
 use Rattle.cedar_typing.specs.PolicyOutcome.{Adds}
 use Rattle.cedar_typing.specs.TypedExpr.{TypedTree, Mark}
 use Rattle.cedar_typechecker.specs.Levels.Chains.{Base, an_entity, a_record, neither, field_at, Leaf, good_leaf, literal_leaf, bad_leaf, leaf_of_access, leaf_of_field, level}
-use Rattle.cedar_typechecker.specs.Levels.Errors.{reported, exceeds, unless_below, unless_within, faults_of_base, level_at_keys, faults_of_chain, faults_at_leaf, faults_at_end}
+use Rattle.cedar_typechecker.specs.Levels.Errors.{exceeds, unless_below, unless_within, faults_of_base, level_at_keys, faults_of_chain, faults_at_leaf, faults_at_end}
 use Rattle.cedar_typechecker.specs.Levels.InOrder.{capped, raised, reports, below, within, at_leaf, by_base, has_key, on_keys, counted_level, add_chain_errors, add_errors, add_field_errors, add_target_errors, add_errors_along}
 use Rattle.cedar_typechecker.specs.Levels.Setting.{LevelSetting}
 use Rattle.cedar_typechecker.specs.Levels.Walk.{found_at, of_base, of_keys, of_value, of_chain, checked_errors, field_errors, target_errors, errors_along}
+use Rattle.cedar_typechecker.proofs.Levels.Capped.{same_less, same_at_most, same_required, same_report, same_sum}
 use Rattle.cedar_typechecker.proofs.Levels.Gains.{joined_again, adds_none, adds_both, adds_before, adds_twice, adds_end}
-
--- ---- numbers
-
-same_less : (n j : ℕ) → n ≤ 4294967295 → nat_lt (capped j) n ≡ nat_lt j n
-same_less n j le = go (nat_lt j n) refl
-  where
-    go : (b : Bool) → nat_lt j n ≡ b → nat_lt (capped j) n ≡ b
-    go true e = let less = ltb-true j n e in lt-ltb (capped j) n (omega arith)
-    go false e = by (ltb-false j n e) (nat_lt (capped j) n) refl
-      where
-        by : n ≤ j → (c : Bool) → nat_lt (capped j) n ≡ c → c ≡ false
-        by more false q = refl
-        by more true q = let less = ltb-true (capped j) n q in absurd (omega arith)
-
-same_at_most : (n j : ℕ) → n ≤ 4294967295 → nat_le (capped j) n ≡ nat_le j n
-same_at_most n j le = go (nat_le j n) refl
-  where
-    go : (b : Bool) → nat_le j n ≡ b → nat_le (capped j) n ≡ b
-    go true e = let less = leb-true j n e in le-leb (capped j) n (omega arith)
-    go false e = by (leb-false j n e) (nat_le (capped j) n) refl
-      where
-        by : n < j → (c : Bool) → nat_le (capped j) n ≡ c → c ≡ false
-        by more false q = refl
-        by more true q = let less = leb-true (capped j) n q in absurd (omega arith)
-
-same_required : (j : ℕ) → reported (raised (capped j) 1) ≡ reported (j + 1)
-same_required j = omega arith
-
-same_report : (j : ℕ) → reported (capped j) ≡ reported j
-same_report j = omega arith
-
-same_sum : (k j c : ℕ) → k ≡ capped j → raised k c ≡ capped (j + c)
-same_sum k j c e = omega arith
 
 pub key_is : (p : Text) (fs : Fields Mark) → has_key p fs ≡ is_some (field_at p fs)
 key_is p no_fields = refl

@@ -1,19 +1,18 @@
 -- What is checked below a node, and what is a target there, has its errors among those of the node.
 use Rattle.std.proofs.Common.{◌≡◌, ℕ, Bool, true, false, nat_le, List, [], ◌∷◌, ◌++◌, Option, Some, None, if◌then◌else◌, inl, inr, refl, sym, subst}
 use Rattle.cedar_types.specs.Errors.{Fault, Finding}
-use Rattle.cedar_types.specs.Names.{Text, text_eq}
+use Rattle.cedar_types.specs.Names.{Text}
 use Rattle.cedar_types.specs.Parts.{listed, field_values}
 use Rattle.cedar_types.specs.Tree.{lit, var, slot, unknown, if_then_else, and, or, unary, binary, call, get_attr, has_attr, ext_has_attr, like, is_type, set_of, record_of, Trees, no_trees, tree, Fields, no_fields, field}
 use Rattle.cedar_typing.specs.Evaluation.Conformance.{IsOneOf}
-use Rattle.cedar_typing.specs.TypedExpr.{TypedTree, Mark, mark_of, annotation}
-use Rattle.cedar_typing.proofs.Basics.{some_is}
-use Rattle.cedar_typing.proofs.Members.{in_left, in_right, in_mapped}
-use Rattle.cedar_typechecker.specs.Levels.Chains.{Base, an_entity, a_record, neither, base_of, is_get_tag, field_at, leaf_of}
+use Rattle.cedar_typing.specs.TypedExpr.{TypedTree, Mark, annotation}
+use Rattle.cedar_typing.proofs.Members.{in_left, in_right}
+use Rattle.cedar_typechecker.specs.Levels.Chains.{Base, an_entity, a_record, neither, base_of}
 use Rattle.cedar_typechecker.specs.Levels.Costs.{cost_of, keys_of}
-use Rattle.cedar_typechecker.specs.Levels.Dereferences.{Target, along, accesses_first, checked_of_chain, targets_of_chain, target_at_keys, checked_of_base, targets_of_base, checked_parts, targets, fields_beside, checked_beside, target_of_field, next_of_access, checked_below, next_targets}
-use Rattle.cedar_typechecker.specs.Levels.Errors.{faults, faults_at_end, finding_at}
+use Rattle.cedar_typechecker.specs.Levels.Dereferences.{Target, along, accesses_first, checked_of_chain, targets_of_chain, target_at_keys, checked_of_base, targets_of_base, checked_parts, targets}
+use Rattle.cedar_typechecker.specs.Levels.Errors.{faults, finding_at}
 use Rattle.cedar_typechecker.specs.Levels.Setting.{LevelSetting}
-use Rattle.cedar_typechecker.specs.Levels.Walk.{found_at, of_base, of_keys, of_value, of_chain, leaf_errors, checked_errors, all_errors, field_errors, target_errors, errors_along}
+use Rattle.cedar_typechecker.specs.Levels.Walk.{found_at, of_base, of_keys, of_chain, checked_errors, all_errors, field_errors, target_errors}
 
 abbrev pub Within : List Finding → List Finding → Type 0
 Within xs ys = (e : Finding) → IsOneOf e xs → IsOneOf e ys
@@ -41,6 +40,12 @@ found_back s m [] e h = absurd h
 found_back s m (f ∷ fs) e (inl q) = (f, inl refl, q)
 found_back s m (f ∷ fs) e (inr h) = let r = found_back s m fs e h in (r.0, inr r.1, r.2)
 
+pub left : (xs ys : List Finding) → Within xs (xs ++ ys)
+left xs ys e h = in_left e xs ys h
+
+pub right : (xs ys : List Finding) → Within ys (xs ++ ys)
+right xs ys e h = in_right e xs ys h
+
 module _ (s : LevelSetting) where
   abbrev Checked : TypedTree → List Finding
   Checked = checked_errors s
@@ -48,19 +53,13 @@ module _ (s : LevelSetting) where
   abbrev Targeted : Target → List Finding
   Targeted z = target_errors s z.tree z.path
 
-  same : (x y : TypedTree) (es : List Finding) → Within (Checked y) es → x ≡ y
+  pub same : (x y : TypedTree) (es : List Finding) → Within (Checked y) es → x ≡ y
       → Within (Checked x) es
   same x y es h e = subst (λ z. Within (Checked z) es) (sym e) h
 
-  there : (x y : Target) (es : List Finding) → Within (Targeted y) es → x ≡ y
+  pub there : (x y : Target) (es : List Finding) → Within (Targeted y) es → x ≡ y
       → Within (Targeted x) es
   there x y es h e = subst (λ z. Within (Targeted z) es) (sym e) h
-
-  left : (xs ys : List Finding) → Within xs (xs ++ ys)
-  left xs ys e h = in_left e xs ys h
-
-  right : (xs ys : List Finding) → Within ys (xs ++ ys)
-  right xs ys e h = in_right e xs ys h
 
   -- ---- what is checked below what is checked
 
@@ -71,7 +70,7 @@ module _ (s : LevelSetting) where
   all_parts (tree t ts) y (inr i) =
       λ e h. in_right e (Checked t) (all_errors s ts) (all_parts ts y i e h)
 
-  field_parts : (fs : Fields Mark) (y : TypedTree) → IsOneOf y (field_values fs)
+  pub field_parts : (fs : Fields Mark) (y : TypedTree) → IsOneOf y (field_values fs)
       → Within (Checked y) (field_errors s fs)
   field_parts no_fields y i = absurd i
   field_parts (field k t fs) y (inl e) = same y t _ (left (Checked t) (field_errors s fs)) e
@@ -221,199 +220,3 @@ module _ (s : LevelSetting) where
   targets_in (is_type m b p) z i = absurd i
   targets_in (set_of m ts) z i = absurd i
   targets_in (record_of m fs) z i = absurd i
-
-  -- ---- what is below a target
-
-  tag_parts : (c : Bool) (x y : TypedTree) (es : List Finding)
-      → IsOneOf y (if c then x ∷ [] else [])
-      → Within (Checked y) (if c then es ++ Checked x else [])
-  tag_parts true x y es (inl q) = same y x _ (right es (Checked x)) q
-  tag_parts true x y es (inr i) = absurd i
-  tag_parts false x y es i = absurd i
-
-  beside_in : (fs : Fields Mark) (p : Text) (path : List Text) (y : TypedTree)
-      → IsOneOf y (fields_beside p fs) → Within (Checked y) (errors_along s fs p path)
-  beside_in no_fields p path y i = absurd i
-  beside_in (field l t fs) p path y i = go (text_eq p l) i (λ j. beside_in fs p path y j)
-    where
-      go : (b : Bool) → IsOneOf y (if b then field_values fs else t ∷ fields_beside p fs)
-          → (IsOneOf y (fields_beside p fs) → Within (Checked y) (errors_along s fs p path))
-          → Within (Checked y) (if b then target_errors s t path ++ field_errors s fs else Checked t
-          ++ errors_along s fs p path)
-      go true i f =
-          λ e h. in_right e (target_errors s t path) (field_errors s fs) (field_parts fs y i e h)
-      go false (inl q) f = same y t _ (left (Checked t) (errors_along s fs p path)) q
-      go false (inr i) f = λ e h. in_right e (Checked t) (errors_along s fs p path) (f i e h)
-
-  record_parts : (fs : Fields Mark) (p : Text) (path : List Text) (o : Option TypedTree)
-      (y : TypedTree) → IsOneOf y (checked_beside p fs o)
-      → Within (Checked y) (of_value o (errors_along s fs p path))
-  record_parts fs p path None y i = absurd i
-  record_parts fs p path (Some t) y i = beside_in fs p path y i
-
-  pub below_in : (x : TypedTree) (path : List Text) (y : TypedTree)
-      → IsOneOf y (checked_below x path)
-      → Within (Checked y) (target_errors s x path)
-  below_in (if_then_else m b c d) path y (inl q) =
-      same y b _ (left (Checked b) (target_errors s c path ++ target_errors s d path)) q
-  below_in (if_then_else m b c d) path y (inr i) = absurd i
-  below_in (binary m o b c) path y i =
-      λ e h. in_right e (leaf_errors s (binary m o b c) m path) _
-      (tag_parts (is_get_tag o) c y (target_errors s b path) i e h)
-  below_in (record_of m fs) [] y i = absurd i
-  below_in (record_of m fs) (p ∷ path) y i =
-      λ e h. in_right e (leaf_errors s (record_of m fs) m (p ∷ path)) _
-      (record_parts fs p path (field_at p fs) y i e h)
-  below_in (lit m x) path y i = absurd i
-  below_in (var m x) path y i = absurd i
-  below_in (slot m x) path y i = absurd i
-  below_in (unknown m x) path y i = absurd i
-  below_in (and m b c) path y i = absurd i
-  below_in (or m b c) path y i = absurd i
-  below_in (unary m o b) path y i = absurd i
-  below_in (call m f ts) path y i = absurd i
-  below_in (get_attr m b x) path y i = absurd i
-  below_in (has_attr m b x) path y i = absurd i
-  below_in (ext_has_attr m b x xs) path y i = absurd i
-  below_in (like m b p) path y i = absurd i
-  below_in (is_type m b p) path y i = absurd i
-  below_in (set_of m ts) path y i = absurd i
-
-  tag_next : (c : Bool) (x : TypedTree) (path : List Text) (z : Target) (es : List Finding)
-      → IsOneOf z (if c then along x path ∷ [] else [])
-      → Within (Targeted z) (if c then target_errors s x path ++ es else [])
-  tag_next true x path z es (inl q) = there z (along x path) _ (left (target_errors s x path) es) q
-  tag_next true x path z es (inr i) = absurd i
-  tag_next false x path z es i = absurd i
-
-  access_next : (b : Base) (x : TypedTree) (l : Text) (path : List Text) (z : Target)
-      → IsOneOf z (next_of_access b x l path)
-      → Within (Targeted z) (of_base b (target_errors s x path) (target_errors s x (l ∷ path)))
-  access_next an_entity x l path z (inl q) = there z (along x path) _ (λ e h. h) q
-  access_next an_entity x l path z (inr i) = absurd i
-  access_next a_record x l path z (inl q) = there z (along x (l ∷ path)) _ (λ e h. h) q
-  access_next a_record x l path z (inr i) = absurd i
-  access_next neither x l path z i = absurd i
-
-  along_in : (fs : Fields Mark) (p : Text) (path : List Text) (t : TypedTree)
-      → field_at p fs ≡ Some t → Within (target_errors s t path) (errors_along s fs p path)
-  along_in no_fields p path t q = cc
-  along_in (field l u fs) p path t q = go (text_eq p l) q (along_in fs p path t)
-    where
-      go : (b : Bool) → (if b then Some u else field_at p fs) ≡ Some t
-          → (field_at p fs ≡ Some t → Within (target_errors s t path) (errors_along s fs p path))
-          → Within (target_errors s t path)
-          (if b then target_errors s u path ++ field_errors s fs else Checked u ++ errors_along s fs
-          p path)
-      go true q f = subst (λ z. Within (target_errors s z path)
-          (target_errors s u path ++ field_errors s fs)) (some_is q)
-          (left (target_errors s u path) (field_errors s fs))
-      go false q f = λ e h. in_right e (Checked u) (errors_along s fs p path) (f q e h)
-
-  record_next : (fs : Fields Mark) (p : Text) (path : List Text) (o : Option TypedTree)
-      → field_at p fs ≡ o → (z : Target) → IsOneOf z (target_of_field o path)
-      → Within (Targeted z) (of_value o (errors_along s fs p path))
-  record_next fs p path None q z i = absurd i
-  record_next fs p path (Some t) q z (inl r) = there z (along t path) _ (along_in fs p path t q) r
-  record_next fs p path (Some t) q z (inr i) = absurd i
-
-  pub next_in : (x : TypedTree) (path : List Text) (z : Target) → IsOneOf z (next_targets x path)
-      → Within (Targeted z) (target_errors s x path)
-  next_in (if_then_else m b c d) path z (inl q) =
-      there z (along c path) _ (λ e h. in_right e (Checked b) _
-      (in_left e (target_errors s c path) (target_errors s d path) h)) q
-  next_in (if_then_else m b c d) path z (inr (inl q)) =
-      there z (along d path) _ (λ e h. in_right e (Checked b) _
-      (in_right e (target_errors s c path) (target_errors s d path) h)) q
-  next_in (if_then_else m b c d) path z (inr (inr i)) = absurd i
-  next_in (binary m o b c) path z i =
-      λ e h. in_right e (leaf_errors s (binary m o b c) m path) _
-      (tag_next (is_get_tag o) b path z (Checked c) i e h)
-  next_in (get_attr m b x) path z i =
-      λ e h. in_right e (leaf_errors s (get_attr m b x) m path) _
-      (access_next (base_of (annotation b)) b x path z i e h)
-  next_in (record_of m fs) [] z i = absurd i
-  next_in (record_of m fs) (p ∷ path) z i =
-      λ e h. in_right e (leaf_errors s (record_of m fs) m (p ∷ path)) _
-      (record_next fs p path (field_at p fs) refl z i e h)
-  next_in (lit m x) path z i = absurd i
-  next_in (var m x) path z i = absurd i
-  next_in (slot m x) path z i = absurd i
-  next_in (unknown m x) path z i = absurd i
-  next_in (and m b c) path z i = absurd i
-  next_in (or m b c) path z i = absurd i
-  next_in (unary m o b) path z i = absurd i
-  next_in (call m f ts) path z i = absurd i
-  next_in (has_attr m b x) path z i = absurd i
-  next_in (ext_has_attr m b x xs) path z i = absurd i
-  next_in (like m b p) path z i = absurd i
-  next_in (is_type m b p) path z i = absurd i
-  next_in (set_of m ts) path z i = absurd i
-
-  -- ---- at the nodes themselves
-
-  node_here : (x : TypedTree) (f : Fault) → IsOneOf f (faults s x)
-      → IsOneOf (finding_at s (mark_of x) f) (found_at s (mark_of x) (faults s x))
-  node_here x f i = in_mapped {A = Finding} (finding_at s (mark_of x)) f (faults s x) i
-
-  leaf_here : (x : TypedTree) (path : List Text) (f : Fault)
-      → IsOneOf f (faults_at_end (leaf_of s.action x path))
-      → IsOneOf (finding_at s (mark_of x) f) (leaf_errors s x (mark_of x) path)
-  leaf_here x path f i =
-      in_mapped {A = Finding} (finding_at s (mark_of x)) f (faults_at_end (leaf_of s.action x path))
-      i
-
-  pub node_in : (x : TypedTree) (f : Fault) → IsOneOf f (faults s x)
-      → IsOneOf (finding_at s (mark_of x) f) (Checked x)
-  node_in (binary m o b c) f i =
-      in_left (finding_at s m f) (found_at s m (faults s (binary m o b c))) _
-      (node_here (binary m o b c) f i)
-  node_in (get_attr m b x) f i =
-      in_left (finding_at s m f) (found_at s m (faults s (get_attr m b x))) _
-      (node_here (get_attr m b x) f i)
-  node_in (has_attr m b x) f i =
-      in_left (finding_at s m f) (found_at s m (faults s (has_attr m b x))) _
-      (node_here (has_attr m b x) f i)
-  node_in (ext_has_attr m b x xs) f i =
-      in_left (finding_at s m f) (found_at s m (faults s (ext_has_attr m b x xs))) _
-      (node_here (ext_has_attr m b x xs) f i)
-  node_in (lit m x) f i = absurd i
-  node_in (var m x) f i = absurd i
-  node_in (slot m x) f i = absurd i
-  node_in (unknown m x) f i = absurd i
-  node_in (if_then_else m b c d) f i = absurd i
-  node_in (and m b c) f i = absurd i
-  node_in (or m b c) f i = absurd i
-  node_in (unary m o b) f i = absurd i
-  node_in (call m g ts) f i = absurd i
-  node_in (like m b p) f i = absurd i
-  node_in (is_type m b p) f i = absurd i
-  node_in (set_of m ts) f i = absurd i
-  node_in (record_of m fs) f i = absurd i
-
-  pub leaf_in : (x : TypedTree) (path : List Text) (f : Fault)
-      → IsOneOf f (faults_at_end (leaf_of s.action x path))
-      → IsOneOf (finding_at s (mark_of x) f) (target_errors s x path)
-  leaf_in (lit m x) path f i = leaf_here (lit m x) path f i
-  leaf_in (var m x) path f i = absurd i
-  leaf_in (slot m x) path f i = leaf_here (slot m x) path f i
-  leaf_in (unknown m x) path f i = leaf_here (unknown m x) path f i
-  leaf_in (if_then_else m b c d) path f i = absurd i
-  leaf_in (and m b c) path f i = leaf_here (and m b c) path f i
-  leaf_in (or m b c) path f i = leaf_here (or m b c) path f i
-  leaf_in (unary m o b) path f i = leaf_here (unary m o b) path f i
-  leaf_in (binary m o b c) path f i =
-      in_left (finding_at s m f) (leaf_errors s (binary m o b c) m path) _
-      (leaf_here (binary m o b c) path f i)
-  leaf_in (call m g ts) path f i = leaf_here (call m g ts) path f i
-  leaf_in (get_attr m b x) path f i =
-      in_left (finding_at s m f) (leaf_errors s (get_attr m b x) m path) _
-      (leaf_here (get_attr m b x) path f i)
-  leaf_in (has_attr m b x) path f i = leaf_here (has_attr m b x) path f i
-  leaf_in (ext_has_attr m b x xs) path f i = leaf_here (ext_has_attr m b x xs) path f i
-  leaf_in (like m b p) path f i = leaf_here (like m b p) path f i
-  leaf_in (is_type m b p) path f i = leaf_here (is_type m b p) path f i
-  leaf_in (set_of m ts) path f i = leaf_here (set_of m ts) path f i
-  leaf_in (record_of m fs) path f i =
-      in_left (finding_at s m f) (leaf_errors s (record_of m fs) m path) _
-      (leaf_here (record_of m fs) path f i)

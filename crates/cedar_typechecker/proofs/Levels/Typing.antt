@@ -27,7 +27,8 @@ use Rattle.cedar_typing.proofs.PolicyCheck.{checked}
 use Rattle.cedar_typing.proofs.Verdicts.{verdict_at_most}
 use Rattle.cedar_typechecker.specs.Levels.Laws.{VerdictIsShared, TypedBranchesAreShared}
 use Rattle.cedar_typechecker.specs.Levels.Shared.{BranchesAreShared}
-use Rattle.cedar_typechecker.proofs.Levels.TypedParts.{AnswerShared, PartShared, OperandsShared, expected, gone_on, deep, branches_shared, right_shared, first_shared, trees_shared, values_shared, KeepsShared, form_shared, one_more_shared, unary_keeps, binary_keeps, leaf_shared}
+use Rattle.cedar_typechecker.proofs.Levels.TypedForms.{OperandsShared, first_shared, trees_shared, values_shared, KeepsShared, form_shared, one_more_shared, unary_keeps, binary_keeps}
+use Rattle.cedar_typechecker.proofs.Levels.TypedParts.{AnswerShared, PartShared, expected, gone_on, deep, branches_shared, right_shared, leaf_shared}
 
 -- ---- every expression
 

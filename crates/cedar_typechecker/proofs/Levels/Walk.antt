@@ -14,7 +14,9 @@ use Rattle.cedar_typechecker.specs.Levels.Errors.{faults, faults_at_end, finding
 use Rattle.cedar_typechecker.specs.Levels.Laws.{WalkFindsErrors, SilentWalkIsWithin}
 use Rattle.cedar_typechecker.specs.Levels.Setting.{LevelSetting}
 use Rattle.cedar_typechecker.specs.Levels.Walk.{found_at, of_base, of_keys, of_value, of_chain, leaf_errors, checked_errors, all_errors, field_errors, target_errors, errors_along}
-use Rattle.cedar_typechecker.proofs.Levels.Inclusions.{Within, in_either, if_in, then_in, found_back, parts_in, targets_in, below_in, next_in, node_in, leaf_in}
+use Rattle.cedar_typechecker.proofs.Levels.Inclusions.{Within, in_either, if_in, then_in, found_back, parts_in, targets_in}
+use Rattle.cedar_typechecker.proofs.Levels.InclusionsBelow.{below_in, next_in}
+use Rattle.cedar_typechecker.proofs.Levels.InclusionsHere.{node_in, leaf_in}
 
 module _ (s : LevelSetting) where
   abbrev Checked : TypedTree → List Finding
