@@ -1,6 +1,8 @@
 // Case files: which policies they ask about, and what they want of them.
 mod answers;
 mod columns;
+mod costs;
+mod differences;
 mod files;
 mod names;
 mod refusals;

@@ -1,5 +1,5 @@
-//! Policies and schemas as texts: a notation for cases, with a fault and its place for what cannot be read. It is no parser of
-//! the language, and no clause is claimed of it.
+//! Policies, schemas and types as texts: a notation for cases, with a fault and its place for what cannot be read. It is no
+//! parser of the language, and no clause is claimed of it.
 #![tactic(auto)]
 
 mod cursor;
@@ -12,6 +12,7 @@ mod parts;
 mod positions;
 mod schemas;
 mod scopes;
+mod shown_types;
 mod texts;
 mod tokens;
 
@@ -20,3 +21,4 @@ pub use faults::{Fault, ReadError};
 pub use positions::Position;
 pub use schemas::{RefusedName, SchemaReadError, refused_name, schema};
 pub use scopes::{condition, policy, scope_alone, uid_alone, whole_policy};
+pub use shown_types::type_alone;

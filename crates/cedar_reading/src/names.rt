@@ -69,3 +69,9 @@ pub fn entity_uid(cursor: &mut Cursor<'_>) -> Result<EntityUID, ReadError> {
     let read = placed_name(cursor)?;
     uid_of(cursor, start, read)
 }
+
+/// Whether a name means an extension type where no entity type is declared that it may mean.
+pub fn is_extension(name: &Name) -> bool {
+    let basename = name.basename.as_str();
+    name.path.is_empty() && matches!(basename, "ipaddr" | "decimal" | "datetime" | "duration")
+}

@@ -27,9 +27,9 @@ pub struct Token<'a> {
 }
 
 /// The marks. A longer one stands before those that it begins with.
-const MARKS: [&str; 23] = [
+const MARKS: [&str; 24] = [
     "==", "<=", "&&", "||", "::", "(", ")", "[", "]", "{", "}", ",", ";", ":", ".", "?", "!", "<",
-    ">", "+", "-", "*", "=",
+    ">", "+", "-", "*", "=", "|",
 ];
 
 /// The first token of the text from this byte on, after blanks.

@@ -14,6 +14,12 @@ pub enum Column {
     Condition,
     /// The entity that a slot is bound to.
     Slot(SlotId),
+    /// The type that a chain of attributes begins at.
+    Root,
+    /// The attributes of the chain.
+    Attributes,
+    /// What is wanted of the chain: how much it costs.
+    Cost,
     /// The least level at which the policy has no level error, which is not asked yet: it is skipped.
     RequiredLevel,
     /// What is wanted of the policy.
@@ -71,9 +77,17 @@ impl Column {
             "condition" => Some(Column::Condition),
             "?principal" => Some(Column::Slot(SlotId::Principal)),
             "?resource" => Some(Column::Slot(SlotId::Resource)),
+            "root" => Some(Column::Root),
+            "attributes" => Some(Column::Attributes),
+            "cost" => Some(Column::Cost),
             _ if is_required_level(name) => Some(Column::RequiredLevel),
             _ => Some(Column::Wanted(Wanted::named(name)?)),
         }
+    }
+
+    /// Whether it is about a chain of attributes, and not about a policy.
+    pub fn is_of_chain(self) -> bool {
+        matches!(self, Column::Root | Column::Attributes | Column::Cost)
     }
 }
 

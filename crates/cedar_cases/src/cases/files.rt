@@ -11,7 +11,7 @@ pub struct Field<'a> {
     pub start: usize,
 }
 
-/// A case: a policy, and what is wanted of it.
+/// A case: a policy or a chain of attributes, and what is wanted of it.
 #[derive(Drop)]
 pub struct Case<'a> {
     /// Its line in the file, from 1 on.
@@ -23,7 +23,14 @@ pub struct Case<'a> {
     pub condition: Field<'a>,
     /// The slots that are bound, each to an id.
     pub slots: Vec<(SlotId, Field<'a>)>,
+    /// What is wanted of the policy.
     pub wanted: Vec<Expectation<'a>>,
+    /// The type that a chain begins at.
+    pub root: Field<'a>,
+    /// The attributes of the chain, with points between them.
+    pub attributes: &'a str,
+    /// What is wanted of the chain, if anything is.
+    pub cost: Option<&'a str>,
 }
 
 /// What a column wants of a case.
@@ -54,7 +61,8 @@ pub enum FileFault {
     NoSchema,
     /// The first line has a third field, which is another than the one that there is.
     NoOrder,
-    /// The second line has a name that no column has, as its field of this number, from 1 on.
+    /// The second line has a name that no column has, or none beside the first, as its field of this
+    /// number, from 1 on.
     NoColumn(usize),
     /// Its field of this number has the name of a column before it.
     SameColumn(usize),
@@ -88,6 +96,10 @@ impl<'a> Case<'a> {
                 asked,
                 text: field.text,
             })?,
+            Column::Root => self.root = field,
+            Column::Attributes => self.attributes = field.text,
+            Column::Cost if field.text == NOT_ASKED => {}
+            Column::Cost => self.cost = Some(field.text),
         }
         Ok(())
     }
@@ -117,6 +129,11 @@ impl<'a> CaseFile<'a> {
             columns,
             text,
         }))
+    }
+
+    /// Whether its cases are chains of attributes.
+    pub fn is_about_chains(&self) -> bool {
+        self.columns.iter().all(|(_, column)| column.is_of_chain())
     }
 
     /// How many columns are skipped.
@@ -164,6 +181,9 @@ impl<'a> CaseFile<'a> {
             condition: nothing,
             slots: Vec::new(alloc),
             wanted: Vec::new(alloc),
+            root: nothing,
+            attributes: "",
+            cost: None,
         };
         let mut start: usize = 0;
         for ((name, column), text) in self.columns.iter().zip(line.split('\t')) {
@@ -182,7 +202,7 @@ fn columns_named<'a>(
     let mut columns: Vec<(&'a str, Column)> = Vec::new(alloc);
     for name in names.split('\t') {
         let number = columns.len().saturating_add(1);
-        let Some(column) = Column::named(name) else {
+        let Some(column) = column_beside(name, columns.as_slice()) else {
             return Ok(Err(FileFault::NoColumn(number)));
         };
         if columns.iter().any(|(before, _)| *before == name) {
@@ -191,6 +211,15 @@ fn columns_named<'a>(
         columns.push((name, column))?;
     }
     Ok(Ok(columns))
+}
+
+/// The column of this name, if it may stand behind these: a file is about policies, or about chains.
+fn column_beside(name: &str, before: &[(&str, Column)]) -> Option<Column> {
+    let column = Column::named(name)?;
+    match before.first() {
+        Some((_, first)) if first.is_of_chain() != column.is_of_chain() => None,
+        _ => Some(column),
+    }
 }
 
 /// The byte behind the first so many fields of a line.

@@ -1,7 +1,8 @@
 // Case files whose cases bring their own declarations: why they are refused, if they are.
+use crate::cases::differences::{agrees, write_fault};
 use crate::cases::files::FileFault;
 use crate::cases::report::Tally;
-use cedar_reading::{Fault, Position, ReadError, SchemaReadError, schema};
+use cedar_reading::{Fault, ReadError, SchemaReadError, schema};
 use std::alloc::{AllocError, Global};
 use std::io;
 use std::io::Write;
@@ -70,12 +71,7 @@ fn run_line<W: Write>(
         Ok(got) => got,
         Err(fault) => return write_fault(name, number, line, fault, out),
     };
-    let agrees = got.as_str() == wanted;
-    if !agrees {
-        writeln!(out, "{name}:{number}: refusal: wanted {wanted}")?;
-        writeln!(out, "{name}:{number}: refusal: got {got}")?;
-    }
-    Ok(agrees)
+    agrees(name, number, "refusal", wanted, got.as_str(), out)
 }
 
 /// The declarations of a line and the refusal that is wanted; or the byte at which a field is
@@ -107,17 +103,4 @@ fn refusal_of(
         Err(SchemaReadError::Read(ReadError::Memory(error))) => Err(error),
         Err(SchemaReadError::Read(ReadError::At(at, fault))) => Ok(Err((at, fault))),
     }
-}
-
-/// Writes what is wrong at a byte of a line, and answers that its case does not agree.
-fn write_fault<W: Write>(
-    name: &str,
-    number: usize,
-    line: &str,
-    (at, fault): (usize, Fault),
-    out: &mut W,
-) -> io::Result<bool> {
-    let column = Position::in_text(line, at).column;
-    writeln!(out, "{name}:{number}:{column}: {fault}")?;
-    Ok(false)
 }

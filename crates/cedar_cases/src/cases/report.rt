@@ -1,10 +1,10 @@
 // What came of the cases of a file.
 use crate::cases::answers::{Rules, answers, in_order};
+use crate::cases::costs::run_chain;
+use crate::cases::differences::{agrees, write_fault};
 use crate::cases::files::{Case, CaseFile, Field};
 use crate::shown::Source;
-use cedar_reading::{
-    Fault, Position, ReadError, condition, policy, scope_alone, uid_alone, whole_policy,
-};
+use cedar_reading::{Fault, ReadError, condition, policy, scope_alone, uid_alone, whole_policy};
 use cedar_types::base::{Policy, SlotEnv, Template};
 use std::alloc::{AllocError, Global};
 use std::io;
@@ -29,11 +29,15 @@ pub fn run_cases<W: Write>(
     out: &mut W,
 ) -> io::Result<Tally> {
     let mut tally = Tally { ran: 0, wrong: 0 };
+    let is_about_chains = file.is_about_chains();
     for case in file.cases(alloc)? {
         tally.ran = tally.ran.saturating_add(1);
         let agrees = match file.fault_of_fields(case.line) {
-            Some(fault) => write_fault(name, &case, fault, out)?,
-            None => run_case(alloc, name, &case, rules, out)?,
+            Some(fault) => write_fault(name, case.number, case.line, fault, out)?,
+            None if is_about_chains => {
+                run_chain(alloc, name, &case, rules.validator.schema(), out)?
+            }
+            None => run_policy(alloc, name, &case, rules, out)?,
         };
         if !agrees {
             tally.wrong = tally.wrong.saturating_add(1);
@@ -42,8 +46,8 @@ pub fn run_cases<W: Write>(
     Ok(tally)
 }
 
-/// Runs a case, and answers whether it agrees.
-fn run_case<W: Write>(
+/// Runs the case of a policy, and answers whether it agrees.
+fn run_policy<W: Write>(
     alloc: Global,
     name: &str,
     case: &Case<'_>,
@@ -52,33 +56,19 @@ fn run_case<W: Write>(
 ) -> io::Result<bool> {
     let policy = match policy_of(alloc, case)? {
         Ok(policy) => policy,
-        Err(fault) => return write_fault(name, case, fault, out),
+        Err(fault) => return write_fault(name, case.number, case.line, fault, out),
     };
     let source = source_of(case, &policy.template);
-    let mut agrees = true;
+    let mut all_agree = true;
     for expectation in &case.wanted {
         let wanted = in_order(alloc, expectation.text)?;
         let got = answers(alloc, rules, &policy, source, expectation.asked)?;
-        if got != wanted {
-            let column = expectation.column;
-            writeln!(out, "{name}:{}: {column}: wanted {wanted}", case.number)?;
-            writeln!(out, "{name}:{}: {column}: got {got}", case.number)?;
-            agrees = false;
+        let (wanted, got, column) = (wanted.as_str(), got.as_str(), expectation.column);
+        if !agrees(name, case.number, column, wanted, got, out)? {
+            all_agree = false;
         }
     }
-    Ok(agrees)
-}
-
-/// Writes what is wrong at a byte of a case's line, and answers that the case does not agree.
-fn write_fault<W: Write>(
-    name: &str,
-    case: &Case<'_>,
-    (at, fault): (usize, Fault),
-    out: &mut W,
-) -> io::Result<bool> {
-    let column = Position::in_text(case.line, at).column;
-    writeln!(out, "{name}:{}:{column}: {fault}", case.number)?;
-    Ok(false)
+    Ok(all_agree)
 }
 
 /// The text that the places of a case's policy are in.

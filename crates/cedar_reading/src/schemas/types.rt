@@ -2,7 +2,7 @@
 use crate::cursor::Cursor;
 use crate::faults::{Fault, ReadError};
 use crate::members::key;
-use crate::names::placed_name;
+use crate::names::{is_extension, placed_name};
 use crate::schemas::meanings::Names;
 use cedar_types::base::{AttributeType, Attributes, CedarType, Name, OpenTag};
 use std::collections::BTreeMap;
@@ -103,10 +103,4 @@ fn primitive(name: &Name) -> Option<CedarType> {
         "String" => Some(CedarType::primitive_string()),
         _ => None,
     }
-}
-
-/// Whether a name means an extension type where no entity type is declared that it may mean.
-fn is_extension(name: &Name) -> bool {
-    let basename = name.basename.as_str();
-    name.path.is_empty() && matches!(basename, "ipaddr" | "decimal" | "datetime" | "duration")
 }

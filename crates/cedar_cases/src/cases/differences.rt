@@ -1,0 +1,34 @@
+// What is written of a case that does not agree.
+use cedar_reading::{Fault, Position};
+use std::io;
+use std::io::Write;
+
+/// Writes what is wrong at a byte of a case's line, and answers that the case does not agree.
+pub fn write_fault<W: Write>(
+    name: &str,
+    number: usize,
+    line: &str,
+    (at, fault): (usize, Fault),
+    out: &mut W,
+) -> io::Result<bool> {
+    let column = Position::in_text(line, at).column;
+    writeln!(out, "{name}:{number}:{column}: {fault}")?;
+    Ok(false)
+}
+
+/// Whether a column gets what it wants of the case in this line. Where it does not, both are written.
+pub fn agrees<W: Write>(
+    name: &str,
+    number: usize,
+    column: &str,
+    wanted: &str,
+    got: &str,
+    out: &mut W,
+) -> io::Result<bool> {
+    if got == wanted {
+        return Ok(true);
+    }
+    writeln!(out, "{name}:{number}: {column}: wanted {wanted}")?;
+    writeln!(out, "{name}:{number}: {column}: got {got}")?;
+    Ok(false)
+}
