@@ -1,5 +1,6 @@
 // The calls that are made while memory is refused, a file for each subject.
 pub mod at_once;
+pub mod costs;
 pub mod environments;
 pub mod levels;
 pub mod passes;

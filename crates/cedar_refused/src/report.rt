@@ -1,16 +1,17 @@
 // A line for each call: its name, and what came of it.
 use crate::calls::at_once::{Asked, Subject};
+use crate::calls::costs::ChainCost;
 use crate::calls::environments::{ChecksMaking, ChecksWalk, LinkedWalk, MODE, Walk};
 use crate::calls::levels::LevelRun;
 use crate::calls::passes::{Pass, PassWalk};
 use crate::calls::policies::WholeCheck;
 use crate::calls::schemas::SchemaMaking;
 use crate::calls::single_env::SingleCheck;
-use crate::calls::without_memory::{environments, look_ups, passes, tables};
+use crate::calls::without_memory::{chain_cost, environments, look_ups, passes, tables};
 use crate::refusals::{refuse, was_refused};
 use crate::samples::names::{bound_to_unknown, bound_to_user, unknown_names};
 use crate::samples::policies::{MANY, many_findings, one_finding, with_slot};
-use crate::samples::schemas::photos;
+use crate::samples::schemas::{owners, photos, user_or_photo};
 use crate::sweep::{Call, swept};
 use cedar_typechecker::rbac::Validator;
 use cedar_types::base::{ExtensionSchemas, ValidationMode, ValidatorSchema};
@@ -18,6 +19,7 @@ use cedar_typing::typecheck::Typechecker;
 use std::alloc::Global;
 use std::io;
 use std::io::Write;
+use std::rc::RcStr;
 
 /// Makes each call, and writes what came of it.
 pub fn report<W: Write>(alloc: Global, out: &mut W) -> io::Result<()> {
@@ -40,6 +42,7 @@ pub fn report<W: Write>(alloc: Global, out: &mut W) -> io::Result<()> {
     all_passes(alloc, &validator, out)?;
     questions(alloc, &validator, out)?;
     level_runs(alloc, &validator, out)?;
+    chain_costs(alloc, out)?;
     without_memory(alloc, &validator, out)
 }
 
@@ -208,6 +211,27 @@ fn level_runs<W: Write>(alloc: Global, validator: &Validator<'_>, out: &mut W) -
     Ok(())
 }
 
+fn chain_costs<W: Write>(alloc: Global, out: &mut W) -> io::Result<()> {
+    let Ok(schema) = owners(alloc) else {
+        return writeln!(out, "there is no schema of owners");
+    };
+    let owner = RcStr::from_str(alloc, "owner")?;
+    let chain = vec![in alloc; owner.clone()?, owner.clone()?, owner]?;
+    // each of the three is of two types
+    let asked = ChainCost {
+        schema: &schema,
+        root: &user_or_photo(alloc)?,
+        chain: chain.as_slice(),
+        cost: 3,
+    };
+    write_sweep(
+        alloc,
+        out,
+        "attr_chain_cost_from_root, of several entity types",
+        &asked,
+    )
+}
+
 fn without_memory<W: Write>(
     alloc: Global,
     validator: &Validator<'_>,
@@ -217,5 +241,6 @@ fn without_memory<W: Write>(
     writeln!(out, "environments: {}", environments(alloc, schema)?)?;
     writeln!(out, "look-ups: {}", look_ups(alloc, schema)?)?;
     writeln!(out, "tables: {}", tables(alloc)?)?;
-    writeln!(out, "passes: {}", passes(alloc, validator, &named)?)
+    writeln!(out, "passes: {}", passes(alloc, validator, &named)?)?;
+    writeln!(out, "chain cost: {}", chain_cost(alloc, schema)?)
 }

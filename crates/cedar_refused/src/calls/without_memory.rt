@@ -1,6 +1,7 @@
 // Calls that take no memory, made while each growth is refused.
 use crate::refusals::{refuse_all, was_refused};
 use crate::samples::schemas::entity_type;
+use cedar_typechecker::level_validate::attr_chain_cost_from_root;
 use cedar_typechecker::rbac::Validator;
 use cedar_types::base::{
     CedarType, ExtensionFunctionType, ExtensionSchemas, Name, Policy, ValidationMode,
@@ -10,6 +11,7 @@ use cedar_types::types::request_env::RequestEnv;
 use cedar_typing::typecheck::Typechecker;
 use std::alloc::{AllocError, Global};
 use std::collections::BTreeSet;
+use std::rc::RcStr;
 
 const TAKES_NONE: &str = "no growth";
 
@@ -113,5 +115,21 @@ pub fn passes<'x>(
     let _members = Validator::validate_enum_entity(alloc, schema, template);
     let _slots = validator.validate_entity_types_in_slots(alloc, &template.id, &policy.values);
     let was_refused = was_refused(alloc);
+    Ok(outcome(is_as_ever, was_refused))
+}
+
+/// What a chain of attributes costs whose entities are of one type each.
+pub fn chain_cost(alloc: Global, schema: &ValidatorSchema) -> Result<&'static str, AllocError> {
+    let photo = CedarType::named_entity_reference(alloc, entity_type(alloc, "Photo")?)?;
+    let owner = RcStr::from_str(alloc, "owner")?;
+    let vip = RcStr::from_str(alloc, "vip")?;
+    let chain = vec![in alloc; owner, vip]?;
+    refuse_all(alloc);
+    let cost = attr_chain_cost_from_root(alloc, schema, &photo, chain.as_slice());
+    let was_refused = was_refused(alloc);
+    let is_as_ever = match cost {
+        Ok(cost) => cost == 2,
+        Err(_) => false,
+    };
     Ok(outcome(is_as_ever, was_refused))
 }

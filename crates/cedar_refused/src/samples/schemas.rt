@@ -1,8 +1,8 @@
-// A schema: users, each of whom may be in others, photos, which users view and edit, and colors.
+// A schema: users, each of whom may be in others, photos, which users view and edit, and colors. And one of owners.
 use cedar_types::base::{
-    AttributeType, Attributes, CedarType, EntityType, EntityUID, Name, OpenTag, SchemaError,
-    StandardValidatorEntityType, ValidatorActionId, ValidatorActionKind, ValidatorApplySpec,
-    ValidatorEntityType, ValidatorEntityTypeKind, ValidatorSchema,
+    AttributeType, Attributes, CedarType, EntityKind, EntityLUB, EntityType, EntityUID, Name,
+    OpenTag, SchemaError, StandardValidatorEntityType, ValidatorActionId, ValidatorActionKind,
+    ValidatorApplySpec, ValidatorEntityType, ValidatorEntityTypeKind, ValidatorSchema,
 };
 use std::alloc::{AllocError, Global};
 use std::collections::BTreeSet;
@@ -82,4 +82,25 @@ pub fn actions(alloc: Global) -> Result<Vec<ValidatorActionId>, AllocError> {
 
 pub fn photos(alloc: Global) -> Result<ValidatorSchema, SchemaError> {
     ValidatorSchema::new(alloc, types(alloc)?, actions(alloc)?)
+}
+
+/// Users, whom photos own, and photos, which users own: so the owner of either is either.
+pub fn owners(alloc: Global) -> Result<ValidatorSchema, SchemaError> {
+    let photo = CedarType::named_entity_reference(alloc, entity_type(alloc, "Photo")?)?;
+    let user = CedarType::named_entity_reference(alloc, entity_type(alloc, "User")?)?;
+    let (of_users, of_photos) = (
+        attribute(alloc, "owner", photo)?,
+        attribute(alloc, "owner", user)?,
+    );
+    let users = entities(alloc, "User", BTreeSet::new(alloc), of_users)?;
+    let photos = entities(alloc, "Photo", BTreeSet::new(alloc), of_photos)?;
+    let types = vec![in alloc; users, photos]?;
+    ValidatorSchema::new(alloc, types, Vec::new(alloc))
+}
+
+/// The type of users and photos.
+pub fn user_or_photo(alloc: Global) -> Result<CedarType, AllocError> {
+    let users = EntityLUB::single_entity(alloc, entity_type(alloc, "User")?)?;
+    let photos = EntityLUB::single_entity(alloc, entity_type(alloc, "Photo")?)?;
+    Ok(CedarType::Entity(EntityKind::Entity(users.least_upper_bound(alloc, &photos)?)))
 }
