@@ -23,3 +23,6 @@ pub mod TypedViews
 pub mod Keys
 pub mod Tallies
 pub mod Outcomes
+pub mod RequiredParts
+pub mod Requirements
+pub mod RequiredLevels

@@ -15,4 +15,6 @@ pub mod Paths
 pub mod Views
 pub mod Answers
 pub mod Outcome
+pub mod Requirements
+pub mod Required
 pub mod Tallies

@@ -23,6 +23,7 @@ use Rattle.cedar_typing.specs.declared.typecheck.typechecker.Typechecker.{Typech
 use Rattle.cedar_typing.specs.CheckViews.{schema_by, mode_by}
 use Rattle.cedar_typing.specs.PolicySoundness.{Basis}
 use Rattle.cedar_typechecker.specs.Levels.Outcome.{levels_on, name_findings}
+use Rattle.cedar_typechecker.specs.Levels.Requirements.{Surroundings}
 use Rattle.cedar_typechecker.specs.Levels.Setting.{LevelSetting, action_of}
 
 -- ---- the passes over names
@@ -99,3 +100,14 @@ pub walk_setting : (a : Option (Bor EntityUID)) (s : ValidatorSchema) (b : Basis
 walk_setting a s b t n e ha hs =
     let action = ap (option_map (λ u. uid_of u.now)) ha ∙ action_seen e in
     λ i. record { action = action i; schema = hs i; maximum = n; policy = t.id }
+
+-- the same of the walk for required levels
+pub walk_surroundings : (a : Option (Bor EntityUID)) (s : ValidatorSchema) (b : Basis)
+    (e : RequestEnv) → a ≡ action_in e → schema_of s ≡ b.schema
+    → ◌≡◌ {A = Surroundings} (record {
+      action = option_map (λ u. uid_of u.now) a;
+      schema = schema_of s;
+    }) (record { action = action_of (env_of e); schema = b.schema })
+walk_surroundings a s b e ha hs =
+    let action = ap (option_map (λ u. uid_of u.now)) ha ∙ action_seen e in
+    λ i. record { action = action i; schema = hs i }

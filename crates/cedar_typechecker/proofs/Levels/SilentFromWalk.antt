@@ -15,7 +15,7 @@ use Rattle.cedar_typechecker.specs.Levels.Walk.{found_at, of_base, of_keys, of_v
 use Rattle.cedar_typechecker.proofs.Levels.Greatest.{has_chain, greatest_of_both, greatest_more}
 use Rattle.cedar_typechecker.proofs.Levels.Silent.{Spends, IfSo, ByBase, IsOwnAction, Leaves, OnKeysOf, ByChain, Silent, AllSilent, FieldsSilent, Targeted, FieldTargeted}
 
-both_nil : {A : Type 0} (xs ys : List A) → xs ++ ys ≡ [] → (xs ≡ []) × (ys ≡ [])
+pub both_nil : {A : Type 0} (xs ys : List A) → xs ++ ys ≡ [] → (xs ≡ []) × (ys ≡ [])
 both_nil [] ys h = (refl, h)
 both_nil (x ∷ xs) ys h = cc
 

@@ -12,8 +12,10 @@ use Rattle.cedar_types.specs.Tree.{Fields}
 use Rattle.cedar_types.specs.View.{fields_of}
 use Rattle.cedar_typing.specs.TypedExpr.{Mark, typed_tree}
 use Rattle.cedar_typechecker.specs.declared.level_validate.bases.Base as kind
+use Rattle.cedar_typechecker.specs.declared.level_validate.requirements.RequirementWalk.{RequirementWalk}
 use Rattle.cedar_typechecker.specs.declared.level_validate.walk.LevelWalk.{LevelWalk}
 use Rattle.cedar_typechecker.specs.Levels.Chains.{Base, an_entity, a_record, neither}
+use Rattle.cedar_typechecker.specs.Levels.Requirements.{Surroundings}
 use Rattle.cedar_typechecker.specs.Levels.Setting.{LevelSetting}
 
 abbrev pub setting_of : LevelWalk → LevelSetting
@@ -22,6 +24,12 @@ setting_of w = record {
   schema = schema_of w.schema.now;
   maximum = w.maximum;
   policy = text_of w.policy_id.now.text;
+}
+
+abbrev pub surroundings_of : RequirementWalk → Surroundings
+surroundings_of w = record {
+  action = option_map (λ u. uid_of u.now) w.action;
+  schema = schema_of w.schema.now;
 }
 
 abbrev pub findings : List ValidationError → List Finding

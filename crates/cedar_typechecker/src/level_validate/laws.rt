@@ -1,6 +1,7 @@
 //! Laws of levels, and computed examples, each on a function that does nothing.
 ghost use Rattle.cedar_typechecker.specs.Levels.Details.{LevelDetails};
 ghost use Rattle.cedar_typechecker.specs.Levels.Laws.{ChainsAreListed, LevelIsGreatest, LargerLevelsAreWithin, WalkFindsErrors, SilentWalkIsWithin, TypedBranchesAreShared, ErrorsAreAdded};
+ghost use Rattle.cedar_typechecker.specs.Levels.Required.{WithinWhereReached, SilentWhereReached, RequiredLevelIsOne};
 ghost use Rattle.cedar_typechecker.specs.Levels.Rows.{LevelRows};
 
 /// The list of an expression's chains has those that the rules give, and its level is the greatest.
@@ -12,6 +13,14 @@ pub fn access_chains()
 /// What has no level error at a maximum has none at any larger one.
 pub fn larger_levels()
     ensures { LargerLevelsAreWithin }
+{}
+
+/// A policy has no level error at its required level and above it, where it has one, and nowhere else; there alone its
+/// validation with levels finds none. A policy requires one level, or none.
+pub fn required_levels()
+    ensures within { WithinWhereReached }
+    ensures silent { SilentWhereReached }
+    ensures one { RequiredLevelIsOne }
 {}
 
 /// A walk down a typed expression finds each of its level errors, and nothing else.

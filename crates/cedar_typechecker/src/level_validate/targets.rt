@@ -220,7 +220,7 @@ impl LevelWalk<'_> {
 }
 
 /// Whether the operator's value is an entity that its dereference gives.
-fn is_get_tag(op: BinaryOp) -> bool
+pub(crate) fn is_get_tag(op: BinaryOp) -> bool
     ensures { result ≡ is_get_tag op }
 {
     match op {
@@ -229,14 +229,14 @@ fn is_get_tag(op: BinaryOp) -> bool
     }
 }
 
-fn is_same_entity(one: &EntityUID, other: &EntityUID) -> bool
+pub(crate) fn is_same_entity(one: &EntityUID, other: &EntityUID) -> bool
     ensures { result ≡ uid_eq (uid_of one.now) (uid_of other.now) }
 {
     one == other
 }
 
 /// Whether a record literal has this key.
-fn has_key(fields: &BTreeMap<RcStr, Expr<Option<CedarType>>>, key: &RcStr) -> bool
+pub(crate) fn has_key(fields: &BTreeMap<RcStr, Expr<Option<CedarType>>>, key: &RcStr) -> bool
     ensures { result ≡ has_key (text_of key.now) (typed_fields fields.now.entries) }
 {
     for (own, _) in fields.iter() {
@@ -247,7 +247,7 @@ fn has_key(fields: &BTreeMap<RcStr, Expr<Option<CedarType>>>, key: &RcStr) -> bo
     false
 }
 
-fn is_same_key(one: &RcStr, other: &RcStr) -> bool
+pub(crate) fn is_same_key(one: &RcStr, other: &RcStr) -> bool
     ensures { result ≡ text_eq (text_of one.now) (text_of other.now) }
 {
     one == other

@@ -282,7 +282,7 @@ impl LevelWalk<'_> {
 }
 
 /// Whether the operator dereferences its first operand.
-fn accesses_first(op: BinaryOp) -> bool
+pub(crate) fn accesses_first(op: BinaryOp) -> bool
     ensures { result ≡ accesses_first op }
 {
     match op {

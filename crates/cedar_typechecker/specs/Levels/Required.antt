@@ -1,0 +1,47 @@
+-- The level that a policy requires.
+use Rattle.std.specs.Prelude.{◌≡◌, ◌↔◌, ℕ, ◌≤◌, ◌<◌, List, [], Option, Some, None}
+use Rattle.cedar_types.specs.Errors.{Finding, Caution}
+use Rattle.cedar_types.specs.Templates.{PlainTemplate}
+use Rattle.cedar_typing.specs.PolicySoundness.{Basis}
+use Rattle.cedar_typechecker.specs.Levels.Outcome.{LevelOutcome}
+use Rattle.cedar_typechecker.specs.Slices.Policies.{PolicyIsWithinLevel}
+
+-- ---- the definition
+
+-- the level that a policy requires
+abbrev pub IsRequiredLevel : Basis → PlainTemplate → Option ℕ → Type 0
+-- there is none where the policy has a level error at each number of 32 bits
+IsRequiredLevel b t None = (n : ℕ) → n ≤ 4294967295 → PolicyIsWithinLevel b t n → ⊥
+-- else it is the least number at which the policy has none
+IsRequiredLevel b t (Some n) =
+    (n ≤ 4294967295) × PolicyIsWithinLevel b t n
+    × ((m : ℕ) → m < n → PolicyIsWithinLevel b t m → ⊥)
+
+-- ---- laws
+
+-- a number is at least the required level, if there is one
+abbrev pub Reaches : Option ℕ → ℕ → Type 0
+Reaches None n = ⊥
+Reaches (Some m) n = m ≤ n
+
+-- the policy has no level error at n exactly where n reaches the required level
+abbrev pub WithinWhereReached : Type 0
+WithinWhereReached =
+    (b : Basis) (t : PlainTemplate) (required : Option ℕ) (n : ℕ)
+    → IsRequiredLevel b t required → n ≤ 4294967295
+    → PolicyIsWithinLevel b t n ↔ Reaches required n
+
+-- and there alone its validation with levels finds none
+abbrev pub SilentWhereReached : Type 0
+SilentWhereReached =
+    (b : Basis) (t : PlainTemplate) (required : Option ℕ) (n : ℕ)
+    (errors : List Finding) (warnings : List Caution)
+    → IsRequiredLevel b t required → n ≤ 4294967295
+    → (o : LevelOutcome b t n errors warnings)
+    → (o.level_errors ≡ []) ↔ Reaches required n
+
+-- a policy requires one level, or none
+abbrev pub RequiredLevelIsOne : Type 0
+RequiredLevelIsOne =
+    (b : Basis) (t : PlainTemplate) (one other : Option ℕ)
+    → IsRequiredLevel b t one → IsRequiredLevel b t other → one ≡ other
