@@ -33,6 +33,8 @@ pub enum Subject {
     Policy(ValidationMode),
     /// What the validation with levels finds, where this is the greatest level.
     Level(ValidationMode, u32),
+    /// The least level that is enough.
+    RequiredLevel(ValidationMode),
     /// What a chain of attributes costs, behind its root: `User.user.bool`.
     ChainCost,
     /// The entity types that the schema does not know.
@@ -81,6 +83,9 @@ impl Subject {
         if let Some((mode, level)) = name.split_once(" level ") {
             let level = level.parse::<u32>().ok()?;
             return Some(Subject::Level(mode_named(mode)?, level));
+        }
+        if let Some(mode) = name.strip_suffix(" required level") {
+            return Some(Subject::RequiredLevel(mode_named(mode)?));
         }
         match name {
             "Strict check" => Some(Subject::Check(ValidationMode::Strict)),

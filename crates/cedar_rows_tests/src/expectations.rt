@@ -45,6 +45,10 @@ errors=0 warnings=2
 for policy `policy0`, unable to find an applicable action given the policy scope constraints
 ! ImpossiblePolicy @ the policy
 for policy `policy0`, policy is impossible: it evaluates to false for every valid request
+? S1 Permissive required level: (if principal.bool then principal.user else resource).user.bool
+3
+? S1 Partial required level: principal.bool
+none
 ? S1 chain cost: Nope.user.user
 1
 ? S1 chain cost: User.nope.user

@@ -66,6 +66,7 @@ row 47: 10000; ok\n\
 row 48: errors=1 warnings=0; errors=0 warnings=0; ok\n\
 row 51: Success; Fail errors=1; Success; errors=1 warnings=0; ok\n\
 row 52: Success; Fail errors=1; Success; Success; Success; Fail errors=1; ok\n\
+row 53: 0; 4; 3; none; 2; 6; 0; 0; 1; ok\n\
 row 54: errors=1 warnings=0; errors=0 warnings=0; ok\n\
 row 55: errors=1 warnings=0; errors=0 warnings=0; errors=1 warnings=0; errors=0 warnings=0; ok\n\
 ";
@@ -213,7 +214,7 @@ fn a_word_that_is_no_row_and_a_second_word_get_the_usage(rt: HostRuntime) -> Res
     for words in [
         ["x"].as_slice(),
         ["07"].as_slice(),
-        ["53"].as_slice(),
+        ["56"].as_slice(),
         ["310"].as_slice(),
         ["1", "2"].as_slice(),
     ] {

@@ -37,6 +37,16 @@ errors=0
 1
 ? S1 chain cost: {user: User}.user.bool
 0
+? S1 Strict required level: principal.bool
+0
+? S1 Strict required level: principal.bool
+none
+? S1 Strict required level: principal.bool
+errors=1 warnings=0
+? S1 Strict required level: {foo: User::"alice", bar: User::"bob"}.foo.bool
+1
+? S1 Strict required level: {foo: User::"alice", bar: User::"bob"}.foo.bool
+no
 "#;
 
 /// A finding of a level run is missing, or one too many, or of another kind, place or text.
@@ -110,5 +120,9 @@ errors=0 warnings=0
 ? S1 Lenient level 1: principal.bool
 errors=0 warnings=0
 ? S9 chain cost: User.user
+1
+? S1 Lenient required level: principal.bool
+1
+? S1 required level: principal.bool
 1
 "#;

@@ -192,6 +192,28 @@ errors=1 warnings=0
 for policy `policy0`, entity literals cannot be dereferenced at any level
 "#;
 
+/// The least level that is enough: of the policies of other rows; of one that fails, or has no environment, it is 0.
+pub const REQUIRED_LEVELS: &str = r#"
+? S1 Strict required level: {foo: principal}.foo is User
+0
+? S1 Strict required level: {foo: principal, bar: principal.user.user.user.user}.foo.bool
+4
+? S1 Strict required level: (if principal.bool then principal.user else resource.user.user).bool
+3
+? S1 Strict required level: {foo: User::"alice", bar: User::"bob"}.foo.bool
+none
+? S1 Strict required level: principal has nested.user.bool
+2
+? S1 Strict required level: principal.user.user.user.user.user.bool
+6
+? S0 Strict required level: permit(principal, action, resource)
+0
+? S2 Strict required level: principal.vip
+0
+? S1 Strict required level: permit(principal in ?principal, action, resource)
+1
+"#;
+
 /// Conditionals that a test decides hold one branch twice. A walk over both would not end.
 pub const SHARED_BRANCHES: &str = r#"
 ? S1 Strict level 0: ACCESS_UNDER_64

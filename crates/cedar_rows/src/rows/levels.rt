@@ -1,9 +1,12 @@
-// A policy at a level.
+// A policy at a level, and the level that it requires.
 use crate::rows::answers::{Answer, Asked};
 use cedar_fixtures::findings::{push_error, push_warning};
 use cedar_typechecker::level_validate::{LevelErrors, LevelWarnings};
 use cedar_types::base::ValidationMode;
 use std::alloc::AllocError;
+
+/// What is printed where no level is enough.
+const NO_LEVEL: &str = "none";
 
 impl Asked<'_> {
     /// What the validation of the policy finds, where this is the greatest level.
@@ -17,6 +20,16 @@ impl Asked<'_> {
         let warned = push_warnings(&mut answer.findings, self.text, warnings)?;
         write!(answer.outcome, "errors={found} warnings={warned}")?;
         Ok(answer)
+    }
+
+    /// The least level that is enough for the policy, or `none`.
+    pub fn required(self, mode: ValidationMode) -> Result<Answer, AllocError> {
+        let (alloc, policy) = (self.alloc, &*self.policy.template);
+        let outcome = match self.validator.required_level(alloc, policy, mode)? {
+            Some(level) => level.to_string(alloc)?,
+            None => String::from_str(alloc, NO_LEVEL)?,
+        };
+        Ok(Answer::new(alloc, outcome))
     }
 }
 

@@ -43,7 +43,7 @@ const CONDITIONALS: [Nested; 1] = [Nested {
 }];
 
 /// The rows, in the order in which they run.
-pub const WORKED: [NamedRow<Steps>; 50] = [
+pub const WORKED: [NamedRow<Steps>; 51] = [
     NamedRow {
         name: "1",
         row: Steps(dereferences::NO_DEREFERENCE, &[]),
@@ -235,6 +235,10 @@ pub const WORKED: [NamedRow<Steps>; 50] = [
     NamedRow {
         name: "52",
         row: Steps(conditions::PERMISSIVE_BOUNDS, &[]),
+    },
+    NamedRow {
+        name: "53",
+        row: Steps(dereferences::REQUIRED_LEVELS, &[]),
     },
     NamedRow {
         name: "54",
