@@ -86,7 +86,7 @@ fn run_file<R: Files + AllocGlobal, O: Write>(
         extensions,
     };
     let tally = run_cases(alloc, name, &file, rules, out)?;
-    write_tally(out, name, tally, file.skipped())?;
+    write_tally(out, name, tally)?;
     Ok(tally.wrong == 0)
 }
 
@@ -97,16 +97,12 @@ fn run_schemas<O: Write>(alloc: Global, name: &str, text: &str, out: &mut O) -> 
         return Ok(false);
     }
     let tally = run_refusals(alloc, name, text, out)?;
-    write_tally(out, name, tally, 0)?;
+    write_tally(out, name, tally)?;
     Ok(tally.wrong == 0)
 }
 
-fn write_tally<O: Write>(out: &mut O, name: &str, tally: Tally, skipped: usize) -> io::Result<()> {
-    write!(out, "{name}: {} ran, {} differ", tally.ran, tally.wrong)?;
-    if skipped > 0 {
-        write!(out, "; columns skipped: {skipped}")?;
-    }
-    writeln!(out)
+fn write_tally<O: Write>(out: &mut O, name: &str, tally: Tally) -> io::Result<()> {
+    writeln!(out, "{name}: {} ran, {} differ", tally.ran, tally.wrong)
 }
 
 /// The text of a file. Where it cannot be had, that is written, and the answer is `None`.

@@ -18,8 +18,9 @@ pub struct Rules<'a> {
     pub extensions: &'a ExtensionSchemas,
 }
 
-/// What is shown of a policy: of its names and its scope, of its validation with levels, of all of
-/// its checks, or of the check in each environment, with ` | ` between them, sorted by bytes.
+/// What is shown of a policy: of its names and its scope, of its validation with levels, of the level
+/// that it requires, of all of its checks, or of the check in each environment, with ` | ` between
+/// them, sorted by bytes.
 pub fn answers(
     alloc: Global,
     rules: Rules<'_>,
@@ -42,6 +43,22 @@ pub fn answers(
                 maximum,
             )
         }
+        Wanted::RequiredLevel(mode) => {
+            about_required_level(alloc, rules.validator, &policy.template, mode)
+        }
+    }
+}
+
+/// The level that a policy requires, or `none`.
+fn about_required_level(
+    alloc: Global,
+    validator: &Validator<'_>,
+    policy: &Template,
+    mode: ValidationMode,
+) -> Result<String, AllocError> {
+    match validator.required_level(alloc, policy, mode)? {
+        Some(level) => level.to_string(alloc),
+        None => String::from_str(alloc, "none"),
     }
 }
 

@@ -20,8 +20,6 @@ pub enum Column {
     Attributes,
     /// What is wanted of the chain: how much it costs.
     Cost,
-    /// The least level at which the policy has no level error, which is not asked yet: it is skipped.
-    RequiredLevel,
     /// What is wanted of the policy.
     Wanted(Wanted),
 }
@@ -33,6 +31,8 @@ pub enum Wanted {
     Checks(ValidationMode, Subject),
     /// Of its validation with levels in a mode, for this maximum.
     Levels(ValidationMode, u32),
+    /// The level that it requires in a mode.
+    RequiredLevel(ValidationMode),
     /// Of its names and its scope.
     Names(Question),
 }
@@ -80,7 +80,6 @@ impl Column {
             "root" => Some(Column::Root),
             "attributes" => Some(Column::Attributes),
             "cost" => Some(Column::Cost),
-            _ if is_required_level(name) => Some(Column::RequiredLevel),
             _ => Some(Column::Wanted(Wanted::named(name)?)),
         }
     }
@@ -105,6 +104,9 @@ impl Wanted {
             return Some(Wanted::Checks(mode_named(name)?, Subject::Outcome));
         };
         let mode = mode_named(mode)?;
+        if asked == "required" {
+            return Some(Wanted::RequiredLevel(mode));
+        }
         match Subject::named(asked) {
             Some(subject) => Some(Wanted::Checks(mode, subject)),
             None => Some(Wanted::Levels(mode, maximum_named(asked)?)),
@@ -129,14 +131,6 @@ fn mode_named(name: &str) -> Option<ValidationMode> {
         "permissive" => Some(ValidationMode::Permissive),
         "partial" => Some(ValidationMode::Partial),
         _ => None,
-    }
-}
-
-/// Whether a column of this name wants the least level: `required` behind a mode.
-fn is_required_level(name: &str) -> bool {
-    match name.split_once(' ') {
-        Some((mode, "required")) => mode_named(mode).is_some(),
-        _ => false,
     }
 }
 

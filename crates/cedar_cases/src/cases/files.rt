@@ -84,7 +84,7 @@ impl<'a> Case<'a> {
     /// Adds what the column of this name has.
     fn add(&mut self, name: &'a str, column: Column, field: Field<'a>) -> Result<(), AllocError> {
         match column {
-            Column::About | Column::RequiredLevel => {}
+            Column::About => {}
             Column::Policy => self.policy = field,
             Column::Scope => self.scope = field,
             Column::Condition => self.condition = field,
@@ -134,14 +134,6 @@ impl<'a> CaseFile<'a> {
     /// Whether its cases are chains of attributes.
     pub fn is_about_chains(&self) -> bool {
         self.columns.iter().all(|(_, column)| column.is_of_chain())
-    }
-
-    /// How many columns are skipped.
-    pub fn skipped(&self) -> usize {
-        self.columns
-            .iter()
-            .filter(|(_, column)| *column == Column::RequiredLevel)
-            .count()
     }
 
     /// The byte at which a field is missing or one too many begins, and what is expected there.
