@@ -2,7 +2,7 @@
 use crate::calls::at_once::{Asked, Subject};
 use crate::calls::costs::ChainCost;
 use crate::calls::environments::{ChecksMaking, ChecksWalk, LinkedWalk, MODE, Walk};
-use crate::calls::levels::LevelRun;
+use crate::calls::levels::{LevelQuestion, LevelRun};
 use crate::calls::passes::{Pass, PassWalk};
 use crate::calls::policies::WholeCheck;
 use crate::calls::schemas::SchemaMaking;
@@ -10,7 +10,7 @@ use crate::calls::single_env::SingleCheck;
 use crate::calls::without_memory::{chain_cost, environments, look_ups, passes, tables};
 use crate::refusals::{refuse, was_refused};
 use crate::samples::names::{bound_to_unknown, bound_to_user, unknown_names};
-use crate::samples::policies::{MANY, many_findings, one_finding, with_slot};
+use crate::samples::policies::{MANY, many_findings, one_finding, with_chain, with_slot};
 use crate::samples::schemas::{owners, photos, user_or_photo};
 use crate::sweep::{Call, swept};
 use cedar_typechecker::rbac::Validator;
@@ -42,6 +42,7 @@ pub fn report<W: Write>(alloc: Global, out: &mut W) -> io::Result<()> {
     all_passes(alloc, &validator, out)?;
     questions(alloc, &validator, out)?;
     level_runs(alloc, &validator, out)?;
+    level_questions(alloc, &validator, out)?;
     chain_costs(alloc, out)?;
     without_memory(alloc, &validator, out)
 }
@@ -207,6 +208,26 @@ fn level_runs<W: Write>(alloc: Global, validator: &Validator<'_>, out: &mut W) -
         };
         let said = swept(alloc, &run)?;
         writeln!(out, "validate_policy_with_level, {name}: {said}")?;
+    }
+    Ok(())
+}
+
+fn level_questions<W: Write>(
+    alloc: Global,
+    validator: &Validator<'_>,
+    out: &mut W,
+) -> io::Result<()> {
+    for (name, policy, required) in [
+        ("with a slot", with_slot(alloc)?, 1),
+        ("of a chain of attributes", with_chain(alloc)?, 2),
+    ] {
+        let question = LevelQuestion {
+            validator,
+            policy: &policy,
+            required,
+        };
+        let said = swept(alloc, &question)?;
+        writeln!(out, "required_level, {name}: {said}")?;
     }
     Ok(())
 }

@@ -1,9 +1,9 @@
-// The validation of a policy with levels.
+// The validation of a policy with levels, and the level that it requires.
 use crate::names::uid;
 use crate::schemas::users_and_photos;
 use cedar_typechecker::base::{
-    ActionConstraint, AttrChain, Expr, ExtensionSchemas, Literal, PolicyID, PrincipalConstraint,
-    ResourceConstraint, Template, ValidationMode, Var,
+    ActionConstraint, AttrChain, EntityDerefLevel, Expr, ExtensionSchemas, Literal, PolicyID,
+    PrincipalConstraint, ResourceConstraint, SlotId, Template, ValidationMode, Var,
 };
 use cedar_typechecker::level_validate::{LevelErrors, LevelWarnings};
 use cedar_typechecker::rbac::Validator;
@@ -227,5 +227,57 @@ fn both_iterators_end(rt: HostRuntime) -> Result<(), Fail> {
             "warnings of {written:?}"
         );
     }
+    Ok(())
+}
+
+/// A policy, a mode, and the level that it requires.
+const REQUIRED: [(Written, ValidationMode, u32); 9] = [
+    (Written::InView, ValidationMode::Strict, 1),
+    (Written::InView, ValidationMode::Permissive, 1),
+    (Written::InView, ValidationMode::Partial, 1),
+    (Written::OfUnknown, ValidationMode::Strict, 0),
+    (Written::Never, ValidationMode::Strict, 0),
+    (Written::Never, ValidationMode::Partial, 0),
+    (Written::Nested, ValidationMode::Strict, 1),
+    (Written::HasUser, ValidationMode::Strict, 1),
+    (Written::UserHasUser, ValidationMode::Strict, 2),
+];
+
+#[test]
+fn a_required_level_is_answered(rt: HostRuntime) -> Result<(), Fail> {
+    let alloc = rt.alloc();
+    let extensions = ExtensionSchemas::default(alloc);
+    let validator = Validator::new(users_and_photos(alloc)?, &extensions);
+    for (written, mode, level) in &REQUIRED {
+        let policy = policy(alloc, *written)?;
+        let required = validator.required_level(alloc, &policy, *mode)?;
+        let wanted = Some(EntityDerefLevel::from(*level));
+        assert_eq!(rt; required, wanted, "of {written:?}");
+    }
+    Ok(())
+}
+
+/// `permit(principal == ?principal, action, resource) when { ?principal has bool };`: no level allows to access a slot.
+fn of_slot(alloc: Global) -> Result<Template, AllocError> {
+    let slot = Expr::slot(SlotId::Principal);
+    let condition = Expr::has_attr(alloc, slot, "bool")?;
+    Ok(Template::new(
+        PolicyID::from_string(alloc, "p")?,
+        None,
+        PrincipalConstraint::is_eq_slot(),
+        ActionConstraint::any(),
+        ResourceConstraint::any(),
+        Some(condition),
+    ))
+}
+
+#[test]
+fn no_level_is_required_where_none_is_enough(rt: HostRuntime) -> Result<(), Fail> {
+    let alloc = rt.alloc();
+    let extensions = ExtensionSchemas::default(alloc);
+    let validator = Validator::new(users_and_photos(alloc)?, &extensions);
+    let policy = of_slot(alloc)?;
+    let required = validator.required_level(alloc, &policy, ValidationMode::Strict)?;
+    assert_eq!(rt; required, None);
     Ok(())
 }

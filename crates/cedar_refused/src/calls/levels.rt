@@ -1,10 +1,10 @@
-// The validation of a policy with levels.
+// The validation of a policy with levels, and the level that it requires.
 use crate::pictures::picture;
 use crate::refusals::{refuse_all, was_refused};
 use crate::sweep::{ANOTHER_ANSWER, ANOTHER_POLICY, Attempt, Call, Question, attempt_question};
 use cedar_typechecker::level_validate::{LevelErrors, LevelWarnings};
 use cedar_typechecker::rbac::Validator;
-use cedar_types::base::{Template, ValidationMode};
+use cedar_types::base::{EntityDerefLevel, Template, ValidationMode};
 use std::alloc::{AllocError, Global};
 
 /// The validation of this policy in Strict, where no dereference is allowed.
@@ -61,6 +61,41 @@ impl Call for LevelRun<'_> {
         Ok(
             attempt
                 .only_if(walks, ANOTHER_ANSWER)
+                .only_if(picture(alloc, self.policy)? == policy, ANOTHER_POLICY),
+        )
+    }
+}
+
+/// The level that this policy requires in Strict.
+#[derive(Clone, Copy)]
+pub struct LevelQuestion<'a> {
+    pub validator: &'a Validator<'a>,
+    pub policy: &'a Template,
+    pub required: u32,
+}
+
+impl Question for LevelQuestion<'_> {
+    type Answer = Option<EntityDerefLevel>;
+
+    fn ask(&self, alloc: Global) -> Result<Option<EntityDerefLevel>, AllocError> {
+        let mode = ValidationMode::Strict;
+        self.validator.required_level(alloc, self.policy, mode)
+    }
+
+    fn shown(&self, alloc: Global, answer: Option<EntityDerefLevel>) -> Result<String, AllocError> {
+        picture(alloc, &answer)
+    }
+}
+
+impl Call for LevelQuestion<'_> {
+    fn attempt(&self, alloc: Global, number: u16) -> Result<Attempt, AllocError> {
+        let policy = picture(alloc, self.policy)?;
+        let attempt = attempt_question(alloc, self, number)?;
+        let required = Some(EntityDerefLevel::from(self.required));
+        let is_required = self.ask(alloc)? == required;
+        Ok(
+            attempt
+                .only_if(is_required, ANOTHER_ANSWER)
                 .only_if(picture(alloc, self.policy)? == policy, ANOTHER_POLICY),
         )
     }

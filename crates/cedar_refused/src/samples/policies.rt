@@ -1,7 +1,7 @@
 // Policies, each part of which has a place of its own.
 use cedar_types::base::{
-    ActionConstraint, Expr, Literal, Loc, PolicyID, PrincipalConstraint, ResourceConstraint,
-    Template, Var,
+    ActionConstraint, AttrChain, Expr, Literal, Loc, PolicyID, PrincipalConstraint,
+    ResourceConstraint, Template, Var,
 };
 use std::alloc::{AllocError, Global};
 
@@ -71,4 +71,13 @@ pub fn with_slot(alloc: Global) -> Result<Template, AllocError> {
     let principal = Expr::var(Var::Principal).with_maybe_source_loc(place(0));
     let condition = Expr::get_attr(alloc, principal, "vip")?.with_maybe_source_loc(place(1));
     permit(alloc, PrincipalConstraint::is_in_slot(), Some(condition))
+}
+
+/// `permit(principal, action, resource) when { resource has owner.vip };`.
+pub fn with_chain(alloc: Global) -> Result<Template, AllocError> {
+    let resource = Expr::var(Var::Resource).with_maybe_source_loc(place(0));
+    let chain = AttrChain::new(alloc, "owner", &["vip"])?;
+    let condition = Expr::extended_has_attr(alloc, resource, chain)?;
+    let condition = condition.with_maybe_source_loc(place(1));
+    permit(alloc, PrincipalConstraint::any(), Some(condition))
 }
