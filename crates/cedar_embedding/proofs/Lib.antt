@@ -1,3 +1,7 @@
+mod AddedIds
+mod LoadedSlices
 mod Passes
 mod Promises
+mod Reported
+mod Rounds
 mod Warnings

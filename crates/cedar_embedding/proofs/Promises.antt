@@ -1,5 +1,5 @@
 -- What a host is promised in its mode, from what the libraries promise in each.
-use Rattle.std.proofs.Common.{◌≡◌, Bool, true, List, sym, ◌∙◌}
+use Rattle.std.proofs.Common.{◌≡◌, ℕ, Bool, true, List, [], sym, ◌∙◌}
 use Rattle.cedar_types.specs.declared.base.types.ValidationMode.{ValidationMode}
 use Rattle.cedar_types.specs.Errors.{Finding, Caution}
 use Rattle.cedar_types.specs.Linking.{checked_envs}
@@ -12,8 +12,11 @@ use Rattle.cedar_typing.specs.PolicySoundness.{Basis, IsNamedBySchema, PolicyIsS
 use Rattle.cedar_typing.specs.SoundPolicyCheck.{IsSoundPolicyCheckIn}
 use Rattle.cedar_typing.specs.TypedExpr.{TypedTree}
 use Rattle.cedar_typing.proofs.EachEnvironment.{each_has_passing}
+use Rattle.cedar_typechecker.specs.Slices.Validation.{IsCutNowhere, SilenceIsKeptIn}
+use Rattle.cedar_typechecker.proofs.Slices.Validation.{passing_is_no_cut}
 use Rattle.cedar_embedding.specs.declared.safety.SoundMode.{SoundMode}
 use Rattle.cedar_embedding.specs.Safety.{validation_mode, IsSafeToEvaluate, PassesEverywhere, DoesNotGoWrong, IsNeverTrue}
+use Rattle.cedar_embedding.specs.Slices.{NeedsSliceAlone}
 
 -- what passes passes in each environment
 pub passes_everywhere :
@@ -24,6 +27,12 @@ passes_everywhere b t answer errors errors' old new o h =
     each_has_passing (λ env. PolicyChecks (setting_on b t.id env) (condition_of t)) passes
     o.listed (checked_envs b.schema b.mode t) o.verdicts o.in_some_order o.checked
     (sym o.answered ∙ h)
+
+-- what passes in each environment is nested too deep in none
+pub passing_is_shallow : (b : Basis) (t : PlainTemplate) → PassesEverywhere b t → IsCutNowhere b t
+passing_is_shallow b t passing env one =
+    let p = passing env one in
+    passing_is_no_cut (setting_on b t.id env) (condition_of t) p.0 p.1 p.2
 
 -- what holds in Strict and in Permissive holds in the host's mode
 in_each : (P : ValidationMode → Type 0) → P ValidationMode.Strict → P ValidationMode.Permissive
@@ -60,3 +69,12 @@ module _ (asked : SoundMode) (b : Basis) (t : PlainTemplate)
   warned_is_never_true old new strict permissive absent there closed =
       in_each (λ m. ImpossibleIsNeverTrueIn m b t old new) strict permissive asked absent there
       (record { mode = same; closed = closed })
+
+  -- without a level error an accepted policy needs the slice alone
+  pub silent_needs_slice_alone : (n : ℕ) (errors : List Finding)
+      → SilenceIsKeptIn ValidationMode.Strict b t n errors
+      → SilenceIsKeptIn ValidationMode.Permissive b t n errors
+      → errors ≡ [] → PassesEverywhere b t → NeedsSliceAlone b t n
+  silent_needs_slice_alone n errors strict permissive silent passing closed =
+      in_each (λ m. SilenceIsKeptIn m b t n errors) strict permissive asked silent
+      (passing_is_shallow b t passing) (record { mode = same; closed = closed })

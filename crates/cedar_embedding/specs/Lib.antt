@@ -1,2 +1,4 @@
 pub mod Addresses
+pub mod Loading
 pub mod Safety
+pub mod Slices

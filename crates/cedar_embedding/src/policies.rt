@@ -33,6 +33,14 @@ pub const HAUNTED: &str =
 pub const OF_EITHER: &str = "permit(principal, action, resource) when { \
      (if principal has vip then principal else resource).contact == principal };";
 
+/// The user to ask of the document: its entry alone is read.
+pub const BY_ITS_CONTACT: &str =
+    "permit(principal, action, resource) when { resource.contact == principal };";
+
+/// The user to ask of that user: the entries of both are read.
+pub const BY_THEIR_CONTACT: &str =
+    "permit(principal, action, resource) when { resource.contact.contact == principal };";
+
 /// About the user that the slot is bound to.
 pub const OF_ONE_USER: &str = "permit(principal == ?principal, action, resource);";
 
@@ -125,6 +133,31 @@ pub fn of_either(alloc: Global) -> Result<Template, AllocError> {
         OF_EITHER,
         Expr::is_eq(alloc, contact, Expr::var(Var::Principal))?,
     )
+}
+
+/// `resource.contact == principal`, where the access is at its place
+pub fn by_its_contact(alloc: Global) -> Result<Template, AllocError> {
+    let contact = Expr::get_attr(alloc, Expr::var(Var::Resource), "contact")?;
+    let place = place_in(BY_ITS_CONTACT, "resource.contact");
+    by_principal(alloc, BY_ITS_CONTACT, contact.with_maybe_source_loc(place))
+}
+
+/// `resource.contact.contact == principal`, where the second access is at its place
+pub fn by_their_contact(alloc: Global) -> Result<Template, AllocError> {
+    let contact = Expr::get_attr(alloc, Expr::var(Var::Resource), "contact")?;
+    let contact = Expr::get_attr(alloc, contact, "contact")?;
+    let place = place_in(BY_THEIR_CONTACT, "resource.contact.contact");
+    by_principal(
+        alloc,
+        BY_THEIR_CONTACT,
+        contact.with_maybe_source_loc(place),
+    )
+}
+
+/// The policy of this text, where this is the principal.
+fn by_principal(alloc: Global, text: &str, user: Expr) -> Result<Template, AllocError> {
+    let condition = Expr::is_eq(alloc, user, Expr::var(Var::Principal))?;
+    permit_when(alloc, text, condition)
 }
 
 /// `principal == ?principal`, in the scope

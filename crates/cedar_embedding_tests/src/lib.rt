@@ -1,8 +1,15 @@
-//! What the host says of a set of policies, and in which environments one is safe. They stand apart,
-//! since a crate with tests is proved twice.
+//! What the host says of a set of policies, in which environments one is safe, and what a host that loads
+//! slices says and finds. They stand apart, since a crate with tests is proved twice.
 #![tactic(auto)]
 
+#[cfg(test)]
+mod loading;
+pub mod memory;
 #[cfg(test)]
 mod policy_sets;
 #[cfg(test)]
 mod safety;
+#[cfg(test)]
+mod slices;
+#[cfg(test)]
+mod wanted;

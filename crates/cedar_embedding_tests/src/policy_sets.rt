@@ -1,4 +1,5 @@
 // What the host says of a set of policies.
+use crate::wanted::{ACCEPTED, Want, is_said, policy};
 use cedar_embedding::functions::{RefusesEmptyAddress, ip, is_in_range};
 use cedar_embedding::policies::{
     APPROVED_SHARING, BY_A_DOCUMENT, FROM_NOWHERE, FROM_RANGE, HAUNTED, MISSPELT, OF_EITHER,
@@ -6,13 +7,10 @@ use cedar_embedding::policies::{
     misspelt, of_either, of_one_user, permit_when, unguarded,
 };
 use cedar_embedding::policy_sets::{WrittenPolicy, validate_set};
-use cedar_embedding::reports::PolicyReport;
 use cedar_embedding::safety::SoundMode;
 use cedar_embedding::schemas::documents;
 use cedar_typechecker::rbac::Validator;
-use cedar_types::base::{
-    Expr, ExtensionSchemas, Literal, Name, PolicyID, Template, ValidationMode, Var,
-};
+use cedar_types::base::{Expr, ExtensionSchemas, Literal, Name, Template, ValidationMode, Var};
 use cedar_typing::typecheck::Typechecker;
 use std::alloc::{AllocError, Global};
 use std::collections::{BTreeSet, HashSet};
@@ -43,33 +41,6 @@ fn policies(alloc: Global) -> Result<Vec<WrittenPolicy>, AllocError> {
         policy(alloc, "policy6", of_either(alloc)?, OF_EITHER)?,
     ]?)
 }
-
-fn policy(
-    alloc: Global,
-    id: &str,
-    template: Template,
-    text: &str,
-) -> Result<WrittenPolicy, AllocError> {
-    let mut template = template;
-    template.id = PolicyID::from_string(alloc, id)?;
-    let text = String::from_str(alloc, text)?;
-    Ok(WrittenPolicy { template, text })
-}
-
-/// What the host has to say of a policy.
-struct Want {
-    is_accepted: bool,
-    is_impossible: bool,
-    errors: &'static [&'static str],
-    warnings: &'static [&'static str],
-}
-
-const ACCEPTED: Want = Want {
-    is_accepted: true,
-    is_impossible: false,
-    errors: &[],
-    warnings: &[],
-};
 
 /// Of the policies before the last one, in each mode.
 const WANTED: &[Want] = &[
@@ -114,21 +85,6 @@ const DISAGREES: Want = Want {
     ],
     warnings: &[],
 };
-
-fn is_said(rt: &impl Abort, report: &PolicyReport<'_>, want: &Want) -> Result<(), Fail> {
-    assert_eq!(rt; report.is_accepted, want.is_accepted);
-    assert_eq!(rt; report.is_impossible, want.is_impossible);
-    are_lines(rt, &report.errors, want.errors)?;
-    are_lines(rt, &report.warnings, want.warnings)
-}
-
-fn are_lines(rt: &impl Abort, lines: &[String], wanted: &[&str]) -> Result<(), Fail> {
-    assert_eq!(rt; lines.len(), wanted.len());
-    for (line, want) in lines.iter().zip(wanted) {
-        assert_eq!(rt; line.as_str(), *want);
-    }
-    Ok(())
-}
 
 /// Of the whole set in this mode, where this is what is said of the last policy.
 fn are_said(rt: &impl Abort, alloc: Global, mode: SoundMode, last: &Want) -> Result<(), Fail> {

@@ -51,7 +51,7 @@ module _ (r : Request) (store part : Store) (n : ℕ) (P : ℕ → Uid → Type 
 
 -- ---- by the slice
 
-is_among : (us : List Uid) (u : Uid) → IsOneOf u us → uid_is_among us u ≡ true
+pub is_among : (us : List Uid) (u : Uid) → IsOneOf u us → uid_is_among us u ≡ true
 is_among [] u h = absurd h
 is_among (v ∷ us) u (inl e) =
     or_left (uid_eq u v) (uid_is_among us u)
@@ -156,7 +156,8 @@ module _ (p : Uid → Bool) where
   first_passes e es u x g false q c k h = g h
 
   -- what has an entry among those that pass passes
-  passes : (es : Store) (u : Uid) (x : Entity) → entity_at (passing p es) u ≡ Some x → p u ≡ true
+  pub passes : (es : Store) (u : Uid) (x : Entity) → entity_at (passing p es) u ≡ Some x
+      → p u ≡ true
   passes [] u x h = absurd (none_is h)
   passes (e ∷ es) u x h =
       first_passes e es u x (passes es u x) (p e.0) refl (uid_eq u e.0) refl h

@@ -280,7 +280,7 @@ outcomes_are_kept_in_permissive b t schema formed functions n errors warnings o 
 
 -- ---- nothing is nested too deep
 
-passing_is_no_cut : (s : Setting) (e : Source) (v : Verdict) → PolicyChecks s e v → passes v ≡ true → IsCut s e no_caps 1 → ⊥
+pub passing_is_no_cut : (s : Setting) (e : Source) (v : Verdict) → PolicyChecks s e v → passes v ≡ true → IsCut s e no_caps 1 → ⊥
 passing_is_no_cut s e v c p cut =
     failed v (verdict_at_most s e v (fails cut.0) c (check_cut cut.1 (IsPermutation-refl cut.0))) p
   where

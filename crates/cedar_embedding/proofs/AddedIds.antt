@@ -1,0 +1,78 @@
+-- A set of ids, to which one more is added.
+use Rattle.std.proofs.Common.{◌≡◌, ◌⊎◌, inl, inr, ◌||◌, true, true≢false, List, [], ◌∷◌, ◌++◌, sym, ◌∙◌, subst}
+use Rattle.cedar_types.specs.Lemmas.Comparisons.{uid_same}
+use Rattle.cedar_types.specs.Names.{Uid, uid_eq}
+use Rattle.cedar_types.specs.Schemas.{uid_is_among}
+use Rattle.cedar_typing.specs.Evaluation.Conformance.{IsOneOf}
+use Rattle.cedar_typing.proofs.Basics.{or_left, or_right, or_cases}
+use Rattle.cedar_typing.proofs.Members.{in_left, in_right}
+use Rattle.cedar_typechecker.proofs.Levels.Inclusions.{in_either}
+use Rattle.cedar_typechecker.proofs.Slices.Stores.{is_among}
+use Rattle.cedar_embedding.specs.Loading.{AreAmong, AddsNew}
+
+-- what the test says is so
+pub among : (us : List Uid) (u : Uid) → uid_is_among us u ≡ true → IsOneOf u us
+among [] u h = absurd (true≢false (sym h))
+among (v ∷ us) u h =
+    or_cases (uid_eq u v) (uid_is_among us u) (IsOneOf u (v ∷ us))
+    (λ e. inl (uid_same.to u v e)) (λ e. inr (among us u e)) h
+
+-- ---- one id more
+
+module _ (old these new added : List Uid) (x : Uid) (a : AddsNew old these new added) where
+  -- these are there, and one more
+  with_one : (ids : List Uid) → AreAmong these ids → IsOneOf x ids → AreAmong (these ++ x ∷ []) ids
+  with_one ids f h u k =
+      in_either these (x ∷ []) u (IsOneOf u ids) k (f u)
+      (elim [ inl e ↦ subst (λ z. IsOneOf z ids) (sym e) h | inr i ↦ absurd i ])
+
+  -- an id that the set has
+  known : IsOneOf x new → AddsNew old (these ++ x ∷ []) new added
+  known h = record {
+    kept = a.kept;
+    there = with_one new a.there h;
+    only = a.only;
+    of_these = λ u k. in_left u these (x ∷ []) (a.of_these u k);
+  }
+
+  module _ (new' : List Uid)
+      (members : (u : Uid) → uid_is_among new' u ≡ (uid_eq u x || uid_is_among new u)) where
+    stays : AreAmong new new'
+    stays u h = among new' u (members u ∙ or_right (uid_eq u x) (uid_is_among new u) (is_among new u h))
+
+    comes : IsOneOf x new'
+    comes = among new' x (members x ∙ or_left (uid_eq x x) (uid_is_among new x) (uid_same.itself x))
+
+    before : (u : Uid) → IsOneOf u old ⊎ IsOneOf u added → IsOneOf u old ⊎ IsOneOf u (added ++ x ∷ [])
+    before u (inl k) = inl k
+    before u (inr k) = inr (in_left u added (x ∷ []) k)
+
+    -- an id that it lacked
+    grown : AddsNew old (these ++ x ∷ []) new' (added ++ x ∷ [])
+    grown = record {
+      kept = λ u k. stays u (a.kept u k);
+      there = with_one new' (λ u k. stays u (a.there u k)) comes;
+      only = λ u k.
+          or_cases (uid_eq u x) (uid_is_among new u)
+          (IsOneOf u old ⊎ IsOneOf u (added ++ x ∷ []))
+          (λ e. inr (in_right u added (x ∷ []) (inl (uid_same.to u x e))))
+          (λ e. before u (a.only u (among new u e)))
+          (sym (members u) ∙ is_among new' u k);
+      of_these = λ u k.
+          in_either added (x ∷ []) u (IsOneOf u (these ++ x ∷ [])) k
+          (λ i. in_left u these (x ∷ []) (a.of_these u i)) (in_right u these (x ∷ []));
+    }
+
+    module _ (these' added' : List Uid) (one_more : these' ≡ these ++ x ∷ []) where
+      pub lacked : added' ≡ added ++ x ∷ [] → AddsNew old these' new' added'
+      lacked e =
+          subst (λ z. AddsNew old z new' added') (sym one_more)
+          (subst (AddsNew old (these ++ x ∷ []) new') (sym e) grown)
+
+      pub had : new' ≡ new → added' ≡ added → AddsNew old these' new' added'
+      had same e =
+          let h : IsOneOf x new = subst (IsOneOf x) same comes in
+          let k : AddsNew old (these ++ x ∷ []) new' added =
+          subst (λ z. AddsNew old (these ++ x ∷ []) z added) (sym same) (known h) in
+          subst (λ z. AddsNew old z new' added') (sym one_more)
+          (subst (AddsNew old (these ++ x ∷ []) new') (sym e) k)
