@@ -84,8 +84,8 @@ pub fn photos(alloc: Global) -> Result<ValidatorSchema, SchemaError> {
     ValidatorSchema::new(alloc, types(alloc)?, actions(alloc)?)
 }
 
-/// Users, whom photos own, and photos, which users own: so the owner of either is either.
-pub fn owners(alloc: Global) -> Result<ValidatorSchema, SchemaError> {
+/// Users, whom photos own, and photos, which users own.
+fn owner_types(alloc: Global) -> Result<Vec<ValidatorEntityType>, AllocError> {
     let photo = CedarType::named_entity_reference(alloc, entity_type(alloc, "Photo")?)?;
     let user = CedarType::named_entity_reference(alloc, entity_type(alloc, "User")?)?;
     let (of_users, of_photos) = (
@@ -94,8 +94,12 @@ pub fn owners(alloc: Global) -> Result<ValidatorSchema, SchemaError> {
     );
     let users = entities(alloc, "User", BTreeSet::new(alloc), of_users)?;
     let photos = entities(alloc, "Photo", BTreeSet::new(alloc), of_photos)?;
-    let types = vec![in alloc; users, photos]?;
-    ValidatorSchema::new(alloc, types, Vec::new(alloc))
+    Ok(vec![in alloc; users, photos]?)
+}
+
+/// A schema of these alone: so the owner of either is either.
+pub fn owners(alloc: Global) -> Result<ValidatorSchema, SchemaError> {
+    ValidatorSchema::new(alloc, owner_types(alloc)?, Vec::new(alloc))
 }
 
 /// The type of users and photos.
