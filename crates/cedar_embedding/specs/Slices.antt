@@ -1,6 +1,7 @@
 -- What a host that loads slices may rely on, in its mode.
-use Rattle.std.specs.Prelude.{◌≡◌, ℕ, true, false}
+use Rattle.std.specs.Prelude.{◌≡◌, ℕ, true, false, option_map}
 use Rattle.cedar_types.specs.Templates.{PlainTemplate, template_of}
+use Rattle.cedar_typechecker.specs.Levels.Required.{IsRequiredLevel}
 use Rattle.cedar_typechecker.specs.Slices.Validation.{IsKeptInSlices}
 use Rattle.cedar_typing.specs.Evaluation.Conformance.{has_external}
 use Rattle.cedar_typing.specs.Evaluation.World.{World}
@@ -19,8 +20,11 @@ NeedsSliceAlone b t steps =
     → IsKeptInSlices t steps world
 
 -- a report of a policy for slices of so many steps says no more than is so: no more than any report,
--- and if it is accepted the policy needs the slice alone
+-- if it is accepted the policy needs the slice alone, and its level is the required one
 pub record IsRightForSlices (b : Basis) (steps : ℕ) (r : SliceReport) : Type 0 where
   pub right : IsRight b r.report
   pub sliced : r.report.is_accepted ≡ true
       → NeedsSliceAlone b (template_of r.report.policy.now.template) steps
+  -- its level is the least at which the policy has no level error, if there is one
+  pub level : IsRequiredLevel b (template_of r.report.policy.now.template)
+      (option_map (λ l. l.level) r.level)

@@ -11,7 +11,9 @@ use crate::reports::{PolicyReport, report};
 use crate::safety::SoundMode;
 use cedar_typechecker::level_validate::LevelErrors;
 use cedar_typechecker::rbac::Validator;
-use cedar_types::base::{ArgumentCheck, Template, ValidationError, ValidationMode};
+use cedar_types::base::{
+    ArgumentCheck, EntityDerefLevel, Template, ValidationError, ValidationMode,
+};
 use std::alloc::{AllocError, Global};
 use std::collections::HashSet;
 
@@ -20,6 +22,8 @@ use std::collections::HashSet;
 pub struct SliceReport<'a> {
     /// The report as of any policy; it is accepted only where it needs no more than the slice.
     pub report: PolicyReport<'a>,
+    /// The least steps at which it has no level error; `None` where there is no such number.
+    pub level: Option<EntityDerefLevel>,
 }
 
 /// A report on each policy of the set, checked in this mode, for slices of `steps` steps. Those that
@@ -41,7 +45,12 @@ pub fn validate_for_slices<'a, C: ArgumentCheck>(
     for policy in policies {
         let findings = validate_within(alloc, validator, mode, steps, &policy.template)?;
         let said = report(alloc, policy, findings)?;
-        reports.push(SliceReport { report: said })?;
+        let asked = ValidationMode::from(mode);
+        let level = validator.required_level(alloc, &policy.template, asked)?;
+        reports.push(SliceReport {
+            report: said,
+            level,
+        })?;
     }
     Ok(reports)
 }
