@@ -1,9 +1,11 @@
 #!/usr/bin/env python3
-"""What the check of a policy costs for each environment, and what memory it takes: scripts/benchmark.py [PROGRAM].
+"""What the check of a policy and its level pass cost for each environment, and what memory the check takes:
+scripts/benchmark.py [PROGRAM].
 
 A policy of 40 conditions is checked by a schema in which each action applies to 10 types of principals and 10 of resources,
 so in 100 environments an action. PROGRAM is cedar_cases, by default the one that rt ci built. Instructions are counted by
-valgrind over a few actions: what the reading takes is counted by a policy that names no attribute, and taken away. Memory is
+valgrind over a few actions: what the reading takes is counted by a policy that names no attribute, and taken away. The level
+pass is what the validation with levels costs beyond the check; above a third of the check the script fails. Memory is
 what a run has allocated at a time: the schema is read first, which keeps a list of its environments, and nearly all of the run
 are the checks, so from its middle on nothing may grow. It needs valgrind, and is no part of the gate.
 """
@@ -32,6 +34,9 @@ CONDITIONS = (
     'principal.hasTag("t") && principal.getTag("t") == 1',
 )
 SMALL, LARGE = 2, 4
+# A column of the case, and what it has to say: that the policy passes, and that it has no finding at a level that is enough.
+CHECK = "strict policy", "true"
+LEVELS = "strict level 9", ""
 FIGURE = re.compile(r"I\s+refs:\s+([\d,]+)")
 HELD = re.compile(r"^time=(\d+)\nmem_heap_B=(\d+)$", re.M)
 
@@ -46,11 +51,12 @@ def schema(actions):
     return "\n".join(lines) + "\n"
 
 
-def written(room, actions, condition):
+def written(room, actions, condition, asked=CHECK):
     """A file of one case, beside its schema."""
+    column, answer = asked
     Path(room, "schema.txt").write_text(schema(actions), encoding="utf8")
-    rows = ["schema\tschema.txt", "policy\tstrict policy"]
-    rows += [f"permit(principal, action, resource) when {{ {condition} }};\ttrue"]
+    rows = ["schema\tschema.txt", f"policy\t{column}"]
+    rows += [f"permit(principal, action, resource) when {{ {condition} }};\t{answer}"]
     Path(room, "case.tsv").write_text("\n".join(rows) + "\n", encoding="utf8")
 
 
@@ -62,11 +68,17 @@ def ran(words, room):
     return done.stderr
 
 
-def instructions(program, room, actions, condition):
+def instructions(program, room, actions, condition, asked):
     """How many instructions the program takes for one case."""
-    written(room, actions, condition)
+    written(room, actions, condition, asked)
     words = ["valgrind", "--tool=cachegrind", "--cache-sim=no", "--cachegrind-out-file=/dev/null"]
     return int(FIGURE.search(ran([*words, str(program), "case.tsv"], room))[1].replace(",", ""))
+
+
+def for_each_environment(program, room, conditions, asked):
+    """How many instructions the conditions take in one environment."""
+    counts = [instructions(program, room, n, it, asked) for n in (SMALL, LARGE) for it in ("true", conditions)]
+    return ((counts[3] - counts[2]) - (counts[1] - counts[0])) / ((LARGE - SMALL) * TYPES * TYPES)
 
 
 def held(program, room, actions, condition):
@@ -88,10 +100,11 @@ def main(words):
     resource.setrlimit(resource.RLIMIT_CORE, (0, 0))
     conditions = " && ".join(f"({it})" for it in CONDITIONS * 4)
     with tempfile.TemporaryDirectory() as room:
-        counts = [instructions(program, room, n, it) for n in (SMALL, LARGE) for it in ("true", conditions)]
-        environments = (LARGE - SMALL) * TYPES * TYPES
-        each = ((counts[3] - counts[2]) - (counts[1] - counts[0])) / environments
-        print(f"{each:,.0f} instructions for each environment, of which {environments} more were checked")
+        check, both = (for_each_environment(program, room, conditions, asked) for asked in (CHECK, LEVELS))
+        print(f"{check:,.0f} instructions for the check in each environment")
+        print(f"{both - check:,.0f} for its level pass, {(both - check) / check:.0%} of the check")
+        if 3 * (both - check) > check:
+            sys.exit("the level pass costs more than a third of the check")
         for actions in (30, 300):
             most, middle, later = held(program, room, actions, conditions)
             print(f"{actions * TYPES * TYPES:,} environments: {most:,} bytes at most, {middle:,} in the middle, {later:,} at most after it")

@@ -53,6 +53,8 @@ pub enum Subject {
     PrincipalTypes,
     /// Why there is no table of these functions.
     Refusal,
+    /// Why there is no schema of these declarations, which are as given.
+    SchemaRefusal,
 }
 
 impl<'a> Question<'a> {
@@ -103,6 +105,7 @@ impl Subject {
             "applies linked" => Some(Subject::LinkedApplication),
             "principal types" => Some(Subject::PrincipalTypes),
             "table" => Some(Subject::Refusal),
+            "schema" => Some(Subject::SchemaRefusal),
             _ => None,
         }
     }

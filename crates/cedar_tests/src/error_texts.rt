@@ -48,13 +48,3 @@ fn a_level_is_exceeded(rt: HostRuntime) -> Result<(), Fail> {
     assert_eq!(rt; shown.as_str(), want);
     Ok(())
 }
-
-#[test]
-fn a_literal_is_dereferenced(rt: HostRuntime) -> Result<(), Fail> {
-    let alloc = rt.alloc();
-    let e = ValidationError::literal_dereference_target(place(1), policy(alloc)?);
-    let want = "for policy `policy0`, entity literals cannot be dereferenced at any level";
-    let shown = said(alloc, &e)?;
-    assert_eq!(rt; shown.as_str(), want);
-    Ok(())
-}

@@ -5,15 +5,21 @@
 #[cfg(test)]
 mod capabilities;
 #[cfg(test)]
+mod collisions;
+#[cfg(test)]
 mod declarations;
 #[cfg(test)]
 mod error_texts;
+#[cfg(test)]
+mod escapes;
 #[cfg(test)]
 mod expressions;
 #[cfg(test)]
 mod extensions;
 #[cfg(test)]
 mod findings;
+#[cfg(test)]
+mod kinds;
 #[cfg(test)]
 mod mentions;
 #[cfg(test)]

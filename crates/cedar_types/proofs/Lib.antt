@@ -1,5 +1,7 @@
 pub mod Attributes
+pub mod Entries
 pub mod Caps
+pub mod Digests
 pub mod Comparisons
 pub mod Names
 pub mod Bounds

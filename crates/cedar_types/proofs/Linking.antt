@@ -1,2 +1,3 @@
 pub mod Mentions
+pub mod Counts
 pub mod Pairs

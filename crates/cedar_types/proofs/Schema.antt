@@ -5,3 +5,4 @@ pub mod Memberships
 pub mod Places
 pub mod Faults
 pub mod KeptEnvironments
+pub mod Closures

@@ -2,11 +2,11 @@
 use Rattle.std.specs.Prelude.{◌≡◌, Bool, false, ◌&&◌, ◌||◌, List}
 use Rattle.std.specs.List.{list_any}
 use Rattle.std.specs.declared.cmp.Ordering.{Ordering}
-use Rattle.cedar_types.specs.declared.types.capability.Capability.{Capability}
+use Rattle.cedar_types.specs.declared.types.capability.digested.Capability.{Capability}
 use Rattle.cedar_types.specs.declared.types.capability.CapabilitySet.{CapabilitySet}
-use Rattle.cedar_types.specs.declared.types.capability.Known.{Known}
-use Rattle.cedar_types.specs.contracts.types.capability.CapabilityPartialEq.TheImpl as eq_impl
-use Rattle.cedar_types.specs.contracts.types.capability.CapabilityOrd.TheImpl as ord_impl
+use Rattle.cedar_types.specs.declared.types.capability.digested.Known.{Known}
+use Rattle.cedar_types.specs.contracts.types.capability.digested.CapabilityPartialEq.TheImpl as eq_impl
+use Rattle.cedar_types.specs.contracts.types.capability.digested.CapabilityOrd.TheImpl as ord_impl
 use Rattle.cedar_types.specs.Names.{Text, text_of, text_eq}
 use Rattle.cedar_types.specs.Tree.{Shape}
 use Rattle.cedar_types.specs.TreeEq.{tree_eq}
@@ -42,7 +42,7 @@ among cs q = list_any (λ c. cap_eq q (cap_of c)) cs
 
 -- the set, as the test of what it has
 unfoldable pub caps : CapabilitySet → Cap → Bool
-caps s = among s.set.keys
+caps s = among s.set
 
 -- the set has nothing
 abbrev pub HasNone : (Cap → Bool) → Type 0

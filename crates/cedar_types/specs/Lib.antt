@@ -7,6 +7,9 @@ pub mod Lemmas
 pub mod TreeEq
 pub mod Parts
 pub mod ShapeOnly
+pub mod Entries
+pub mod Writes
+pub mod Digest
 pub mod Templates
 pub mod Ascending
 pub mod Types
@@ -28,6 +31,7 @@ pub mod Values
 pub mod Declarations
 pub mod Schemas
 pub mod FormedSchemas
+pub mod Closures
 pub mod Lookups
 pub mod RequestEnvs
 pub mod Makers
@@ -36,3 +40,4 @@ pub mod MentionViews
 pub mod Findings
 pub mod Linking
 pub mod LinkViews
+pub mod SlotLinks

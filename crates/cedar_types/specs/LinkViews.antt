@@ -1,5 +1,5 @@
 -- What the iterator over the environments of a template holds, as plain data.
-use Rattle.std.specs.Prelude.{ℕ, Bool, List, [], ◌++◌, map, drop, cond, Option, Some, None, option_map}
+use Rattle.std.specs.Prelude.{ℕ, ◌≤◌, Bool, List, [], ◌++◌, map, drop, cond, Option, Some, None, option_map}
 use Rattle.std.specs.List.{flat_map}
 use Rattle.std.specs.Borrow.{Bor}
 use Rattle.cedar_types.specs.declared.base.names.entities.EntityType.{EntityType}
@@ -13,6 +13,7 @@ use Rattle.cedar_types.specs.Environments.{DeclaredEnv}
 use Rattle.cedar_types.specs.Linking.{in_all_ways, linked_by}
 use Rattle.cedar_types.specs.RequestEnvs.{Env, envs_left}
 use Rattle.cedar_types.specs.SchemaContents.{schema_of}
+use Rattle.cedar_types.specs.SlotLinks.{links_held, most_links}
 
 -- a slot's link, by the type's name
 abbrev pub link_of : Option (Bor EntityType) → Option Path
@@ -56,3 +57,7 @@ linked_left s = cond s.ended [] (linked_to_come s)
 -- whether the walk has ended
 unfoldable pub linked_is_over : LinkedRequestEnvs → Bool
 linked_is_over s = s.ended
+
+-- it holds the slot links of one environment at a time
+abbrev pub HoldsFewLinks : LinkedRequestEnvs → Type 0
+HoldsFewLinks s = links_held s.links ≤ most_links s.schema.now

@@ -1,5 +1,6 @@
 //! The data that typing stands on, one folder for each subject.
 mod errors;
+mod escapes;
 mod expressions;
 pub mod laws;
 mod levels;
@@ -18,6 +19,7 @@ pub use errors::{
     UnrecognizedEntityType, UnsafeAttributeAccess, UnsafeOptionalAttributeAccess, UnsafeTagAccess,
     ValidationError, ValidationWarning, WrongNumberArguments,
 };
+pub use escapes::{Escaped, OneLine};
 pub use expressions::attr_chains::AttrChain;
 pub use expressions::extensions::{
     ArgumentCheck, ArgumentError, ExtensionFunctionType, ExtensionSchemas, ExtensionTableError,

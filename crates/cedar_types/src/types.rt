@@ -1,7 +1,9 @@
 //! What typing knows of a request and of what is there.
 pub mod capability;
+mod entries;
 pub mod laws;
 mod link_pairs;
 pub mod linked_envs;
 pub mod request_env;
+pub mod sorted_set;
 mod unlinked_envs;

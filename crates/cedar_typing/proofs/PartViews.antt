@@ -4,9 +4,10 @@ use Rattle.std.specs.Prelude.{is_some}
 use Rattle.cedar_types.specs.declared.base.location.Loc.{Loc}
 use Rattle.cedar_types.specs.declared.base.expressions.literals.Literal.{Literal}
 use Rattle.cedar_types.specs.declared.base.expressions.ExprKind.TheVariants as K
+use Rattle.cedar_types.specs.declared.base.expressions.operators.Var.{Var}
 use Rattle.cedar_types.specs.declared.base.types.CedarType.{CedarType}
 use Rattle.cedar_types.specs.Types.{Ty, ty_of}
-use Rattle.cedar_types.specs.Tree.{Lit, lit}
+use Rattle.cedar_types.specs.Tree.{Lit, lit, var}
 use Rattle.cedar_types.specs.View.{Written, lit_of, lit_places}
 use Rattle.cedar_types.specs.declared.base.errors.validation_errors.ValidationError.{ValidationError}
 use Rattle.cedar_types.specs.Errors.{Finding, finding_of}
@@ -17,7 +18,7 @@ use Rattle.cedar_typing.specs.Infer.Leaves.{infer_leaf}
 use Rattle.cedar_typing.specs.Infer.Parts.{answer_if, part_from, expect_part, expect_type}
 use Rattle.cedar_typing.specs.TypeEnv.{TypeEnv}
 use Rattle.cedar_typing.specs.TypedExpr.{typed_tree}
-use Rattle.cedar_typing.specs.Views.{answer_of, part_of, findings}
+use Rattle.cedar_typing.specs.Views.{answer_of, part_of, findings, at}
 use Rattle.cedar_typing.proofs.TypedViews.{by_layer, annotation_is}
 
 -- an operand by the part that is handed on
@@ -35,6 +36,17 @@ pub literal_answer : (o : Option CedarType) (l : Option Loc) (x y : Literal) (b 
 literal_answer o l x y b found e f g h =
     let t = by_layer (record { annotation = o; loc = l; kind = K.Lit y }) ∙ (λ i. lit (record { ty = option_map ty_of o; at = record { place = l; names = g i } }) (f i)) in
     (λ i. answer_if (e i) (t i) no_caps) ∙ literal_at o _ _ ∙ ap (λ z. infer_leaf z (record { place = l; names = lit_places x }) (λ k. lit k (lit_of x))) h
+
+variable_at : (o : Option CedarType) (m : Written) (x : Var) → answer_if (is_some o) (var (record { ty = option_map ty_of o; at = m }) x) no_caps ≡ infer_leaf (option_map ty_of o) m (λ k. var k x)
+variable_at None m x = refl
+variable_at (Some t) m x = refl
+
+-- the answer for a variable whose type is o
+pub variable_answer : (o : Option CedarType) (l : Option Loc) (x : Var) (b : Bool) (found : Option Ty) → b ≡ is_some o → option_map ty_of o ≡ found
+    → answer_if b (typed_tree (record { annotation = o; loc = l; kind = K.Var x })) no_caps ≡ infer_leaf found (at l) (λ k. var k x)
+variable_answer o l x b found e h =
+    let t = by_layer (record { annotation = o; loc = l; kind = K.Var x }) in
+    (λ i. answer_if (e i) (t i) no_caps) ∙ variable_at o _ x ∙ ap (λ z. infer_leaf z (at l) (λ k. var k x)) h
 
 -- one more error before others
 pub one_more_finding : (xs : List ValidationError) (x : ValidationError) (rest : List Finding) → findings (xs ++ x ∷ []) ++ rest ≡ findings xs ++ (finding_of x ∷ rest)

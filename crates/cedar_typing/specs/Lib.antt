@@ -1,7 +1,9 @@
 pub mod TypeEnv
 pub mod VariableTypes
 pub mod Setting
+pub mod LinkedSlots
 pub mod Capabilities
+pub mod Priors
 pub mod TypeTests
 pub mod TypedExpr
 pub mod Answer

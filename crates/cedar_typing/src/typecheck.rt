@@ -8,6 +8,7 @@ pub mod laws;
 mod operand_tests;
 mod operands;
 mod policy;
+mod prior;
 mod request_env_checks;
 mod rules;
 mod sequence;

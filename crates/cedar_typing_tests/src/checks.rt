@@ -1,4 +1,6 @@
 // The check of one condition in Strict, in a small schema.
+use cedar_fixtures::addresses::RefusesEmptyAddress;
+use cedar_fixtures::tables::functions_with_sum;
 use cedar_reading::schema;
 use cedar_types::base::{
     ActionConstraint, CedarType, Expr, ExprKind, ExtensionSchemas, Literal, Loc, PolicyID,
@@ -7,13 +9,18 @@ use cedar_types::base::{
 };
 use cedar_typing::typecheck::{PolicyCheck, Typechecker};
 use std::alloc::{AllocError, Global};
+use std::collections::BTreeSet;
 use std::rc::Rc;
 use std::test::Fail;
 
 const POLICY: Option<Loc> = Some(Loc { start: 5, end: 900 });
 
-const SCHEMA: &str =
-    "entity User { ok: Bool, boss: User }; action greet appliesTo { principal: User, resource: User };";
+const SCHEMA: &str = "
+    entity User {
+        ok: Bool, boss: User, ip: ipaddr, age: Long, name: String, ages: Set<Long>
+    } tags User;
+    action greet appliesTo { principal: User, resource: User };
+";
 
 /// `permit(principal, action, resource) when { condition }`.
 pub fn permit_when(alloc: Global, condition: Expr) -> Result<Template, AllocError> {
@@ -27,12 +34,21 @@ pub fn permit_when(alloc: Global, condition: Expr) -> Result<Template, AllocErro
     ))
 }
 
-/// The check of a policy.
+/// The check of a policy in Strict.
 pub fn checked_policy(alloc: Global, policy: &Template) -> Result<PolicyCheck, Fail> {
+    checked_in(alloc, policy, ValidationMode::Strict)
+}
+
+/// The check of a policy in a mode.
+pub fn checked_in(
+    alloc: Global,
+    policy: &Template,
+    mode: ValidationMode,
+) -> Result<PolicyCheck, Fail> {
     let Ok(schema) = schema(alloc, SCHEMA) else {
         return Err(Fail::from("a schema"));
     };
-    checked_by(alloc, &schema, policy)
+    checked_by(alloc, &schema, policy, mode)
 }
 
 /// The check of a policy in the first environment of a schema.
@@ -40,10 +56,15 @@ fn checked_by(
     alloc: Global,
     schema: &ValidatorSchema,
     policy: &Template,
+    mode: ValidationMode,
 ) -> Result<PolicyCheck, Fail> {
-    let extensions = ExtensionSchemas::default(alloc);
-    let typechecker = Typechecker::new(schema, &extensions, ValidationMode::Strict);
-    let mut envs = schema.unlinked_request_envs(ValidationMode::Strict);
+    let check = Box::new(alloc, RefusesEmptyAddress { alloc })?;
+    let functions = functions_with_sum(alloc, check)?;
+    let Ok(extensions) = ExtensionSchemas::new(functions, BTreeSet::new(alloc)) else {
+        return Err(Fail::from("a table"));
+    };
+    let typechecker = Typechecker::new(schema, &extensions, mode);
+    let mut envs = schema.unlinked_request_envs(mode);
     let env = envs.next().ok_or("an environment")?;
     Ok(typechecker.typecheck_by_single_request_env(alloc, policy, &env)?)
 }

@@ -1,158 +1,255 @@
 // Checks of conditions that are nested as deep as allowed, and deeper.
-use crate::checks::{checked, outcome};
-use cedar_types::base::{AttrChain, Expr, Literal, Var};
+use crate::checks::{checked, checked_in, outcome, permit_when};
+use cedar_reading::{ReadError, condition};
+use cedar_types::base::{AttrChain, Expr, ValidationMode, Var};
 use std::alloc::{AllocError, Global};
 use std::test::Fail;
 
-/// A part of a condition.
-#[derive(Clone, Copy)]
-enum Part {
-    True,
-    False,
-    /// `1`.
-    One,
-    /// `principal.ok`.
-    Open,
-    /// `principal.nope`, which is not declared.
-    Undeclared,
-    /// `true && (true && ..)`, whose last part is this many levels below the whole.
-    Deep(usize),
-    /// `principal.boss.boss..`, whose `principal` is this many levels below the whole.
-    Bosses(usize),
-}
+/// Conditions, in each of which a word in capitals stands for what is nested as deep as is asked, in each place that is
+/// visited. Behind a condition stands the depth of that: the condition itself stands at 2, below the conjunction with what
+/// the scope asks. Then comes what the check answers in each mode where the innermost part stands at depth 400, and then
+/// at 401.
+const OPERATORS: &str = r#"
+BOOL && true | 3 | success | failure
+true && BOOL | 3 | success | failure
+BOOL || true | 3 | success | failure
+false || BOOL | 3 | success | failure
+principal.ok || BOOL | 3 | success | failure
+!BOOL | 3 | success | failure
+-LONG == 1 | 4 | success | failure
+SET.isEmpty() | 3 | success | failure
+if BOOL then true else true | 3 | success | failure
+if principal.ok then BOOL else true | 3 | success | failure
+if principal.ok then true else BOOL | 3 | success | failure
+if true then BOOL else true | 3 | success | failure
+if false then true else BOOL | 3 | success | failure
+USER has ok | 3 | success | failure
+USER has boss.ok | 3 | success | failure
+USER.ok | 3 | success | failure
+LONG == 1 | 3 | success | failure
+1 == LONG | 3 | success | failure
+LONG < 1 | 3 | success | failure
+1 < LONG | 3 | success | failure
+LONG <= 1 | 3 | success | failure
+1 <= LONG | 3 | success | failure
+LONG + 1 == 1 | 4 | success | failure
+1 + LONG == 1 | 4 | success | failure
+LONG - 1 == 1 | 4 | success | failure
+1 - LONG == 1 | 4 | success | failure
+LONG * 1 == 1 | 4 | success | failure
+1 * LONG == 1 | 4 | success | failure
+"#;
 
-/// A condition.
-#[derive(Clone, Copy)]
-enum Form {
-    And(Part, Part),
-    Or(Part, Part),
-    Not(Part),
-    If(Part, Part, Part),
-    /// `.. has ok`.
-    Has(Part),
-    /// `(..).ok`.
-    Get(Part),
-}
+/// The same of entities, tags and texts.
+const ENTITIES: &str = r#"
+USER in principal | 3 | success | failure
+principal in USER | 3 | success | failure
+principal in [USER] | 4 | success | failure
+principal in [principal, USER] | 4 | success | failure
+USER.hasTag("t") | 3 | success | failure
+principal.hasTag(TEXT) | 3 | success | failure
+USER.hasTag("t") && USER.getTag("t").ok | 5 | success | failure
+principal.hasTag(TEXT) && principal.getTag(TEXT).ok | 5 | success | failure
+TEXT like "a*" | 3 | success | failure
+USER is User | 3 | success | failure
+"#;
 
-fn made(alloc: Global, part: Part) -> Result<Expr, AllocError> {
-    match part {
-        Part::True => Ok(Expr::val(Literal::from(true))),
-        Part::False => Ok(Expr::val(Literal::from(false))),
-        Part::One => Ok(Expr::val(Literal::from(1))),
-        Part::Open => Expr::get_attr(alloc, Expr::var(Var::Principal), "ok"),
-        Part::Undeclared => Expr::get_attr(alloc, Expr::var(Var::Principal), "nope"),
-        Part::Deep(levels) => deep(alloc, levels),
-        Part::Bosses(levels) => bosses(alloc, levels),
-    }
-}
+/// The same of sets, records and calls.
+const SETS_AND_CALLS: &str = r#"
+SET.contains(1) | 3 | success | failure
+[1].contains(LONG) | 3 | success | failure
+SET.containsAll([1]) | 3 | success | failure
+[1].containsAll(SET) | 3 | success | failure
+SET.containsAny([1]) | 3 | success | failure
+[1].containsAny(SET) | 3 | success | failure
+[LONG].contains(1) | 4 | success | failure
+[1, LONG].contains(1) | 4 | success | failure
+[LONG, 1].contains(1) | 4 | success | failure
+{a: LONG, b: 1}.b == 1 | 5 | success | failure
+{a: 1, b: LONG}.a == 1 | 5 | success | failure
+sum(LONG) == 1 | 4 | success | failure
+sum(1, LONG) == 1 | 4 | success | failure
+sum(LONG, 1) == 1 | 4 | success | failure
+isInRange(IP, principal.ip) | 3 | success | failure
+isInRange(principal.ip, IP) | 3 | success | failure
+"#;
 
-fn deep(alloc: Global, levels: usize) -> Result<Expr, AllocError> {
-    let mut chain = Expr::val(Literal::from(true));
-    for _ in 0..levels {
-        chain = Expr::and(alloc, Expr::val(Literal::from(true)), chain)?;
-    }
-    Ok(chain)
-}
+/// The same, where other parts have errors: those before the innermost part are found, and of those behind it the ones that
+/// are typed even after it.
+const BESIDE_ERRORS: &str = r#"
+1 && BOOL | 3 | failure; LONG_FOR_BOOL | failure; LONG_FOR_BOOL
+BOOL && 1 | 3 | failure; LONG_FOR_BOOL | failure
+1 || BOOL | 3 | failure; LONG_FOR_BOOL | failure; LONG_FOR_BOOL
+if 1 then BOOL else principal.nope | 3 | failure; NOPE; LONG_FOR_BOOL | failure; NOPE; LONG_FOR_BOOL
+if BOOL then principal.nope else principal.nope | 3 | failure; NOPE; NOPE | failure
+if true then BOOL else principal.nope | 3 | success | failure
+if principal.ok then BOOL else principal.nope | 3 | failure; NOPE | failure; NOPE
+if principal.ok then principal.nope else BOOL | 3 | failure; NOPE | failure; NOPE
+if principal.ok then BOOL else 1 | 3 | failure; UNLIKE | failure
+LONG == (1 + "a") | 3 | failure; TEXT_FOR_LONG | failure; TEXT_FOR_LONG
+(1 + "a") == LONG | 3 | failure; TEXT_FOR_LONG | failure; TEXT_FOR_LONG
+LONG < (1 + "a") | 3 | failure; TEXT_FOR_LONG | failure
+(1 + "a") < LONG | 3 | failure; TEXT_FOR_LONG | failure; TEXT_FOR_LONG
+LONG + (1 + "a") == 2 | 4 | failure; TEXT_FOR_LONG | failure
+USER in principal.nope | 3 | failure; NOPE | failure; NOPE
+principal.nope in USER | 3 | failure; NOPE | failure; NOPE
+principal in [USER, principal.nope] | 4 | failure; NOPE | failure; NOPE
+SET.contains(1 + "a") | 3 | failure; TEXT_FOR_LONG | failure
+SET.containsAll([1 + "a"]) | 3 | failure; TEXT_FOR_LONG | failure
+USER.hasTag(principal.nope) | 3 | failure; NOPE | failure
+[LONG, 1 + "a"].contains(1) | 4 | failure; TEXT_FOR_LONG | failure; TEXT_FOR_LONG
+[1, "a", LONG].contains(1) | 4 | failure; UNLIKE_ELEMENTS | failure; UNLIKE_ELEMENTS
+[LONG, "a"].contains(1) | 4 | failure; UNLIKE_ELEMENTS | failure
+{a: LONG, b: 1 + "a"} has a | 4 | failure; TEXT_FOR_LONG | failure
+{a: 1 + "a", b: LONG} has a | 4 | failure; TEXT_FOR_LONG | failure; TEXT_FOR_LONG
+sum(LONG, 1 + "a") == 1 | 4 | failure; TEXT_FOR_LONG | failure
+sum(1 + "a", LONG) == 1 | 4 | failure; TEXT_FOR_LONG | failure; TEXT_FOR_LONG
+isInRange(IP) | 3 | failure; TOO_FEW | failure; TOO_FEW
+nope(LONG) == 1 | 4 | failure; NO_FUNCTION | failure; NO_FUNCTION
+nope(LONG, 1 + "a") == 1 | 4 | failure; NO_FUNCTION; TEXT_FOR_LONG | failure; NO_FUNCTION
+"#;
 
-fn bosses(alloc: Global, levels: usize) -> Result<Expr, AllocError> {
-    let mut chain = Expr::var(Var::Principal);
-    for _ in 0..levels {
-        chain = Expr::get_attr(alloc, chain, "boss")?;
-    }
-    Ok(chain)
-}
+/// The same, where it is not visited.
+const NOT_VISITED: &str = r#"
+false && BOOL | 3 | irrelevant | irrelevant
+true || BOOL | 3 | success | success
+if false then BOOL else true | 3 | success | success
+if true then true else BOOL | 3 | success | success
+"#;
 
-fn condition(alloc: Global, form: Form) -> Result<Expr, AllocError> {
-    match form {
-        Form::And(left, right) => Expr::and(alloc, made(alloc, left)?, made(alloc, right)?),
-        Form::Or(left, right) => Expr::or(alloc, made(alloc, left)?, made(alloc, right)?),
-        Form::Not(operand) => Expr::not(alloc, made(alloc, operand)?),
-        Form::If(test, yes, no) => {
-            let test = made(alloc, test)?;
-            Expr::ite(alloc, test, made(alloc, yes)?, made(alloc, no)?)
-        }
-        Form::Has(base) => Expr::has_attr(alloc, made(alloc, base)?, "ok"),
-        Form::Get(base) => Expr::get_attr(alloc, made(alloc, base)?, "ok"),
-    }
-}
-
-/// What has a part at depth 400, where it is a part of a condition: the condition stands at depth 2, below the conjunction
-/// with what the scope asks.
-const AT_400: Part = Part::Deep(397);
-
-/// What has a part at depth 401.
-const AT_401: Part = Part::Deep(398);
-
-const LONG: &str = "failure; unexpected type: expected `Bool` but saw `Long`";
-
-const NOPE: &str = "failure; attribute `nope` does not exist on `User`";
-
-const BOTH: &str =
-    "failure; attribute `nope` does not exist on `User`; unexpected type: expected `Bool` but saw `Long`";
-
-/// Conditions with a part at depth 400.
-const DEEP: [(Form, &str); 9] = [
-    (Form::And(Part::True, AT_400), "success"),
-    (Form::And(AT_400, Part::True), "success"),
-    (Form::Or(Part::False, AT_400), "success"),
-    (Form::Or(AT_400, Part::One), "success"),
-    (Form::Not(AT_400), "irrelevant"),
-    (Form::If(AT_400, Part::True, Part::One), "success"),
-    (Form::If(Part::False, Part::One, AT_400), "success"),
-    (Form::Has(Part::Bosses(397)), "success"),
-    (Form::Get(Part::Bosses(397)), "success"),
+/// The attribute that a word stands for, of `principal.boss.boss..`.
+const PARTS: [(&str, &str); 6] = [
+    ("BOOL", "ok"),
+    ("LONG", "age"),
+    ("TEXT", "name"),
+    ("SET", "ages"),
+    ("USER", "boss"),
+    ("IP", "ip"),
 ];
 
-/// Conditions with a part at depth 401 that is visited: nothing after it is, save the other branch of an `if`.
-const TOO_DEEP: [(Form, &str); 20] = [
-    (Form::And(Part::True, AT_401), "failure"),
-    (Form::And(Part::One, AT_401), LONG),
-    (Form::And(AT_401, Part::One), "failure"),
-    (Form::Or(Part::False, AT_401), "failure"),
-    (Form::Or(Part::Open, AT_401), "failure"),
-    (Form::Or(Part::One, AT_401), LONG),
-    (Form::Or(AT_401, Part::One), "failure"),
-    (Form::Not(AT_401), "failure"),
-    (Form::Has(Part::Bosses(398)), "failure"),
-    (Form::Get(Part::Bosses(398)), "failure"),
-    (Form::Has(AT_401), "failure"),
-    (Form::Get(AT_401), "failure"),
+/// What words stand for in an answer.
+const ERRORS: [(&str, &str); 7] = [
+    ("NOPE", "attribute `nope` does not exist on `User`"),
+    ("NO_FUNCTION", "undefined extension function `nope`"),
     (
-        Form::If(AT_401, Part::Undeclared, Part::Undeclared),
-        "failure",
+        "LONG_FOR_BOOL",
+        "unexpected type: expected `Bool` but saw `Long`",
     ),
-    (Form::If(Part::True, AT_401, Part::Undeclared), "failure"),
-    (Form::If(Part::False, Part::Undeclared, AT_401), "failure"),
-    (Form::If(Part::Open, AT_401, Part::Undeclared), NOPE),
-    (Form::If(Part::Open, Part::Undeclared, AT_401), NOPE),
-    (Form::If(Part::Open, AT_401, Part::One), "failure"),
-    (Form::If(Part::Open, Part::One, AT_401), "failure"),
-    (Form::If(Part::One, AT_401, Part::Undeclared), BOTH),
+    (
+        "TEXT_FOR_LONG",
+        "unexpected type: expected `Long` but saw `String`",
+    ),
+    ("TOO_FEW", "wrong number of arguments: expected 2, got 1"),
+    (
+        "UNLIKE_ELEMENTS",
+        "the types `Long`, `String` are not compatible",
+    ),
+    ("UNLIKE", "the types `Bool`, `Long` are not compatible"),
 ];
 
-/// Conditions with such a part that is not visited.
-const NOT_VISITED: [(Form, &str); 4] = [
-    (Form::And(Part::False, AT_401), "irrelevant"),
-    (Form::Or(Part::True, AT_401), "success"),
-    (Form::If(Part::False, AT_401, Part::True), "success"),
-    (Form::If(Part::True, Part::True, AT_401), "success"),
+const MODES: [ValidationMode; 3] = [
+    ValidationMode::Strict,
+    ValidationMode::Permissive,
+    ValidationMode::Partial,
 ];
 
-/// What the check of this condition comes to.
-fn outcome_of(alloc: Global, condition: Expr) -> Result<String, Fail> {
-    let check = checked(alloc, condition)?;
-    Ok(outcome(alloc, &check)?)
+/// A condition, with so many accesses between the attribute of each part and `principal`.
+fn with_parts(alloc: Global, form: &str, accesses: usize) -> Result<String, AllocError> {
+    let bosses = ".boss".repeat(alloc, accesses)?;
+    let mut text = String::from_str(alloc, form)?;
+    for (word, attr) in &PARTS {
+        let part = format!(in alloc; "principal{bosses}.{attr}")?;
+        text = text.replace(alloc, *word, part.as_str())?;
+    }
+    Ok(text)
+}
+
+/// An answer, with each error in it.
+fn with_errors(alloc: Global, answer: &str) -> Result<String, AllocError> {
+    let mut text = String::from_str(alloc, answer)?;
+    for (word, error) in &ERRORS {
+        text = text.replace(alloc, *word, *error)?;
+    }
+    Ok(text)
+}
+
+fn read(alloc: Global, text: &str) -> Result<Expr, Fail> {
+    match condition(alloc, text) {
+        Ok(read) => Ok(read),
+        Err(ReadError::Memory(error)) => Err(Fail::from(error)),
+        Err(ReadError::At(_, _)) => Err(Fail::from("a condition")),
+    }
+}
+
+/// The first mode in which the check of a condition comes to something else, if there is one.
+fn mode_that_differs(
+    alloc: Global,
+    text: &str,
+    want: &str,
+) -> Result<Option<ValidationMode>, Fail> {
+    let policy = permit_when(alloc, read(alloc, text)?)?;
+    for mode in MODES {
+        let check = checked_in(alloc, &policy, mode)?;
+        if outcome(alloc, &check)?.as_str() != want {
+            return Ok(Some(mode));
+        }
+    }
+    Ok(None)
+}
+
+/// Whether a line's condition comes to what the line says, where its innermost part stands at depth 400, and at 401.
+fn agrees(alloc: Global, line: &str) -> Result<bool, Fail> {
+    let (form, rest) = line.split_once(" | ").ok_or("a depth")?;
+    let (depth, answers) = rest.split_once(" | ").ok_or("an answer")?;
+    let (at_400, at_401) = answers.split_once(" | ").ok_or("two answers")?;
+    let above: usize = depth.parse().or(Err("a number"))?;
+    let accesses = 399usize.saturating_sub(above);
+    let allowed = with_parts(alloc, form, accesses)?;
+    let too_deep = with_parts(alloc, form, accesses.saturating_add(1))?;
+    let at_400 = with_errors(alloc, at_400)?;
+    let at_401 = with_errors(alloc, at_401)?;
+    let allowed = mode_that_differs(alloc, allowed.as_str(), at_400.as_str())?;
+    let too_deep = mode_that_differs(alloc, too_deep.as_str(), at_401.as_str())?;
+    Ok(allowed.is_none() && too_deep.is_none())
+}
+
+/// The first line of a table that does not agree, if there is one.
+fn line_that_differs<'a>(alloc: Global, table: &'a str) -> Result<Option<&'a str>, Fail> {
+    for line in table.trim().lines() {
+        if !agrees(alloc, line)? {
+            return Ok(Some(line));
+        }
+    }
+    Ok(None)
 }
 
 #[test]
-fn a_part_deeper_than_400_is_a_failure_where_it_is_visited(rt: HostRuntime) -> Result<(), Fail> {
-    let alloc = rt.alloc();
-    for table in [DEEP.as_slice(), TOO_DEEP.as_slice(), NOT_VISITED.as_slice()] {
-        for (number, (form, want)) in table.iter().enumerate() {
-            let found = outcome_of(alloc, condition(alloc, *form)?)?;
-            assert_eq!(rt; found.as_str(), *want, "number {number} of its table");
-        }
-    }
+fn an_operand_may_stand_at_400_and_no_deeper(rt: HostRuntime) -> Result<(), Fail> {
+    assert_eq!(rt; line_that_differs(rt.alloc(), OPERATORS)?, None);
+    Ok(())
+}
+
+#[test]
+fn an_entity_may_stand_at_400_and_no_deeper(rt: HostRuntime) -> Result<(), Fail> {
+    assert_eq!(rt; line_that_differs(rt.alloc(), ENTITIES)?, None);
+    Ok(())
+}
+
+#[test]
+fn an_element_may_stand_at_400_and_no_deeper(rt: HostRuntime) -> Result<(), Fail> {
+    assert_eq!(rt; line_that_differs(rt.alloc(), SETS_AND_CALLS)?, None);
+    Ok(())
+}
+
+#[test]
+fn some_parts_are_typed_after_one_deeper_than_400(rt: HostRuntime) -> Result<(), Fail> {
+    assert_eq!(rt; line_that_differs(rt.alloc(), BESIDE_ERRORS)?, None);
+    Ok(())
+}
+
+#[test]
+fn a_part_that_is_not_visited_may_stand_deeper(rt: HostRuntime) -> Result<(), Fail> {
+    assert_eq!(rt; line_that_differs(rt.alloc(), NOT_VISITED)?, None);
     Ok(())
 }
 
@@ -168,7 +265,8 @@ fn has_bosses(alloc: Global) -> Result<Expr, AllocError> {
 
 #[test]
 fn a_chain_of_300_attributes_is_typed(rt: HostRuntime) -> Result<(), Fail> {
-    let found = outcome_of(rt.alloc(), has_bosses(rt.alloc())?)?;
+    let check = checked(rt.alloc(), has_bosses(rt.alloc())?)?;
+    let found = outcome(rt.alloc(), &check)?;
     assert_eq!(rt; found.as_str(), "success");
     Ok(())
 }

@@ -17,6 +17,7 @@ use Rattle.cedar_typing.specs.Evaluation.Conformance.{Fits, IsEnvironmentOf, Slo
 use Rattle.cedar_typing.specs.Evaluation.Eval.{eval}
 use Rattle.cedar_typing.specs.Evaluation.World.{World}
 use Rattle.cedar_typing.specs.Rules.{rules, Derives}
+use Rattle.cedar_typing.specs.LinkedSlots.{LinksBothSlots}
 use Rattle.cedar_typing.specs.Setting.{Setting, table}
 use Rattle.cedar_typing.specs.Soundness.{HasFound}
 use Rattle.cedar_typing.specs.TypedExpr.{Source, TypedTree, annotation, place_of}
@@ -30,7 +31,7 @@ use Rattle.cedar_typing.proofs.Soundness.Induction.{kept_joins, sounds}
 use Rattle.cedar_typing.proofs.Values.Attributes.{get_typed, has_not}
 use Rattle.cedar_typechecker.specs.Levels.Chains.{level}
 use Rattle.cedar_typechecker.specs.Slices.Reach.{HoldsSlice}
-use Rattle.cedar_typechecker.specs.Slices.Soundness.{with_store, levels_in, LinksBothSlots, IsSlicedIn, IsReachedIn, EvaluatesAlike, TargetsReach, SliceSoundness, TargetsAreReached, SliceSoundnessInPermissive, TargetsAreReachedInPermissive}
+use Rattle.cedar_typechecker.specs.Slices.Soundness.{with_store, levels_in, IsSlicedIn, IsReachedIn, EvaluatesAlike, TargetsReach, SliceSoundness, TargetsAreReached, SliceSoundnessInPermissive, TargetsAreReachedInPermissive}
 use Rattle.cedar_typechecker.proofs.Levels.Monotone.{silent_of}
 use Rattle.cedar_typechecker.proofs.Slices.Chains.{IsKeptType, chain_same}
 use Rattle.cedar_typechecker.proofs.Slices.ChainValues.{AreKept}

@@ -5,7 +5,6 @@ use Rattle.cedar_types.specs.declared.base.types.ValidationMode.TheVariants.{Str
 use Rattle.cedar_types.specs.ExtensionFunctions.{table_fault}
 use Rattle.cedar_types.specs.FormedSchemas.{has_formed_types}
 use Rattle.cedar_types.specs.Names.{Text, Uid}
-use Rattle.cedar_types.specs.RequestEnvs.{Env, Declared}
 use Rattle.cedar_types.specs.Schemas.{has_fault}
 use Rattle.cedar_types.specs.Stores.{Store}
 use Rattle.cedar_types.specs.Types.{Ty}
@@ -13,7 +12,8 @@ use Rattle.cedar_types.specs.Values.{Value, VEntity, VRecord, entry_at}
 use Rattle.cedar_typing.specs.Capabilities.{Caps}
 use Rattle.cedar_typing.specs.Evaluation.Conformance.{IsOneOf, SlotsBound, AllHold}
 use Rattle.cedar_typing.specs.Evaluation.Eval.{eval}
-use Rattle.cedar_typing.specs.Evaluation.World.{World, Outcome}
+use Rattle.cedar_typing.specs.Evaluation.World.{World}
+use Rattle.cedar_typing.specs.LinkedSlots.{LinksBothSlots}
 use Rattle.cedar_typing.specs.Rules.{Derives}
 use Rattle.cedar_typing.specs.Setting.{Setting}
 use Rattle.cedar_typing.specs.Soundness.{OnValue, IsReliableIn, IsWorldOf}
@@ -38,11 +38,6 @@ levels_in s n = record {
 }
 
 -- ---- the premises
-
--- both slots are linked to types
-abbrev pub LinksBothSlots : Env → Type 0
-LinksBothSlots (Declared d (Some p) (Some r)) = Unit {0}
-LinksBothSlots e = ⊥
 
 -- typing can be relied on in the world, and a part of its store holds the slice of n steps
 pub record IsSlicedIn (m : ValidationMode) (s : Setting) (world : World) (n : ℕ) (part : Store) :

@@ -5,7 +5,7 @@ ghost use Rattle.cedar_types.specs.Capability.{cap_of, capability_eq, capability
 ghost use Rattle.cedar_types.specs.RequestEnvs.{linked, request_in};
 ghost use Rattle.std.specs.Prelude.{Option};
 ghost use Rattle.cedar_types.specs.declared.base.names.entities.EntityType.{EntityType};
-ghost use Rattle.cedar_types.specs.declared.types.capability.Capability.{Capability};
+ghost use Rattle.cedar_types.specs.declared.types.capability.digested.Capability.{Capability};
 ghost use Rattle.cedar_types.specs.declared.types.request_env.RequestEnv.{RequestEnv};
 ghost use Rattle.cedar_types.specs.declared.types.request_env.RequestEnv.TheVariants.{UndeclaredAction};
 
@@ -13,6 +13,11 @@ ghost use Rattle.cedar_types.specs.declared.types.request_env.RequestEnv.TheVari
 pub fn comparisons_of_capabilities()
     ensures equality { (c d : Capability) → IsTrue (capability_eq c d) ↔ (cap_of c ≡ cap_of d) }
     ensures order { (c d : Capability) → is_eq (capability_cmp c d) ≡ capability_eq c d }
+{}
+
+/// Capabilities of one shape have one digest.
+pub fn digests_of_capabilities()
+    ensures { (c d : Capability) → cap_of c ≡ cap_of d → c.digest ≡ d.digest }
 {}
 
 /// Linking twice is the last linking, what requests are about does not depend on slots, and the environment of undeclared

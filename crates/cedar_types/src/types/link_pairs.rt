@@ -30,7 +30,8 @@ impl<'a> LinkPairs<'a> {
     ghost use Rattle.std.specs.Prelude.{◌≡◌, IfOk, MatchOption, [], ◌∷◌, option_map};
     ghost use Rattle.cedar_types.specs.Names.{type_of};
     ghost use Rattle.cedar_types.specs.RequestEnvs.{env_of};
-    ghost use Rattle.cedar_types.specs.LinkViews.{link_of, pairs_left};
+    ghost use Rattle.cedar_types.specs.LinkViews.{link_of, pairs_left, held_left};
+    ghost use Rattle.cedar_types.specs.SlotLinks.{links_held};
 
     pub(crate) fn new(
         place: Place<'a>,
@@ -54,9 +55,11 @@ impl<'a> LinkPairs<'a> {
 
     /// The next environment; `None` after the last. Where memory is refused, it is still to come.
     pub(crate) fn next_env(&mut self, _alloc: Global) -> Result<Option<RequestEnv<'a>>, AllocError>
-        ensures { IfOk result (λ o. MatchOption o
+        ensures next { IfOk result (λ o. MatchOption o
             ((pairs_left self.old ≡ []) × (pairs_left self.new ≡ []))
             (λ e. pairs_left self.old ≡ env_of e ∷ pairs_left self.new)) }
+        ensures principals { self.new.principals ≡ self.old.principals }
+        ensures resources { self.new.resources ≡ self.old.resources }
     {
         let principal_at = self.principal_at;
         let resource_at = self.resource_at;
@@ -88,6 +91,22 @@ impl<'a> LinkPairs<'a> {
             principal_slot,
             resource_slot,
         }))
+    }
+
+    /// The next environment of these, if there are any.
+    pub(crate) fn next_of(
+        alloc: Global,
+        links: &mut Option<LinkPairs<'a>>,
+    ) -> Result<Option<RequestEnv<'a>>, AllocError>
+        ensures next { IfOk result (λ o. MatchOption o
+            ((held_left links.old ≡ []) × (held_left links.new ≡ []))
+            (λ e. held_left links.old ≡ env_of e ∷ held_left links.new)) }
+        ensures held { links_held links.new ≡ links_held links.old }
+    {
+        match links {
+            None => Ok(None),
+            Some(pairs) => pairs.next_env(alloc),
+        }
     }
 
     fn copy_link(link: Option<&EntityType>) -> Result<Option<EntityType>, AllocError>

@@ -1,11 +1,6 @@
 // The environments that a template is checked in.
-ghost use Rattle.std.specs.Prelude.{◌≡◌, false, [], ◌∷◌, None, IfOk, MatchOption};
-ghost use Rattle.cedar_types.specs.FallibleIterators.{YieldsOrEnds, calls_left};
-ghost use Rattle.cedar_types.specs.Linking.{checked_envs, has_slot, linked_by};
-ghost use Rattle.cedar_types.specs.LinkViews.{place_env, pairs_left, held_left, linked_to_come, linked_left, linked_is_over};
-ghost use Rattle.cedar_types.specs.RequestEnvs.{Declared, env_of};
-ghost use Rattle.cedar_types.specs.SchemaContents.{schema_of};
-ghost use Rattle.cedar_types.specs.Templates.{template_of};
+ghost use Rattle.std.specs.Prelude.{◌≤◌};
+ghost use Rattle.cedar_types.specs.SlotLinks.{links_held, most_links};
 
 use crate::base::{SlotId, Template, ValidationMode, ValidatorSchema};
 use crate::types::link_pairs::{LinkPairs, Place};
@@ -19,7 +14,7 @@ use std::alloc::{AllocError, Global};
 /// A slot that does not occur in the template is not linked. One that does is linked to the type of its variable where
 /// the scope says `==`; where it says `in`, to each declared type that has this type as a descendant and then to the type
 /// itself, so a type below itself comes twice; where it says neither, to each declared type. It holds the links of one
-/// environment at a time.
+/// environment at a time: of both slots together at most twice as many as the schema has entity types, and two.
 ///
 /// Where memory is refused, an item is an `AllocError`, and there is none after it.
 #[derive(Drop, Debug)]
@@ -33,9 +28,16 @@ pub struct LinkedRequestEnvs<'a> {
     /// Those still to come of the environment of the schema at hand.
     links: Option<LinkPairs<'a>>,
     ended: bool,
+    ghost few_links: { links_held links ≤ most_links schema.now },
 }
 
 impl ValidatorSchema {
+    ghost use Rattle.std.specs.Prelude.{◌≡◌, false, IfOk};
+    ghost use Rattle.cedar_types.specs.Linking.{checked_envs};
+    ghost use Rattle.cedar_types.specs.LinkViews.{linked_left, linked_is_over};
+    ghost use Rattle.cedar_types.specs.SchemaContents.{schema_of};
+    ghost use Rattle.cedar_types.specs.Templates.{template_of};
+
     /// The environments that this template is checked in. Where memory is refused, the answer is an `AllocError`.
     #[tactic(auto, unfolding(crate::specs::LinkViews::linked_left, crate::specs::LinkViews::linked_is_over))]
     pub fn linked_request_envs<'a>(
@@ -64,6 +66,10 @@ impl ValidatorSchema {
 }
 
 impl<'a> Iterator for LinkedRequestEnvs<'a> {
+    ghost use Rattle.cedar_types.specs.FallibleIterators.{YieldsOrEnds, calls_left};
+    ghost use Rattle.cedar_types.specs.LinkViews.{linked_left, linked_is_over};
+    ghost use Rattle.cedar_types.specs.RequestEnvs.{env_of};
+
     type Item = Result<RequestEnv<'a>, AllocError>;
 
     ghost next_gives = { YieldsOrEnds linked_left linked_is_over env_of };
@@ -90,6 +96,13 @@ impl<'a> Iterator for LinkedRequestEnvs<'a> {
 }
 
 impl<'a> LinkedRequestEnvs<'a> {
+    ghost use Rattle.std.specs.Prelude.{◌≡◌, [], ◌∷◌, None, Some, IfOk, MatchOption};
+    ghost use Rattle.cedar_types.specs.Linking.{linked_by};
+    ghost use Rattle.cedar_types.specs.LinkViews.{place_env, pairs_left, linked_to_come};
+    ghost use Rattle.cedar_types.specs.RequestEnvs.{Declared, env_of};
+    ghost use Rattle.cedar_types.specs.SchemaContents.{schema_of};
+    ghost use Rattle.cedar_types.specs.Templates.{template_of};
+
     /// The next environment; `None` after the last. An environment of the schema may have no link at all.
     fn next_env(&mut self) -> Result<Option<RequestEnv<'a>>, AllocError>
         ensures next { IfOk result (λ o. MatchOption o
@@ -98,7 +111,7 @@ impl<'a> LinkedRequestEnvs<'a> {
         ensures ended { self.new.ended ≡ self.old.ended }
     {
         loop {
-            if let Some(env) = next_pair(self.alloc, &mut self.links)? {
+            if let Some(env) = LinkPairs::next_of(self.alloc, &mut self.links)? {
                 return Ok(Some(env));
             }
             match self.unlinked.next() {
@@ -129,11 +142,12 @@ impl<'a> LinkedRequestEnvs<'a> {
 
     /// The ways to link both slots in this environment.
     fn links_at(&self, place: Place<'a>) -> Result<LinkPairs<'a>, AllocError>
-        ensures { IfOk result (λ l.
+        ensures links { IfOk result (λ l.
             pairs_left l
             ≡ linked_by self.now.has_principal_slot self.now.has_resource_slot
             (schema_of self.now.schema.now) (template_of self.now.template.now)
             (Declared (place_env place.entry) None None)) }
+        ensures few { IfOk result (λ l. links_held (Some l) ≤ most_links self.now.schema.now) }
     {
         let principals = self.schema.slot_links(
             self.alloc,
@@ -148,20 +162,5 @@ impl<'a> LinkedRequestEnvs<'a> {
             place.resource,
         )?;
         Ok(LinkPairs::new(place, principals, resources))
-    }
-}
-
-/// The next environment of these, if there are any.
-fn next_pair<'a>(
-    alloc: Global,
-    links: &mut Option<LinkPairs<'a>>,
-) -> Result<Option<RequestEnv<'a>>, AllocError>
-    ensures { IfOk result (λ o. MatchOption o
-        ((held_left links.old ≡ []) × (held_left links.new ≡ []))
-        (λ e. held_left links.old ≡ env_of e ∷ held_left links.new)) }
-{
-    match links {
-        None => Ok(None),
-        Some(pairs) => pairs.next_env(alloc),
     }
 }

@@ -10,6 +10,7 @@ use Rattle.cedar_types.specs.Schemas.{has_fault}
 use Rattle.cedar_types.specs.Types.{TNever, TSet, TAnyEntity}
 use Rattle.cedar_typing.specs.Capabilities.{Caps}
 use Rattle.cedar_typing.specs.Evaluation.Conformance.{IsEnvironmentOf}
+use Rattle.cedar_typing.specs.LinkedSlots.{LinksBothSlots}
 use Rattle.cedar_typing.specs.Rules.{rules}
 use Rattle.cedar_typing.specs.Rules.Leaves.{slot_ty}
 use Rattle.cedar_typing.specs.Setting.{Setting}
@@ -24,11 +25,6 @@ use Rattle.cedar_typing.proofs.KeptTypes.Keeping.{IsKeeping}
 use Rattle.cedar_typing.proofs.KeptTypes.Records.{record_kept}
 use Rattle.cedar_typing.proofs.KeptTypes.Rules.{KeepsTypes}
 use Rattle.cedar_typing.proofs.KeptTypes.Types.{Keeping, one_type, ascending, no_any_entity, allowed, is_made_of, IsKept, keeping, KeptIn, one_kept}
-
--- each slot has a type of its own
-abbrev pub LinksBothSlots : Env → Type 0
-LinksBothSlots (Declared d (Some p) (Some r)) = Unit {0}
-LinksBothSlots e = ⊥
 
 -- where typing keeps to it, by a schema without faults
 abbrev pub Applies : Keeping → TypeEnv → Type 0

@@ -23,15 +23,14 @@ pub(crate) fn one_capability<'a>(
     CapabilitySet::singleton(alloc, capability)
 }
 
-/// The capabilities of both.
+/// The capabilities of both, which end in it.
 pub(crate) fn union_of<'a>(
-    alloc: Global,
-    one: &CapabilitySet<'a>,
-    other: &CapabilitySet<'a>,
+    one: CapabilitySet<'a>,
+    other: CapabilitySet<'a>,
 ) -> Result<CapabilitySet<'a>, AllocError>
-    ensures { IfOk result (λ r. caps r ≡ union (caps one.now) (caps other.now)) }
+    ensures { IfOk result (λ r. caps r ≡ union (caps one.entry) (caps other.entry)) }
 {
-    one.union(alloc, other)
+    one.join(other)
 }
 
 /// The capabilities that both have.
@@ -43,14 +42,4 @@ pub(crate) fn intersection_of<'a>(
     ensures { IfOk result (λ r. caps r ≡ intersection (caps one.now) (caps other.now)) }
 {
     one.intersect(alloc, other)
-}
-
-/// A copy of the capabilities.
-pub(crate) fn same_capabilities<'a>(
-    alloc: Global,
-    capabilities: &CapabilitySet<'a>,
-) -> Result<CapabilitySet<'a>, AllocError>
-    ensures { IfOk result (λ r. caps r ≡ caps capabilities.now) }
-{
-    capabilities.try_clone(alloc)
 }

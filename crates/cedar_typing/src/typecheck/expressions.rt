@@ -1,21 +1,21 @@
 // Expressions, one arm for each form.
 ghost use Rattle.std.specs.Prelude.{◌≡◌, IfOk, option_map};
 ghost use Rattle.cedar_types.specs.View.{written};
-ghost use Rattle.cedar_types.specs.Capability.{caps};
 ghost use Rattle.cedar_typing.specs.Infer.{infer};
 ghost use Rattle.cedar_typing.specs.Infer.Parts.{expect};
 ghost use Rattle.cedar_typing.specs.TypedExpr.{place_of};
 ghost use Rattle.cedar_typing.specs.SettingViews.{setting_at};
 ghost use Rattle.cedar_typing.specs.Views.{expected_types, answer_of, part_of, findings};
+ghost use Rattle.cedar_typing.specs.Priors.{known_in};
 
 use crate::typecheck::answer::{Part, TypecheckAnswer};
 use crate::typecheck::operands::Expected;
+use crate::typecheck::prior::Prior;
 use crate::typecheck::rules::one_operand::OneOperand;
 use crate::typecheck::rules::short_circuit::Connective;
 use crate::typecheck::rules::two_operands::TwoOperands;
 use crate::typecheck::single_env::SingleEnvTypechecker;
 use cedar_types::base::{ArgumentCheck, Expr, ExprKind, ValidationError};
-use cedar_types::types::capability::CapabilitySet;
 use std::alloc::AllocError;
 
 /// The greatest depth at which an expression is visited. A condition has depth 1, and each part one more than the whole.
@@ -26,13 +26,13 @@ impl<C: ArgumentCheck> SingleEnvTypechecker<'_, '_, '_, '_, C> {
     #[cycle(typing)]
     pub(crate) fn typecheck<'a>(
         &self,
-        prior: &CapabilitySet<'a>,
+        prior: &Prior<'_, 'a>,
         depth: usize,
         e: &'a Expr,
         errors: &mut Vec<ValidationError>,
     ) -> Result<TypecheckAnswer<'a>, AllocError>
         ensures { IfOk result (λ r.
-            infer (setting_at C.refusal self.now) (written e.now) (caps prior.now) depth (findings errors.old.items)
+            infer (setting_at C.refusal self.now) (written e.now) (known_in prior.now) depth (findings errors.old.items)
             ≡ (answer_of r, findings errors.new.items)) }
     {
         if depth > MAX_NESTING {
@@ -103,7 +103,7 @@ impl<C: ArgumentCheck> SingleEnvTypechecker<'_, '_, '_, '_, C> {
     #[cycle(typing)]
     pub(crate) fn type_part<'a>(
         &self,
-        prior: &CapabilitySet<'a>,
+        prior: &Prior<'_, 'a>,
         depth: usize,
         expected: Expected<'_>,
         e: &'a Expr,
@@ -111,7 +111,7 @@ impl<C: ArgumentCheck> SingleEnvTypechecker<'_, '_, '_, '_, C> {
     ) -> Result<Option<Part<'a>>, AllocError>
         ensures { IfOk result (λ p.
             expect (setting_at C.refusal self.now).env (expected_types expected.entry) (place_of (written e.now))
-            (infer (setting_at C.refusal self.now) (written e.now) (caps prior.now) depth (findings errors.old.items))
+            (infer (setting_at C.refusal self.now) (written e.now) (known_in prior.now) depth (findings errors.old.items))
             ≡ (option_map part_of p, findings errors.new.items)) }
     {
         let answer = self.typecheck(prior, depth, e, errors)?;

@@ -1,4 +1,6 @@
 // The checks of a template, one environment after another.
+ghost use Rattle.cedar_types.specs.LinkViews.{HoldsFewLinks};
+
 use crate::typecheck::typechecker::{PolicyCheck, Typechecker};
 use cedar_types::base::{ArgumentCheck, Expr, Template};
 use cedar_types::types::linked_envs::LinkedRequestEnvs;
@@ -7,6 +9,7 @@ use std::alloc::{AllocError, Global};
 
 /// The checks of a template in each of its environments, one at a time and in any order. It keeps none of them: it holds
 /// what the scope makes of the condition, and of one environment of the schema the ways that are left to link its slots.
+/// The links that it holds are at most twice as many as the declared entity types, and two.
 ///
 /// An environment comes as often as the slots can be linked so. Where memory is refused, an item is an `AllocError`, and
 /// there is none after it.
@@ -18,6 +21,7 @@ pub struct RequestEnvChecks<'b, C = Box<dyn ArgumentCheck>> {
     scope: Expr,
     linked: LinkedRequestEnvs<'b>,
     ended: bool,
+    ghost few_links: { HoldsFewLinks linked },
 }
 
 impl<'a, C: ArgumentCheck> Typechecker<'a, C> {

@@ -13,6 +13,7 @@ ghost use Rattle.cedar_typing.specs.Views.{env_at, part_of};
 use crate::typecheck::answer::Part;
 use crate::typecheck::capabilities::no_capabilities;
 use crate::typecheck::operands::Expected;
+use crate::typecheck::prior::Prior;
 use crate::typecheck::rules::short_circuit::Connective;
 use crate::typecheck::single_env::SingleEnvTypechecker;
 use crate::typecheck::type_env::TypeEnv;
@@ -154,7 +155,8 @@ impl<C: ArgumentCheck> SingleEnvTypechecker<'_, '_, '_, '_, C> {
             (with_rest loc (written scope.now) (option_map written rest.now))) }
     {
         let mut errors = Vec::new(self.env.alloc);
-        let known = no_capabilities(self.env.alloc);
+        let nothing = no_capabilities(self.env.alloc);
+        let known = Prior::of(&nothing);
         match rest {
             None => {
                 let part = self.type_part(&known, 1, Expected::Bool, scope, &mut errors)?;

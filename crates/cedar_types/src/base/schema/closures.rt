@@ -1,28 +1,97 @@
 // Whether what descends from a descendant is a descendant.
-ghost use Rattle.std.specs.Prelude.{◌≡◌};
+ghost use Rattle.std.specs.Prelude.{◌≡◌, ◌||◌, true, IfSome};
 ghost use Rattle.std.specs.List.{list_all};
 ghost use Rattle.cedar_types.specs.Names.{type_of, uid_of};
 ghost use Rattle.cedar_types.specs.Types.{types_of};
-ghost use Rattle.cedar_types.specs.Declarations.{uids_of};
+ghost use Rattle.cedar_types.specs.Declarations.{declared_type, declared_action, uids_of};
 ghost use Rattle.cedar_types.specs.Tables.{types_in, actions_in};
 ghost use Rattle.cedar_types.specs.Schemas.{is_among, uid_is_among, descendants_of, descendants_of_action};
+ghost use Rattle.cedar_types.specs.Closures.{types_are_kept, actions_are_kept, IsTypeBelow, IsActionBelow};
 
 use crate::base::names::entities::{EntityType, EntityUID};
 use crate::base::schema::action_tables::ActionTable;
+use crate::base::schema::actions::ValidatorActionId;
+use crate::base::schema::entity_types::ValidatorEntityType;
 use crate::base::schema::type_tables::EntityTypeTable;
 use std::collections::BTreeSet;
 
 /// Whether each type has the descendants of its descendants.
+///
+/// It looks at a chain of types in a time that is linear in the number of descendants that they declare.
 pub(crate) fn are_types_closed(types: &EntityTypeTable) -> bool
     ensures { result
         ≡ list_all (λ t. list_all (λ d. list_all (is_among (types_of t.descendants))
         (descendants_of (types_in types.now) d)) (types_of t.descendants))
         types.now.declared.items }
 {
-    types
-        .declared
-        .iter()
-        .all(|t| is_type_closed(types, &t.descendants))
+    for entity_type in &types.declared {
+        if !is_type_kept(types, &entity_type.descendants) {
+            return false;
+        }
+    }
+    true
+}
+
+/// Whether these descendants have those of each of them, but for what the smaller set of one of them shows: if all smaller sets
+/// are closed, this one is.
+fn is_type_kept(types: &EntityTypeTable, descendants: &BTreeSet<EntityType>) -> bool
+    ensures kept { result ≡ true
+        → types_are_kept (types_in types.now) (types_of descendants.now) ≡ true }
+    ensures closed { list_all (λ d. list_all (is_among (types_of descendants.now))
+        (descendants_of (types_in types.now) d)) (types_of descendants.now) ≡ true
+        → result ≡ true }
+{
+    match widest_type_below(types, descendants) {
+        Some(widest) => {
+            has_all_types(descendants, &widest.descendants)
+                && are_other_types_closed(types, descendants, &widest.descendants)
+        }
+        None => is_type_closed(types, descendants),
+    }
+}
+
+/// Of these types, one that has fewer descendants than there are types here, and of those one that has the most.
+fn widest_type_below<'a>(
+    types: &'a EntityTypeTable,
+    names: &BTreeSet<EntityType>,
+) -> Option<&'a ValidatorEntityType>
+    ensures { IfSome result (λ t.
+        IsTypeBelow (types_in types.now) (types_of names.now) (declared_type t.now)) }
+{
+    let mut widest = None;
+    for name in names.iter() {
+        if let Some(found) = types.get(name) {
+            if found.descendants.len() < names.len() && is_wider_type(found, widest) {
+                widest = Some(found);
+            }
+        }
+    }
+    widest
+}
+
+fn is_wider_type(found: &ValidatorEntityType, widest: Option<&ValidatorEntityType>) -> bool {
+    match widest {
+        Some(widest) => widest.descendants.len() < found.descendants.len(),
+        None => true,
+    }
+}
+
+/// Whether these descendants have those of each of them that is not among some that are closed.
+fn are_other_types_closed(
+    types: &EntityTypeTable,
+    descendants: &BTreeSet<EntityType>,
+    closed: &BTreeSet<EntityType>,
+) -> bool
+    ensures { result ≡ list_all (λ d. is_among (types_of closed.now) d
+        || list_all (is_among (types_of descendants.now)) (descendants_of (types_in types.now) d))
+        (types_of descendants.now) }
+{
+    for descendant in descendants.iter() {
+        if !(has_type(closed, descendant) || has_descendants_of(types, descendants, descendant)) {
+            return false;
+        }
+    }
+    true
 }
 
 fn is_type_closed(types: &EntityTypeTable, descendants: &BTreeSet<EntityType>) -> bool
@@ -51,15 +120,11 @@ fn has_descendants_of(
     }
 }
 
+/// Whether the one set has all types of the other. Both are walked in order.
 fn has_all_types(types: &BTreeSet<EntityType>, others: &BTreeSet<EntityType>) -> bool
     ensures { result ≡ list_all (is_among (types_of types.now)) (types_of others.now) }
 {
-    for other in others.iter() {
-        if !has_type(types, other) {
-            return false;
-        }
-    }
-    true
+    others.is_subset(types)
 }
 
 /// Whether a set of types has this one.
@@ -70,16 +135,85 @@ pub(crate) fn has_type(types: &BTreeSet<EntityType>, name: &EntityType) -> bool
 }
 
 /// Whether each action has the descendants of its descendants.
+///
+/// It looks at a chain of actions in a time that is linear in the number of descendants that they declare.
 pub(crate) fn are_actions_closed(actions: &ActionTable) -> bool
     ensures { result
         ≡ list_all (λ a. list_all (λ d. list_all (uid_is_among (uids_of a.descendants))
         (descendants_of_action (actions_in actions.now) d)) (uids_of a.descendants))
         actions.now.declared.items }
 {
-    actions
-        .declared
-        .iter()
-        .all(|a| is_action_closed(actions, &a.descendants))
+    for action in &actions.declared {
+        if !is_action_kept(actions, &action.descendants) {
+            return false;
+        }
+    }
+    true
+}
+
+/// Whether these descendants have those of each of them, but for what the smaller set of one of them shows: if all smaller sets
+/// are closed, this one is.
+fn is_action_kept(actions: &ActionTable, descendants: &BTreeSet<EntityUID>) -> bool
+    ensures kept { result ≡ true
+        → actions_are_kept (actions_in actions.now) (uids_of descendants.now) ≡ true }
+    ensures closed { list_all (λ d. list_all (uid_is_among (uids_of descendants.now))
+        (descendants_of_action (actions_in actions.now) d)) (uids_of descendants.now) ≡ true
+        → result ≡ true }
+{
+    match widest_action_below(actions, descendants) {
+        Some(widest) => {
+            has_all_actions(descendants, &widest.descendants)
+                && are_other_actions_closed(actions, descendants, &widest.descendants)
+        }
+        None => is_action_closed(actions, descendants),
+    }
+}
+
+/// Of these actions, one that has fewer descendants than there are actions here, and of those one that has the most.
+fn widest_action_below<'a>(
+    actions: &'a ActionTable,
+    names: &BTreeSet<EntityUID>,
+) -> Option<&'a ValidatorActionId>
+    ensures { IfSome result (λ a.
+        IsActionBelow (actions_in actions.now) (uids_of names.now) (declared_action a.now)) }
+{
+    let mut widest = None;
+    for name in names.iter() {
+        if let Some(found) = actions.get(name) {
+            if found.descendants.len() < names.len() && is_wider_action(found, widest) {
+                widest = Some(found);
+            }
+        }
+    }
+    widest
+}
+
+fn is_wider_action(found: &ValidatorActionId, widest: Option<&ValidatorActionId>) -> bool {
+    match widest {
+        Some(widest) => widest.descendants.len() < found.descendants.len(),
+        None => true,
+    }
+}
+
+/// Whether these descendants have those of each of them that is not among some that are closed.
+fn are_other_actions_closed(
+    actions: &ActionTable,
+    descendants: &BTreeSet<EntityUID>,
+    closed: &BTreeSet<EntityUID>,
+) -> bool
+    ensures { result ≡ list_all (λ d. uid_is_among (uids_of closed.now) d
+        || list_all (uid_is_among (uids_of descendants.now))
+        (descendants_of_action (actions_in actions.now) d))
+        (uids_of descendants.now) }
+{
+    for descendant in descendants.iter() {
+        if !(has_action(closed, descendant)
+            || has_action_descendants_of(actions, descendants, descendant))
+        {
+            return false;
+        }
+    }
+    true
 }
 
 fn is_action_closed(actions: &ActionTable, descendants: &BTreeSet<EntityUID>) -> bool
@@ -108,15 +242,11 @@ fn has_action_descendants_of(
     }
 }
 
+/// Whether the one set has all actions of the other. Both are walked in order.
 fn has_all_actions(actions: &BTreeSet<EntityUID>, others: &BTreeSet<EntityUID>) -> bool
     ensures { result ≡ list_all (uid_is_among (uids_of actions.now)) (uids_of others.now) }
 {
-    for other in others.iter() {
-        if !has_action(actions, other) {
-            return false;
-        }
-    }
-    true
+    others.is_subset(actions)
 }
 
 /// Whether a set of actions has this one.

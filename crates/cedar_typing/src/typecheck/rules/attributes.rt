@@ -1,25 +1,27 @@
 // `has` and `.`.
-ghost use Rattle.std.specs.Prelude.{◌≡◌, [], ◌∷◌, IfOk, option_map};
+ghost use Rattle.std.specs.Prelude.{◌≡◌, [], ◌∷◌, IfOk, IfSome, option_map};
 ghost use Rattle.cedar_types.specs.Names.{text_of};
 ghost use Rattle.cedar_types.specs.Types.{ty_of};
 ghost use Rattle.cedar_types.specs.Tree.{has_attr, get_attr};
 ghost use Rattle.cedar_types.specs.View.{written};
-ghost use Rattle.cedar_types.specs.Capability.{caps, cap_of};
+ghost use Rattle.cedar_types.specs.Capability.{cap_of};
 ghost use Rattle.cedar_types.specs.Lookups.{attribute_type};
 ghost use Rattle.cedar_types.specs.Errors.{unsafe_optional_attribute_access};
 ghost use Rattle.cedar_typing.specs.Rules.Attributes.{attribute_of, declared_has, undeclared_has, has_table, get_decides, get_table, undeclared_get};
 ghost use Rattle.cedar_typing.specs.TypeEnv.{finding};
 ghost use Rattle.cedar_typing.specs.TypedExpr.{typed_as, typed_tree};
 ghost use Rattle.cedar_typing.specs.Views.{env_at, at, decision_of, findings};
+ghost use Rattle.cedar_typing.specs.Priors.{known_in};
 
 use crate::typecheck::capabilities::{no_capabilities, one_capability};
+use crate::typecheck::prior::Prior;
 use crate::typecheck::rules::eager::Decision;
 use crate::typecheck::type_env::TypeEnv;
 use crate::typecheck::type_tests::{any_bool, is_record_type};
 use cedar_types::base::{
     BoolType, CedarType, Expr, ExprKind, Loc, ValidationError, ValidationMode,
 };
-use cedar_types::types::capability::{Capability, CapabilitySet};
+use cedar_types::types::capability::Capability;
 use std::alloc::{AllocError, Global};
 use std::rc::RcStr;
 
@@ -34,14 +36,14 @@ impl TypeEnv<'_, '_, '_, '_> {
     /// The type of `base has attr` by that of the base, and that the attribute is there, where it is declared.
     pub(crate) fn decide_has<'a>(
         &self,
-        prior: &CapabilitySet<'a>,
+        prior: &Prior<'_, 'a>,
         base: &'a Expr,
         attr: &RcStr,
         found: &Option<CedarType>,
     ) -> Result<Decision<'a>, AllocError>
         ensures { IfOk result (λ d. decision_of d
             ≡ has_table (env_at self.now) (text_of attr.now) (attribute_of (written base.now) (text_of attr.now))
-            (caps prior.now (attribute_of (written base.now) (text_of attr.now))) (option_map ty_of found.now)) }
+            (known_in prior.now (attribute_of (written base.now) (text_of attr.now))) (option_map ty_of found.now)) }
     {
         let Some(owner) = found else {
             return Ok(Decision::Gives(any_bool(), no_capabilities(self.alloc)));
@@ -92,7 +94,7 @@ impl TypeEnv<'_, '_, '_, '_> {
     /// The type of `base.attr` by that of the base, or an error at `loc`.
     pub(crate) fn decide_get<'a>(
         &self,
-        prior: &CapabilitySet<'a>,
+        prior: &Prior<'_, 'a>,
         loc: Option<Loc>,
         base: &'a Expr,
         attr: &RcStr,
@@ -100,14 +102,38 @@ impl TypeEnv<'_, '_, '_, '_> {
     ) -> Result<Decision<'a>, AllocError>
         ensures { IfOk result (λ d. decision_of d
             ≡ get_table (env_at self.now) loc (text_of attr.now)
-            (caps prior.now (attribute_of (written base.now) (text_of attr.now))) (option_map ty_of found.now)) }
+            (known_in prior.now (attribute_of (written base.now) (text_of attr.now))) (option_map ty_of found.now)) }
     {
         let Some(owner) = found else {
             return Ok(Decision::Refuses(None, Vec::new(self.alloc)));
         };
+        // What is required needs no guard, so nothing is asked of what is known: a question costs a walk over the base.
+        if let Some(decision) = self.decide_required(owner, attr)? {
+            return Ok(decision);
+        }
         let is_known = prior.contains(&attribute_of(base, attr)?);
         let decision = self.decide_access(loc, attr, owner, is_known)?;
         Ok(decision)
+    }
+
+    /// The same of a base of this type that requires the attribute, whatever is known; `None` of any other.
+    fn decide_required<'a>(
+        &self,
+        owner: &CedarType,
+        attr: &RcStr,
+    ) -> Result<Option<Decision<'a>>, AllocError>
+        ensures { IfOk result (λ o. IfSome o (λ d. (l : _) → (known : _)
+            → decision_of d
+            ≡ get_decides (env_at self.now) l (text_of attr.now) known (ty_of owner.now)
+            (attribute_type (env_at self.now).schema (ty_of owner.now) (text_of attr.now)))) }
+    {
+        match CedarType::lookup_attribute_type(self.alloc, self.schema, owner, attr)? {
+            Some(found) if found.is_required => {
+                let decision = Decision::Gives(found.attr_type, no_capabilities(self.alloc));
+                Ok(Some(decision))
+            }
+            _ => Ok(None),
+        }
     }
 
     /// The same of a base of this type, where it is known or not that the attribute is there.

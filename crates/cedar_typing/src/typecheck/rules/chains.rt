@@ -9,9 +9,11 @@ ghost use Rattle.cedar_typing.specs.Capabilities.{union};
 ghost use Rattle.cedar_typing.specs.Rules.Attributes.{attribute_of, get_decides};
 ghost use Rattle.cedar_typing.specs.Rules.Chains.{no_steps, step_type, step_earns, with_step, step, end_of_chain, made_up, link, after_access, chain_table};
 ghost use Rattle.cedar_typing.specs.Views.{env_at, decision_of, progress_of, by_step, by_link, GoesOnAt};
+ghost use Rattle.cedar_typing.specs.Priors.{known_in};
 
 use crate::typecheck::capabilities::no_capabilities;
 use crate::typecheck::operands::Expected;
+use crate::typecheck::prior::Prior;
 use crate::typecheck::rules::attributes::declared_type;
 use crate::typecheck::rules::eager::{Decision, gives, refuses_with};
 use crate::typecheck::rules::leaves::bool_type;
@@ -105,9 +107,9 @@ fn owned_attribute<'a>(alloc: Global, e: &Expr, attr: &RcStr) -> Result<Capabili
 }
 
 /// Whether it is known that the attribute is there: before, or by steps of this chain.
-fn knows<'a>(prior: &CapabilitySet<'a>, progress: &Progress<'a>, there: &Capability<'a>) -> bool
+fn knows<'a>(prior: &Prior<'_, 'a>, progress: &Progress<'a>, there: &Capability<'a>) -> bool
     ensures { result
-        ≡ union (caps prior.now) (caps progress.now.earned) (cap_of there.now) }
+        ≡ union (known_in prior.now) (caps progress.now.earned) (cap_of there.now) }
 {
     prior.contains(there) | progress.earned.contains(there)
 }
@@ -117,14 +119,14 @@ impl TypeEnv<'_, '_, '_, '_> {
     /// those of later ones at `loc`.
     pub(crate) fn decide_chain<'a>(
         &self,
-        prior: &CapabilitySet<'a>,
+        prior: &Prior<'_, 'a>,
         loc: Option<Loc>,
         base: &Expr,
         attrs: &AttrChain,
         found: &Option<CedarType>,
     ) -> Result<Decision<'a>, AllocError>
         ensures { IfOk result (λ d. decision_of d
-            ≡ chain_table (env_at self.now) loc (caps prior.now) (written base.now)
+            ≡ chain_table (env_at self.now) loc (known_in prior.now) (written base.now)
             (chain_of attrs.now).0 (chain_of attrs.now).1 (option_map ty_of found.now)) }
     {
         let Some(ty) = found else {
@@ -155,7 +157,7 @@ impl TypeEnv<'_, '_, '_, '_> {
     /// The last step, with errors at `place`.
     fn last_step<'a>(
         &self,
-        prior: &CapabilitySet<'a>,
+        prior: &Prior<'_, 'a>,
         place: Option<Loc>,
         reached: &Reached,
         attr: &RcStr,
@@ -163,7 +165,7 @@ impl TypeEnv<'_, '_, '_, '_> {
     ) -> Result<Decision<'a>, AllocError>
         ensures { IfOk result (λ d. decision_of d
             ≡ step (env_at self.now) place (attribute_of (written reached.now.e) (text_of attr.now))
-            (union (caps prior.now) (caps progress.entry.earned) (attribute_of (written reached.now.e) (text_of attr.now)))
+            (union (known_in prior.now) (caps progress.entry.earned) (attribute_of (written reached.now.e) (text_of attr.now)))
             (ty_of reached.now.ty) (text_of attr.now) (progress_of progress.entry) end_of_chain) }
     {
         match self.step(prior, place, reached, attr, progress)? {
@@ -175,7 +177,7 @@ impl TypeEnv<'_, '_, '_, '_> {
     /// A step that is not the last, and the access after it, with errors at `place`.
     fn link<'a>(
         &self,
-        prior: &CapabilitySet<'a>,
+        prior: &Prior<'_, 'a>,
         place: Option<Loc>,
         reached: Reached,
         attr: &RcStr,
@@ -183,7 +185,7 @@ impl TypeEnv<'_, '_, '_, '_> {
     ) -> Result<Link<'a>, AllocError>
         ensures goes_on { IfOk result (λ r. (next : _) →
             by_link r next
-            ≡ link (env_at self.now) place (caps prior.now) (written reached.e) (ty_of reached.ty)
+            ≡ link (env_at self.now) place (known_in prior.now) (written reached.e) (ty_of reached.ty)
             (text_of attr.now) (progress_of progress.entry) next) }
         ensures comes_to { IfOk result (λ r.
             GoesOnAt (made_up (written reached.e) (text_of attr.now)) r) }
@@ -200,7 +202,7 @@ impl TypeEnv<'_, '_, '_, '_> {
     /// The access after a step, with errors at `place`.
     fn access<'a>(
         &self,
-        prior: &CapabilitySet<'a>,
+        prior: &Prior<'_, 'a>,
         place: Option<Loc>,
         reached: Reached,
         attr: &RcStr,
@@ -210,7 +212,7 @@ impl TypeEnv<'_, '_, '_, '_> {
             by_link r next
             ≡ after_access
             (get_decides (env_at self.now) place (text_of attr.now)
-            (union (caps prior.now) (caps progress.entry.earned) (attribute_of (written reached.e) (text_of attr.now)))
+            (union (known_in prior.now) (caps progress.entry.earned) (attribute_of (written reached.e) (text_of attr.now)))
             (ty_of reached.ty) (attribute_type (env_at self.now).schema (ty_of reached.ty) (text_of attr.now)))
             (λ t. next t (progress_of progress.entry))) }
         ensures comes_to { IfOk result (λ r.
@@ -232,7 +234,7 @@ impl TypeEnv<'_, '_, '_, '_> {
     /// One step, with its error at `place`.
     fn step<'a>(
         &self,
-        prior: &CapabilitySet<'a>,
+        prior: &Prior<'_, 'a>,
         place: Option<Loc>,
         reached: &Reached,
         attr: &RcStr,
@@ -241,7 +243,7 @@ impl TypeEnv<'_, '_, '_, '_> {
         ensures { IfOk result (λ r. (next : _) →
             by_step r next
             ≡ step (env_at self.now) place (attribute_of (written reached.now.e) (text_of attr.now))
-            (union (caps prior.now) (caps progress.entry.earned) (attribute_of (written reached.now.e) (text_of attr.now)))
+            (union (known_in prior.now) (caps progress.entry.earned) (attribute_of (written reached.now.e) (text_of attr.now)))
             (ty_of reached.now.ty) (text_of attr.now) (progress_of progress.entry) next) }
     {
         if !is_object_type(&reached.ty) {

@@ -14,10 +14,12 @@ ghost use Rattle.cedar_typing.specs.Judgments.{max_nesting};
 ghost use Rattle.cedar_typing.specs.TypedExpr.{annotation, typed_tree, typed_as};
 ghost use Rattle.cedar_typing.specs.SettingViews.{setting_at};
 ghost use Rattle.cedar_typing.specs.Views.{env_at, answer_of, part_of, findings, at};
+ghost use Rattle.cedar_typing.specs.Priors.{known_in};
 
 use crate::typecheck::answer::{Part, TypecheckAnswer};
 use crate::typecheck::capabilities::{intersection_of, union_of};
 use crate::typecheck::operands::Expected;
+use crate::typecheck::prior::Prior;
 use crate::typecheck::single_env::SingleEnvTypechecker;
 use crate::typecheck::type_env::TypeEnv;
 use crate::typecheck::type_tests::{is_typed_false, is_typed_true};
@@ -25,7 +27,6 @@ use crate::typecheck::typed_nodes::with_capabilities;
 use cedar_types::base::{
     ArgumentCheck, CedarType, Expr, ExprKind, Loc, LubContext, ValidationError,
 };
-use cedar_types::types::capability::CapabilitySet;
 use std::alloc::{AllocError, Global};
 use std::rc::Rc;
 
@@ -33,7 +34,7 @@ impl<C: ArgumentCheck> SingleEnvTypechecker<'_, '_, '_, '_, C> {
     #[cycle(typing)]
     pub(crate) fn type_if<'a>(
         &self,
-        prior: &CapabilitySet<'a>,
+        prior: &Prior<'_, 'a>,
         depth: usize,
         loc: Option<Loc>,
         test: &'a Expr,
@@ -45,14 +46,14 @@ impl<C: ArgumentCheck> SingleEnvTypechecker<'_, '_, '_, '_, C> {
         ensures { IfOk result (λ r.
             infer_within (setting_at C.refusal self.now)
             (if_then_else (at loc) (written test.now) (written then_expr.now)
-            (written else_expr.now)) (caps prior.now) depth (findings errors.old.items)
+            (written else_expr.now)) (known_in prior.now) depth (findings errors.old.items)
             ≡ (answer_of r, findings errors.new.items)) }
     {
         let Some(test) = self.type_part(prior, depth + 1, Expected::Bool, test, errors)? else {
             return Ok(TypecheckAnswer::RecursionLimit);
         };
         if is_typed_true(&test.typed) {
-            let known = union_of(self.env.alloc, prior, &test.capabilities)?;
+            let known = (&*prior).with(&test.capabilities);
             let branch = self.typecheck(&known, depth + 1, then_expr, errors)?;
             let branch = branch.into_part(self.env.alloc)?;
             let Some(branch) = branch else {
@@ -70,7 +71,7 @@ impl<C: ArgumentCheck> SingleEnvTypechecker<'_, '_, '_, '_, C> {
             let answer = false_test_answer(self.env.alloc, loc, test, branch)?;
             return Ok(answer);
         }
-        let known = union_of(self.env.alloc, prior, &test.capabilities)?;
+        let known = (&*prior).with(&test.capabilities);
         let one = self.typecheck(&known, depth + 1, then_expr, errors)?;
         let one = one.into_part(self.env.alloc)?;
         let other = self.typecheck(prior, depth + 1, else_expr, errors)?;
@@ -122,7 +123,7 @@ impl TypeEnv<'_, '_, '_, '_> {
     {
         let ty = self.joined_type(loc, &one.typed.annotation, &other.typed.annotation, errors)?;
         let succeeded = test.succeeded & one.succeeded & other.succeeded & ty.is_some();
-        let known = union_of(self.alloc, &test.capabilities, &one.capabilities)?;
+        let known = union_of(test.capabilities, one.capabilities)?;
         let capabilities = intersection_of(self.alloc, &other.capabilities, &known)?;
         let typed = open_test_node(self.alloc, loc, ty, test.typed, one.typed, other.typed)?;
         Ok(with_capabilities(succeeded, typed, capabilities))
@@ -195,7 +196,7 @@ fn true_test_answer<'a>(
         ≡ infer_constant_test (at loc) (part_of test.entry) (part_of branch.entry)
         (union (caps test.entry.capabilities) (caps branch.entry.capabilities))) }
 {
-    let known = union_of(alloc, &test.capabilities, &branch.capabilities)?;
+    let known = union_of(test.capabilities, branch.capabilities)?;
     let succeeded = test.succeeded & branch.succeeded;
     let typed = constant_test_node(alloc, loc, test.typed, branch.typed)?;
     Ok(with_capabilities(succeeded, typed, known))

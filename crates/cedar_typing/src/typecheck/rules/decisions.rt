@@ -2,16 +2,16 @@
 ghost use Rattle.std.specs.Prelude.{◌≡◌, [], ◌∷◌, IfOk, option_map};
 ghost use Rattle.cedar_types.specs.Types.{ty_of};
 ghost use Rattle.cedar_types.specs.View.{written};
-ghost use Rattle.cedar_types.specs.Capability.{caps};
 ghost use Rattle.cedar_typing.specs.Views.{env_at, at, decision_of, form_of_two};
+ghost use Rattle.cedar_typing.specs.Priors.{known_in};
 
+use crate::typecheck::prior::Prior;
 use crate::typecheck::rules::eager::{Decision, gives, gives_unless};
 use crate::typecheck::rules::equality::member_type;
 use crate::typecheck::rules::two_operands::TwoOperands;
 use crate::typecheck::type_env::TypeEnv;
 use crate::typecheck::type_tests::any_bool;
 use cedar_types::base::{CedarType, Expr, Loc, LubContext};
-use cedar_types::types::capability::CapabilitySet;
 use std::alloc::AllocError;
 
 /// The operands, as they were written.
@@ -25,7 +25,7 @@ impl TypeEnv<'_, '_, '_, '_> {
     /// What the form's table says, by the types of its operands.
     pub(crate) fn decide_two<'a>(
         &self,
-        prior: &CapabilitySet<'a>,
+        prior: &Prior<'_, 'a>,
         loc: Option<Loc>,
         form: TwoOperands,
         operands: Operands<'a>,
@@ -33,7 +33,7 @@ impl TypeEnv<'_, '_, '_, '_> {
         other: &Option<CedarType>,
     ) -> Result<Decision<'a>, AllocError>
         ensures { IfOk result (λ d. decision_of d
-            ≡ (form_of_two (env_at self.now) (at loc) (caps prior.now)
+            ≡ (form_of_two (env_at self.now) (at loc) (known_in prior.now)
             (written operands.entry.left.now) (written operands.entry.right.now) form).decides
             (option_map ty_of found.now ∷ option_map ty_of other.now ∷ [])) }
     {

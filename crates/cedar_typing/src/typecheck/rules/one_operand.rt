@@ -2,16 +2,17 @@
 ghost use Rattle.std.specs.Prelude.{◌≡◌, ◌≤◌, [], ◌∷◌, Some, IfOk, option_map};
 ghost use Rattle.cedar_types.specs.Types.{ty_of};
 ghost use Rattle.cedar_types.specs.View.{written};
-ghost use Rattle.cedar_types.specs.Capability.{caps};
 ghost use Rattle.cedar_typing.specs.Eager.{first_expectation};
 ghost use Rattle.cedar_typing.specs.Infer.Eager.{infer_decided};
 ghost use Rattle.cedar_typing.specs.Judgments.{max_nesting};
 ghost use Rattle.cedar_typing.specs.TypedExpr.{annotation, typed_as, typed_tree};
 ghost use Rattle.cedar_typing.specs.SettingViews.{setting_at, infer_one};
 ghost use Rattle.cedar_typing.specs.Views.{env_at, expected_types, answer_of, part_of, findings, decision_of, form_of_one, mark_of_one};
+ghost use Rattle.cedar_typing.specs.Priors.{known_in};
 
 use crate::typecheck::answer::{Part, TypecheckAnswer};
 use crate::typecheck::operands::Expected;
+use crate::typecheck::prior::Prior;
 use crate::typecheck::rules::attributes::{get_node, has_node};
 use crate::typecheck::rules::eager::{Decision, add_errors, gives};
 use crate::typecheck::rules::unary::{decide_is, decide_not, is_node, like_node, unary_node};
@@ -23,7 +24,6 @@ use cedar_types::base::{
     ArgumentCheck, AttrChain, CedarType, EntityType, Expr, Loc, PatternElem, UnaryOp,
     ValidationError,
 };
-use cedar_types::types::capability::CapabilitySet;
 use std::alloc::{AllocError, Global};
 use std::rc::RcStr;
 
@@ -92,7 +92,7 @@ impl<C: ArgumentCheck> SingleEnvTypechecker<'_, '_, '_, '_, C> {
     #[cycle(typing)]
     pub(crate) fn type_one_operand<'a>(
         &self,
-        prior: &CapabilitySet<'a>,
+        prior: &Prior<'_, 'a>,
         depth: usize,
         loc: Option<Loc>,
         form: OneOperand<'_>,
@@ -101,7 +101,7 @@ impl<C: ArgumentCheck> SingleEnvTypechecker<'_, '_, '_, '_, C> {
     ) -> Result<TypecheckAnswer<'a>, AllocError>
         requires { depth ≤ max_nesting }
         ensures { IfOk result (λ r.
-            infer_one (setting_at C.refusal self.now) (mark_of_one loc form.entry) (caps prior.now) (written operand.now) depth form.entry
+            infer_one (setting_at C.refusal self.now) (mark_of_one loc form.entry) (known_in prior.now) (written operand.now) depth form.entry
             (findings errors.old.items)
             ≡ (answer_of r, findings errors.new.items)) }
     {
@@ -121,7 +121,7 @@ impl TypeEnv<'_, '_, '_, '_> {
     /// A form with one operand, at `loc`, where the operand is typed.
     fn one_answer<'a>(
         &self,
-        prior: &CapabilitySet<'a>,
+        prior: &Prior<'_, 'a>,
         loc: Option<Loc>,
         form: OneOperand<'_>,
         operand: &'a Expr,
@@ -129,9 +129,9 @@ impl TypeEnv<'_, '_, '_, '_> {
         errors: &mut Vec<ValidationError>,
     ) -> Result<TypecheckAnswer<'a>, AllocError>
         ensures { IfOk result (λ r.
-            infer_decided (form_of_one (env_at self.now) (mark_of_one loc form.entry) (caps prior.now) (written operand.now) form.entry)
+            infer_decided (form_of_one (env_at self.now) (mark_of_one loc form.entry) (known_in prior.now) (written operand.now) form.entry)
             part.entry.succeeded (typed_tree part.entry.typed.value ∷ []) (findings errors.old.items)
-            ((form_of_one (env_at self.now) (mark_of_one loc form.entry) (caps prior.now) (written operand.now) form.entry).decides
+            ((form_of_one (env_at self.now) (mark_of_one loc form.entry) (known_in prior.now) (written operand.now) form.entry).decides
             (annotation (typed_tree part.entry.typed.value) ∷ []))
             ≡ (answer_of r, findings errors.new.items)) }
     {
@@ -151,14 +151,14 @@ impl TypeEnv<'_, '_, '_, '_> {
     /// What the form's table says, by the type of its operand.
     fn decide_one<'a>(
         &self,
-        prior: &CapabilitySet<'a>,
+        prior: &Prior<'_, 'a>,
         loc: Option<Loc>,
         form: OneOperand<'_>,
         operand: &'a Expr,
         found: &Option<CedarType>,
     ) -> Result<Decision<'a>, AllocError>
         ensures { IfOk result (λ d. decision_of d
-            ≡ (form_of_one (env_at self.now) (mark_of_one loc form.entry) (caps prior.now) (written operand.now) form.entry).decides
+            ≡ (form_of_one (env_at self.now) (mark_of_one loc form.entry) (known_in prior.now) (written operand.now) form.entry).decides
             (option_map ty_of found.now ∷ [])) }
     {
         match form {

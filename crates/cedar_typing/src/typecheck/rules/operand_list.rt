@@ -1,6 +1,5 @@
 // Operands of any number, one after another: the elements of a set, the arguments of a call.
 ghost use Rattle.std.specs.Prelude.{◌≡◌, ◌≤◌, ◌+◌, true, [], IfOk, map, option_map};
-ghost use Rattle.cedar_types.specs.Capability.{caps};
 ghost use Rattle.cedar_types.specs.Types.{ty_of};
 ghost use Rattle.cedar_types.specs.View.{trees_of, written};
 ghost use Rattle.cedar_typing.specs.Infer.{infer_all};
@@ -9,12 +8,13 @@ ghost use Rattle.cedar_typing.specs.Judgments.{max_nesting};
 ghost use Rattle.cedar_typing.specs.Rules.Calls.{expected_arguments};
 ghost use Rattle.cedar_typing.specs.SettingViews.{setting_at};
 ghost use Rattle.cedar_typing.specs.Views.{expected_types, findings, first_wanted, later_types, operands_of, part_of, with_element};
+ghost use Rattle.cedar_typing.specs.Priors.{known_in};
 
 use crate::typecheck::answer::Part;
 use crate::typecheck::operands::Expected;
+use crate::typecheck::prior::Prior;
 use crate::typecheck::single_env::SingleEnvTypechecker;
 use cedar_types::base::{ArgumentCheck, CedarType, Expr, ValidationError};
-use cedar_types::types::capability::CapabilitySet;
 use std::alloc::{AllocError, Global};
 
 /// What operands, one after another, resulted in.
@@ -75,7 +75,7 @@ impl<C: ArgumentCheck> SingleEnvTypechecker<'_, '_, '_, '_, C> {
     #[cycle(typing)]
     pub(crate) fn type_operands<'a>(
         &self,
-        prior: &CapabilitySet<'a>,
+        prior: &Prior<'_, 'a>,
         depth: usize,
         goes_on: bool,
         types: &[CedarType],
@@ -87,7 +87,7 @@ impl<C: ArgumentCheck> SingleEnvTypechecker<'_, '_, '_, '_, C> {
             infer_all (setting_at C.refusal self.now) goes_on
             (expected_arguments (map ty_of types.now) (map written operands.now.items))
             (trees_of (map written operands.now.items))
-            (caps prior.now) (depth + 1) (findings errors.old.items)
+            (known_in prior.now) (depth + 1) (findings errors.old.items)
             ≡ (operands_of r, findings errors.new.items)) }
     {
         let mut all = OperandList::none(self.env.alloc);

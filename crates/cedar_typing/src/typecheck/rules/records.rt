@@ -1,6 +1,5 @@
 // Records: the values of the fields one after another, and what their types say of the whole.
 ghost use Rattle.std.specs.Prelude.{◌≡◌, ◌≤◌, ◌+◌, false, IfOk, option_map};
-ghost use Rattle.cedar_types.specs.Capability.{caps};
 ghost use Rattle.cedar_types.specs.Tree.{record_of};
 ghost use Rattle.cedar_types.specs.Types.{ty_of};
 ghost use Rattle.cedar_types.specs.View.{fields_written};
@@ -12,8 +11,10 @@ ghost use Rattle.cedar_typing.specs.Rules.Collections.{all_types, field_keys, fi
 ghost use Rattle.cedar_typing.specs.TypedExpr.{typed_as, typed_tree};
 ghost use Rattle.cedar_typing.specs.SettingViews.{setting_at};
 ghost use Rattle.cedar_typing.specs.Views.{answer_of, at, decision_without_errors, env_at, field_operands, findings, keys_in, trees_in};
+ghost use Rattle.cedar_typing.specs.Priors.{known_in};
 
 use crate::typecheck::answer::TypecheckAnswer;
+use crate::typecheck::prior::Prior;
 use crate::typecheck::single_env::SingleEnvTypechecker;
 use crate::typecheck::type_env::TypeEnv;
 use crate::typecheck::typed_nodes::without_capabilities;
@@ -21,7 +22,6 @@ use cedar_types::base::{
     ArgumentCheck, AttributeType, Attributes, CedarType, Expr, ExprKind, Loc, OpenTag,
     ValidationError,
 };
-use cedar_types::types::capability::CapabilitySet;
 use std::alloc::{AllocError, Global};
 use std::collections::BTreeMap;
 use std::rc::RcStr;
@@ -42,7 +42,7 @@ impl<C: ArgumentCheck> SingleEnvTypechecker<'_, '_, '_, '_, C> {
     #[cycle(typing)]
     pub(crate) fn type_record<'a>(
         &self,
-        prior: &CapabilitySet<'a>,
+        prior: &Prior<'_, 'a>,
         depth: usize,
         loc: Option<Loc>,
         fields: &'a BTreeMap<RcStr, Expr>,
@@ -53,7 +53,7 @@ impl<C: ArgumentCheck> SingleEnvTypechecker<'_, '_, '_, '_, C> {
             infer_eager (record_form (setting_at C.refusal self.now).env (at loc)
             (field_keys (fields_written fields.now.entries)))
             (infer_fields (setting_at C.refusal self.now) (fields_written fields.now.entries)
-            (caps prior.now) (depth + 1)) (findings errors.old.items)
+            (known_in prior.now) (depth + 1)) (findings errors.old.items)
             ≡ (answer_of r, findings errors.new.items)) }
     {
         let values = self.type_fields(prior, depth, fields, errors)?;
@@ -66,14 +66,14 @@ impl<C: ArgumentCheck> SingleEnvTypechecker<'_, '_, '_, '_, C> {
     #[cycle(typing)]
     fn type_fields<'a>(
         &self,
-        prior: &CapabilitySet<'a>,
+        prior: &Prior<'_, 'a>,
         depth: usize,
         fields: &'a BTreeMap<RcStr, Expr>,
         errors: &mut Vec<ValidationError>,
     ) -> Result<FieldValues, AllocError>
         requires { depth ≤ max_nesting }
         ensures typed { IfOk result (λ r.
-            infer_fields (setting_at C.refusal self.now) (fields_written fields.now.entries) (caps prior.now)
+            infer_fields (setting_at C.refusal self.now) (fields_written fields.now.entries) (known_in prior.now)
             (depth + 1) (findings errors.old.items)
             ≡ (field_operands r, findings errors.new.items)) }
         ensures keys { IfOk result (λ r. r.is_cut ≡ false

@@ -11,12 +11,12 @@ ghost use Rattle.cedar_typing.specs.TypeTests.{annotation_passes};
 ghost use Rattle.cedar_typing.specs.TypedExpr.{annotation, at_place, typed, typed_tree};
 ghost use Rattle.cedar_typing.specs.SettingViews.{setting_at, infer_connective};
 ghost use Rattle.cedar_typing.specs.Views.{answer_of, part_of, findings, at, connective_of, side_seen};
+ghost use Rattle.cedar_typing.specs.Priors.{known_in};
 
 use crate::typecheck::answer::{Part, TypecheckAnswer};
-use crate::typecheck::capabilities::{
-    intersection_of, no_capabilities, same_capabilities, union_of,
-};
+use crate::typecheck::capabilities::{intersection_of, no_capabilities, union_of};
 use crate::typecheck::operands::Expected;
+use crate::typecheck::prior::Prior;
 use crate::typecheck::single_env::SingleEnvTypechecker;
 use crate::typecheck::type_env::TypeEnv;
 use crate::typecheck::type_tests::{any_bool, is_false_type, is_true_type};
@@ -92,19 +92,17 @@ impl Connective {
 
     /// What is known on the right beside what is known before: `b` of `a && b` is evaluated only where `a` is true, and
     /// `b` of `a || b` only where it is false.
-    fn known_on_right<'a>(
+    fn known_on_right<'x, 'a>(
         self,
-        alloc: Global,
-        prior: &CapabilitySet<'a>,
-        left: &CapabilitySet<'a>,
-    ) -> Result<CapabilitySet<'a>, AllocError>
-        ensures { IfOk result (λ c.
-            caps c
-            ≡ (connective_of self).right_prior (caps prior.now) (caps left.now)) }
+        prior: &'x Prior<'x, 'a>,
+        left: &'x CapabilitySet<'a>,
+    ) -> Prior<'x, 'a>
+        ensures { known_in result
+            ≡ (connective_of self).right_prior (known_in prior.now) (caps left.now) }
     {
         match self {
-            Connective::And => union_of(alloc, prior, left),
-            Connective::Or => same_capabilities(alloc, prior),
+            Connective::And => prior.with(left),
+            Connective::Or => *prior,
         }
     }
 
@@ -123,21 +121,21 @@ impl Connective {
         self,
         alloc: Global,
         side: Side,
-        left: &CapabilitySet<'a>,
-        right: &CapabilitySet<'a>,
+        left: CapabilitySet<'a>,
+        right: CapabilitySet<'a>,
     ) -> Result<CapabilitySet<'a>, AllocError>
         ensures { IfOk result (λ c. caps c
-            ≡ (connective_of self).side_caps (side_seen side) (caps left.now) (caps right.now)) }
+            ≡ (connective_of self).side_caps (side_seen side) (caps left.entry) (caps right.entry)) }
     {
         match (self, side) {
             (Connective::And, Side::RightEnds) => Ok(no_capabilities(alloc)),
-            (Connective::And, Side::LeftAlone) => union_of(alloc, left, right),
-            (Connective::And, Side::RightAlone) => union_of(alloc, left, right),
-            (Connective::And, Side::Neither) => union_of(alloc, left, right),
-            (Connective::Or, Side::LeftAlone) => same_capabilities(alloc, left),
-            (Connective::Or, Side::RightEnds) => same_capabilities(alloc, right),
-            (Connective::Or, Side::RightAlone) => same_capabilities(alloc, right),
-            (Connective::Or, Side::Neither) => intersection_of(alloc, left, right),
+            (Connective::And, Side::LeftAlone) => union_of(left, right),
+            (Connective::And, Side::RightAlone) => union_of(left, right),
+            (Connective::And, Side::Neither) => union_of(left, right),
+            (Connective::Or, Side::LeftAlone) => Ok(left),
+            (Connective::Or, Side::RightEnds) => Ok(right),
+            (Connective::Or, Side::RightAlone) => Ok(right),
+            (Connective::Or, Side::Neither) => intersection_of(alloc, &left, &right),
         }
     }
 
@@ -169,7 +167,7 @@ impl<C: ArgumentCheck> SingleEnvTypechecker<'_, '_, '_, '_, C> {
     #[cycle(typing)]
     pub(crate) fn type_short_circuit<'a>(
         &self,
-        prior: &CapabilitySet<'a>,
+        prior: &Prior<'_, 'a>,
         depth: usize,
         loc: Option<Loc>,
         connective: Connective,
@@ -180,7 +178,7 @@ impl<C: ArgumentCheck> SingleEnvTypechecker<'_, '_, '_, '_, C> {
         requires { depth ≤ max_nesting }
         ensures { IfOk result (λ r.
             infer_connective (setting_at C.refusal self.now) (connective_of connective) (at loc) (written left.now)
-            (written right.now) (caps prior.now) depth (findings errors.old.items)
+            (written right.now) (known_in prior.now) depth (findings errors.old.items)
             ≡ (answer_of r, findings errors.new.items)) }
     {
         let Some(left) = self.type_part(prior, depth + 1, Expected::Bool, left, errors)? else {
@@ -189,7 +187,7 @@ impl<C: ArgumentCheck> SingleEnvTypechecker<'_, '_, '_, '_, C> {
         if connective.ends_with(&left.typed) {
             return Ok(self.env.ended_answer(loc, connective, left));
         }
-        let known = connective.known_on_right(self.env.alloc, prior, &left.capabilities)?;
+        let known = connective.known_on_right(&*prior, &left.capabilities);
         let part = self.type_part(&known, depth + 1, Expected::Bool, right, errors)?;
         let Some(right) = part else {
             return Ok(TypecheckAnswer::RecursionLimit);
@@ -238,8 +236,8 @@ impl TypeEnv<'_, '_, '_, '_> {
                 let produced = connective.capabilities(
                     self.alloc,
                     side,
-                    &left.capabilities,
-                    &right.capabilities,
+                    left.capabilities,
+                    right.capabilities,
                 )?;
                 let succeeded = left.succeeded & right.succeeded;
                 let typed = connective.node(loc, ty, left.typed, right.typed);

@@ -1,7 +1,7 @@
 // `hasTag` and `getTag`.
 ghost use Rattle.std.specs.Prelude.{◌≡◌, [], ◌∷◌, None, IfOk, map, option_map};
 ghost use Rattle.cedar_types.specs.Bounds.{list_lub};
-ghost use Rattle.cedar_types.specs.Capability.{caps, cap_of};
+ghost use Rattle.cedar_types.specs.Capability.{cap_of};
 ghost use Rattle.cedar_types.specs.Errors.{internal_invariant_violation};
 ghost use Rattle.cedar_types.specs.Lookups.{tag_types};
 ghost use Rattle.cedar_types.specs.Names.{type_of};
@@ -11,15 +11,17 @@ ghost use Rattle.cedar_typing.specs.Eager.{refuses};
 ghost use Rattle.cedar_typing.specs.Rules.Tags.{tag_of, has_tag_type, has_tag_table, types_named, only_type, get_known_tag, get_tag_table};
 ghost use Rattle.cedar_typing.specs.TypeEnv.{finding};
 ghost use Rattle.cedar_typing.specs.Views.{env_at, decision_of};
+ghost use Rattle.cedar_typing.specs.Priors.{known_in};
 
 use crate::typecheck::capabilities::one_capability;
+use crate::typecheck::prior::Prior;
 use crate::typecheck::rules::eager::{Decision, gives, refuses_with};
 use crate::typecheck::type_env::TypeEnv;
 use crate::typecheck::type_tests::{any_bool, is_never_type, named_types};
 use cedar_types::base::{
     BoolType, CedarType, EntityLUB, EntityType, Expr, Loc, LubContext, ValidationError,
 };
-use cedar_types::types::capability::{Capability, CapabilitySet};
+use cedar_types::types::capability::Capability;
 use std::alloc::{AllocError, Global};
 use std::collections::BTreeSet;
 
@@ -34,7 +36,7 @@ impl TypeEnv<'_, '_, '_, '_> {
     /// The type of `left.hasTag(right)` by that of the left, and that the tag is there.
     pub(crate) fn decide_has_tag<'a>(
         &self,
-        prior: &CapabilitySet<'a>,
+        prior: &Prior<'_, 'a>,
         loc: Option<Loc>,
         left: &'a Expr,
         right: &'a Expr,
@@ -42,7 +44,7 @@ impl TypeEnv<'_, '_, '_, '_> {
     ) -> Result<Decision<'a>, AllocError>
         ensures { IfOk result (λ d. decision_of d
             ≡ has_tag_table (env_at self.now) loc (tag_of (written left.now) (written right.now))
-            (caps prior.now (tag_of (written left.now) (written right.now)))
+            (known_in prior.now (tag_of (written left.now) (written right.now)))
             (option_map ty_of found.now)) }
     {
         let Some(ty) = found else {
@@ -61,7 +63,7 @@ impl TypeEnv<'_, '_, '_, '_> {
     /// The type of `left.getTag(right)` by that of the left, or an error at `loc`.
     pub(crate) fn decide_get_tag<'a>(
         &self,
-        prior: &CapabilitySet<'a>,
+        prior: &Prior<'_, 'a>,
         loc: Option<Loc>,
         left: &'a Expr,
         right: &'a Expr,
@@ -69,7 +71,7 @@ impl TypeEnv<'_, '_, '_, '_> {
     ) -> Result<Decision<'a>, AllocError>
         ensures { IfOk result (λ d. decision_of d
             ≡ get_tag_table (env_at self.now) loc
-            (caps prior.now (tag_of (written left.now) (written right.now)))
+            (known_in prior.now (tag_of (written left.now) (written right.now)))
             (option_map ty_of found.now)) }
     {
         let Some(ty) = found else {

@@ -4,16 +4,17 @@ ghost use Rattle.cedar_types.specs.declared.base.types.BoolType.TheVariants.{Any
 ghost use Rattle.cedar_types.specs.Types.{ty_of, TBool};
 ghost use Rattle.cedar_types.specs.Tree.{binary};
 ghost use Rattle.cedar_types.specs.View.{written};
-ghost use Rattle.cedar_types.specs.Capability.{caps};
 ghost use Rattle.cedar_typing.specs.Eager.{first_expectation, later_expectations};
 ghost use Rattle.cedar_typing.specs.Infer.Eager.{infer_form, type_given};
 ghost use Rattle.cedar_typing.specs.Judgments.{max_nesting};
 ghost use Rattle.cedar_typing.specs.Rules.Binary.{binary_form};
 ghost use Rattle.cedar_typing.specs.SettingViews.{setting_at, infer_two};
 ghost use Rattle.cedar_typing.specs.Views.{env_at, expected_types, answer_of, part_of, findings, at, form_of_two, two_parts};
+ghost use Rattle.cedar_typing.specs.Priors.{known_in};
 
 use crate::typecheck::answer::{Part, TypecheckAnswer};
 use crate::typecheck::operands::Expected;
+use crate::typecheck::prior::Prior;
 use crate::typecheck::rules::decisions::Operands;
 use crate::typecheck::rules::eager::{Decision, add_errors};
 use crate::typecheck::single_env::SingleEnvTypechecker;
@@ -21,7 +22,6 @@ use crate::typecheck::type_env::TypeEnv;
 use crate::typecheck::type_tests::any_bool;
 use crate::typecheck::typed_nodes::{binary_node, with_capabilities};
 use cedar_types::base::{ArgumentCheck, BinaryOp, CedarType, Expr, Loc, ValidationError};
-use cedar_types::types::capability::CapabilitySet;
 use std::alloc::AllocError;
 
 /// A form with two operands.
@@ -158,7 +158,7 @@ impl<C: ArgumentCheck> SingleEnvTypechecker<'_, '_, '_, '_, C> {
     #[cycle(typing)]
     pub(crate) fn type_two_operands<'a>(
         &self,
-        prior: &CapabilitySet<'a>,
+        prior: &Prior<'_, 'a>,
         depth: usize,
         loc: Option<Loc>,
         form: TwoOperands,
@@ -169,7 +169,7 @@ impl<C: ArgumentCheck> SingleEnvTypechecker<'_, '_, '_, '_, C> {
         requires { depth ≤ max_nesting }
         ensures { IfOk result (λ r.
             infer_two (setting_at C.refusal self.now) (at loc) (written left.now) (written right.now)
-            (caps prior.now) depth form (findings errors.old.items)
+            (known_in prior.now) depth form (findings errors.old.items)
             ≡ (answer_of r, findings errors.new.items)) }
     {
         let one = self.typecheck(prior, depth + 1, left, errors)?;
@@ -195,7 +195,7 @@ impl TypeEnv<'_, '_, '_, '_> {
     /// A form with two operands, at `loc`, where the operands are typed or too deep.
     fn two_answer<'a>(
         &self,
-        prior: &CapabilitySet<'a>,
+        prior: &Prior<'_, 'a>,
         loc: Option<Loc>,
         form: TwoOperands,
         operands: Operands<'a>,
@@ -205,7 +205,7 @@ impl TypeEnv<'_, '_, '_, '_> {
     ) -> Result<TypecheckAnswer<'a>, AllocError>
         ensures { IfOk result (λ r.
             infer_form
-            (form_of_two (env_at self.now) (at loc) (caps prior.now)
+            (form_of_two (env_at self.now) (at loc) (known_in prior.now)
             (written operands.entry.left.now) (written operands.entry.right.now) form)
             (two_parts (option_map part_of one.entry) (option_map part_of other.entry))
             (findings errors.old.items)
@@ -223,7 +223,7 @@ impl TypeEnv<'_, '_, '_, '_> {
 
     fn two_parts_answer<'a>(
         &self,
-        prior: &CapabilitySet<'a>,
+        prior: &Prior<'_, 'a>,
         loc: Option<Loc>,
         form: TwoOperands,
         operands: Operands<'a>,
@@ -233,7 +233,7 @@ impl TypeEnv<'_, '_, '_, '_> {
     ) -> Result<TypecheckAnswer<'a>, AllocError>
         ensures { IfOk result (λ r.
             infer_form
-            (form_of_two (env_at self.now) (at loc) (caps prior.now)
+            (form_of_two (env_at self.now) (at loc) (known_in prior.now)
             (written operands.entry.left.now) (written operands.entry.right.now) form)
             (two_parts (Some (part_of one.entry)) (Some (part_of other.entry)))
             (findings errors.old.items)

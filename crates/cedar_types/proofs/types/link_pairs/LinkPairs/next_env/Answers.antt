@@ -3,20 +3,20 @@ use Rattle.cedar_types.proofs.Linking.Pairs.{no_principal, no_resource, step_in_
 use Rattle.cedar_types.proofs.types.link_pairs.LinkPairs.next_env.Goals as goal
 use Rattle.cedar_types.proofs.types.link_pairs.LinkPairs.next_env.Goals.{then-self-len, else-self-len}
 
-pub returns-then-principal_at-len : goal.returns-then-principal_at-len
-returns-then-principal_at-len c =
+pub returns-then-principal_at-len-clause-next : goal.returns-then-principal_at-len-clause-next
+returns-then-principal_at-len-clause-next c =
     let s = c.args.self.now in
     let none = no_principal s.place s.principals.items s.resources.items s.principal_at s.resource_at (search rules) in
     (none, none)
 
-pub returns-then-resource_at-len : goal.returns-then-resource_at-len
-returns-then-resource_at-len c =
+pub returns-then-resource_at-len-clause-next : goal.returns-then-resource_at-len-clause-next
+returns-then-resource_at-len-clause-next c =
     let s = c.args.self.now in
     let none = no_resource s.place s.principals.items s.resources.items s.principal_at s.resource_at (search rules) s.in_row in
     (none, none)
 
-pub returns : goal.returns
-returns c =
+pub returns-clause-next : goal.returns-clause-next
+returns-clause-next c =
     let s = c.args.self.now in
     elim c.if-self-len.branch [
       | then-self-len w ↦ rw w.self-is (rw c.in_ok-principal_slot.ensures (rw c.in_ok-resource_slot.ensures

@@ -6,10 +6,10 @@ use Rattle.cedar_types.specs.declared.base.expressions.ExprKind.TheVariants as K
 use Rattle.cedar_types.specs.Names.{path_of, text_of, type_of}
 use Rattle.cedar_types.specs.Tree.{and, or, has_attr, get_attr, ext_has_attr, unary, binary, like, is_type}
 use Rattle.cedar_types.specs.View.{written, Written, of_type, fields_written, chain_of}
-use Rattle.cedar_types.specs.Capability.{caps}
 use Rattle.cedar_types.specs.Types.{ty_of}
 use Rattle.cedar_types.proofs.Attributes.Entries.{Entry}
 use Rattle.cedar_types.proofs.Attributes.Records.{key_cmp}
+use Rattle.cedar_typing.specs.Priors.{known_in}
 use Rattle.cedar_typing.specs.Infer.{infer_within, infer, infer_fields}
 use Rattle.cedar_typing.specs.Infer.Parts.{AnswerAndErrors, expect}
 use Rattle.cedar_typing.specs.TypedExpr.{Source, place_of, typed_tree}
@@ -42,7 +42,7 @@ typecheck-returns-in-And g t c =
     let tree : written c.args.e.now ≡ and m (written c.deref.result.now) (written c.deref-in-And.result.now) =
     written_as c.args.e.now (K.And c.in-And.left c.in-And.right) c.in-And.is ∙ (λ i. and m (written (sym c.deref.ensures i)) (written (sym c.deref-in-And.ensures i))) in
     let P : AnswerAndErrors → Type 0 = λ z. IfOk c.type_short_circuit.result (λ r. z ≡ (answer_of r, findings c.type_short_circuit.new.errors.items)) in
-    infer_as P (setting_at g.C.ArgumentCheck.refusal c.args.self.now) (caps c.args.prior.now) c.args.depth (findings c.args.errors.now.items) c.if-depth-gt-MAX_NESTING.false tree c.type_short_circuit.ensures
+    infer_as P (setting_at g.C.ArgumentCheck.refusal c.args.self.now) (known_in c.args.prior.now) c.args.depth (findings c.args.errors.now.items) c.if-depth-gt-MAX_NESTING.false tree c.type_short_circuit.ensures
 
 pub typecheck-returns-in-Or : goal.typecheck-returns-in-Or
 typecheck-returns-in-Or g t c =
@@ -50,7 +50,7 @@ typecheck-returns-in-Or g t c =
     let tree : written c.args.e.now ≡ or m (written c.deref-in-Or.result.now) (written c.deref-in-Or-2.result.now) =
     written_as c.args.e.now (K.Or c.in-Or.left c.in-Or.right) c.in-Or.is ∙ (λ i. or m (written (sym c.deref-in-Or.ensures i)) (written (sym c.deref-in-Or-2.ensures i))) in
     let P : AnswerAndErrors → Type 0 = λ z. IfOk c.type_short_circuit-in-Or.result (λ r. z ≡ (answer_of r, findings c.type_short_circuit-in-Or.new.errors.items)) in
-    infer_as P (setting_at g.C.ArgumentCheck.refusal c.args.self.now) (caps c.args.prior.now) c.args.depth (findings c.args.errors.now.items) c.if-depth-gt-MAX_NESTING.false tree c.type_short_circuit-in-Or.ensures
+    infer_as P (setting_at g.C.ArgumentCheck.refusal c.args.self.now) (known_in c.args.prior.now) c.args.depth (findings c.args.errors.now.items) c.if-depth-gt-MAX_NESTING.false tree c.type_short_circuit-in-Or.ensures
 
 pub typecheck-returns-in-HasAttr : goal.typecheck-returns-in-HasAttr
 typecheck-returns-in-HasAttr g t c =
@@ -58,7 +58,7 @@ typecheck-returns-in-HasAttr g t c =
     let tree : written c.args.e.now ≡ has_attr m (written c.deref-in-HasAttr.result.now) (text_of c.in-HasAttr.attr) =
     written_as c.args.e.now (K.HasAttr c.in-HasAttr.base c.in-HasAttr.attr) c.in-HasAttr.is ∙ (λ i. has_attr m (written (sym c.deref-in-HasAttr.ensures i)) (text_of c.in-HasAttr.attr)) in
     let P : AnswerAndErrors → Type 0 = λ z. IfOk c.type_one_operand-in-HasAttr.result (λ r. z ≡ (answer_of r, findings c.type_one_operand-in-HasAttr.new.errors.items)) in
-    infer_as P (setting_at g.C.ArgumentCheck.refusal c.args.self.now) (caps c.args.prior.now) c.args.depth (findings c.args.errors.now.items) c.if-depth-gt-MAX_NESTING.false tree c.type_one_operand-in-HasAttr.ensures
+    infer_as P (setting_at g.C.ArgumentCheck.refusal c.args.self.now) (known_in c.args.prior.now) c.args.depth (findings c.args.errors.now.items) c.if-depth-gt-MAX_NESTING.false tree c.type_one_operand-in-HasAttr.ensures
 
 pub typecheck-returns-in-GetAttr : goal.typecheck-returns-in-GetAttr
 typecheck-returns-in-GetAttr g t c =
@@ -66,7 +66,7 @@ typecheck-returns-in-GetAttr g t c =
     let tree : written c.args.e.now ≡ get_attr m (written c.deref-in-GetAttr.result.now) (text_of c.in-GetAttr.attr) =
     written_as c.args.e.now (K.GetAttr c.in-GetAttr.base c.in-GetAttr.attr) c.in-GetAttr.is ∙ (λ i. get_attr m (written (sym c.deref-in-GetAttr.ensures i)) (text_of c.in-GetAttr.attr)) in
     let P : AnswerAndErrors → Type 0 = λ z. IfOk c.type_one_operand-in-GetAttr.result (λ r. z ≡ (answer_of r, findings c.type_one_operand-in-GetAttr.new.errors.items)) in
-    infer_as P (setting_at g.C.ArgumentCheck.refusal c.args.self.now) (caps c.args.prior.now) c.args.depth (findings c.args.errors.now.items) c.if-depth-gt-MAX_NESTING.false tree c.type_one_operand-in-GetAttr.ensures
+    infer_as P (setting_at g.C.ArgumentCheck.refusal c.args.self.now) (known_in c.args.prior.now) c.args.depth (findings c.args.errors.now.items) c.if-depth-gt-MAX_NESTING.false tree c.type_one_operand-in-GetAttr.ensures
 
 pub typecheck-returns-in-UnaryApp : goal.typecheck-returns-in-UnaryApp
 typecheck-returns-in-UnaryApp g t c =
@@ -74,7 +74,7 @@ typecheck-returns-in-UnaryApp g t c =
     let tree : written c.args.e.now ≡ unary m c.in-UnaryApp.op (written c.deref-in-UnaryApp.result.now) =
     written_as c.args.e.now (K.UnaryApp c.in-UnaryApp.op c.in-UnaryApp.operand) c.in-UnaryApp.is ∙ (λ i. unary m c.in-UnaryApp.op (written (sym c.deref-in-UnaryApp.ensures i))) in
     let P : AnswerAndErrors → Type 0 = λ z. IfOk c.type_one_operand.result (λ r. z ≡ (answer_of r, findings c.type_one_operand.new.errors.items)) in
-    infer_as P (setting_at g.C.ArgumentCheck.refusal c.args.self.now) (caps c.args.prior.now) c.args.depth (findings c.args.errors.now.items) c.if-depth-gt-MAX_NESTING.false tree c.type_one_operand.ensures
+    infer_as P (setting_at g.C.ArgumentCheck.refusal c.args.self.now) (known_in c.args.prior.now) c.args.depth (findings c.args.errors.now.items) c.if-depth-gt-MAX_NESTING.false tree c.type_one_operand.ensures
 
 pub typecheck-returns-in-Like : goal.typecheck-returns-in-Like
 typecheck-returns-in-Like g t c =
@@ -82,7 +82,7 @@ typecheck-returns-in-Like g t c =
     let tree : written c.args.e.now ≡ like m (written c.deref-in-Like.result.now) c.in-Like.pattern.items =
     written_as c.args.e.now (K.Like c.in-Like.operand c.in-Like.pattern) c.in-Like.is ∙ (λ i. like m (written (sym c.deref-in-Like.ensures i)) c.in-Like.pattern.items) in
     let P : AnswerAndErrors → Type 0 = λ z. IfOk c.type_one_operand-in-Like.result (λ r. z ≡ (answer_of r, findings c.type_one_operand-in-Like.new.errors.items)) in
-    infer_as P (setting_at g.C.ArgumentCheck.refusal c.args.self.now) (caps c.args.prior.now) c.args.depth (findings c.args.errors.now.items) c.if-depth-gt-MAX_NESTING.false tree c.type_one_operand-in-Like.ensures
+    infer_as P (setting_at g.C.ArgumentCheck.refusal c.args.self.now) (known_in c.args.prior.now) c.args.depth (findings c.args.errors.now.items) c.if-depth-gt-MAX_NESTING.false tree c.type_one_operand-in-Like.ensures
 
 pub typecheck-returns-in-Is : goal.typecheck-returns-in-Is
 typecheck-returns-in-Is g t c =
@@ -90,12 +90,12 @@ typecheck-returns-in-Is g t c =
     let tree : written c.args.e.now ≡ is_type m (written c.deref-in-Is.result.now) (type_of c.in-Is.named) =
     written_as c.args.e.now (K.Is c.in-Is.operand c.in-Is.named) c.in-Is.is ∙ (λ i. is_type m (written (sym c.deref-in-Is.ensures i)) (type_of c.in-Is.named)) in
     let P : AnswerAndErrors → Type 0 = λ z. IfOk c.type_one_operand-in-Is.result (λ r. z ≡ (answer_of r, findings c.type_one_operand-in-Is.new.errors.items)) in
-    infer_as P (setting_at g.C.ArgumentCheck.refusal c.args.self.now) (caps c.args.prior.now) c.args.depth (findings c.args.errors.now.items) c.if-depth-gt-MAX_NESTING.false tree c.type_one_operand-in-Is.ensures
+    infer_as P (setting_at g.C.ArgumentCheck.refusal c.args.self.now) (known_in c.args.prior.now) c.args.depth (findings c.args.errors.now.items) c.if-depth-gt-MAX_NESTING.false tree c.type_one_operand-in-Is.ensures
 
 pub typecheck-returns-in-BinaryApp : goal.typecheck-returns-in-BinaryApp
 typecheck-returns-in-BinaryApp g t c =
     let s = setting_at g.C.ArgumentCheck.refusal c.args.self.now in
-    let prior = caps c.args.prior.now in
+    let prior = known_in c.args.prior.now in
     let d = c.args.depth in
     let es = findings c.args.errors.now.items in
     let m = at c.args.e.now.loc in
@@ -116,12 +116,12 @@ typecheck-returns-in-ExtHasAttr g t c =
     let tree : written c.args.e.now ≡ ext_has_attr m (written c.deref-in-ExtHasAttr.result.now) (chain_of chain).0 (chain_of chain).1 =
     written_as c.args.e.now (K.ExtHasAttr c.in-ExtHasAttr.base chain) c.in-ExtHasAttr.is ∙ (λ i. ext_has_attr m (written (sym c.deref-in-ExtHasAttr.ensures i)) (chain_of chain).0 (chain_of chain).1) in
     let P : AnswerAndErrors → Type 0 = λ z. IfOk c.type_one_operand-in-ExtHasAttr.result (λ r. z ≡ (answer_of r, findings c.type_one_operand-in-ExtHasAttr.new.errors.items)) in
-    infer_as P (setting_at g.C.ArgumentCheck.refusal c.args.self.now) (caps c.args.prior.now) c.args.depth (findings c.args.errors.now.items) c.if-depth-gt-MAX_NESTING.false tree c.type_one_operand-in-ExtHasAttr.ensures
+    infer_as P (setting_at g.C.ArgumentCheck.refusal c.args.self.now) (known_in c.args.prior.now) c.args.depth (findings c.args.errors.now.items) c.if-depth-gt-MAX_NESTING.false tree c.type_one_operand-in-ExtHasAttr.ensures
 
 pub type_two_operands-returns-then-is_none-goes_on : goal.type_two_operands-returns-then-is_none-goes_on
 type_two_operands-returns-then-is_none-goes_on g t c =
     let s = setting_at g.C.ArgumentCheck.refusal c.args.self.now in
-    let prior = caps c.args.prior.now in
+    let prior = known_in c.args.prior.now in
     let d = c.args.depth in
     let m = at c.args.loc in
     let a = written c.args.left.now in
@@ -139,7 +139,7 @@ type_two_operands-returns-then-is_none-goes_on g t c =
 pub type_two_operands-returns : goal.type_two_operands-returns
 type_two_operands-returns g t c =
     let s = setting_at g.C.ArgumentCheck.refusal c.args.self.now in
-    let prior = caps c.args.prior.now in
+    let prior = known_in c.args.prior.now in
     let d = c.args.depth in
     let m = at c.args.loc in
     let a = written c.args.left.now in
@@ -163,7 +163,7 @@ type_operands-loop-operand-preserved g t c =
     let l = c.loop-operand in
     let s = setting_at g.C.ArgumentCheck.refusal c.args.self.now in
     let b = c.args.goes_on in
-    let prior = caps c.args.prior.now in
+    let prior = known_in c.args.prior.now in
     let d = c.args.depth + 1 in
     let items = c.deref-operand-items.result.now in
     let i = l.operand-index in
@@ -184,7 +184,7 @@ type_operands-returns-then-is_none-goes_on g t c =
     let l = c.loop-operand in
     let s = setting_at g.C.ArgumentCheck.refusal c.args.self.now in
     let b = c.args.goes_on in
-    let prior = caps c.args.prior.now in
+    let prior = known_in c.args.prior.now in
     let d = c.args.depth + 1 in
     let items = c.deref-operand-items.result.now in
     let i = l.operand-index in
@@ -203,7 +203,7 @@ type_operands-returns-then-is_none-goes_on g t c =
 pub typecheck-returns-in_ok-answer-in-ExtensionFunctionApp : goal.typecheck-returns-in_ok-answer-in-ExtensionFunctionApp
 typecheck-returns-in_ok-answer-in-ExtensionFunctionApp g t c =
     let s = setting_at g.C.ArgumentCheck.refusal c.args.self.now in
-    let prior = caps c.args.prior.now in
+    let prior = known_in c.args.prior.now in
     let d = c.args.depth in
     let es = findings c.args.errors.now.items in
     let m = at c.args.e.now.loc in
@@ -220,7 +220,7 @@ pub typecheck-returns-in-Record : goal.typecheck-returns-in-Record
 typecheck-returns-in-Record g t c =
     let tree = written_record c.args.e.now c.in-Record.fields c.in-Record.is in
     let P : AnswerAndErrors → Type 0 = λ z. IfOk c.type_record.result (λ r. z ≡ (answer_of r, findings c.type_record.new.errors.items)) in
-    infer_as P (setting_at g.C.ArgumentCheck.refusal c.args.self.now) (caps c.args.prior.now) c.args.depth (findings c.args.errors.now.items) c.if-depth-gt-MAX_NESTING.false tree c.type_record.ensures
+    infer_as P (setting_at g.C.ArgumentCheck.refusal c.args.self.now) (known_in c.args.prior.now) c.args.depth (findings c.args.errors.now.items) c.if-depth-gt-MAX_NESTING.false tree c.type_record.ensures
 
 pub type_record-returns : goal.type_record-returns
 type_record-returns g t c =
@@ -237,7 +237,7 @@ pub type_fields-loop-key-preserved : goal.type_fields-loop-key-preserved
 type_fields-loop-key-preserved g t c =
     let l = c.loop-key in
     let s = setting_at g.C.ArgumentCheck.refusal c.args.self.now in
-    let prior = caps c.args.prior.now in
+    let prior = known_in c.args.prior.now in
     let d = c.args.depth + 1 in
     let done = l.invariant.0 in
     let e : Entry = (c.in-Some.key.now, c.in-Some.value.now) in
@@ -264,7 +264,7 @@ type_fields-loop-key-preserved g t c =
 pub type_fields-loop-key-init : goal.type_fields-loop-key-init
 type_fields-loop-key-init g t c =
     let s = setting_at g.C.ArgumentCheck.refusal c.args.self.now in
-    let prior = caps c.args.prior.now in
+    let prior = known_in c.args.prior.now in
     let d = c.args.depth + 1 in
     let es = findings c.args.errors.now.items in
     let given = c.into_iter-key-iterator.ensures.into_iter_gives ∙ c.iter-key-items.ensures.rest in (

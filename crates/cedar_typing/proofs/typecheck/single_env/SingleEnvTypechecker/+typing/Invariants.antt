@@ -1,7 +1,7 @@
 use Rattle.std.proofs.Common.{◌≡◌, ◌+◌, ◌-◌, ◌*◌, drop, map, List, ◌++◌}
-use Rattle.cedar_types.specs.Capability.{caps}
 use Rattle.cedar_types.specs.Types.{ty_of}
 use Rattle.cedar_types.specs.View.{fields_written}
+use Rattle.cedar_typing.specs.Priors.{known_in}
 use Rattle.cedar_typing.specs.Views.{findings, operands_of, keys_in, trees_in}
 use Rattle.cedar_typing.specs.Infer.{infer_fields}
 use Rattle.cedar_typing.specs.SettingViews.{setting_at}
@@ -34,8 +34,8 @@ decreases-type_operands g l = 3 * (401 - l.depth) + 2
 abbrev pub invariant-type_operands-loop-operand : goal.invariant-type_operands-loop-operand
 invariant-type_operands-loop-operand g l =
     let s = setting_at g.C.ArgumentCheck.refusal l.self in
-    resumed (operands_of l.all) (all_inferred s l.goes_on (map ty_of l.left) (caps l.prior) (l.depth + 1) (drop l.operand-index l.operand-items) (findings l.errors.items))
-    ≡ all_inferred s l.goes_on (map ty_of l.fn.types) (caps l.fn.prior) (l.fn.depth + 1) l.fn.operands.items (findings l.fn.errors.items)
+    resumed (operands_of l.all) (all_inferred s l.goes_on (map ty_of l.left) (known_in l.prior) (l.depth + 1) (drop l.operand-index l.operand-items) (findings l.errors.items))
+    ≡ all_inferred s l.goes_on (map ty_of l.fn.types) (known_in l.fn.prior) (l.fn.depth + 1) l.fn.operands.items (findings l.fn.errors.items)
 
 abbrev pub decreases-type_record : goal.decreases-type_record
 decreases-type_record g l = 3 * (401 - l.depth) + 2
@@ -51,5 +51,5 @@ invariant-type_fields-loop-key g l =
     × (l.fields.entries ≡ done ++ l.key-iterator)
     × (keys_in l.typed.entries ≡ keys_in done)
     × (finish l.succeeded (trees_in l.typed.entries)
-    (infer_fields s (fields_written l.key-iterator) (caps l.prior) (l.depth + 1) (findings l.errors.items))
-    ≡ infer_fields s (fields_written l.fields.entries) (caps l.prior) (l.depth + 1) (findings l.fn.errors.items))
+    (infer_fields s (fields_written l.key-iterator) (known_in l.prior) (l.depth + 1) (findings l.errors.items))
+    ≡ infer_fields s (fields_written l.fields.entries) (known_in l.prior) (l.depth + 1) (findings l.fn.errors.items))

@@ -1,9 +1,9 @@
 use Rattle.std.proofs.Common.{◌≡◌, [], ◌∷◌, Option, sym, subst, option_map}
 use Rattle.std.specs.Prelude.{IfOk}
 use Rattle.cedar_types.specs.declared.base.location.Loc.{Loc}
-use Rattle.cedar_types.specs.Capability.{caps}
 use Rattle.cedar_types.specs.Types.{ty_of}
 use Rattle.cedar_types.specs.View.{written}
+use Rattle.cedar_typing.specs.Priors.{known_in}
 use Rattle.cedar_typing.specs.Rules.Numbers.{compare_decides}
 use Rattle.cedar_typing.specs.TypedExpr.{place_of}
 use Rattle.cedar_typing.specs.Views.{env_at, at, decision_of, form_of_two}
@@ -14,7 +14,7 @@ use Rattle.cedar_typing.proofs.typecheck.type_env.TypeEnv.decide_two.Goals as go
 pub returns-in-Comparison : goal.returns-in-Comparison
 returns-in-Comparison c =
     let env = env_at c.args.self.now in
-    let prior = caps c.args.prior.now in
+    let prior = known_in c.args.prior.now in
     let a = c.args.operands.left.now in
     let b = c.args.operands.right.now in
     let s = option_map ty_of c.args.found.now in

@@ -2,6 +2,7 @@ use Rattle.std.proofs.Common.{◌≡◌, [], ◌∷◌, ◌∙◌, sym, ap, opti
 use Rattle.cedar_types.specs.Types.{ty_of}
 use Rattle.cedar_types.specs.View.{written}
 use Rattle.cedar_types.specs.Capability.{caps}
+use Rattle.cedar_typing.specs.Priors.{known_in}
 use Rattle.cedar_typing.specs.Eager.{gives, refuses}
 use Rattle.cedar_typing.specs.Infer.Eager.{infer_decided}
 use Rattle.cedar_typing.specs.Infer.Parts.{failure, answer_if}
@@ -14,7 +15,7 @@ use Rattle.cedar_typing.proofs.typecheck.type_env.TypeEnv.one_answer.Goals as go
 pub returns-in-Gives : goal.returns-in-Gives
 returns-in-Gives c =
     let env = env_at c.args.self.now in
-    let prior = caps c.args.prior.now in
+    let prior = known_in c.args.prior.now in
     let e = written c.args.operand.now in
     let f = form_of_one env (mark_of_one c.args.loc c.args.form) prior e c.args.form in
     let x = typed_tree c.args.part.typed.value in
@@ -30,7 +31,7 @@ returns-in-Gives c =
 pub returns : goal.returns
 returns c =
     let env = env_at c.args.self.now in
-    let prior = caps c.args.prior.now in
+    let prior = known_in c.args.prior.now in
     let e = written c.args.operand.now in
     let f = form_of_one env (mark_of_one c.args.loc c.args.form) prior e c.args.form in
     let x = typed_tree c.args.part.typed.value in

@@ -1,10 +1,11 @@
 use Rattle.std.proofs.Common.{ap, sym, ◌∙◌}
 use Rattle.std.specs.Prelude.{is_some}
-use Rattle.cedar_types.specs.Capability.{cap_of, caps}
+use Rattle.cedar_types.specs.Capability.{cap_of}
 use Rattle.cedar_types.specs.Lookups.{attribute_type}
 use Rattle.cedar_types.specs.Names.{text_of}
 use Rattle.cedar_types.specs.Types.{ty_of}
 use Rattle.cedar_types.specs.View.{written}
+use Rattle.cedar_typing.specs.Priors.{known_in}
 use Rattle.cedar_typing.specs.Capabilities.{no_caps}
 use Rattle.cedar_typing.specs.Eager.{gives}
 use Rattle.cedar_typing.specs.Rules.Attributes.{attribute_of}
@@ -19,7 +20,7 @@ returns c next =
     let x = text_of c.args.attr.now in
     let l = c.args.place in
     let a = attribute_type env.schema s x in
-    goes_on env l s x (caps c.args.prior.now) (progress_of c.args.progress) next (attribute_of (written c.args.reached.now.e) x) (cap_of c.in_ok-there.there) _ _ _
+    goes_on env l s x (known_in c.args.prior.now) (progress_of c.args.progress) next (attribute_of (written c.args.reached.now.e) x) (cap_of c.in_ok-there.there) _ _ _
     c.in_ok-there.ensures
     c.knows-is_known.ensures
     (c.step_type-ty.ensures a (sym c.in_ok-required.ensures))
@@ -36,7 +37,7 @@ returns-then-is_false_type c next =
     let a = attribute_type env.schema s x in
     c.gives.ensures
     ∙ ap (λ t. gives t no_caps) c.bool_type.ensures
-    ∙ ends env l s x (caps c.args.prior.now) (progress_of c.args.progress) next (attribute_of (written c.args.reached.now.e) x) (cap_of c.in_ok-there.there) _ _
+    ∙ ends env l s x (known_in c.args.prior.now) (progress_of c.args.progress) next (attribute_of (written c.args.reached.now.e) x) (cap_of c.in_ok-there.there) _ _
     c.in_ok-there.ensures
     c.knows-is_known.ensures
     (c.step_type-ty.ensures a (sym c.in_ok-required.ensures))

@@ -3,6 +3,7 @@ use Rattle.cedar_types.specs.Types.{ty_of}
 use Rattle.cedar_types.specs.Tree.{binary}
 use Rattle.cedar_types.specs.View.{written}
 use Rattle.cedar_types.specs.Capability.{caps}
+use Rattle.cedar_typing.specs.Priors.{known_in}
 use Rattle.cedar_typing.specs.Eager.{gives, refuses}
 use Rattle.cedar_typing.specs.Infer.Eager.{infer_decided, type_given}
 use Rattle.cedar_typing.specs.Infer.Parts.{failure, answer_if}
@@ -15,7 +16,7 @@ use Rattle.cedar_typing.proofs.typecheck.type_env.TypeEnv.two_parts_answer.Goals
 pub returns-in-Gives : goal.returns-in-Gives
 returns-in-Gives c =
     let env = env_at c.args.self.now in
-    let prior = caps c.args.prior.now in
+    let prior = known_in c.args.prior.now in
     let a = written c.args.operands.left.now in
     let b = written c.args.operands.right.now in
     let m = at c.args.loc in
@@ -38,7 +39,7 @@ returns-in-Gives c =
 pub returns : goal.returns
 returns c =
     let env = env_at c.args.self.now in
-    let prior = caps c.args.prior.now in
+    let prior = known_in c.args.prior.now in
     let a = written c.args.operands.left.now in
     let b = written c.args.operands.right.now in
     let m = at c.args.loc in

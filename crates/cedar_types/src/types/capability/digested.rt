@@ -1,0 +1,122 @@
+// A capability, with the digest of its shape.
+ghost use Rattle.std.specs.Prelude.{◌≡◌, IfOk};
+ghost use Rattle.cedar_types.specs.Digest.{digest_of};
+
+use crate::base::{Expr, ExprShapeOnly};
+use crate::types::entries::Entry;
+use std::alloc::{AllocError, Global};
+use std::hash::{FoldHasher, Hash, Hasher};
+use std::rc::RcStr;
+
+/// What is known to be there: an attribute by its name, or a tag by the expression that gives its name.
+#[derive(PartialEq, Eq, PartialOrd, Ord, Hash, Drop, Debug)]
+enum Known<'a> {
+    Attribute(RcStr),
+    Tag(ExprShapeOnly<'a>),
+}
+
+/// That an expression has an attribute or a tag. It counts by shapes: places never do, nor who owns the expressions.
+///
+/// It carries a digest of its shape, which is made without taking memory. Its order is that of the digests, and where these
+/// are equal that of the whole shapes. So two shapes of one digest stay two capabilities.
+#[derive(PartialEq, Eq, PartialOrd, Ord, Drop, Debug)]
+pub struct Capability<'a> {
+    digest: u64,
+    on_expr: ExprShapeOnly<'a>,
+    known: Known<'a>,
+    ghost of_its_shape: { digest ≡ digest_of on_expr known },
+}
+
+#[tactic(auto, unfolding(crate::specs::Capability::cap_of))]
+impl<'a> Capability<'a> {
+    ghost use Rattle.cedar_types.specs.Names.{text_of};
+    ghost use Rattle.cedar_types.specs.View.{shape};
+    ghost use Rattle.cedar_types.specs.Capability.{attribute, tag, cap_of, known_of};
+
+    /// That `on_expr` has the attribute `attr`.
+    pub fn new_attribute(on_expr: &'a Expr, attr: RcStr) -> Capability<'a>
+        ensures { cap_of result ≡ attribute (shape on_expr.now) (text_of attr) }
+    {
+        Capability::of_shape(ExprShapeOnly::Borrowed(on_expr), Known::Attribute(attr))
+    }
+
+    /// The same of an expression that the capability owns.
+    pub fn new_attribute_owned(on_expr: Expr, attr: RcStr) -> Capability<'a>
+        ensures { cap_of result ≡ attribute (shape on_expr) (text_of attr) }
+    {
+        Capability::of_shape(ExprShapeOnly::Owned(on_expr), Known::Attribute(attr))
+    }
+
+    /// That `on_expr` has the tag whose name `name` gives.
+    pub fn new_borrowed_tag(on_expr: &'a Expr, name: &'a Expr) -> Capability<'a>
+        ensures { cap_of result ≡ tag (shape on_expr.now) (shape name.now) }
+    {
+        Capability::of_shape(
+            ExprShapeOnly::Borrowed(on_expr),
+            Known::Tag(ExprShapeOnly::Borrowed(name)),
+        )
+    }
+
+    /// The same with a name that the capability owns.
+    pub fn new_owned_tag(on_expr: &'a Expr, name: Expr) -> Capability<'a>
+        ensures { cap_of result ≡ tag (shape on_expr.now) (shape name) }
+    {
+        Capability::of_shape(
+            ExprShapeOnly::Borrowed(on_expr),
+            Known::Tag(ExprShapeOnly::Owned(name)),
+        )
+    }
+
+    fn try_clone(&self, alloc: Global) -> Result<Capability<'a>, AllocError>
+        ensures { IfOk result (λ c. cap_of c ≡ cap_of self.now) }
+    {
+        let on_expr = self.on_expr.try_clone(alloc)?;
+        let known = self.known.try_clone(alloc)?;
+        Ok(Capability {
+            digest: self.digest,
+            on_expr,
+            known,
+        })
+    }
+
+    fn of_shape(on_expr: ExprShapeOnly<'a>, known: Known<'a>) -> Capability<'a>
+        ensures expr { result.on_expr ≡ on_expr.entry }
+        ensures known { result.known ≡ known.entry }
+    {
+        let digest = shape_digest(&on_expr, &known);
+        Capability {
+            digest,
+            on_expr,
+            known,
+        }
+    }
+}
+
+impl<'a> Entry for Capability<'a> {
+    fn copy(&self, alloc: Global) -> Result<Capability<'a>, AllocError> {
+        self.try_clone(alloc)
+    }
+}
+
+/// The digest of a shape. It takes no memory.
+fn shape_digest<'a>(on_expr: &ExprShapeOnly<'a>, known: &Known<'a>) -> u64
+    ensures { result ≡ digest_of on_expr.now known.now }
+{
+    let mut state = FoldHasher::default();
+    on_expr.hash(&mut state);
+    known.hash(&mut state);
+    state.finish()
+}
+
+impl<'a> Known<'a> {
+    ghost use Rattle.cedar_types.specs.Capability.{known_of};
+
+    fn try_clone(&self, alloc: Global) -> Result<Known<'a>, AllocError>
+        ensures { IfOk result (λ k. (s : _) → known_of s k ≡ known_of s self.now) }
+    {
+        match self {
+            Known::Attribute(name) => Ok(Known::Attribute(name.clone()?)),
+            Known::Tag(name) => Ok(Known::Tag(name.try_clone(alloc)?)),
+        }
+    }
+}

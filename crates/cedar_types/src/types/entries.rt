@@ -1,0 +1,120 @@
+// Vectors in strictly ascending order, as sets. Nothing here knows what is in them: only how two entries compare.
+ghost use Rattle.std.specs.Prelude.{◌≡◌, [], IfOk, OnOk, OnErr, MatchOption};
+ghost use Rattle.std.specs.List.{list_any};
+ghost use Rattle.std.specs.List.Sorted.{IsStrictlySortedBy};
+ghost use Rattle.std.specs.Ordering.{is_eq};
+ghost use Rattle.std.specs.declared.cmp.Ordering.TheVariants.{Equal};
+ghost use Rattle.cedar_types.specs.Entries.{IsFirst, HasEither, HasBoth, HasOneMore, HasSame};
+
+use std::alloc::{AllocError, Global};
+use std::cmp::Ordering;
+
+/// What such a set holds: entries that are ordered and can be copied.
+pub trait Entry: Ord {
+    /// A copy, which the order does not tell apart from it.
+    fn copy(&self, alloc: Global) -> Result<Self, AllocError>
+    where
+        Self: Sized,
+        ensures { IfOk result (λ c. Self.cmp c self.now ≡ Equal) };
+}
+
+/// Whether an entry is there.
+pub(crate) fn has_entry<T: Ord>(entries: &[T], entry: &T) -> bool
+    requires { IsStrictlySortedBy T.cmp entries.now }
+    ensures { result ≡ list_any (λ e. is_eq (T.cmp entry.now e)) entries.now }
+{
+    entries.binary_search(entry).is_ok()
+}
+
+/// Puts an entry in its place, unless it is there. Where memory is refused, all stays as it was.
+pub(crate) fn add_entry<T: Ord + Drop>(entries: &mut Vec<T>, entry: T) -> Result<(), AllocError>
+    requires { IsStrictlySortedBy T.cmp entries.old.items }
+    ensures ascending { IsStrictlySortedBy T.cmp entries.new.items }
+    ensures added { OnOk result (HasOneMore T.cmp entries.old.items entry entries.new.items) }
+    ensures kept { OnErr result (entries.new.items ≡ entries.old.items) }
+{
+    match entries.binary_search(&entry) {
+        Ok(_) => Ok(()),
+        Err(place) => {
+            entries.insert(place, entry)?;
+            Ok(())
+        }
+    }
+}
+
+/// The first of what is left of two lists, and what is then left of each. What both begin with goes from both.
+fn first_of_either<'a, T: Ord>(left: &'a [T], right: &'a [T]) -> Option<(&'a T, &'a [T], &'a [T])>
+    ensures { MatchOption result
+        ((left.now ≡ []) × (right.now ≡ []))
+        (λ r. IsFirst T.cmp left.now right.now r.0.now r.1.now r.2.now) }
+{
+    match (left.split_first(), right.split_first()) {
+        (None, None) => None,
+        (Some((x, xs)), None) => Some((x, xs, right)),
+        (None, Some((y, ys))) => Some((y, left, ys)),
+        (Some((x, xs)), Some((y, ys))) => match x.cmp(y) {
+            Ordering::Less => Some((x, xs, right)),
+            Ordering::Equal => Some((x, xs, ys)),
+            Ordering::Greater => Some((y, left, ys)),
+        },
+    }
+}
+
+/// What either list has. It walks both once.
+pub(crate) fn either_of<T: Entry + Drop>(
+    alloc: Global,
+    left: &[T],
+    right: &[T],
+) -> Result<Vec<T>, AllocError>
+    requires left { IsStrictlySortedBy T.cmp left.now }
+    requires right { IsStrictlySortedBy T.cmp right.now }
+    ensures ascending { IfOk result (λ v. IsStrictlySortedBy T.cmp v.items) }
+    ensures has { IfOk result (λ v. HasEither T.cmp left.now right.now v.items) }
+{
+    let mut all = Vec::with_capacity(alloc, left.len().saturating_add(right.len()))?;
+    let mut xs = left;
+    let mut ys = right;
+    while let Some((entry, more_xs, more_ys)) = first_of_either(xs, ys) {
+        all.push(entry.copy(alloc)?)?;
+        xs = more_xs;
+        ys = more_ys;
+    }
+    Ok(all)
+}
+
+/// What both lists have. It walks both once.
+pub(crate) fn both_of<T: Entry + Drop>(
+    alloc: Global,
+    left: &[T],
+    right: &[T],
+) -> Result<Vec<T>, AllocError>
+    requires left { IsStrictlySortedBy T.cmp left.now }
+    requires right { IsStrictlySortedBy T.cmp right.now }
+    ensures ascending { IfOk result (λ v. IsStrictlySortedBy T.cmp v.items) }
+    ensures has { IfOk result (λ v. HasBoth T.cmp left.now right.now v.items) }
+{
+    let mut common = Vec::with_capacity(alloc, left.len().min(right.len()))?;
+    let mut xs = left;
+    let mut ys = right;
+    while let (Some((x, more_xs)), Some((y, more_ys))) = (xs.split_first(), ys.split_first()) {
+        match x.cmp(y) {
+            Ordering::Less => xs = more_xs,
+            Ordering::Equal => {
+                common.push(x.copy(alloc)?)?;
+                xs = more_xs;
+                ys = more_ys;
+            }
+            Ordering::Greater => ys = more_ys,
+        }
+    }
+    Ok(common)
+}
+
+/// A copy of a list.
+pub(crate) fn copied<T: Entry + Drop>(alloc: Global, entries: &[T]) -> Result<Vec<T>, AllocError>
+    requires { IsStrictlySortedBy T.cmp entries.now }
+    ensures ascending { IfOk result (λ v. IsStrictlySortedBy T.cmp v.items) }
+    ensures has { IfOk result (λ v. HasSame T.cmp entries.now v.items) }
+{
+    either_of(alloc, entries, &[])
+}

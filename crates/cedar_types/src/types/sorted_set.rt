@@ -1,0 +1,104 @@
+//! Sets as sorted vectors.
+ghost use Rattle.std.specs.Prelude.{◌≡◌, [], IfOk, OnOk, OnErr};
+ghost use Rattle.std.specs.List.{list_any};
+ghost use Rattle.std.specs.Ordering.{is_eq};
+ghost use Rattle.cedar_types.specs.Entries.{HasEither, HasBoth, HasOneMore, HasSame};
+
+pub use crate::types::entries::Entry;
+use crate::types::entries::{add_entry, both_of, copied, either_of, has_entry};
+use std::alloc::{AllocError, Global};
+use std::marker::Model;
+
+/// A set: a vector in ascending order without repeats. Two entries are one where their order says that they are equal.
+#[derive(Drop, Debug)]
+pub struct SortedSet<T: Entry> {
+    entries: Vec<T>,
+}
+
+// A contract sees a set as the list of its entries.
+impl<T: Entry> Model for SortedSet<T> {
+    ghost use Rattle.std.specs.Prelude.{List};
+    ghost use Rattle.std.specs.List.Sorted.{IsStrictlySortedBy};
+
+    ghost Value = { List T };
+
+    ghost view = { λ s. s.entries.items };
+
+    ghost invariant = { λ s. IsStrictlySortedBy T.cmp s.entries.items };
+}
+
+impl<T: Entry + Drop> SortedSet<T> {
+    /// The empty set. It takes no memory.
+    pub fn new(alloc: Global) -> SortedSet<T>
+        ensures { result ≡ [] }
+    {
+        SortedSet {
+            entries: Vec::new(alloc),
+        }
+    }
+
+    /// Whether it is in the set, by a binary search.
+    pub fn contains(&self, entry: &T) -> bool
+        ensures { result ≡ list_any (λ e. is_eq (T.cmp entry.now e)) self.now }
+    {
+        has_entry(&self.entries, entry)
+    }
+
+    /// Adds an entry. Where memory is refused, the answer is an `AllocError`, and the set is as it was.
+    pub fn insert(&mut self, entry: T) -> Result<(), AllocError>
+        ensures added { OnOk result (HasOneMore T.cmp self.old entry self.new) }
+        ensures kept { OnErr result (self.new ≡ self.old) }
+    {
+        add_entry(&mut self.entries, entry)
+    }
+
+    /// A copy. Where memory is refused, the answer is an `AllocError`.
+    pub fn try_clone(&self, alloc: Global) -> Result<SortedSet<T>, AllocError>
+        ensures { IfOk result (λ r. HasSame T.cmp self.now r) }
+    {
+        let entries = copied(alloc, &self.entries)?;
+        Ok(SortedSet { entries })
+    }
+
+    /// What either set has: copies, by one walk over both. Where memory is refused, the answer is an `AllocError`.
+    pub fn union(&self, alloc: Global, other: &SortedSet<T>) -> Result<SortedSet<T>, AllocError>
+        ensures { IfOk result (λ r. HasEither T.cmp self.now other.now r) }
+    {
+        let entries = either_of(alloc, &self.entries, &other.entries)?;
+        Ok(SortedSet { entries })
+    }
+
+    /// What either set has; both end in it. The smaller is put into the larger, so no entry is copied. Where memory is refused,
+    /// the answer is an `AllocError`.
+    pub fn join(self, other: SortedSet<T>) -> Result<SortedSet<T>, AllocError>
+        ensures { IfOk result (λ r. HasEither T.cmp self other r) }
+    {
+        if other.entries.is_empty() {
+            Ok(self)
+        } else if self.entries.is_empty() {
+            Ok(other)
+        } else if self.entries.len() < other.entries.len() {
+            other.with_all(self)
+        } else {
+            self.with_all(other)
+        }
+    }
+
+    fn with_all(self, other: SortedSet<T>) -> Result<SortedSet<T>, AllocError>
+        ensures { IfOk result (λ r. HasEither T.cmp self other r) }
+    {
+        let mut all = self;
+        for entry in other.entries {
+            all.insert(entry)?;
+        }
+        Ok(all)
+    }
+
+    /// What both sets have: copies, by one walk over both. Where memory is refused, the answer is an `AllocError`.
+    pub fn intersect(&self, alloc: Global, other: &SortedSet<T>) -> Result<SortedSet<T>, AllocError>
+        ensures { IfOk result (λ r. HasBoth T.cmp self.now other.now r) }
+    {
+        let entries = both_of(alloc, &self.entries, &other.entries)?;
+        Ok(SortedSet { entries })
+    }
+}
