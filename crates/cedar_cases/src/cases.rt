@@ -10,5 +10,5 @@ mod report;
 
 pub use answers::Rules;
 pub use files::{CaseFile, FileFault};
-pub use refusals::{fault_of_columns, has_own_declarations, run_refusals};
+pub use refusals::{fault_of_columns, notation_of, run_refusals};
 pub use report::{Tally, run_cases};

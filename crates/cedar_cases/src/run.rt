@@ -1,11 +1,10 @@
 // What the program does, over any files and any two writers.
 use crate::cases::{
-    CaseFile, FileFault, Rules, Tally, fault_of_columns, has_own_declarations, run_cases,
-    run_refusals,
+    CaseFile, FileFault, Rules, Tally, fault_of_columns, notation_of, run_cases, run_refusals,
 };
 use crate::tables::Tables;
 use cedar_reading::{
-    Fault, MAX_LENGTH, Position, ReadError, SchemaReadError, refused_name, schema,
+    Fault, MAX_LENGTH, Notation, Position, ReadError, SchemaReadError, refused_name, schema,
 };
 use cedar_typechecker::rbac::Validator;
 use cedar_types::base::{SchemaError, ValidatorSchema};
@@ -62,8 +61,8 @@ fn run_file<R: Files + AllocGlobal, O: Write>(
     let Some(text) = read(rt, name, out)? else {
         return Ok(false);
     };
-    if has_own_declarations(text.as_str()) {
-        return run_schemas(alloc, name, text.as_str(), out);
+    if let Some(notation) = notation_of(text.as_str()) {
+        return run_schemas(alloc, name, text.as_str(), notation, out);
     }
     let file = match CaseFile::new(alloc, text.as_str())? {
         Ok(file) => file,
@@ -91,12 +90,18 @@ fn run_file<R: Files + AllocGlobal, O: Write>(
 }
 
 /// Runs the cases of a file that have their own declarations, and answers whether all agree.
-fn run_schemas<O: Write>(alloc: Global, name: &str, text: &str, out: &mut O) -> io::Result<bool> {
+fn run_schemas<O: Write>(
+    alloc: Global,
+    name: &str,
+    text: &str,
+    notation: Notation,
+    out: &mut O,
+) -> io::Result<bool> {
     if let Some(fault) = fault_of_columns(text) {
         write_file_fault(out, name, fault)?;
         return Ok(false);
     }
-    let tally = run_refusals(alloc, name, text, out)?;
+    let tally = run_refusals(alloc, name, text, notation, out)?;
     write_tally(out, name, tally)?;
     Ok(tally.wrong == 0)
 }

@@ -10,6 +10,9 @@ pub const MAX_NESTING: usize = 800;
 /// How many bytes a text may have.
 pub const MAX_LENGTH: usize = 1 << 26;
 
+/// How many tokens of aliases may be read more than once.
+const MAX_REPEATED: usize = 1 << 20;
+
 /// Reads the tokens of a text, one after another.
 #[derive(Drop)]
 pub struct Cursor<'a> {
@@ -19,6 +22,10 @@ pub struct Cursor<'a> {
     next: Token<'a>,
     /// Where the token before it ended.
     end: usize,
+    /// How many tokens were read, those of aliases included.
+    tokens: usize,
+    /// Where the last operand ended that stands in the tree twice.
+    copied: usize,
 }
 
 impl<'a> Cursor<'a> {
@@ -32,7 +39,38 @@ impl<'a> Cursor<'a> {
             text,
             next: token_from(text, 0),
             end: 0,
+            tokens: 0,
+            copied: 0,
         })
+    }
+
+    /// The same text from another byte on.
+    pub fn at(&self, start: usize) -> Cursor<'a> {
+        Cursor {
+            alloc: self.alloc,
+            text: self.text,
+            next: token_from(self.text, start),
+            end: start,
+            tokens: self.tokens,
+            copied: self.copied,
+        }
+    }
+
+    /// Counts what was read elsewhere in the text. Fails where that is too much, as of aliases that stand for others again
+    /// and again.
+    pub fn count(&mut self, other: &Cursor<'_>) -> Result<(), ReadError> {
+        self.tokens = other.tokens;
+        if self.tokens > self.text.len().saturating_add(MAX_REPEATED) {
+            return Err(self.fault(Fault::TooLarge));
+        }
+        Ok(())
+    }
+
+    /// Whether an operand may stand in the tree twice: if nothing in it does.
+    pub fn may_copy(&mut self, place: Loc) -> bool {
+        let may_copy = self.copied <= place.start;
+        self.copied = self.copied.max(place.end);
+        may_copy
     }
 
     /// The next token, which stays.
@@ -43,6 +81,7 @@ impl<'a> Cursor<'a> {
     /// The next token, which is read.
     pub fn take(&mut self) -> Token<'a> {
         let token = self.next;
+        self.tokens = self.tokens.saturating_add(1);
         self.end = token.place.end;
         self.next = token_from(self.text, self.end);
         token
@@ -67,7 +106,7 @@ impl<'a> Cursor<'a> {
         if self.takes(text) {
             Ok(())
         } else {
-            Err(self.fault(Fault::Expected(text)))
+            Err(self.fault(Fault::Missing(text)))
         }
     }
 

@@ -5,7 +5,7 @@ use crate::members::{
     Beginning, beginning_with_word, call, has, key, literal, method_call, number_since, slot,
 };
 use crate::names::entity_type;
-use crate::operators::{Level, comparison, joined, next_connective};
+use crate::operators::{Level, compared, is_in, joined, next_comparison, next_connective};
 use crate::parts::{Part, in_parentheses, part_since};
 use crate::texts::{pattern, text};
 use crate::tokens::TokenKind;
@@ -80,14 +80,42 @@ fn relation(cursor: &mut Cursor<'_>, left: usize) -> Result<Part, ReadError> {
         let pattern = pattern(cursor)?;
         Expr::like(alloc, first.expr, pattern)?
     } else if cursor.takes("is") {
-        let named = entity_type(cursor)?;
-        Expr::is_entity_type(alloc, first.expr, named)?
-    } else if let Some(operator) = comparison(cursor) {
+        return typed(cursor, first, left);
+    } else if let Some(comparison) = next_comparison(cursor) {
         let right = connected(cursor, Level::Sum, left)?;
-        Expr::binary_app(alloc, operator, first.expr, right.expr)?
+        compared(
+            alloc,
+            cursor.since(start),
+            comparison,
+            first.expr,
+            right.expr,
+        )?
     } else {
         return Ok(first);
     };
+    Ok(part_since(cursor, start, whole))
+}
+
+/// Reads what stands behind `is`: a type, and perhaps `in` and an operand.
+#[cycle(expressions)]
+fn typed(cursor: &mut Cursor<'_>, first: Part, left: usize) -> Result<Part, ReadError> {
+    let Some(left) = left.checked_sub(1) else {
+        return Err(cursor.fault(Fault::TooDeep));
+    };
+    let alloc = cursor.alloc;
+    let start = first.covers.start;
+    let named = entity_type(cursor)?;
+    if !cursor.is_at("in") {
+        let whole = Expr::is_entity_type(alloc, first.expr, named)?;
+        return Ok(part_since(cursor, start, whole));
+    }
+    // the operand stands in the tree twice
+    if !cursor.may_copy(first.covers) {
+        return Err(cursor.fault(Fault::TooDeep));
+    }
+    cursor.take();
+    let right = connected(cursor, Level::Sum, left)?;
+    let whole = is_in(alloc, cursor.since(start), first.expr, named, right.expr)?;
     Ok(part_since(cursor, start, whole))
 }
 

@@ -15,10 +15,18 @@ pub enum Fault {
     Number,
     #[error("a text that does not end, or an escape that is none")]
     Text,
+    /// Aliases stand for others so often that their types would be too large.
+    #[error("aliases that stand for too much")]
+    TooLarge,
     #[error("the same key twice")]
     SameKey,
+    #[error("the same name twice")]
+    SameName,
     #[error("a name that is not declared")]
     Undeclared,
+    /// This word or mark should stand here.
+    #[error("{0} is expected")]
+    Missing(&'static str),
     /// Something else should stand here.
     #[error("{0} is expected")]
     Expected(&'static str),

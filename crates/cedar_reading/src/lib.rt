@@ -1,7 +1,8 @@
-//! Policies, schemas and types as texts: a notation for cases, with a fault and its place for what cannot be read. It is no
-//! parser of the language, and no clause is claimed of it.
+//! Policies and schemas as texts, those of cases and those of files, and types as they are shown; with a fault and its place
+//! for what cannot be read. Nothing is claimed of it but that it is safe and ends.
 #![tactic(auto)]
 
+mod annotations;
 mod cursor;
 mod expressions;
 mod faults;
@@ -9,6 +10,7 @@ mod members;
 mod names;
 mod operators;
 mod parts;
+mod policies;
 mod positions;
 mod schemas;
 mod scopes;
@@ -18,7 +20,12 @@ mod tokens;
 
 pub use cursor::MAX_LENGTH;
 pub use faults::{Fault, ReadError};
+pub use policies::Policies;
 pub use positions::Position;
-pub use schemas::{RefusedName, SchemaReadError, refused_name, schema};
+pub use schemas::{
+    Notation, RefusedName, SchemaDeclarations, SchemaReadError, refused_name, schema,
+    schema_as_given, schema_declarations,
+};
 pub use scopes::{condition, policy, scope_alone, uid_alone, whole_policy};
 pub use shown_types::type_alone;
+pub use tokens::token_text;

@@ -1,6 +1,6 @@
 // The operators that stand between two operands, by how strongly they bind.
 use crate::cursor::Cursor;
-use cedar_types::base::{BinaryOp, Expr};
+use cedar_types::base::{BinaryOp, EntityType, Expr, Loc};
 use std::alloc::{AllocError, Global};
 
 /// Operators that bind equally strongly, and from left to right.
@@ -32,17 +32,63 @@ pub fn next_connective(cursor: &mut Cursor<'_>, level: Level) -> Option<Connecti
     cursor.takes(text).then_some(connective)
 }
 
+/// A comparison: an operator, or what is true where it is false.
+#[derive(Clone, Copy)]
+pub struct Comparison {
+    pub operator: BinaryOp,
+    pub is_negated: bool,
+}
+
 /// Reads a comparison, if one comes next.
-pub fn comparison(cursor: &mut Cursor<'_>) -> Option<BinaryOp> {
-    let operator = match cursor.peek().text {
-        "==" => BinaryOp::Eq,
-        "<" => BinaryOp::Less,
-        "<=" => BinaryOp::LessEq,
-        "in" => BinaryOp::In,
+pub fn next_comparison(cursor: &mut Cursor<'_>) -> Option<Comparison> {
+    let (operator, is_negated) = match cursor.peek().text {
+        "==" => (BinaryOp::Eq, false),
+        "!=" => (BinaryOp::Eq, true),
+        "<" => (BinaryOp::Less, false),
+        ">=" => (BinaryOp::Less, true),
+        "<=" => (BinaryOp::LessEq, false),
+        ">" => (BinaryOp::LessEq, true),
+        "in" => (BinaryOp::In, false),
         _ => return None,
     };
     cursor.take();
-    Some(operator)
+    Some(Comparison {
+        operator,
+        is_negated,
+    })
+}
+
+/// Both operands with a comparison between them. It stands at this place, also where it is negated.
+pub fn compared(
+    alloc: Global,
+    place: Loc,
+    comparison: Comparison,
+    left: Expr,
+    right: Expr,
+) -> Result<Expr, AllocError> {
+    let whole = Expr::binary_app(alloc, comparison.operator, left, right)?;
+    if !comparison.is_negated {
+        return Ok(whole);
+    }
+    Expr::not(alloc, whole.with_maybe_source_loc(Some(place)))
+}
+
+/// `left is entity_type && left in right`, of which both sides stand at this place.
+pub fn is_in(
+    alloc: Global,
+    place: Loc,
+    left: Expr,
+    entity_type: EntityType,
+    right: Expr,
+) -> Result<Expr, AllocError> {
+    let copy = left.try_clone(alloc)?;
+    let within = Expr::is_in(alloc, copy, right)?;
+    let typed = Expr::is_entity_type(alloc, left, entity_type)?;
+    Expr::and(
+        alloc,
+        typed.with_maybe_source_loc(Some(place)),
+        within.with_maybe_source_loc(Some(place)),
+    )
 }
 
 /// The operator that is called like a method, if there is one of this name.

@@ -12,10 +12,11 @@ mod types;
 
 use crate::faults::ReadError;
 use blocks::all_declarations;
-use cedar_types::base::{SchemaError, ValidatorSchema};
+use cedar_types::base::{SchemaError, ValidatorActionId, ValidatorEntityType, ValidatorSchema};
 use closed::{closed_actions, closed_types};
 use declarations::Declarations;
 use meanings::Names;
+pub use meanings::Notation;
 pub use refusals::{RefusedName, refused_name};
 use std::alloc::Global;
 
@@ -49,18 +50,54 @@ impl From<SchemaError> for SchemaReadError {
 ///
 /// Descendants are what `in` says, over any number of steps. An action without `appliesTo` applies to nothing.
 pub fn schema(alloc: Global, text: &str) -> Result<ValidatorSchema, SchemaReadError> {
-    let read = declarations_of(alloc, text)?;
+    schema_of(alloc, schema_declarations(alloc, text, Notation::Schema)?)
+}
+
+/// The schema of declarations that are given one by one, which Cedar's syntax cannot say: types may be any that are shown,
+/// `above [B, C]` in the place of `in` gives the descendants, and none are added, an action may be named by its whole id,
+/// and `external` may stand before `entity` or `action`. It fails as `schema` does.
+pub fn schema_as_given(alloc: Global, text: &str) -> Result<ValidatorSchema, SchemaReadError> {
+    schema_of(alloc, schema_declarations(alloc, text, Notation::AsGiven)?)
+}
+
+fn schema_of(
+    alloc: Global,
+    declared: SchemaDeclarations,
+) -> Result<ValidatorSchema, SchemaReadError> {
+    Ok(ValidatorSchema::new(alloc, declared.entity_types, declared.actions)?)
+}
+
+/// What `ValidatorSchema::new` takes.
+#[derive(Drop)]
+pub struct SchemaDeclarations {
+    pub entity_types: Vec<ValidatorEntityType>,
+    pub actions: Vec<ValidatorActionId>,
+}
+
+/// What a text declares, each name on its own. It fails where the text cannot be read, and where a parent in it is declared
+/// nowhere.
+pub fn schema_declarations(
+    alloc: Global,
+    text: &str,
+    notation: Notation,
+) -> Result<SchemaDeclarations, ReadError> {
+    let read = declarations_of(alloc, text, notation)?;
     read.check_parents()?;
-    let types = closed_types(alloc, &read).map_err(ReadError::from)?;
-    let actions = closed_actions(alloc, &read).map_err(ReadError::from)?;
-    Ok(ValidatorSchema::new(alloc, types, actions)?)
+    Ok(SchemaDeclarations {
+        entity_types: closed_types(alloc, &read)?,
+        actions: closed_actions(alloc, &read)?,
+    })
 }
 
 /// What a text declares.
-fn declarations_of(alloc: Global, text: &str) -> Result<Declarations, ReadError> {
+fn declarations_of(
+    alloc: Global,
+    text: &str,
+    notation: Notation,
+) -> Result<Declarations, ReadError> {
     // what a name means depends on what stands behind it, so the first reading only finds what is
     // declared
     let nothing = Declarations::new(alloc);
-    let first = all_declarations(text, Names::outside(alloc, &nothing))?;
-    all_declarations(text, Names::outside(alloc, &first))
+    let first = all_declarations(text, Names::outside(alloc, &nothing, notation))?;
+    all_declarations(text, Names::outside(alloc, &first, notation))
 }

@@ -21,9 +21,9 @@ pub struct Scope {
 }
 
 /// Reads a scope alone: `permit(principal, action, resource)`.
-fn read_scope(cursor: &mut Cursor<'_>) -> Result<Scope, ReadError> {
-    if !cursor.takes("forbid") {
-        cursor.expect("permit")?;
+pub fn read_scope(cursor: &mut Cursor<'_>) -> Result<Scope, ReadError> {
+    if !cursor.takes("forbid") && !cursor.takes("permit") {
+        return Err(cursor.fault(Fault::Expected("`permit` or `forbid`")));
     }
     cursor.expect("(")?;
     let principal = entity_constraint(cursor, "principal")?;

@@ -25,7 +25,7 @@ pub fn type_alone(alloc: Global, text: &str) -> Result<CedarType, ReadError> {
 
 /// Reads a type.
 #[cycle(shown_types)]
-fn shown_type(cursor: &mut Cursor<'_>, left: usize) -> Result<CedarType, ReadError> {
+pub fn shown_type(cursor: &mut Cursor<'_>, left: usize) -> Result<CedarType, ReadError> {
     let Some(left) = left.checked_sub(1) else {
         return Err(cursor.fault(Fault::TooDeep));
     };

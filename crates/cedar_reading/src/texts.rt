@@ -41,40 +41,95 @@ pub fn pattern(cursor: &mut Cursor<'_>) -> Result<Vec<PatternElem>, ReadError> {
 /// The characters of a text, its escapes replaced by what they stand for. `None` where an escape is none.
 fn unescaped(alloc: Global, text: &str) -> Result<Option<Vec<PatternElem>>, ReadError> {
     let mut parts = Vec::new(alloc);
-    let mut is_escaped = false;
+    let mut escape = Escape::Outside;
     for c in text.chars() {
-        if !is_escaped & (c == '\\') {
-            is_escaped = true;
-            continue;
-        }
-        let Some(part) = meant(c, is_escaped) else {
+        let Some((next, part)) = step(escape, c) else {
             return Ok(None);
         };
-        parts.push(part)?;
-        is_escaped = false;
+        if let Some(part) = part {
+            parts.push(part)?;
+        }
+        escape = next;
     }
-    Ok(Some(parts))
+    Ok((escape == Escape::Outside).then_some(parts))
 }
 
-/// What a character stands for, by whether it is behind a backslash.
-fn meant(c: char, is_escaped: bool) -> Option<PatternElem> {
-    if is_escaped {
-        return Some(PatternElem::Char(escape(c)?));
-    }
-    if c == '*' {
-        return Some(PatternElem::Wildcard);
-    }
-    Some(PatternElem::Char(c))
+/// How much of an escape was read.
+#[derive(Clone, Copy, PartialEq, Eq)]
+enum Escape {
+    Outside,
+    Backslash,
+    /// `\x`, the value of the digits behind it, and how many they are.
+    Byte(u32, u8),
+    /// `\u`.
+    Unicode,
+    /// `\u{`, the value of the digits behind it, and how many they are.
+    Braces(u32, u8),
 }
 
-/// What a character behind a backslash stands for.
-fn escape(c: char) -> Option<char> {
+/// What follows when a character is read, and what it completes. `None` where no escape goes on so.
+fn step(escape: Escape, c: char) -> Option<(Escape, Option<PatternElem>)> {
+    match escape {
+        Escape::Outside => Some(plain(c)),
+        Escape::Backslash => behind_backslash(c),
+        Escape::Byte(value, digits) => byte(value, digits, c),
+        Escape::Unicode => (c == '{').then_some((Escape::Braces(0, 0), None)),
+        Escape::Braces(value, digits) => in_braces(value, digits, c),
+    }
+}
+
+fn plain(c: char) -> (Escape, Option<PatternElem>) {
     match c {
-        '"' | '\\' | '\'' | '*' => Some(c),
-        'n' => Some('\n'),
-        't' => Some('\t'),
-        'r' => Some('\r'),
-        '0' => Some('\0'),
-        _ => None,
+        '\\' => (Escape::Backslash, None),
+        '*' => (Escape::Outside, Some(PatternElem::Wildcard)),
+        _ => (Escape::Outside, Some(PatternElem::Char(c))),
     }
+}
+
+fn behind_backslash(c: char) -> Option<(Escape, Option<PatternElem>)> {
+    let meant = match c {
+        'x' => return Some((Escape::Byte(0, 0), None)),
+        'u' => return Some((Escape::Unicode, None)),
+        '"' | '\\' | '\'' | '*' => c,
+        'n' => '\n',
+        't' => '\t',
+        'r' => '\r',
+        '0' => '\0',
+        _ => return None,
+    };
+    Some(completed(meant))
+}
+
+/// One of two digits, whose value is below 128.
+fn byte(value: u32, digits: u8, c: char) -> Option<(Escape, Option<PatternElem>)> {
+    let value = with_digit(value, c)?;
+    if digits == 0 {
+        return Some((Escape::Byte(value, 1), None));
+    }
+    if value > 0x7f {
+        return None;
+    }
+    Some(completed(char::from_u32(value)?))
+}
+
+/// One of up to six digits, or the brace behind them.
+fn in_braces(value: u32, digits: u8, c: char) -> Option<(Escape, Option<PatternElem>)> {
+    if c == '}' && digits > 0 {
+        return Some(completed(char::from_u32(value)?));
+    }
+    if digits >= 6 {
+        return None;
+    }
+    Some((
+        Escape::Braces(with_digit(value, c)?, digits.saturating_add(1)),
+        None,
+    ))
+}
+
+fn with_digit(value: u32, c: char) -> Option<u32> {
+    Some(value.saturating_mul(16).saturating_add(c.to_digit(16)?))
+}
+
+fn completed(c: char) -> (Escape, Option<PatternElem>) {
+    (Escape::Outside, Some(PatternElem::Char(c)))
 }

@@ -27,14 +27,14 @@ pub struct Token<'a> {
 }
 
 /// The marks. A longer one stands before those that it begins with.
-const MARKS: [&str; 24] = [
-    "==", "<=", "&&", "||", "::", "(", ")", "[", "]", "{", "}", ",", ";", ":", ".", "?", "!", "<",
-    ">", "+", "-", "*", "=", "|",
+const MARKS: [&str; 27] = [
+    "==", "!=", "<=", ">=", "&&", "||", "::", "(", ")", "[", "]", "{", "}", ",", ";", ":", ".",
+    "?", "!", "<", ">", "+", "-", "*", "=", "|", "@",
 ];
 
-/// The first token of the text from this byte on, after blanks.
+/// The first token of the text from this byte on, after blanks and comments.
 pub fn token_from(text: &str, from: usize) -> Token<'_> {
-    let rest = text.get(from..).unwrap_or("").trim_start();
+    let rest = after_blanks(text.get(from..).unwrap_or(""));
     let start = text.len().saturating_sub(rest.len());
     let (kind, size) = first_of(rest);
     let shown = rest.get(..size).unwrap_or(rest);
@@ -43,6 +43,30 @@ pub fn token_from(text: &str, from: usize) -> Token<'_> {
         kind,
         text: shown,
         place: Loc { start, end },
+    }
+}
+
+/// What stands at a byte of a text: a word, a number, a text in quotes or a mark; empty at the end.
+pub fn token_text(text: &str, at: usize) -> &str {
+    token_from(text, at).text
+}
+
+/// The text behind the blanks and the comments at its beginning. A comment goes from `//` to the end of its line.
+fn after_blanks(text: &str) -> &str {
+    let mut rest = text.trim_start();
+    for _ in 0..text.len() {
+        if !rest.starts_with("//") {
+            break;
+        }
+        rest = after_line(rest).trim_start();
+    }
+    rest
+}
+
+fn after_line(text: &str) -> &str {
+    match text.split_once('\n') {
+        Some((_, rest)) => rest,
+        None => "",
     }
 }
 

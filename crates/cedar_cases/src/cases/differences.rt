@@ -1,5 +1,6 @@
 // What is written of a case that does not agree.
 use cedar_reading::{Fault, Position};
+use cedar_types::base::OneLine;
 use std::io;
 use std::io::Write;
 
@@ -16,7 +17,7 @@ pub fn write_fault<W: Write>(
     Ok(false)
 }
 
-/// Whether a column gets what it wants of the case in this line. Where it does not, both are written.
+/// Whether a column gets what it wants of the case in this line. Where it does not, both are written, each on one line.
 pub fn agrees<W: Write>(
     name: &str,
     number: usize,
@@ -28,6 +29,8 @@ pub fn agrees<W: Write>(
     if got == wanted {
         return Ok(true);
     }
+    let wanted = OneLine(wanted);
+    let got = OneLine(got);
     writeln!(out, "{name}:{number}: {column}: wanted {wanted}")?;
     writeln!(out, "{name}:{number}: {column}: got {got}")?;
     Ok(false)

@@ -2,13 +2,16 @@
 use crate::cases::differences::{agrees, write_fault};
 use crate::cases::files::FileFault;
 use crate::cases::report::Tally;
-use cedar_reading::{Fault, ReadError, SchemaReadError, schema};
+use cedar_reading::{Fault, Notation, ReadError, SchemaReadError, schema, schema_as_given};
 use std::alloc::{AllocError, Global};
 use std::io;
 use std::io::Write;
 
 /// The first line of such a file.
 const FIRST: &str = "schemas";
+
+/// The same where the declarations are given one by one.
+const FIRST_AS_GIVEN: &str = "schemas\tas given";
 
 /// Its second line.
 const COLUMNS: &str = "declarations\trefusal";
@@ -19,9 +22,13 @@ const NO_REFUSAL: &str = "ok";
 /// How many lines there are before the cases.
 const HEAD: usize = 2;
 
-/// Whether each case of a file of this text brings its own declarations.
-pub fn has_own_declarations(text: &str) -> bool {
-    text.lines().next() == Some(FIRST)
+/// How the declarations of each case are written, where the cases of a file of this text bring their own.
+pub fn notation_of(text: &str) -> Option<Notation> {
+    match text.lines().next() {
+        Some(FIRST) => Some(Notation::Schema),
+        Some(FIRST_AS_GIVEN) => Some(Notation::AsGiven),
+        _ => None,
+    }
 }
 
 /// What is wrong with the second line of such a file: with all of its names, since it has these two.
@@ -38,6 +45,7 @@ pub fn run_refusals<W: Write>(
     alloc: Global,
     name: &str,
     text: &str,
+    notation: Notation,
     out: &mut W,
 ) -> io::Result<Tally> {
     let mut tally = Tally { ran: 0, wrong: 0 };
@@ -48,7 +56,7 @@ pub fn run_refusals<W: Write>(
             continue;
         }
         tally.ran = tally.ran.saturating_add(1);
-        if !run_line(alloc, name, number, line, out)? {
+        if !run_line(alloc, name, (number, line), notation, out)? {
             tally.wrong = tally.wrong.saturating_add(1);
         }
     }
@@ -59,15 +67,15 @@ pub fn run_refusals<W: Write>(
 fn run_line<W: Write>(
     alloc: Global,
     name: &str,
-    number: usize,
-    line: &str,
+    (number, line): (usize, &str),
+    notation: Notation,
     out: &mut W,
 ) -> io::Result<bool> {
     let (declarations, wanted) = match fields_of(line) {
         Ok(fields) => fields,
         Err(fault) => return write_fault(name, number, line, fault, out),
     };
-    let got = match refusal_of(alloc, declarations)? {
+    let got = match refusal_of(alloc, declarations, notation)? {
         Ok(got) => got,
         Err(fault) => return write_fault(name, number, line, fault, out),
     };
@@ -96,8 +104,13 @@ fn fields_of(line: &str) -> Result<(&str, &str), (usize, Fault)> {
 fn refusal_of(
     alloc: Global,
     declarations: &str,
+    notation: Notation,
 ) -> Result<Result<String, (usize, Fault)>, AllocError> {
-    match schema(alloc, declarations) {
+    let answer = match notation {
+        Notation::Schema => schema(alloc, declarations),
+        Notation::AsGiven => schema_as_given(alloc, declarations),
+    };
+    match answer {
         Ok(_) => Ok(Ok(String::from_str(alloc, NO_REFUSAL)?)),
         Err(SchemaReadError::Refused(refusal)) => Ok(Ok(refusal.to_string(alloc)?)),
         Err(SchemaReadError::Read(ReadError::Memory(error))) => Err(error),

@@ -1,17 +1,18 @@
 // Declarations of actions.
 use crate::cursor::{Cursor, MAX_NESTING};
-use crate::faults::ReadError;
+use crate::faults::{Fault, ReadError};
 use crate::members::key;
 use crate::names::placed_name;
 use crate::schemas::declarations::{Declaration, Placed};
 use crate::schemas::entity_types::one_or_more_types;
 use crate::schemas::lists::{Listing, one_or_in_brackets};
 use crate::schemas::meanings::Names;
-use crate::schemas::types::record;
+use crate::schemas::types::cedar_type;
 use crate::texts::text;
 use crate::tokens::TokenKind;
 use cedar_types::base::{
-    Attributes, CedarType, EntityType, EntityUID, Name, OpenTag, ValidatorApplySpec,
+    Attributes, CedarType, EntityType, EntityUID, Name, OpenTag, ValidatorActionKind,
+    ValidatorApplySpec,
 };
 use std::alloc::{AllocError, Global};
 use std::collections::{BTreeMap, BTreeSet};
@@ -21,9 +22,14 @@ use std::rc::Rc;
 pub fn action_declaration(
     cursor: &mut Cursor<'_>,
     names: &Names<'_>,
-) -> Result<Declaration<EntityUID, ValidatorApplySpec>, ReadError> {
+) -> Result<Declaration<EntityUID, ValidatorActionKind>, ReadError> {
     let declared = own_actions(cursor, names)?;
-    let parents = if cursor.takes("in") {
+    let given = if names.are_as_given() {
+        Some(actions_above(cursor, names)?)
+    } else {
+        None
+    };
+    let parents = if given.is_none() && cursor.takes("in") {
         one_or_more_actions(cursor, names)?
     } else {
         Vec::new(cursor.alloc)
@@ -37,8 +43,37 @@ pub fn action_declaration(
     Ok(Declaration {
         names: declared,
         parents,
-        kind: applies_to,
+        given,
+        kind: ValidatorActionKind::Defined(applies_to),
     })
+}
+
+/// Reads a declaration of external actions behind its first two words.
+pub fn external_actions(
+    cursor: &mut Cursor<'_>,
+    names: &Names<'_>,
+) -> Result<Declaration<EntityUID, ValidatorActionKind>, ReadError> {
+    let declared = own_actions(cursor, names)?;
+    let given = actions_above(cursor, names)?;
+    cursor.expect(";")?;
+    Ok(Declaration {
+        names: declared,
+        parents: Vec::new(cursor.alloc),
+        given: Some(given),
+        kind: ValidatorActionKind::External,
+    })
+}
+
+/// Reads the descendants behind `above`: none where it is missing.
+fn actions_above(
+    cursor: &mut Cursor<'_>,
+    names: &Names<'_>,
+) -> Result<Vec<Placed<EntityUID>>, ReadError> {
+    if cursor.takes("above") {
+        one_or_more_actions(cursor, names)
+    } else {
+        Ok(Vec::new(cursor.alloc))
+    }
 }
 
 /// Reads the ids that are declared.
@@ -52,11 +87,25 @@ fn own_actions(
             break;
         }
         let start = cursor.start();
-        let eid = key(cursor)?;
-        let name = names.own_action(eid.as_str())?;
+        let name = own_action(cursor, names)?;
         declared.push(Placed { name, start })?;
     }
     Ok(declared)
+}
+
+/// Reads an id that is declared: the whole of it where declarations are as given, if it has a type.
+fn own_action(cursor: &mut Cursor<'_>, names: &Names<'_>) -> Result<EntityUID, ReadError> {
+    if !names.are_as_given() || cursor.peek().kind != TokenKind::Word {
+        let eid = key(cursor)?;
+        return Ok(names.own_action(eid.as_str())?);
+    }
+    let read = placed_name(cursor)?;
+    if !read.is_of_id {
+        return Ok(names.own_action(read.name.basename.as_str())?);
+    }
+    let eid = text(cursor)?;
+    let action_type = EntityType::new(read.name, None);
+    Ok(EntityUID::from_components(cursor.alloc, action_type, eid.as_str(), None)?)
 }
 
 /// Reads an action, or any number of them in brackets.
@@ -93,24 +142,82 @@ fn named_action(cursor: &mut Cursor<'_>, names: &Names<'_>) -> Result<EntityUID,
     Ok(names.action(read.name, eid.as_str())?)
 }
 
-/// Reads what an action applies to.
+/// The parts of what an action applies to.
+#[derive(Drop)]
+struct AppliedTo {
+    principals: Option<BTreeSet<EntityType>>,
+    resources: Option<BTreeSet<EntityType>>,
+    context: Option<CedarType>,
+}
+
+/// Reads what an action applies to: its principals and its resources, and perhaps a context, in any order.
 fn application(
     cursor: &mut Cursor<'_>,
     names: &Names<'_>,
 ) -> Result<ValidatorApplySpec, ReadError> {
     cursor.expect("{")?;
-    let principals = applied_types(cursor, names, "principal")?;
-    cursor.expect(",")?;
-    let resources = applied_types(cursor, names, "resource")?;
-    let context = if cursor.takes(",") && cursor.takes("context") {
-        cursor.expect(":")?;
-        let context = record(cursor, names, MAX_NESTING)?;
-        cursor.takes(",");
-        context
-    } else {
-        empty_record(cursor.alloc)?
+    let mut read = AppliedTo {
+        principals: None,
+        resources: None,
+        context: None,
     };
+    for _ in 0..cursor.most_left() {
+        if cursor.is_at("}") {
+            break;
+        }
+        part_of_application(cursor, names, &mut read)?;
+        if !cursor.takes(",") {
+            break;
+        }
+    }
+    let whole = whole_application(cursor, read)?;
     cursor.expect("}")?;
+    Ok(whole)
+}
+
+/// Reads a part that is not there so far.
+fn part_of_application(
+    cursor: &mut Cursor<'_>,
+    names: &Names<'_>,
+    read: &mut AppliedTo,
+) -> Result<(), ReadError> {
+    match cursor.peek().text {
+        "principal" if read.principals.is_none() => {
+            read.principals = Some(applied_types(cursor, names, "principal")?);
+        }
+        "resource" if read.resources.is_none() => {
+            read.resources = Some(applied_types(cursor, names, "resource")?);
+        }
+        "context" if read.context.is_none() => {
+            cursor.take();
+            cursor.expect(":")?;
+            read.context = Some(cedar_type(cursor, names, MAX_NESTING)?);
+        }
+        _ => return Err(cursor.fault(Fault::Expected("another part of `appliesTo`"))),
+    }
+    Ok(())
+}
+
+/// The parts together. Principals and resources have to be there.
+fn whole_application(
+    cursor: &Cursor<'_>,
+    read: AppliedTo,
+) -> Result<ValidatorApplySpec, ReadError> {
+    let AppliedTo {
+        principals,
+        resources,
+        context,
+    } = read;
+    let context = match context {
+        Some(context) => context,
+        None => empty_record(cursor.alloc)?,
+    };
+    let Some(principals) = principals else {
+        return Err(cursor.fault(Fault::Expected("`principal`")));
+    };
+    let Some(resources) = resources else {
+        return Err(cursor.fault(Fault::Expected("`resource`")));
+    };
     Ok(ValidatorApplySpec {
         principal_apply_spec: principals,
         resource_apply_spec: resources,

@@ -1,10 +1,13 @@
 // The whole of a schema's text, and its namespaces.
-use crate::cursor::Cursor;
+use crate::annotations::annotations;
+use crate::cursor::{Cursor, MAX_NESTING};
 use crate::faults::{Fault, ReadError};
-use crate::schemas::actions::action_declaration;
-use crate::schemas::declarations::Declarations;
-use crate::schemas::entity_types::entity_declaration;
+use crate::schemas::actions::{action_declaration, external_actions};
+use crate::schemas::declarations::{Alias, Declarations};
+use crate::schemas::entity_types::{entity_declaration, external_types};
 use crate::schemas::meanings::Names;
+use crate::schemas::types::cedar_type;
+use cedar_types::base::Name;
 
 /// Reads the declarations of a text, whose names mean this outside of namespaces.
 pub fn all_declarations(text: &str, outside: Names<'_>) -> Result<Declarations, ReadError> {
@@ -14,6 +17,7 @@ pub fn all_declarations(text: &str, outside: Names<'_>) -> Result<Declarations, 
         if cursor.is_at_end() {
             break;
         }
+        annotations(&mut cursor)?;
         if cursor.takes("namespace") {
             namespace(&mut cursor, outside, &mut read)?;
         } else {
@@ -63,12 +67,51 @@ fn declaration(
     names: &Names<'_>,
     read: &mut Declarations,
 ) -> Result<(), ReadError> {
+    annotations(cursor)?;
     if cursor.takes("entity") {
         read.entity_types.push(entity_declaration(cursor, names)?)?;
     } else if cursor.takes("action") {
         read.actions.push(action_declaration(cursor, names)?)?;
+    } else if names.are_as_given() && cursor.takes("external") {
+        external(cursor, names, read)?;
+    } else if cursor.takes("type") {
+        alias_declaration(cursor, names, read)?;
     } else {
         return Err(cursor.fault(Fault::Expected("a declaration")));
     }
+    Ok(())
+}
+
+/// Reads an external declaration behind its first word, and adds it.
+fn external(
+    cursor: &mut Cursor<'_>,
+    names: &Names<'_>,
+    read: &mut Declarations,
+) -> Result<(), ReadError> {
+    if cursor.takes("entity") {
+        read.entity_types.push(external_types(cursor, names)?)?;
+    } else {
+        cursor.expect("action")?;
+        read.actions.push(external_actions(cursor, names)?)?;
+    }
+    Ok(())
+}
+
+/// Reads a declaration of a name for a type behind its first word, and adds it.
+fn alias_declaration(
+    cursor: &mut Cursor<'_>,
+    names: &Names<'_>,
+    read: &mut Declarations,
+) -> Result<(), ReadError> {
+    let fault = cursor.fault(Fault::SameName);
+    let name = Name::new(cursor.alloc, cursor.word()?, names.namespace)?;
+    if read.alias(&name).is_some() {
+        return Err(fault);
+    }
+    cursor.expect("=")?;
+    let start = cursor.start();
+    cedar_type(cursor, names, MAX_NESTING)?;
+    cursor.expect(";")?;
+    read.aliases.push(Alias { name, start })?;
     Ok(())
 }

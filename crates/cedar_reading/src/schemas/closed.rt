@@ -1,6 +1,6 @@
 // Declarations as a schema takes them: each name on its own, with its descendants.
 use crate::schemas::declarations::Declarations;
-use crate::schemas::descendants::descendants;
+use crate::schemas::descendants::descendants_of;
 use cedar_types::base::{
     StandardValidatorEntityType, ValidatorActionId, ValidatorActionKind, ValidatorApplySpec,
     ValidatorEntityType, ValidatorEntityTypeKind,
@@ -18,7 +18,7 @@ pub fn closed_types(
         for own in &declaration.names {
             types.push(ValidatorEntityType {
                 name: own.name.clone()?,
-                descendants: descendants(alloc, declared, &own.name)?,
+                descendants: descendants_of(alloc, declared, declaration, &own.name)?,
                 kind: copy_of_kind(&declaration.kind)?,
             })?;
         }
@@ -48,15 +48,23 @@ pub fn closed_actions(
     let mut actions = Vec::new(alloc);
     for declaration in declared {
         for own in &declaration.names {
-            let applies_to = copy_of_application(&declaration.kind)?;
             actions.push(ValidatorActionId {
                 name: own.name.clone()?,
-                descendants: descendants(alloc, declared, &own.name)?,
-                kind: ValidatorActionKind::Defined(applies_to),
+                descendants: descendants_of(alloc, declared, declaration, &own.name)?,
+                kind: copy_of_action_kind(&declaration.kind)?,
             })?;
         }
     }
     Ok(actions)
+}
+
+fn copy_of_action_kind(kind: &ValidatorActionKind) -> Result<ValidatorActionKind, AllocError> {
+    match kind {
+        ValidatorActionKind::Defined(applies_to) => {
+            Ok(ValidatorActionKind::Defined(copy_of_application(applies_to)?))
+        }
+        ValidatorActionKind::External => Ok(ValidatorActionKind::External),
+    }
 }
 
 fn copy_of_application(applies_to: &ValidatorApplySpec) -> Result<ValidatorApplySpec, AllocError> {

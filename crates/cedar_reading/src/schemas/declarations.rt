@@ -1,6 +1,8 @@
 // The declarations that were read of a schema's text.
 use crate::faults::{Fault, ReadError};
-use cedar_types::base::{EntityType, EntityUID, ValidatorApplySpec, ValidatorEntityTypeKind};
+use cedar_types::base::{
+    EntityType, EntityUID, Name, ValidatorActionKind, ValidatorEntityTypeKind,
+};
 use std::alloc::Global;
 
 /// What was read, and the byte at which it stands.
@@ -16,23 +18,40 @@ pub struct Declaration<N, K> {
     pub names: Vec<Placed<N>>,
     /// What each of them is in, as the declaration says.
     pub parents: Vec<Placed<N>>,
+    /// The descendants of each, where they are given.
+    pub given: Option<Vec<Placed<N>>>,
     pub kind: K,
+}
+
+/// A declaration of a name for a type.
+#[derive(Drop)]
+pub struct Alias {
+    pub name: Name,
+    /// The byte at which the type begins.
+    pub start: usize,
 }
 
 /// What a text declares, in its order.
 #[derive(Drop)]
 pub struct Declarations {
+    pub aliases: Vec<Alias>,
     pub entity_types: Vec<Declaration<EntityType, ValidatorEntityTypeKind>>,
-    pub actions: Vec<Declaration<EntityUID, ValidatorApplySpec>>,
+    pub actions: Vec<Declaration<EntityUID, ValidatorActionKind>>,
 }
 
 impl Declarations {
     /// None so far.
     pub fn new(alloc: Global) -> Declarations {
         Declarations {
+            aliases: Vec::new(alloc),
             entity_types: Vec::new(alloc),
             actions: Vec::new(alloc),
         }
+    }
+
+    /// The alias of this name, if it is declared.
+    pub fn alias(&self, name: &Name) -> Option<&Alias> {
+        self.aliases.iter().find(|alias| alias.name == *name)
     }
 
     /// Whether this entity type is declared.

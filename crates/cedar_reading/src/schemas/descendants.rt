@@ -3,8 +3,23 @@ use crate::schemas::declarations::{Declaration, Placed};
 use std::alloc::{AllocError, Global};
 use std::collections::BTreeSet;
 
+/// The descendants of a name that this declaration declares: those that it gives, or what is in that name.
+pub fn descendants_of<N: Ord + Clone + Drop, K>(
+    alloc: Global,
+    declared: &[Declaration<N, K>],
+    declaration: &Declaration<N, K>,
+    own: &N,
+) -> Result<BTreeSet<N>, AllocError> {
+    let Some(given) = &declaration.given else {
+        return descendants(alloc, declared, own);
+    };
+    let mut found = BTreeSet::new(alloc);
+    add_all(given.as_slice(), &mut found)?;
+    Ok(found)
+}
+
 /// What is in this name. It is among them itself where it is in one of them.
-pub fn descendants<N: Ord + Clone + Drop, K>(
+fn descendants<N: Ord + Clone + Drop, K>(
     alloc: Global,
     declared: &[Declaration<N, K>],
     ancestor: &N,

@@ -19,11 +19,16 @@ pub fn entity_declaration(
     names: &Names<'_>,
 ) -> Result<Declaration<EntityType, ValidatorEntityTypeKind>, ReadError> {
     let declared = own_types(cursor, names)?;
+    let given = if names.are_as_given() {
+        Some(types_above(cursor, names)?)
+    } else {
+        None
+    };
     let mut parents = Vec::new(cursor.alloc);
     let kind = if cursor.takes("enum") {
         ValidatorEntityTypeKind::Enum(ids(cursor)?)
     } else {
-        if cursor.takes("in") {
+        if given.is_none() && cursor.takes("in") {
             parents = one_or_more_types(cursor, names)?;
         }
         ValidatorEntityTypeKind::Standard(standard(cursor, names)?)
@@ -32,8 +37,37 @@ pub fn entity_declaration(
     Ok(Declaration {
         names: declared,
         parents,
+        given,
         kind,
     })
+}
+
+/// Reads a declaration of external entity types behind its first two words.
+pub fn external_types(
+    cursor: &mut Cursor<'_>,
+    names: &Names<'_>,
+) -> Result<Declaration<EntityType, ValidatorEntityTypeKind>, ReadError> {
+    let declared = own_types(cursor, names)?;
+    let given = types_above(cursor, names)?;
+    cursor.expect(";")?;
+    Ok(Declaration {
+        names: declared,
+        parents: Vec::new(cursor.alloc),
+        given: Some(given),
+        kind: ValidatorEntityTypeKind::External,
+    })
+}
+
+/// Reads the descendants behind `above`: none where it is missing.
+fn types_above(
+    cursor: &mut Cursor<'_>,
+    names: &Names<'_>,
+) -> Result<Vec<Placed<EntityType>>, ReadError> {
+    if cursor.takes("above") {
+        one_or_more_types(cursor, names)
+    } else {
+        Ok(Vec::new(cursor.alloc))
+    }
 }
 
 /// Reads the names that are declared.

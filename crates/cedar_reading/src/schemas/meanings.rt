@@ -1,8 +1,17 @@
 // What the names of a schema's text mean. None has a place: places are those of a policy's text.
 use crate::faults::{Fault, ReadError};
-use crate::schemas::declarations::Declarations;
+use crate::schemas::declarations::{Alias, Declarations};
 use cedar_types::base::{EntityType, EntityUID, Name};
 use std::alloc::{AllocError, Global};
+
+/// How declarations are written.
+#[derive(Clone, Copy, PartialEq, Eq, Debug)]
+pub enum Notation {
+    /// In Cedar's own syntax.
+    Schema,
+    /// One by one, as a schema takes them.
+    AsGiven,
+}
 
 /// What names mean where they are read.
 #[derive(Clone, Copy)]
@@ -14,17 +23,39 @@ pub struct Names<'a> {
     pub declared: &'a Declarations,
     /// Whether an entity type that is named has to be declared, or be one of actions.
     pub have_to_be_known: bool,
+    pub notation: Notation,
 }
 
 impl<'a> Names<'a> {
     /// Outside of namespaces, where any name may be used.
-    pub fn outside(alloc: Global, declared: &'a Declarations) -> Names<'a> {
+    pub fn outside(alloc: Global, declared: &'a Declarations, notation: Notation) -> Names<'a> {
         Names {
             alloc,
             namespace: &[],
             declared,
             have_to_be_known: false,
+            notation,
         }
+    }
+
+    /// Whether declarations are given one by one.
+    pub fn are_as_given(&self) -> bool {
+        self.notation == Notation::AsGiven
+    }
+
+    /// The alias that a name means, if it means one: without a path one of the namespace, unless that declares an entity type
+    /// of the name, else the one of this very name.
+    pub fn alias(&self, name: &Name) -> Result<Option<&'a Alias>, AllocError> {
+        if name.path.is_empty() {
+            let own = self.own_type(name.basename.as_str())?;
+            if let Some(alias) = self.declared.alias(&own.name) {
+                return Ok(Some(alias));
+            }
+            if self.declared.has_type(&own) {
+                return Ok(None);
+            }
+        }
+        Ok(self.declared.alias(name))
     }
 
     /// Fails at the entity type that stands at this byte, if it has to be known and is not.

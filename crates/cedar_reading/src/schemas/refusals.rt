@@ -5,7 +5,7 @@ use crate::names::placed_name;
 use crate::schemas::blocks::all_declarations;
 use crate::schemas::declarations::{Declaration, Declarations, Placed};
 use crate::schemas::declarations_of;
-use crate::schemas::meanings::Names;
+use crate::schemas::meanings::{Names, Notation};
 use cedar_types::base::{EntityType, SchemaError, ValidatorEntityTypeKind};
 use std::alloc::{AllocError, Global};
 use std::collections::BTreeSet;
@@ -40,7 +40,7 @@ fn name_of_fault(
     text: &str,
     fault: &SchemaError,
 ) -> Result<Option<RefusedName>, ReadError> {
-    let read = declarations_of(alloc, text)?;
+    let read = declarations_of(alloc, text, Notation::Schema)?;
     let types = read.entity_types.as_slice();
     let found = match fault {
         SchemaError::DuplicateEntityType => shown(alloc, repeated(alloc, types)?)?,
@@ -116,7 +116,7 @@ fn unknown(
 ) -> Result<Option<RefusedName>, ReadError> {
     let names = Names {
         have_to_be_known: true,
-        ..Names::outside(alloc, declared)
+        ..Names::outside(alloc, declared, Notation::Schema)
     };
     let start = match all_declarations(text, names) {
         Ok(_) => return Ok(None),

@@ -12,6 +12,9 @@ decreases-operand l = l.left
 abbrev pub decreases-relation : goal.decreases-relation
 decreases-relation l = l.left
 
+abbrev pub decreases-typed : goal.decreases-typed
+decreases-typed l = l.left
+
 abbrev pub decreases-unary : goal.decreases-unary
 decreases-unary l = l.left
 

@@ -8,3 +8,9 @@ decreases-cedar_type l = l.left
 
 abbrev pub decreases-record : goal.decreases-record
 decreases-record l = l.left
+
+abbrev pub decreases-named_type : goal.decreases-named_type
+decreases-named_type l = l.left
+
+abbrev pub decreases-aliased : goal.decreases-aliased
+decreases-aliased l = l.left
