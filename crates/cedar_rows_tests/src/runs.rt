@@ -62,8 +62,14 @@ row 41: applies; warning principal=true resource=false; warning principal=false 
 row 42: warning principal=true resource=false; applies; ok\n\
 row 43: errors=1 warnings=1; errors=0 warnings=1; ok\n\
 row 44: errors=1 warnings=0; errors=0 warnings=0; ok\n\
+row 45: Irrelevant errors=0; Success; Success; ok\n\
+row 46: Fail errors=1; Fail errors=0; Fail errors=2; Fail errors=0; Fail errors=1; \
+    Fail errors=1; ok\n\
 row 47: 10000; ok\n\
 row 48: errors=1 warnings=0; errors=0 warnings=0; ok\n\
+row 49: DuplicateEntityType; DuplicateAction; ActionTypeDeclared; NotAnActionType; EmptyEnum; \
+    UnknownType; UnknownActionDescendant; VagueType; DescendantsNotClosed; DuplicateEntityType; ok\n\
+row 50: Fail errors=0; Irrelevant errors=0; Fail errors=0; false errors=0 warnings=0; errors=1; ok\n\
 row 51: Success; Fail errors=1; Success; errors=1 warnings=0; ok\n\
 row 52: Success; Fail errors=1; Success; Success; Success; Fail errors=1; ok\n\
 row 53: 0; 4; 3; none; 2; 6; 0; 0; 1; ok\n\

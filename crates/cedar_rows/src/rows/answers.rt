@@ -51,7 +51,11 @@ impl Answer {
 
 /// The parts of a text, sorted by bytes, with the same between them.
 pub fn in_order(alloc: Global, text: &str, between: &str) -> Result<String, AllocError> {
-    let mut parts: Vec<&str> = text.split(between).collect(alloc)?;
+    // one by one, as `collect` passes over memory that is refused for a hint of how many there are
+    let mut parts = Vec::new(alloc);
+    for part in text.split(between) {
+        parts.push(part)?;
+    }
     parts.sort()?;
     parts.as_slice().join(alloc, between)
 }

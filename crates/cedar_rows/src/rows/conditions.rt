@@ -205,3 +205,39 @@ Fail errors=1
 ! IncompatibleTypes Entity Entity in Conditional @ if principal.bool then principal else resource
 for policy `policy0`, the types `Photo`, `User` are not compatible
 "#;
+
+/// What is nested too deep stands where it is never visited.
+pub const DEEP_UNVISITED: &str = r#"
+? S1 Strict check: false && TRUE_UNDER_450
+Irrelevant errors=0
+? S1 Strict check: true || TRUE_UNDER_450
+Success
+? S1 Strict check: if true then true else TRUE_UNDER_450
+Success
+"#;
+
+/// What is nested too deep stands before parts with errors, which are visited in some forms and not in others.
+pub const DEEP_BESIDE_ERRORS: &str = r#"
+? S1 Strict check: TRUE_UNDER_450 == (1 + "a")
+Fail errors=1
+! UnexpectedType Long but String @ "a"
+for policy `policy0`, unexpected type: expected `Long` but saw `String`
+? S1 Strict check: (TRUE_UNDER_450 + (1 + "a")) == 2
+Fail errors=0
+? S1 Strict check: [1, "a", TRUE_UNDER_450, 1 + "b"].isEmpty()
+Fail errors=2
+! IncompatibleTypes Long String in Set @ [1, "a", TRUE_UNDER_450, 1 + "b"]
+for policy `policy0`, the types `Long`, `String` are not compatible
+! UnexpectedType Long but String @ "b"
+for policy `policy0`, unexpected type: expected `Long` but saw `String`
+? S1 Strict check: {a: TRUE_UNDER_450, b: 1 + "a"} has a
+Fail errors=0
+? S1 Strict check: nope(TRUE_UNDER_450)
+Fail errors=1
+! UndefinedFunction @ nope(TRUE_UNDER_450)
+for policy `policy0`, undefined extension function `nope`
+? S1 Strict check: if principal.bool then TRUE_UNDER_450 else (1 + "a") == 2
+Fail errors=1
+! UnexpectedType Long but String @ "a"
+for policy `policy0`, unexpected type: expected `Long` but saw `String`
+"#;

@@ -2,7 +2,7 @@
 use crate::rows::{NamedRow, Nested, Steps, conditions, dereferences, policies};
 
 /// `true` under so many negations that it stands at the limit of depth, and beyond it.
-const NEGATIONS: [Nested; 2] = [
+const NEGATIONS: [Nested; 3] = [
     Nested {
         word: "TRUE_UNDER_398",
         around: ["!", ""],
@@ -13,6 +13,12 @@ const NEGATIONS: [Nested; 2] = [
         word: "TRUE_UNDER_399",
         around: ["!", ""],
         times: 399,
+        inner: "true",
+    },
+    Nested {
+        word: "TRUE_UNDER_450",
+        around: ["!", ""],
+        times: 450,
         inner: "true",
     },
 ];
@@ -43,7 +49,7 @@ const CONDITIONALS: [Nested; 1] = [Nested {
 }];
 
 /// The rows, in the order in which they run.
-pub const WORKED: [NamedRow<Steps>; 51] = [
+pub const WORKED: [NamedRow<Steps>; 55] = [
     NamedRow {
         name: "1",
         row: Steps(dereferences::NO_DEREFERENCE, &[]),
@@ -221,12 +227,28 @@ pub const WORKED: [NamedRow<Steps>; 51] = [
         row: Steps(dereferences::EQUAL_ENVIRONMENTS, &[]),
     },
     NamedRow {
+        name: "45",
+        row: Steps(conditions::DEEP_UNVISITED, &NEGATIONS),
+    },
+    NamedRow {
+        name: "46",
+        row: Steps(conditions::DEEP_BESIDE_ERRORS, &NEGATIONS),
+    },
+    NamedRow {
         name: "47",
         row: Steps(dereferences::LONG_CHAIN, &USERS),
     },
     NamedRow {
         name: "48",
         row: Steps(dereferences::LONG_CHAIN_OF_TESTS, &USERS),
+    },
+    NamedRow {
+        name: "49",
+        row: Steps(policies::FAULTY_SCHEMAS, &[]),
+    },
+    NamedRow {
+        name: "50",
+        row: Steps(policies::UNKNOWN_TYPE_AS_OPERAND, &[]),
     },
     NamedRow {
         name: "51",

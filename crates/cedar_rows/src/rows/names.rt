@@ -5,6 +5,7 @@ use crate::rows::answers::{Answer, Asked};
 use cedar_fixtures::faulty_functions::listed;
 use cedar_fixtures::findings::{push_error, push_warning};
 use cedar_fixtures::questions::Subject;
+use cedar_reading::{ReadError, SchemaReadError, schema_as_given};
 use cedar_typechecker::rbac::Validator;
 use cedar_types::base::{ExtensionSchemas, ValidationError, ValidationWarning};
 use std::alloc::{AllocError, Global};
@@ -101,6 +102,16 @@ pub fn refusal(alloc: Global, functions: &str) -> Result<Answer, AllocError> {
     let outcome = match ExtensionSchemas::new(listed(alloc, functions)?, BTreeSet::new(alloc)) {
         Ok(_table) => String::from_str(alloc, "a table")?,
         Err(refusal) => refusal.to_string(alloc)?,
+    };
+    Ok(Answer::new(alloc, outcome))
+}
+
+/// Why there is no schema of these declarations, which are as given.
+pub fn schema_refusal(alloc: Global, declarations: &str) -> Result<Answer, ReadError> {
+    let outcome = match schema_as_given(alloc, declarations) {
+        Ok(_schema) => String::from_str(alloc, "a schema")?,
+        Err(SchemaReadError::Refused(refusal)) => refusal.to_string(alloc)?,
+        Err(SchemaReadError::Read(error)) => return Err(error),
     };
     Ok(Answer::new(alloc, outcome))
 }

@@ -179,3 +179,43 @@ for policy `policy0`, unable to find an applicable action given the policy scope
 ? S3 applies linked with user::"u": permit(principal == ?principal, action, resource)
 applies
 "#;
+
+/// Declarations of which there is no schema, as they are given. Of several faults the first counts.
+pub const FAULTY_SCHEMAS: &str = r#"
+? S0 schema: entity A; entity A;
+DuplicateEntityType
+? S0 schema: action a; action a;
+DuplicateAction
+? S0 schema: namespace N { entity Action; }
+ActionTypeDeclared
+? S0 schema: entity User; action User::"a";
+NotAnActionType
+? S0 schema: entity A enum [];
+EmptyEnum
+? S0 schema: entity A { x: Gone };
+UnknownType
+? S0 schema: action a above [gone];
+UnknownActionDescendant
+? S0 schema: entity A { x: Never };
+VagueType
+? S0 schema: entity A above [B]; entity B above [C]; entity C;
+DescendantsNotClosed
+? S0 schema: entity A { x: Never }; entity A { x: Never };
+DuplicateEntityType
+"#;
+
+/// A type that is not declared, in a condition.
+pub const UNKNOWN_TYPE_AS_OPERAND: &str = r#"
+? S1 Strict check: Nope::"a" == principal
+Fail errors=0
+? S1 Strict check: principal is Nope
+Irrelevant errors=0
+? S1 Strict check: principal in Nope::"a"
+Fail errors=0
+? S1 Strict policy: Nope::"a" == principal
+false errors=0 warnings=0
+? S1 entity types: principal is Nope
+errors=1
+! UnrecognizedEntityType @ Nope
+for policy `policy0`, unrecognized entity type `Nope`
+"#;

@@ -1,7 +1,7 @@
 // A row as a text: what it asks, in order, and what it expects.
 use crate::rows::answers::{Answer, Asked};
 use crate::rows::chains::chain_cost;
-use crate::rows::names::refusal;
+use crate::rows::names::{refusal, schema_refusal};
 use crate::rows::{Report, Row};
 use cedar_fixtures::questions::{Question, Subject, Table};
 use cedar_reading::{Fault, ReadError, SchemaReadError, schema, uid_alone, whole_policy};
@@ -99,6 +99,7 @@ fn answer_to(
 ) -> Result<Answer, ReadError> {
     match question.subject {
         Subject::Refusal => Ok(refusal(alloc, question.text)?),
+        Subject::SchemaRefusal => schema_refusal(alloc, question.text),
         Subject::ChainCost => {
             let schema = read_schema(alloc, question.schema)?;
             Ok(chain_cost(alloc, &schema, question.text)?)
