@@ -1,9 +1,12 @@
 #!/usr/bin/env python3
-"""Runs crates/cedar_refused while memory is refused: scripts/refused.py [PROGRAM].
+"""Runs calls and rows while memory is refused: scripts/refused.py [PROGRAM ROWS].
 
-The program makes each of its calls while the first growth is refused, then the second, until one run ends without a
-refusal, and says what came of it; scripts/refuse.c refuses. Without a word it is the program that rt ci built, or rt run.
-The last line counts the calls that went as they should and those that did not.
+The program of crates/cedar_refused makes each of its calls while the first growth is refused, then the second, until one
+run ends without a refusal, and says what came of it; scripts/refuse.c refuses. Each public call that may answer want of
+memory has to be among its lines: scripts/public_calls.py lists them.
+Of the program of crates/cedar_check the first growth of each row is refused, then the second, and so on. A row whose memory
+is refused says so, and the next row runs.
+Without words they are the programs that rt ci built, or rt run. The last line counts what went as it should and what did not.
 """
 import os
 import re
@@ -11,15 +14,24 @@ import shutil
 import subprocess
 import sys
 import tempfile
+from concurrent.futures import ThreadPoolExecutor
 from pathlib import Path
 
+sys.dont_write_bytecode = True
+from public_calls import left_out, public_calls  # noqa: E402
+
 TOP = Path(__file__).resolve().parent.parent
-CRATE = TOP / "crates" / "cedar_refused"
-# What the program is made of.
-MADE_OF = ("cedar_types", "cedar_typing", "cedar_typechecker", "cedar_refused")
+CALLS = TOP / "crates" / "cedar_refused"
+ROWS = TOP / "crates" / "cedar_check"
+# What the programs are made of.
+LIBRARIES = ("cedar_types", "cedar_typing", "cedar_typechecker", "cedar_fixtures", "cedar_reading")
+MADE_OF = {CALLS: (*LIBRARIES, "cedar_refused"), ROWS: (*LIBRARIES, "cedar_rows", "cedar_check")}
 SECONDS = 570
 BEGINS = "memory is refused"
 WELL = re.compile(r"[1-9]\d* growths, each refused|no growth")
+# Rows with more growths than this are tried at some of them.
+MOST_GROWTHS = 8000
+SAMPLES = 60
 
 
 def shim(room):
@@ -31,48 +43,112 @@ def shim(room):
     return made
 
 
-def said_by(program, made=None):
-    """The lines that the program writes, and what went wrong with it, if anything did."""
-    env = {"LD_PRELOAD": str(made)} if made else {}
-    try:
-        ran = subprocess.run([program], env=env, stdin=subprocess.DEVNULL, capture_output=True, text=True, timeout=SECONDS)
-    except (OSError, subprocess.TimeoutExpired) as error:
-        return [], str(error)
-    return ran.stdout.splitlines(), None if ran.returncode == 0 else f"it ended with status {ran.returncode}: {ran.stderr.strip()}"
+def ran(words, made, **refused):
+    """A run of a program, while this is refused."""
+    env = {"LD_PRELOAD": str(made), **{f"REFUSE_{name}": str(number) for name, number in refused.items()}}
+    return subprocess.run(words, env=env, stdin=subprocess.DEVNULL, capture_output=True, text=True, timeout=SECONDS)
 
 
-def newer_source(program):
+def newer_source(crate, program):
     """A source of the program that is newer than the program, if there is one."""
     made = program.stat().st_mtime
-    sources = [path for name in MADE_OF for path in sorted(TOP.joinpath("crates", name, "src").rglob("*.rt"))]
+    sources = [path for name in MADE_OF[crate] for path in sorted(TOP.joinpath("crates", name, "src").rglob("*.rt"))]
     return next((path for path in sources if path.stat().st_mtime > made), None)
+
+
+def fault_of(crate, program):
+    """Why the program cannot be taken, if it cannot."""
+    if not program.is_file():
+        return f"there is no program {program.name}: rt ci builds it"
+    newer = newer_source(crate, program)
+    return f"{newer.relative_to(TOP)} is newer than the program {program.name}: rt ci builds it" if newer else None
+
+
+def stored(crate):
+    return (crate / "stdout").read_text(encoding="utf8").splitlines()
 
 
 def names(lines):
     return [line.partition(": ")[0] for line in lines[1:]]
 
 
-def main(words):
-    program = Path(words[0]) if words else CRATE / "out" / CRATE.name
-    newer = newer_source(program) if program.is_file() else None
-    if newer or not program.is_file():
-        why = f"{newer.relative_to(TOP)} is newer than the program" if newer else f"there is no program {program.name}"
-        print(f"{why}: rt ci builds it")
-        print("0 passed, 1 failed")
-        return 1
-    wanted = names((CRATE / "stdout").read_text(encoding="utf8").splitlines())
-    with tempfile.TemporaryDirectory() as room:
-        lines, fault = said_by(program, shim(room))
-    passed = sum(bool(WELL.fullmatch(line.partition(": ")[2])) for line in lines[1:])
-    failed = len(lines[1:]) - passed
+def calls(program, made):
+    """The calls that went well, and what is said of the others and of those that are left out."""
+    run = ran([program], made)
+    lines = run.stdout.splitlines()
+    faults = [line for line in lines[1:] if not WELL.fullmatch(line.partition(": ")[2])]
+    passed = len(lines[1:]) - len(faults)
     print(*lines, sep="\n")
-    if not fault and (lines[:1] != [BEGINS] or names(lines) != wanted):
-        fault = "its lines are not those of the file stdout, or nothing was refused"
-    if fault:
-        print(fault)
-        failed += 1
-    print(f"{passed} passed, {failed} failed")
-    return 1 if failed else 0
+    if run.returncode != 0:
+        faults.append(f"{program.name} ended with status {run.returncode}: {run.stderr.strip()}")
+    if lines[:1] != [BEGINS] or names(lines) != names(stored(CALLS)):
+        faults.append("its lines are not those of the file stdout, or nothing was refused")
+    missing, unknown = left_out(names(lines))
+    faults += [f"{call} is not made while memory is refused" for call in missing]
+    faults += [f"{call} is no public call that may answer want of memory" for call in unknown]
+    print(f"{len(public_calls())} public calls may answer want of memory; {len(missing)} are not among the lines")
+    return passed, faults
+
+
+def without_memory(lines, growths, number, first, step):
+    """The lines of the rows while the growth of this number is refused in some of them."""
+    hit = [at >= first and (at - first) % step == 0 and number <= growths[at] for at in range(len(lines))]
+    return [f"{line.partition(':')[0]}: no memory" if is_hit else line for line, is_hit in zip(lines, hit)]
+
+
+def row_runs(growths):
+    """What to refuse: a growth of each row but the first, which stands behind what the program itself takes; and at some
+    growths in every other row alone, so that whole rows stand between them."""
+    usual = max(n for n in growths if n <= MOST_GROWTHS)
+    each = [(number, 1, 1) for number in range(1, usual + 1)]
+    others = [(number, first, 2) for number in (1, 2, 3, 5, 8, 13, 21, 34, 55, 89, 144, 233) for first in (1, 2)]
+    some = [(1 + at * (n - 1) // SAMPLES, 1, 1) for n in growths if n > MOST_GROWTHS for at in range(SAMPLES + 1)]
+    return each + others + some
+
+
+def rows(program, made):
+    """The runs of rows that went well, and what is said of the others."""
+    lines = stored(ROWS)
+    told = ran([program], made, GROWTH=0).stderr.split()
+    alone = int(ran([program, "no row"], made, GROWTH=0).stderr.split()[0])
+    if len(told) != len(lines) or alone == 0:
+        return 0, ["the growths of the rows are not told"]
+    growths = [int(number) for number in told]
+
+    def run_all(refused):
+        number, first, step = refused
+        run = ran([program], made, GROWTH=number, FIRST=first, STEP=step)
+        wanted = without_memory(lines, growths, number, first, step)
+        is_well = run.stdout.splitlines() == wanted and run.returncode == (wanted != lines)
+        return None if is_well else f"rows at growth {number}, from row {first} on in steps of {step}: another answer"
+
+    def run_first(number):
+        run = ran([program, "1"], made, GROWTH=number, STEP=len(lines))
+        wanted = [] if number <= alone else ["row 1: no memory"]
+        is_well = run.stdout.splitlines() == wanted and run.returncode == 1
+        return None if is_well else f"the first row alone at growth {number}: another answer"
+
+    with ThreadPoolExecutor(os.cpu_count()) as pool:
+        said = [*pool.map(run_all, row_runs(growths)), *pool.map(run_first, range(1, growths[0] + 1))]
+    faults = [one for one in said if one]
+    whole = sum(n <= MOST_GROWTHS for n in growths)
+    print(f"rows: each growth of {whole} rows, {SAMPLES + 1} growths of each of {len(lines) - whole}: {len(said)} runs")
+    return len(said) - len(faults), faults
+
+
+def main(words):
+    programs = {crate: Path(word) for crate, word in zip((CALLS, ROWS), words or [crate / "out" / crate.name for crate in (CALLS, ROWS)])}
+    passed, faults = 0, []
+    with tempfile.TemporaryDirectory() as room:
+        made = shim(room)
+        for part, (crate, program) in zip((calls, rows), programs.items()):
+            fault = fault_of(crate, program)
+            good, bad = (0, [fault]) if fault else part(program, made)
+            passed += good
+            faults += bad
+    print(*faults, sep="\n", end="\n" if faults else "")
+    print(f"{passed} passed, {len(faults)} failed")
+    return 1 if faults else 0
 
 
 if __name__ == "__main__":

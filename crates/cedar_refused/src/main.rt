@@ -4,18 +4,34 @@
 #![tactic(auto)]
 
 mod calls;
+mod outcomes;
 mod pictures;
 mod refusals;
 mod report;
 mod samples;
 mod sweep;
+mod table;
 
+use cedar_fixtures::addresses::RefusesEmptyAddress;
+use cedar_fixtures::tables::{addresses_alone, functions_with_sum};
+use cedar_types::base::ExtensionSchemas;
 use report::report;
 use std::process::ExitCode;
 
 fn main(rt: HostRuntime) -> ExitCode {
+    let alloc = rt.alloc();
+    let Ok(check) = Box::new(alloc, RefusesEmptyAddress { alloc }) else {
+        return ExitCode::FAILURE;
+    };
+    let (Ok(functions), Ok(ordered)) = (functions_with_sum(alloc, check), addresses_alone(alloc))
+    else {
+        return ExitCode::FAILURE;
+    };
+    let Ok(extensions) = ExtensionSchemas::new(functions, ordered) else {
+        unreachable!()
+    };
     let mut out = rt.stdout();
-    match report(rt.alloc(), &mut out) {
+    match report(alloc, &extensions, &mut out) {
         Ok(()) => ExitCode::SUCCESS,
         Err(_) => ExitCode::FAILURE,
     }

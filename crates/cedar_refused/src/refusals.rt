@@ -10,6 +10,9 @@ const BEGIN: usize = 50_000_000;
 /// A block of this size ends it. It is refused where a growth was.
 const END: usize = 49_999_999;
 
+/// The number of a growth that no call here has: nothing is refused.
+pub const NEVER: u16 = u16::MAX;
+
 fn is_granted(alloc: Global, size: usize) -> bool {
     let block: Result<Vec<u8>, AllocError> = Vec::with_capacity(alloc, size);
     block.is_ok()

@@ -1,31 +1,38 @@
 // A line for each call: its name, and what came of it.
-use crate::calls::at_once::{Asked, Subject};
-use crate::calls::costs::ChainCost;
-use crate::calls::environments::{ChecksMaking, ChecksWalk, LinkedWalk, MODE, Walk};
-use crate::calls::levels::{LevelQuestion, LevelRun};
+use crate::calls::answers::FOLLOW_UPS;
+use crate::calls::capabilities::{SETS, TAGS};
+use crate::calls::copies::COPIES;
+use crate::calls::environments::{ChecksMaking, ChecksWalk, LinkedMaking, LinkedWalk, MODE, Walk};
+use crate::calls::expressions::{MORE, ONE_OPERAND, TWO_OPERANDS};
+use crate::calls::lines::{Line, LineCall, Rules, Tried};
+use crate::calls::lookups::LOOKUPS;
+use crate::calls::names::NAMES;
 use crate::calls::passes::{Pass, PassWalk};
 use crate::calls::policies::WholeCheck;
-use crate::calls::schemas::SchemaMaking;
-use crate::calls::single_env::SingleCheck;
-use crate::calls::without_memory::{chain_cost, environments, look_ups, passes, tables};
+use crate::calls::request_envs::{ENVIRONMENTS, UNDECLARED};
+use crate::calls::schemas::SCHEMAS;
+use crate::calls::templates::TEMPLATES;
+use crate::calls::types::{BOUNDS, TYPES};
+use crate::calls::without_memory::{
+    answers, capabilities, chain_cost, environments, levels, look_ups, passes, tables,
+};
 use crate::refusals::{refuse, was_refused};
-use crate::samples::names::{bound_to_unknown, bound_to_user, unknown_names};
-use crate::samples::policies::{MANY, many_findings, one_finding, with_chain, with_slot};
-use crate::samples::schemas::{owners, photos, user_or_photo};
-use crate::sweep::{Call, swept};
+use crate::samples::texts::{KNOWN, MANY, NAMED, ONE, SCHEMA, SUMS, UNKNOWN, policy, schema_of};
+use crate::sweep::{Call, NOTHING_REFUSED, TAKES_NONE, swept};
+use crate::table::{CHECKS, POLICIES};
 use cedar_typechecker::rbac::Validator;
-use cedar_types::base::{ExtensionSchemas, ValidationMode, ValidatorSchema};
+use cedar_types::base::{ExtensionSchemas, ValidationMode};
 use cedar_typing::typecheck::Typechecker;
 use std::alloc::Global;
 use std::io;
 use std::io::Write;
-use std::rc::RcStr;
 
 /// Makes each call, and writes what came of it.
-pub fn report<W: Write>(alloc: Global, out: &mut W) -> io::Result<()> {
-    let Ok(schema) = photos(alloc) else {
-        return writeln!(out, "there is no schema");
-    };
+pub fn report<W: Write>(
+    alloc: Global,
+    extensions: &ExtensionSchemas,
+    out: &mut W,
+) -> io::Result<()> {
     let listens = refuse(alloc, 1) && !was_refused(alloc);
     let listener = if listens {
         "memory is refused"
@@ -33,18 +40,42 @@ pub fn report<W: Write>(alloc: Global, out: &mut W) -> io::Result<()> {
         "nothing is refused"
     };
     writeln!(out, "{listener}")?;
-    write_sweep(alloc, out, "ValidatorSchema::new", &SchemaMaking)?;
-    single_checks(alloc, &schema, out)?;
-    walks(alloc, &schema, out)?;
-    whole_checks(alloc, &schema, out)?;
-    let extensions = ExtensionSchemas::default(alloc);
-    let validator = Validator::new(schema, &extensions);
+    let validator = Validator::new(schema_of(alloc, SCHEMA)?, extensions);
+    let rules = Rules {
+        validator: &validator,
+        extensions,
+    };
+    made_of_parts(alloc, rules, out)?;
+    about_schemas(alloc, rules, out)?;
+    write_table(alloc, rules, &CHECKS, out)?;
+    write_table(alloc, rules, &POLICIES, out)?;
+    walks(alloc, rules, out)?;
+    whole_checks(alloc, rules, out)?;
     all_passes(alloc, &validator, out)?;
-    questions(alloc, &validator, out)?;
-    level_runs(alloc, &validator, out)?;
-    level_questions(alloc, &validator, out)?;
-    chain_costs(alloc, out)?;
     without_memory(alloc, &validator, out)
+}
+
+/// The tables of what is made of parts, and of copies.
+fn made_of_parts<W: Write>(alloc: Global, rules: Rules<'_>, out: &mut W) -> io::Result<()> {
+    write_table(alloc, rules, &TWO_OPERANDS, out)?;
+    write_table(alloc, rules, &ONE_OPERAND, out)?;
+    write_table(alloc, rules, &MORE, out)?;
+    write_table(alloc, rules, &NAMES, out)?;
+    write_table(alloc, rules, &TYPES, out)?;
+    write_table(alloc, rules, &COPIES, out)?;
+    write_table(alloc, rules, &SETS, out)?;
+    write_table(alloc, rules, &TAGS, out)?;
+    write_table(alloc, rules, &FOLLOW_UPS, out)
+}
+
+/// The tables of what is asked of types, schemas, templates and environments.
+fn about_schemas<W: Write>(alloc: Global, rules: Rules<'_>, out: &mut W) -> io::Result<()> {
+    write_table(alloc, rules, &BOUNDS, out)?;
+    write_table(alloc, rules, &LOOKUPS, out)?;
+    write_table(alloc, rules, &SCHEMAS, out)?;
+    write_table(alloc, rules, &TEMPLATES, out)?;
+    write_table(alloc, rules, &ENVIRONMENTS, out)?;
+    write_table(alloc, rules, &UNDECLARED, out)
 }
 
 fn write_sweep<C: Call, W: Write>(
@@ -57,103 +88,115 @@ fn write_sweep<C: Call, W: Write>(
     writeln!(out, "{name}: {said}")
 }
 
-fn single_checks<W: Write>(alloc: Global, schema: &ValidatorSchema, out: &mut W) -> io::Result<()> {
-    let extensions = ExtensionSchemas::default(alloc);
-    let checker = Typechecker::new(schema, &extensions, ValidationMode::Strict);
-    let mut envs = schema.unlinked_request_envs(ValidationMode::Strict);
-    let Some(env) = envs.next() else {
-        return writeln!(out, "there is no environment");
-    };
-    for (name, policy) in [
-        ("of one finding", one_finding(alloc)?),
-        ("of many findings", many_findings(alloc)?),
-        ("with a slot", with_slot(alloc)?),
-    ] {
-        let check = SingleCheck {
-            checker: &checker,
-            env: &env,
-            policy: &policy,
-        };
-        let said = swept(alloc, &check)?;
-        writeln!(out, "typecheck_by_single_request_env, {name}: {said}")?;
+/// Writes what came of the lines of a table.
+fn write_table<T: Tried, W: Write>(
+    alloc: Global,
+    rules: Rules<'_>,
+    lines: &[(T, &str)],
+    out: &mut W,
+) -> io::Result<()> {
+    for (call, block) in lines {
+        write_lines(alloc, rules, *call, block, out)?;
     }
     Ok(())
 }
 
-fn walks<W: Write>(alloc: Global, schema: &ValidatorSchema, out: &mut W) -> io::Result<()> {
-    let extensions = ExtensionSchemas::default(alloc);
-    let policy = with_slot(alloc)?;
+/// Writes what came of the lines of one call.
+fn write_lines<T: Tried, W: Write>(
+    alloc: Global,
+    rules: Rules<'_>,
+    call: T,
+    block: &str,
+    out: &mut W,
+) -> io::Result<()> {
+    for line in block.trim().lines() {
+        let line = Line::read(line);
+        let said = swept(alloc, &LineCall { rules, call, line })?;
+        let name = line.name;
+        match (line.takes_none, said.as_str() == NOTHING_REFUSED) {
+            (true, true) => writeln!(out, "{name}: {TAKES_NONE}")?,
+            (true, false) => writeln!(out, "{name}: it takes memory, or {said}")?,
+            (false, _) => writeln!(out, "{name}: {said}")?,
+        }
+    }
+    Ok(())
+}
+
+fn walks<W: Write>(alloc: Global, rules: Rules<'_>, out: &mut W) -> io::Result<()> {
+    let schema = rules.validator.schema();
+    let policy = policy(alloc, KNOWN)?;
     // each of two actions with the slot linked in two ways, and the undeclared ones
     let walk = Walk {
         schema,
-        checker: &Typechecker::new(schema, &extensions, MODE),
-        policy: &policy,
+        checker: &Typechecker::new(schema, rules.extensions, MODE),
+        policy: &policy.template,
         environments: 5,
     };
     write_sweep(
         alloc,
         out,
-        "linked_request_envs, each step",
-        &LinkedWalk(walk),
+        "ValidatorSchema::linked_request_envs",
+        &LinkedMaking(walk),
     )?;
-    write_sweep(alloc, out, "typecheck_by_request_env", &ChecksMaking(walk))?;
+    write_sweep(alloc, out, "LinkedRequestEnvs::next", &LinkedWalk(walk))?;
     write_sweep(
         alloc,
         out,
-        "typecheck_by_request_env, each step",
-        &ChecksWalk(walk),
-    )
+        "Typechecker::typecheck_by_request_env",
+        &ChecksMaking(walk),
+    )?;
+    write_sweep(alloc, out, "RequestEnvChecks::next", &ChecksWalk(walk))
 }
 
-fn whole_checks<W: Write>(alloc: Global, schema: &ValidatorSchema, out: &mut W) -> io::Result<()> {
-    let extensions = ExtensionSchemas::default(alloc);
-    let checker = Typechecker::new(schema, &extensions, ValidationMode::Strict);
-    whole_checks_by(alloc, &checker, out)
-}
-
-fn whole_checks_by<W: Write>(
-    alloc: Global,
-    checker: &Typechecker<'_>,
-    out: &mut W,
-) -> io::Result<()> {
-    let (one, many) = (one_finding(alloc)?, many_findings(alloc)?);
+fn whole_checks<W: Write>(alloc: Global, rules: Rules<'_>, out: &mut W) -> io::Result<()> {
+    let schema = rules.validator.schema();
+    let checker = Typechecker::new(schema, rules.extensions, ValidationMode::Strict);
+    let (one, many) = (policy(alloc, ONE)?, policy(alloc, MANY)?);
     let small = WholeCheck {
-        checker,
-        policy: &one,
+        checker: &checker,
+        policy: &one.template,
         held: 1,
         holds_finding: false,
         errors: 2,
     };
     // one of the many findings is held before
     let large = WholeCheck {
-        checker,
-        policy: &many,
+        checker: &checker,
+        policy: &many.template,
         held: 9,
         holds_finding: true,
-        errors: MANY.saturating_add(8),
+        errors: SUMS.saturating_add(8),
     };
-    write_sweep(
-        alloc,
-        out,
-        "typecheck_policy, one member in each set",
-        &small,
-    )?;
-    write_sweep(
-        alloc,
-        out,
-        "typecheck_policy, nine members in each set",
-        &large,
-    )
+    let name = "Typechecker::typecheck_policy, one member in each set";
+    write_sweep(alloc, out, name, &small)?;
+    let name = "Typechecker::typecheck_policy, nine members in each set";
+    write_sweep(alloc, out, name, &large)
 }
 
 fn all_passes<W: Write>(alloc: Global, validator: &Validator<'_>, out: &mut W) -> io::Result<()> {
-    let (named, bound) = (unknown_names(alloc)?, bound_to_unknown(alloc)?);
+    let (named, bound) = (policy(alloc, NAMED)?, policy(alloc, UNKNOWN)?);
     for (name, policy, pass, items) in [
-        ("mentions", &named, Pass::Mentions, 11),
-        ("validate_entity_types", &named, Pass::EntityTypes, 4),
-        ("validate_action_ids", &named, Pass::ActionIds, 2),
-        ("validate_enum_entity", &named, Pass::EnumEntities, 2),
-        ("validate_entity_types_in_slots", &bound, Pass::SlotTypes, 2),
+        ("Mentions::next", &named, Pass::Mentions, 11),
+        ("ExprIterator::next", &named, Pass::Subexpressions, 27),
+        (
+            "LiteralErrors::next, validate_entity_types",
+            &named,
+            Pass::EntityTypes,
+            4,
+        ),
+        (
+            "LiteralErrors::next, validate_action_ids",
+            &named,
+            Pass::ActionIds,
+            2,
+        ),
+        (
+            "LiteralErrors::next, validate_enum_entity",
+            &named,
+            Pass::EnumEntities,
+            2,
+        ),
+        ("SlotTypeErrors::next", &bound, Pass::SlotTypes, 2),
     ] {
         let walk = PassWalk {
             validator,
@@ -161,96 +204,9 @@ fn all_passes<W: Write>(alloc: Global, validator: &Validator<'_>, out: &mut W) -
             pass,
             items,
         };
-        let said = swept(alloc, &walk)?;
-        writeln!(out, "{name}, each step: {said}")?;
+        write_sweep(alloc, out, name, &walk)?;
     }
     Ok(())
-}
-
-fn questions<W: Write>(alloc: Global, validator: &Validator<'_>, out: &mut W) -> io::Result<()> {
-    let (unknown, known) = (bound_to_unknown(alloc)?, bound_to_user(alloc)?);
-    let named = unknown_names(alloc)?;
-    for (policy, subject, answers) in [
-        (&named, Subject::Uids, 9),
-        (&named, Subject::TypeNames, 11),
-        (&named, Subject::Principals, 1),
-        (&known, Subject::Resources, 3),
-        (&named, Subject::Application, 1),
-        (&known, Subject::Application, 0),
-        (&unknown, Subject::LinkedApplication, 1),
-        (&known, Subject::LinkedApplication, 0),
-    ] {
-        let asked = Asked {
-            validator,
-            policy,
-            subject,
-            answers,
-        };
-        write_sweep(alloc, out, asked.name(), &asked)?;
-    }
-    Ok(())
-}
-
-fn level_runs<W: Write>(alloc: Global, validator: &Validator<'_>, out: &mut W) -> io::Result<()> {
-    // a slot in the scope and an access, each of which requires level 1; and an impossible policy, with a finding for each sum
-    for (name, policy, findings) in [
-        ("of two level errors", with_slot(alloc)?, 2),
-        (
-            "of many findings",
-            many_findings(alloc)?,
-            MANY.saturating_add(1),
-        ),
-    ] {
-        let run = LevelRun {
-            validator,
-            policy: &policy,
-            findings,
-        };
-        let said = swept(alloc, &run)?;
-        writeln!(out, "validate_policy_with_level, {name}: {said}")?;
-    }
-    Ok(())
-}
-
-fn level_questions<W: Write>(
-    alloc: Global,
-    validator: &Validator<'_>,
-    out: &mut W,
-) -> io::Result<()> {
-    for (name, policy, required) in [
-        ("with a slot", with_slot(alloc)?, 1),
-        ("of a chain of attributes", with_chain(alloc)?, 2),
-    ] {
-        let question = LevelQuestion {
-            validator,
-            policy: &policy,
-            required,
-        };
-        let said = swept(alloc, &question)?;
-        writeln!(out, "required_level, {name}: {said}")?;
-    }
-    Ok(())
-}
-
-fn chain_costs<W: Write>(alloc: Global, out: &mut W) -> io::Result<()> {
-    let Ok(schema) = owners(alloc) else {
-        return writeln!(out, "there is no schema of owners");
-    };
-    let owner = RcStr::from_str(alloc, "owner")?;
-    let chain = vec![in alloc; owner.clone()?, owner.clone()?, owner]?;
-    // each of the three is of two types
-    let asked = ChainCost {
-        schema: &schema,
-        root: &user_or_photo(alloc)?,
-        chain: chain.as_slice(),
-        cost: 3,
-    };
-    write_sweep(
-        alloc,
-        out,
-        "attr_chain_cost_from_root, of several entity types",
-        &asked,
-    )
 }
 
 fn without_memory<W: Write>(
@@ -258,10 +214,17 @@ fn without_memory<W: Write>(
     validator: &Validator<'_>,
     out: &mut W,
 ) -> io::Result<()> {
-    let (schema, named) = (validator.schema(), unknown_names(alloc)?);
+    let (schema, named) = (validator.schema(), policy(alloc, NAMED)?);
     writeln!(out, "environments: {}", environments(alloc, schema)?)?;
     writeln!(out, "look-ups: {}", look_ups(alloc, schema)?)?;
     writeln!(out, "tables: {}", tables(alloc)?)?;
     writeln!(out, "passes: {}", passes(alloc, validator, &named)?)?;
-    writeln!(out, "chain cost: {}", chain_cost(alloc, schema)?)
+    writeln!(out, "chain cost: {}", chain_cost(alloc, schema)?)?;
+    writeln!(out, "capabilities: {}", capabilities(alloc)?)?;
+    writeln!(out, "answers: {}", answers(alloc)?)?;
+    writeln!(
+        out,
+        "walks over level errors: {}",
+        levels(alloc, validator)?
+    )
 }

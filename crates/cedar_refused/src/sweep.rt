@@ -25,6 +25,12 @@ pub const ANOTHER_LATER: &str = "afterwards its answer is another";
 
 pub const ANOTHER_POLICY: &str = "the policy is another";
 
+/// What is said of a call that no growth was refused in.
+pub const NOTHING_REFUSED: &str = "nothing refused";
+
+/// What is said of a call that takes no memory.
+pub const TAKES_NONE: &str = "no growth";
+
 /// The most growths that a call may have.
 const MOST: u16 = 20_000;
 
@@ -33,7 +39,7 @@ pub fn swept<C: Call>(alloc: Global, call: &C) -> Result<String, AllocError> {
     let mut refused: u16 = 0;
     for number in 1..MOST {
         match call.attempt(alloc, number)? {
-            Attempt::Whole if refused == 0 => return String::from_str(alloc, "nothing refused"),
+            Attempt::Whole if refused == 0 => return String::from_str(alloc, NOTHING_REFUSED),
             Attempt::Whole => return format!(in alloc; "{refused} growths, each refused"),
             Attempt::Refused => refused = number,
             Attempt::Wrong(fault) => return format!(in alloc; "growth {number}: {fault}"),

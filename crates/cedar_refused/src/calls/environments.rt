@@ -20,9 +20,13 @@ pub struct Walk<'a> {
     pub environments: usize,
 }
 
-/// `ValidatorSchema::linked_request_envs`, and each step of what it answers.
+/// Each step of what `ValidatorSchema::linked_request_envs` answers.
 #[derive(Clone, Copy)]
 pub struct LinkedWalk<'a>(pub Walk<'a>);
+
+/// `ValidatorSchema::linked_request_envs` alone.
+#[derive(Clone, Copy)]
+pub struct LinkedMaking<'a>(pub Walk<'a>);
 
 /// `Typechecker::typecheck_by_request_env` alone.
 #[derive(Clone, Copy)]
@@ -57,6 +61,28 @@ impl Call for ChecksWalk<'_> {
         );
         let attempt = attempt_walk(alloc, walks, self.0.environments, number)?;
         Ok(attempt.only_if(picture(alloc, policy)? == before, ANOTHER_POLICY))
+    }
+}
+
+impl<'a> Question for LinkedMaking<'a> {
+    type Answer = LinkedRequestEnvs<'a>;
+
+    fn ask(&self, alloc: Global) -> Result<LinkedRequestEnvs<'a>, AllocError> {
+        self.0
+            .schema
+            .linked_request_envs(alloc, MODE, self.0.policy)
+    }
+
+    fn shown(&self, alloc: Global, answer: LinkedRequestEnvs<'a>) -> Result<String, AllocError> {
+        picture(alloc, &walked(alloc, answer)?)
+    }
+}
+
+impl Call for LinkedMaking<'_> {
+    fn attempt(&self, alloc: Global, number: u16) -> Result<Attempt, AllocError> {
+        let before = picture(alloc, self.0.policy)?;
+        let attempt = attempt_question(alloc, self, number)?;
+        Ok(attempt.only_if(picture(alloc, self.0.policy)? == before, ANOTHER_POLICY))
     }
 }
 

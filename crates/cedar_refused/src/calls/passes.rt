@@ -3,7 +3,9 @@ use crate::calls::walks::{Steps, attempt_walk};
 use crate::pictures::picture;
 use crate::sweep::{ANOTHER_POLICY, Attempt, Call};
 use cedar_typechecker::rbac::{LiteralErrors, SlotTypeErrors, Validator};
-use cedar_types::base::{Mention, Mentions, Policy, ValidationError, ValidatorSchema};
+use cedar_types::base::{
+    Expr, ExprIterator, Mention, Mentions, Policy, ValidationError, ValidatorSchema,
+};
 use std::alloc::{AllocError, Global};
 
 /// A pass over a policy.
@@ -19,6 +21,8 @@ pub enum Pass {
     EnumEntities,
     /// `Validator::validate_entity_types_in_slots`.
     SlotTypes,
+    /// `Expr::subexpressions` of the template's rest.
+    Subexpressions,
 }
 
 /// Each step of a pass over this policy.
@@ -41,6 +45,7 @@ impl Call for PassWalk<'_> {
             Pass::ActionIds => actions(alloc, validator.schema(), policy, self.items, number)?,
             Pass::EnumEntities => members(alloc, validator.schema(), policy, self.items, number)?,
             Pass::SlotTypes => slots(alloc, validator, policy, self.items, number)?,
+            Pass::Subexpressions => subexpressions(alloc, policy, self.items, number)?,
         };
         Ok(attempt.only_if(picture(alloc, self.policy)? == before, ANOTHER_POLICY))
     }
@@ -123,6 +128,29 @@ fn slots<'x>(
         validator.validate_entity_types_in_slots(alloc, id, bound),
     );
     attempt_walk(alloc, walks, items, number)
+}
+
+fn subexpressions(
+    alloc: Global,
+    policy: &Policy,
+    items: usize,
+    number: u16,
+) -> Result<Attempt, AllocError> {
+    let whole = policy.template.condition(alloc)?;
+    let walks = (
+        whole.subexpressions(alloc)?,
+        whole.subexpressions(alloc)?,
+        whole.subexpressions(alloc)?,
+    );
+    attempt_walk(alloc, walks, items, number)
+}
+
+impl<'a> Steps for ExprIterator<'a> {
+    type Item = &'a Expr;
+
+    fn step(&mut self) -> Option<Result<&'a Expr, AllocError>> {
+        self.next()
+    }
 }
 
 impl<'a> Steps for Mentions<'a> {

@@ -1,43 +1,140 @@
-// The making of a schema.
-use crate::pictures::picture;
-use crate::refusals::{refuse, was_refused};
-use crate::samples::schemas::{actions, photos, types};
-use crate::sweep::{ANOTHER_ANSWER, ANOTHER_LATER, Attempt, Call, attempt_of};
-use cedar_types::base::{SchemaError, ValidatorSchema};
+// Schemas: what makes them, and what is asked of them.
+use crate::calls::lines::{Rules, Tried};
+use crate::outcomes::{Outcome, ended};
+use crate::refusals::refuse;
+use crate::samples::texts::{entities, entity_type, uid};
+use cedar_reading::{Notation, schema_declarations};
+use cedar_types::base::{EntityKind, SchemaError, ValidatorSchema};
 use std::alloc::{AllocError, Global};
 
-/// `ValidatorSchema::new`.
-pub struct SchemaMaking;
-
-impl Call for SchemaMaking {
-    fn attempt(&self, alloc: Global, number: u16) -> Result<Attempt, AllocError> {
-        let Some(wanted) = made(alloc, &photos(alloc))? else {
-            return Ok(Attempt::Wrong("there is no schema"));
-        };
-        let (types, actions) = (types(alloc)?, actions(alloc)?);
-        refuse(alloc, number);
-        let answer = ValidatorSchema::new(alloc, types, actions);
-        let attempt = attempt_of(answer.is_ok(), was_refused(alloc));
-        let is_as_ever = match made(alloc, &answer)? {
-            Some(shown) => shown == wanted,
-            None => matches!(answer, Err(SchemaError::Memory(_))),
-        };
-        let again = made(alloc, &photos(alloc))?;
-        Ok(
-            attempt
-                .only_if(is_as_ever, ANOTHER_ANSWER)
-                .only_if(again == Some(wanted), ANOTHER_LATER),
-        )
-    }
+/// Makes the schema of these declarations. The answer is that, or its fault.
+fn schema_made(alloc: Global, text: &str, number: u16) -> Result<Outcome, AllocError> {
+    let text = if text == "DECLARATIONS" {
+        DECLARATIONS
+    } else {
+        text
+    };
+    let Ok(declared) = schema_declarations(alloc, text, Notation::AsGiven) else {
+        return Err(AllocError);
+    };
+    refuse(alloc, number);
+    let made = match ValidatorSchema::new(alloc, declared.entity_types, declared.actions) {
+        Err(SchemaError::Memory(error)) => Err(error),
+        other => Ok(other),
+    };
+    ended(alloc, made, &())
 }
 
-/// All of a schema that was made.
-fn made(
+/// What is asked of a schema.
+#[derive(Clone, Copy)]
+pub enum OfSchema {
+    New,
+    Types,
+    TypeNames,
+    Actions,
+    TypesIn,
+    ActionsIn,
+    Tags,
+    TagsOfAny,
+}
+
+/// Asks it. The text is that of an action.
+fn of_schema(
     alloc: Global,
-    answer: &Result<ValidatorSchema, SchemaError>,
-) -> Result<Option<String>, AllocError> {
-    match answer {
-        Ok(schema) => Ok(Some(picture(alloc, schema)?)),
-        Err(_) => Ok(None),
+    asked: OfSchema,
+    schema: &ValidatorSchema,
+    text: &str,
+    number: u16,
+) -> Result<Outcome, AllocError> {
+    let group = entity_type(alloc, "Group")?;
+    let tagged = EntityKind::Entity(entities(alloc, "User")?);
+    let actions = vec![in alloc; uid(alloc, text)?]?;
+    refuse(alloc, number);
+    match asked {
+        OfSchema::Types => ended(alloc, schema.entity_types(alloc), schema),
+        OfSchema::TypeNames => ended(alloc, schema.entity_type_names(alloc), schema),
+        OfSchema::Actions => ended(alloc, schema.action_ids(alloc), schema),
+        OfSchema::TypesIn => ended(alloc, schema.get_entity_types_in(alloc, &group), schema),
+        OfSchema::ActionsIn => { ended(alloc, schema.get_actions_in_set(alloc, &actions), schema) }
+        OfSchema::Tags => ended(alloc, schema.tag_types(alloc, &tagged), schema),
+        OfSchema::New | OfSchema::TagsOfAny => {
+            ended(
+                alloc,
+                schema.tag_types(alloc, &EntityKind::AnyEntity),
+                schema,
+            )
+        }
     }
 }
+
+impl Tried for OfSchema {
+    fn made(
+        self,
+        alloc: Global,
+        rules: Rules<'_>,
+        text: &str,
+        number: u16,
+    ) -> Result<Outcome, AllocError> {
+        match self {
+            OfSchema::New => schema_made(alloc, text, number),
+            _ => of_schema(alloc, self, rules.validator.schema(), text, number),
+        }
+    }
+}
+
+/// Declarations of each kind.
+const DECLARATIONS: &str = r#"
+entity User above [User] { vip: Bool, boss: User } tags User;
+entity Photo { owner: User };
+entity Color enum ["red"];
+external entity Out;
+external action out;
+action all above [some];
+action some;
+action view appliesTo { principal: User, resource: [Photo, User], context: { since?: Long } };
+"#;
+
+/// What is made of declarations, and asked of a schema.
+pub const SCHEMAS: [(OfSchema, &str); 8] = [
+    (
+        OfSchema::New,
+        r#"
+ValidatorSchema::new | Photo | DECLARATIONS
+ValidatorSchema::new, of a type twice | DuplicateEntityType | entity A; entity B; entity A;
+ValidatorSchema::new, of an unknown type | UnknownType | entity A { x: Set<Gone> };
+ValidatorSchema::new, of open descendants | DescendantsNotClosed | entity A above [B]; entity B above [C]; entity C;
+ValidatorSchema::new, of an empty type | NotAnActionType | entity A enum []; action User::"a";
+"#,
+    ),
+    (
+        OfSchema::Types,
+        r#"ValidatorSchema::entity_types | Color | Action::"all""#,
+    ),
+    (
+        OfSchema::TypeNames,
+        r#"ValidatorSchema::entity_type_names | Color | Action::"all""#,
+    ),
+    (
+        OfSchema::Actions,
+        r#"ValidatorSchema::action_ids | view | Action::"all""#,
+    ),
+    (
+        OfSchema::TypesIn,
+        r#"ValidatorSchema::get_entity_types_in | Photo | Action::"all""#,
+    ),
+    (
+        OfSchema::ActionsIn,
+        r#"
+ValidatorSchema::get_actions_in_set | some | Action::"all"
+- ValidatorSchema::get_actions_in_set, of an unknown one | None | Action::"gone"
+"#,
+    ),
+    (
+        OfSchema::Tags,
+        r#"ValidatorSchema::tag_types | User | Action::"all""#,
+    ),
+    (
+        OfSchema::TagsOfAny,
+        r#"ValidatorSchema::tag_types, of any entity | String | Action::"all""#,
+    ),
+];

@@ -1,19 +1,22 @@
 // Calls that take no memory, made while each growth is refused.
+use crate::calls::answers::{long, success};
+use crate::calls::capabilities::having;
 use crate::refusals::{refuse_all, was_refused};
-use crate::samples::schemas::entity_type;
-use cedar_typechecker::level_validate::attr_chain_cost_from_root;
+use crate::samples::texts::{KNOWN, entities, entity_type, expression, policy, uid};
+use crate::sweep::TAKES_NONE;
+use cedar_typechecker::level_validate::{LevelErrors, LevelWarnings, attr_chain_cost_from_root};
 use cedar_typechecker::rbac::Validator;
 use cedar_types::base::{
-    CedarType, ExtensionFunctionType, ExtensionSchemas, Name, Policy, ValidationMode,
-    ValidatorSchema,
+    CedarType, EntityDerefLevel, Expr, ExtensionFunctionType, ExtensionSchemas, Literal, Name,
+    Policy, ValidationMode, ValidatorSchema, Var,
 };
+use cedar_types::types::capability::{Capability, CapabilitySet};
 use cedar_types::types::request_env::RequestEnv;
 use cedar_typing::typecheck::Typechecker;
+use cedar_typing::typecheck::answer::TypecheckAnswer;
 use std::alloc::{AllocError, Global};
 use std::collections::BTreeSet;
 use std::rc::RcStr;
-
-const TAKES_NONE: &str = "no growth";
 
 /// What came of calls that answered as they should, or did not.
 fn outcome(is_as_ever: bool, was_refused: bool) -> &'static str {
@@ -56,6 +59,11 @@ pub fn look_ups(alloc: Global, schema: &ValidatorSchema) -> Result<&'static str,
     let user = entity_type(alloc, "User")?;
     let action = entity_type(alloc, "Action")?;
     let nobody = entity_type(alloc, "Nobody")?;
+    let (view, gone) = (
+        uid(alloc, r#"Action::"view""#)?,
+        uid(alloc, r#"Action::"gone""#)?,
+    );
+    let (users, photos) = (entities(alloc, "User")?, entities(alloc, "Photo")?);
     let extensions = ExtensionSchemas::default(alloc);
     refuse_all(alloc);
     let _checker = Typechecker::new(schema, &extensions, ValidationMode::Strict);
@@ -65,6 +73,12 @@ pub fn look_ups(alloc: Global, schema: &ValidatorSchema) -> Result<&'static str,
         && action.is_action()
         && schema.get_entity_type(&user).is_some()
         && schema.get_entity_type(&nobody).is_none()
+        && schema.get_entity_type(&action).is_none()
+        && schema.is_known_action_id(&view)
+        && schema.get_action_id(&view).is_some()
+        && schema.get_action_id(&gone).is_none()
+        && schema.any_descendent_of(&users, &users)
+        && !schema.any_descendent_of(&users, &photos)
         && empty.get_entity_type(&user).is_none();
     let was_refused = was_refused(alloc);
     Ok(outcome(is_as_ever, was_refused))
@@ -132,4 +146,78 @@ pub fn chain_cost(alloc: Global, schema: &ValidatorSchema) -> Result<&'static st
         Err(_) => false,
     };
     Ok(outcome(is_as_ever, was_refused))
+}
+
+/// The makers of capabilities, and what is asked of a set of them.
+pub fn capabilities(alloc: Global) -> Result<&'static str, AllocError> {
+    let (owner, name) = (
+        Expr::var(Var::Principal),
+        Expr::val(Literal::from_string(alloc, "t")?),
+    );
+    let (own_owner, own_name) = (expression(alloc, "principal")?, name.try_clone(alloc)?);
+    let (vip, nick) = (
+        RcStr::from_str(alloc, "vip")?,
+        RcStr::from_str(alloc, "vip")?,
+    );
+    let known = having(alloc, "vip", "nick")?;
+    refuse_all(alloc);
+    let borrowed = Capability::new_attribute(&owner, vip);
+    let owned = Capability::new_attribute_owned(own_owner, nick);
+    let tag = Capability::new_borrowed_tag(&owner, &name);
+    let own_tag = Capability::new_owned_tag(&owner, own_name);
+    let none = CapabilitySet::new(alloc);
+    let is_as_ever = borrowed == owned
+        && tag == own_tag
+        && tag != owned
+        && known.contains(&owned)
+        && !known.contains(&tag)
+        && !none.contains(&owned);
+    let was_refused = was_refused(alloc);
+    Ok(outcome(is_as_ever, was_refused))
+}
+
+/// The makers of answers, and what is asked of them.
+pub fn answers(alloc: Global) -> Result<&'static str, AllocError> {
+    let (first, second) = (success(alloc)?, success(alloc)?);
+    let known = having(alloc, "vip", "nick")?;
+    refuse_all(alloc);
+    let none = TypecheckAnswer::success(alloc, long(1));
+    let some = TypecheckAnswer::success_with_capability(long(2), known);
+    let failure = TypecheckAnswer::fail(long(3));
+    let is_as_ever = none.typechecked()
+        && some.typechecked()
+        && !failure.typechecked()
+        && first.contains_type(&CedarType::Long)
+        && !failure.contains_type(&CedarType::String)
+        && !second.into_fail().typechecked()
+        && first.into_typed_expr().is_some();
+    let was_refused = was_refused(alloc);
+    Ok(outcome(is_as_ever, was_refused))
+}
+
+/// The walks over what a validation with levels found, and levels themselves.
+pub fn levels(alloc: Global, validator: &Validator<'_>) -> Result<&'static str, AllocError> {
+    let (strict, known) = (ValidationMode::Strict, policy(alloc, KNOWN)?);
+    let found = validator.validate_policy_with_level(alloc, &known.template, strict, 0)?;
+    refuse_all(alloc);
+    let count = how_many_errors(found.0).saturating_add(how_many_warnings(found.1));
+    let is_as_ever = count == 2 && EntityDerefLevel::from(1) > EntityDerefLevel::default();
+    let was_refused = was_refused(alloc);
+    Ok(outcome(is_as_ever, was_refused))
+}
+
+fn how_many_errors(errors: LevelErrors) -> usize {
+    let mut count: usize = 0;
+    for _error in errors {
+        count = count.saturating_add(1);
+    }
+    count
+}
+
+fn how_many_warnings(warnings: LevelWarnings) -> usize {
+    let mut count: usize = 0;
+    for _warning in warnings {
+        count = count.saturating_add(1);
+    }
+    count
 }

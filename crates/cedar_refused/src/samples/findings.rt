@@ -1,8 +1,17 @@
 // Errors and warnings that stand in a set before a call.
-use crate::samples::policies::place;
-use cedar_types::base::{CedarType, PolicyID, ValidationError, ValidationWarning, types_in_order};
+use crate::samples::texts::MANY;
+use cedar_types::base::{
+    CedarType, Loc, PolicyID, ValidationError, ValidationWarning, types_in_order,
+};
 use std::alloc::{AllocError, Global};
 use std::collections::HashSet;
+
+/// The place of this number.
+fn place(number: usize) -> Option<Loc> {
+    let start = number.saturating_mul(10);
+    let end = start.saturating_add(5);
+    Some(Loc { start, end })
+}
 
 fn other_policy(alloc: Global) -> Result<PolicyID, AllocError> {
     PolicyID::from_string(alloc, "other")
@@ -18,12 +27,16 @@ pub fn errors(alloc: Global, count: usize) -> Result<HashSet<ValidationError>, A
     Ok(errors)
 }
 
-/// The first finding of the policies here: a string where a Long is expected.
+/// The first of many findings: a string where a Long is expected.
 pub fn first_finding(alloc: Global) -> Result<ValidationError, AllocError> {
     let policy = PolicyID::from_string(alloc, "policy0")?;
     let expected = types_in_order(alloc, vec![in alloc; CedarType::primitive_long()]?)?;
     let actual = CedarType::primitive_string();
-    Ok(ValidationError::expected_one_of_types(place(0), policy, expected, actual))
+    let first = MANY.find(r#""a""#).map(|start| Loc {
+        start,
+        end: start.saturating_add(3),
+    });
+    Ok(ValidationError::expected_one_of_types(first, policy, expected, actual))
 }
 
 /// So many warnings of another policy.

@@ -1,0 +1,73 @@
+// What follows up on answers. What is called takes memory itself.
+use crate::calls::capabilities::having;
+use crate::calls::lines::{Rules, Tried};
+use crate::outcomes::{Outcome, ended};
+use crate::refusals::refuse;
+use cedar_types::base::{CedarType, Expr, ExprKind, Literal};
+use cedar_typing::typecheck::answer::TypecheckAnswer;
+use std::alloc::{AllocError, Global};
+
+/// What follows up on answers.
+#[derive(Clone, Copy)]
+pub enum FollowUp {
+    Map,
+    Then,
+    Sequence,
+}
+
+/// A literal, typed as a long.
+pub fn long(value: i64) -> Expr<Option<CedarType>> {
+    Expr {
+        annotation: Some(CedarType::Long),
+        loc: None,
+        kind: ExprKind::Lit(Literal::Long(value)),
+    }
+}
+
+/// A success that knows two attributes.
+pub fn success<'a>(alloc: Global) -> Result<TypecheckAnswer<'a>, AllocError> {
+    let known = having(alloc, "vip", "nick")?;
+    Ok(TypecheckAnswer::success_with_capability(long(7), known))
+}
+
+/// Follows up on a success, or on two.
+fn followed(alloc: Global, up: FollowUp, number: u16) -> Result<Outcome, AllocError> {
+    let answer = success(alloc)?;
+    let answers = vec![in alloc; Ok(success(alloc)?), Ok(success(alloc)?)]?;
+    refuse(alloc, number);
+    let followed = match up {
+        FollowUp::Map => answer.map_capability(|set| set.try_clone(alloc)),
+        FollowUp::Then => {
+            answer.then_typecheck(alloc, |expr, set| {
+                let copied = set.try_clone(alloc)?;
+                Ok(TypecheckAnswer::success_with_capability(expr, copied))
+            })
+        }
+        FollowUp::Sequence => {
+            TypecheckAnswer::sequence_all_then_typecheck(alloc, answers, |_| success(alloc))
+        }
+    };
+    ended(alloc, followed, &())
+}
+
+impl Tried for FollowUp {
+    fn made(
+        self,
+        alloc: Global,
+        _rules: Rules<'_>,
+        _text: &str,
+        number: u16,
+    ) -> Result<Outcome, AllocError> {
+        followed(alloc, self, number)
+    }
+}
+
+/// What follows up on answers.
+pub const FOLLOW_UPS: [(FollowUp, &str); 3] = [
+    (FollowUp::Map, "TypecheckAnswer::map_capability | nick"),
+    (FollowUp::Then, "TypecheckAnswer::then_typecheck | nick"),
+    (
+        FollowUp::Sequence,
+        "TypecheckAnswer::sequence_all_then_typecheck | nick",
+    ),
+];

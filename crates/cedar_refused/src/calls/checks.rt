@@ -1,0 +1,174 @@
+// Checks of policies, and what a validator is asked.
+use crate::calls::lines::{Rules, Tried};
+use crate::outcomes::{Outcome, ended};
+use crate::pictures::picture;
+use crate::refusals::{refuse, was_refused};
+use crate::samples::texts::policy;
+use cedar_typechecker::level_validate::{LevelErrors, LevelWarnings};
+use cedar_typechecker::rbac::Validator;
+use cedar_types::base::ValidationMode;
+use cedar_types::types::request_env::RequestEnv;
+use cedar_typing::typecheck::Typechecker;
+use std::alloc::{AllocError, Global};
+
+/// The environment that a policy is checked in.
+#[derive(Clone, Copy)]
+pub enum InEnvironment {
+    /// The first of the schema, in a mode.
+    First(ValidationMode),
+    /// The one of undeclared actions.
+    Undeclared,
+}
+
+/// Checks the policy of this text in the first environment of the schema.
+fn single(
+    alloc: Global,
+    rules: Rules<'_>,
+    mode: ValidationMode,
+    text: &str,
+    number: u16,
+) -> Result<Outcome, AllocError> {
+    let mut envs = rules.validator.schema().unlinked_request_envs(mode);
+    match envs.next() {
+        Some(env) => checked_in(alloc, rules, mode, (env, text), number),
+        None => Err(AllocError),
+    }
+}
+
+/// Checks the policy of this text in an environment.
+fn checked_in<'a>(
+    alloc: Global,
+    rules: Rules<'a>,
+    mode: ValidationMode,
+    (env, text): (RequestEnv<'a>, &str),
+    number: u16,
+) -> Result<Outcome, AllocError> {
+    let (schema, policy) = (rules.validator.schema(), policy(alloc, text)?);
+    let checker = Typechecker::new(schema, rules.extensions, mode);
+    refuse(alloc, number);
+    let check = checker.typecheck_by_single_request_env(alloc, &policy.template, &env);
+    ended(alloc, check, &policy)
+}
+
+/// What is asked of a validator.
+#[derive(Clone, Copy)]
+pub enum OfValidator {
+    Principals,
+    Resources,
+    Application,
+    LinkedApplication,
+    RequiredLevel,
+    Level,
+}
+
+/// Asks it of the policy of this text, in Strict.
+fn of_validator(
+    alloc: Global,
+    validator: &Validator<'_>,
+    asked: OfValidator,
+    text: &str,
+    number: u16,
+) -> Result<Outcome, AllocError> {
+    let (mode, policy) = (ValidationMode::Strict, policy(alloc, text)?);
+    let template = &*policy.template;
+    refuse(alloc, number);
+    match asked {
+        OfValidator::Principals => {
+            let constraint = &template.principal_constraint;
+            let types = validator.get_principals_satisfying_constraint(alloc, constraint);
+            ended(alloc, types, &policy)
+        }
+        OfValidator::Resources => {
+            let constraint = &template.resource_constraint;
+            let types = validator.get_resources_satisfying_constraint(alloc, constraint);
+            ended(alloc, types, &policy)
+        }
+        OfValidator::Application => {
+            let applies = validator.validate_template_action_application(alloc, template);
+            ended(alloc, applies, &policy)
+        }
+        OfValidator::LinkedApplication => {
+            let applies = validator.validate_linked_action_application(alloc, &policy);
+            ended(alloc, applies, &policy)
+        }
+        OfValidator::RequiredLevel | OfValidator::Level => {
+            ended(
+                alloc,
+                validator.required_level(alloc, template, mode),
+                &policy,
+            )
+        }
+    }
+}
+
+/// Validates the policy of this text in Strict, where no dereference is allowed.
+fn at_level_0(
+    alloc: Global,
+    validator: &Validator<'_>,
+    text: &str,
+    number: u16,
+) -> Result<Outcome, AllocError> {
+    let (mode, policy) = (ValidationMode::Strict, policy(alloc, text)?);
+    refuse(alloc, number);
+    let found = validator.validate_policy_with_level(alloc, &policy.template, mode, 0);
+    let was_refused = was_refused(alloc);
+    let answer = match found {
+        Ok((errors, warnings)) => Some(all_found(alloc, errors, warnings)?),
+        Err(_) => None,
+    };
+    Ok(Outcome {
+        answer,
+        lent: picture(alloc, &policy)?,
+        was_refused,
+    })
+}
+
+/// All errors and warnings, sorted by bytes.
+fn all_found(
+    alloc: Global,
+    errors: LevelErrors,
+    warnings: LevelWarnings,
+) -> Result<String, AllocError> {
+    let mut lines = Vec::new(alloc);
+    for error in errors {
+        lines.push(picture(alloc, &error)?)?;
+    }
+    for warning in warnings {
+        lines.push(picture(alloc, &warning)?)?;
+    }
+    lines.sort()?;
+    picture(alloc, &lines)
+}
+
+impl Tried for InEnvironment {
+    fn made(
+        self,
+        alloc: Global,
+        rules: Rules<'_>,
+        text: &str,
+        number: u16,
+    ) -> Result<Outcome, AllocError> {
+        match self {
+            InEnvironment::First(mode) => single(alloc, rules, mode, text, number),
+            InEnvironment::Undeclared => {
+                let env = RequestEnv::UndeclaredAction;
+                checked_in(alloc, rules, ValidationMode::Partial, (env, text), number)
+            }
+        }
+    }
+}
+
+impl Tried for OfValidator {
+    fn made(
+        self,
+        alloc: Global,
+        rules: Rules<'_>,
+        text: &str,
+        number: u16,
+    ) -> Result<Outcome, AllocError> {
+        match self {
+            OfValidator::Level => at_level_0(alloc, rules.validator, text, number),
+            _ => of_validator(alloc, rules.validator, self, text, number),
+        }
+    }
+}

@@ -1,0 +1,154 @@
+// Copies.
+use crate::calls::lines::{Rules, Tried};
+use crate::outcomes::{Outcome, ended};
+use crate::refusals::refuse;
+use crate::samples::texts::{cedar_type, entities, expression, template, uid};
+use cedar_types::base::{
+    AttrChain, AttributeType, Attributes, CedarType, EntityKind, EntityLUB, EntityReference,
+    EntityUID, Expr, ExprShapeOnly, Literal, PrincipalOrResourceConstraint, Template,
+};
+use std::alloc::{AllocError, Global};
+
+/// What is copied.
+#[derive(Clone, Copy)]
+pub enum Copied {
+    Expr,
+    OwnedShape,
+    BorrowedShape,
+    Template,
+    Name,
+    EntityType,
+    Uid,
+    PolicyId,
+    Literal,
+    Chain,
+    Reference,
+    Constraint,
+    Actions,
+    EntitySet,
+    Entities,
+    Attributes,
+    AttributeType,
+    Type,
+}
+
+/// One of each.
+#[derive(Debug, Drop)]
+struct Originals {
+    expr: Expr,
+    shape: ExprShapeOnly<'static>,
+    template: Template,
+    uid: EntityUID,
+    literal: Literal,
+    chain: AttrChain,
+    reference: EntityReference,
+    constraint: PrincipalOrResourceConstraint,
+    entities: EntityLUB,
+    kind: EntityKind,
+    attributes: Attributes,
+    attribute: AttributeType,
+    record: CedarType,
+}
+
+const EXPRESSION: &str = r#"if principal has boss.vip && [1, -2].contains(3) then ip("a") == ip("b")
+    else {a: principal, b: "text" like "t*"} has a || principal is User"#;
+
+const POLICY: &str =
+    r#"permit(principal is A::User in ?principal, action in [Action::"a", Action::"b"],
+    resource in A::User::"a") when { principal.getTag("a") == principal };"#;
+
+fn all_originals(alloc: Global) -> Result<Originals, AllocError> {
+    let user = r#"A::User::"a""#;
+    let attributes = Attributes::from_list(
+        alloc,
+        vec![in alloc; ("a", AttributeType::optional_attribute(CedarType::Long))]?,
+    )?;
+    let policy = template(alloc, POLICY)?;
+    Ok(Originals {
+        expr: expression(alloc, EXPRESSION)?,
+        shape: ExprShapeOnly::Owned(expression(alloc, EXPRESSION)?),
+        constraint: policy.resource_constraint.constraint.clone()?,
+        template: policy,
+        uid: uid(alloc, user)?,
+        literal: Literal::from(uid(alloc, user)?),
+        chain: AttrChain::new(alloc, "a", &["b"])?,
+        reference: EntityReference::EUID(uid(alloc, user)?),
+        entities: entities(alloc, "User")?,
+        kind: EntityKind::Entity(entities(alloc, "User")?),
+        attributes,
+        attribute: AttributeType::optional_attribute(cedar_type(alloc, "Set<A::User>")?),
+        record: cedar_type(alloc, "{a: Set<A::User>, b?: ipaddr}")?,
+    })
+}
+
+/// Copies it.
+fn copy_of(alloc: Global, copied: Copied, number: u16) -> Result<Outcome, AllocError> {
+    let all = all_originals(alloc)?;
+    refuse(alloc, number);
+    match copied {
+        Copied::Expr => ended(alloc, all.expr.try_clone(alloc), &all),
+        Copied::OwnedShape => ended(alloc, all.shape.try_clone(alloc), &all),
+        Copied::BorrowedShape => {
+            let shape = ExprShapeOnly::Borrowed(&all.expr);
+            ended(alloc, shape.try_clone(alloc), &all)
+        }
+        Copied::Template => ended(alloc, all.template.try_clone(alloc), &all),
+        Copied::Name => ended(alloc, all.uid.entity_type.name.clone(), &all),
+        Copied::EntityType => ended(alloc, all.uid.entity_type.clone(), &all),
+        Copied::Uid => ended(alloc, all.uid.clone(), &all),
+        Copied::PolicyId => ended(alloc, all.template.id.clone(), &all),
+        Copied::Literal => ended(alloc, all.literal.clone(), &all),
+        Copied::Chain => ended(alloc, all.chain.clone(), &all),
+        Copied::Reference => ended(alloc, all.reference.clone(), &all),
+        Copied::Constraint => ended(alloc, all.constraint.clone(), &all),
+        Copied::Actions => {
+            let actions = &all.template.action_constraint;
+            ended(alloc, actions.try_clone(alloc), &all)
+        }
+        Copied::EntitySet => ended(alloc, all.entities.clone(), &all),
+        Copied::Entities => ended(alloc, all.kind.clone(), &all),
+        Copied::Attributes => ended(alloc, all.attributes.clone(), &all),
+        Copied::AttributeType => ended(alloc, all.attribute.clone(), &all),
+        Copied::Type => ended(alloc, all.record.clone(), &all),
+    }
+}
+
+impl Tried for Copied {
+    fn made(
+        self,
+        alloc: Global,
+        _rules: Rules<'_>,
+        _text: &str,
+        number: u16,
+    ) -> Result<Outcome, AllocError> {
+        copy_of(alloc, self, number)
+    }
+}
+
+/// Copies.
+pub const COPIES: [(Copied, &str); 18] = [
+    (Copied::Expr, "Expr::try_clone | If"),
+    (Copied::OwnedShape, "ExprShapeOnly::try_clone | Owned"),
+    (Copied::Template, "Template::try_clone | GetTag"),
+    (Copied::Name, "Name::clone | User"),
+    (Copied::EntityType, "EntityType::clone | User"),
+    (Copied::Uid, "EntityUID::clone | User"),
+    (Copied::Literal, "Literal::clone | User"),
+    (Copied::Chain, "AttrChain::clone | AttrChain"),
+    (Copied::Reference, "EntityReference::clone | User"),
+    (
+        Copied::Constraint,
+        "PrincipalOrResourceConstraint::clone | User",
+    ),
+    (Copied::Actions, "ActionConstraint::try_clone | In"),
+    (
+        Copied::BorrowedShape,
+        "- ExprShapeOnly::try_clone, of a borrowed one | Borrowed",
+    ),
+    (Copied::PolicyId, "- PolicyID::clone | policy0"),
+    (Copied::EntitySet, "- EntityLUB::clone | User"),
+    (Copied::Entities, "- EntityKind::clone | User"),
+    (Copied::Attributes, "- Attributes::clone | Long"),
+    (Copied::AttributeType, "- AttributeType::clone | User"),
+    (Copied::Type, "- CedarType::clone | ipaddr"),
+];

@@ -1,0 +1,182 @@
+// What makes expressions.
+use crate::calls::lines::{Rules, Tried};
+use crate::outcomes::{Outcome, ended};
+use crate::refusals::refuse;
+use crate::samples::texts::{entity_type, expression};
+use cedar_types::base::{AttrChain, BinaryOp, Expr, PatternElem, UnaryOp};
+use std::alloc::{AllocError, Global};
+
+/// What makes an expression of two.
+#[derive(Clone, Copy)]
+pub enum OfTwo {
+    And,
+    Or,
+    Operator(BinaryOp),
+    Eq,
+    Less,
+    LessEq,
+    Add,
+    Sub,
+    Mul,
+    In,
+    Contains,
+    ContainsAll,
+    ContainsAny,
+    GetTag,
+    HasTag,
+}
+
+/// Makes an expression of this one, twice.
+fn of_two(alloc: Global, form: OfTwo, text: &str, number: u16) -> Result<Outcome, AllocError> {
+    let (left, right) = (expression(alloc, text)?, expression(alloc, text)?);
+    refuse(alloc, number);
+    let made = match form {
+        OfTwo::And => Expr::and(alloc, left, right),
+        OfTwo::Or => Expr::or(alloc, left, right),
+        OfTwo::Operator(operator) => Expr::binary_app(alloc, operator, left, right),
+        OfTwo::Eq => Expr::is_eq(alloc, left, right),
+        OfTwo::Less => Expr::less(alloc, left, right),
+        OfTwo::LessEq => Expr::lesseq(alloc, left, right),
+        OfTwo::Add => Expr::add(alloc, left, right),
+        OfTwo::Sub => Expr::sub(alloc, left, right),
+        OfTwo::Mul => Expr::mul(alloc, left, right),
+        OfTwo::In => Expr::is_in(alloc, left, right),
+        OfTwo::Contains => Expr::contains(alloc, left, right),
+        OfTwo::ContainsAll => Expr::contains_all(alloc, left, right),
+        OfTwo::ContainsAny => Expr::contains_any(alloc, left, right),
+        OfTwo::GetTag => Expr::get_tag(alloc, left, right),
+        OfTwo::HasTag => Expr::has_tag(alloc, left, right),
+    };
+    ended(alloc, made, &())
+}
+
+/// What makes an expression of one.
+#[derive(Clone, Copy)]
+pub enum OfOne {
+    Not,
+    Neg,
+    IsEmpty,
+    Operator(UnaryOp),
+    GetAttr,
+    HasAttr,
+}
+
+/// Makes an expression of this one.
+fn of_one(alloc: Global, form: OfOne, text: &str, number: u16) -> Result<Outcome, AllocError> {
+    let operand = expression(alloc, text)?;
+    refuse(alloc, number);
+    let made = match form {
+        OfOne::Not => Expr::not(alloc, operand),
+        OfOne::Neg => Expr::neg(alloc, operand),
+        OfOne::IsEmpty => Expr::is_empty(alloc, operand),
+        OfOne::Operator(operator) => Expr::unary_app(alloc, operator, operand),
+        OfOne::GetAttr => Expr::get_attr(alloc, operand, "vip"),
+        OfOne::HasAttr => Expr::has_attr(alloc, operand, "vip"),
+    };
+    ended(alloc, made, &())
+}
+
+/// What makes an expression of one and of something else.
+#[derive(Clone, Copy)]
+pub enum OfMore {
+    If,
+    ExtendedHas,
+    Like,
+    Is,
+}
+
+/// Makes an expression of this one, and of two others, a chain, a pattern or a type.
+fn of_more(alloc: Global, form: OfMore, text: &str, number: u16) -> Result<Outcome, AllocError> {
+    let operand = expression(alloc, text)?;
+    let (chosen, other) = (expression(alloc, text)?, expression(alloc, text)?);
+    let chain = AttrChain::new(alloc, "owner", &["vip"])?;
+    let pattern = vec![in alloc; PatternElem::Char('a'), PatternElem::Wildcard]?;
+    let named = entity_type(alloc, "User")?;
+    refuse(alloc, number);
+    let made = match form {
+        OfMore::If => Expr::ite(alloc, operand, chosen, other),
+        OfMore::ExtendedHas => Expr::extended_has_attr(alloc, operand, chain),
+        OfMore::Like => Expr::like(alloc, operand, pattern),
+        OfMore::Is => Expr::is_entity_type(alloc, operand, named),
+    };
+    ended(alloc, made, &())
+}
+
+impl Tried for OfTwo {
+    fn made(
+        self,
+        alloc: Global,
+        _rules: Rules<'_>,
+        text: &str,
+        number: u16,
+    ) -> Result<Outcome, AllocError> {
+        of_two(alloc, self, text, number)
+    }
+}
+
+impl Tried for OfOne {
+    fn made(
+        self,
+        alloc: Global,
+        _rules: Rules<'_>,
+        text: &str,
+        number: u16,
+    ) -> Result<Outcome, AllocError> {
+        of_one(alloc, self, text, number)
+    }
+}
+
+impl Tried for OfMore {
+    fn made(
+        self,
+        alloc: Global,
+        _rules: Rules<'_>,
+        text: &str,
+        number: u16,
+    ) -> Result<Outcome, AllocError> {
+        of_more(alloc, self, text, number)
+    }
+}
+
+/// Makers of an expression of two.
+pub const TWO_OPERANDS: [(OfTwo, &str); 15] = [
+    (OfTwo::And, "Expr::and | And | true"),
+    (OfTwo::Or, "Expr::or | Or | true"),
+    (OfTwo::Operator(BinaryOp::Eq), "Expr::binary_app | Eq | 1"),
+    (OfTwo::Eq, "Expr::is_eq | Eq | 1"),
+    (OfTwo::Less, "Expr::less | Less | 1"),
+    (OfTwo::LessEq, "Expr::lesseq | LessEq | 1"),
+    (OfTwo::Add, "Expr::add | Add | 1"),
+    (OfTwo::Sub, "Expr::sub | Sub | 1"),
+    (OfTwo::Mul, "Expr::mul | Mul | 1"),
+    (OfTwo::In, "Expr::is_in | In | principal"),
+    (OfTwo::Contains, "Expr::contains | Contains | [1]"),
+    (OfTwo::ContainsAll, "Expr::contains_all | ContainsAll | [1]"),
+    (OfTwo::ContainsAny, "Expr::contains_any | ContainsAny | [1]"),
+    (OfTwo::GetTag, "Expr::get_tag | GetTag | principal"),
+    (OfTwo::HasTag, "Expr::has_tag | HasTag | principal"),
+];
+
+/// Makers of an expression of one.
+pub const ONE_OPERAND: [(OfOne, &str); 6] = [
+    (
+        OfOne::Operator(UnaryOp::Not),
+        "Expr::unary_app | Not | true",
+    ),
+    (OfOne::Not, "Expr::not | Not | true"),
+    (OfOne::Neg, "Expr::neg | Neg | 1"),
+    (OfOne::IsEmpty, "Expr::is_empty | IsEmpty | [1]"),
+    (OfOne::GetAttr, "Expr::get_attr | GetAttr | principal"),
+    (OfOne::HasAttr, "Expr::has_attr | HasAttr | principal"),
+];
+
+/// Makers of an expression of one and of something else.
+pub const MORE: [(OfMore, &str); 4] = [
+    (OfMore::If, "Expr::ite | If | true"),
+    (
+        OfMore::ExtendedHas,
+        "Expr::extended_has_attr | ExtHasAttr | principal",
+    ),
+    (OfMore::Like, "Expr::like | Like | principal"),
+    (OfMore::Is, "Expr::is_entity_type | Is | principal"),
+];

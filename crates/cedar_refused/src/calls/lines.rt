@@ -1,0 +1,78 @@
+// A call as a line of a table.
+use crate::outcomes::Outcome;
+use crate::refusals::NEVER;
+use crate::sweep::{ANOTHER_ANSWER, ANOTHER_LATER, Attempt, Call, attempt_of};
+use cedar_typechecker::rbac::Validator;
+use cedar_types::base::ExtensionSchemas;
+use std::alloc::{AllocError, Global};
+
+/// What calls stand on.
+#[derive(Clone, Copy)]
+pub struct Rules<'a> {
+    pub validator: &'a Validator<'a>,
+    pub extensions: &'a ExtensionSchemas,
+}
+
+/// A call that is made on what a text says.
+pub trait Tried: Copy {
+    /// Makes the call while the growth of this number is refused.
+    fn made(
+        self,
+        alloc: Global,
+        rules: Rules<'_>,
+        text: &str,
+        number: u16,
+    ) -> Result<Outcome, AllocError>;
+}
+
+/// A line of a table: the name of a call, what its answer shows among other things, and the text that it is made on, with
+/// ` | ` between them. The text may be missing. Before the name of a call that takes no memory on this text stands `- `.
+#[derive(Clone, Copy)]
+pub struct Line<'a> {
+    pub name: &'a str,
+    pub shows: &'a str,
+    pub text: &'a str,
+    pub takes_none: bool,
+}
+
+impl<'a> Line<'a> {
+    pub fn read(line: &'a str) -> Line<'a> {
+        let (takes_none, line) = match line.strip_prefix("- ") {
+            Some(line) => (true, line),
+            None => (false, line),
+        };
+        let (name, rest) = line.split_once(" | ").unwrap_or((line, ""));
+        let (shows, text) = rest.split_once(" | ").unwrap_or((rest, ""));
+        Line {
+            name,
+            shows,
+            text,
+            takes_none,
+        }
+    }
+}
+
+/// A line with its call, and what that stands on.
+#[derive(Clone, Copy)]
+pub struct LineCall<'a, T> {
+    pub rules: Rules<'a>,
+    pub call: T,
+    pub line: Line<'a>,
+}
+
+impl<T: Tried> Call for LineCall<'_, T> {
+    fn attempt(&self, alloc: Global, number: u16) -> Result<Attempt, AllocError> {
+        let (rules, line) = (self.rules, self.line);
+        let wanted = self.call.made(alloc, rules, line.text, NEVER)?;
+        let found = self.call.made(alloc, rules, line.text, number)?;
+        let again = self.call.made(alloc, rules, line.text, NEVER)?;
+        let shown = wanted.answer.as_deref().unwrap_or("");
+        let is_as_ever = found.answer.is_none() || found.answer == wanted.answer;
+        Ok(
+            attempt_of(found.answer.is_some(), found.was_refused)
+                .only_if(is_as_ever && shown.contains(line.shows), ANOTHER_ANSWER)
+                .only_if(again.answer == wanted.answer, ANOTHER_LATER)
+                .only_if(found.lent == wanted.lent, "what it was lent is another"),
+        )
+    }
+}

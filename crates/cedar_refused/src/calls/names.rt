@@ -1,0 +1,57 @@
+// What makes names, ids and literals of texts.
+use crate::calls::lines::{Rules, Tried};
+use crate::outcomes::{Outcome, ended};
+use crate::refusals::refuse;
+use crate::samples::texts::entity_type;
+use cedar_types::base::{AttrChain, EntityUID, Literal, Name, PolicyID};
+use std::alloc::{AllocError, Global};
+
+/// What is made of texts.
+#[derive(Clone, Copy)]
+pub enum OfTexts {
+    Unqualified,
+    Qualified,
+    Chain,
+    Literal,
+    Uid,
+    PolicyId,
+}
+
+/// Makes it.
+fn of_texts(alloc: Global, made: OfTexts, number: u16) -> Result<Outcome, AllocError> {
+    let user = entity_type(alloc, "User")?;
+    refuse(alloc, number);
+    match made {
+        OfTexts::Unqualified => ended(alloc, Name::unqualified_name(alloc, "User"), &()),
+        OfTexts::Qualified => ended(alloc, Name::new(alloc, "User", &["A", "B"]), &()),
+        OfTexts::Chain => ended(alloc, AttrChain::new(alloc, "a", &["b", "c"]), &()),
+        OfTexts::Literal => ended(alloc, Literal::from_string(alloc, "text"), &()),
+        OfTexts::Uid => {
+            let uid = EntityUID::from_components(alloc, user, "id", None);
+            ended(alloc, uid, &())
+        }
+        OfTexts::PolicyId => ended(alloc, PolicyID::from_string(alloc, "policy0"), &()),
+    }
+}
+
+impl Tried for OfTexts {
+    fn made(
+        self,
+        alloc: Global,
+        _rules: Rules<'_>,
+        text: &str,
+        number: u16,
+    ) -> Result<Outcome, AllocError> {
+        of_texts(alloc, self, number)
+    }
+}
+
+/// What is made of texts.
+pub const NAMES: [(OfTexts, &str); 6] = [
+    (OfTexts::Unqualified, "Name::unqualified_name | User"),
+    (OfTexts::Qualified, "Name::new | User"),
+    (OfTexts::Chain, "AttrChain::new | AttrChain"),
+    (OfTexts::Literal, "Literal::from_string | String"),
+    (OfTexts::Uid, "EntityUID::from_components | EntityUID"),
+    (OfTexts::PolicyId, "PolicyID::from_string | policy0"),
+];

@@ -1,0 +1,147 @@
+// What is asked of an environment.
+use crate::calls::lines::{Rules, Tried};
+use crate::outcomes::{Outcome, ended};
+use crate::refusals::refuse;
+use crate::samples::texts::policy;
+use cedar_types::base::{ValidationMode, ValidatorSchema};
+use cedar_types::types::request_env::RequestEnv;
+use std::alloc::{AllocError, Global};
+
+/// What is asked of an environment.
+#[derive(Clone, Copy)]
+pub enum OfEnvironment {
+    RequestType,
+    LinkSlots,
+    Principal,
+    Action,
+    Resource,
+    Context,
+}
+
+/// It is asked of a declared action's environment.
+#[derive(Clone, Copy)]
+pub struct Declared(OfEnvironment);
+
+/// It is asked of the environment of undeclared actions.
+#[derive(Clone, Copy)]
+pub struct Undeclared(OfEnvironment);
+
+/// A policy with both slots bound.
+const BOUND: &str =
+    r#"User::"a", Photo::"b" = permit(principal == ?principal, action, resource == ?resource);"#;
+
+/// Asks it of a declared action's environment.
+fn of_declared(
+    alloc: Global,
+    asked: OfEnvironment,
+    schema: &ValidatorSchema,
+    number: u16,
+) -> Result<Outcome, AllocError> {
+    let mut envs = schema.unlinked_request_envs(ValidationMode::Partial);
+    match envs.next() {
+        Some(env) => of_environment(alloc, asked, schema, env, number),
+        None => Err(AllocError),
+    }
+}
+
+/// Asks it of an environment.
+fn of_environment<'a>(
+    alloc: Global,
+    asked: OfEnvironment,
+    schema: &'a ValidatorSchema,
+    env: RequestEnv<'a>,
+    number: u16,
+) -> Result<Outcome, AllocError> {
+    let bound = policy(alloc, BOUND)?;
+    let slots = &bound.values;
+    refuse(alloc, number);
+    match asked {
+        OfEnvironment::RequestType => ended(alloc, env.to_request_type(alloc), &env),
+        OfEnvironment::LinkSlots => ended(alloc, env.link_slot_env(alloc, slots), slots),
+        OfEnvironment::Principal => ended(alloc, env.principal_type(alloc), &env),
+        OfEnvironment::Action => ended(alloc, env.action_type(alloc, schema), &env),
+        OfEnvironment::Resource => ended(alloc, env.resource_type(alloc), &env),
+        OfEnvironment::Context => ended(alloc, env.context_type(alloc), &env),
+    }
+}
+
+impl Tried for Declared {
+    fn made(
+        self,
+        alloc: Global,
+        rules: Rules<'_>,
+        _text: &str,
+        number: u16,
+    ) -> Result<Outcome, AllocError> {
+        of_declared(alloc, self.0, rules.validator.schema(), number)
+    }
+}
+
+impl Tried for Undeclared {
+    fn made(
+        self,
+        alloc: Global,
+        rules: Rules<'_>,
+        _text: &str,
+        number: u16,
+    ) -> Result<Outcome, AllocError> {
+        let schema = rules.validator.schema();
+        of_environment(alloc, self.0, schema, RequestEnv::UndeclaredAction, number)
+    }
+}
+
+/// Questions about a declared action's environment.
+pub const ENVIRONMENTS: [(Declared, &str); 6] = [
+    (
+        Declared(OfEnvironment::Principal),
+        "RequestEnv::principal_type | User",
+    ),
+    (
+        Declared(OfEnvironment::Action),
+        "RequestEnv::action_type | Action",
+    ),
+    (
+        Declared(OfEnvironment::Resource),
+        "RequestEnv::resource_type | Photo",
+    ),
+    (
+        Declared(OfEnvironment::RequestType),
+        "- RequestEnv::to_request_type | Photo",
+    ),
+    (
+        Declared(OfEnvironment::LinkSlots),
+        "- RequestEnv::link_slot_env | principal_slot: Some",
+    ),
+    (
+        Declared(OfEnvironment::Context),
+        "- RequestEnv::context_type | is_public",
+    ),
+];
+
+/// Questions about the environment of undeclared actions.
+pub const UNDECLARED: [(Undeclared, &str); 6] = [
+    (
+        Undeclared(OfEnvironment::Context),
+        "RequestEnv::context_type, undeclared | Open",
+    ),
+    (
+        Undeclared(OfEnvironment::RequestType),
+        "- RequestEnv::to_request_type, undeclared | None",
+    ),
+    (
+        Undeclared(OfEnvironment::LinkSlots),
+        "- RequestEnv::link_slot_env, undeclared | UndeclaredAction",
+    ),
+    (
+        Undeclared(OfEnvironment::Principal),
+        "- RequestEnv::principal_type, undeclared | AnyEntity",
+    ),
+    (
+        Undeclared(OfEnvironment::Action),
+        "- RequestEnv::action_type, undeclared | AnyEntity",
+    ),
+    (
+        Undeclared(OfEnvironment::Resource),
+        "- RequestEnv::resource_type, undeclared | AnyEntity",
+    ),
+];

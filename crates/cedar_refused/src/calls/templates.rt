@@ -1,0 +1,98 @@
+// What is asked of a policy without a schema.
+use crate::calls::lines::{Rules, Tried};
+use crate::outcomes::{Outcome, ended};
+use crate::refusals::refuse;
+use crate::samples::texts::policy;
+use cedar_types::base::SlotId;
+use std::alloc::{AllocError, Global};
+
+/// What is asked of a template, or of its condition.
+#[derive(Clone, Copy)]
+pub enum OfTemplate {
+    Condition,
+    ScopeCondition,
+    Uids,
+    TypeNames,
+    Slot,
+    SlotOfCondition,
+    Subexpressions,
+}
+
+/// Asks it of the template of this text.
+fn of_template(
+    alloc: Global,
+    asked: OfTemplate,
+    text: &str,
+    number: u16,
+) -> Result<Outcome, AllocError> {
+    let policy = policy(alloc, text)?;
+    let template = &*policy.template;
+    let whole = template.condition(alloc)?;
+    refuse(alloc, number);
+    match asked {
+        OfTemplate::Condition => ended(alloc, template.condition(alloc), template),
+        OfTemplate::ScopeCondition => ended(alloc, template.scope_condition(alloc), template),
+        OfTemplate::Uids => ended(alloc, template.policy_entity_uids(alloc), template),
+        OfTemplate::TypeNames => {
+            ended(alloc, template.policy_entity_type_names(alloc), template)
+        }
+        OfTemplate::Slot => {
+            ended(
+                alloc,
+                template.mentions_slot(alloc, SlotId::Principal),
+                template,
+            )
+        }
+        OfTemplate::SlotOfCondition => {
+            ended(alloc, whole.mentions_slot(alloc, SlotId::Principal), &whole)
+        }
+        OfTemplate::Subexpressions => {
+            let walk = whole.subexpressions(alloc);
+            ended(alloc, walk.map(|_| ()), &whole)
+        }
+    }
+}
+
+impl Tried for OfTemplate {
+    fn made(
+        self,
+        alloc: Global,
+        _rules: Rules<'_>,
+        text: &str,
+        number: u16,
+    ) -> Result<Outcome, AllocError> {
+        of_template(alloc, self, text, number)
+    }
+}
+
+/// Questions about a template.
+pub const TEMPLATES: [(OfTemplate, &str); 7] = [
+    (
+        OfTemplate::Condition,
+        r#"
+Template::condition | IsEmpty | NAMED
+Template::condition, with slots | Slot | UNKNOWN
+"#,
+    ),
+    (
+        OfTemplate::ScopeCondition,
+        "Template::scope_condition | Gone | NAMED",
+    ),
+    (
+        OfTemplate::Uids,
+        "Template::policy_entity_uids | red | NAMED",
+    ),
+    (
+        OfTemplate::TypeNames,
+        "Template::policy_entity_type_names | Gone | NAMED",
+    ),
+    (OfTemplate::Slot, "Template::mentions_slot | false | NAMED"),
+    (
+        OfTemplate::SlotOfCondition,
+        "Expr::mentions_slot | false | NAMED",
+    ),
+    (
+        OfTemplate::Subexpressions,
+        "Expr::subexpressions | () | NAMED",
+    ),
+];

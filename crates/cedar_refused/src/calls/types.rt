@@ -1,0 +1,168 @@
+// Types: what makes them, and what is asked of them.
+use crate::calls::lines::{Rules, Tried};
+use crate::outcomes::{Outcome, ended};
+use crate::refusals::refuse;
+use crate::samples::texts::{entity_type, only, two_types};
+use cedar_types::base::{
+    AttributeType, Attributes, CedarType, EntityLUB, Name, ValidationMode, types_in_order,
+};
+use std::alloc::{AllocError, Global};
+use std::collections::BTreeMap;
+use std::rc::RcStr;
+
+/// What is made.
+#[derive(Clone, Copy)]
+pub enum TypeMaker {
+    Set,
+    AnyRecord,
+    Entity,
+    Extension,
+    AttributesOfMap,
+    AttributesOfList,
+    SingleEntity,
+    EntitiesOfSet,
+    InOrder,
+}
+
+/// Makes it.
+fn made(alloc: Global, made: TypeMaker, number: u16) -> Result<Outcome, AllocError> {
+    let name = Name::unqualified_name(alloc, "ipaddr")?;
+    let (user, users) = (entity_type(alloc, "User")?, only(alloc, "User")?);
+    let mut map = BTreeMap::new(alloc);
+    let number_attribute = AttributeType::required_attribute(CedarType::Long);
+    drop(map.insert(RcStr::from_str(alloc, "a")?, number_attribute)?);
+    let listed = AttributeType::optional_attribute(CedarType::String);
+    let list = vec![in alloc; ("a", listed)]?;
+    let types = vec![in alloc; CedarType::String, CedarType::Long]?;
+    refuse(alloc, number);
+    match made {
+        TypeMaker::Set => ended(alloc, CedarType::set(alloc, CedarType::Long), &()),
+        TypeMaker::AnyRecord => ended(alloc, CedarType::any_record(alloc), &()),
+        TypeMaker::Entity => { ended(alloc, CedarType::named_entity_reference(alloc, user), &()) }
+        TypeMaker::Extension => ended(alloc, CedarType::extension(alloc, name), &()),
+        TypeMaker::AttributesOfMap => { ended(alloc, Attributes::with_attributes(alloc, map), &()) }
+        TypeMaker::AttributesOfList => ended(alloc, Attributes::from_list(alloc, list), &()),
+        TypeMaker::SingleEntity => ended(alloc, EntityLUB::single_entity(alloc, user), &()),
+        TypeMaker::EntitiesOfSet => ended(alloc, EntityLUB::from_types(alloc, users), &()),
+        TypeMaker::InOrder => ended(alloc, types_in_order(alloc, types), &()),
+    }
+}
+
+/// What is asked of two types.
+#[derive(Clone, Copy)]
+pub enum OfTypes {
+    Bound(ValidationMode),
+    BoundOfAll(ValidationMode),
+    Subtype(ValidationMode),
+}
+
+/// Asks it of the types of this text.
+fn of_types(alloc: Global, asked: OfTypes, text: &str, number: u16) -> Result<Outcome, AllocError> {
+    let types = two_types(alloc, text)?;
+    let (left, right) = (&types.0, &types.1);
+    refuse(alloc, number);
+    match asked {
+        OfTypes::Bound(mode) => {
+            let bound = CedarType::least_upper_bound(alloc, left, right, mode);
+            ended(alloc, bound, &types)
+        }
+        OfTypes::BoundOfAll(mode) => {
+            let bound = CedarType::reduce_to_least_upper_bound(alloc, &[left, right], mode);
+            ended(alloc, bound, &types)
+        }
+        OfTypes::Subtype(mode) => {
+            ended(
+                alloc,
+                CedarType::is_subtype(alloc, left, right, mode),
+                &types,
+            )
+        }
+    }
+}
+
+impl Tried for TypeMaker {
+    fn made(
+        self,
+        alloc: Global,
+        _rules: Rules<'_>,
+        _text: &str,
+        number: u16,
+    ) -> Result<Outcome, AllocError> {
+        made(alloc, self, number)
+    }
+}
+
+impl Tried for OfTypes {
+    fn made(
+        self,
+        alloc: Global,
+        _rules: Rules<'_>,
+        text: &str,
+        number: u16,
+    ) -> Result<Outcome, AllocError> {
+        of_types(alloc, self, text, number)
+    }
+}
+
+/// Makers of types, and of what they are made of.
+pub const TYPES: [(TypeMaker, &str); 9] = [
+    (TypeMaker::Set, "CedarType::set | Set"),
+    (TypeMaker::AnyRecord, "CedarType::any_record | Record"),
+    (
+        TypeMaker::Entity,
+        "CedarType::named_entity_reference | User",
+    ),
+    (TypeMaker::Extension, "CedarType::extension | ipaddr"),
+    (
+        TypeMaker::AttributesOfMap,
+        "Attributes::with_attributes | Long",
+    ),
+    (
+        TypeMaker::AttributesOfList,
+        "Attributes::from_list | String",
+    ),
+    (TypeMaker::SingleEntity, "EntityLUB::single_entity | User"),
+    (TypeMaker::EntitiesOfSet, "EntityLUB::from_types | User"),
+    (TypeMaker::InOrder, "types_in_order | Long"),
+];
+
+const STRICT: ValidationMode = ValidationMode::Strict;
+
+const PERMISSIVE: ValidationMode = ValidationMode::Permissive;
+
+const PARTIAL: ValidationMode = ValidationMode::Partial;
+
+/// Questions about two types.
+pub const BOUNDS: [(OfTypes, &str); 6] = [
+    (
+        OfTypes::Bound(PERMISSIVE),
+        r#"
+CedarType::least_upper_bound, of entities | Photo | User & Photo
+CedarType::least_upper_bound, of records | Photo | {a: User, b: Long, c: {d: Set<User>}} & {a: Photo, c?: {d: Set<Photo>}}
+"#,
+    ),
+    (
+        OfTypes::Bound(STRICT),
+        r#"
+CedarType::least_upper_bound, of records in Strict | AnyBool | {a: Set<True>, c: {d: False}} & {a: Set<False>, c: {d: True}}
+- CedarType::least_upper_bound, of equal types | User | Set<{a: User}> & Set<{a: User}>
+- CedarType::least_upper_bound, of any set | AnySet | Set & Set<User>
+"#,
+    ),
+    (
+        OfTypes::Bound(PARTIAL),
+        "CedarType::least_upper_bound, of sets | Group | Set<Group> & Set<User>",
+    ),
+    (
+        OfTypes::BoundOfAll(PERMISSIVE),
+        "CedarType::reduce_to_least_upper_bound | Photo | {a: User} & {a: Photo, b: Long}",
+    ),
+    (
+        OfTypes::Subtype(PERMISSIVE),
+        "CedarType::is_subtype | true | {a: User} & {a: User|Photo}",
+    ),
+    (
+        OfTypes::Subtype(STRICT),
+        "- CedarType::is_subtype, of entities | true | User & entity",
+    ),
+];
