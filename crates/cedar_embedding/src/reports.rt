@@ -2,7 +2,7 @@
 ghost use Rattle.std.specs.Prelude.{◌≡◌, IfOk};
 
 use crate::policy_sets::{Findings, WrittenPolicy};
-use cedar_types::base::{Loc, PolicyID, ValidationError, ValidationWarning};
+use cedar_types::base::{Escaped, Loc, OneLine, PolicyID, ValidationError, ValidationWarning};
 use std::alloc::{AllocError, Global};
 use std::collections::HashSet;
 
@@ -65,22 +65,26 @@ fn warning_lines(
 ) -> Result<Vec<String>, AllocError> {
     let mut lines = Vec::new(alloc);
     for warning in warnings {
-        lines.push(warning.to_string(alloc)?)?;
+        let said = warning.to_string(alloc)?;
+        lines.push(format!(in alloc; "{}", OneLine(said.as_str()))?)?;
     }
     lines.sort()?;
     Ok(lines)
 }
 
-/// Where the error stands in the policy's text, what stands there, and what is wrong with it.
+/// Where the error stands in the policy's text, what stands there, and what is wrong with it, on one line.
 fn reason(alloc: Global, text: &str, error: &ValidationError) -> Result<String, AllocError> {
+    let said = error.to_string(alloc)?;
+    let wrong = OneLine(said.as_str());
     let Some(Loc { start, end }) = error.source_loc() else {
-        return error.to_string(alloc);
+        return format!(in alloc; "{wrong}");
     };
-    let part = text.get(start..end).unwrap_or("");
-    format!(in alloc; "{start}..{end} `{part}`: {error}")
+    let part = OneLine(text.get(start..end).unwrap_or(""));
+    format!(in alloc; "{start}..{end} `{part}`: {wrong}")
 }
 
 /// The line of a policy that is refused without an error.
 fn unexplained(alloc: Global, policy: &PolicyID) -> Result<String, AllocError> {
-    format!(in alloc; "for policy `{policy}`, no error says why: {UNEXPLAINED}")
+    let id = Escaped(policy.text.as_str());
+    format!(in alloc; "for policy `{id}`, no error says why: {UNEXPLAINED}")
 }

@@ -202,3 +202,21 @@ fn a_policy_that_is_refused_without_an_error_has_a_line(rt: HostRuntime) -> Resu
     let policy = permit_when(alloc, "", condition)?;
     is_said_alone(&rt, alloc, policy, "", &UNEXPLAINED)
 }
+
+const OF_A_FORGED_NAME: Want = Want {
+    is_accepted: false,
+    is_impossible: false,
+    errors: &[
+        "for policy `policy0`, attribute `x`\\nfor policy `policy1`, \\u{202e}` does not exist on `User`",
+    ],
+    warnings: &[],
+};
+
+#[test]
+fn a_name_with_a_line_break_begins_no_line(rt: HostRuntime) -> Result<(), Fail> {
+    let alloc = rt.alloc();
+    let attr = "x`\nfor policy `policy1`, \u{202e}";
+    let access = Expr::get_attr(alloc, Expr::var(Var::Principal), attr)?;
+    let policy = permit_when(alloc, "", access)?;
+    is_said_alone(&rt, alloc, policy, "", &OF_A_FORGED_NAME)
+}
