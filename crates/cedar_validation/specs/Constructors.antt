@@ -1,0 +1,19 @@
+-- What the check of the functions that make extension values means.
+use Rattle.std.specs.Prelude.{Bool, true, false, List, [], ◌∷◌, Option, Some, None, codes, if◌then◌else◌}
+use Rattle.cedar_types.specs.Names.{Text}
+use Rattle.cedar_types.specs.Tree.{Tree, lit, string}
+use Rattle.cedar_types.specs.View.{Written}
+
+-- the empty string literal
+abbrev pub is_empty_text : Tree Written → Bool
+is_empty_text (lit w (string [])) = true
+is_empty_text e = false
+
+-- it is the first argument
+abbrev pub begins_with_empty_text : List (Tree Written) → Bool
+begins_with_empty_text [] = false
+begins_with_empty_text (e ∷ es) = is_empty_text e
+
+-- the message with which arguments are refused, if they are
+abbrev pub refusal_of_empty_text : List (Tree Written) → Option Text
+refusal_of_empty_text es = if begins_with_empty_text es then Some (codes "the text is empty") else None

@@ -1,0 +1,163 @@
+//! The words that the program is called with.
+use cedar_types::base::ValidationMode;
+use std::alloc::{AllocError, Global};
+
+/// What is to be validated, and how.
+#[derive(Drop)]
+pub struct Arguments {
+    pub mode: ValidationMode,
+    /// How many entities a policy may dereference, one after another; any number without it.
+    pub level: Option<u32>,
+    /// Whether each line that is printed is an object of JSON.
+    pub is_json: bool,
+    pub schema: String,
+    pub policies: Vec<String>,
+}
+
+/// What the words ask for.
+#[derive(Drop)]
+pub enum Asked {
+    Help,
+    Validation(Arguments),
+}
+
+/// What is wrong with the words.
+#[derive(Clone, Copy)]
+pub enum Misuse {
+    UnknownOption,
+    Mode,
+    Level,
+    LevelInPartial,
+    TooFewFiles,
+}
+
+/// What is asked for by these words, or what is wrong with them. It fails where memory is refused.
+pub fn read_arguments(
+    alloc: Global,
+    words: &[String],
+) -> Result<Result<Asked, Misuse>, AllocError> {
+    let mut read = Reading::new(alloc);
+    for word in words {
+        if word.as_str() == "--help" {
+            return Ok(Ok(Asked::Help));
+        }
+        if let Some(misuse) = read.take(word)? {
+            return Ok(Err(misuse));
+        }
+    }
+    Ok(read.finish())
+}
+
+/// What comes next.
+#[derive(Clone, Copy)]
+enum Next {
+    Any,
+    Mode,
+    Level,
+}
+
+/// What was read so far.
+#[derive(Drop)]
+struct Reading {
+    mode: ValidationMode,
+    level: Option<u32>,
+    is_json: bool,
+    files: Vec<String>,
+    next: Next,
+}
+
+impl Reading {
+    fn new(alloc: Global) -> Reading {
+        Reading {
+            mode: ValidationMode::Strict,
+            level: None,
+            is_json: false,
+            files: Vec::new(alloc),
+            next: Next::Any,
+        }
+    }
+
+    /// Reads a word, and says what is wrong with it.
+    fn take(&mut self, word: &String) -> Result<Option<Misuse>, AllocError> {
+        match self.next {
+            Next::Mode => Ok(self.take_mode(word.as_str())),
+            Next::Level => Ok(self.take_level(word.as_str())),
+            Next::Any => self.take_option_or_file(word),
+        }
+    }
+
+    fn take_mode(&mut self, word: &str) -> Option<Misuse> {
+        self.next = Next::Any;
+        self.mode = match word {
+            "strict" => ValidationMode::Strict,
+            "permissive" => ValidationMode::Permissive,
+            "partial" => ValidationMode::Partial,
+            _ => return Some(Misuse::Mode),
+        };
+        None
+    }
+
+    fn take_level(&mut self, word: &str) -> Option<Misuse> {
+        self.next = Next::Any;
+        match word.parse::<u32>() {
+            Ok(level) => {
+                self.level = Some(level);
+                None
+            }
+            Err(_) => Some(Misuse::Level),
+        }
+    }
+
+    fn take_option_or_file(&mut self, word: &String) -> Result<Option<Misuse>, AllocError> {
+        match word.as_str() {
+            "--mode" => self.next = Next::Mode,
+            "--level" => self.next = Next::Level,
+            "--json" => self.is_json = true,
+            text if text.len() > 1 && text.starts_with("-") => {
+                return Ok(Some(Misuse::UnknownOption));
+            }
+            _ => self.files.push(word.clone()?)?,
+        }
+        Ok(None)
+    }
+
+    fn finish(self) -> Result<Asked, Misuse> {
+        let Reading {
+            mode,
+            level,
+            is_json,
+            mut files,
+            next,
+        } = self;
+        match next {
+            Next::Mode => return Err(Misuse::Mode),
+            Next::Level => return Err(Misuse::Level),
+            Next::Any => {}
+        }
+        if mode == ValidationMode::Partial && level.is_some() {
+            return Err(Misuse::LevelInPartial);
+        }
+        if files.len() < 2 {
+            return Err(Misuse::TooFewFiles);
+        }
+        let schema = files.remove(0);
+        Ok(Asked::Validation(Arguments {
+            mode,
+            level,
+            is_json,
+            schema,
+            policies: files,
+        }))
+    }
+}
+
+/// What is wrong, in words.
+pub fn misuse_text(misuse: Misuse) -> &'static str {
+    match misuse {
+        Misuse::UnknownOption => "there is no such option",
+        Misuse::Mode => "`--mode` takes `strict`, `permissive` or `partial`",
+        Misuse::Level => "`--level` takes a number from 0 to 4294967295",
+        Misuse::LevelInPartial => "`--level` is for the modes `strict` and `permissive`",
+        Misuse::TooFewFiles => "a schema and at least one file of policies are wanted",
+    }
+}

@@ -1,0 +1,92 @@
+//! The extension functions of Cedar: those of `ipaddr`, `decimal`, `datetime` and `duration`.
+use cedar_types::base::{ArgumentCheck, CedarType, ExtensionFunctionType, Name};
+use std::alloc::{AllocError, Global};
+use std::collections::BTreeSet;
+
+/// Each function that makes an extension value of a text: its name, the type of what it makes, and that of its argument.
+const CONSTRUCTORS: [&str; 4] = [
+    "ip ipaddr String",
+    "decimal decimal String",
+    "datetime datetime String",
+    "duration duration String",
+];
+
+/// How many functions make an extension value of a text. Each of them wants a check.
+pub const CONSTRUCTOR_COUNT: usize = CONSTRUCTORS.len();
+
+/// Each other function in the same way.
+const OTHERS: [&str; 18] = [
+    "isIpv4 Bool ipaddr",
+    "isIpv6 Bool ipaddr",
+    "isLoopback Bool ipaddr",
+    "isMulticast Bool ipaddr",
+    "isInRange Bool ipaddr ipaddr",
+    "lessThan Bool decimal decimal",
+    "lessThanOrEqual Bool decimal decimal",
+    "greaterThan Bool decimal decimal",
+    "greaterThanOrEqual Bool decimal decimal",
+    "offset datetime datetime duration",
+    "durationSince duration datetime datetime",
+    "toDate datetime datetime",
+    "toTime duration datetime",
+    "toMilliseconds Long duration",
+    "toSeconds Long duration",
+    "toMinutes Long duration",
+    "toHours Long duration",
+    "toDays Long duration",
+];
+
+/// The functions, of which those that make a value of a text have these checks, one each.
+pub fn functions(
+    alloc: Global,
+    checks: Vec<Box<dyn ArgumentCheck>>,
+) -> Result<Vec<ExtensionFunctionType>, AllocError> {
+    let mut functions = Vec::new(alloc);
+    let mut checks = checks.into_iter();
+    for line in &CONSTRUCTORS {
+        functions.push(function(alloc, line, checks.next())?)?;
+    }
+    for line in &OTHERS {
+        functions.push(function(alloc, line, None)?)?;
+    }
+    Ok(functions)
+}
+
+/// The extension types that `<` and `<=` compare.
+pub fn overloaded_types(alloc: Global) -> Result<BTreeSet<Name>, AllocError> {
+    let mut types = BTreeSet::new(alloc);
+    types.insert(Name::unqualified_name(alloc, "datetime")?)?;
+    types.insert(Name::unqualified_name(alloc, "duration")?)?;
+    Ok(types)
+}
+
+/// The function of a line.
+fn function(
+    alloc: Global,
+    line: &str,
+    check_arguments: Option<Box<dyn ArgumentCheck>>,
+) -> Result<ExtensionFunctionType, AllocError> {
+    let mut words = line.split(' ');
+    let name = words.next().unwrap_or("");
+    let answer = words.next().unwrap_or("");
+    let mut argument_types = Vec::new(alloc);
+    for word in words {
+        argument_types.push(type_named(alloc, word)?)?;
+    }
+    Ok(ExtensionFunctionType {
+        name: Name::unqualified_name(alloc, name)?,
+        argument_types,
+        is_variadic: false,
+        return_type: type_named(alloc, answer)?,
+        check_arguments,
+    })
+}
+
+fn type_named(alloc: Global, name: &str) -> Result<CedarType, AllocError> {
+    match name {
+        "Bool" => Ok(CedarType::primitive_boolean()),
+        "Long" => Ok(CedarType::primitive_long()),
+        "String" => Ok(CedarType::primitive_string()),
+        _ => CedarType::extension(alloc, Name::unqualified_name(alloc, name)?),
+    }
+}

@@ -1,0 +1,109 @@
+//! What is found, as lines for people.
+use crate::escapes::Escaped;
+use crate::excerpts::Excerpt;
+use crate::faults::TextFault;
+use crate::findings::{Finding, Requirement, Severity, Verdict};
+use crate::tallies::Tally;
+use cedar_reading::Position;
+use cedar_types::base::Loc;
+use std::alloc::AllocError;
+use std::fmt;
+
+/// A place of a file: `FILE:LINE:COLUMN`.
+#[derive(Clone, Copy)]
+pub struct Place<'a> {
+    pub file: &'a str,
+    pub at: Position,
+}
+
+impl fmt::Display for Place<'_> {
+    fn fmt<W: fmt::Write>(&self, f: &mut fmt::Formatter<W>) -> fmt::Result {
+        let file = Escaped(self.file);
+        let Position { line, column } = self.at;
+        write!(f, "{file}:{line}:{column}")
+    }
+}
+
+/// Adds the line of a policy.
+pub fn push_policy(
+    out: &mut String,
+    place: Place<'_>,
+    id: &str,
+    verdict: &Verdict,
+) -> Result<(), AllocError> {
+    let id = Escaped(id);
+    let outcome = if verdict.is_accepted {
+        "accepted"
+    } else {
+        "refused"
+    };
+    write!(out, "{place}: policy `{id}`: {outcome}")?;
+    match verdict.requirement {
+        Requirement::Unsaid => out.push_str("\n"),
+        Requirement::NoLevel => out.push_str(", no level is enough\n"),
+        Requirement::Level(level) => writeln!(out, ", level {level}"),
+    }
+}
+
+/// Adds the lines of a finding in this text.
+pub fn push_finding(
+    out: &mut String,
+    place: Place<'_>,
+    text: &str,
+    finding: &Finding,
+) -> Result<(), AllocError> {
+    let said = Escaped(finding.text.as_str());
+    let severity = severity_text(finding.severity);
+    let start = finding.start;
+    let end = finding.end;
+    let excerpt = Excerpt::new(text, Loc { start, end });
+    write!(out, "{place}: {severity}: {said}\n{excerpt}")?;
+    for environment in &finding.environments {
+        let environment = Escaped(environment.as_str());
+        writeln!(out, "  only for {environment}")?;
+    }
+    Ok(())
+}
+
+/// What a severity is called.
+pub fn severity_text(severity: Severity) -> &'static str {
+    match severity {
+        Severity::Error => "error",
+        Severity::Warning => "warning",
+    }
+}
+
+/// Adds the lines of a fault of this text.
+pub fn push_fault(
+    out: &mut String,
+    place: Place<'_>,
+    text: &str,
+    fault: &TextFault,
+) -> Result<(), AllocError> {
+    let said = Escaped(fault.text.as_str());
+    let excerpt = Excerpt::new(text, fault.place);
+    write!(out, "{place}: fault: {said}\n{excerpt}")
+}
+
+/// Adds the line of a file that cannot be had.
+pub fn push_missing(out: &mut String, file: &str, why: &str) -> Result<(), AllocError> {
+    let file = Escaped(file);
+    let why = Escaped(why);
+    writeln!(out, "{file}: fault: {why}")
+}
+
+/// Adds the last line.
+pub fn push_tally(out: &mut String, tally: Tally) -> Result<(), AllocError> {
+    let Tally {
+        policies,
+        accepted,
+        refused,
+        warnings,
+        faults,
+    } = tally;
+    write!(
+        out,
+        "policies: {policies}, accepted: {accepted}, refused: {refused}"
+    )?;
+    writeln!(out, ", warnings: {warnings}, faults: {faults}")
+}

@@ -1,0 +1,85 @@
+// What the words of a command line ask for.
+use cedar_types::base::ValidationMode;
+use cedar_validation::arguments::{Asked, misuse_text, read_arguments};
+use std::alloc::{AllocError, Global};
+use std::test::Fail;
+
+/// Command lines, and what they ask for or what is wrong with them.
+const LINES: [(&str, &str); 12] = [
+    ("s p", "strict, no level, lines: s, p"),
+    ("--json s - q", "strict, no level, objects: s, -, q"),
+    (
+        "--level 3 --mode permissive s p",
+        "permissive, level 3, lines: s, p",
+    ),
+    ("s p --mode partial", "partial, no level, lines: s, p"),
+    ("s --help", "help"),
+    ("s", "a schema and at least one file of policies are wanted"),
+    ("--modes strict s p", "there is no such option"),
+    (
+        "--mode stricter s p",
+        "`--mode` takes `strict`, `permissive` or `partial`",
+    ),
+    (
+        "s p --mode",
+        "`--mode` takes `strict`, `permissive` or `partial`",
+    ),
+    (
+        "--level 4294967296 s p",
+        "`--level` takes a number from 0 to 4294967295",
+    ),
+    (
+        "s p --level",
+        "`--level` takes a number from 0 to 4294967295",
+    ),
+    (
+        "--level 1 --mode partial s p",
+        "`--level` is for the modes `strict` and `permissive`",
+    ),
+];
+
+#[test]
+fn what_is_asked(rt: HostRuntime) -> Result<(), Fail> {
+    for (line, wanted) in &LINES {
+        let said = shown(rt.alloc(), line)?;
+        assert_eq!(rt; said.as_str(), *wanted, "for {line}");
+    }
+    Ok(())
+}
+
+/// What a command line asks for, in words.
+fn shown(alloc: Global, line: &str) -> Result<String, AllocError> {
+    let mut words = Vec::new(alloc);
+    for word in line.split(' ') {
+        words.push(String::from_str(alloc, word)?)?;
+    }
+    let arguments = match read_arguments(alloc, words.as_slice())? {
+        Ok(Asked::Validation(arguments)) => arguments,
+        Ok(Asked::Help) => return String::from_str(alloc, "help"),
+        Err(misuse) => return String::from_str(alloc, misuse_text(misuse)),
+    };
+    let mut said = String::from_str(alloc, mode_text(arguments.mode))?;
+    match arguments.level {
+        Some(level) => write!(said, ", level {level}")?,
+        None => said.push_str(", no level")?,
+    }
+    said.push_str(if arguments.is_json {
+        ", objects: "
+    } else {
+        ", lines: "
+    })?;
+    said.push_str(arguments.schema.as_str())?;
+    for name in &arguments.policies {
+        said.push_str(", ")?;
+        said.push_str(name.as_str())?;
+    }
+    Ok(said)
+}
+
+fn mode_text(mode: ValidationMode) -> &'static str {
+    match mode {
+        ValidationMode::Strict => "strict",
+        ValidationMode::Permissive => "permissive",
+        ValidationMode::Partial => "partial",
+    }
+}

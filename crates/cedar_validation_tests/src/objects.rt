@@ -1,0 +1,94 @@
+// The objects of JSON, in which nothing that others wrote ends a text or a line.
+use cedar_reading::Position;
+use cedar_types::base::{EntityDerefLevel, Loc};
+use cedar_validation::faults::TextFault;
+use cedar_validation::findings::{Finding, Requirement, Severity, Verdict};
+use cedar_validation::lines::Place;
+use cedar_validation::objects;
+use cedar_validation::tallies::Tally;
+use std::alloc::{AllocError, Global};
+use std::test::Fail;
+
+const PLACE: Place<'static> = Place {
+    file: "a\"",
+    at: Position { line: 3, column: 7 },
+};
+
+const POLICIES: &str = r#"
+{"kind":"policy","file":"a\"","line":3,"column":7,"id":"x\u000ay","accepted":false}
+{"kind":"policy","file":"a\"","line":3,"column":7,"id":"\\","accepted":true,"level":null}
+{"kind":"policy","file":"a\"","line":3,"column":7,"id":"\\","accepted":true,"level":2}
+"#;
+
+#[test]
+fn policies(rt: HostRuntime) -> Result<(), Fail> {
+    let alloc = rt.alloc();
+    let mut out = String::new(alloc);
+    let level = Requirement::Level(EntityDerefLevel { level: 2 });
+    for (id, is_accepted, requirement) in [
+        ("x\ny", false, Requirement::Unsaid),
+        ("\\", true, Requirement::NoLevel),
+        ("\\", true, level),
+    ] {
+        let verdict = Verdict {
+            is_accepted,
+            requirement,
+            findings: Vec::new(alloc),
+        };
+        objects::push_policy(&mut out, PLACE, id, &verdict)?;
+    }
+    assert_eq!(rt; out.as_str(), POLICIES.trim_start());
+    Ok(())
+}
+
+const FINDINGS: &str = r#"
+{"kind":"error","file":"a\"","line":3,"column":7,"id":"i","text":"\u202e","only":["h","t\u0009"]}
+{"kind":"warning","file":"a\"","line":3,"column":7,"id":"i","text":"\u202e","only":[]}
+{"kind":"fault","file":"a\"","line":3,"column":7,"text":"`;` is expected"}
+{"kind":"fault","file":"\u001b","text":"none"}
+{"kind":"summary","policies":1,"accepted":2,"refused":3,"warnings":4,"faults":5}
+"#;
+
+#[test]
+fn findings_and_faults(rt: HostRuntime) -> Result<(), Fail> {
+    let alloc = rt.alloc();
+    let mut out = String::new(alloc);
+    let environments = vec![in alloc;
+        String::from_str(alloc, "h")?,
+        String::from_str(alloc, "t\t")?,
+    ]?;
+    let somewhere = finding(alloc, Severity::Error, environments)?;
+    objects::push_finding(&mut out, PLACE, "i", &somewhere)?;
+    let nowhere = finding(alloc, Severity::Warning, Vec::new(alloc))?;
+    objects::push_finding(&mut out, PLACE, "i", &nowhere)?;
+    let fault = TextFault {
+        place: Loc { start: 0, end: 1 },
+        text: String::from_str(alloc, "`;` is expected")?,
+    };
+    objects::push_fault(&mut out, PLACE, &fault)?;
+    objects::push_missing(&mut out, "\u{1b}", "none")?;
+    let tally = Tally {
+        policies: 1,
+        accepted: 2,
+        refused: 3,
+        warnings: 4,
+        faults: 5,
+    };
+    objects::push_tally(&mut out, tally)?;
+    assert_eq!(rt; out.as_str(), FINDINGS.trim_start());
+    Ok(())
+}
+
+fn finding(
+    alloc: Global,
+    severity: Severity,
+    environments: Vec<String>,
+) -> Result<Finding, AllocError> {
+    Ok(Finding {
+        start: 0,
+        end: 1,
+        severity,
+        text: String::from_str(alloc, "\u{202e}")?,
+        environments,
+    })
+}
