@@ -3,6 +3,7 @@ use crate::kinds::{Fields, Kind, application, error, parts_of_errors};
 use crate::parts::{place, policy, uid};
 use cedar_types::base::{EntityUID, Loc, PolicyID, ValidationError, ValidationWarning};
 use std::alloc::{AllocError, Global};
+use std::cmp::Ordering;
 use std::collections::HashSet;
 use std::hash::Hash;
 use std::test::Fail;
@@ -171,13 +172,26 @@ fn is_said<T: Eq + Hash + Drop>(
     Ok(are_equal == are_one && set.contains(other) == are_one)
 }
 
+/// Whether the order of errors says so too, from both sides.
+fn is_told(
+    alloc: Global,
+    one: ValidationError,
+    other: &ValidationError,
+    are_one: bool,
+) -> Result<bool, AllocError> {
+    let order = one.cmp(other);
+    let is_turned = other.cmp(&one) == order.reverse();
+    let are_tied = order == Ordering::Equal;
+    Ok(are_tied == are_one && is_turned && is_said(alloc, one, other, are_one)?)
+}
+
 /// Whether errors of a kind that differ in one field are one finding just where the kind does not have the field.
 fn fields_count(alloc: Global, kind: Kind, own: &[Field]) -> Result<bool, AllocError> {
     let plain = made(alloc, kind, PLAIN)?;
-    let mut is_so = is_said(alloc, made(alloc, kind, PLAIN)?, &plain, true)?;
+    let mut is_so = is_told(alloc, made(alloc, kind, PLAIN)?, &plain, true)?;
     for field in FIELDS {
         let other = made(alloc, kind, changed(field))?;
-        is_so = is_so && is_said(alloc, other, &plain, !counts(field, own))?;
+        is_so = is_so && is_told(alloc, other, &plain, !counts(field, own))?;
     }
     Ok(is_so)
 }
@@ -196,7 +210,7 @@ fn is_alone(alloc: Global, kind: Kind) -> Result<bool, AllocError> {
     let mut is_so = true;
     for (other, _, _) in &KINDS {
         let error = made(alloc, *other, PLAIN)?;
-        is_so = is_so && is_said(alloc, error, &plain, *other == kind)?;
+        is_so = is_so && is_told(alloc, error, &plain, *other == kind)?;
     }
     Ok(is_so)
 }
@@ -343,5 +357,6 @@ fn places_in_names_do_not_count(rt: HostRuntime) -> Result<(), Fail> {
     let e = unknown(alloc, place(1), place(8))?;
     let same = unknown(alloc, place(1), None)?;
     assert!(rt; e.is_same_finding(&same));
+    assert!(rt; e.cmp(&same) == Ordering::Equal);
     Ok(())
 }

@@ -21,6 +21,7 @@ pub mod Capability
 pub mod BoundLaws
 pub mod TypeOrder
 pub mod Errors
+pub mod ErrorOrder
 pub mod Stores
 pub mod Listings
 pub mod Tables

@@ -1,6 +1,7 @@
--- The derived `==` of errors and of warnings holds exactly where their plain views are equal.
-use Rattle.std.proofs.Common.{◌≡◌, refl, Bool, true, false, ◌&&◌, List, [], ◌∷◌, Option, Some, None, map, option_map}
+-- The derived `==` of errors and of warnings holds exactly where their plain views are equal, and so do ties of errors.
+use Rattle.std.proofs.Common.{◌≡◌, refl, sym, ◌∙◌, Bool, true, false, ◌&&◌, List, [], ◌∷◌, Option, Some, None, map, option_map}
 use Rattle.std.specs.Option.{option_eq}
+use Rattle.std.specs.Ordering.{is_eq}
 use Rattle.std.specs.Cmp.Lexicographic.{pointwise}
 use Rattle.cedar_types.specs.declared.base.names.entities.EntityType.{EntityType}
 use Rattle.cedar_types.specs.declared.base.types.entity_sets.EntityLUB.{EntityLUB}
@@ -13,10 +14,12 @@ use Rattle.cedar_types.specs.contracts.base.names.entities.EntityTypePartialEq.T
 use Rattle.cedar_types.specs.contracts.base.types.entity_sets.EntityLUBPartialEq.TheImpl as lub_impl
 use Rattle.cedar_types.specs.contracts.base.types.CedarTypePartialEq.TheImpl as type_impl
 use Rattle.cedar_types.specs.contracts.base.errors.validation_errors.ValidationErrorPartialEq.TheImpl as error_impl
+use Rattle.cedar_types.specs.contracts.base.errors.validation_errors.ValidationErrorOrd.TheImpl.Laws as error_ord_laws
 use Rattle.cedar_types.specs.contracts.base.errors.validation_warnings.ValidationWarningPartialEq.TheImpl as warning_impl
 use Rattle.cedar_types.specs.Names.{text_of, type_of, text_eq, path_eq}
 use Rattle.cedar_types.specs.Types.{ty_of, lub_of}
 use Rattle.cedar_types.specs.Comparisons.{bool_eq}
+use Rattle.cedar_types.specs.ErrorOrder.{error_cmp}
 use Rattle.cedar_types.specs.Lemmas.Comparisons.{name_is, entity_type_is, uid_is}
 use Rattle.cedar_types.specs.Errors.{finding_of, caution_of}
 use Rattle.cedar_types.proofs.Comparisons.Types.{types_same}
@@ -75,6 +78,9 @@ error_is (error.InternalInvariantViolation x) (error.InternalInvariantViolation 
 error_is (error.MaximumLevelExceeded x) (error.MaximumLevelExceeded y) = refl
 error_is (error.LiteralDereferenceTarget x) (error.LiteralDereferenceTarget y) = λ i. option_eq loc_eq x.source_loc y.source_loc && and_true (text_eq (text_of x.policy_id.text) (text_of y.policy_id.text)) i
 error_is x y = and_false (option_eq loc_eq (finding_of x).place (finding_of y).place) (text_eq (finding_of x).policy (finding_of y).policy)
+
+pub tie_is : (x y : ValidationError) → is_eq (error_cmp x y) ≡ finding_eq (finding_of x) (finding_of y)
+tie_is x y = sym (error_ord_laws.matches_eq-law x y) ∙ error_is x y
 
 pub warning_is : (x y : ValidationWarning) → warning_impl.ghosts.eq x y ≡ caution_eq (caution_of x) (caution_of y)
 warning_is (warning.ImpossiblePolicy x) (warning.ImpossiblePolicy y) = λ i. option_eq loc_eq x.source_loc y.source_loc && and_true (text_eq (text_of x.policy_id.text) (text_of y.policy_id.text)) i

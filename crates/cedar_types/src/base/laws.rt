@@ -1,9 +1,14 @@
 //! Laws of the data, each on a function that does nothing.
 ghost use Rattle.std.specs.Prelude.{◌≡◌, IsTrue, ◌↔◌, None};
+ghost use Rattle.std.specs.Cmp.{IsTotalOrder};
+ghost use Rattle.std.specs.Ordering.{is_eq};
 ghost use Rattle.cedar_types.specs.Names.{path_of, type_of, uid_of, path_cmp, uid_cmp};
 ghost use Rattle.cedar_types.specs.Comparisons.{name_eq, entity_type_eq, entity_uid_eq, name_cmp, entity_type_cmp, entity_uid_cmp};
+ghost use Rattle.cedar_types.specs.ErrorOrder.{error_cmp};
+ghost use Rattle.cedar_types.specs.Errors.{finding_of};
 ghost use Rattle.cedar_types.specs.ExtensionFunctions.{table_fault};
 ghost use Rattle.cedar_types.specs.Extensions.{functions_of};
+ghost use Rattle.cedar_types.specs.declared.base.errors.validation_errors.ValidationError.{ValidationError};
 ghost use Rattle.cedar_types.specs.declared.base.names.Name.{Name};
 ghost use Rattle.cedar_types.specs.declared.base.names.entities.EntityType.{EntityType};
 ghost use Rattle.cedar_types.specs.declared.base.names.entities.EntityUID.{EntityUID};
@@ -23,6 +28,13 @@ pub fn order_of_names()
     ensures names { (x y : Name) → name_cmp x y ≡ path_cmp (path_of x) (path_of y) }
     ensures types { (x y : EntityType) → entity_type_cmp x y ≡ path_cmp (type_of x) (type_of y) }
     ensures ids { (x y : EntityUID) → entity_uid_cmp x y ≡ uid_cmp (uid_of x) (uid_of y) }
+{}
+
+/// The order of errors is total, and calls equal exactly those that are one finding. Which order it is may change.
+pub fn order_of_findings()
+    ensures total { IsTotalOrder error_cmp }
+    ensures ties { (x y : ValidationError)
+        → IsTrue (is_eq (error_cmp x y)) ↔ (finding_of x ≡ finding_of y) }
 {}
 
 /// A table of extension functions has no fault, whatever its checks mean.

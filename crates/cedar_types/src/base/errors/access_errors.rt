@@ -10,7 +10,7 @@ use std::rc::RcStr;
 use thiserror::Error;
 
 /// An attribute is read that the type of its base does not declare.
-#[derive(PartialEq, Eq, Hash, Debug, Drop, Error)]
+#[derive(PartialEq, Eq, PartialOrd, Ord, Hash, Debug, Drop, Error)]
 #[error("for policy `{policy_id}`, attribute `{attr}` {0} `{accessed_type}`", self.what_is_wrong())]
 pub struct UnsafeAttributeAccess {
     pub source_loc: Option<Loc>,
@@ -32,7 +32,7 @@ impl UnsafeAttributeAccess {
 }
 
 /// An optional attribute is read without a test that it is there.
-#[derive(PartialEq, Eq, Hash, Debug, Drop, Error)]
+#[derive(PartialEq, Eq, PartialOrd, Ord, Hash, Debug, Drop, Error)]
 #[error("for policy `{policy_id}`, access to optional attribute `{attr}` on `{accessed_type}` is not guarded")]
 pub struct UnsafeOptionalAttributeAccess {
     pub source_loc: Option<Loc>,
@@ -42,7 +42,7 @@ pub struct UnsafeOptionalAttributeAccess {
 }
 
 /// A tag is read without a test that it is there.
-#[derive(PartialEq, Eq, Hash, Debug, Drop, Error)]
+#[derive(PartialEq, Eq, PartialOrd, Ord, Hash, Debug, Drop, Error)]
 #[error("for policy `{policy_id}`, access to a tag of `{entity_ty}` is not guarded", entity_ty = OrAnyEntity(.entity_ty))]
 pub struct UnsafeTagAccess {
     pub source_loc: Option<Loc>,
@@ -52,7 +52,7 @@ pub struct UnsafeTagAccess {
 }
 
 /// A tag is read of an entity whose types declare no tags.
-#[derive(PartialEq, Eq, Hash, Debug, Drop, Error)]
+#[derive(PartialEq, Eq, PartialOrd, Ord, Hash, Debug, Drop, Error)]
 #[error("for policy `{policy_id}`, tags are not allowed on `{entity_ty}`", entity_ty = OrAnyEntity(.entity_ty))]
 pub struct NoTagsAllowed {
     pub source_loc: Option<Loc>,

@@ -7,7 +7,7 @@ use std::rc::RcStr;
 use thiserror::Error;
 
 /// A function is called that the table of extension functions does not have.
-#[derive(PartialEq, Eq, Hash, Debug, Drop, Error)]
+#[derive(PartialEq, Eq, PartialOrd, Ord, Hash, Debug, Drop, Error)]
 #[error("for policy `{policy_id}`, undefined extension function `{name}`")]
 pub struct UndefinedFunction {
     pub source_loc: Option<Loc>,
@@ -16,7 +16,7 @@ pub struct UndefinedFunction {
 }
 
 /// A function is called with too few or too many arguments.
-#[derive(PartialEq, Eq, Hash, Debug, Drop, Error)]
+#[derive(PartialEq, Eq, PartialOrd, Ord, Hash, Debug, Drop, Error)]
 #[error("for policy `{policy_id}`, wrong number of arguments: expected {expected}, got {actual}")]
 pub struct WrongNumberArguments {
     pub source_loc: Option<Loc>,
@@ -26,7 +26,7 @@ pub struct WrongNumberArguments {
 }
 
 /// The check of a function refused its arguments.
-#[derive(PartialEq, Eq, Hash, Debug, Drop, Error)]
+#[derive(PartialEq, Eq, PartialOrd, Ord, Hash, Debug, Drop, Error)]
 #[error("for policy `{policy_id}`, invalid argument: {msg}")]
 pub struct FunctionArgumentValidation {
     pub source_loc: Option<Loc>,
@@ -35,7 +35,7 @@ pub struct FunctionArgumentValidation {
 }
 
 /// A function that has a check is called with an argument that is no literal, in Strict.
-#[derive(PartialEq, Eq, Hash, Debug, Drop, Error)]
+#[derive(PartialEq, Eq, PartialOrd, Ord, Hash, Debug, Drop, Error)]
 #[error("for policy `{policy_id}`, extension constructors take literals alone")]
 pub struct NonLitExtConstructor {
     pub source_loc: Option<Loc>,

@@ -6,7 +6,7 @@ use crate::base::names::policy_ids::PolicyID;
 use thiserror::Error;
 
 /// A policy dereferences entities at a level above the allowed one.
-#[derive(PartialEq, Eq, Hash, Debug, Drop, Error)]
+#[derive(PartialEq, Eq, PartialOrd, Ord, Hash, Debug, Drop, Error)]
 #[error("for policy `{policy_id}`, this policy requires level {actual_level}, which exceeds the maximum allowed level ({allowed_level})")]
 pub struct MaximumLevelExceeded {
     pub source_loc: Option<Loc>,
@@ -16,7 +16,7 @@ pub struct MaximumLevelExceeded {
 }
 
 /// A policy dereferences an entity literal or a slot.
-#[derive(PartialEq, Eq, Hash, Debug, Drop, Error)]
+#[derive(PartialEq, Eq, PartialOrd, Ord, Hash, Debug, Drop, Error)]
 #[error("for policy `{policy_id}`, entity literals cannot be dereferenced at any level")]
 pub struct LiteralDereferenceTarget {
     pub source_loc: Option<Loc>,
@@ -25,7 +25,7 @@ pub struct LiteralDereferenceTarget {
 
 /// A form was met that has no rule. Typing reports it of `hasTag` and `getTag` on what is Never, which comes up in
 /// Partial alone; the level pass will, on a base that is neither an entity of known types nor a record.
-#[derive(PartialEq, Eq, Hash, Debug, Drop, Error)]
+#[derive(PartialEq, Eq, PartialOrd, Ord, Hash, Debug, Drop, Error)]
 #[error("for policy `{policy_id}`, internal invariant violated")]
 pub struct InternalInvariantViolation {
     pub source_loc: Option<Loc>,

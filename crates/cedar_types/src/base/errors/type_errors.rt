@@ -8,7 +8,7 @@ use std::collections::BTreeSet;
 use thiserror::Error;
 
 /// An expression has a type that is a subtype of none of the expected ones.
-#[derive(PartialEq, Eq, Hash, Debug, Drop, Error)]
+#[derive(PartialEq, Eq, PartialOrd, Ord, Hash, Debug, Drop, Error)]
 #[error("for policy `{policy_id}`, unexpected type: expected {expected} but saw `{actual}`", expected = QuotedTypes {types: .expected, between: " or "})]
 pub struct UnexpectedType {
     pub source_loc: Option<Loc>,
@@ -35,7 +35,7 @@ pub enum LubContext {
 }
 
 /// Some types have no least upper bound.
-#[derive(PartialEq, Eq, Hash, Debug, Drop, Error)]
+#[derive(PartialEq, Eq, PartialOrd, Ord, Hash, Debug, Drop, Error)]
 #[error("for policy `{policy_id}`, the types {types} are not compatible", types = QuotedTypes {types: .types, between: ", "})]
 pub struct IncompatibleTypes {
     pub source_loc: Option<Loc>,
@@ -45,7 +45,7 @@ pub struct IncompatibleTypes {
 }
 
 /// A set literal has no elements, in Strict.
-#[derive(PartialEq, Eq, Hash, Debug, Drop, Error)]
+#[derive(PartialEq, Eq, PartialOrd, Ord, Hash, Debug, Drop, Error)]
 #[error("for policy `{policy_id}`, empty set literals are forbidden")]
 pub struct EmptySetForbidden {
     pub source_loc: Option<Loc>,

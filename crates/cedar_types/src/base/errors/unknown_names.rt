@@ -6,7 +6,7 @@ use crate::base::names::policy_ids::PolicyID;
 use thiserror::Error;
 
 /// A policy names an entity type that the schema does not know.
-#[derive(PartialEq, Eq, Hash, Debug, Drop, Error)]
+#[derive(PartialEq, Eq, PartialOrd, Ord, Hash, Debug, Drop, Error)]
 #[error("for policy `{policy_id}`, unrecognized entity type `{actual_entity_type}`")]
 pub struct UnrecognizedEntityType {
     pub source_loc: Option<Loc>,
@@ -15,7 +15,7 @@ pub struct UnrecognizedEntityType {
 }
 
 /// A policy names an action that the schema does not declare.
-#[derive(PartialEq, Eq, Hash, Debug, Drop, Error)]
+#[derive(PartialEq, Eq, PartialOrd, Ord, Hash, Debug, Drop, Error)]
 #[error("for policy `{policy_id}`, unrecognized action `{actual_action_id}`")]
 pub struct UnrecognizedActionId {
     pub source_loc: Option<Loc>,
@@ -24,7 +24,7 @@ pub struct UnrecognizedActionId {
 }
 
 /// A policy names an id of an enumerated entity type that is not one of its members.
-#[derive(PartialEq, Eq, Hash, Debug, Drop, Error)]
+#[derive(PartialEq, Eq, PartialOrd, Ord, Hash, Debug, Drop, Error)]
 #[error("for policy `{policy_id}`, entity `{uid}` is not a member of its enumerated type")]
 pub struct InvalidEnumEntity {
     pub source_loc: Option<Loc>,

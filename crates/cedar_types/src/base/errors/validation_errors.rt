@@ -17,7 +17,10 @@ use crate::base::names::policy_ids::PolicyID;
 use thiserror::Error;
 
 /// What makes a policy invalid, with the policy's id and the place that it is about.
-#[derive(PartialEq, Eq, Hash, Debug, Error)]
+///
+/// Errors are ordered, so that a set can keep them in order: `Equal` is answered exactly where `==` holds. Which order it is may
+/// change.
+#[derive(PartialEq, Eq, PartialOrd, Ord, Hash, Debug, Error)]
 pub enum ValidationError {
     /// A type that the schema does not know.
     #[error(transparent)]
