@@ -1,13 +1,15 @@
 -- What the checks of a policy have found, one verdict after another.
 use Rattle.std.proofs.Common.{◌≡◌, ◌↔◌, ℕ, Bool, true, false, ◌&&◌, cond, ne_eqb, List, [], ◌∷◌, ◌++◌, map, length, ◌⊎◌, inl, inr, refl, sym, ap, subst, ◌∙◌, arith}
 use Rattle.std.specs.Bool.{Decides, ◌==◌}
+use Rattle.std.specs.Ordering.{eq_by_cmp}
 use Rattle.cedar_types.specs.declared.base.errors.validation_errors.ValidationError.{ValidationError}
 use Rattle.cedar_types.specs.declared.base.errors.validation_warnings.ValidationWarning.{ValidationWarning}
 use Rattle.cedar_types.specs.contracts.base.errors.validation_errors.ValidationErrorPartialEq.TheImpl as error_impl
 use Rattle.cedar_types.specs.contracts.base.errors.validation_warnings.ValidationWarningPartialEq.TheImpl as warning_impl
+use Rattle.cedar_types.specs.ErrorOrder.{error_cmp}
 use Rattle.cedar_types.specs.Errors.{Finding, Caution, finding_of, caution_of}
 use Rattle.cedar_types.specs.Templates.{PlainTemplate}
-use Rattle.cedar_types.proofs.Comparisons.Errors.{error_is, warning_is}
+use Rattle.cedar_types.proofs.Comparisons.Errors.{error_is, tie_is, warning_is}
 use Rattle.cedar_types.proofs.Comparisons.ErrorsDecided.{finding_eq-Decides, caution_eq-Decides}
 use Rattle.cedar_typing.specs.Evaluation.Conformance.{IsOneOf}
 use Rattle.cedar_typing.specs.PolicyCheck.{Verdict}
@@ -15,12 +17,21 @@ use Rattle.cedar_typing.specs.PolicyOutcome.{Adds, is_silent, errors_in, all_err
 use Rattle.cedar_typing.proofs.Gains.{in_either, adds_nothing}
 use Rattle.cedar_typing.proofs.Members.{in_left, in_right}
 
--- ---- equality of errors and of warnings is that of what they say
+-- ---- equality of errors and of warnings, and ties in the order of errors, are equality of what they say
 
 pub error_decides : (x y : ValidationError) → Decides (error_impl.ghosts.eq x y) (finding_of x ≡ finding_of y)
 error_decides x y =
     let d = finding_eq-Decides (finding_of x) (finding_of y) in
     (λ h. d.0 (sym (error_is x y) ∙ h), λ h. error_is x y ∙ d.1 h)
+
+-- whether two errors are tied in the order of errors
+abbrev pub is_tied : ValidationError → ValidationError → Bool
+is_tied = eq_by_cmp error_cmp
+
+pub tie_decides : (x y : ValidationError) → Decides (is_tied x y) (finding_of x ≡ finding_of y)
+tie_decides x y =
+    let d = finding_eq-Decides (finding_of x) (finding_of y) in
+    (λ h. d.0 (sym (tie_is x y) ∙ h), λ h. tie_is x y ∙ d.1 h)
 
 pub warning_decides : (x y : ValidationWarning) → Decides (warning_impl.ghosts.eq x y) (caution_of x ≡ caution_of y)
 warning_decides x y =

@@ -1,12 +1,15 @@
 -- What the level pass has found, one environment after another.
-use Rattle.std.proofs.Common.{◌≡◌, ◌↔◌, ◌≤◌, false, true≢false, List, [], ◌∷◌, ◌++◌, map, ◌⊎◌, inl, inr, sym, subst, ◌∙◌}
-use Rattle.std.specs.List.{AllByRecursion, IsDistinct}
+use Rattle.std.proofs.Common.{◌≡◌, ◌↔◌, ◌≤◌, false, true≢false, List, [], ◌∷◌, ◌++◌, map, ◌⊎◌, inl, inr, sym, ap, subst, ◌∙◌}
+use Rattle.std.specs.List.{AllByRecursion}
+use Rattle.std.specs.List.Sorted.{IsStrictlySortedBy}
+use Rattle.std.specs.Ordering.{is_eq}
+use Rattle.std.specs.declared.cmp.Ordering.TheVariants.{Less}
 use Rattle.cedar_types.specs.declared.base.errors.validation_errors.ValidationError.{ValidationError}
 use Rattle.cedar_types.specs.declared.base.expressions.extensions.ExtensionSchemas.{ExtensionSchemas}
 use Rattle.cedar_types.specs.declared.base.schema.ValidatorSchema.{ValidatorSchema}
 use Rattle.cedar_types.specs.declared.base.templates.Template.{Template}
 use Rattle.cedar_types.specs.declared.base.types.ValidationMode.{ValidationMode}
-use Rattle.cedar_types.specs.contracts.base.errors.validation_errors.ValidationErrorPartialEq.TheImpl as error_impl
+use Rattle.cedar_types.specs.ErrorOrder.{error_cmp}
 use Rattle.cedar_types.specs.Errors.{Finding, finding_of}
 use Rattle.cedar_types.specs.ExtensionFunctions.{Refusals}
 use Rattle.cedar_types.specs.Extensions.{functions_of, overloaded_types_of}
@@ -23,7 +26,7 @@ use Rattle.cedar_typing.specs.PolicyOutcome.{Adds, all_errors}
 use Rattle.cedar_typing.specs.TypedExpr.{TypedTree}
 use Rattle.cedar_typing.proofs.Gains.{in_either}
 use Rattle.cedar_typing.proofs.Members.{in_left, in_right}
-use Rattle.cedar_typing.proofs.Tallies.{error_decides}
+use Rattle.cedar_typing.proofs.Tallies.{tie_decides}
 use Rattle.cedar_typechecker.specs.declared.rbac.validator.Validator.{Validator}
 use Rattle.cedar_typechecker.specs.Levels.InOrder.{add_errors}
 use Rattle.cedar_typechecker.specs.Levels.Outcome.{ChecksOn, IsErrorOfVerdict, IsErrorInSome, AreApart}
@@ -99,15 +102,15 @@ types_kept old new vs q h =
 -- ---- members of a set, each once
 
 not_again : (x : ValidationError) (xs : List ValidationError)
-    → AllByRecursion (λ y. error_impl.ghosts.eq x y ≡ false) xs
+    → AllByRecursion (λ y. error_cmp x y ≡ Less) xs
     → IsOneOf (finding_of x) (map finding_of xs) → ⊥
 not_again x [] h i = i
-not_again x (y ∷ ys) h (inl e) = true≢false (sym ((error_decides x y).1 e) ∙ h.0)
+not_again x (y ∷ ys) h (inl e) = true≢false (sym ((tie_decides x y).1 e) ∙ ap is_eq h.0)
 not_again x (y ∷ ys) h (inr i) = not_again x ys h.1 i
 
-pub apart : (xs : List ValidationError) → IsDistinct error_impl.ghosts.eq xs
+pub apart : (xs : List ValidationError) → IsStrictlySortedBy error_cmp xs
     → AreApart (map finding_of xs)
-unfolding IsDistinct
+unfolding IsStrictlySortedBy
 apart [] h = tt
 apart (x ∷ xs) h = (not_again x xs h.0, apart xs h.1)
 

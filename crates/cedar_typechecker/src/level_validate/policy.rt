@@ -23,7 +23,7 @@ use cedar_types::base::{
 };
 use cedar_typing::typecheck::Typechecker;
 use std::alloc::{AllocError, Global};
-use std::collections::HashSet;
+use std::collections::BTreeSet;
 
 impl<C: ArgumentCheck> Validator<'_, C> {
     /// Validates a policy in a mode, and says where it dereferences more than `max_deref_level` entities, one after another
@@ -96,8 +96,8 @@ impl<C: ArgumentCheck> Validator<'_, C> {
     {
         let checker = Typechecker::new(&self.schema, self.extensions, mode);
         let mut tally = LevelTally {
-            type_errors: HashSet::new(alloc),
-            level_errors: HashSet::new(alloc),
+            type_errors: BTreeSet::new(alloc),
+            level_errors: BTreeSet::new(alloc),
             all_irrelevant: true,
         };
         for item in checker.typecheck_by_request_env(alloc, p)? {
@@ -179,7 +179,10 @@ fn collect(found: &mut Vec<ValidationError>, pass: LiteralErrors<'_>) -> Result<
 }
 
 /// Adds each member of a set, once.
-fn append(found: &mut Vec<ValidationError>, set: HashSet<ValidationError>) -> Result<(), AllocError>
+fn append(
+    found: &mut Vec<ValidationError>,
+    set: BTreeSet<ValidationError>,
+) -> Result<(), AllocError>
     ensures all { OnOk result (
         findings found.new.items ≡ findings found.old.items ++ findings set.keys) }
     ensures once { OnOk result (AreApart (findings set.keys)) }

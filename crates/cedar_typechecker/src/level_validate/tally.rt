@@ -1,5 +1,6 @@
 // What the checks of a policy in its environments have found so far.
 ghost use Rattle.std.specs.Prelude.{◌≡◌, ◌≤◌, [], ◌∷◌, List, OnOk, IfOk};
+ghost use Rattle.std.specs.Ordering.{eq_by_cmp};
 ghost use Rattle.std.specs.Set.{IsUnion};
 ghost use Rattle.cedar_types.specs.RequestEnvs.{Env};
 ghost use Rattle.cedar_typing.specs.CheckViews.{verdict_of};
@@ -16,14 +17,13 @@ use crate::level_validate::walk::LevelWalk;
 use cedar_types::base::{CedarType, Expr, ValidationError};
 use cedar_typing::typecheck::PolicyCheck;
 use std::alloc::AllocError;
-use std::collections::HashSet;
-use std::hash::Hash;
+use std::collections::BTreeSet;
 
 /// The errors of the checks and the level errors, of all environments so far.
 #[derive(Drop)]
 pub(crate) struct LevelTally {
-    pub type_errors: HashSet<ValidationError>,
-    pub level_errors: HashSet<ValidationError>,
+    pub type_errors: BTreeSet<ValidationError>,
+    pub level_errors: BTreeSet<ValidationError>,
     pub all_irrelevant: bool,
 }
 
@@ -78,8 +78,9 @@ impl LevelTally {
 }
 
 /// Puts each of these into the set.
-fn insert_all<E: Eq + Hash + Drop>(set: &mut HashSet<E>, found: Vec<E>) -> Result<(), AllocError>
-    ensures { OnOk result (IsUnion E.eq set.old.keys found.items set.new.keys) }
+fn insert_all<E: Ord + Drop>(set: &mut BTreeSet<E>, found: Vec<E>) -> Result<(), AllocError>
+    ensures { OnOk result (
+        IsUnion (eq_by_cmp E.cmp) set.old.keys found.items set.new.keys) }
 {
     for x in found {
         set.insert(x)?;

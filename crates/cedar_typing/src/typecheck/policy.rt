@@ -18,12 +18,13 @@ use cedar_types::base::{
     ArgumentCheck, ImpossiblePolicy, Template, ValidationError, ValidationWarning,
 };
 use std::alloc::{AllocError, Global};
-use std::collections::HashSet;
+use std::collections::{BTreeSet, HashSet};
 
-/// What the checks so far found.
+/// What the checks so far found. The errors stand in order, as whoever writes the policies can choose names for which all
+/// hashes are the same.
 #[derive(Drop)]
 struct Tally {
-    errors: HashSet<ValidationError>,
+    errors: BTreeSet<ValidationError>,
     all_pass: bool,
     all_irrelevant: bool,
 }
@@ -87,7 +88,7 @@ impl<'a, C: ArgumentCheck> Typechecker<'a, C> {
             (template_of t.now))) }
     {
         let mut tally = Tally {
-            errors: HashSet::new(alloc),
+            errors: BTreeSet::new(alloc),
             all_pass: true,
             all_irrelevant: true,
         };

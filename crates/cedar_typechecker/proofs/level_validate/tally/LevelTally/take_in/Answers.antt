@@ -1,12 +1,11 @@
 use Rattle.std.proofs.Common.{◌≤◌, ◌∙◌, map, refl, subst}
-use Rattle.cedar_types.specs.contracts.base.errors.validation_errors.ValidationErrorPartialEq.TheImpl as error_impl
 use Rattle.cedar_types.specs.Errors.{finding_of}
 use Rattle.cedar_typing.specs.declared.typecheck.typechecker.PolicyCheck.{PolicyCheck}
 use Rattle.cedar_typing.specs.CheckViews.{verdict_of}
 use Rattle.cedar_typing.specs.PolicyCheck.{irrelevant, fails}
 use Rattle.cedar_typing.specs.TypedExpr.{typed_tree}
 use Rattle.cedar_typing.proofs.Gains.{union_adds}
-use Rattle.cedar_typing.proofs.Tallies.{error_decides, one_more}
+use Rattle.cedar_typing.proofs.Tallies.{is_tied, tie_decides, one_more}
 use Rattle.cedar_typechecker.specs.Levels.Laws.{VerdictIsShared}
 use Rattle.cedar_typechecker.specs.Levels.Setting.{LevelSetting}
 use Rattle.cedar_typechecker.proofs.Levels.Tallies.{of_success, of_irrelevant, of_failure, gained_in, types_kept}
@@ -37,7 +36,7 @@ returns-in_ok-insert_all-in-Irrelevant c setting env envs vs e le shared h =
     let x = typed_tree c.in-Irrelevant.condition in
     let v = irrelevant (map finding_of found) x in
     let told = c.in_ok-take_in_levels-in-Irrelevant.ensures in
-    let gained = union_adds error_impl.ghosts.eq finding_of error_decides mid.type_errors.keys found
+    let gained = union_adds is_tied finding_of tie_decides mid.type_errors.keys found
     c.insert_all.new.set.keys c.in_ok-insert_all-in-Irrelevant.ensures in
     let S : PolicyCheck → Type 0 = λ k. VerdictIsShared (verdict_of k) in
     let M : LevelSetting → Type 0 = λ s. s.maximum ≤ 4294967295 in
@@ -57,7 +56,7 @@ returns-in_ok-insert_all-in-Fail c setting env envs vs e le shared h =
     let old = c.args.self.now in
     let found = c.in-Fail.errors.items in
     let v = fails (map finding_of found) in
-    let gained = union_adds error_impl.ghosts.eq finding_of error_decides old.type_errors.keys found
+    let gained = union_adds is_tied finding_of tie_decides old.type_errors.keys found
     c.insert_all-in-Fail.new.set.keys c.in_ok-insert_all-in-Fail.ensures in
     rw c.in-Fail.is (record {
       irrelevant = refl;

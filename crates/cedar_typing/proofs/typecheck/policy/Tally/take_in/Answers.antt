@@ -1,11 +1,10 @@
 use Rattle.std.proofs.Common.{map, refl}
-use Rattle.cedar_types.specs.contracts.base.errors.validation_errors.ValidationErrorPartialEq.TheImpl as error_impl
 use Rattle.cedar_types.specs.Errors.{finding_of}
 use Rattle.cedar_typing.specs.PolicyCheck.{irrelevant, fails}
 use Rattle.cedar_typing.specs.PolicyOutcome.{all_pass, is_silent}
 use Rattle.cedar_typing.specs.TypedExpr.{typed_tree}
 use Rattle.cedar_typing.proofs.Gains.{union_adds}
-use Rattle.cedar_typing.proofs.Tallies.{error_decides, one_more, silent, in_other_order}
+use Rattle.cedar_typing.proofs.Tallies.{is_tied, tie_decides, one_more, silent, in_other_order}
 use Rattle.cedar_typing.proofs.typecheck.policy.Tally.take_in.Goals as goal
 
 pub returns-in-Success : goal.returns-in-Success
@@ -16,7 +15,7 @@ returns-in-Irrelevant c vs h =
     let old = c.args.self.now in
     let found = c.in-Irrelevant.errors.items in
     let v = irrelevant (map finding_of found) (typed_tree c.in-Irrelevant.field-1) in
-    let gained = union_adds error_impl.ghosts.eq finding_of error_decides old.errors.keys found c.insert_all.new.set.keys c.in_ok-insert_all-in-Irrelevant.ensures in
+    let gained = union_adds is_tied finding_of tie_decides old.errors.keys found c.insert_all.new.set.keys c.in_ok-insert_all-in-Irrelevant.ensures in
     rw c.in-Irrelevant.is (record {
       passes = in_other_order old.all_pass c.is_empty.result (all_pass vs) (is_silent (map finding_of found)) h.passes (silent found c.in-Irrelevant.errors.len c.is_empty.result c.in-Irrelevant.errors.ok.0 c.is_empty.ensures);
       irrelevant = h.irrelevant;
@@ -28,7 +27,7 @@ returns c vs h =
     let old = c.args.self.now in
     let found = c.in-Fail.errors.items in
     let v = fails (map finding_of found) in
-    let gained = union_adds error_impl.ghosts.eq finding_of error_decides old.errors.keys found c.insert_all-in-Fail.new.set.keys c.in_ok-insert_all-in-Fail.ensures in
+    let gained = union_adds is_tied finding_of tie_decides old.errors.keys found c.insert_all-in-Fail.new.set.keys c.in_ok-insert_all-in-Fail.ensures in
     rw c.in-Fail.is (record {
       passes = refl;
       irrelevant = refl;
