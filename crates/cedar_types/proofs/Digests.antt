@@ -1,13 +1,7 @@
 -- What digests tell of the shapes of capabilities: those of one shape have one digest.
-use Rattle.std.proofs.Common.{◌≡◌, Bool, true, false, ◌&&◌, nat_eq, fold, refl, sym, ap, subst, ◌∙◌, true≢false}
+use Rattle.std.proofs.Common.{◌≡◌, ℕ, Bool, true, false, ◌&&◌, nat_eq, refl, sym, ap, subst, ◌∙◌, true≢false}
 use borrow.Author.Tests.{eq-eqb}
-use Rattle.std.specs.Hash.FoldHasher as folding
-use Rattle.cedar_types.specs.contracts.types.capability.digested.KnownHash.TheImpl as known_hash
-use Rattle.cedar_types.specs.Writes.{shape_writes}
-use Rattle.cedar_types.specs.declared.base.expressions.shapes.ExprShapeOnly.{ExprShapeOnly}
-use Rattle.cedar_types.specs.contracts.types.capability.digested.KnownHash.TheImpl.Laws as known_hash_laws
-use Rattle.cedar_types.specs.Lemmas.ShapeOnly.{shape_writes_alike}
-use Rattle.cedar_types.specs.Digest.{digest_of}
+use Rattle.cedar_types.specs.Digest.{digest_of, with_text, with_digest, shape_digest}
 use Rattle.cedar_types.specs.declared.types.capability.digested.Capability.{Capability}
 use Rattle.cedar_types.specs.declared.types.capability.digested.Known.{Known}
 use Rattle.cedar_types.specs.contracts.types.capability.digested.KnownPartialEq.TheImpl as known_eq
@@ -16,6 +10,7 @@ use Rattle.cedar_types.specs.Lemmas.Comparisons.{text_same, and_left, and_right,
 use Rattle.cedar_types.specs.Names.{text_eq, text_of}
 use Rattle.cedar_types.specs.Lemmas.TreeSame.{tree_same}
 use Rattle.cedar_types.specs.Tree.{Shape}
+use Rattle.cedar_types.specs.Accesses.{shape_on}
 use Rattle.cedar_types.specs.ShapeOnly.{shape_of}
 use Rattle.cedar_types.specs.Capability.{Cap, attribute, tag, cap_eq, cap_of, known_of}
 
@@ -42,24 +37,22 @@ cap_itself (tag s x) = and_both (tree_eq s s) (tree_eq x x) (tree_same.itself s)
 pub cap_same : (c d : Cap) → c ≡ d → cap_eq c d ≡ true
 cap_same c d e = subst (λ q. cap_eq c q ≡ true) e (cap_itself c)
 
--- equal shapes have equal digests
-digests_alike : (e f : ExprShapeOnly) (k l : Known) → tree_eq (shape_of e) (shape_of f) ≡ true → known_eq.ghosts.eq k l ≡ true → digest_of e k ≡ digest_of f l
-unfolding digest_of
-digests_alike e f k l h g =
-    ap (λ w. folding.finish (fold folding.write (fold folding.write folding.initial w) (known_hash.ghosts.hash_input k))) (shape_writes_alike e f h)
-    ∙ ap (λ w. folding.finish (fold folding.write (fold folding.write folding.initial (shape_writes f)) w)) (known_hash_laws.respects_eq-law k l g)
+-- the digest, by what a capability stands for
+abbrev cap_digest : Cap → ℕ
+cap_digest (attribute s x) = with_text (shape_digest s) x
+cap_digest (tag s t) = with_digest (shape_digest s) (shape_digest t)
 
-pub digests_same : (e f : ExprShapeOnly) (k l : Known) → known_of (shape_of e) k ≡ known_of (shape_of f) l → digest_of e k ≡ digest_of f l
-digests_same e f k l same =
-    let s = shape_of e in
-    let t = shape_of f in
-    let both : (tree_eq s t && known_eq.ghosts.eq k l) ≡ true = known_is (tree_eq s t) s t k l refl ∙ cap_same (known_of s k) (known_of t l) same in
-    digests_alike e f k l (and_left (tree_eq s t) (known_eq.ghosts.eq k l) both) (and_right (tree_eq s t) (known_eq.ghosts.eq k l) both)
+digest_is : (s : Shape) (k : Known) → digest_of s k ≡ cap_digest (known_of s k)
+digest_is s (Known.Attribute x) = refl
+digest_is s (Known.Tag t) = refl
+
+pub digests_same : (s t : Shape) (k l : Known) → known_of s k ≡ known_of t l → digest_of s k ≡ digest_of t l
+digests_same s t k l same = digest_is s k ∙ ap cap_digest same ∙ sym (digest_is t l)
 
 -- two capabilities of one shape have one digest
 pub one_digest : (c d : Capability) → cap_of c ≡ cap_of d → c.digest ≡ d.digest
 unfolding cap_of
-one_digest c d e = c.of_its_shape ∙ digests_same c.on_expr d.on_expr c.known d.known e ∙ sym d.of_its_shape
+one_digest c d e = c.of_its_shape ∙ digests_same (shape_on c.on_expr) (shape_on d.on_expr) c.known d.known e ∙ sym d.of_its_shape
 
 and_in : (a b : Bool) → (b ≡ true → a ≡ true) → (a && b) ≡ b
 and_in true b h = refl
@@ -68,12 +61,12 @@ and_in false false h = refl
 
 -- to compare digests first, and then expressions and names or tags, is to compare what the capabilities stand for
 pub by_digest : (c d : Capability)
-    → (nat_eq c.digest d.digest && (tree_eq (shape_of c.on_expr) (shape_of d.on_expr) && known_eq.ghosts.eq c.known d.known))
+    → (nat_eq c.digest d.digest && (tree_eq (shape_on c.on_expr) (shape_on d.on_expr) && known_eq.ghosts.eq c.known d.known))
     ≡ cap_eq (cap_of c) (cap_of d)
 unfolding cap_of
 by_digest c d =
-    let s = shape_of c.on_expr in
-    let t = shape_of d.on_expr in
+    let s = shape_on c.on_expr in
+    let t = shape_on d.on_expr in
     let rest : (tree_eq s t && known_eq.ghosts.eq c.known d.known) ≡ cap_eq (known_of s c.known) (known_of t d.known) = known_is (tree_eq s t) s t c.known d.known refl in
     and_in (nat_eq c.digest d.digest) (tree_eq s t && known_eq.ghosts.eq c.known d.known) (λ h. eq-eqb c.digest d.digest (one_digest c d (one_cap (known_of s c.known) (known_of t d.known) (sym rest ∙ h))))
     ∙ rest

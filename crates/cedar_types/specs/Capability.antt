@@ -10,6 +10,7 @@ use Rattle.cedar_types.specs.contracts.types.capability.digested.CapabilityOrd.T
 use Rattle.cedar_types.specs.Names.{Text, text_of, text_eq}
 use Rattle.cedar_types.specs.Tree.{Shape}
 use Rattle.cedar_types.specs.TreeEq.{tree_eq}
+use Rattle.cedar_types.specs.Accesses.{shape_on}
 use Rattle.cedar_types.specs.ShapeOnly.{shape_of}
 
 -- that an expression has an attribute of that name, or a tag of the name that an expression gives
@@ -27,7 +28,7 @@ known_of s (Known.Attribute x) = attribute s (text_of x)
 known_of s (Known.Tag x) = tag s (shape_of x)
 
 unfoldable pub cap_of : Capability → Cap
-cap_of c = known_of (shape_of c.on_expr) c.known
+cap_of c = known_of (shape_on c.on_expr) c.known
 
 -- the derived `==` and the derived order
 abbrev pub capability_eq : Capability → Capability → Bool

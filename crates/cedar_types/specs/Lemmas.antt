@@ -4,3 +4,4 @@ pub mod TreeSame
 pub mod Same
 pub mod Comparisons
 pub mod ShapeOnly
+pub mod Accesses

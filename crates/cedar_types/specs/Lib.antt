@@ -9,6 +9,8 @@ pub mod Parts
 pub mod ShapeOnly
 pub mod Entries
 pub mod Writes
+pub mod Accesses
+pub mod ChainSteps
 pub mod Digest
 pub mod Templates
 pub mod Ascending

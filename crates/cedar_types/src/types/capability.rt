@@ -1,8 +1,13 @@
 //! Capabilities: what is known to be there.
 ghost use Rattle.std.specs.Prelude.{◌≡◌, IfOk, OnOk, OnErr};
 
+mod accesses;
+mod chain_steps;
 mod digested;
+mod digests;
+mod owners;
 
+pub use crate::types::capability::chain_steps::ChainStep;
 pub use crate::types::capability::digested::Capability;
 use crate::types::sorted_set::SortedSet;
 use std::alloc::{AllocError, Global};

@@ -1,15 +1,18 @@
 // A capability, with the digest of its shape.
 ghost use Rattle.std.specs.Prelude.{◌≡◌, IfOk};
+ghost use Rattle.cedar_types.specs.Accesses.{shape_on};
 ghost use Rattle.cedar_types.specs.Digest.{digest_of};
 
 use crate::base::{Expr, ExprShapeOnly};
+use crate::types::capability::accesses::Accesses;
+use crate::types::capability::digests::{shape_digest, with_digest, with_text};
+use crate::types::capability::owners::Owner;
 use crate::types::entries::Entry;
 use std::alloc::{AllocError, Global};
-use std::hash::{FoldHasher, Hash, Hasher};
 use std::rc::RcStr;
 
 /// What is known to be there: an attribute by its name, or a tag by the expression that gives its name.
-#[derive(PartialEq, Eq, PartialOrd, Ord, Hash, Drop, Debug)]
+#[derive(PartialEq, Eq, PartialOrd, Ord, Drop, Debug)]
 enum Known<'a> {
     Attribute(RcStr),
     Tag(ExprShapeOnly<'a>),
@@ -22,49 +25,73 @@ enum Known<'a> {
 #[derive(PartialEq, Eq, PartialOrd, Ord, Drop, Debug)]
 pub struct Capability<'a> {
     digest: u64,
-    on_expr: ExprShapeOnly<'a>,
+    on_expr: Owner<'a>,
     known: Known<'a>,
-    ghost of_its_shape: { digest ≡ digest_of on_expr known },
+    ghost of_its_shape: { digest ≡ digest_of (shape_on on_expr) known },
 }
 
 #[tactic(auto, unfolding(crate::specs::Capability::cap_of))]
 impl<'a> Capability<'a> {
     ghost use Rattle.cedar_types.specs.Names.{text_of};
     ghost use Rattle.cedar_types.specs.View.{shape};
+    ghost use Rattle.cedar_types.specs.Accesses.{shape_at};
     ghost use Rattle.cedar_types.specs.Capability.{attribute, tag, cap_of, known_of};
+    ghost use Rattle.cedar_types.specs.Digest.{with_text, shape_digest};
+    ghost use Rattle.cedar_types.specs.ShapeOnly.{shape_of};
 
     /// That `on_expr` has the attribute `attr`.
     pub fn new_attribute(on_expr: &'a Expr, attr: RcStr) -> Capability<'a>
         ensures { cap_of result ≡ attribute (shape on_expr.now) (text_of attr) }
     {
-        Capability::of_shape(ExprShapeOnly::Borrowed(on_expr), Known::Attribute(attr))
+        let digest = with_text(shape_digest(on_expr), &attr);
+        Capability::of_accesses(Accesses::none(on_expr), attr, digest)
     }
 
     /// The same of an expression that the capability owns.
     pub fn new_attribute_owned(on_expr: Expr, attr: RcStr) -> Capability<'a>
         ensures { cap_of result ≡ attribute (shape on_expr) (text_of attr) }
     {
-        Capability::of_shape(ExprShapeOnly::Owned(on_expr), Known::Attribute(attr))
+        Capability {
+            digest: with_text(shape_digest(&on_expr), &attr),
+            on_expr: Owner::Made(on_expr),
+            known: Known::Attribute(attr),
+        }
+    }
+
+    /// The same of an expression with these accesses, by the digest of all.
+    pub(crate) fn of_accesses(on: Accesses<'a>, attr: RcStr, digest: u64) -> Capability<'a>
+        requires { digest ≡ with_text (shape_digest (shape_at on)) (text_of attr) }
+        ensures { cap_of result ≡ attribute (shape_at on.entry) (text_of attr) }
+    {
+        Capability {
+            digest,
+            on_expr: Owner::Lent(on),
+            known: Known::Attribute(attr),
+        }
     }
 
     /// That `on_expr` has the tag whose name `name` gives.
     pub fn new_borrowed_tag(on_expr: &'a Expr, name: &'a Expr) -> Capability<'a>
         ensures { cap_of result ≡ tag (shape on_expr.now) (shape name.now) }
     {
-        Capability::of_shape(
-            ExprShapeOnly::Borrowed(on_expr),
-            Known::Tag(ExprShapeOnly::Borrowed(name)),
-        )
+        Capability::of_tag(on_expr, ExprShapeOnly::Borrowed(name))
     }
 
     /// The same with a name that the capability owns.
     pub fn new_owned_tag(on_expr: &'a Expr, name: Expr) -> Capability<'a>
         ensures { cap_of result ≡ tag (shape on_expr.now) (shape name) }
     {
-        Capability::of_shape(
-            ExprShapeOnly::Borrowed(on_expr),
-            Known::Tag(ExprShapeOnly::Owned(name)),
-        )
+        Capability::of_tag(on_expr, ExprShapeOnly::Owned(name))
+    }
+
+    fn of_tag(on_expr: &'a Expr, name: ExprShapeOnly<'a>) -> Capability<'a>
+        ensures { cap_of result ≡ tag (shape on_expr.now) (shape_of name.entry) }
+    {
+        Capability {
+            digest: with_digest(shape_digest(on_expr), shape_digest(name.expr())),
+            on_expr: Owner::Lent(Accesses::none(on_expr)),
+            known: Known::Tag(name),
+        }
     }
 
     fn try_clone(&self, alloc: Global) -> Result<Capability<'a>, AllocError>
@@ -78,34 +105,12 @@ impl<'a> Capability<'a> {
             known,
         })
     }
-
-    fn of_shape(on_expr: ExprShapeOnly<'a>, known: Known<'a>) -> Capability<'a>
-        ensures expr { result.on_expr ≡ on_expr.entry }
-        ensures known { result.known ≡ known.entry }
-    {
-        let digest = shape_digest(&on_expr, &known);
-        Capability {
-            digest,
-            on_expr,
-            known,
-        }
-    }
 }
 
 impl<'a> Entry for Capability<'a> {
     fn copy(&self, alloc: Global) -> Result<Capability<'a>, AllocError> {
         self.try_clone(alloc)
     }
-}
-
-/// The digest of a shape. It takes no memory.
-fn shape_digest<'a>(on_expr: &ExprShapeOnly<'a>, known: &Known<'a>) -> u64
-    ensures { result ≡ digest_of on_expr.now known.now }
-{
-    let mut state = FoldHasher::default();
-    on_expr.hash(&mut state);
-    known.hash(&mut state);
-    state.finish()
 }
 
 impl<'a> Known<'a> {

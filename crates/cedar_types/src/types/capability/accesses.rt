@@ -1,0 +1,92 @@
+// Expressions with accesses that no policy has to hold, and capabilities' own expressions.
+ghost use Rattle.std.specs.Prelude.{◌≡◌, [], MatchOption};
+ghost use Rattle.cedar_types.specs.Accesses.{spine, spine_at, push, spine_cmp};
+ghost use Rattle.cedar_types.specs.Names.{text_of};
+
+use crate::base::{Expr, ExprKind};
+use std::cmp::Ordering;
+use std::rc::RcStr;
+
+/// An expression, and attributes that are taken of it one after the other: `e`, `e.x`, `e.x.y`.
+#[derive(Clone, Copy, Debug)]
+pub(crate) struct Accesses<'a> {
+    pub(crate) base: &'a Expr,
+    pub(crate) first: Option<&'a RcStr>,
+    pub(crate) rest: &'a [RcStr],
+}
+
+impl<'a> Accesses<'a> {
+    ghost use Rattle.cedar_types.specs.Accesses.{shape_at, texts_at};
+    ghost use Rattle.cedar_types.specs.View.{shape};
+
+    /// The expression itself.
+    pub(crate) fn none(base: &'a Expr) -> Accesses<'a>
+        ensures base { result.base.now ≡ base.now }
+        ensures texts { texts_at result ≡ [] }
+        ensures shape { shape_at result ≡ shape base.now }
+        ensures spine { spine_at result ≡ spine base.now }
+    {
+        Accesses {
+            base,
+            first: None,
+            rest: &[],
+        }
+    }
+
+    /// The last access: its attribute, and what it is of.
+    fn last(&self) -> Option<(&'a RcStr, Accesses<'a>)>
+        ensures { MatchOption result
+            (spine_at self.now ≡ ([], self.now.base.now))
+            (λ r. spine_at self.now ≡ push (spine_at r.1) (text_of r.0.now)) }
+    {
+        if let Some((attr, before)) = self.rest.split_last() {
+            return Some((
+                attr,
+                Accesses {
+                    base: self.base,
+                    first: self.first,
+                    rest: before,
+                },
+            ));
+        }
+        if let Some(attr) = self.first {
+            return Some((attr, Accesses::none(self.base)));
+        }
+        let (owner, attr) = access(self.base)?;
+        Some((attr, Accesses::none(owner)))
+    }
+}
+
+/// What an expression is an access of, if it is one, and of which attribute.
+fn access(e: &Expr) -> Option<(&Expr, &RcStr)>
+    ensures { MatchOption result
+        (spine e.now ≡ ([], e.now))
+        (λ r. spine e.now ≡ push (spine r.0.now) (text_of r.1.now)) }
+{
+    match &e.kind {
+        ExprKind::GetAttr(owner, attr) => Some((owner, attr)),
+        _ => None,
+    }
+}
+
+/// How two expressions compare: by their accesses from the last to the first, then by what these are taken of.
+pub(crate) fn compare(left: &Accesses<'_>, right: &Accesses<'_>) -> Ordering
+    ensures { result ≡ spine_cmp (spine_at left.now) (spine_at right.now) }
+{
+    let mut left = *left;
+    let mut right = *right;
+    loop {
+        match (left.last(), right.last()) {
+            (None, None) => return left.base.cmp(right.base),
+            (None, Some(_)) => return Ordering::Less,
+            (Some(_), None) => return Ordering::Greater,
+            (Some((x, more_left)), Some((y, more_right))) => match x.cmp(y) {
+                Ordering::Equal => {
+                    left = more_left;
+                    right = more_right;
+                }
+                order => return order,
+            },
+        }
+    }
+}
