@@ -3,6 +3,7 @@ use Rattle.std.proofs.Common.{◌≡◌, Bool, true, false, true≢false, ◌&&�
 use Rattle.std.specs.Prelude.{is_some}
 use Rattle.cedar_types.specs.declared.base.location.Loc.{Loc}
 use Rattle.cedar_types.specs.declared.base.types.BoolType.TheVariants.{False}
+use Rattle.cedar_types.proofs.Digests.{cap_itself}
 use Rattle.cedar_types.specs.Capability.{Cap, AddsJust}
 use Rattle.cedar_types.specs.Lookups.{attribute_type}
 use Rattle.cedar_types.specs.Names.{Text}
@@ -49,6 +50,25 @@ not_earned f u c None n = nothing_added f
 
 pub with_step_is : (p : Progress) (f : Caps) (b : Bool) (u : Ty) (c : Caps) → f ≡ union p.earned c → b ≡ is_true u → ◌≡◌ {A = Progress} (record { earned = f; all_true = p.all_true && b }) (with_step p u c)
 with_step_is p f b u c e t = λ i. record { earned = e i; all_true = p.all_true && t i }
+
+-- after it the attribute is known where it was, or where the step earns it
+pub earns_itself : (u : Ty) (c : Cap) (a : Option (Ty × Bool)) (d : Bool) → is_some a ≡ d → (d && not (is_true u)) ≡ step_earns u c a c
+earns_itself u c (Some x) d e = ap (λ b. b && not (is_true u)) (sym e) ∙ by_test (is_true u)
+  where
+    by_test : (b : Bool) → (true && not b) ≡ (if b then no_caps else single c) c
+    by_test true = refl
+    by_test false = sym (cap_itself c)
+earns_itself u c None d e = ap (λ b. b && not (is_true u)) (sym e)
+
+or_along : (a b c : Bool) → ((a || b) || c) ≡ (a || (b || c))
+or_along true b c = refl
+or_along false b c = refl
+
+pub known_after : (prior earned after new : Caps) (there q : Cap) (k k' : Bool) → q ≡ there → k ≡ union prior earned q
+    → k' ≡ (k || new q) → after ≡ union earned new → k' ≡ union prior after there
+known_after prior earned after new there q k k' same known now e =
+    now ∙ ap (λ b. b || new q) known ∙ or_along (prior q) (earned q) (new q)
+    ∙ (λ i. prior (same i) || sym e i (same i))
 
 -- ---- a step that the chain goes on after
 

@@ -16,7 +16,7 @@ use Rattle.cedar_types.specs.declared.types.capability.CapabilitySet.{Capability
 use Rattle.cedar_types.specs.RequestEnvs.{env_of}
 use Rattle.cedar_types.specs.SchemaContents.{schema_of}
 use Rattle.cedar_typing.specs.Answer.{Answered, AreHanded, none_failed, Taken}
-use Rattle.cedar_typing.specs.Capabilities.{Caps, no_caps}
+use Rattle.cedar_typing.specs.Capabilities.{Caps, no_caps, union}
 use Rattle.cedar_typing.specs.Eager.{Expectation, Decision, gives, refuses, Form}
 use Rattle.cedar_typing.specs.Infer.Eager.{Operands, all_typed, cut_after}
 use Rattle.cedar_typing.specs.Infer.Parts.{Answer, success, failure, limit, Part, part_with}
@@ -198,16 +198,16 @@ progress_of p = record { earned = caps p.earned; all_true = p.all_true }
 -- what a chain comes to by a step, or by a step and an access, where it goes on as `next` says
 abbrev pub by_step : Step → (Progress → Decision) → Decision
 by_step (step.Ends d) next = decision_of d
-by_step (step.GoesOn p) next = next (progress_of p)
+by_step (step.GoesOn p k) next = next (progress_of p)
 
 abbrev pub by_link : Link → (Ty → Progress → Decision) → Decision
 by_link (link.Ends d) next = decision_of d
-by_link (link.GoesOn r p) next = next (ty_of r.ty) (progress_of p)
+by_link (link.GoesOn t p) next = next (ty_of t) (progress_of p)
 
--- where it goes on, it has come to e
-abbrev pub GoesOnAt : Source → Link → Type 0
-GoesOnAt e (link.Ends d) = Unit {0}
-GoesOnAt e (link.GoesOn r p) = written r.e ≡ e
+-- where it goes on, it says whether the attribute is known now, from before or by steps of this chain
+abbrev pub KnowsAfter : Caps → Cap → Step → Type 0
+KnowsAfter prior there (step.Ends d) = Unit {0}
+KnowsAfter prior there (step.GoesOn p k) = k ≡ union prior (caps p.earned) there
 
 -- ---- what answers give
 

@@ -1,14 +1,15 @@
 // Extended `has`, `base has x.y.z`: one step after another.
-ghost use Rattle.std.specs.Prelude.{◌≡◌, is_some, IfOk, option_map};
+ghost use Rattle.std.specs.Prelude.{◌≡◌, ◌||◌, is_some, IfOk, option_map};
 ghost use Rattle.cedar_types.specs.Capability.{caps, cap_of};
+ghost use Rattle.cedar_types.specs.ChainSteps.{step_attr, step_written};
 ghost use Rattle.cedar_types.specs.Lookups.{attribute_type};
 ghost use Rattle.cedar_types.specs.Names.{text_of};
 ghost use Rattle.cedar_types.specs.Types.{ty_of};
 ghost use Rattle.cedar_types.specs.View.{chain_of, written};
 ghost use Rattle.cedar_typing.specs.Capabilities.{union};
 ghost use Rattle.cedar_typing.specs.Rules.Attributes.{attribute_of, get_decides};
-ghost use Rattle.cedar_typing.specs.Rules.Chains.{no_steps, step_type, step_earns, with_step, step, end_of_chain, made_up, link, after_access, chain_table};
-ghost use Rattle.cedar_typing.specs.Views.{env_at, decision_of, progress_of, by_step, by_link, GoesOnAt};
+ghost use Rattle.cedar_typing.specs.Rules.Chains.{no_steps, step_type, step_earns, with_step, step, end_of_chain, link, after_access, chain_table};
+ghost use Rattle.cedar_typing.specs.Views.{env_at, decision_of, progress_of, by_step, by_link, KnowsAfter};
 ghost use Rattle.cedar_typing.specs.Priors.{known_in};
 
 use crate::typecheck::capabilities::no_capabilities;
@@ -19,8 +20,8 @@ use crate::typecheck::rules::eager::{Decision, gives, refuses_with};
 use crate::typecheck::rules::leaves::bool_type;
 use crate::typecheck::type_env::TypeEnv;
 use crate::typecheck::type_tests::{any_bool, is_false_type, is_object_type, is_true_type};
-use cedar_types::base::{AttrChain, BoolType, CedarType, Expr, ExprKind, Loc};
-use cedar_types::types::capability::{Capability, CapabilitySet};
+use cedar_types::base::{AttrChain, BoolType, CedarType, Expr, Loc};
+use cedar_types::types::capability::{Capability, CapabilitySet, ChainStep};
 use std::alloc::{AllocError, Global};
 use std::rc::RcStr;
 
@@ -33,19 +34,13 @@ pub(crate) struct Progress<'a> {
     all_true: bool,
 }
 
-/// An expression that a chain has come to, and its type.
-#[derive(Drop)]
-pub(crate) struct Reached {
-    e: Expr,
-    ty: CedarType,
-}
-
 /// What comes of a step.
 #[derive(Drop)]
 pub(crate) enum Step<'a> {
     /// The chain ends with it.
     Ends(Decision<'a>),
-    GoesOn(Progress<'a>),
+    /// What the steps say with it, and whether it is known now that the attribute is there.
+    GoesOn(Progress<'a>, bool),
 }
 
 /// What comes of a step and of the access after it.
@@ -53,7 +48,8 @@ pub(crate) enum Step<'a> {
 pub(crate) enum Link<'a> {
     /// The chain ends with it.
     Ends(Decision<'a>),
-    GoesOn(Reached, Progress<'a>),
+    /// The type of the access, and what the steps say.
+    GoesOn(CedarType, Progress<'a>),
 }
 
 impl<'a> Progress<'a> {
@@ -99,19 +95,20 @@ impl<'a> Progress<'a> {
     }
 }
 
-/// That the expression has the attribute.
-fn owned_attribute<'a>(alloc: Global, e: &Expr, attr: &RcStr) -> Result<Capability<'a>, AllocError>
-    ensures { IfOk result (λ c. cap_of c ≡ attribute_of (written e.now) (text_of attr.now)) }
-{
-    Ok(Capability::new_attribute_owned(e.try_clone(alloc)?, attr.clone()?))
-}
-
 /// Whether it is known that the attribute is there: before, or by steps of this chain.
 fn knows<'a>(prior: &Prior<'_, 'a>, progress: &Progress<'a>, there: &Capability<'a>) -> bool
     ensures { result
         ≡ union (known_in prior.now) (caps progress.now.earned) (cap_of there.now) }
 {
     prior.contains(there) | progress.earned.contains(there)
+}
+
+/// Whether it is known after a step that the attribute is there: it was, or the step earns it.
+fn knows_after(is_known: bool, ty: &CedarType, is_declared: bool) -> bool
+    ensures { (a : _) → is_some a ≡ is_declared → (there : _)
+        → result ≡ (is_known || step_earns (ty_of ty.now) there a there) }
+{
+    is_known | (is_declared & !is_true_type(ty))
 }
 
 impl TypeEnv<'_, '_, '_, '_> {
@@ -121,36 +118,33 @@ impl TypeEnv<'_, '_, '_, '_> {
         &self,
         prior: &Prior<'_, 'a>,
         loc: Option<Loc>,
-        base: &Expr,
-        attrs: &AttrChain,
+        base: &'a Expr,
+        attrs: &'a AttrChain,
         found: &Option<CedarType>,
     ) -> Result<Decision<'a>, AllocError>
         ensures { IfOk result (λ d. decision_of d
             ≡ chain_table (env_at self.now) loc (known_in prior.now) (written base.now)
             (chain_of attrs.now).0 (chain_of attrs.now).1 (option_map ty_of found.now)) }
     {
-        let Some(ty) = found else {
+        let Some(found) = found else {
             return Ok(Decision::Refuses(Some(any_bool()), Vec::new(self.alloc)));
         };
-        let mut reached = Reached {
-            e: base.try_clone(self.alloc)?,
-            ty: ty.clone()?,
-        };
+        let mut ty = found.clone()?;
         let mut place = base.loc;
-        let mut attr = &attrs.first;
+        let mut at = ChainStep::first(base, attrs);
         let mut progress = Progress::none(self.alloc);
-        for next in &attrs.rest {
-            match self.link(prior, place, reached, attr, progress)? {
+        while let Some(next) = at.next() {
+            match self.link(prior, place, &at, &ty, progress)? {
                 Link::Ends(decision) => return Ok(decision),
                 Link::GoesOn(there, now) => {
-                    reached = there;
+                    ty = there;
                     progress = now;
                 }
             }
-            attr = next;
+            at = next;
             place = loc;
         }
-        let decision = self.last_step(prior, place, &reached, attr, progress)?;
+        let decision = self.last_step(prior, place, &at, &ty, progress)?;
         Ok(decision)
     }
 
@@ -159,18 +153,18 @@ impl TypeEnv<'_, '_, '_, '_> {
         &self,
         prior: &Prior<'_, 'a>,
         place: Option<Loc>,
-        reached: &Reached,
-        attr: &RcStr,
+        at: &ChainStep<'a>,
+        ty: &CedarType,
         progress: Progress<'a>,
     ) -> Result<Decision<'a>, AllocError>
         ensures { IfOk result (λ d. decision_of d
-            ≡ step (env_at self.now) place (attribute_of (written reached.now.e) (text_of attr.now))
-            (union (known_in prior.now) (caps progress.entry.earned) (attribute_of (written reached.now.e) (text_of attr.now)))
-            (ty_of reached.now.ty) (text_of attr.now) (progress_of progress.entry) end_of_chain) }
+            ≡ step (env_at self.now) place (attribute_of (step_written at.now) (step_attr at.now))
+            (union (known_in prior.now) (caps progress.entry.earned) (attribute_of (step_written at.now) (step_attr at.now)))
+            (ty_of ty.now) (step_attr at.now) (progress_of progress.entry) end_of_chain) }
     {
-        match self.step(prior, place, reached, attr, progress)? {
+        match self.step(prior, place, at, ty, progress)? {
             Step::Ends(decision) => Ok(decision),
-            Step::GoesOn(progress) => Ok(progress.end()),
+            Step::GoesOn(progress, _is_known) => Ok(progress.end()),
         }
     }
 
@@ -179,21 +173,19 @@ impl TypeEnv<'_, '_, '_, '_> {
         &self,
         prior: &Prior<'_, 'a>,
         place: Option<Loc>,
-        reached: Reached,
-        attr: &RcStr,
+        at: &ChainStep<'a>,
+        ty: &CedarType,
         progress: Progress<'a>,
     ) -> Result<Link<'a>, AllocError>
-        ensures goes_on { IfOk result (λ r. (next : _) →
+        ensures { IfOk result (λ r. (next : _) →
             by_link r next
-            ≡ link (env_at self.now) place (known_in prior.now) (written reached.e) (ty_of reached.ty)
-            (text_of attr.now) (progress_of progress.entry) next) }
-        ensures comes_to { IfOk result (λ r.
-            GoesOnAt (made_up (written reached.e) (text_of attr.now)) r) }
+            ≡ link (env_at self.now) place (known_in prior.now) (step_written at.now) (ty_of ty.now)
+            (step_attr at.now) (progress_of progress.entry) next) }
     {
-        match self.step(prior, place, &reached, attr, progress)? {
+        match self.step(prior, place, at, ty, progress)? {
             Step::Ends(decision) => Ok(Link::Ends(decision)),
-            Step::GoesOn(progress) => {
-                let link = self.access(prior, place, reached, attr, progress)?;
+            Step::GoesOn(progress, is_known) => {
+                let link = self.access(place, at.attr(), ty, is_known, progress)?;
                 Ok(link)
             }
         }
@@ -202,29 +194,21 @@ impl TypeEnv<'_, '_, '_, '_> {
     /// The access after a step, with errors at `place`.
     fn access<'a>(
         &self,
-        prior: &Prior<'_, 'a>,
         place: Option<Loc>,
-        reached: Reached,
         attr: &RcStr,
+        ty: &CedarType,
+        is_known: bool,
         progress: Progress<'a>,
     ) -> Result<Link<'a>, AllocError>
-        ensures goes_on { IfOk result (λ r. (next : _) →
+        ensures { IfOk result (λ r. (next : _) →
             by_link r next
             ≡ after_access
-            (get_decides (env_at self.now) place (text_of attr.now)
-            (union (known_in prior.now) (caps progress.entry.earned) (attribute_of (written reached.e) (text_of attr.now)))
-            (ty_of reached.ty) (attribute_type (env_at self.now).schema (ty_of reached.ty) (text_of attr.now)))
+            (get_decides (env_at self.now) place (text_of attr.now) is_known
+            (ty_of ty.now) (attribute_type (env_at self.now).schema (ty_of ty.now) (text_of attr.now)))
             (λ t. next t (progress_of progress.entry))) }
-        ensures comes_to { IfOk result (λ r.
-            GoesOnAt (made_up (written reached.e) (text_of attr.now)) r) }
     {
-        let there = owned_attribute(self.alloc, &reached.e, attr)?;
-        let is_known = knows(prior, &progress, &there);
-        match self.decide_access(place, attr, &reached.ty, is_known)? {
-            Decision::Gives(ty, _capabilities) => {
-                let e = made_up(self.alloc, reached.e, attr)?;
-                Ok(Link::GoesOn(Reached { e, ty }, progress))
-            }
+        match self.decide_access(place, attr, ty, is_known)? {
+            Decision::Gives(ty, _capabilities) => Ok(Link::GoesOn(ty, progress)),
             Decision::Refuses(_ty, errors) => {
                 Ok(Link::Ends(Decision::Refuses(Some(any_bool()), errors)))
             }
@@ -236,29 +220,34 @@ impl TypeEnv<'_, '_, '_, '_> {
         &self,
         prior: &Prior<'_, 'a>,
         place: Option<Loc>,
-        reached: &Reached,
-        attr: &RcStr,
+        at: &ChainStep<'a>,
+        ty: &CedarType,
         progress: Progress<'a>,
     ) -> Result<Step<'a>, AllocError>
-        ensures { IfOk result (λ r. (next : _) →
+        ensures decides { IfOk result (λ r. (next : _) →
             by_step r next
-            ≡ step (env_at self.now) place (attribute_of (written reached.now.e) (text_of attr.now))
-            (union (known_in prior.now) (caps progress.entry.earned) (attribute_of (written reached.now.e) (text_of attr.now)))
-            (ty_of reached.now.ty) (text_of attr.now) (progress_of progress.entry) next) }
+            ≡ step (env_at self.now) place (attribute_of (step_written at.now) (step_attr at.now))
+            (union (known_in prior.now) (caps progress.entry.earned) (attribute_of (step_written at.now) (step_attr at.now)))
+            (ty_of ty.now) (step_attr at.now) (progress_of progress.entry) next) }
+        ensures knows { IfOk result (λ r.
+            KnowsAfter (known_in prior.now) (attribute_of (step_written at.now) (step_attr at.now)) r) }
     {
-        if !is_object_type(&reached.ty) {
-            let error = self.unexpected(Expected::Object, place, &reached.ty)?;
+        if !is_object_type(ty) {
+            let error = self.unexpected(Expected::Object, place, ty)?;
             return Ok(Step::Ends(refuses_with(self.alloc, Some(any_bool()), error)?));
         }
-        let there = owned_attribute(self.alloc, &reached.e, attr)?;
+        let there = at.capability()?;
+        let attr = at.attr();
         let is_known = knows(prior, &progress, &there);
-        let required = self.required(&reached.ty, attr)?;
-        let ty = self.step_type(&reached.ty, attr, required, is_known);
-        if is_false_type(&ty) {
+        let required = self.required(ty, attr)?;
+        let is_declared = required.is_some();
+        let step_ty = self.step_type(ty, attr, required, is_known);
+        if is_false_type(&step_ty) {
             return Ok(Step::Ends(gives(self.alloc, bool_type(false))));
         }
-        let progress = progress.with(&ty, required.is_some(), there)?;
-        Ok(Step::GoesOn(progress))
+        let is_known = knows_after(is_known, &step_ty, is_declared);
+        let progress = progress.with(&step_ty, is_declared, there)?;
+        Ok(Step::GoesOn(progress, is_known))
     }
 
     /// The type of a step, by whether the attribute is required, if it is declared.
@@ -277,15 +266,4 @@ impl TypeEnv<'_, '_, '_, '_> {
             None => self.undeclared_type(owner, attr),
         }
     }
-}
-
-/// `e.x`, which a chain makes up.
-fn made_up(alloc: Global, e: Expr, attr: &RcStr) -> Result<Expr, AllocError>
-    ensures { IfOk result (λ r. written r ≡ made_up (written e) (text_of attr.now)) }
-{
-    Ok(Expr {
-        annotation: (),
-        loc: None,
-        kind: ExprKind::GetAttr(Box::new(alloc, e)?, attr.clone()?),
-    })
 }

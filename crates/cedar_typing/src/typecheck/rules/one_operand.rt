@@ -95,7 +95,7 @@ impl<C: ArgumentCheck> SingleEnvTypechecker<'_, '_, '_, '_, C> {
         prior: &Prior<'_, 'a>,
         depth: usize,
         loc: Option<Loc>,
-        form: OneOperand<'_>,
+        form: OneOperand<'a>,
         operand: &'a Expr,
         errors: &mut Vec<ValidationError>,
     ) -> Result<TypecheckAnswer<'a>, AllocError>
@@ -123,7 +123,7 @@ impl TypeEnv<'_, '_, '_, '_> {
         &self,
         prior: &Prior<'_, 'a>,
         loc: Option<Loc>,
-        form: OneOperand<'_>,
+        form: OneOperand<'a>,
         operand: &'a Expr,
         part: Part<'a>,
         errors: &mut Vec<ValidationError>,
@@ -153,7 +153,7 @@ impl TypeEnv<'_, '_, '_, '_> {
         &self,
         prior: &Prior<'_, 'a>,
         loc: Option<Loc>,
-        form: OneOperand<'_>,
+        form: OneOperand<'a>,
         operand: &'a Expr,
         found: &Option<CedarType>,
     ) -> Result<Decision<'a>, AllocError>

@@ -4,7 +4,7 @@ use Rattle.cedar_typing.specs.Views.{by_step}
 use Rattle.cedar_typing.proofs.typecheck.type_env.TypeEnv.last_step.Goals as goal
 
 pub returns-in-Ends : goal.returns-in-Ends
-returns-in-Ends c = ap (λ r. by_step r end_of_chain) (sym c.in-Ends.is) ∙ c.in_ok-decision.ensures end_of_chain
+returns-in-Ends c = ap (λ r. by_step r end_of_chain) (sym c.in-Ends.is) ∙ c.in_ok-decision.ensures.decides end_of_chain
 
 pub returns-in-GoesOn : goal.returns-in-GoesOn
-returns-in-GoesOn c = c.end.ensures ∙ ap (λ r. by_step r end_of_chain) (sym c.in-GoesOn.is) ∙ c.in_ok-decision.ensures end_of_chain
+returns-in-GoesOn c = c.end.ensures ∙ ap (λ r. by_step r end_of_chain) (sym c.in-GoesOn.is) ∙ c.in_ok-decision.ensures.decides end_of_chain
