@@ -1,4 +1,4 @@
--- A call of the program as a tree, and how it is inferred.
+-- A call and a set of the program as trees, and how a call is inferred.
 use Rattle.std.proofs.Common.{◌≡◌, ℕ, ◌+◌, false, List, [], ◌∷◌, map, refl, sym, ap, ◌∙◌, rules, Vec, Global}
 use Rattle.cedar_types.specs.declared.base.expressions.Expr.{Expr}
 use Rattle.cedar_types.specs.declared.base.expressions.ExprKind.{the_lemmas}
@@ -6,7 +6,7 @@ use Rattle.cedar_types.specs.declared.base.expressions.ExprKind.TheVariants as K
 use Rattle.cedar_types.specs.declared.base.names.Name.{Name}
 use Rattle.cedar_types.specs.Errors.{Finding}
 use Rattle.cedar_types.specs.Names.{Path, path_of}
-use Rattle.cedar_types.specs.Tree.{call}
+use Rattle.cedar_types.specs.Tree.{call, set_of}
 use Rattle.cedar_types.specs.Types.{ty_of}
 use Rattle.cedar_types.specs.View.{Written, trees_of, kind_written, written}
 use Rattle.cedar_typing.specs.CallViews.{IsCallOf, shape_of}
@@ -30,6 +30,14 @@ kind_call n xs e = search (rules, the_lemmas)
 
 pub written_call : (e : Expr (Unit {0})) (n : Name) (xs : Vec (Expr (Unit {0})) Global) → e.kind ≡ K.ExtensionFunctionApp n xs → written e ≡ call (at e.loc) (path_of n) (trees_of (map written xs.items))
 written_call e n xs h = written_by_kind e ∙ ap (kind_written e.loc) h ∙ kind_call n xs e
+
+kind_set : (xs : Vec (Expr (Unit {0})) Global) (e : Expr (Unit {0}))
+    → kind_written e.loc (K.Set xs) ≡ set_of (at e.loc) (trees_of (map written xs.items))
+kind_set xs e = search (rules, the_lemmas)
+
+pub written_set : (e : Expr (Unit {0})) (xs : Vec (Expr (Unit {0})) Global) → e.kind ≡ K.Set xs
+    → written e ≡ set_of (at e.loc) (trees_of (map written xs.items))
+written_set e xs h = written_by_kind e ∙ ap (kind_written e.loc) h ∙ kind_set xs e
 
 -- ---- inferred
 

@@ -8,17 +8,17 @@ use Rattle.cedar_typing.specs.Answer.{TypedExpr, Answered, AllHandOn, AreHanded,
 use Rattle.cedar_typing.specs.Views.{HandsOn, Gathers}
 use Rattle.cedar_typing.proofs.Basics.{some_is, none_is}
 use Rattle.cedar_typing.specs.declared.typecheck.sequence.Gathered.{Gathered}
-use Rattle.cedar_typing.specs.declared.typecheck.answer.Handed.{Handed}
+use Rattle.cedar_typing.specs.declared.typecheck.answer.Part.{Part}
 use Rattle.cedar_typing.specs.declared.typecheck.answer.TypecheckAnswer.{TypecheckAnswer}
 use Rattle.cedar_typing.specs.declared.typecheck.answer.TypecheckAnswer.TheVariants.{TypecheckSuccess, TypecheckFail, RecursionLimit}
 
 -- what one more answer hands on
-pub record OneMore (a : TypecheckAnswer) (p : Handed) : Type 0 where
+pub record OneMore (a : TypecheckAnswer) (p : Part) : Type 0 where
   pub hands_on : AllHandOn (Ok a ∷ [])
   pub handed : AreHanded (Ok a ∷ []) ((p.typed, p.capabilities) ∷ [])
   pub succeeded : none_failed (Ok a ∷ []) ≡ p.succeeded
 
-pub one_more : (a : TypecheckAnswer) (p : Handed) → HandsOn a (Some p) → OneMore a p
+pub one_more : (a : TypecheckAnswer) (p : Part) → HandsOn a (Some p) → OneMore a p
 one_more (TypecheckSuccess e c) p h =
     let q = some_is h in
     record { hands_on = tt; handed = (ap (λ z. (z.typed, z.capabilities)) q, tt); succeeded = sym (ap (λ z. z.succeeded) q) }

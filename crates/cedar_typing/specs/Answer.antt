@@ -1,5 +1,5 @@
 -- The three answers of typing an expression, and what following up on them comes to.
-use Rattle.std.specs.Prelude.{◌≡◌, Bool, true, false, cond, Option, Some, None, is_some, option_map, Result, Ok, Err, List, [], ◌∷◌, MatchOption, ⊤}
+use Rattle.std.specs.Prelude.{◌≡◌, Bool, true, false, cond, Option, Some, None, is_some, option_map, Result, Ok, Err, List, [], ◌∷◌, MatchOption, ⊤, Box}
 use Rattle.std.specs.Iterator.{YieldsThen}
 use Rattle.std.specs.declared.vec.Vec.{Vec}
 use Rattle.std.specs.declared.alloc.Global.{Global}
@@ -14,7 +14,7 @@ use Rattle.cedar_typing.specs.declared.typecheck.answer.TypecheckAnswer.TheVaria
 
 -- an expression whose nodes have the types that were found
 abbrev pub TypedExpr : Type 0
-TypedExpr = Expr (Option CedarType)
+TypedExpr = Box (Expr (Option CedarType)) Global
 
 -- an answer, or that memory was refused
 abbrev pub Answered : Type 0
@@ -22,7 +22,7 @@ Answered = Result TypecheckAnswer AllocError
 
 -- the type of the root, if one was found
 abbrev pub type_at : TypedExpr → Option Ty
-type_at e = option_map ty_of e.annotation
+type_at e = option_map ty_of e.value.annotation
 
 -- the answer is a success with this expression and no capabilities
 abbrev pub SucceedsWithNone : TypedExpr → TypecheckAnswer → Type 0

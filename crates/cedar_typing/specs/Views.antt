@@ -33,7 +33,6 @@ use Rattle.cedar_typing.specs.TypeTests.{bool_types, long_types, string_types, s
 use Rattle.cedar_typing.specs.TypedExpr.{Source, typed_tree, place_of, TypedTree}
 use Rattle.cedar_typing.specs.declared.typecheck.answer.TypecheckAnswer.{TypecheckAnswer}
 use Rattle.cedar_typing.specs.declared.typecheck.answer.TypecheckAnswer.TheVariants.{TypecheckSuccess, TypecheckFail, RecursionLimit}
-use Rattle.cedar_typing.specs.declared.typecheck.answer.Handed.{Handed}
 use Rattle.cedar_typing.specs.declared.typecheck.answer.Part.{Part as TypedPart}
 use Rattle.cedar_typing.specs.declared.typecheck.sequence.Gathered.{Gathered}
 use Rattle.cedar_typing.specs.declared.typecheck.operands.Expected.{Expected}
@@ -94,8 +93,8 @@ later_types (t ∷ u ∷ ts) = u ∷ ts
 
 -- an answer
 abbrev pub answer_of : TypecheckAnswer → Answer
-answer_of (TypecheckSuccess e c) = success (typed_tree e) (caps c)
-answer_of (TypecheckFail e) = failure (typed_tree e)
+answer_of (TypecheckSuccess e c) = success (typed_tree e.value) (caps c)
+answer_of (TypecheckFail e) = failure (typed_tree e.value)
 answer_of RecursionLimit = limit
 
 -- a part
@@ -212,7 +211,7 @@ KnowsAfter prior there (step.GoesOn p k) = k ≡ union prior (caps p.earned) the
 -- ---- what answers give
 
 -- an answer gives its expression: a failure no capabilities, the limit nothing
-abbrev pub HandsOn : TypecheckAnswer → Option Handed → Type 0
+abbrev pub HandsOn : TypecheckAnswer → Option TypedPart → Type 0
 HandsOn (TypecheckSuccess e c) p =
     p ≡ Some (record { typed = e; capabilities = c; succeeded = true })
 HandsOn (TypecheckFail e) p =

@@ -12,16 +12,17 @@ fn told(answer: &TypecheckAnswer<'_>) -> (bool, bool) {
 #[test]
 fn a_success_has_its_type(rt: HostRuntime) -> Result<(), Fail> {
     let alloc = rt.alloc();
-    assert!(rt; told(&TypecheckAnswer::success(alloc, long(1))) == (true, true));
-    assert!(rt; told(&TypecheckAnswer::success(alloc, number(3, None))) == (true, false));
-    let knowing = TypecheckAnswer::success_with_capability(long(2), knowing(alloc, "x")?);
+    assert!(rt; told(&TypecheckAnswer::success(alloc, long(alloc, 1)?)) == (true, true));
+    assert!(rt; told(&TypecheckAnswer::success(alloc, number(alloc, 3, None)?)) == (true, false));
+    let knowing = TypecheckAnswer::success_with_capability(long(alloc, 2)?, knowing(alloc, "x")?);
     assert!(rt; told(&knowing) == (true, true));
     Ok(())
 }
 
 #[test]
 fn a_failure_has_its_type_and_a_limit_has_none(rt: HostRuntime) -> Result<(), Fail> {
-    assert!(rt; told(&TypecheckAnswer::fail(long(4))) == (false, true));
+    let alloc = rt.alloc();
+    assert!(rt; told(&TypecheckAnswer::fail(long(alloc, 4)?)) == (false, true));
     assert!(rt; told(&TypecheckAnswer::RecursionLimit) == (false, false));
     Ok(())
 }
@@ -34,8 +35,9 @@ fn has_expression(answer: TypecheckAnswer<'_>) -> bool {
 
 #[test]
 fn what_is_made_a_failure_keeps_its_expression(rt: HostRuntime) -> Result<(), Fail> {
-    assert!(rt; has_expression(TypecheckAnswer::success(rt.alloc(), long(1))));
-    assert!(rt; has_expression(TypecheckAnswer::fail(long(1))));
+    let alloc = rt.alloc();
+    assert!(rt; has_expression(TypecheckAnswer::success(alloc, long(alloc, 1)?)));
+    assert!(rt; has_expression(TypecheckAnswer::fail(long(alloc, 1)?)));
     assert!(rt; !has_expression(TypecheckAnswer::RecursionLimit));
     Ok(())
 }

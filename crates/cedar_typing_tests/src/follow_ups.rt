@@ -7,7 +7,7 @@ use std::test::Fail;
 
 /// A success that knows that the principal has `x`.
 fn knowing_x<'a>(alloc: Global) -> Result<TypecheckAnswer<'a>, AllocError> {
-    Ok(TypecheckAnswer::success_with_capability(long(7), knowing(alloc, "x")?))
+    Ok(TypecheckAnswer::success_with_capability(long(alloc, 7)?, knowing(alloc, "x")?))
 }
 
 /// The answer, which knows `y` in place of all else where it knows `x`.
@@ -50,8 +50,9 @@ fn refused(answer: TypecheckAnswer<'_>) -> Result<TypecheckAnswer<'_>, AllocErro
 
 #[test]
 fn only_a_success_has_a_set_to_replace(rt: HostRuntime) -> Result<(), Fail> {
-    assert!(rt; refused(TypecheckAnswer::success(rt.alloc(), long(1))).is_err());
-    assert!(rt; refused(TypecheckAnswer::fail(long(1))).is_ok());
+    let alloc = rt.alloc();
+    assert!(rt; refused(TypecheckAnswer::success(alloc, long(alloc, 1)?)).is_err());
+    assert!(rt; refused(TypecheckAnswer::fail(long(alloc, 1)?)).is_ok());
     assert!(rt; refused(TypecheckAnswer::RecursionLimit).is_ok());
     Ok(())
 }
@@ -64,7 +65,7 @@ fn followed<'a>(
 ) -> Result<TypecheckAnswer<'a>, AllocError> {
     answer.then_typecheck(alloc, |expr, set| {
         if is_long(&expr, 7) && knows(alloc, &set, "x")? == is_known {
-            Ok(TypecheckAnswer::success(alloc, number(8, Some(CedarType::String))))
+            Ok(TypecheckAnswer::success(alloc, number(alloc, 8, Some(CedarType::String))?))
         } else {
             Ok(TypecheckAnswer::RecursionLimit)
         }
@@ -81,14 +82,16 @@ fn a_success_hands_on_what_it_has(rt: HostRuntime) -> Result<(), Fail> {
 
 #[test]
 fn a_failure_hands_on_its_expression_and_stays_a_failure(rt: HostRuntime) -> Result<(), Fail> {
-    let answer = followed(rt.alloc(), TypecheckAnswer::fail(long(7)), false)?;
+    let alloc = rt.alloc();
+    let answer = followed(alloc, TypecheckAnswer::fail(long(alloc, 7)?), false)?;
     assert!(rt; !answer.typechecked() && answer.contains_type(&CedarType::String));
     Ok(())
 }
 
 #[test]
 fn what_follows_may_be_a_limit(rt: HostRuntime) -> Result<(), Fail> {
-    let answer = followed(rt.alloc(), TypecheckAnswer::fail(long(7)), true)?;
+    let alloc = rt.alloc();
+    let answer = followed(alloc, TypecheckAnswer::fail(long(alloc, 7)?), true)?;
     assert!(rt; is_limit(&answer));
     Ok(())
 }
@@ -100,7 +103,8 @@ fn cut_off(alloc: Global, answer: TypecheckAnswer<'_>) -> Result<TypecheckAnswer
 
 #[test]
 fn nothing_follows_a_limit(rt: HostRuntime) -> Result<(), Fail> {
-    assert!(rt; is_limit(&cut_off(rt.alloc(), TypecheckAnswer::RecursionLimit)?));
-    assert!(rt; cut_off(rt.alloc(), TypecheckAnswer::fail(long(7))).is_err());
+    let alloc = rt.alloc();
+    assert!(rt; is_limit(&cut_off(alloc, TypecheckAnswer::RecursionLimit)?));
+    assert!(rt; cut_off(alloc, TypecheckAnswer::fail(long(alloc, 7)?)).is_err());
     Ok(())
 }

@@ -6,17 +6,23 @@ use std::alloc::{AllocError, Global};
 use std::rc::RcStr;
 
 /// A literal number with this type.
-pub fn number(value: i64, annotation: Option<CedarType>) -> Expr<Option<CedarType>> {
-    Expr {
+pub fn number(
+    alloc: Global,
+    value: i64,
+    annotation: Option<CedarType>,
+) -> Result<Box<Expr<Option<CedarType>>>, AllocError> {
+    let kind = ExprKind::Lit(Literal::Long(value));
+    let typed = Expr {
         annotation,
         loc: None,
-        kind: ExprKind::Lit(Literal::Long(value)),
-    }
+        kind,
+    };
+    Ok(Box::new(alloc, typed)?)
 }
 
 /// A literal number, typed as a long.
-pub fn long(value: i64) -> Expr<Option<CedarType>> {
-    number(value, Some(CedarType::Long))
+pub fn long(alloc: Global, value: i64) -> Result<Box<Expr<Option<CedarType>>>, AllocError> {
+    number(alloc, value, Some(CedarType::Long))
 }
 
 /// Whether it is this literal number, typed as a long.

@@ -60,9 +60,9 @@ fn answer<'a>(alloc: Global, item: Item, value: i64) -> Result<TypecheckAnswer<'
     match item {
         Item::Success => {
             let set = knowing(alloc, "x")?;
-            Ok(TypecheckAnswer::success_with_capability(long(value), set))
+            Ok(TypecheckAnswer::success_with_capability(long(alloc, value)?, set))
         }
-        Item::Failure => Ok(TypecheckAnswer::fail(long(value))),
+        Item::Failure => Ok(TypecheckAnswer::fail(long(alloc, value)?)),
         Item::Limit => Ok(TypecheckAnswer::RecursionLimit),
         Item::Refused => Err(AllocError),
     }
@@ -72,7 +72,7 @@ fn answer<'a>(alloc: Global, item: Item, value: i64) -> Result<TypecheckAnswer<'
 fn add_handed(
     alloc: Global,
     shown: &mut String,
-    handed: &[(Expr<Option<CedarType>>, CapabilitySet<'_>)],
+    handed: &[(Box<Expr<Option<CedarType>>>, CapabilitySet<'_>)],
 ) -> Result<(), AllocError> {
     for ((expr, set), value) in handed.iter().zip(0..) {
         let order = if is_long(expr, value) { "" } else { "?" };
@@ -90,7 +90,7 @@ fn sequenced(alloc: Global, items: &[Item]) -> Result<String, AllocError> {
     let answer = TypecheckAnswer::sequence_all_then_typecheck(alloc, answers, |handed| {
         shown = String::from_str(alloc, "called with")?;
         add_handed(alloc, &mut shown, &handed)?;
-        Ok(TypecheckAnswer::success(alloc, number(0, Some(CedarType::String))))
+        Ok(TypecheckAnswer::success(alloc, number(alloc, 0, Some(CedarType::String))?))
     });
     let ending = match answer {
         Ok(TypecheckAnswer::TypecheckSuccess { .. }) => "success",

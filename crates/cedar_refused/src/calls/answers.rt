@@ -16,18 +16,20 @@ pub enum FollowUp {
 }
 
 /// A literal, typed as a long.
-pub fn long(value: i64) -> Expr<Option<CedarType>> {
-    Expr {
+pub fn long(alloc: Global, value: i64) -> Result<Box<Expr<Option<CedarType>>>, AllocError> {
+    let kind = ExprKind::Lit(Literal::Long(value));
+    let typed = Expr {
         annotation: Some(CedarType::Long),
         loc: None,
-        kind: ExprKind::Lit(Literal::Long(value)),
-    }
+        kind,
+    };
+    Ok(Box::new(alloc, typed)?)
 }
 
 /// A success that knows two attributes.
 pub fn success<'a>(alloc: Global) -> Result<TypecheckAnswer<'a>, AllocError> {
     let known = having(alloc, "vip", "nick")?;
-    Ok(TypecheckAnswer::success_with_capability(long(7), known))
+    Ok(TypecheckAnswer::success_with_capability(long(alloc, 7)?, known))
 }
 
 /// Follows up on a success, or on two.

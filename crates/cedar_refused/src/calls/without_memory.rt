@@ -180,10 +180,11 @@ pub fn capabilities(alloc: Global) -> Result<&'static str, AllocError> {
 pub fn answers(alloc: Global) -> Result<&'static str, AllocError> {
     let (first, second) = (success(alloc)?, success(alloc)?);
     let known = having(alloc, "vip", "nick")?;
+    let typed = (long(alloc, 1)?, long(alloc, 2)?, long(alloc, 3)?);
     refuse_all(alloc);
-    let none = TypecheckAnswer::success(alloc, long(1));
-    let some = TypecheckAnswer::success_with_capability(long(2), known);
-    let failure = TypecheckAnswer::fail(long(3));
+    let none = TypecheckAnswer::success(alloc, typed.0);
+    let some = TypecheckAnswer::success_with_capability(typed.1, known);
+    let failure = TypecheckAnswer::fail(typed.2);
     let is_as_ever = none.typechecked()
         && some.typechecked()
         && !failure.typechecked()

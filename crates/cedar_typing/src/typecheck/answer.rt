@@ -1,42 +1,33 @@
 //! The answer of typing one expression.
 ghost use Rattle.std.specs.Prelude.{◌≡◌, ◌↔◌, IsTrue, IfOk, Some, option_map};
 ghost use Rattle.cedar_types.specs.Types.{ty_of};
-ghost use Rattle.cedar_typing.specs.Answer.{type_at, SucceedsWithNone, is_success, typed_expr_of, type_of_answer, failed, failed_unless, OnSuccess, MapsCapability, OnHanded, ThenTypechecks};
+ghost use Rattle.cedar_typing.specs.Answer.{SucceedsWithNone, is_success, typed_expr_of, type_of_answer, failed, failed_unless, OnSuccess, MapsCapability, OnHanded, ThenTypechecks};
 ghost use Rattle.cedar_typing.specs.Infer.Parts.{part_from};
 ghost use Rattle.cedar_typing.specs.Views.{HandsOn, answer_of, part_of};
 
-use crate::typecheck::capabilities::no_capabilities;
 use cedar_types::base::type_laws::equal_types;
 use cedar_types::base::{CedarType, Expr};
 use cedar_types::types::capability::CapabilitySet;
 use std::alloc::{AllocError, Global};
 
-/// What typing found of an expression. A typed expression has at each node the type that was found, if one was.
+/// What typing found of an expression. A typed expression has at each node the type that was found, if one was. It is boxed,
+/// so that an answer is small: typing hands it on from part to whole, and a part becomes the whole's without a move.
 #[derive(Debug, Drop)]
 pub enum TypecheckAnswer<'a> {
     /// The expression is typed. Where it evaluates to true, the capabilities hold.
     TypecheckSuccess {
-        expr_type: Expr<Option<CedarType>>,
+        expr_type: Box<Expr<Option<CedarType>>>,
         expr_capability: CapabilitySet<'a>,
     },
     /// The expression is refused. Its root may still have a type, which what is around it goes on with.
     TypecheckFail {
-        expr_recovery_type: Expr<Option<CedarType>>,
+        expr_recovery_type: Box<Expr<Option<CedarType>>>,
     },
     /// The expression is nested too deep, and nothing is said of it.
     RecursionLimit,
 }
 
-/// What an answer hands on to what follows it.
-#[derive(Drop)]
-pub(crate) struct Handed<'a> {
-    pub typed: Expr<Option<CedarType>>,
-    pub capabilities: CapabilitySet<'a>,
-    /// Whether the answer was a success.
-    pub succeeded: bool,
-}
-
-/// A typed part of what is being typed. It is boxed once, where its whole will have it.
+/// What an answer hands on to what follows it: a typed part of what is being typed.
 #[derive(Drop)]
 pub(crate) struct Part<'a> {
     pub typed: Box<Expr<Option<CedarType>>>,
@@ -47,7 +38,7 @@ pub(crate) struct Part<'a> {
 
 impl<'a> TypecheckAnswer<'a> {
     /// A success without capabilities. It takes no memory.
-    pub fn success(alloc: Global, expr_type: Expr<Option<CedarType>>) -> TypecheckAnswer<'a>
+    pub fn success(alloc: Global, expr_type: Box<Expr<Option<CedarType>>>) -> TypecheckAnswer<'a>
         ensures { SucceedsWithNone expr_type result }
     {
         TypecheckAnswer::TypecheckSuccess {
@@ -58,7 +49,7 @@ impl<'a> TypecheckAnswer<'a> {
 
     /// A success with these capabilities.
     pub fn success_with_capability(
-        expr_type: Expr<Option<CedarType>>,
+        expr_type: Box<Expr<Option<CedarType>>>,
         expr_capability: CapabilitySet<'a>,
     ) -> TypecheckAnswer<'a>
         ensures { result ≡ TypecheckAnswer.TypecheckSuccess expr_type expr_capability.entry }
@@ -70,7 +61,7 @@ impl<'a> TypecheckAnswer<'a> {
     }
 
     /// A failure.
-    pub fn fail(expr_type: Expr<Option<CedarType>>) -> TypecheckAnswer<'a>
+    pub fn fail(expr_type: Box<Expr<Option<CedarType>>>) -> TypecheckAnswer<'a>
         ensures { result ≡ TypecheckAnswer.TypecheckFail expr_type }
     {
         TypecheckAnswer::TypecheckFail {
@@ -92,7 +83,7 @@ impl<'a> TypecheckAnswer<'a> {
     }
 
     /// The typed expression. On the limit there is none.
-    pub fn into_typed_expr(self) -> Option<Expr<Option<CedarType>>>
+    pub fn into_typed_expr(self) -> Option<Box<Expr<Option<CedarType>>>>
         ensures { result ≡ typed_expr_of self.entry }
     {
         match self {
@@ -150,7 +141,7 @@ impl<'a> TypecheckAnswer<'a> {
     pub fn then_typecheck<F>(self, alloc: Global, f: F) -> Result<TypecheckAnswer<'a>, AllocError>
     where
         F: FnOnce(
-            Expr<Option<CedarType>>,
+            Box<Expr<Option<CedarType>>>,
             CapabilitySet<'a>,
         ) -> Result<TypecheckAnswer<'a>, AllocError>,
         requires { OnHanded self (F.pre f) }
@@ -170,49 +161,25 @@ impl<'a> TypecheckAnswer<'a> {
     }
 
     /// What the answer hands on: a failure no capabilities, the limit nothing. It takes no memory.
-    pub(crate) fn into_handed(self, alloc: Global) -> Option<Handed<'a>>
-        ensures { HandsOn self.entry result }
+    pub(crate) fn into_part(self, alloc: Global) -> Option<Part<'a>>
+        ensures handed { HandsOn self.entry result }
+        ensures seen { option_map part_of result ≡ part_from (answer_of self.entry) }
     {
         match self {
             TypecheckAnswer::TypecheckSuccess {
                 expr_type,
                 expr_capability,
-            } => Some(Handed {
+            } => Some(Part {
                 typed: expr_type,
                 capabilities: expr_capability,
                 succeeded: true,
             }),
-            TypecheckAnswer::TypecheckFail { expr_recovery_type } => Some(Handed {
+            TypecheckAnswer::TypecheckFail { expr_recovery_type } => Some(Part {
                 typed: expr_recovery_type,
                 capabilities: CapabilitySet::new(alloc),
                 succeeded: false,
             }),
             TypecheckAnswer::RecursionLimit => None,
-        }
-    }
-
-    /// The same as a part of a whole, whatever its type.
-    pub(crate) fn into_part(self, alloc: Global) -> Result<Option<Part<'a>>, AllocError>
-        ensures { IfOk result (λ p. option_map part_of p ≡ part_from (answer_of self.entry)) }
-    {
-        match self {
-            TypecheckAnswer::TypecheckSuccess {
-                expr_type,
-                expr_capability,
-            } => Ok(Some(Part {
-                typed: Box::new(alloc, expr_type)?,
-                capabilities: expr_capability,
-                succeeded: true,
-            })),
-            TypecheckAnswer::TypecheckFail { expr_recovery_type } => {
-                let typed = Box::new(alloc, expr_recovery_type)?;
-                Ok(Some(Part {
-                    typed,
-                    capabilities: no_capabilities(alloc),
-                    succeeded: false,
-                }))
-            }
-            TypecheckAnswer::RecursionLimit => Ok(None),
         }
     }
 
@@ -225,7 +192,8 @@ impl<'a> TypecheckAnswer<'a> {
 }
 
 fn has_type(typed: &Expr<Option<CedarType>>, ty: &CedarType) -> bool
-    ensures { IsTrue result ↔ (type_at typed.now ≡ Some (ty_of ty.now)) }
+    ensures { IsTrue result
+        ↔ (option_map ty_of typed.now.annotation ≡ Some (ty_of ty.now)) }
 {
     match &typed.annotation {
         Some(found) => equal_types(found, ty),

@@ -23,6 +23,9 @@ pub const MAX_NESTING: usize = 400;
 
 impl<C: ArgumentCheck> SingleEnvTypechecker<'_, '_, '_, '_, C> {
     /// Types an expression at this depth, with these prior capabilities, and adds its errors.
+    ///
+    /// Each level of nesting takes a frame of this function and of one or two of the cycle. What each form does after its parts
+    /// is marked `inline(never)`, so that its locals are no part of those frames.
     #[cycle(typing)]
     pub(crate) fn typecheck<'a>(
         &self,
@@ -81,20 +84,12 @@ impl<C: ArgumentCheck> SingleEnvTypechecker<'_, '_, '_, '_, C> {
                 self.type_one_operand(prior, depth, e.loc, OneOperand::Is(named), operand, errors)
             }
             ExprKind::ExtensionFunctionApp(name, arguments) => {
-                let call = self.call_of(e.loc, name, arguments)?;
-                let types = call.argument_types;
-                let typed = self.type_operands(prior, depth, false, types, arguments, errors)?;
-                let answer = self.env.call_answer(e.loc, name, call, typed, errors)?;
-                Ok(answer)
+                self.type_call(prior, depth, e.loc, name, arguments, errors)
             }
             ExprKind::ExtHasAttr(base, chain) => {
                 self.type_one_operand(prior, depth, e.loc, OneOperand::Chain(chain), base, errors)
             }
-            ExprKind::Set(elements) => {
-                let typed = self.type_operands(prior, depth, true, &[], elements, errors)?;
-                let answer = self.env.set_answer(e.loc, typed, errors)?;
-                Ok(answer)
-            }
+            ExprKind::Set(elements) => self.type_set(prior, depth, e.loc, elements, errors),
             ExprKind::Record(fields) => self.type_record(prior, depth, e.loc, fields, errors),
         }
     }

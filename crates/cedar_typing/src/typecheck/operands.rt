@@ -123,8 +123,7 @@ impl TypeEnv<'_, '_, '_, '_> {
             (answer_of answer.entry, findings errors.old.items)
             ≡ (option_map part_of p, findings errors.new.items)) }
     {
-        let part = answer.into_part(self.alloc)?;
-        let Some(part) = part else {
+        let Some(part) = answer.into_part(self.alloc) else {
             return Ok(None);
         };
         Ok(Some(self.expect_part(expected, loc, part, errors)?))
@@ -144,13 +143,13 @@ impl TypeEnv<'_, '_, '_, '_> {
             ≡ (option_map part_of p, findings errors.new.items)) }
     {
         let Some(expected) = expected else {
-            let part = answer.into_part(self.alloc)?;
-            return Ok(part);
+            return Ok(answer.into_part(self.alloc));
         };
         let part = self.expect(expected, loc, answer, errors)?;
         Ok(part)
     }
 
+    #[inline(never)]
     fn expect_part<'a>(
         &self,
         expected: Expected<'_>,

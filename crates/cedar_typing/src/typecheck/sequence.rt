@@ -21,7 +21,7 @@ impl<'a> TypecheckAnswer<'a> {
     where
         I: IntoIterator<Item = Result<TypecheckAnswer<'a>, AllocError>>,
         F: FnOnce(
-            Vec<(Expr<Option<CedarType>>, CapabilitySet<'a>)>,
+            Vec<(Box<Expr<Option<CedarType>>>, CapabilitySet<'a>)>,
         ) -> Result<TypecheckAnswer<'a>, AllocError>,
         requires ends { IsFiniteIterable I.into_iter_gives I.IntoIter.can_next I.IntoIter.remaining
             answers }
@@ -56,7 +56,7 @@ impl<'a> TypecheckAnswer<'a> {
 /// What was taken of some answers: all of them, or those before the first limit.
 #[derive(Drop)]
 struct Gathered<'a> {
-    handed: Vec<(Expr<Option<CedarType>>, CapabilitySet<'a>)>,
+    handed: Vec<(Box<Expr<Option<CedarType>>>, CapabilitySet<'a>)>,
     is_limit: bool,
     succeeded: bool,
 }
@@ -72,7 +72,7 @@ where
     let mut succeeded = true;
     let mut is_limit = false;
     for answer in answers {
-        let Some(part) = answer?.into_handed(alloc) else {
+        let Some(part) = answer?.into_part(alloc) else {
             is_limit = true;
             break;
         };

@@ -18,10 +18,10 @@ use std::alloc::{AllocError, Global};
 /// A success with these capabilities, or a failure, which has none.
 pub(crate) fn with_capabilities<'a>(
     succeeded: bool,
-    typed: Expr<Option<CedarType>>,
+    typed: Box<Expr<Option<CedarType>>>,
     capabilities: CapabilitySet<'a>,
 ) -> TypecheckAnswer<'a>
-    ensures { answer_of result ≡ answer_if succeeded (typed_tree typed) (caps capabilities.entry) }
+    ensures { answer_of result ≡ answer_if succeeded (typed_tree typed.value) (caps capabilities.entry) }
 {
     if succeeded {
         TypecheckAnswer::success_with_capability(typed, capabilities)
@@ -34,9 +34,9 @@ pub(crate) fn with_capabilities<'a>(
 pub(crate) fn without_capabilities<'a>(
     alloc: Global,
     succeeded: bool,
-    typed: Expr<Option<CedarType>>,
+    typed: Box<Expr<Option<CedarType>>>,
 ) -> TypecheckAnswer<'a>
-    ensures { answer_of result ≡ answer_if succeeded (typed_tree typed) no_caps }
+    ensures { answer_of result ≡ answer_if succeeded (typed_tree typed.value) no_caps }
 {
     if succeeded {
         TypecheckAnswer::success(alloc, typed)
@@ -47,67 +47,78 @@ pub(crate) fn without_capabilities<'a>(
 
 /// The same expression at another place.
 pub(crate) fn at_place(
-    mut typed: Expr<Option<CedarType>>,
+    mut typed: Box<Expr<Option<CedarType>>>,
     loc: Option<Loc>,
-) -> Expr<Option<CedarType>>
-    ensures { typed_tree result ≡ at_place loc (typed_tree typed) }
+) -> Box<Expr<Option<CedarType>>>
+    ensures { typed_tree result.value ≡ at_place loc (typed_tree typed.value) }
 {
     typed.loc = loc;
     typed
 }
 
+/// A typed expression of this form, in a box of its own.
+pub(crate) fn node(
+    alloc: Global,
+    loc: Option<Loc>,
+    annotation: Option<CedarType>,
+    kind: ExprKind<Option<CedarType>>,
+) -> Result<Box<Expr<Option<CedarType>>>, AllocError>
+    ensures { IfOk result (λ e. e.value
+        ≡ record { annotation = annotation; loc = loc; kind = kind }) }
+{
+    let typed = Expr {
+        annotation,
+        loc,
+        kind,
+    };
+    Ok(Box::new(alloc, typed)?)
+}
+
 /// An operator on two typed operands.
 pub(crate) fn binary_node(
+    alloc: Global,
     loc: Option<Loc>,
     ty: Option<CedarType>,
     op: BinaryOp,
     left: Box<Expr<Option<CedarType>>>,
     right: Box<Expr<Option<CedarType>>>,
-) -> Expr<Option<CedarType>>
-    ensures { typed_tree result
+) -> Result<Box<Expr<Option<CedarType>>>, AllocError>
+    ensures { IfOk result (λ e. typed_tree e.value
         ≡ binary (typed_as (option_map ty_of ty) (at loc)) op (typed_tree left.value)
-        (typed_tree right.value) }
+        (typed_tree right.value)) }
 {
-    Expr {
-        annotation: ty,
-        loc,
-        kind: ExprKind::BinaryApp(op, left, right),
-    }
+    let kind = ExprKind::BinaryApp(op, left, right);
+    node(alloc, loc, ty, kind)
 }
 
 /// An extended `has` on a typed base.
 pub(crate) fn chain_node(
+    alloc: Global,
     loc: Option<Loc>,
     ty: Option<CedarType>,
     base: Box<Expr<Option<CedarType>>>,
     attrs: &AttrChain,
-) -> Result<Expr<Option<CedarType>>, AllocError>
-    ensures { IfOk result (λ e. typed_tree e
+) -> Result<Box<Expr<Option<CedarType>>>, AllocError>
+    ensures { IfOk result (λ e. typed_tree e.value
         ≡ ext_has_attr (typed_as (option_map ty_of ty) (at loc)) (typed_tree base.value)
         (chain_of attrs.now).0 (chain_of attrs.now).1) }
 {
-    Ok(Expr {
-        annotation: ty,
-        loc,
-        kind: ExprKind::ExtHasAttr(base, attrs.clone()?),
-    })
+    let kind = ExprKind::ExtHasAttr(base, attrs.clone()?);
+    node(alloc, loc, ty, kind)
 }
 
 /// A call of this function on typed arguments.
 pub(crate) fn call_node(
+    alloc: Global,
     loc: Option<Loc>,
     name: &Name,
     ty: Option<CedarType>,
     arguments: Vec<Expr<Option<CedarType>>>,
-) -> Result<Expr<Option<CedarType>>, AllocError>
-    ensures { IfOk result (λ e. typed_tree e
+) -> Result<Box<Expr<Option<CedarType>>>, AllocError>
+    ensures { IfOk result (λ e. typed_tree e.value
         ≡ call (typed_as (option_map ty_of ty) (at loc)) (path_of name.now)
         (trees_of (map typed_tree arguments.items))) }
 {
     let kind = ExprKind::ExtensionFunctionApp(name.clone()?, arguments);
-    Ok(Expr {
-        annotation: ty,
-        loc,
-        kind,
-    })
+    node(alloc, loc, ty, kind)
 }

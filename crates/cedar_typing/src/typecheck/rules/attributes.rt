@@ -18,6 +18,7 @@ use crate::typecheck::prior::Prior;
 use crate::typecheck::rules::eager::Decision;
 use crate::typecheck::type_env::TypeEnv;
 use crate::typecheck::type_tests::{any_bool, is_record_type};
+use crate::typecheck::typed_nodes::node;
 use cedar_types::base::{
     BoolType, CedarType, Expr, ExprKind, Loc, ValidationError, ValidationMode,
 };
@@ -227,35 +228,31 @@ pub(crate) fn declared_type(owner: &CedarType, is_required: bool, is_known: bool
 }
 
 pub(crate) fn has_node(
+    alloc: Global,
     loc: Option<Loc>,
     ty: Option<CedarType>,
     base: Box<Expr<Option<CedarType>>>,
     attr: &RcStr,
-) -> Result<Expr<Option<CedarType>>, AllocError>
-    ensures { IfOk result (λ e. typed_tree e
+) -> Result<Box<Expr<Option<CedarType>>>, AllocError>
+    ensures { IfOk result (λ e. typed_tree e.value
         ≡ has_attr (typed_as (option_map ty_of ty) (at loc)) (typed_tree base.value)
         (text_of attr.now)) }
 {
-    Ok(Expr {
-        annotation: ty,
-        loc,
-        kind: ExprKind::HasAttr(base, attr.clone()?),
-    })
+    let kind = ExprKind::HasAttr(base, attr.clone()?);
+    node(alloc, loc, ty, kind)
 }
 
 pub(crate) fn get_node(
+    alloc: Global,
     loc: Option<Loc>,
     ty: Option<CedarType>,
     base: Box<Expr<Option<CedarType>>>,
     attr: &RcStr,
-) -> Result<Expr<Option<CedarType>>, AllocError>
-    ensures { IfOk result (λ e. typed_tree e
+) -> Result<Box<Expr<Option<CedarType>>>, AllocError>
+    ensures { IfOk result (λ e. typed_tree e.value
         ≡ get_attr (typed_as (option_map ty_of ty) (at loc)) (typed_tree base.value)
         (text_of attr.now)) }
 {
-    Ok(Expr {
-        annotation: ty,
-        loc,
-        kind: ExprKind::GetAttr(base, attr.clone()?),
-    })
+    let kind = ExprKind::GetAttr(base, attr.clone()?);
+    node(alloc, loc, ty, kind)
 }

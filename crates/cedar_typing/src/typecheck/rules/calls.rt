@@ -1,19 +1,24 @@
 // Calls of extension functions.
-ghost use Rattle.std.specs.Prelude.{◌≡◌, ◌∷◌, ◌++◌, length, IfOk, Some, map, option_map};
+ghost use Rattle.std.specs.Prelude.{◌≡◌, ◌≤◌, ◌+◌, ◌∷◌, ◌++◌, length, IfOk, Some, map, option_map};
 ghost use Rattle.std.specs.List.{list_all};
 ghost use Rattle.cedar_types.specs.Errors.{finding_of, wrong_number_arguments};
 ghost use Rattle.cedar_types.specs.ExtensionFunctions.{function_of};
 ghost use Rattle.cedar_types.specs.Names.{path_of};
 ghost use Rattle.cedar_types.specs.Types.{ty_of};
-ghost use Rattle.cedar_types.specs.View.{written};
+ghost use Rattle.cedar_types.specs.Tree.{call};
+ghost use Rattle.cedar_types.specs.View.{trees_of, written};
 ghost use Rattle.cedar_typing.specs.CallViews.{IsCallOf, added_at, shape_of};
+ghost use Rattle.cedar_typing.specs.Infer.{infer_within};
 ghost use Rattle.cedar_typing.specs.Infer.Eager.{infer_form};
+ghost use Rattle.cedar_typing.specs.Judgments.{max_nesting};
+ghost use Rattle.cedar_typing.specs.Priors.{known_in};
 ghost use Rattle.cedar_typing.specs.Rules.Calls.{call_decides, call_errors, check_faults, is_literal, literal_faults, number_faults, takes, types_wanted};
 ghost use Rattle.cedar_typing.specs.SettingViews.{setting_at};
 ghost use Rattle.cedar_typing.specs.TypeEnv.{finding};
 ghost use Rattle.cedar_typing.specs.Views.{answer_of, at, decision_of, env_at, findings, operands_of};
 
 use crate::typecheck::answer::TypecheckAnswer;
+use crate::typecheck::prior::Prior;
 use crate::typecheck::rules::eager::{Decision, add_errors, gives_unless};
 use crate::typecheck::rules::operand_list::OperandList;
 use crate::typecheck::single_env::SingleEnvTypechecker;
@@ -37,7 +42,34 @@ pub(crate) struct Call<'f> {
 }
 
 impl<C: ArgumentCheck> SingleEnvTypechecker<'_, '_, '_, '_, C> {
+    /// A call of an extension function, at `loc`.
+    #[cycle(typing)]
+    #[inline(never)]
+    pub(crate) fn type_call<'a>(
+        &self,
+        prior: &Prior<'_, 'a>,
+        depth: usize,
+        loc: Option<Loc>,
+        name: &Name,
+        arguments: &'a Vec<Expr>,
+        errors: &mut Vec<ValidationError>,
+    ) -> Result<TypecheckAnswer<'a>, AllocError>
+        requires { depth ≤ max_nesting }
+        ensures { IfOk result (λ r.
+            infer_within (setting_at C.refusal self.now)
+            (call (at loc) (path_of name.now) (trees_of (map written arguments.now.items)))
+            (known_in prior.now) depth (findings errors.old.items)
+            ≡ (answer_of r, findings errors.new.items)) }
+    {
+        let call = self.call_of(loc, name, arguments)?;
+        let types = call.argument_types;
+        let typed = self.type_operands(prior, depth, false, types, arguments, errors)?;
+        let answer = self.env.call_answer(loc, name, call, typed, errors)?;
+        Ok(answer)
+    }
+
     /// The call of the function of this name, if there is one, at `loc`.
+    #[inline(never)]
     pub(crate) fn call_of(
         &self,
         loc: Option<Loc>,
@@ -186,6 +218,7 @@ impl TypeEnv<'_, '_, '_, '_> {
     }
 
     /// A call at `loc`, where the arguments are typed or one is too deep. Its own errors are kept.
+    #[inline(never)]
     pub(crate) fn call_answer<'a>(
         &self,
         loc: Option<Loc>,
@@ -205,11 +238,11 @@ impl TypeEnv<'_, '_, '_, '_> {
         }
         match decide_call(self.alloc, call)? {
             Decision::Gives(ty, capabilities) => {
-                let typed = call_node(loc, name, Some(ty), arguments.typed)?;
+                let typed = call_node(self.alloc, loc, name, Some(ty), arguments.typed)?;
                 Ok(with_capabilities(arguments.succeeded, typed, capabilities))
             }
             Decision::Refuses(ty, found) => {
-                let typed = call_node(loc, name, ty, arguments.typed)?;
+                let typed = call_node(self.alloc, loc, name, ty, arguments.typed)?;
                 add_errors(errors, found)?;
                 Ok(TypecheckAnswer::fail(typed))
             }

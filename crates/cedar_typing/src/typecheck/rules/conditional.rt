@@ -23,7 +23,7 @@ use crate::typecheck::prior::Prior;
 use crate::typecheck::single_env::SingleEnvTypechecker;
 use crate::typecheck::type_env::TypeEnv;
 use crate::typecheck::type_tests::{is_typed_false, is_typed_true};
-use crate::typecheck::typed_nodes::with_capabilities;
+use crate::typecheck::typed_nodes::{node, with_capabilities};
 use cedar_types::base::{
     ArgumentCheck, CedarType, Expr, ExprKind, Loc, LubContext, ValidationError,
 };
@@ -32,6 +32,7 @@ use std::rc::Rc;
 
 impl<C: ArgumentCheck> SingleEnvTypechecker<'_, '_, '_, '_, C> {
     #[cycle(typing)]
+    #[inline(never)]
     pub(crate) fn type_if<'a>(
         &self,
         prior: &Prior<'_, 'a>,
@@ -55,8 +56,7 @@ impl<C: ArgumentCheck> SingleEnvTypechecker<'_, '_, '_, '_, C> {
         if is_typed_true(&test.typed) {
             let known = (&*prior).with(&test.capabilities);
             let branch = self.typecheck(&known, depth + 1, then_expr, errors)?;
-            let branch = branch.into_part(self.env.alloc)?;
-            let Some(branch) = branch else {
+            let Some(branch) = branch.into_part(self.env.alloc) else {
                 return Ok(TypecheckAnswer::RecursionLimit);
             };
             let answer = true_test_answer(self.env.alloc, loc, test, branch)?;
@@ -64,8 +64,7 @@ impl<C: ArgumentCheck> SingleEnvTypechecker<'_, '_, '_, '_, C> {
         }
         if is_typed_false(&test.typed) {
             let branch = self.typecheck(prior, depth + 1, else_expr, errors)?;
-            let branch = branch.into_part(self.env.alloc)?;
-            let Some(branch) = branch else {
+            let Some(branch) = branch.into_part(self.env.alloc) else {
                 return Ok(TypecheckAnswer::RecursionLimit);
             };
             let answer = false_test_answer(self.env.alloc, loc, test, branch)?;
@@ -73,9 +72,9 @@ impl<C: ArgumentCheck> SingleEnvTypechecker<'_, '_, '_, '_, C> {
         }
         let known = (&*prior).with(&test.capabilities);
         let one = self.typecheck(&known, depth + 1, then_expr, errors)?;
-        let one = one.into_part(self.env.alloc)?;
+        let one = one.into_part(self.env.alloc);
         let other = self.typecheck(prior, depth + 1, else_expr, errors)?;
-        let other = other.into_part(self.env.alloc)?;
+        let other = other.into_part(self.env.alloc);
         let answer = self.env.open_test_answer(loc, test, one, other, errors)?;
         Ok(answer)
     }
@@ -108,6 +107,7 @@ impl TypeEnv<'_, '_, '_, '_> {
     }
 
     #[tactic(auto, using(crate::proofs::TypedViews::annotation_is))]
+    #[inline(never)]
     fn open_test_parts<'a>(
         &self,
         loc: Option<Loc>,
@@ -185,6 +185,7 @@ impl TypeEnv<'_, '_, '_, '_> {
 }
 
 /// `if` at `loc` whose test is True, of the branch that stands for both.
+#[inline(never)]
 fn true_test_answer<'a>(
     alloc: Global,
     loc: Option<Loc>,
@@ -203,6 +204,7 @@ fn true_test_answer<'a>(
 }
 
 /// `if` at `loc` whose test is False, of the branch that stands for both.
+#[inline(never)]
 fn false_test_answer<'a>(
     alloc: Global,
     loc: Option<Loc>,
@@ -226,9 +228,9 @@ fn constant_test_node(
     loc: Option<Loc>,
     test: Box<Expr<Option<CedarType>>>,
     branch: Box<Expr<Option<CedarType>>>,
-) -> Result<Expr<Option<CedarType>>, AllocError>
+) -> Result<Box<Expr<Option<CedarType>>>, AllocError>
     ensures { IfOk result (λ e.
-        typed_tree e
+        typed_tree e.value
         ≡ if_then_else (typed_as (annotation (typed_tree branch.value)) (at loc)) (typed_tree test.value)
         (typed_tree branch.value) (typed_tree branch.value)) }
 {
@@ -243,23 +245,20 @@ fn shared_node(
     ty: Option<CedarType>,
     test: Box<Expr<Option<CedarType>>>,
     branch: Box<Expr<Option<CedarType>>>,
-) -> Result<Expr<Option<CedarType>>, AllocError>
+) -> Result<Box<Expr<Option<CedarType>>>, AllocError>
     ensures { IfOk result (λ e.
-        typed_tree e
+        typed_tree e.value
         ≡ if_then_else (typed_as (option_map ty_of ty) (at loc)) (typed_tree test.value)
         (typed_tree branch.value) (typed_tree branch.value)) }
 {
     let then_expr = Rc::new(alloc, Box::into_inner(branch))?;
     let else_expr = then_expr.clone()?;
-    Ok(Expr {
-        annotation: ty,
-        loc,
-        kind: ExprKind::If {
-            test_expr: test,
-            then_expr,
-            else_expr,
-        },
-    })
+    let kind = ExprKind::If {
+        test_expr: test,
+        then_expr,
+        else_expr,
+    };
+    node(alloc, loc, ty, kind)
 }
 
 fn open_test_node(
@@ -269,21 +268,20 @@ fn open_test_node(
     test: Box<Expr<Option<CedarType>>>,
     one: Box<Expr<Option<CedarType>>>,
     other: Box<Expr<Option<CedarType>>>,
-) -> Result<Expr<Option<CedarType>>, AllocError>
+) -> Result<Box<Expr<Option<CedarType>>>, AllocError>
     ensures { IfOk result (λ e.
-        typed_tree e
+        typed_tree e.value
         ≡ if_then_else (typed_as (option_map ty_of ty) (at loc)) (typed_tree test.value)
         (typed_tree one.value) (typed_tree other.value)) }
 {
-    Ok(Expr {
-        annotation: ty,
-        loc,
-        kind: ExprKind::If {
-            test_expr: test,
-            then_expr: Rc::new(alloc, Box::into_inner(one))?,
-            else_expr: Rc::new(alloc, Box::into_inner(other))?,
-        },
-    })
+    let then_expr = Rc::new(alloc, Box::into_inner(one))?;
+    let else_expr = Rc::new(alloc, Box::into_inner(other))?;
+    let kind = ExprKind::If {
+        test_expr: test,
+        then_expr,
+        else_expr,
+    };
+    node(alloc, loc, ty, kind)
 }
 
 fn same_type(ty: &Option<CedarType>) -> Result<Option<CedarType>, AllocError>

@@ -10,15 +10,16 @@ ghost use Rattle.cedar_typing.specs.Views.{env_at, answer_of, findings, at};
 
 use crate::typecheck::answer::TypecheckAnswer;
 use crate::typecheck::type_env::TypeEnv;
-use crate::typecheck::typed_nodes::without_capabilities;
+use crate::typecheck::typed_nodes::{node, without_capabilities};
 use cedar_types::base::{
-    BoolType, CedarType, EntityKind, EntityType, EntityUID, Expr, ExprKind, Literal, Loc, Name,
-    SlotId, ValidationError, ValidationMode, Var,
+    BoolType, CedarType, EntityKind, EntityType, EntityUID, ExprKind, Literal, Loc, Name, SlotId,
+    ValidationError, ValidationMode, Var,
 };
 use std::alloc::{AllocError, Global};
 use std::rc::RcStr;
 
 impl TypeEnv<'_, '_, '_, '_> {
+    #[inline(never)]
     pub(crate) fn check_literal<'a>(
         &self,
         loc: Option<Loc>,
@@ -33,14 +34,11 @@ impl TypeEnv<'_, '_, '_, '_> {
         let annotation = self.declared_type_of(literal)?;
         let succeeded = annotation.is_some();
         let kind = ExprKind::Lit(literal.clone()?);
-        let typed = Expr {
-            annotation,
-            loc,
-            kind,
-        };
+        let typed = node(self.alloc, loc, annotation, kind)?;
         Ok(without_capabilities(self.alloc, succeeded, typed))
     }
 
+    #[inline(never)]
     pub(crate) fn type_variable<'a>(
         &self,
         loc: Option<Loc>,
@@ -53,11 +51,7 @@ impl TypeEnv<'_, '_, '_, '_> {
     {
         let annotation = self.type_of_variable(variable)?;
         let succeeded = annotation.is_some();
-        let typed = Expr {
-            annotation,
-            loc,
-            kind: ExprKind::Var(variable),
-        };
+        let typed = node(self.alloc, loc, annotation, ExprKind::Var(variable))?;
         Ok(without_capabilities(self.alloc, succeeded, typed))
     }
 
@@ -73,6 +67,7 @@ impl TypeEnv<'_, '_, '_, '_> {
         }
     }
 
+    #[inline(never)]
     pub(crate) fn type_slot<'a>(
         &self,
         loc: Option<Loc>,
@@ -87,23 +82,19 @@ impl TypeEnv<'_, '_, '_, '_> {
             SlotId::Principal => self.request_env.principal_slot(),
             SlotId::Resource => self.request_env.resource_slot(),
         };
-        let typed = Expr {
-            annotation: Some(linked_type(self.alloc, linked)?),
-            loc,
-            kind: ExprKind::Slot(slot),
-        };
+        let linked = linked_type(self.alloc, linked)?;
+        let typed = node(self.alloc, loc, Some(linked), ExprKind::Slot(slot))?;
         Ok(without_capabilities(self.alloc, true, typed))
     }
 
     /// An unknown has no type, and its typed expression no place.
+    #[inline(never)]
     pub(crate) fn type_unknown<'a>(&self, name: &Name) -> Result<TypecheckAnswer<'a>, AllocError>
         ensures { IfOk result (λ r. answer_of r ≡ infer_unknown (path_of name.now) (at None)) }
     {
-        Ok(TypecheckAnswer::fail(Expr {
-            annotation: None,
-            loc: None,
-            kind: ExprKind::Unknown(name.clone()?),
-        }))
+        let kind = ExprKind::Unknown(name.clone()?);
+        let typed = node(self.alloc, None, None, kind)?;
+        Ok(TypecheckAnswer::fail(typed))
     }
 
     fn declared_type_of(&self, literal: &Literal) -> Result<Option<CedarType>, AllocError>

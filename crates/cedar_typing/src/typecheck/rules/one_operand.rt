@@ -65,24 +65,20 @@ impl OneOperand<'_> {
         loc: Option<Loc>,
         ty: Option<CedarType>,
         operand: Box<Expr<Option<CedarType>>>,
-    ) -> Result<Expr<Option<CedarType>>, AllocError>
+    ) -> Result<Box<Expr<Option<CedarType>>>, AllocError>
         ensures { (env : _) → (prior : _) → (e : _)
-            → IfOk result (λ r. typed_tree r
+            → IfOk result (λ r. typed_tree r.value
             ≡ (form_of_one env (mark_of_one loc self.entry) prior e self.entry).node
             (typed_as (option_map ty_of ty) (form_of_one env (mark_of_one loc self.entry) prior e self.entry).at)
             (typed_tree operand.value ∷ [])) }
     {
         match self {
-            OneOperand::Unary(UnaryOp::Not) => Ok(unary_node(loc, ty, UnaryOp::Not, operand)),
-            OneOperand::Unary(UnaryOp::Neg) => Ok(unary_node(loc, ty, UnaryOp::Neg, operand)),
-            OneOperand::Unary(UnaryOp::IsEmpty) => {
-                Ok(unary_node(loc, ty, UnaryOp::IsEmpty, operand))
-            }
-            OneOperand::Has(attr) => has_node(loc, ty, operand, attr),
-            OneOperand::Get(attr) => get_node(loc, ty, operand, attr),
+            OneOperand::Unary(op) => unary_node(alloc, loc, ty, op, operand),
+            OneOperand::Has(attr) => has_node(alloc, loc, ty, operand, attr),
+            OneOperand::Get(attr) => get_node(alloc, loc, ty, operand, attr),
             OneOperand::Like(pattern) => like_node(alloc, loc, ty, operand, pattern),
-            OneOperand::Is(entity_type) => is_node(loc, ty, operand, entity_type),
-            OneOperand::Chain(chain) => chain_node(loc, ty, operand, chain),
+            OneOperand::Is(entity_type) => is_node(alloc, loc, ty, operand, entity_type),
+            OneOperand::Chain(chain) => chain_node(alloc, loc, ty, operand, chain),
         }
     }
 }
@@ -90,6 +86,7 @@ impl OneOperand<'_> {
 impl<C: ArgumentCheck> SingleEnvTypechecker<'_, '_, '_, '_, C> {
     /// A form with one operand, at `loc`.
     #[cycle(typing)]
+    #[inline(never)]
     pub(crate) fn type_one_operand<'a>(
         &self,
         prior: &Prior<'_, 'a>,
@@ -119,6 +116,7 @@ impl<C: ArgumentCheck> SingleEnvTypechecker<'_, '_, '_, '_, C> {
 
 impl TypeEnv<'_, '_, '_, '_> {
     /// A form with one operand, at `loc`, where the operand is typed.
+    #[inline(never)]
     fn one_answer<'a>(
         &self,
         prior: &Prior<'_, 'a>,

@@ -42,6 +42,7 @@ impl OperandList {
 
     /// One more operand, which is too deep where it has no part. After such a one no copy is kept:
     /// the whole has none.
+    #[inline(never)]
     fn with(self, operand: Option<Part<'_>>) -> Result<OperandList, AllocError>
         ensures { IfOk result (λ r. operands_of r
             ≡ with_element (operands_of self) (option_map part_of operand.entry)) }

@@ -17,7 +17,7 @@ use crate::typecheck::answer::TypecheckAnswer;
 use crate::typecheck::prior::Prior;
 use crate::typecheck::single_env::SingleEnvTypechecker;
 use crate::typecheck::type_env::TypeEnv;
-use crate::typecheck::typed_nodes::without_capabilities;
+use crate::typecheck::typed_nodes::{node, without_capabilities};
 use cedar_types::base::{
     ArgumentCheck, AttributeType, Attributes, CedarType, Expr, ExprKind, Loc, OpenTag,
     ValidationError,
@@ -40,6 +40,7 @@ pub(crate) struct FieldValues {
 impl<C: ArgumentCheck> SingleEnvTypechecker<'_, '_, '_, '_, C> {
     /// A record, at `loc`.
     #[cycle(typing)]
+    #[inline(never)]
     pub(crate) fn type_record<'a>(
         &self,
         prior: &Prior<'_, 'a>,
@@ -83,8 +84,7 @@ impl<C: ArgumentCheck> SingleEnvTypechecker<'_, '_, '_, '_, C> {
         let mut succeeded = true;
         for (key, value) in fields.iter() {
             let answer = self.typecheck(prior, depth + 1, value, errors)?;
-            let part = answer.into_part(self.env.alloc)?;
-            let Some(part) = part else {
+            let Some(part) = answer.into_part(self.env.alloc) else {
                 return Ok(FieldValues {
                     typed,
                     succeeded,
@@ -104,6 +104,7 @@ impl<C: ArgumentCheck> SingleEnvTypechecker<'_, '_, '_, '_, C> {
 
 impl TypeEnv<'_, '_, '_, '_> {
     /// A record at `loc`, where the values of its fields are typed. It adds no error.
+    #[inline(never)]
     fn record_answer<'a>(
         &self,
         loc: Option<Loc>,
@@ -138,10 +139,13 @@ fn typed_record<'a>(
 {
     match record_type(alloc, &fields)? {
         Some(ty) => {
-            let typed = record_node(loc, Some(ty), fields);
+            let typed = record_node(alloc, loc, Some(ty), fields)?;
             Ok(without_capabilities(alloc, succeeded, typed))
         }
-        None => Ok(TypecheckAnswer::fail(record_node(loc, None, fields))),
+        None => {
+            let typed = record_node(alloc, loc, None, fields)?;
+            Ok(TypecheckAnswer::fail(typed))
+        }
     }
 }
 
@@ -173,17 +177,14 @@ fn record_type(
 }
 
 fn record_node(
+    alloc: Global,
     loc: Option<Loc>,
     ty: Option<CedarType>,
     fields: BTreeMap<RcStr, Expr<Option<CedarType>>>,
-) -> Expr<Option<CedarType>>
-    ensures { typed_tree result
+) -> Result<Box<Expr<Option<CedarType>>>, AllocError>
+    ensures { IfOk result (λ e. typed_tree e.value
         ≡ record_of (typed_as (option_map ty_of ty) (at loc))
-        (fields_from (keys_in fields.entries) (trees_in fields.entries)) }
+        (fields_from (keys_in fields.entries) (trees_in fields.entries))) }
 {
-    Expr {
-        annotation: ty,
-        loc,
-        kind: ExprKind::Record(fields),
-    }
+    node(alloc, loc, ty, ExprKind::Record(fields))
 }

@@ -8,29 +8,59 @@ ghost use Rattle.cedar_types.specs.TypeOrder.{in_order};
 ghost use Rattle.cedar_types.specs.Types.{ty_of};
 ghost use Rattle.cedar_types.specs.View.{trees_of, written};
 ghost use Rattle.cedar_typing.specs.Eager.{types_found};
-ghost use Rattle.cedar_typing.specs.Infer.{infer_all};
+ghost use Rattle.cedar_typing.specs.Infer.{infer_all, infer_within};
 ghost use Rattle.cedar_typing.specs.Infer.Eager.{all_typed, infer_decided, infer_form};
 ghost use Rattle.cedar_typing.specs.Judgments.{max_nesting};
 ghost use Rattle.cedar_typing.specs.Rules.Collections.{all_types, errors_of, set_decides, set_form, set_of_types};
+ghost use Rattle.cedar_typing.specs.Priors.{known_in};
+ghost use Rattle.cedar_typing.specs.SettingViews.{setting_at};
 ghost use Rattle.cedar_typing.specs.TypeEnv.{finding};
 ghost use Rattle.cedar_typing.specs.TypedExpr.{typed_as, typed_tree};
 ghost use Rattle.cedar_typing.specs.Views.{answer_of, at, decision_of, env_at, findings, operands_of, part_of, with_element};
 
 use crate::typecheck::answer::{Part, TypecheckAnswer};
 use crate::typecheck::capabilities::no_capabilities;
+use crate::typecheck::prior::Prior;
 use crate::typecheck::rules::eager::{Decision, add_errors};
 use crate::typecheck::rules::operand_list::OperandList;
+use crate::typecheck::single_env::SingleEnvTypechecker;
 use crate::typecheck::type_env::TypeEnv;
-use crate::typecheck::typed_nodes::with_capabilities;
+use crate::typecheck::typed_nodes::{node, with_capabilities};
 use cedar_types::base::{
-    CedarType, Expr, ExprKind, Loc, LubContext, ValidationError, types_in_order,
+    ArgumentCheck, CedarType, Expr, ExprKind, Loc, LubContext, ValidationError, types_in_order,
 };
 use cedar_types::types::capability::CapabilitySet;
 use std::alloc::{AllocError, Global};
 use std::rc::Rc;
 
+impl<C: ArgumentCheck> SingleEnvTypechecker<'_, '_, '_, '_, C> {
+    /// A set, at `loc`.
+    #[cycle(typing)]
+    #[inline(never)]
+    pub(crate) fn type_set<'a>(
+        &self,
+        prior: &Prior<'_, 'a>,
+        depth: usize,
+        loc: Option<Loc>,
+        elements: &'a Vec<Expr>,
+        errors: &mut Vec<ValidationError>,
+    ) -> Result<TypecheckAnswer<'a>, AllocError>
+        requires { depth ≤ max_nesting }
+        ensures { IfOk result (λ r.
+            infer_within (setting_at C.refusal self.now)
+            (set_of (at loc) (trees_of (map written elements.now.items)))
+            (known_in prior.now) depth (findings errors.old.items)
+            ≡ (answer_of r, findings errors.new.items)) }
+    {
+        let typed = self.type_operands(prior, depth, true, &[], elements, errors)?;
+        let answer = self.env.set_answer(loc, typed, errors)?;
+        Ok(answer)
+    }
+}
+
 impl TypeEnv<'_, '_, '_, '_> {
     /// A set at `loc`, where the elements are typed.
+    #[inline(never)]
     pub(crate) fn set_answer<'a>(
         &self,
         loc: Option<Loc>,
@@ -66,11 +96,11 @@ impl TypeEnv<'_, '_, '_, '_> {
     {
         match self.decide_set(loc, &elements)? {
             Decision::Gives(ty, capabilities) => {
-                let typed = set_node(loc, Some(ty), elements);
+                let typed = set_node(self.alloc, loc, Some(ty), elements)?;
                 Ok(with_capabilities(succeeded, typed, capabilities))
             }
             Decision::Refuses(ty, found) => {
-                let typed = set_node(loc, ty, elements);
+                let typed = set_node(self.alloc, loc, ty, elements)?;
                 add_errors(errors, found)?;
                 Ok(TypecheckAnswer::fail(typed))
             }
@@ -154,18 +184,16 @@ impl TypeEnv<'_, '_, '_, '_> {
 }
 
 fn set_node(
+    alloc: Global,
     loc: Option<Loc>,
     ty: Option<CedarType>,
     elements: Vec<Expr<Option<CedarType>>>,
-) -> Expr<Option<CedarType>>
-    ensures { typed_tree result
-        ≡ set_of (typed_as (option_map ty_of ty) (at loc)) (trees_of (map typed_tree elements.items)) }
+) -> Result<Box<Expr<Option<CedarType>>>, AllocError>
+    ensures { IfOk result (λ e. typed_tree e.value
+        ≡ set_of (typed_as (option_map ty_of ty) (at loc))
+        (trees_of (map typed_tree elements.items))) }
 {
-    Expr {
-        annotation: ty,
-        loc,
-        kind: ExprKind::Set(elements),
-    }
+    node(alloc, loc, ty, ExprKind::Set(elements))
 }
 
 /// The types of the elements, if none is missing.

@@ -20,7 +20,7 @@ use crate::typecheck::prior::Prior;
 use crate::typecheck::single_env::SingleEnvTypechecker;
 use crate::typecheck::type_env::TypeEnv;
 use crate::typecheck::type_tests::{any_bool, is_false_type, is_true_type};
-use crate::typecheck::typed_nodes::{at_place, with_capabilities};
+use crate::typecheck::typed_nodes::{at_place, node, with_capabilities};
 use cedar_types::base::{ArgumentCheck, CedarType, Expr, ExprKind, Loc, ValidationError};
 use cedar_types::types::capability::CapabilitySet;
 use std::alloc::{AllocError, Global};
@@ -141,30 +141,28 @@ impl Connective {
 
     fn node(
         self,
+        alloc: Global,
         loc: Option<Loc>,
         ty: CedarType,
         left: Box<Expr<Option<CedarType>>>,
         right: Box<Expr<Option<CedarType>>>,
-    ) -> Expr<Option<CedarType>>
-        ensures { typed_tree result
+    ) -> Result<Box<Expr<Option<CedarType>>>, AllocError>
+        ensures { IfOk result (λ e. typed_tree e.value
             ≡ (connective_of self).node (typed (ty_of ty) (at loc)) (typed_tree left.value)
-            (typed_tree right.value) }
+            (typed_tree right.value)) }
     {
         let kind = match self {
             Connective::And => ExprKind::And(left, right),
             Connective::Or => ExprKind::Or(left, right),
         };
-        Expr {
-            annotation: Some(ty),
-            loc,
-            kind,
-        }
+        node(alloc, loc, Some(ty), kind)
     }
 }
 
 impl<C: ArgumentCheck> SingleEnvTypechecker<'_, '_, '_, '_, C> {
     /// `&&` or `||` at `loc`.
     #[cycle(typing)]
+    #[inline(never)]
     pub(crate) fn type_short_circuit<'a>(
         &self,
         prior: &Prior<'_, 'a>,
@@ -199,6 +197,7 @@ impl<C: ArgumentCheck> SingleEnvTypechecker<'_, '_, '_, '_, C> {
 
 impl TypeEnv<'_, '_, '_, '_> {
     /// The left side, which ends the whole, at the place of the whole.
+    #[inline(never)]
     fn ended_answer<'a>(
         &self,
         loc: Option<Loc>,
@@ -210,13 +209,14 @@ impl TypeEnv<'_, '_, '_, '_> {
             ((connective_of connective).ended_caps (caps left.entry.capabilities)) }
     {
         let succeeded = left.succeeded;
-        let typed = at_place(Box::into_inner(left.typed), loc);
+        let typed = at_place(left.typed, loc);
         let capabilities = connective.ended_capabilities(self.alloc, left.capabilities);
         with_capabilities(succeeded, typed, capabilities)
     }
 
     /// `&&` or `||` at `loc` of two typed sides, the left of which does not end the whole.
     #[tactic(auto, using(crate::proofs::TypedViews::annotation_is))]
+    #[inline(never)]
     fn sides_answer<'a>(
         &self,
         loc: Option<Loc>,
@@ -240,12 +240,12 @@ impl TypeEnv<'_, '_, '_, '_> {
                     right.capabilities,
                 )?;
                 let succeeded = left.succeeded & right.succeeded;
-                let typed = connective.node(loc, ty, left.typed, right.typed);
+                let typed = connective.node(self.alloc, loc, ty, left.typed, right.typed)?;
                 Ok(with_capabilities(succeeded, typed, produced))
             }
             _ => {
                 let ty = any_bool();
-                let typed = connective.node(loc, ty, left.typed, right.typed);
+                let typed = connective.node(self.alloc, loc, ty, left.typed, right.typed)?;
                 Ok(TypecheckAnswer::fail(typed))
             }
         }

@@ -156,6 +156,7 @@ impl TwoOperands {
 impl<C: ArgumentCheck> SingleEnvTypechecker<'_, '_, '_, '_, C> {
     /// A form with two operands, at `loc`.
     #[cycle(typing)]
+    #[inline(never)]
     pub(crate) fn type_two_operands<'a>(
         &self,
         prior: &Prior<'_, 'a>,
@@ -221,6 +222,7 @@ impl TypeEnv<'_, '_, '_, '_> {
         Ok(answer)
     }
 
+    #[inline(never)]
     fn two_parts_answer<'a>(
         &self,
         prior: &Prior<'_, 'a>,
@@ -244,12 +246,19 @@ impl TypeEnv<'_, '_, '_, '_> {
         match self.decide_two(prior, loc, form, operands, found, &other.typed.annotation)? {
             Decision::Gives(ty, capabilities) => {
                 let ty = form.type_given(succeeded, ty);
-                let typed = binary_node(loc, Some(ty), form.op(), one.typed, other.typed);
+                let typed = binary_node(
+                    self.alloc,
+                    loc,
+                    Some(ty),
+                    form.op(),
+                    one.typed,
+                    other.typed,
+                )?;
                 Ok(with_capabilities(succeeded, typed, capabilities))
             }
             Decision::Refuses(ty, found) => {
                 add_errors(errors, found)?;
-                let typed = binary_node(loc, ty, form.op(), one.typed, other.typed);
+                let typed = binary_node(self.alloc, loc, ty, form.op(), one.typed, other.typed)?;
                 Ok(TypecheckAnswer::fail(typed))
             }
         }

@@ -11,6 +11,7 @@ ghost use Rattle.cedar_typing.specs.Views.{at, decision_of};
 use crate::typecheck::capabilities::no_capabilities;
 use crate::typecheck::rules::eager::{Decision, gives};
 use crate::typecheck::type_tests::{any_bool, is_false_type, is_true_type};
+use crate::typecheck::typed_nodes::node;
 use cedar_types::base::{
     BoolType, CedarType, EntityKind, EntityLUB, EntityType, Expr, ExprKind, Loc, PatternElem,
     UnaryOp,
@@ -41,19 +42,16 @@ fn not_type_of(found: &CedarType) -> CedarType
 }
 
 pub(crate) fn unary_node(
+    alloc: Global,
     loc: Option<Loc>,
     ty: Option<CedarType>,
     op: UnaryOp,
     operand: Box<Expr<Option<CedarType>>>,
-) -> Expr<Option<CedarType>>
-    ensures { typed_tree result
-        ≡ unary (typed_as (option_map ty_of ty) (at loc)) op (typed_tree operand.value) }
+) -> Result<Box<Expr<Option<CedarType>>>, AllocError>
+    ensures { IfOk result (λ e. typed_tree e.value
+        ≡ unary (typed_as (option_map ty_of ty) (at loc)) op (typed_tree operand.value)) }
 {
-    Expr {
-        annotation: ty,
-        loc,
-        kind: ExprKind::UnaryApp(op, operand),
-    }
+    node(alloc, loc, ty, ExprKind::UnaryApp(op, operand))
 }
 
 pub(crate) fn like_node(
@@ -62,17 +60,13 @@ pub(crate) fn like_node(
     ty: Option<CedarType>,
     operand: Box<Expr<Option<CedarType>>>,
     pattern: &Vec<PatternElem>,
-) -> Result<Expr<Option<CedarType>>, AllocError>
-    ensures { IfOk result (λ e. typed_tree e
+) -> Result<Box<Expr<Option<CedarType>>>, AllocError>
+    ensures { IfOk result (λ e. typed_tree e.value
         ≡ like (typed_as (option_map ty_of ty) (at loc)) (typed_tree operand.value)
         pattern.now.items) }
 {
     let pattern = Vec::from_slice(alloc, pattern)?;
-    Ok(Expr {
-        annotation: ty,
-        loc,
-        kind: ExprKind::Like(operand, pattern),
-    })
+    node(alloc, loc, ty, ExprKind::Like(operand, pattern))
 }
 
 /// The type of `is` by that of its operand. Of Never it fails, without an error.
@@ -119,20 +113,17 @@ fn is_type_among(entity_type: &EntityType, types: &EntityLUB) -> CedarType
 }
 
 pub(crate) fn is_node(
+    alloc: Global,
     loc: Option<Loc>,
     ty: Option<CedarType>,
     operand: Box<Expr<Option<CedarType>>>,
     entity_type: &EntityType,
-) -> Result<Expr<Option<CedarType>>, AllocError>
-    ensures { IfOk result (λ e. typed_tree e
+) -> Result<Box<Expr<Option<CedarType>>>, AllocError>
+    ensures { IfOk result (λ e. typed_tree e.value
         ≡ is_type
         (typed_as (option_map ty_of ty) (record { place = loc; names = of_type entity_type.now.loc }))
         (typed_tree operand.value) (type_of entity_type.now)) }
 {
     let entity_type = entity_type.clone()?;
-    Ok(Expr {
-        annotation: ty,
-        loc,
-        kind: ExprKind::Is(operand, entity_type),
-    })
+    node(alloc, loc, ty, ExprKind::Is(operand, entity_type))
 }

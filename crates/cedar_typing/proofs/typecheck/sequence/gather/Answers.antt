@@ -9,12 +9,12 @@ use Rattle.cedar_typing.proofs.typecheck.sequence.gather.Goals.{in-None, in-Some
 pub loop-answer-preserved : goal.loop-answer-preserved
 loop-answer-preserved g c =
     let k = c.loop-answer.invariant in
-    let more = one_more c.in_ok-answer.field-0 c.in-Some-into_handed.part c.in-Some-into_handed.ensures in
+    let more = one_more c.in_ok-answer.field-0 c.in-Some-into_part.part c.in-Some-into_part.ensures.handed in
     rw c.in_ok-answer.was
     record {
       no_limit = k.no_limit;
       hand_on = all_more c.loop-answer.yielded _ k.hand_on more.hands_on;
-      handed = subst (AreHanded (c.loop-answer.yielded ++ Ok c.in_ok-answer.field-0 ∷ [])) {x = c.loop-answer.handed.items ++ (c.in-Some-into_handed.part.typed, c.in-Some-into_handed.part.capabilities) ∷ []} {y = c.push.new.self.items} (sym c.in_ok-push.ensures.items) (handed_more c.loop-answer.yielded _ _ _ k.handed more.handed);
+      handed = subst (AreHanded (c.loop-answer.yielded ++ Ok c.in_ok-answer.field-0 ∷ [])) {x = c.loop-answer.handed.items ++ (c.in-Some-into_part.part.typed, c.in-Some-into_part.part.capabilities) ∷ []} {y = c.push.new.self.items} (sym c.in_ok-push.ensures.items) (handed_more c.loop-answer.yielded _ _ _ k.handed more.handed);
       succeeded = (λ i. k.succeeded i && sym more.succeeded i) ∙ sym (none_more c.loop-answer.yielded _);
     }
 
@@ -25,6 +25,6 @@ returns g c =
     elim c.match-next.branch [
       | in-None w ↦ drained _ _ _ _ _ _ y w.in-None.ensures.steps k.hand_on k.handed (w.is_limit-is ∙ k.no_limit) k.succeeded
       | in-Some+in_ok-answer+in_default w ↦
-          let e = w.in_ok-answer.was ∙ ap Ok (is_limit w.in_ok-answer.field-0 (subst (HandsOn w.in_ok-answer.field-0) w.in_default.is w.into_handed.ensures)) in
+          let e = w.in_ok-answer.was ∙ ap Ok (is_limit w.in_ok-answer.field-0 (subst (HandsOn w.in_ok-answer.field-0) w.in_default.is w.into_part.ensures.handed)) in
           cut _ _ _ _ _ _ _ y w.in-Some.ensures.steps e k.hand_on k.handed w.is_limit-is k.succeeded
     ]

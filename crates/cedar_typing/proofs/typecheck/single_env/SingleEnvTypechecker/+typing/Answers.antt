@@ -20,7 +20,7 @@ use Rattle.cedar_typing.specs.Eager.{Form}
 use Rattle.cedar_typing.specs.Infer.Eager.{expect_operand, infer_form, infer_two_operands}
 use Rattle.cedar_typing.specs.Rules.Calls.{expected_arguments}
 use Rattle.cedar_typing.specs.Rules.Collections.{field_keys, record_form}
-use Rattle.cedar_typing.proofs.CallTyping.{written_call, call_inferred}
+use Rattle.cedar_typing.proofs.CallTyping.{written_call, written_set, call_inferred}
 use Rattle.cedar_typing.proofs.Agreement.Induction.{below_limit, infer_as}
 use Rattle.cedar_typing.proofs.Elements.{next_item}
 use Rattle.cedar_typing.proofs.OperandLists.{resumed, all_inferred, one_operand, last_operand, goes_further, goes_no_further}
@@ -200,21 +200,26 @@ type_operands-returns-then-is_none-goes_on g t c =
     ∙ last_operand s b ts prior d before _ x (drop (i + 1) items) es _ _ typed
     (goes_no_further c.is_none.result b c.in_ok-part.part c.is_none.ensures c.if-is_none-goes_on.true) c.in_ok-cut.ensures
 
-pub typecheck-returns-in_ok-answer-in-ExtensionFunctionApp : goal.typecheck-returns-in_ok-answer-in-ExtensionFunctionApp
-typecheck-returns-in_ok-answer-in-ExtensionFunctionApp g t c =
+pub typecheck-returns-in-ExtensionFunctionApp : goal.typecheck-returns-in-ExtensionFunctionApp
+typecheck-returns-in-ExtensionFunctionApp g t c =
+    let tree = written_call c.args.e.now c.in-ExtensionFunctionApp.name c.in-ExtensionFunctionApp.arguments c.in-ExtensionFunctionApp.is in
+    let P : AnswerAndErrors → Type 0 = λ z. IfOk c.type_call.result (λ r. z ≡ (answer_of r, findings c.type_call.new.errors.items)) in
+    infer_as P (setting_at g.C.ArgumentCheck.refusal c.args.self.now) (known_in c.args.prior.now) c.args.depth (findings c.args.errors.now.items) c.if-depth-gt-MAX_NESTING.false tree c.type_call.ensures
+
+pub type_call-returns : goal.type_call-returns
+type_call-returns g t c =
     let s = setting_at g.C.ArgumentCheck.refusal c.args.self.now in
-    let prior = known_in c.args.prior.now in
-    let d = c.args.depth in
-    let es = findings c.args.errors.now.items in
-    let m = at c.args.e.now.loc in
-    let name = c.in-ExtensionFunctionApp.name in
-    let xs = map written c.in-ExtensionFunctionApp.arguments.items in
-    let call = c.in_ok-call-in-ExtensionFunctionApp.call in
-    let known = subst (λ ys. IsCallOf s c.args.e.now.loc (path_of name) (map written ys) call) c.deref-in-ExtensionFunctionApp.ensures.value c.in_ok-call-in-ExtensionFunctionApp.ensures in
-    below_limit d es _ c.if-depth-gt-MAX_NESTING.false
-    ∙ ap (λ e. infer_within s e prior d es) (written_call c.args.e.now name c.in-ExtensionFunctionApp.arguments c.in-ExtensionFunctionApp.is)
-    ∙ call_inferred s m (path_of name) xs prior d es _ call _ known c.in_ok-typed-in-ExtensionFunctionApp.ensures
-    ∙ c.in_ok-answer-in-ExtensionFunctionApp.ensures (expected_arguments (map ty_of call.argument_types.now) xs)
+    let xs = map written c.args.arguments.now.items in
+    let call = c.in_ok-call.call in
+    let known = subst (λ ys. IsCallOf s c.args.loc (path_of c.args.name.now) (map written ys) call) c.deref.ensures.value c.in_ok-call.ensures in
+    call_inferred s (at c.args.loc) (path_of c.args.name.now) xs (known_in c.args.prior.now) c.args.depth (findings c.args.errors.now.items) _ call _ known c.in_ok-typed.ensures
+    ∙ c.in_ok-answer.ensures (expected_arguments (map ty_of call.argument_types.now) xs)
+
+pub typecheck-returns-in-Set : goal.typecheck-returns-in-Set
+typecheck-returns-in-Set g t c =
+    let tree = written_set c.args.e.now c.in-Set.elements c.in-Set.is in
+    let P : AnswerAndErrors → Type 0 = λ z. IfOk c.type_set.result (λ r. z ≡ (answer_of r, findings c.type_set.new.errors.items)) in
+    infer_as P (setting_at g.C.ArgumentCheck.refusal c.args.self.now) (known_in c.args.prior.now) c.args.depth (findings c.args.errors.now.items) c.if-depth-gt-MAX_NESTING.false tree c.type_set.ensures
 
 pub typecheck-returns-in-Record : goal.typecheck-returns-in-Record
 typecheck-returns-in-Record g t c =
@@ -246,7 +251,7 @@ type_fields-loop-key-preserved g t c =
     let all : c.args.fields.now.entries ≡ done ++ e ∷ left = l.invariant.1 ∙ ap (λ es. done ++ es) c.in-Some.ensures.steps in
     let named : text_of key ≡ text_of e.0 = c.in_ok-clone.ensures.cases in
     let above = key_is_last l.typed.entries done e left key l.invariant.2 named (subst (λ es. IsStrictlySortedBy key_cmp (keys_of es)) all c.iter-key-items.ensures.ordered) in
-    let p = c.in-Some-part.part in
+    let p = c.in-Some-into_part.part in
     let x = c.into_inner.result in
     let inner : trees_in ((key, x) ∷ []) ≡ (part_of p).tree ∷ [] = ap (λ y. typed_tree y ∷ []) c.into_inner.ensures in
     let es = findings l.errors.items in
@@ -256,7 +261,7 @@ type_fields-loop-key-preserved g t c =
       all ∙ sym (append_assoc done (e ∷ []) left),
       ap keys_in entries ∙ keys_with_last l.typed.entries done e key _ l.invariant.2 named,
       ap (λ zs. finish (p.succeeded && l.succeeded) zs (infer_fields s (fields_written left) prior d es')) (ap trees_in entries ∙ trees_append l.typed.entries ((key, x) ∷ []) ∙ ap (λ ts. trees_in l.typed.entries ++ ts) inner)
-          ∙ sym (goes_on s prior d (text_of e.0) (written e.1) (fields_written left) l.succeeded (trees_in l.typed.entries) es es' _ (part_of p) c.in_ok-answer.ensures (sym c.in_ok-part.ensures ∙ ap (option_map part_of) c.in-Some-part.is))
+          ∙ sym (goes_on s prior d (text_of e.0) (written e.1) (fields_written left) l.succeeded (trees_in l.typed.entries) es es' _ (part_of p) c.in_ok-answer.ensures (sym c.into_part.ensures.seen ∙ ap (option_map part_of) c.in-Some-into_part.is))
           ∙ ap (λ rest. finish l.succeeded (trees_in l.typed.entries) (infer_fields s (fields_written rest) prior d es)) (sym c.in-Some.ensures.steps)
           ∙ l.invariant.3,
     )

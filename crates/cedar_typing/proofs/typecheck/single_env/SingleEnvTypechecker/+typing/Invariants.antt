@@ -28,7 +28,13 @@ abbrev pub decreases-type_two_operands : goal.decreases-type_two_operands
 decreases-type_two_operands g l = 3 * (401 - l.depth) + 2
 
 abbrev pub decreases-type_operands : goal.decreases-type_operands
-decreases-type_operands g l = 3 * (401 - l.depth) + 2
+decreases-type_operands g l = 3 * (401 - l.depth) + 1
+
+abbrev pub decreases-type_call : goal.decreases-type_call
+decreases-type_call g l = 3 * (401 - l.depth) + 2
+
+abbrev pub decreases-type_set : goal.decreases-type_set
+decreases-type_set g l = 3 * (401 - l.depth) + 2
 
 -- the operands so far, before what those that are left result in, are what all result in
 abbrev pub invariant-type_operands-loop-operand : goal.invariant-type_operands-loop-operand

@@ -1,0 +1,74 @@
+#!/usr/bin/env python3
+"""How much stack it takes to type a condition at the limit of nesting: scripts/stack.py [PROGRAM].
+
+PROGRAM is cedar_cases, by default the one that rt ci built. Each condition has a part at depth 400: a line of operands, each
+in the one after it, a chain of accesses, and negations. Printed is the least stack that the whole run ends well in, reading
+and dropping of the policy included, found by halves. A line passes where that is at most 2 MiB, which a thread has by default.
+The last line counts the lines that pass and those that do not. It is no part of the gate.
+"""
+import resource
+import subprocess
+import sys
+import tempfile
+from pathlib import Path
+
+from benchmark import PROGRAM
+
+LIMIT = 2048
+STEP = 16
+DEPTH = 396
+SCHEMA = "entity P { again: P, on: Bool };\nentity R;\naction go appliesTo { principal: [P], resource: [R], context: { } };\n"
+CONDITIONS = {
+    "and": " && ".join(["principal.on"] * DEPTH),
+    "or": " || ".join(["principal.on"] * DEPTH),
+    "sum": " + ".join(["1"] * DEPTH) + " == 1",
+    "access": "principal" + ".again" * DEPTH + ".on",
+    "negation": "!" * DEPTH + "principal.on",
+}
+
+
+def ends_well(program, room, stack):
+    """Whether the program ends with status 0 within so many KiB of stack."""
+    def limit():
+        resource.setrlimit(resource.RLIMIT_STACK, (stack * 1024, stack * 1024))
+        resource.setrlimit(resource.RLIMIT_CORE, (0, 0))
+
+    done = subprocess.run([str(program), "case.tsv"], cwd=room, stdin=subprocess.DEVNULL, capture_output=True, preexec_fn=limit)
+    return done.returncode == 0
+
+
+def least(program, room):
+    """The least stack in KiB, in steps, that is enough; none where none up to 64 MiB is."""
+    low, high = 0, 65536
+    if not ends_well(program, room, high):
+        return None
+    while high - low > STEP:
+        middle = (low + high) // 2
+        if ends_well(program, room, middle):
+            high = middle
+        else:
+            low = middle
+    return high
+
+
+def main(words):
+    program = Path(words[0]).resolve() if words else PROGRAM
+    if not program.is_file():
+        sys.exit(f"there is no program {program}: rt ci builds it")
+    passed = failed = 0
+    with tempfile.TemporaryDirectory() as room:
+        Path(room, "schema.txt").write_text(SCHEMA, encoding="utf8")
+        for name, condition in CONDITIONS.items():
+            rows = ["schema\tschema.txt", "policy\tstrict policy"]
+            rows += [f"permit(principal, action, resource) when {{ {condition} }};\ttrue"]
+            Path(room, "case.tsv").write_text("\n".join(rows) + "\n", encoding="utf8")
+            stack = least(program, room)
+            print(f"{name} at the limit: {stack} KiB" if stack else f"{name}: it does not end well", flush=True)
+            passed += stack is not None and stack <= LIMIT
+            failed += stack is None or stack > LIMIT
+    print(f"{passed} passed, {failed} failed")
+    return 1 if failed else 0
+
+
+if __name__ == "__main__":
+    sys.exit(main(sys.argv[1:]))
