@@ -234,11 +234,12 @@ fn fields(cursor: &mut Cursor<'_>, left: usize) -> Result<BTreeMap<RcStr, Expr>,
         if cursor.takes("}") {
             break;
         }
+        let start = cursor.start();
         let key = key(cursor)?;
         cursor.expect(":")?;
         let value = expression(cursor, left)?.expr;
         if entries.insert(key, value)?.is_some() {
-            return Err(cursor.fault(Fault::SameKey));
+            return Err(ReadError::At(start, Fault::SameKey));
         }
         if !cursor.takes(",") {
             cursor.expect("}")?;

@@ -24,6 +24,9 @@ pub enum Fault {
     SameName,
     #[error("a name that is not declared")]
     Undeclared,
+    /// More entity types or actions are in others, over any number of steps, than a schema may have.
+    #[error("too many descendants")]
+    TooMany,
     /// This word or mark should stand here.
     #[error("{0} is expected")]
     Missing(&'static str),
@@ -33,9 +36,11 @@ pub enum Fault {
 }
 
 /// Why a text cannot be read: its first fault, and at which byte it stands; or memory was refused.
-#[derive(Debug, Drop)]
+#[derive(Debug, Drop, Error)]
 pub enum ReadError {
+    #[error("memory was refused")]
     Memory(AllocError),
+    #[error("at byte {0}: {1}")]
     At(usize, Fault),
 }
 

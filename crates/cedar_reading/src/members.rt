@@ -1,5 +1,5 @@
 // The forms of expressions that have no grammar of their own.
-use crate::cursor::Cursor;
+use crate::cursor::{Cursor, MAX_NESTING};
 use crate::faults::{Fault, ReadError};
 use crate::names::{placed_name, uid_of};
 use crate::operators::method;
@@ -93,17 +93,24 @@ pub fn key(cursor: &mut Cursor<'_>) -> Result<RcStr, ReadError> {
 pub fn has(cursor: &mut Cursor<'_>, base: Expr) -> Result<Expr, ReadError> {
     let alloc = cursor.alloc;
     let first = key(cursor)?;
-    let mut rest = Vec::new(alloc);
-    for _ in 0..cursor.most_left() {
-        if !cursor.takes(".") {
-            break;
-        }
-        rest.push(key(cursor)?)?;
-    }
+    let rest = further_attributes(cursor)?;
     if rest.is_empty() {
         return Ok(Expr::has_attr(alloc, base, first.as_str())?);
     }
     Ok(Expr::extended_has_attr(alloc, base, AttrChain { first, rest })?)
+}
+
+/// Reads attributes with a point before each.
+fn further_attributes(cursor: &mut Cursor<'_>) -> Result<Vec<RcStr>, ReadError> {
+    let mut attributes = Vec::new(cursor.alloc);
+    // each is a test of what those before it lead to
+    for _ in 0..MAX_NESTING {
+        if !cursor.takes(".") {
+            return Ok(attributes);
+        }
+        attributes.push(key(cursor)?)?;
+    }
+    Err(cursor.fault(Fault::TooDeep))
 }
 
 /// A call of an extension function, or an unknown.

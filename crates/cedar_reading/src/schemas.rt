@@ -19,13 +19,16 @@ use meanings::Names;
 pub use meanings::Notation;
 pub use refusals::{RefusedName, refused_name};
 use std::alloc::Global;
+use thiserror::Error;
 
 /// Why a text gives no schema.
-#[derive(Debug, Drop)]
+#[derive(Debug, Drop, Error)]
 pub enum SchemaReadError {
     /// It cannot be read.
+    #[error("{0}")]
     Read(ReadError),
     /// It can be read, and what it declares has a fault.
+    #[error("{0}")]
     Refused(SchemaError),
 }
 

@@ -191,7 +191,10 @@ fn part_of_application(
         "context" if read.context.is_none() => {
             cursor.take();
             cursor.expect(":")?;
-            read.context = Some(cedar_type(cursor, names, MAX_NESTING)?);
+            let start = cursor.start();
+            let context = cedar_type(cursor, names, MAX_NESTING)?;
+            names.check_context(&context, start)?;
+            read.context = Some(context);
         }
         _ => return Err(cursor.fault(Fault::Expected("another part of `appliesTo`"))),
     }

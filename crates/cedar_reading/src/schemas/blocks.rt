@@ -69,9 +69,9 @@ fn declaration(
 ) -> Result<(), ReadError> {
     annotations(cursor)?;
     if cursor.takes("entity") {
-        read.entity_types.push(entity_declaration(cursor, names)?)?;
+        read.add_types(entity_declaration(cursor, names)?)?;
     } else if cursor.takes("action") {
-        read.actions.push(action_declaration(cursor, names)?)?;
+        read.add_actions(action_declaration(cursor, names)?)?;
     } else if names.are_as_given() && cursor.takes("external") {
         external(cursor, names, read)?;
     } else if cursor.takes("type") {
@@ -89,10 +89,10 @@ fn external(
     read: &mut Declarations,
 ) -> Result<(), ReadError> {
     if cursor.takes("entity") {
-        read.entity_types.push(external_types(cursor, names)?)?;
+        read.add_types(external_types(cursor, names)?)?;
     } else {
         cursor.expect("action")?;
-        read.actions.push(external_actions(cursor, names)?)?;
+        read.add_actions(external_actions(cursor, names)?)?;
     }
     Ok(())
 }
@@ -112,6 +112,6 @@ fn alias_declaration(
     let start = cursor.start();
     cedar_type(cursor, names, MAX_NESTING)?;
     cursor.expect(";")?;
-    read.aliases.push(Alias { name, start })?;
+    read.add_alias(Alias { name, start })?;
     Ok(())
 }

@@ -1,29 +1,47 @@
 // Declarations as a schema takes them: each name on its own, with its descendants.
+use crate::faults::{Fault, ReadError};
 use crate::schemas::declarations::Declarations;
-use crate::schemas::descendants::descendants_of;
+use crate::schemas::descendants::Family;
 use cedar_types::base::{
     StandardValidatorEntityType, ValidatorActionId, ValidatorActionKind, ValidatorApplySpec,
     ValidatorEntityType, ValidatorEntityTypeKind,
 };
 use std::alloc::{AllocError, Global};
 
-/// The declared entity types.
+/// How many descendants all entity types of a schema may have together, and all actions.
+const MAX_DESCENDANTS: usize = 1 << 20;
+
+/// The declared entity types. It fails where too many are in others.
 pub fn closed_types(
     alloc: Global,
     read: &Declarations,
-) -> Result<Vec<ValidatorEntityType>, AllocError> {
+) -> Result<Vec<ValidatorEntityType>, ReadError> {
     let declared = read.entity_types.as_slice();
+    let family = Family::new(alloc, declared)?;
     let mut types = Vec::new(alloc);
+    let mut count = 0usize;
     for declaration in declared {
         for own in &declaration.names {
+            let descendants = family.descendants_of(declaration, &own.name)?;
+            count = counted(count, descendants.len(), own.start)?;
             types.push(ValidatorEntityType {
                 name: own.name.clone()?,
-                descendants: descendants_of(alloc, declared, declaration, &own.name)?,
+                descendants,
                 kind: copy_of_kind(&declaration.kind)?,
             })?;
         }
     }
     Ok(types)
+}
+
+/// How many descendants there are with these, which are those of the name at this byte. It fails where that is too many.
+fn counted(before: usize, more: usize, start: usize) -> Result<usize, ReadError> {
+    let count = before.saturating_add(more);
+    if count > MAX_DESCENDANTS {
+        Err(ReadError::At(start, Fault::TooMany))
+    } else {
+        Ok(count)
+    }
 }
 
 fn copy_of_kind(kind: &ValidatorEntityTypeKind) -> Result<ValidatorEntityTypeKind, AllocError> {
@@ -39,18 +57,22 @@ fn copy_of_kind(kind: &ValidatorEntityTypeKind) -> Result<ValidatorEntityTypeKin
     }
 }
 
-/// The declared actions.
+/// The declared actions. It fails where too many are in others.
 pub fn closed_actions(
     alloc: Global,
     read: &Declarations,
-) -> Result<Vec<ValidatorActionId>, AllocError> {
+) -> Result<Vec<ValidatorActionId>, ReadError> {
     let declared = read.actions.as_slice();
+    let family = Family::new(alloc, declared)?;
     let mut actions = Vec::new(alloc);
+    let mut count = 0usize;
     for declaration in declared {
         for own in &declaration.names {
+            let descendants = family.descendants_of(declaration, &own.name)?;
+            count = counted(count, descendants.len(), own.start)?;
             actions.push(ValidatorActionId {
                 name: own.name.clone()?,
-                descendants: descendants_of(alloc, declared, declaration, &own.name)?,
+                descendants,
                 kind: copy_of_action_kind(&declaration.kind)?,
             })?;
         }

@@ -3,7 +3,8 @@ use crate::faults::{Fault, ReadError};
 use cedar_types::base::{
     EntityType, EntityUID, Name, ValidatorActionKind, ValidatorEntityTypeKind,
 };
-use std::alloc::Global;
+use std::alloc::{AllocError, Global};
+use std::collections::{BTreeMap, BTreeSet};
 
 /// What was read, and the byte at which it stands.
 #[derive(Drop)]
@@ -31,60 +32,100 @@ pub struct Alias {
     pub start: usize,
 }
 
+/// Declarations of entity types.
+pub type TypeDeclaration = Declaration<EntityType, ValidatorEntityTypeKind>;
+
+/// Declarations of actions.
+pub type ActionDeclaration = Declaration<EntityUID, ValidatorActionKind>;
+
 /// What a text declares, in its order.
 #[derive(Drop)]
 pub struct Declarations {
-    pub aliases: Vec<Alias>,
-    pub entity_types: Vec<Declaration<EntityType, ValidatorEntityTypeKind>>,
-    pub actions: Vec<Declaration<EntityUID, ValidatorActionKind>>,
+    aliases: BTreeMap<Name, Alias>,
+    pub entity_types: Vec<TypeDeclaration>,
+    pub actions: Vec<ActionDeclaration>,
+    /// The names that all of them declare.
+    type_names: BTreeSet<EntityType>,
+    action_names: BTreeSet<EntityUID>,
 }
 
 impl Declarations {
     /// None so far.
     pub fn new(alloc: Global) -> Declarations {
         Declarations {
-            aliases: Vec::new(alloc),
+            aliases: BTreeMap::new(alloc),
             entity_types: Vec::new(alloc),
             actions: Vec::new(alloc),
+            type_names: BTreeSet::new(alloc),
+            action_names: BTreeSet::new(alloc),
         }
+    }
+
+    /// Adds an alias, in the place of one of its name.
+    pub fn add_alias(&mut self, alias: Alias) -> Result<(), AllocError> {
+        let name = alias.name.clone()?;
+        self.aliases.insert(name, alias)?;
+        Ok(())
+    }
+
+    /// Adds a declaration of entity types.
+    pub fn add_types(&mut self, declaration: TypeDeclaration) -> Result<(), AllocError> {
+        add_names(declaration.names.as_slice(), &mut self.type_names)?;
+        self.entity_types.push(declaration)?;
+        Ok(())
+    }
+
+    /// Adds a declaration of actions.
+    pub fn add_actions(&mut self, declaration: ActionDeclaration) -> Result<(), AllocError> {
+        add_names(declaration.names.as_slice(), &mut self.action_names)?;
+        self.actions.push(declaration)?;
+        Ok(())
     }
 
     /// The alias of this name, if it is declared.
     pub fn alias(&self, name: &Name) -> Option<&Alias> {
-        self.aliases.iter().find(|alias| alias.name == *name)
+        self.aliases.get(name)
     }
 
     /// Whether this entity type is declared.
     pub fn has_type(&self, name: &EntityType) -> bool {
-        is_declared(self.entity_types.as_slice(), name)
+        self.type_names.contains(name)
     }
 
     /// Whether this action is declared.
     pub fn has_action(&self, name: &EntityUID) -> bool {
-        is_declared(self.actions.as_slice(), name)
+        self.action_names.contains(name)
     }
 
     /// Fails where a parent is not declared, with the place of the first.
     pub fn check_parents(&self) -> Result<(), ReadError> {
-        let missing_type = undeclared_parent(self.entity_types.as_slice());
-        match missing_type.or(undeclared_parent(self.actions.as_slice())) {
+        let missing_type = undeclared_parent(self.entity_types.as_slice(), &self.type_names);
+        match missing_type.or(undeclared_parent(self.actions.as_slice(), &self.action_names)) {
             Some(start) => Err(ReadError::At(start, Fault::Undeclared)),
             None => Ok(()),
         }
     }
 }
 
-fn is_declared<N: PartialEq, K>(declared: &[Declaration<N, K>], name: &N) -> bool {
-    declared
-        .iter()
-        .any(|d| d.names.iter().any(|own| own.name == *name))
+/// Adds names to those that are known.
+pub fn add_names<N: Ord + Clone + Drop>(
+    names: &[Placed<N>],
+    known: &mut BTreeSet<N>,
+) -> Result<(), AllocError> {
+    for own in names {
+        known.insert(own.name.clone()?)?;
+    }
+    Ok(())
 }
 
 /// Where the first parent stands that is not declared.
-fn undeclared_parent<N: PartialEq, K>(declared: &[Declaration<N, K>]) -> Option<usize> {
+fn undeclared_parent<N: Ord, K>(
+    declared: &[Declaration<N, K>],
+    names: &BTreeSet<N>,
+) -> Option<usize> {
     for declaration in declared {
         for parent in &declaration.parents {
-            if !is_declared(declared, &parent.name) {
+            if !names.contains(&parent.name) {
                 return Some(parent.start);
             }
         }

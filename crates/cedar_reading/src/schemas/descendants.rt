@@ -1,67 +1,100 @@
 // What is in what, over any number of steps.
-use crate::schemas::declarations::{Declaration, Placed};
+use crate::schemas::declarations::{Declaration, Placed, add_names};
 use std::alloc::{AllocError, Global};
-use std::collections::BTreeSet;
+use std::collections::{BTreeMap, BTreeSet};
 
-/// The descendants of a name that this declaration declares: those that it gives, or what is in that name.
-pub fn descendants_of<N: Ord + Clone + Drop, K>(
+/// What is declared in each name, by one step.
+#[derive(Drop)]
+pub struct Family<'a, N: Ord, K> {
     alloc: Global,
-    declared: &[Declaration<N, K>],
-    declaration: &Declaration<N, K>,
-    own: &N,
-) -> Result<BTreeSet<N>, AllocError> {
-    let Some(given) = &declaration.given else {
-        return descendants(alloc, declared, own);
-    };
-    let mut found = BTreeSet::new(alloc);
-    add_all(given.as_slice(), &mut found)?;
-    Ok(found)
+    /// How many names are declared.
+    size: usize,
+    children: BTreeMap<&'a N, Vec<&'a Declaration<N, K>>>,
 }
 
-/// What is in this name. It is among them itself where it is in one of them.
-fn descendants<N: Ord + Clone + Drop, K>(
-    alloc: Global,
-    declared: &[Declaration<N, K>],
-    ancestor: &N,
-) -> Result<BTreeSet<N>, AllocError> {
-    let mut found = BTreeSet::new(alloc);
-    // each round but the last finds the names of another declaration
-    for _ in 0..=declared.len() {
-        if !add_children(declared, ancestor, &mut found)? {
-            break;
+impl<'a, N: Ord + Clone + Drop, K> Family<'a, N, K> {
+    /// Of these declarations.
+    pub fn new(
+        alloc: Global,
+        declared: &'a [Declaration<N, K>],
+    ) -> Result<Family<'a, N, K>, AllocError> {
+        let mut family = Family {
+            alloc,
+            size: 0,
+            children: BTreeMap::new(alloc),
+        };
+        for declaration in declared {
+            family.size = family.size.saturating_add(declaration.names.len());
+            family.add(declaration)?;
         }
+        Ok(family)
     }
-    Ok(found)
-}
 
-/// Adds what is declared in this name, or in one of those found. Whether any of it is new.
-fn add_children<N: Ord + Clone + Drop, K>(
-    declared: &[Declaration<N, K>],
-    ancestor: &N,
-    found: &mut BTreeSet<N>,
-) -> Result<bool, AllocError> {
-    let before = found.len();
-    for declaration in declared {
-        if is_below(declaration.parents.as_slice(), ancestor, found) {
-            add_all(declaration.names.as_slice(), found)?;
+    fn add(&mut self, declaration: &'a Declaration<N, K>) -> Result<(), AllocError> {
+        for parent in &declaration.parents {
+            let nothing = Vec::new(self.alloc);
+            let children = self.children.entry(&parent.name)?.or_insert(nothing);
+            children.push(declaration)?;
         }
+        Ok(())
     }
-    Ok(found.len() != before)
+
+    /// The descendants of a name that this declaration declares: those that it gives, or what is in that name.
+    pub fn descendants_of(
+        &self,
+        declaration: &'a Declaration<N, K>,
+        own: &'a N,
+    ) -> Result<BTreeSet<N>, AllocError> {
+        let Some(given) = &declaration.given else {
+            return self.descendants(own);
+        };
+        let mut found = BTreeSet::new(self.alloc);
+        add_names(given.as_slice(), &mut found)?;
+        Ok(found)
+    }
+
+    /// What is in this name. It is among them itself where it is in one of them.
+    fn descendants(&self, ancestor: &'a N) -> Result<BTreeSet<N>, AllocError> {
+        let mut found = BTreeSet::new(self.alloc);
+        let mut left = Vec::new(self.alloc);
+        left.push(ancestor)?;
+        // each name is found once, and the ancestor may be found too
+        for _ in 0..=self.size {
+            let Some(name) = left.pop() else {
+                break;
+            };
+            self.add_children(name, &mut found, &mut left)?;
+        }
+        Ok(found)
+    }
+
+    /// Adds what is declared in this name. What of it is new is left to be looked at.
+    fn add_children(
+        &self,
+        name: &N,
+        found: &mut BTreeSet<N>,
+        left: &mut Vec<&'a N>,
+    ) -> Result<(), AllocError> {
+        let Some(children) = self.children.get(&name) else {
+            return Ok(());
+        };
+        for declaration in children {
+            add_new(declaration.names.as_slice(), found, left)?;
+        }
+        Ok(())
+    }
 }
 
-fn add_all<N: Ord + Clone + Drop>(
-    names: &[Placed<N>],
+/// Adds the names that are new to both.
+fn add_new<'a, N: Ord + Clone + Drop>(
+    names: &'a [Placed<N>],
     found: &mut BTreeSet<N>,
+    left: &mut Vec<&'a N>,
 ) -> Result<(), AllocError> {
     for own in names {
-        found.insert(own.name.clone()?)?;
+        if found.insert(own.name.clone()?)? {
+            left.push(&own.name)?;
+        }
     }
     Ok(())
-}
-
-/// Whether one of the parents is this name, or one of those that are known to be below it.
-fn is_below<N: Ord>(parents: &[Placed<N>], ancestor: &N, below: &BTreeSet<N>) -> bool {
-    parents
-        .iter()
-        .any(|p| p.name == *ancestor || below.contains(&p.name))
 }

@@ -1,7 +1,7 @@
 // What the names of a schema's text mean. None has a place: places are those of a policy's text.
 use crate::faults::{Fault, ReadError};
 use crate::schemas::declarations::{Alias, Declarations};
-use cedar_types::base::{EntityType, EntityUID, Name};
+use cedar_types::base::{CedarType, EntityType, EntityUID, Name};
 use std::alloc::{AllocError, Global};
 
 /// How declarations are written.
@@ -62,6 +62,14 @@ impl<'a> Names<'a> {
     pub fn check_known(&self, named: &EntityType, start: usize) -> Result<(), ReadError> {
         if self.have_to_be_known && !named.is_action() && !self.declared.has_type(named) {
             return Err(ReadError::At(start, Fault::Undeclared));
+        }
+        Ok(())
+    }
+
+    /// Fails at the type of a context that stands at this byte, if names have to be known and it is no record.
+    pub fn check_context(&self, context: &CedarType, start: usize) -> Result<(), ReadError> {
+        if self.have_to_be_known && !matches!(context, CedarType::Record { .. }) {
+            return Err(ReadError::At(start, Fault::Expected("a record")));
         }
         Ok(())
     }

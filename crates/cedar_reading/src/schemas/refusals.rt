@@ -21,8 +21,9 @@ pub struct RefusedName {
 }
 
 /// The name in a text that this fault of its schema is about: the first that is declared for a
-/// second time, that is one of actions, whose type has no ids, or that is not known. `None` where
-/// there is no such name, as for the other faults, which no text has.
+/// second time, that is one of actions, whose type has no ids, that is not known, or that a context
+/// is of and that is no record. `None` where there is no such name, as for the other faults, which
+/// no text has.
 pub fn refused_name(
     alloc: Global,
     text: &str,
@@ -47,7 +48,7 @@ fn name_of_fault(
         SchemaError::DuplicateAction => { shown(alloc, repeated(alloc, read.actions.as_slice())?)? }
         SchemaError::ActionTypeDeclared => shown(alloc, of_actions(types))?,
         SchemaError::EmptyEnum => shown(alloc, without_ids(types))?,
-        SchemaError::UnknownType => unknown(alloc, text, &read)?,
+        SchemaError::UnknownType | SchemaError::VagueType => unfit(alloc, text, &read)?,
         _ => None,
     };
     Ok(found)
@@ -107,9 +108,9 @@ fn has_no_ids(kind: &ValidatorEntityTypeKind) -> bool {
     }
 }
 
-/// The first type that is named and neither declared nor one of actions, found by a reading in
-/// which each has to be known.
-fn unknown(
+/// The first type that is named and neither declared nor one of actions, or of which a context is and
+/// that is no record, found by a reading that fails at both.
+fn unfit(
     alloc: Global,
     text: &str,
     declared: &Declarations,
