@@ -2,14 +2,18 @@
 #![tactic(auto)]
 
 mod environments;
+mod files;
+mod progress;
 mod run;
 mod verdicts;
 
 use cedar_types::base::{ArgumentCheck, ExtensionSchemas};
 use cedar_validation::constructors::RefusesEmptyText;
 use cedar_validation::functions::{CONSTRUCTOR_COUNT, functions, overloaded_types};
+use progress::Progress;
 use run::run;
 use std::env;
+use std::io::IsTerminal;
 use std::process::ExitCode;
 
 /// The status of a program that cannot begin.
@@ -44,5 +48,9 @@ fn main(rt: HostRuntime) -> ExitCode {
     };
     let mut out = rt.stdout();
     let mut err = rt.stderr();
-    ExitCode::from(run(&rt, words.as_slice(), &extensions, &mut out, &mut err))
+    // on a terminal the lines of the policies show how far the program is
+    let terminal = (err.is_terminal() && !out.is_terminal()).then_some(rt.stderr());
+    let mut progress = Progress::new(terminal);
+    let words = words.as_slice();
+    ExitCode::from(run(&rt, words, &extensions, &mut progress, &mut out, &mut err))
 }

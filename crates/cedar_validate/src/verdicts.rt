@@ -11,7 +11,11 @@ use cedar_validation::unread_texts::add_unread_texts;
 use std::alloc::{AllocError, Global};
 use std::collections::HashSet;
 
-/// The text of a policy that is refused without an error.
+/// The text of a policy that is refused without an error, where each name is the schema's.
+const NESTED: &str = "nested too deep to be checked: 400 parts at most may stand inside each \
+     other, and a chain of `&&`, `||`, `+` or accesses nests one deeper at each step";
+
+/// The text of one where names may be others.
 const UNEXPLAINED: &str = "refused without an error: a part is nested too deep, or names what \
      the schema does not declare";
 
@@ -97,10 +101,19 @@ fn shown<C: ArgumentCheck>(
     if !found.errors.is_empty() {
         add_errors(alloc, rules, found, policy, &mut shown)?;
     } else if !found.is_accepted {
-        shown.push(Finding::new(alloc, policy, Severity::Error, None, UNEXPLAINED)?)?;
+        let why = why_unexplained(rules.mode);
+        shown.push(Finding::new(alloc, policy, Severity::Error, None, why)?)?;
     }
     shown.sort()?;
     Ok(shown)
+}
+
+/// Why a policy can be refused without an error.
+fn why_unexplained(mode: ValidationMode) -> &'static str {
+    match mode {
+        ValidationMode::Partial => UNEXPLAINED,
+        ValidationMode::Strict | ValidationMode::Permissive => NESTED,
+    }
 }
 
 fn add_errors<C: ArgumentCheck>(

@@ -1,6 +1,8 @@
 //! The words that the program is called with.
+use crate::escapes::Shown;
 use cedar_types::base::ValidationMode;
 use std::alloc::{AllocError, Global};
+use thiserror::Error;
 
 /// What is to be validated, and how.
 #[derive(Drop)]
@@ -22,13 +24,20 @@ pub enum Asked {
 }
 
 /// What is wrong with the words.
-#[derive(Clone, Copy)]
+#[derive(Debug, Drop, Error)]
 pub enum Misuse {
-    UnknownOption,
+    #[error("there is no option `{}`", Shown(.0.as_str()))]
+    UnknownOption(String),
+    #[error("`--mode` takes `strict`, `permissive` or `partial`")]
     Mode,
+    #[error("`--level` takes a number from 0 to 4294967295")]
     Level,
+    #[error("`--level` is for the modes `strict` and `permissive`")]
     LevelInPartial,
+    #[error("a schema and at least one file of policies are wanted")]
     TooFewFiles,
+    #[error("standard input, `-`, can be read once")]
+    InputTwice,
 }
 
 /// What is asked for by these words, or what is wrong with them. It fails where memory is refused.
@@ -114,7 +123,7 @@ impl Reading {
             "--level" => self.next = Next::Level,
             "--json" => self.is_json = true,
             text if text.len() > 1 && text.starts_with("-") => {
-                return Ok(Some(Misuse::UnknownOption));
+                return Ok(Some(Misuse::UnknownOption(word.clone()?)));
             }
             _ => self.files.push(word.clone()?)?,
         }
@@ -140,6 +149,9 @@ impl Reading {
         if files.len() < 2 {
             return Err(Misuse::TooFewFiles);
         }
+        if inputs_in(files.as_slice()) > 1 {
+            return Err(Misuse::InputTwice);
+        }
         let schema = files.remove(0);
         Ok(Asked::Validation(Arguments {
             mode,
@@ -151,13 +163,7 @@ impl Reading {
     }
 }
 
-/// What is wrong, in words.
-pub fn misuse_text(misuse: Misuse) -> &'static str {
-    match misuse {
-        Misuse::UnknownOption => "there is no such option",
-        Misuse::Mode => "`--mode` takes `strict`, `permissive` or `partial`",
-        Misuse::Level => "`--level` takes a number from 0 to 4294967295",
-        Misuse::LevelInPartial => "`--level` is for the modes `strict` and `permissive`",
-        Misuse::TooFewFiles => "a schema and at least one file of policies are wanted",
-    }
+/// How often standard input is named.
+fn inputs_in(files: &[String]) -> usize {
+    files.iter().filter(|name| name.as_str() == "-").count()
 }

@@ -1,5 +1,5 @@
 //! The line of a place, with carets below it.
-use crate::escapes::{Escaped, shown_width};
+use crate::escapes::{Shown, shown_width};
 use cedar_types::base::Loc;
 use std::fmt;
 
@@ -81,7 +81,7 @@ impl fmt::Display for WithTabs<'_> {
                 f.write_str("\t")?;
             }
             is_first = false;
-            let part = Escaped(part);
+            let part = Shown(part);
             write!(f, "{part}")?;
         }
         Ok(())
@@ -115,7 +115,11 @@ impl fmt::Display for Carets<'_> {
             return f.write_str("^");
         }
         for c in self.0.chars() {
-            repeat(f, "^", shown_width(c))?;
+            if c == '\t' {
+                f.write_str("\t")?;
+            } else {
+                repeat(f, "^", shown_width(c))?;
+            }
         }
         Ok(())
     }

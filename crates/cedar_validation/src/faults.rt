@@ -2,45 +2,144 @@
 use cedar_reading::{Fault, ReadError, RefusedName, SchemaReadError, refused_name, token_text};
 use cedar_types::base::{Expr, ExprKind, Loc, SchemaError, Template};
 use std::alloc::{AllocError, Global};
+use thiserror::Error;
 
 /// How many characters are shown of what was read in place of something else.
 const MAX_SHOWN: usize = 40;
 
 /// What is wrong with a text, and where.
-#[derive(Drop)]
+#[derive(Debug, Drop, Error)]
+#[error("{text}")]
 pub struct TextFault {
     pub place: Loc,
     pub text: String,
 }
 
+/// What kind of text is read.
+#[derive(Clone, Copy, PartialEq, Eq)]
+pub enum Written {
+    Schema,
+    Policies,
+}
+
+/// What is wrong at a place, for people.
+#[derive(Clone, Copy, Debug, Error)]
+enum Trouble {
+    #[error("nested too deep: some 60 parentheses are read, or 800 links of a chain")]
+    TooDeep,
+    #[error("nested too deep, as a type that contains itself is")]
+    DeepType,
+    #[error("the text is longer than 64 MiB")]
+    TooLong,
+    #[error("a number that does not fit 64 bits")]
+    Number,
+    #[error("a text in quotes that does not end")]
+    OpenText,
+    #[error("an escape that there is not: there are \\\" \\\\ \\' \\n \\r \\t \\0 \\x41 \\u{{41}}")]
+    Escape,
+    #[error("a character that begins nothing")]
+    Character,
+    #[error("`{0}` is expected")]
+    Missing(&'static str),
+    #[error("{0}")]
+    Other(Fault),
+}
+
 /// The fault that reading met. It fails where it was memory that was refused.
-pub fn read_fault(alloc: Global, text: &str, error: ReadError) -> Result<TextFault, AllocError> {
+pub fn read_fault(
+    alloc: Global,
+    written: Written,
+    text: &str,
+    error: ReadError,
+) -> Result<TextFault, AllocError> {
     let (start, fault) = match error {
         ReadError::Memory(error) => return Err(error),
         ReadError::At(start, fault) => (start, fault),
     };
-    let read = beginning(token_text(text, start));
+    let token = token_text(text, start);
+    let read = beginning(token);
+    let trouble = trouble(written, fault, token);
     Ok(TextFault {
         place: Loc {
             start,
             end: start.saturating_add(read.len()),
         },
-        text: fault_text(alloc, fault, read)?,
+        text: trouble_text(alloc, written, trouble, read)?,
     })
 }
 
-/// What is wrong, with what was read.
-fn fault_text(alloc: Global, fault: Fault, read: &str) -> Result<String, AllocError> {
-    let mut said = match fault {
-        Fault::Missing(word) => format!(in alloc; "`{word}` is expected")?,
-        _ => fault.to_string(alloc)?,
-    };
+/// What a fault at this token is.
+fn trouble(written: Written, fault: Fault, token: &str) -> Trouble {
+    match fault {
+        Fault::TooDeep if written == Written::Schema => Trouble::DeepType,
+        Fault::TooDeep => Trouble::TooDeep,
+        Fault::TooLong => Trouble::TooLong,
+        Fault::Number => Trouble::Number,
+        Fault::Text if !token.starts_with('"') => Trouble::Character,
+        Fault::Text if token.len() > 1 && token.ends_with('"') => Trouble::Escape,
+        Fault::Text => Trouble::OpenText,
+        Fault::Missing(word) => Trouble::Missing(word),
+        _ => Trouble::Other(fault),
+    }
+}
+
+/// What is wrong, with what was read and what may help.
+fn trouble_text(
+    alloc: Global,
+    written: Written,
+    trouble: Trouble,
+    read: &str,
+) -> Result<String, AllocError> {
+    let mut said = trouble.to_string(alloc)?;
     if read.is_empty() {
         said.push_str(", where the text ends")?;
     } else {
         write!(said, ", where `{read}` is read")?;
     }
+    said.push_str(hint(written, trouble, read))?;
     Ok(said)
+}
+
+/// What may help where something else is expected.
+fn hint(written: Written, trouble: Trouble, read: &str) -> &'static str {
+    let is_expected = matches!(
+        trouble,
+        Trouble::Missing(_) | Trouble::Other(Fault::Expected(_))
+    );
+    match (written, read) {
+        (_, "'") => "; texts stand in double quotes",
+        (Written::Schema, "permit" | "forbid") => {
+            "; the schema is the first file, and policies come behind it"
+        }
+        (Written::Schema, "{") if is_expected => "; schemas in JSON are not read",
+        (Written::Policies, "entity" | "namespace" | "type") => {
+            "; the schema is the first file, and policies come behind it"
+        }
+        (Written::Policies, _) if is_expected => hint_in_policy(trouble, read),
+        _ => "",
+    }
+}
+
+/// What may help in a policy.
+fn hint_in_policy(trouble: Trouble, read: &str) -> &'static str {
+    match read {
+        "=" => "; `==` compares",
+        "&" | "and" | "AND" => "; `&&` stands between conditions that both have to hold",
+        "|" | "or" | "OR" => "; `||` stands between conditions of which one has to hold",
+        "not" | "NOT" => "; `!` negates",
+        _ if is_name(trouble, read) => {
+            "; there are `principal`, `action`, `resource`, `context`, and ids such as `User::\"ann\"`"
+        }
+        _ => "",
+    }
+}
+
+/// Whether a name is read in the place of an expression.
+fn is_name(trouble: Trouble, read: &str) -> bool {
+    let is_word = read.starts_with(|c: char| c.is_alphabetic());
+    is_word
+        && matches!(trouble, Trouble::Other(Fault::Expected("an expression")))
+        && !matches!(read, "then" | "else" | "in" | "is" | "has" | "like")
 }
 
 /// The beginning of what was read, of one line.
@@ -59,15 +158,20 @@ pub fn schema_fault(
     error: SchemaReadError,
 ) -> Result<TextFault, AllocError> {
     match error {
-        SchemaReadError::Read(error) => read_fault(alloc, text, error),
+        SchemaReadError::Read(error) => read_fault(alloc, Written::Schema, text, error),
         SchemaReadError::Refused(fault) => {
             let name = refused_name(alloc, text, &fault)?;
-            refusal(alloc, refusal_text(&fault), name)
+            refusal(alloc, text, refusal_text(&fault), name)
         }
     }
 }
 
-fn refusal(alloc: Global, why: &str, name: Option<RefusedName>) -> Result<TextFault, AllocError> {
+fn refusal(
+    alloc: Global,
+    text: &str,
+    why: &str,
+    name: Option<RefusedName>,
+) -> Result<TextFault, AllocError> {
     let Some(RefusedName { name, start }) = name else {
         return Ok(TextFault {
             place: Loc { start: 0, end: 0 },
@@ -77,7 +181,7 @@ fn refusal(alloc: Global, why: &str, name: Option<RefusedName>) -> Result<TextFa
     Ok(TextFault {
         place: Loc {
             start,
-            end: start.saturating_add(1),
+            end: start.saturating_add(beginning(token_text(text, start)).len()),
         },
         text: format!(in alloc; "{why}: `{name}`")?,
     })
@@ -91,9 +195,9 @@ fn refusal_text(fault: &SchemaError) -> &'static str {
         SchemaError::ActionTypeDeclared => "an entity type has the name of a type of actions",
         SchemaError::NotAnActionType => "the type of an action is none of actions",
         SchemaError::EmptyEnum => "an enumerated type has no ids",
-        SchemaError::UnknownType => "a type is named that is not declared",
+        SchemaError::UnknownType => "a type that is not declared",
         SchemaError::UnknownActionDescendant => "an action is named that is not declared",
-        SchemaError::VagueType => "a context is no record, or a type does not say enough",
+        SchemaError::VagueType => "the context of an action has to be a record",
         SchemaError::DescendantsNotClosed => "what is in what is not closed",
         SchemaError::Memory(_) => "memory was refused",
     }
@@ -118,7 +222,7 @@ pub fn forbidden_part(alloc: Global, policy: &Template) -> Result<Option<TextFau
 
 fn why_forbidden(part: &Expr) -> Option<&'static str> {
     match &part.kind {
-        ExprKind::Slot(_) => Some("a slot stands in the scope alone"),
+        ExprKind::Slot(_) => Some("a slot can stand in the scope alone, before the conditions"),
         ExprKind::Unknown(_) => Some("an unknown has no value"),
         _ => None,
     }

@@ -1,4 +1,5 @@
 //! What is said of a policy.
+use cedar_reading::Position;
 use cedar_types::base::{
     EntityDerefLevel, Loc, PolicyID, Template, ValidationError, ValidationWarning,
 };
@@ -41,6 +42,23 @@ pub struct Verdict {
     pub requirement: Requirement,
     /// In ascending order, each once.
     pub findings: Vec<Finding>,
+}
+
+impl Verdict {
+    /// Refuses the policy, as another one has its id. This says where.
+    pub fn refuse_id(
+        &mut self,
+        alloc: Global,
+        policy: &Template,
+        other: Position,
+    ) -> Result<(), AllocError> {
+        let Position { line, column } = other;
+        let why = format!(in alloc; "the policy at {line}:{column} of this file has the same id")?;
+        let finding = Finding::new(alloc, policy, Severity::Error, None, why.as_str())?;
+        self.is_accepted = false;
+        self.findings.push(finding)?;
+        self.findings.sort()
+    }
 }
 
 impl Finding {

@@ -1,11 +1,11 @@
 //! What is found, as lines for people.
-use crate::escapes::Escaped;
+use crate::escapes::Shown;
 use crate::excerpts::Excerpt;
 use crate::faults::TextFault;
 use crate::findings::{Finding, Requirement, Severity, Verdict};
 use crate::tallies::Tally;
 use cedar_reading::Position;
-use cedar_types::base::Loc;
+use cedar_types::base::{Escaped, Loc};
 use std::alloc::AllocError;
 use std::fmt;
 
@@ -18,7 +18,7 @@ pub struct Place<'a> {
 
 impl fmt::Display for Place<'_> {
     fn fmt<W: fmt::Write>(&self, f: &mut fmt::Formatter<W>) -> fmt::Result {
-        let file = Escaped(self.file);
+        let file = Shown(self.file);
         let Position { line, column } = self.at;
         write!(f, "{file}:{line}:{column}")
     }
@@ -52,14 +52,14 @@ pub fn push_finding(
     text: &str,
     finding: &Finding,
 ) -> Result<(), AllocError> {
-    let said = Escaped(finding.text.as_str());
+    let said = Shown(finding.text.as_str());
     let severity = severity_text(finding.severity);
     let start = finding.start;
     let end = finding.end;
     let excerpt = Excerpt::new(text, Loc { start, end });
     write!(out, "{place}: {severity}: {said}\n{excerpt}")?;
     for environment in &finding.environments {
-        let environment = Escaped(environment.as_str());
+        let environment = Shown(environment.as_str());
         writeln!(out, "  only for {environment}")?;
     }
     Ok(())
@@ -80,15 +80,15 @@ pub fn push_fault(
     text: &str,
     fault: &TextFault,
 ) -> Result<(), AllocError> {
-    let said = Escaped(fault.text.as_str());
+    let said = Shown(fault.text.as_str());
     let excerpt = Excerpt::new(text, fault.place);
     write!(out, "{place}: fault: {said}\n{excerpt}")
 }
 
 /// Adds the line of a file that cannot be had.
 pub fn push_missing(out: &mut String, file: &str, why: &str) -> Result<(), AllocError> {
-    let file = Escaped(file);
-    let why = Escaped(why);
+    let file = Shown(file);
+    let why = Shown(why);
     writeln!(out, "{file}: fault: {why}")
 }
 

@@ -6,8 +6,10 @@ use crate::objects;
 use crate::places::Places;
 use crate::sources::Source;
 use crate::tallies::Tally;
+use cedar_reading::Position;
 use cedar_types::base::{Loc, Template};
-use std::alloc::AllocError;
+use std::alloc::{AllocError, Global};
+use std::collections::BTreeMap;
 
 /// Shows what is found in a file.
 #[derive(Drop)]
@@ -15,16 +17,36 @@ pub struct Report<'a> {
     is_json: bool,
     source: Source<'a>,
     places: Places<'a>,
+    /// Where policies stand, by their ids.
+    ids: BTreeMap<String, Position>,
 }
 
 impl<'a> Report<'a> {
     /// For this file, as objects of JSON or as lines.
-    pub fn new(is_json: bool, source: Source<'a>) -> Report<'a> {
+    pub fn new(alloc: Global, is_json: bool, source: Source<'a>) -> Report<'a> {
         Report {
             is_json,
             source,
             places: Places::new(source.text),
+            ids: BTreeMap::new(alloc),
         }
+    }
+
+    /// Takes note of the id of a policy. Where the one before stands that has it, if there is one.
+    pub fn take_id(
+        &mut self,
+        alloc: Global,
+        policy: &Template,
+    ) -> Result<Option<Position>, AllocError> {
+        let id = policy.id.text.as_str();
+        let Loc { start, .. } = policy.loc.unwrap_or(Loc { start: 0, end: 0 });
+        let at = self.places.position(start);
+        if let Some(other) = self.ids.get(id) {
+            return Ok(Some(*other));
+        }
+        let id = String::from_str(alloc, id)?;
+        self.ids.insert(id, at)?;
+        Ok(None)
     }
 
     fn place(&mut self, byte: usize) -> Place<'a> {

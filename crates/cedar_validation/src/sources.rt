@@ -1,6 +1,10 @@
 //! The texts of files.
+use crate::faults::TextFault;
+use cedar_types::base::Loc;
+use std::alloc::{AllocError, Global};
+use std::io::Read;
 use std::rt::Files;
-use std::{fs, io};
+use std::{fs, io, str};
 
 /// A text that was read, and the name of its file.
 #[derive(Clone, Copy)]
@@ -9,17 +13,62 @@ pub struct Source<'a> {
     pub text: &'a str,
 }
 
-/// The text of the file of this name, or of standard input at `-`, without the byte order mark that it may begin with.
-pub fn read<R: Files + AllocGlobal + Input>(rt: &R, name: &str) -> io::Result<String> {
-    let alloc = rt.alloc();
-    let text = if name == "-" {
-        io::read_to_string(alloc, rt.reader())?
-    } else {
-        fs::read_to_string(rt, name)?
-    };
-    if !text.starts_with('\u{feff}') {
-        return Ok(text);
+/// What a file has.
+#[derive(Drop)]
+pub enum Content {
+    Text(String),
+    /// It is no text: what stands before the first byte that is none, and the fault there.
+    Broken(String, TextFault),
+}
+
+/// What the file of this name has, or standard input at `-`.
+pub fn read<R: Files + AllocGlobal + Input>(rt: &R, name: &str) -> io::Result<Content> {
+    let bytes = read_bytes(rt, name)?;
+    Ok(content(rt.alloc(), bytes.as_slice())?)
+}
+
+fn read_bytes<R: Files + AllocGlobal + Input>(rt: &R, name: &str) -> io::Result<Vec<u8>> {
+    if name != "-" {
+        return fs::read(rt, name);
     }
-    let rest = text.strip_prefix('\u{feff}').unwrap_or("");
-    Ok(String::from_str(alloc, rest)?)
+    let mut bytes = Vec::new(rt.alloc());
+    rt.reader().read_to_end(&mut bytes)?;
+    Ok(bytes)
+}
+
+/// What these bytes say in UTF-8. A byte order mark at the beginning is no part of the text.
+pub fn content(alloc: Global, bytes: &[u8]) -> Result<Content, AllocError> {
+    let valid = match str::from_utf8(bytes) {
+        Ok(text) => return Ok(Content::Text(String::from_str(alloc, without_mark(text))?)),
+        Err(error) => error.valid_up_to(),
+    };
+    let front = String::from_str(alloc, without_mark(front_of(bytes, valid)))?;
+    let start = front.len();
+    let fault = TextFault {
+        place: Loc { start, end: start },
+        text: broken_text(alloc, bytes, valid)?,
+    };
+    Ok(Content::Broken(front, fault))
+}
+
+/// So many bytes at the beginning, which are a text.
+fn front_of(bytes: &[u8], size: usize) -> &str {
+    match str::from_utf8(bytes.get(..size).unwrap_or(&[])) {
+        Ok(front) => front,
+        Err(_) => "",
+    }
+}
+
+fn without_mark(text: &str) -> &str {
+    text.strip_prefix('\u{feff}').unwrap_or(text)
+}
+
+/// What is wrong at this byte, which is no text.
+fn broken_text(alloc: Global, bytes: &[u8], at: usize) -> Result<String, AllocError> {
+    let byte = bytes.get(at).copied().unwrap_or(0);
+    let hint = match bytes {
+        [0xff, 0xfe, ..] | [0xfe, 0xff, ..] => "; it seems to be UTF-16",
+        _ => "",
+    };
+    format!(in alloc; "the byte 0x{byte:02x} is no text in UTF-8, as a file has to be{hint}")
 }

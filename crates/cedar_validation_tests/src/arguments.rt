@@ -1,11 +1,11 @@
 // What the words of a command line ask for.
 use cedar_types::base::ValidationMode;
-use cedar_validation::arguments::{Asked, misuse_text, read_arguments};
+use cedar_validation::arguments::{Asked, read_arguments};
 use std::alloc::{AllocError, Global};
 use std::test::Fail;
 
 /// Command lines, and what they ask for or what is wrong with them.
-const LINES: [(&str, &str); 12] = [
+const LINES: [(&str, &str); 19] = [
     ("s p", "strict, no level, lines: s, p"),
     ("--json s - q", "strict, no level, objects: s, -, q"),
     (
@@ -15,7 +15,14 @@ const LINES: [(&str, &str); 12] = [
     ("s p --mode partial", "partial, no level, lines: s, p"),
     ("s --help", "help"),
     ("s", "a schema and at least one file of policies are wanted"),
-    ("--modes strict s p", "there is no such option"),
+    ("--level 1 s p --level 0", "strict, level 0, lines: s, p"),
+    ("--json --help --nonsense", "help"),
+    ("", "a schema and at least one file of policies are wanted"),
+    ("- p q", "strict, no level, lines: -, p, q"),
+    ("- p -", "standard input, `-`, can be read once"),
+    ("--modes strict s p", "there is no option `--modes`"),
+    ("--level=1 s p", "there is no option `--level=1`"),
+    ("--\u{202e} s p", "there is no option `--\\u{202e}`"),
     (
         "--mode stricter s p",
         "`--mode` takes `strict`, `permissive` or `partial`",
@@ -56,7 +63,7 @@ fn shown(alloc: Global, line: &str) -> Result<String, AllocError> {
     let arguments = match read_arguments(alloc, words.as_slice())? {
         Ok(Asked::Validation(arguments)) => arguments,
         Ok(Asked::Help) => return String::from_str(alloc, "help"),
-        Err(misuse) => return String::from_str(alloc, misuse_text(misuse)),
+        Err(misuse) => return misuse.to_string(alloc),
     };
     let mut said = String::from_str(alloc, mode_text(arguments.mode))?;
     match arguments.level {

@@ -1,8 +1,14 @@
-//! What the arguments of the program mean, and the objects of JSON that it writes. They stand apart, since a crate with tests
-//! is proved twice.
+//! What the arguments of the program mean, which texts have which faults, and how findings are shown. The tests stand apart,
+//! since a crate with tests is proved twice.
 #![tactic(auto)]
 
 #[cfg(test)]
 mod arguments;
 #[cfg(test)]
+mod excerpts;
+#[cfg(test)]
+mod faults;
+#[cfg(test)]
 mod objects;
+#[cfg(test)]
+mod sources;

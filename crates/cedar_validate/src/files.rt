@@ -1,0 +1,177 @@
+// What is done with a file.
+use crate::progress::Progress;
+use crate::verdicts::{Rules, judged};
+use cedar_reading::{Policies, ReadError};
+use cedar_types::base::Template;
+use cedar_validation::faults::{TextFault, Written, forbidden_part, read_fault};
+use cedar_validation::reports::{Report, push_missing};
+use cedar_validation::sources::{Content, Source, read};
+use cedar_validation::tallies::Tally;
+use std::alloc::{AllocError, Global};
+use std::io;
+use std::io::Write;
+use std::rt::Files;
+
+/// How many faults of a file are shown.
+const MAX_FAULTS: u64 = 100;
+
+/// What is said of a file with more faults.
+const REST: &str = "more than 100 faults, so the rest of the file is not read";
+
+/// The text of a file. Where it cannot be had, why is written, and the answer is `None`.
+pub fn read_text<R: Files + AllocGlobal + Input, O: Write>(
+    rt: &R,
+    is_json: bool,
+    name: &str,
+    out: &mut O,
+) -> io::Result<Option<String>> {
+    let alloc = rt.alloc();
+    let shown = match read(rt, name) {
+        Ok(Content::Text(text)) => return Ok(Some(text)),
+        Ok(Content::Broken(front, fault)) => {
+            let text = front.as_str();
+            shown_break(alloc, is_json, Source { name, text }, &fault)?
+        }
+        Err(error) => shown_lack(alloc, is_json, name, &error)?,
+    };
+    out.write_all(shown.as_bytes())?;
+    Ok(None)
+}
+
+/// How a fault is shown behind the front of a file, which is a text.
+fn shown_break(
+    alloc: Global,
+    is_json: bool,
+    front: Source<'_>,
+    fault: &TextFault,
+) -> Result<String, AllocError> {
+    let mut shown = String::new(alloc);
+    Report::new(alloc, is_json, front).push_fault(&mut shown, fault)?;
+    Ok(shown)
+}
+
+/// How it is shown that a file cannot be had.
+fn shown_lack(
+    alloc: Global,
+    is_json: bool,
+    name: &str,
+    error: &io::Error,
+) -> Result<String, AllocError> {
+    let why = error.to_string(alloc)?;
+    let mut shown = String::new(alloc);
+    push_missing(&mut shown, is_json, name, why.as_str())?;
+    Ok(shown)
+}
+
+/// Validates the policies of a file.
+pub fn validate_file<R: Files + AllocGlobal + Input, O: Write, T: Write>(
+    rt: &R,
+    is_json: bool,
+    rules: &Rules<'_>,
+    name: &str,
+    tally: &mut Tally,
+    progress: &mut Progress<T>,
+    out: &mut O,
+) -> io::Result<()> {
+    let alloc = rt.alloc();
+    let Some(text) = read_text(rt, is_json, name, out)? else {
+        tally.add_fault();
+        return Ok(());
+    };
+    let text = text.as_str();
+    let mut report = Report::new(alloc, is_json, Source { name, text });
+    let is_whole = validate_text(alloc, rules, text, &mut report, tally, progress, out)?;
+    progress.clear();
+    if !is_whole {
+        tally.add_fault();
+        let mut shown = String::new(alloc);
+        push_missing(&mut shown, is_json, name, REST)?;
+        out.write_all(shown.as_bytes())?;
+    }
+    Ok(())
+}
+
+/// Validates the policies of a text, one after another. Whether all of it was read.
+fn validate_text<O: Write, T: Write>(
+    alloc: Global,
+    rules: &Rules<'_>,
+    text: &str,
+    report: &mut Report<'_>,
+    tally: &mut Tally,
+    progress: &mut Progress<T>,
+    out: &mut O,
+) -> io::Result<bool> {
+    let mut policies = match Policies::new(alloc, text) {
+        Ok(policies) => policies,
+        Err(error) => {
+            let fault = read_fault(alloc, Written::Policies, text, error)?;
+            let shown = shown_fault(alloc, report, tally, &fault)?;
+            out.write_all(shown.as_bytes())?;
+            return Ok(true);
+        }
+    };
+    let most = tally.faults.saturating_add(MAX_FAULTS);
+    // each policy has a token at least
+    for _ in 0..text.len() {
+        let Some(read) = policies.next_policy() else {
+            break;
+        };
+        if tally.faults >= most {
+            return Ok(false);
+        }
+        let shown = match policy_or_fault(alloc, text, read)? {
+            Ok(policy) => shown_policy(alloc, rules, &policy, report, tally)?,
+            Err(fault) => shown_fault(alloc, report, tally, &fault)?,
+        };
+        out.write_all(shown.as_bytes())?;
+        progress.show(tally.policies);
+    }
+    Ok(true)
+}
+
+/// The policy that was read, or the fault that it has.
+fn policy_or_fault(
+    alloc: Global,
+    text: &str,
+    read: Result<Template, ReadError>,
+) -> Result<Result<Template, TextFault>, AllocError> {
+    let policy = match read {
+        Ok(policy) => policy,
+        Err(error) => return Ok(Err(read_fault(alloc, Written::Policies, text, error)?)),
+    };
+    match forbidden_part(alloc, &policy)? {
+        None => Ok(Ok(policy)),
+        Some(fault) => Ok(Err(fault)),
+    }
+}
+
+/// Counts a fault, and answers how it is shown.
+fn shown_fault(
+    alloc: Global,
+    report: &mut Report<'_>,
+    tally: &mut Tally,
+    fault: &TextFault,
+) -> Result<String, AllocError> {
+    let mut shown = String::new(alloc);
+    tally.add_fault();
+    report.push_fault(&mut shown, fault)?;
+    Ok(shown)
+}
+
+/// Validates and counts a policy, and answers how it is shown. Two policies of a file may not have the same id.
+fn shown_policy(
+    alloc: Global,
+    rules: &Rules<'_>,
+    policy: &Template,
+    report: &mut Report<'_>,
+    tally: &mut Tally,
+) -> Result<String, AllocError> {
+    let mut shown = String::new(alloc);
+    let mut said = judged(alloc, rules, policy)?;
+    if let Some(other) = report.take_id(alloc, policy)? {
+        said.refuse_id(alloc, policy, other)?;
+    }
+    tally.add(&said);
+    report.push_policy(&mut shown, policy, &said)?;
+    Ok(shown)
+}

@@ -1,0 +1,240 @@
+// Texts with a fault: which it is, and where.
+use cedar_reading::{Policies, Position, schema};
+use cedar_validation::faults::{TextFault, Written, read_fault, schema_fault};
+use std::alloc::{AllocError, Global};
+use std::test::Fail;
+
+/// What stands before a condition.
+const BEFORE: &str = "permit(principal, action, resource)\nwhen { ";
+
+/// Conditions behind `BEFORE`, with the rest of the text.
+const CONDITIONS: [(&str, &str); 16] = [
+    (
+        "user.a };",
+        "2:8: an expression is expected, where `user` is read; there are `principal`, `action`, \
+         `resource`, `context`, and ids such as `User::\"ann\"`",
+    ),
+    (
+        "principal.a = 1 };",
+        "2:20: `}` is expected, where `=` is read; `==` compares",
+    ),
+    (
+        "principal.a == 'x' };",
+        "2:23: a character that begins nothing, where `'` is read; texts stand in double quotes",
+    ),
+    (
+        "not true };",
+        "2:8: an expression is expected, where `not` is read; `!` negates",
+    ),
+    (
+        "true and false };",
+        "2:13: `}` is expected, where `and` is read; `&&` stands between conditions that both \
+         have to hold",
+    ),
+    (
+        "true | false };",
+        "2:13: `}` is expected, where `|` is read; `||` stands between conditions of which one \
+         has to hold",
+    ),
+    (
+        r#""a\q" };"#,
+        r#"2:8: an escape that there is not: there are \" \\ \' \n \r \t \0 \x41 \u{41}, where `"a\q"` is read"#,
+    ),
+    (
+        "\"a };",
+        "2:8: a text in quotes that does not end, where `\"a };` is read",
+    ),
+    (
+        "9223372036854775808 };",
+        "2:8: a number that does not fit 64 bits, where `9223372036854775808` is read",
+    ),
+    (
+        "{a: 1, a: 2} };",
+        "2:15: the same key twice, where `a` is read",
+    ),
+    (
+        "principal.a } when",
+        "2:26: `{` is expected, where the text ends",
+    ),
+    (
+        "principal.a }",
+        "2:21: `;` is expected, where the text ends",
+    ),
+    (
+        "if true then 1 };",
+        "2:23: `else` is expected, where `}` is read",
+    ),
+    (
+        "principal has };",
+        "2:22: a text in quotes is expected, where `}` is read",
+    ),
+    (
+        "unknown() };",
+        "2:18: one argument is expected, where `}` is read",
+    ),
+    (
+        "[1, 2).isEmpty() };",
+        "2:13: `]` is expected, where `)` is read",
+    ),
+];
+
+#[test]
+fn conditions(rt: HostRuntime) -> Result<(), Fail> {
+    let alloc = rt.alloc();
+    for (condition, wanted) in &CONDITIONS {
+        let text = format!(in alloc; "{BEFORE}{condition}")?;
+        let said = fault_of_policy(alloc, text.as_str())?;
+        assert_eq!(rt; said.as_str(), *wanted, "for {condition}");
+    }
+    Ok(())
+}
+
+/// Whole policies.
+const POLICIES: [(&str, &str); 6] = [
+    (
+        "allow(principal);",
+        "1:1: `permit` or `forbid` is expected, where `allow` is read",
+    ),
+    (
+        "permit(principal, action);",
+        "1:25: `,` is expected, where `)` is read",
+    ),
+    (
+        "permit(principal == User, action, resource);",
+        "1:25: a text in quotes is expected, where `,` is read",
+    ),
+    (
+        "@id(x) permit(principal);",
+        "1:5: a text in quotes is expected, where `x` is read",
+    ),
+    (
+        "permit\n(principal in ?resource);",
+        "2:16: `principal` is expected, where `resource` is read",
+    ),
+    (
+        "entity User;",
+        "1:1: `permit` or `forbid` is expected, where `entity` is read; the schema is the first \
+         file, and policies come behind it",
+    ),
+];
+
+#[test]
+fn policies(rt: HostRuntime) -> Result<(), Fail> {
+    for (text, wanted) in &POLICIES {
+        let said = fault_of_policy(rt.alloc(), text)?;
+        assert_eq!(rt; said.as_str(), *wanted, "for {text}");
+    }
+    Ok(())
+}
+
+/// Each parenthesis is 13 steps of the grammar, and 800 steps are read: 61 parentheses and some steps of the next.
+#[test]
+fn nesting(rt: HostRuntime) -> Result<(), Fail> {
+    let alloc = rt.alloc();
+    let mut text = String::from_str(alloc, BEFORE)?;
+    for _ in 0..100 {
+        text.push_str("(")?;
+    }
+    let said = fault_of_policy(alloc, text.as_str())?;
+    let wanted = "2:69: nested too deep: some 60 parentheses are read, or 800 links of a chain, \
+         where `(` is read";
+    assert_eq!(rt; said.as_str(), wanted);
+    Ok(())
+}
+
+/// Schemas.
+const SCHEMAS: [(&str, &str); 13] = [
+    (
+        "entity A { a: Long b: Long };",
+        "1:20: `}` is expected, where `b` is read",
+    ),
+    (
+        "entity A { b: Strng };",
+        "1:15: a type that is not declared: `Strng`",
+    ),
+    (
+        "entity A in [B];",
+        "1:14: a name that is not declared, where `B` is read",
+    ),
+    (
+        "entity A;\nentity B;\nentity A;",
+        "3:8: an entity type is declared twice: `A`",
+    ),
+    (
+        "action a, a;",
+        "1:11: an action is declared twice: `Action::\"a\"`",
+    ),
+    (
+        "entity A enum [];",
+        "1:8: an enumerated type has no ids: `A`",
+    ),
+    (
+        "entity Action;",
+        "1:8: an entity type has the name of a type of actions: `Action`",
+    ),
+    (
+        "entity A;\naction v appliesTo { principal: A };",
+        "2:35: `resource` is expected, where `}` is read",
+    ),
+    (
+        "entity A;\naction v appliesTo { principal: A, resource: A, context: Long };",
+        "2:58: the context of an action has to be a record: `Long`",
+    ),
+    (
+        "type T = {t?: T};\nentity A;",
+        "1:10: nested too deep, as a type that contains itself is, where `{` is read",
+    ),
+    (
+        "{\"\": {}}",
+        "1:1: a declaration is expected, where `{` is read; schemas in JSON are not read",
+    ),
+    (
+        "permit(principal, action, resource);",
+        "1:1: a declaration is expected, where `permit` is read; the schema is the first file, \
+         and policies come behind it",
+    ),
+    (
+        "entity A\nentity B;",
+        "2:1: `;` is expected, where `entity` is read",
+    ),
+];
+
+#[test]
+fn schemas(rt: HostRuntime) -> Result<(), Fail> {
+    for (text, wanted) in &SCHEMAS {
+        let said = fault_of_schema(rt.alloc(), text)?;
+        assert_eq!(rt; said.as_str(), *wanted, "for {text}");
+    }
+    Ok(())
+}
+
+/// The fault of the first policy.
+fn fault_of_policy(alloc: Global, text: &str) -> Result<String, AllocError> {
+    let read = match Policies::new(alloc, text) {
+        Ok(mut policies) => policies.next_policy(),
+        Err(error) => Some(Err(error)),
+    };
+    match read {
+        None => String::from_str(alloc, "nothing"),
+        Some(Ok(_policy)) => String::from_str(alloc, "no fault"),
+        Some(Err(error)) => {
+            let fault = read_fault(alloc, Written::Policies, text, error)?;
+            shown(alloc, text, &fault)
+        }
+    }
+}
+
+fn fault_of_schema(alloc: Global, text: &str) -> Result<String, AllocError> {
+    match schema(alloc, text) {
+        Ok(_schema) => String::from_str(alloc, "no fault"),
+        Err(error) => {
+            let fault = schema_fault(alloc, text, error)?;
+            shown(alloc, text, &fault)
+        }
+    }
+}
+
+fn shown(alloc: Global, text: &str, fault: &TextFault) -> Result<String, AllocError> {
+    let Position { line, column } = Position::in_text(text, fault.place.start);
+    format!(in alloc; "{line}:{column}: {fault}")
+}
