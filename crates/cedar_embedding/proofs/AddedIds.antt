@@ -5,7 +5,7 @@ use Rattle.cedar_types.specs.Names.{Uid, uid_eq}
 use Rattle.cedar_types.specs.Schemas.{uid_is_among}
 use Rattle.cedar_typing.specs.Evaluation.Conformance.{IsOneOf}
 use Rattle.cedar_typing.proofs.Basics.{or_left, or_right, or_cases}
-use Rattle.cedar_typing.proofs.Members.{in_left, in_right}
+use Rattle.cedar_typing.proofs.Basics.Members.{in_left, in_right}
 use Rattle.cedar_typechecker.proofs.Levels.Inclusions.{in_either}
 use Rattle.cedar_typechecker.proofs.Slices.Stores.{is_among}
 use Rattle.cedar_embedding.specs.Loading.{AreAmong, AddsNew}

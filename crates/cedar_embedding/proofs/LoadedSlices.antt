@@ -2,10 +2,10 @@
 use Rattle.std.proofs.Common.{ℕ, zero, suc, List, [], ◌∙◌}
 use Rattle.cedar_types.specs.Names.{Uid}
 use Rattle.cedar_types.specs.Schemas.{uid_is_among}
-use Rattle.cedar_types.specs.Stores.{Store, entity_at}
+use Rattle.cedar_types.specs.Values.Stores.{Store, entity_at}
 use Rattle.cedar_typing.specs.Evaluation.Conformance.{IsOneOf}
 use Rattle.cedar_typing.specs.Evaluation.World.{Request}
-use Rattle.cedar_typing.proofs.Members.{in_left, in_right, in_flat, all_flat}
+use Rattle.cedar_typing.proofs.Basics.Members.{in_left, in_right, in_flat, all_flat}
 use Rattle.cedar_typechecker.specs.Slices.Reach.{ids_of, reach, reach_below}
 use Rattle.cedar_typechecker.proofs.Levels.Inclusions.{in_either}
 use Rattle.cedar_typechecker.proofs.Slices.Stores.{passes, slices_hold}

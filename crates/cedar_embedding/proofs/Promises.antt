@@ -2,16 +2,16 @@
 use Rattle.std.proofs.Common.{◌≡◌, ℕ, Bool, true, List, [], sym, ◌∙◌}
 use Rattle.cedar_types.specs.declared.base.types.ValidationMode.{ValidationMode}
 use Rattle.cedar_types.specs.Errors.{Finding, Caution}
-use Rattle.cedar_types.specs.Linking.{checked_envs}
-use Rattle.cedar_types.specs.RequestEnvs.{Env}
+use Rattle.cedar_types.specs.Environments.Linking.{checked_envs}
+use Rattle.cedar_types.specs.Environments.RequestEnvs.{Env}
 use Rattle.cedar_types.specs.Templates.{PlainTemplate, condition_of}
 use Rattle.cedar_typing.specs.Evaluation.Conformance.{IsOneOf}
 use Rattle.cedar_typing.specs.PolicyCheck.{succeeds, PolicyChecks}
-use Rattle.cedar_typing.specs.PolicyOutcome.{passes, impossible}
-use Rattle.cedar_typing.specs.PolicySoundness.{Basis, IsNamedBySchema, PolicyIsSafeIn, ImpossibleIsNeverTrueIn, CheckedOn, setting_on}
-use Rattle.cedar_typing.specs.SoundPolicyCheck.{IsSoundPolicyCheckIn}
+use Rattle.cedar_typing.specs.PolicyCheck.Outcome.{passes, impossible}
+use Rattle.cedar_typing.specs.Soundness.Policies.{Basis, IsNamedBySchema, PolicyIsSafeIn, ImpossibleIsNeverTrueIn, CheckedOn, setting_on}
+use Rattle.cedar_typing.specs.Soundness.PolicyCheck.{IsSoundPolicyCheckIn}
 use Rattle.cedar_typing.specs.TypedExpr.{TypedTree}
-use Rattle.cedar_typing.proofs.EachEnvironment.{each_has_passing}
+use Rattle.cedar_typing.proofs.Policies.EachEnvironment.{each_has_passing}
 use Rattle.cedar_typechecker.specs.Slices.Validation.{IsCutNowhere, SilenceIsKeptIn}
 use Rattle.cedar_typechecker.proofs.Slices.Validation.{passing_is_no_cut}
 use Rattle.cedar_embedding.specs.declared.safety.SoundMode.{SoundMode}

@@ -3,7 +3,7 @@ use Rattle.std.proofs.Common.{◌≡◌, ℕ, ◌+◌, ◌<◌, Bool, true, List
 use Rattle.std.proofs.lemmas.List.{map_push, take_more}
 use Rattle.std.proofs.lemmas.List.Elements.{All-push}
 use Rattle.cedar_types.specs.Templates.{PlainTemplate, template_of}
-use Rattle.cedar_typing.specs.PolicySoundness.{Basis}
+use Rattle.cedar_typing.specs.Soundness.Policies.{Basis}
 use Rattle.cedar_embedding.specs.declared.reports.PolicyReport.{PolicyReport}
 use Rattle.cedar_embedding.specs.Safety.{PassesEverywhere, DoesNotGoWrong, IsNeverTrue, IsRight}
 

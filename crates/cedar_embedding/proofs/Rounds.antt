@@ -4,7 +4,7 @@ use Rattle.std.specs.List.{flat_map}
 use Rattle.std.proofs.lemmas.Bool.{cases_lt}
 use Rattle.cedar_types.specs.Names.{Uid}
 use Rattle.cedar_typing.specs.Evaluation.Conformance.{IsOneOf}
-use Rattle.cedar_typing.proofs.Members.{in_left, in_right, in_flat, all_flat}
+use Rattle.cedar_typing.proofs.Basics.Members.{in_left, in_right, in_flat, all_flat}
 use Rattle.cedar_typechecker.proofs.Levels.Inclusions.{in_either}
 use Rattle.cedar_embedding.specs.Loading.{AreAmong, AreSame, ids_at, ids_below, AddsNew}
 

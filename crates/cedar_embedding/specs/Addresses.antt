@@ -1,8 +1,8 @@
 -- What the check of `ip` means.
 use Rattle.std.specs.Prelude.{Bool, true, false, List, [], ◌∷◌, Option, Some, None, codes, if◌then◌else◌}
 use Rattle.cedar_types.specs.Names.{Text}
-use Rattle.cedar_types.specs.Tree.{Tree, lit, string}
-use Rattle.cedar_types.specs.View.{Written}
+use Rattle.cedar_types.specs.Expressions.Tree.{Tree, lit, string}
+use Rattle.cedar_types.specs.Expressions.View.{Written}
 
 -- the empty string literal
 abbrev pub is_empty_text : Tree Written → Bool

@@ -3,7 +3,7 @@
 use Rattle.std.specs.Prelude.{◌≡◌, ◌⊎◌, ℕ, zero, suc, List, [], ◌++◌}
 use Rattle.std.specs.List.{flat_map}
 use Rattle.cedar_types.specs.Names.{Uid}
-use Rattle.cedar_types.specs.Stores.{Store, entity_at}
+use Rattle.cedar_types.specs.Values.Stores.{Store, entity_at}
 use Rattle.cedar_typechecker.specs.Slices.Reach.{reach, IsPartOf, HoldsSlice}
 use Rattle.cedar_typing.specs.Evaluation.Conformance.{IsOneOf}
 use Rattle.cedar_typing.specs.Evaluation.World.{Request}

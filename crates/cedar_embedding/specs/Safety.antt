@@ -2,10 +2,10 @@
 use Rattle.std.specs.Prelude.{◌≡◌, true, false}
 use Rattle.cedar_types.specs.declared.base.types.ValidationMode.{ValidationMode}
 use Rattle.cedar_types.specs.Extensions.{functions_of, overloaded_types_of}
-use Rattle.cedar_types.specs.ExtensionFunctions.{Refusals}
-use Rattle.cedar_types.specs.Linking.{checked_envs}
-use Rattle.cedar_types.specs.RequestEnvs.{Env}
-use Rattle.cedar_types.specs.SchemaContents.{schema_of}
+use Rattle.cedar_types.specs.Extensions.Functions.{Refusals}
+use Rattle.cedar_types.specs.Environments.Linking.{checked_envs}
+use Rattle.cedar_types.specs.Environments.RequestEnvs.{Env}
+use Rattle.cedar_types.specs.Schemas.Contents.{schema_of}
 use Rattle.cedar_types.specs.Templates.{PlainTemplate, template_of, condition_of}
 use Rattle.cedar_typechecker.specs.declared.rbac.validator.Validator.{Validator}
 use Rattle.cedar_typechecker.specs.ValidatorViews.{schema_in, extensions_in}
@@ -14,9 +14,9 @@ use Rattle.cedar_typing.specs.Evaluation.Conformance.{IsOneOf, IsEnvironmentOf, 
 use Rattle.cedar_typing.specs.Evaluation.Eval.{eval}
 use Rattle.cedar_typing.specs.Evaluation.World.{World}
 use Rattle.cedar_typing.specs.PolicyCheck.{Verdict, PolicyChecks}
-use Rattle.cedar_typing.specs.PolicyOutcome.{passes}
-use Rattle.cedar_typing.specs.PolicySoundness.{Basis, IsWellFormed, IsConforming, setting_on}
-use Rattle.cedar_typing.specs.SoundPolicyCheck.{IsBooleanOrAllowed}
+use Rattle.cedar_typing.specs.PolicyCheck.Outcome.{passes}
+use Rattle.cedar_typing.specs.Soundness.Policies.{Basis, IsWellFormed, IsConforming, setting_on}
+use Rattle.cedar_typing.specs.Soundness.PolicyCheck.{IsBooleanOrAllowed}
 use Rattle.cedar_typing.specs.Soundness.{IsTrueOutcome, IsWorldOf}
 use Rattle.cedar_embedding.specs.declared.reports.PolicyReport.{PolicyReport}
 use Rattle.cedar_embedding.specs.declared.safety.SoundMode.{SoundMode}

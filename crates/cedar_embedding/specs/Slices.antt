@@ -5,7 +5,7 @@ use Rattle.cedar_typechecker.specs.Levels.Required.{IsRequiredLevel}
 use Rattle.cedar_typechecker.specs.Slices.Validation.{IsKeptInSlices}
 use Rattle.cedar_typing.specs.Evaluation.Conformance.{has_external}
 use Rattle.cedar_typing.specs.Evaluation.World.{World}
-use Rattle.cedar_typing.specs.PolicySoundness.{Basis, IsWellFormed, IsConforming}
+use Rattle.cedar_typing.specs.Soundness.Policies.{Basis, IsWellFormed, IsConforming}
 use Rattle.cedar_embedding.specs.declared.slices.SliceReport.{SliceReport}
 use Rattle.cedar_embedding.specs.Safety.{IsRight}
 

@@ -1,6 +1,6 @@
 //! Extension functions: addresses, and whether one is in the range of another.
 ghost use Rattle.std.specs.Prelude.{◌≡◌, map};
-ghost use Rattle.cedar_types.specs.View.{written};
+ghost use Rattle.cedar_types.specs.Expressions.View.{written};
 ghost use Rattle.cedar_embedding.specs.Addresses.{begins_with_empty_text, is_empty_text};
 
 use crate::schemas::address;

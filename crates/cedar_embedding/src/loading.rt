@@ -1,9 +1,9 @@
 //! Which entities a slice has, and how a host finds them: entity by entity, in rounds.
 ghost use Rattle.std.specs.Prelude.{◌≡◌, ◌++◌, IfOk, OnOk, map, List};
 ghost use Rattle.std.specs.List.{flat_map};
-ghost use Rattle.cedar_types.specs.Declarations.{uids_of};
+ghost use Rattle.cedar_types.specs.Schemas.Declarations.{uids_of};
 ghost use Rattle.cedar_types.specs.Names.{Uid, uid_of};
-ghost use Rattle.cedar_types.specs.Stores.{Store, entity_at};
+ghost use Rattle.cedar_types.specs.Values.Stores.{Store, entity_at};
 ghost use Rattle.cedar_typechecker.specs.Slices.Reach.{ids_of};
 ghost use Rattle.cedar_embedding.specs.Loading.{AreAmong, AreSame, ids_below, LoadsSlices, AddsNew};
 

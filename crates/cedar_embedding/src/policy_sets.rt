@@ -1,8 +1,8 @@
 //! A host that validates a set of policies.
 ghost use Rattle.std.specs.Prelude.{◌≡◌, true, [], map, All, IfOk};
-ghost use Rattle.cedar_types.specs.SchemaContents.{schema_of};
+ghost use Rattle.cedar_types.specs.Schemas.Contents.{schema_of};
 ghost use Rattle.cedar_types.specs.Templates.{template_of};
-ghost use Rattle.cedar_typing.specs.PolicySoundness.{IsNamedBySchema};
+ghost use Rattle.cedar_typing.specs.Soundness.Policies.{IsNamedBySchema};
 ghost use Rattle.cedar_typechecker.specs.Passes.{errors_left};
 ghost use Rattle.cedar_embedding.specs.Safety.{basis_in, PassesEverywhere, DoesNotGoWrong};
 ghost use Rattle.cedar_embedding.specs.Safety.{IsNeverTrue, IsRight};

@@ -1,8 +1,8 @@
 //! The modes of a host, and what the promise of a check gives to it.
 ghost use Rattle.std.specs.Prelude.{◌≡◌, true, IfOk};
-ghost use Rattle.cedar_types.specs.RequestEnvs.{env_of};
+ghost use Rattle.cedar_types.specs.Environments.RequestEnvs.{env_of};
 ghost use Rattle.cedar_types.specs.Templates.{template_of};
-ghost use Rattle.cedar_typing.specs.CheckViews.{basis_of};
+ghost use Rattle.cedar_typing.specs.Views.Checks.{basis_of};
 ghost use Rattle.cedar_embedding.specs.Safety.{basis_in, IsSafeToEvaluate};
 
 use cedar_typechecker::rbac::Validator;

@@ -2,7 +2,7 @@
 use Rattle.std.specs.Prelude.{◌≡◌, List, [], ◌∷◌, ◌++◌, codes, map, Bool, true, false, Some, if◌then◌else◌}
 use Rattle.std.proofs.Common.{inl, inr}
 use Rattle.cedar_types.specs.Names.{Uid, uid_of, uid_eq}
-use Rattle.cedar_types.specs.Stores.{Entity, entity_at}
+use Rattle.cedar_types.specs.Values.Stores.{Entity, entity_at}
 use Rattle.cedar_types.specs.Values.{Value, VEntity, VSet, Values, no_values, more_values, Entries, no_entries, more_entries}
 use Rattle.cedar_embedding.specs.Loading.{AreAmong}
 use Rattle.cedar_embedding_tests.specs.declared.memory.Linked.{Linked}

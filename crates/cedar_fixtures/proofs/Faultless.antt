@@ -1,7 +1,7 @@
 -- No table of these functions is refused.
 use Rattle.std.proofs.Common.{◌≡◌, refl, ap, ◌∙◌, List, [], ◌∷◌, Some, None, map}
 use Rattle.cedar_types.specs.declared.base.expressions.extensions.ExtensionTableError.{ExtensionTableError}
-use Rattle.cedar_types.specs.ExtensionFunctions.{ExtensionFunction, Refusals, table_fault}
+use Rattle.cedar_types.specs.Extensions.Functions.{ExtensionFunction, Refusals, table_fault}
 use Rattle.cedar_fixtures.specs.Tables.{ip, is_in_range, sum}
 
 pub no_fault_of_addresses : (r : Refusals) → table_fault (ip r ∷ is_in_range ∷ []) ≡ None

@@ -1,7 +1,7 @@
 -- The functions of the tables that the rows and the cases are typed by.
 use Rattle.std.specs.Prelude.{true, false, [], ◌∷◌, Some, None, codes}
 use Rattle.cedar_types.specs.declared.base.types.BoolType.TheVariants.{AnyBool}
-use Rattle.cedar_types.specs.ExtensionFunctions.{ExtensionFunction, Refusals}
+use Rattle.cedar_types.specs.Extensions.Functions.{ExtensionFunction, Refusals}
 use Rattle.cedar_types.specs.Names.{Text, Path}
 use Rattle.cedar_types.specs.Types.{Ty, TBool, TLong, TString, TExtension}
 

@@ -1,6 +1,6 @@
 // The check of the arguments of `ip`.
 ghost use Rattle.std.specs.Prelude.{◌≡◌, map};
-ghost use Rattle.cedar_types.specs.View.{written};
+ghost use Rattle.cedar_types.specs.Expressions.View.{written};
 ghost use Rattle.cedar_fixtures.specs.Addresses.{begins_with_empty_text, is_empty_text};
 
 use cedar_types::base::{ArgumentCheck, ArgumentError, Expr, ExprKind, Literal};

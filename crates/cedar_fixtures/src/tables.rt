@@ -1,7 +1,7 @@
 // The functions of the tables that the rows and the cases are typed by.
 ghost use Rattle.std.specs.Prelude.{◌≡◌, [], ◌∷◌, map, IfOk};
 ghost use Rattle.cedar_types.specs.Types.{ty_of};
-ghost use Rattle.cedar_types.specs.ExtensionFunctions.{function_of};
+ghost use Rattle.cedar_types.specs.Extensions.Functions.{function_of};
 ghost use Rattle.cedar_fixtures.specs.Tables.{address, ip, is_in_range, sum};
 
 use cedar_types::base::{ArgumentCheck, CedarType, ExtensionFunctionType, Name};

@@ -6,7 +6,7 @@ use Rattle.std.specs.Prelude.{IsPermutation}
 use Rattle.std.proofs.lemmas.List.Sorted.{list_any-IsPermutation}
 use Rattle.std.proofs.lemmas.Map.Keys.{IsDistinct-IsPermutation}
 use Rattle.cedar_types.specs.declared.base.names.entities.EntityUID.{EntityUID}
-use Rattle.cedar_types.specs.Listings.{ListsTypes}
+use Rattle.cedar_types.specs.Schemas.Listings.{ListsTypes}
 use Rattle.cedar_types.specs.Names.{Path, Uid, path_eq, uid_eq, uid_of, placed_uid}
 use Rattle.cedar_types.specs.Schemas.{Schema, DeclaredAction, Application, has_fault, has_repeat, is_among, uid_is_among, descendants_of, action_named}
 use Rattle.cedar_types.specs.Templates.{Scope, PlainTemplate}

@@ -4,8 +4,8 @@ use Rattle.std.specs.List.{filter_map, cons_option}
 use Rattle.std.specs.Prelude.{IsPermutation}
 use Rattle.std.proofs.lemmas.List.Sorted.{IsPermutation-refl}
 use Rattle.cedar_types.specs.Errors.{Finding, unrecognized_entity_type, unrecognized_action_id, invalid_enum_entity}
-use Rattle.cedar_types.specs.Findings.{finding_at, template_uids, template_types, is_unknown_type, is_unknown_action, is_wrong_member, unknown_types, unknown_actions, wrong_members}
-use Rattle.cedar_types.specs.Mentions.{Mention, named_uid, named_type, mentioned_uid, mentioned_type, template_mentions}
+use Rattle.cedar_types.specs.Templates.Findings.{finding_at, template_uids, template_types, is_unknown_type, is_unknown_action, is_wrong_member, unknown_types, unknown_actions, wrong_members}
+use Rattle.cedar_types.specs.Templates.Mentions.{Mention, named_uid, named_type, mentioned_uid, mentioned_type, template_mentions}
 use Rattle.cedar_types.specs.Names.{PlacedType, PlacedUid}
 use Rattle.cedar_types.specs.Schemas.{Schema}
 use Rattle.cedar_types.specs.Templates.{PlainTemplate}

@@ -6,7 +6,7 @@ use Rattle.cedar_types.specs.declared.base.names.entities.EntityUID.{EntityUID}
 use Rattle.cedar_types.specs.declared.base.names.slots.SlotId.{SlotId}
 use Rattle.cedar_types.specs.Errors.{Caution, caution_of, invalid_action_application}
 use Rattle.cedar_types.specs.Names.{Path, PlacedUid, placed_uid}
-use Rattle.cedar_types.specs.RequestEnvs.{bound_to}
+use Rattle.cedar_types.specs.Environments.RequestEnvs.{bound_to}
 use Rattle.cedar_types.specs.Schemas.{Application, Schema, is_among, descendants_of}
 use Rattle.cedar_types.specs.Templates.{Reference, to_entity, to_slot, Scope, any, equal, within, typed, typed_within, PlainTemplate}
 use Rattle.cedar_typechecker.specs.declared.rbac.flags.Side.{Side}

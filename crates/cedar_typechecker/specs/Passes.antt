@@ -2,11 +2,11 @@
 use Rattle.std.specs.Prelude.{Bool, List, [], cond, Option, Some, None}
 use Rattle.std.specs.List.{filter_map}
 use Rattle.cedar_types.specs.Errors.{Finding, unrecognized_entity_type, unrecognized_action_id, invalid_enum_entity}
-use Rattle.cedar_types.specs.Findings.{is_unknown_type, is_unknown_action, is_wrong_member}
-use Rattle.cedar_types.specs.Mentions.{Mention, mentioned_uid, mentioned_type}
-use Rattle.cedar_types.specs.MentionViews.{mentions_left}
+use Rattle.cedar_types.specs.Templates.Findings.{is_unknown_type, is_unknown_action, is_wrong_member}
+use Rattle.cedar_types.specs.Templates.Mentions.{Mention, mentioned_uid, mentioned_type}
+use Rattle.cedar_types.specs.Templates.MentionViews.{mentions_left}
 use Rattle.cedar_types.specs.Names.{Text, PlacedType, PlacedUid, text_of}
-use Rattle.cedar_types.specs.SchemaContents.{schema_of}
+use Rattle.cedar_types.specs.Schemas.Contents.{schema_of}
 use Rattle.cedar_types.specs.Schemas.{Schema}
 use Rattle.cedar_typechecker.specs.declared.rbac.literal_errors.LiteralErrors.{LiteralErrors}
 use Rattle.cedar_typechecker.specs.declared.rbac.literal_errors.LiteralPass.{LiteralPass}

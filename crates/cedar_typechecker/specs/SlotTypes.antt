@@ -2,9 +2,9 @@
 use Rattle.std.specs.Prelude.{Bool, List, [], cond, map, filter, None}
 use Rattle.cedar_types.specs.declared.base.names.entities.EntityUID.{EntityUID}
 use Rattle.cedar_types.specs.Errors.{Finding, unrecognized_entity_type}
-use Rattle.cedar_types.specs.Findings.{is_unknown_type}
+use Rattle.cedar_types.specs.Templates.Findings.{is_unknown_type}
 use Rattle.cedar_types.specs.Names.{Text, text_of, type_of}
-use Rattle.cedar_types.specs.SchemaContents.{schema_of}
+use Rattle.cedar_types.specs.Schemas.Contents.{schema_of}
 use Rattle.cedar_types.specs.Schemas.{Schema}
 use Rattle.cedar_typechecker.specs.declared.rbac.slot_errors.SlotTypeErrors.{SlotTypeErrors}
 

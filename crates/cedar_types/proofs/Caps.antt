@@ -4,7 +4,7 @@ use Rattle.std.specs.List.{list_any}
 use Rattle.std.specs.Ordering.{is_eq}
 use Rattle.std.specs.declared.cmp.Ordering.{Ordering}
 use Rattle.std.specs.declared.cmp.Ordering.TheVariants.{Less, Equal, Greater}
-use Rattle.cedar_types.specs.Entries.{IsPoint, HasOneMore}
+use Rattle.cedar_types.specs.Capability.Entries.{IsPoint, HasOneMore}
 use Rattle.std.specs.declared.alloc.AllocError.{AllocError}
 use Rattle.cedar_types.specs.declared.types.capability.digested.Capability.{Capability}
 use Rattle.cedar_types.specs.contracts.types.capability.digested.CapabilityOrd.TheImpl.Laws as ord_laws

@@ -6,8 +6,8 @@ use Rattle.cedar_types.specs.declared.types.capability.chain_steps.ChainStep.{Ch
 use Rattle.cedar_types.specs.Accesses.{got, texts_at}
 use Rattle.cedar_types.specs.ChainSteps.{made_up, step_shape, step_written}
 use Rattle.cedar_types.specs.Names.{Text}
-use Rattle.cedar_types.specs.Tree.{Tree, map_tree}
-use Rattle.cedar_types.specs.View.{Written, written}
+use Rattle.cedar_types.specs.Expressions.Tree.{Tree, map_tree}
+use Rattle.cedar_types.specs.Expressions.View.{Written, written}
 use Rattle.cedar_types.proofs.Expressions.Marks.{shape-written}
 
 -- a last access is an access of what the others come to

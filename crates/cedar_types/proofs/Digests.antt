@@ -1,17 +1,17 @@
 -- What digests tell of the shapes of capabilities: those of one shape have one digest.
 use Rattle.std.proofs.Common.{◌≡◌, ℕ, Bool, true, false, ◌&&◌, nat_eq, refl, sym, ap, subst, ◌∙◌, true≢false}
 use borrow.Author.Tests.{eq-eqb}
-use Rattle.cedar_types.specs.Digest.{digest_of, with_text, with_digest, shape_digest}
+use Rattle.cedar_types.specs.Capability.Digest.{digest_of, with_text, with_digest, shape_digest}
 use Rattle.cedar_types.specs.declared.types.capability.digested.Capability.{Capability}
 use Rattle.cedar_types.specs.declared.types.capability.digested.Known.{Known}
 use Rattle.cedar_types.specs.contracts.types.capability.digested.KnownPartialEq.TheImpl as known_eq
-use Rattle.cedar_types.specs.TreeEq.{tree_eq}
+use Rattle.cedar_types.specs.Expressions.TreeEq.{tree_eq}
 use Rattle.cedar_types.specs.Lemmas.Comparisons.{text_same, and_left, and_right, and_both}
 use Rattle.cedar_types.specs.Names.{text_eq, text_of}
 use Rattle.cedar_types.specs.Lemmas.TreeSame.{tree_same}
-use Rattle.cedar_types.specs.Tree.{Shape}
+use Rattle.cedar_types.specs.Expressions.Tree.{Shape}
 use Rattle.cedar_types.specs.Accesses.{shape_on}
-use Rattle.cedar_types.specs.ShapeOnly.{shape_of}
+use Rattle.cedar_types.specs.Expressions.ShapeOnly.{shape_of}
 use Rattle.cedar_types.specs.Capability.{Cap, attribute, tag, cap_eq, cap_of, known_of}
 
 and_false : (b : Bool) → (b && false) ≡ false

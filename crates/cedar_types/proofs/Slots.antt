@@ -8,8 +8,8 @@ use Rattle.std.specs.declared.cmp.Ordering.{Ordering}
 use Rattle.cedar_types.specs.contracts.base.names.slots.SlotIdOrd.TheImpl as slot_order
 use Rattle.cedar_types.specs.declared.base.names.entities.EntityUID.{EntityUID}
 use Rattle.cedar_types.specs.declared.base.names.slots.SlotId.{SlotId}
-use Rattle.cedar_types.specs.TreeEq.{slot_eq}
-use Rattle.cedar_types.specs.RequestEnvs.{bound_to}
+use Rattle.cedar_types.specs.Expressions.TreeEq.{slot_eq}
+use Rattle.cedar_types.specs.Environments.RequestEnvs.{bound_to}
 
 abbrev pub slot_cmp : SlotId → SlotId → Ordering
 slot_cmp = slot_order.ghosts.cmp

@@ -15,9 +15,9 @@ use Rattle.cedar_types.specs.declared.types.capability.accesses.Accesses.{Access
 use Rattle.cedar_types.specs.declared.types.capability.owners.Owner.{Owner}
 use Rattle.cedar_types.specs.contracts.base.expressions.ExprOrd.TheImpl as expr_ord
 use Rattle.cedar_types.specs.Names.{Text, text_of, text_cmp}
-use Rattle.cedar_types.specs.Tree.{Shape, get_attr}
-use Rattle.cedar_types.specs.TreeEq.{tree_eq}
-use Rattle.cedar_types.specs.View.{shape}
+use Rattle.cedar_types.specs.Expressions.Tree.{Shape, get_attr}
+use Rattle.cedar_types.specs.Expressions.TreeEq.{tree_eq}
+use Rattle.cedar_types.specs.Expressions.View.{shape}
 
 abbrev pub at_most_one : {A : Type 0} → Option A → List A
 at_most_one None = []

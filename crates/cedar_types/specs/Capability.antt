@@ -8,10 +8,12 @@ use Rattle.cedar_types.specs.declared.types.capability.digested.Known.{Known}
 use Rattle.cedar_types.specs.contracts.types.capability.digested.CapabilityPartialEq.TheImpl as eq_impl
 use Rattle.cedar_types.specs.contracts.types.capability.digested.CapabilityOrd.TheImpl as ord_impl
 use Rattle.cedar_types.specs.Names.{Text, text_of, text_eq}
-use Rattle.cedar_types.specs.Tree.{Shape}
-use Rattle.cedar_types.specs.TreeEq.{tree_eq}
+use Rattle.cedar_types.specs.Expressions.Tree.{Shape}
+use Rattle.cedar_types.specs.Expressions.TreeEq.{tree_eq}
 use Rattle.cedar_types.specs.Accesses.{shape_on}
-use Rattle.cedar_types.specs.ShapeOnly.{shape_of}
+use Rattle.cedar_types.specs.Expressions.ShapeOnly.{shape_of}
+pub mod Entries
+pub mod Digest
 
 -- that an expression has an attribute of that name, or a tag of the name that an expression gives
 pub data Cap : Type 0 where

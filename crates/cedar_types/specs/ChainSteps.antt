@@ -4,8 +4,8 @@ use Rattle.std.specs.List.{fold}
 use Rattle.cedar_types.specs.declared.types.capability.chain_steps.ChainStep.{ChainStep}
 use Rattle.cedar_types.specs.Accesses.{shape_at, texts_at}
 use Rattle.cedar_types.specs.Names.{Text, text_of}
-use Rattle.cedar_types.specs.Tree.{Tree, get_attr, Shape}
-use Rattle.cedar_types.specs.View.{Written, no_name, written}
+use Rattle.cedar_types.specs.Expressions.Tree.{Tree, get_attr, Shape}
+use Rattle.cedar_types.specs.Expressions.View.{Written, no_name, written}
 
 -- `e.x`, which no policy has
 abbrev pub made_up : Tree Written → Text → Tree Written

@@ -5,6 +5,10 @@ use Rattle.cedar_types.specs.Names.{Path, Uid, type_of, uid_of}
 use Rattle.cedar_types.specs.Types.{Ty, ty_of}
 use Rattle.cedar_types.specs.Schemas.{Application, DeclaredAction}
 use Rattle.cedar_types.specs.declared.base.schema.request_environments.UnlinkedRequestEnv.{UnlinkedRequestEnv}
+pub mod RequestEnvs
+pub mod Linking
+pub mod LinkViews
+pub mod SlotLinks
 
 -- what a request may be about, without slots
 pub record DeclaredEnv : Type 0 where

@@ -1,8 +1,10 @@
 -- Tables of extension functions as plain data.
 use Rattle.std.specs.Prelude.{List, map}
 use Rattle.cedar_types.specs.declared.base.expressions.extensions.ExtensionSchemas.{ExtensionSchemas}
-use Rattle.cedar_types.specs.ExtensionFunctions.{Refusals, ExtensionFunction, function_of}
+use Rattle.cedar_types.specs.Extensions.Functions.{Refusals, ExtensionFunction, function_of}
 use Rattle.cedar_types.specs.Names.{Path, path_of}
+pub mod Functions
+pub mod ArgumentChecks
 
 -- the functions, and the extension types that `<` and `<=` compare
 pub record ExtensionTable : Type 0 where

@@ -10,6 +10,8 @@ use Rattle.cedar_types.specs.declared.base.location.Loc.{Loc}
 use Rattle.cedar_types.specs.declared.base.names.Name.{Name}
 use Rattle.cedar_types.specs.declared.base.names.entities.EntityType.{EntityType}
 use Rattle.cedar_types.specs.declared.base.names.entities.EntityUID.{EntityUID}
+pub mod Comparisons
+pub mod Ascending
 
 -- a text, as its bytes
 abbrev pub Text : Type 0

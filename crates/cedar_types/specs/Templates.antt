@@ -10,8 +10,11 @@ use Rattle.cedar_types.specs.declared.base.templates.constraints.PrincipalOrReso
 use Rattle.cedar_types.specs.declared.base.templates.constraints.ActionConstraint.{ActionConstraint}
 use Rattle.cedar_types.specs.declared.base.templates.Template.{Template}
 use Rattle.cedar_types.specs.Names.{Text, PlacedType, PlacedUid, text_of, placed_type, placed_uid}
-use Rattle.cedar_types.specs.Tree.{bool, entity, Tree, lit, var, slot, and, binary, is_type, set_of}
-use Rattle.cedar_types.specs.View.{no_name, of_type, of_uid, Written, trees_of, written}
+use Rattle.cedar_types.specs.Expressions.Tree.{bool, entity, Tree, lit, var, slot, and, binary, is_type, set_of}
+use Rattle.cedar_types.specs.Expressions.View.{no_name, of_type, of_uid, Written, trees_of, written}
+pub mod Mentions
+pub mod MentionViews
+pub mod Findings
 
 -- what a scope constraint names: an entity, or the slot of its variable
 pub data Reference : Type 0 where

@@ -4,7 +4,7 @@ use Rattle.std.specs.BTreeSet.{BTreeSet}
 use Rattle.std.specs.declared.alloc.Global.{Global}
 use Rattle.std.specs.declared.rc.RcStr.{RcStr}
 use Rattle.cedar_types.specs.Names.{Text, Path, text_of, path_of, type_of}
-use Rattle.cedar_types.specs.Ascending.{has_members, texts_ascending, paths_ascending}
+use Rattle.cedar_types.specs.Names.Ascending.{has_members, texts_ascending, paths_ascending}
 use Rattle.cedar_types.specs.declared.base.names.entities.EntityType.{EntityType}
 use Rattle.cedar_types.specs.declared.base.types.entity_sets.EntityLUB.{EntityLUB}
 use Rattle.cedar_types.specs.declared.base.types.BoolType.{BoolType}
@@ -17,6 +17,10 @@ use Rattle.cedar_types.specs.declared.base.types.Attributes.{Attributes, fold-At
 use Rattle.cedar_types.specs.declared.base.types.CedarType.{CedarType, fold-CedarType}
 use Rattle.cedar_types.specs.declared.base.types.CedarType.TheOpen as layer
 use Rattle.cedar_types.specs.declared.base.types.CedarType.TheOpen.{CedarType-F, AttributeType-F, Attributes-F}
+pub mod Bounds
+pub mod BoundLaws
+pub mod Order
+pub mod Lookups
 
 mutual
   pub data Ty : Type 0 where

@@ -6,6 +6,7 @@ use Rattle.cedar_types.specs.Types.{Ty, TNever, TBool, TLong, TString, TSet, TAn
 use Rattle.cedar_types.specs.Schemas.{is_among}
 use Rattle.cedar_types.specs.declared.base.types.BoolType.{BoolType}
 use Rattle.cedar_types.specs.declared.base.types.BoolType.TheVariants.{AnyBool, True, False}
+pub mod Stores
 
 mutual
   pub data Value : Type 0 where

@@ -1,5 +1,7 @@
 -- Facts about truth values and options that several proofs use.
 use Rattle.std.proofs.Common.{◌≡◌, Bool, true, false, ◌||◌, not, Some, None, refl}
+pub mod Members
+pub mod Gains
 
 pub some_is : {A : Type 0} {x y : A} → Some x ≡ Some y → x ≡ y
 some_is e = cc

@@ -1,7 +1,7 @@
 -- An expression is cut exactly where a part that is visited is too deep.
 use Rattle.std.proofs.Common.{◌≡◌, ℕ, ◌+◌, ◌≤◌, ◌<◌, Bool, true, false, List, [], Option, None, refl}
-use Rattle.cedar_types.specs.Tree.{lit, var, slot, unknown, if_then_else, and, or, unary, binary, call, get_attr, has_attr, ext_has_attr, like, is_type, set_of, record_of, Trees, no_trees, tree, Fields, no_fields, field}
-use Rattle.cedar_types.specs.View.{Written}
+use Rattle.cedar_types.specs.Expressions.Tree.{lit, var, slot, unknown, if_then_else, and, or, unary, binary, call, get_attr, has_attr, ext_has_attr, like, is_type, set_of, record_of, Trees, no_trees, tree, Fields, no_fields, field}
+use Rattle.cedar_types.specs.Expressions.View.{Written}
 use Rattle.cedar_types.specs.Errors.{Finding}
 use Rattle.cedar_typing.specs.Capabilities.{Caps, union}
 use Rattle.cedar_typing.specs.Eager.{Expectation, first_expectation, later_expectations}
@@ -9,7 +9,7 @@ use Rattle.cedar_typing.specs.Infer.{infer}
 use Rattle.cedar_typing.specs.Infer.Eager.{infer_none}
 use Rattle.cedar_typing.specs.Infer.Parts.{Part, any_part}
 use Rattle.cedar_typing.specs.Judgments.{Cut, CutAt, the_cut, max_nesting, PartResult, Operand, too_deep, by_part}
-use Rattle.cedar_typing.specs.RuleLaws.{IsCut, IsVisited, itself, left_of_and, right_of_and, left_of_or, right_of_or, test_of_if, then_of_if, else_of_if, operand_of_unary, left_of_binary, right_of_binary, base_of_has, base_of_get, base_of_chain, operand_of_like, operand_of_is, argument_of_call, element_of_set, value_of_record, SomeIsVisited, in_first, in_later, SomeFieldIsVisited, in_first_field, in_later_field, CutIsByDepth}
+use Rattle.cedar_typing.specs.Rules.Laws.{IsCut, IsVisited, itself, left_of_and, right_of_and, left_of_or, right_of_or, test_of_if, then_of_if, else_of_if, operand_of_unary, left_of_binary, right_of_binary, base_of_has, base_of_get, base_of_chain, operand_of_like, operand_of_is, argument_of_call, element_of_set, value_of_record, SomeIsVisited, in_first, in_later, SomeFieldIsVisited, in_first_field, in_later_field, CutIsByDepth}
 use Rattle.cedar_typing.specs.Rules.{rules, rules_within, rules_all, rules_fields, Cuts}
 use Rattle.cedar_typing.specs.Rules.Attributes.{has_form, get_form}
 use Rattle.cedar_typing.specs.Rules.Binary.{binary_form}
@@ -25,8 +25,9 @@ use Rattle.cedar_typing.specs.TypedExpr.{Source, TypedTree, annotation, place_of
 use Rattle.cedar_typing.proofs.Agreement.Eager.{none_agrees, more_agree}
 use Rattle.cedar_typing.proofs.Agreement.Induction.{agrees, agrees_all, agrees_fields}
 use Rattle.cedar_typing.proofs.Agreement.Parts.{is_given, is_cut, PartAnswer, PartFound, part_found, part_visited}
-use Rattle.cedar_typing.proofs.BrokenOperands.{IsBroken, one_is_cut, this_is_cut, later_is_cut, operand_deep, operands_deep, operand_breaks}
+use Rattle.cedar_typing.proofs.Cuts.Operands.{IsBroken, one_is_cut, this_is_cut, later_is_cut, operand_deep, operands_deep, operand_breaks}
 use Rattle.cedar_typing.proofs.TypeTests.{true_is_not_false, false_is_not_true}
+pub mod Operands
 
 abbrev Deep : Setting → Source → Caps → ℕ → Type 0
 Deep s e prior d = (k : ℕ) × (max_nesting < k) × IsVisited s e prior d k

@@ -7,7 +7,6 @@ pub mod Bounds
 pub mod Rules
 pub mod Eager
 pub mod Equality
-pub mod Collections
 pub mod Calls
 pub mod Membership
 pub mod Tags
@@ -15,6 +14,8 @@ pub mod Operators
 pub mod Chains
 pub mod Attributes
 pub mod Declarations
-pub mod Records
 pub mod Induction
 pub mod Modes
+pub mod RecordTypes
+pub mod Sets
+pub mod Records

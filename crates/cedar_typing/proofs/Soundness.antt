@@ -12,8 +12,6 @@ pub mod Equality
 pub mod Sets
 pub mod Records
 pub mod Calls
-pub mod Conjunction
-pub mod Disjunction
 pub mod Unary
 pub mod Conditional
 pub mod Attributes
@@ -22,3 +20,5 @@ pub mod Tags
 pub mod Chains
 pub mod Induction
 pub mod PolicyCheck
+pub mod Policies
+pub mod ShortCircuit

@@ -3,6 +3,7 @@ use Rattle.std.proofs.Common.{◌≡◌, true, false, Option, Some, None, refl, 
 use Rattle.cedar_types.specs.declared.base.types.BoolType.TheVariants.{AnyBool, True, False}
 use Rattle.cedar_types.specs.Types.{Ty, TNever, TBool, TLong, TString, TSet, TAnySet, TRecord, TEntity, TAnyEntity, TExtension}
 use Rattle.cedar_typing.specs.TypeTests.{is_false, is_true, annotation_passes}
+pub mod VariableTypes
 
 pub false_type : (t : Ty) → is_false t ≡ true → t ≡ TBool False
 false_type (TBool False) h = refl

@@ -1,6 +1,7 @@
 -- Sets of capabilities, as the test of what is known.
 use Rattle.std.specs.Prelude.{Bool, false, ◌&&◌, ◌||◌}
 use Rattle.cedar_types.specs.Capability.{Cap, cap_eq}
+pub mod Priors
 
 abbrev pub Caps : Type 0
 Caps = Cap → Bool

@@ -8,18 +8,18 @@ use Rattle.cedar_types.specs.declared.base.types.ValidationMode.{ValidationMode}
 use Rattle.cedar_types.specs.declared.base.types.ValidationMode.TheVariants.{Strict}
 use Rattle.cedar_types.specs.Names.{Path, is_action_path}
 use Rattle.cedar_types.specs.Types.{Ty, TBool}
-use Rattle.cedar_types.specs.Tree.{var, slot, binary}
-use Rattle.cedar_types.specs.View.{Written}
+use Rattle.cedar_types.specs.Expressions.Tree.{var, slot, binary}
+use Rattle.cedar_types.specs.Expressions.View.{Written}
 use Rattle.cedar_types.specs.Errors.{Finding}
-use Rattle.cedar_types.specs.ExtensionFunctions.{table_fault}
+use Rattle.cedar_types.specs.Extensions.Functions.{table_fault}
 use Rattle.cedar_types.specs.Schemas.{Schema, has_fault}
 use Rattle.cedar_types.specs.Environments.{DeclaredEnv, environments_of}
-use Rattle.cedar_types.specs.RequestEnvs.{Env, Declared}
+use Rattle.cedar_types.specs.Environments.RequestEnvs.{Env, Declared}
 use Rattle.cedar_types.specs.Templates.{PlainTemplate, scope_condition, condition_of}
 use Rattle.cedar_types.specs.Values.{VBool}
-use Rattle.cedar_types.specs.Stores.{ConformingStore}
-use Rattle.cedar_types.specs.Parts.{mentions_slot}
-use Rattle.cedar_types.specs.Linking.{has_slot, checked_envs}
+use Rattle.cedar_types.specs.Values.Stores.{ConformingStore}
+use Rattle.cedar_types.specs.Expressions.Parts.{mentions_slot}
+use Rattle.cedar_types.specs.Environments.Linking.{has_slot, checked_envs}
 use Rattle.cedar_typing.specs.Capabilities.{Caps, no_caps}
 use Rattle.cedar_typing.specs.Evaluation.Conformance.{IsOneOf, FitsRequest, Fits, ConformingRequest, SlotsBound, has_external, KeepsTable}
 use Rattle.cedar_typing.specs.Evaluation.Eval.{eval}
@@ -28,7 +28,7 @@ use Rattle.cedar_typing.specs.Judgments.{max_nesting}
 use Rattle.cedar_typing.specs.PolicyCheck.{Verdict, succeeds, irrelevant, PolicyChecks}
 use Rattle.cedar_typing.specs.Rules.{Derives, Recovers, Cuts}
 use Rattle.cedar_typing.specs.Setting.{Setting, table}
-use Rattle.cedar_typing.specs.SoundPolicyCheck.{Promises}
+use Rattle.cedar_typing.specs.Soundness.PolicyCheck.{Promises}
 use Rattle.cedar_typing.specs.Soundness.{IsTrueOutcome}
 use Rattle.cedar_typing.specs.TypedExpr.{Source, TypedTree}
 

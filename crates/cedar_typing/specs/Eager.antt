@@ -2,8 +2,8 @@
 -- table decides: what such a form is.
 use Rattle.std.specs.Prelude.{Bool, true, false, List, [], ◌∷◌, map, Option, Some, None}
 use Rattle.cedar_types.specs.Types.{Ty}
-use Rattle.cedar_types.specs.Tree.{unknown}
-use Rattle.cedar_types.specs.View.{Written, no_name}
+use Rattle.cedar_types.specs.Expressions.Tree.{unknown}
+use Rattle.cedar_types.specs.Expressions.View.{Written, no_name}
 use Rattle.cedar_types.specs.Errors.{Finding}
 use Rattle.cedar_typing.specs.Capabilities.{Caps, no_caps}
 use Rattle.cedar_typing.specs.TypeTests.{accepts}

@@ -1,8 +1,8 @@
 -- The rules of typing, form by form: of each expression its type, the capabilities that it produces
 -- and its typed copy; where no rule gives it a type, how it fails; and where it is cut.
 use Rattle.std.specs.Prelude.{ℕ, ◌+◌, Bool, false, List, Some, None}
-use Rattle.cedar_types.specs.Tree.{lit, var, slot, unknown, if_then_else, and, or, unary, binary, call, get_attr, has_attr, ext_has_attr, like, is_type, set_of, record_of, Trees, no_trees, tree, Fields, no_fields, field}
-use Rattle.cedar_types.specs.View.{Written}
+use Rattle.cedar_types.specs.Expressions.Tree.{lit, var, slot, unknown, if_then_else, and, or, unary, binary, call, get_attr, has_attr, ext_has_attr, like, is_type, set_of, record_of, Trees, no_trees, tree, Fields, no_fields, field}
+use Rattle.cedar_types.specs.Expressions.View.{Written}
 use Rattle.cedar_typing.specs.Capabilities.{Caps}
 use Rattle.cedar_typing.specs.Eager.{Expectation, first_expectation, later_expectations}
 use Rattle.cedar_typing.specs.Judgments.{Derivation, Recovery, Cut, Judgment, within}
@@ -10,7 +10,8 @@ use Rattle.cedar_typing.specs.Rules.Attributes.{has_form, get_form}
 use Rattle.cedar_typing.specs.Rules.Binary.{binary_form}
 use Rattle.cedar_typing.specs.Rules.Calls.{arguments, call_form}
 use Rattle.cedar_typing.specs.Rules.Chains.{chain_form}
-use Rattle.cedar_typing.specs.Rules.Collections.{set_form, field_keys, record_form}
+use Rattle.cedar_typing.specs.Rules.Records.{field_keys, record_form}
+use Rattle.cedar_typing.specs.Rules.Sets.{set_form}
 use Rattle.cedar_typing.specs.Rules.Conditional.{if_rules}
 use Rattle.cedar_typing.specs.Rules.Eager.{Judgments, no_operands, one_more, eager_rules, one_operand_rules, two_operand_rules, operand_list_rules}
 use Rattle.cedar_typing.specs.Rules.Leaves.{variable_type, slot_ty, type_of_literal, leaf_rules, unknown_rules}
@@ -31,7 +32,9 @@ pub mod Tags
 pub mod Binary
 pub mod Chains
 pub mod Calls
-pub mod Collections
+pub mod Laws
+pub mod Sets
+pub mod Records
 
 abbrev mutual
   -- an expression at depth d, which is within the limit, where prior is known; a part stands one deeper

@@ -1,8 +1,10 @@
 -- All that typing depends on.
 use Rattle.std.specs.Prelude.{List}
-use Rattle.cedar_types.specs.ExtensionFunctions.{ExtensionFunction}
+use Rattle.cedar_types.specs.Extensions.Functions.{ExtensionFunction}
 use Rattle.cedar_types.specs.Extensions.{ExtensionTable}
 use Rattle.cedar_typing.specs.TypeEnv.{TypeEnv}
+pub mod VariableTypes
+pub mod LinkedSlots
 
 -- what every form is typed in, and the extension functions, of which calls alone speak
 pub record Setting : Type 0 where

@@ -5,18 +5,20 @@ use Rattle.cedar_types.specs.declared.base.types.ValidationMode.{ValidationMode}
 use Rattle.cedar_types.specs.declared.base.types.ValidationMode.TheVariants.{Strict, Permissive}
 use Rattle.cedar_types.specs.Types.{Ty, TBool}
 use Rattle.cedar_types.specs.Errors.{Finding}
-use Rattle.cedar_types.specs.ExtensionFunctions.{table_fault}
+use Rattle.cedar_types.specs.Extensions.Functions.{table_fault}
 use Rattle.cedar_types.specs.Schemas.{has_fault}
 use Rattle.cedar_types.specs.Values.{Value, OnBool, HasType}
-use Rattle.cedar_types.specs.Stores.{ConformingStore}
+use Rattle.cedar_types.specs.Values.Stores.{ConformingStore}
 use Rattle.cedar_typing.specs.Capabilities.{Caps}
-use Rattle.cedar_types.specs.FormedSchemas.{has_formed_types}
+use Rattle.cedar_types.specs.Schemas.Formed.{has_formed_types}
 use Rattle.cedar_typing.specs.Evaluation.Conformance.{Fits, IsEnvironmentOf, SlotsBound, has_external, KeepsTable, AllHold}
 use Rattle.cedar_typing.specs.Evaluation.Eval.{eval}
 use Rattle.cedar_typing.specs.Evaluation.World.{World, Failure, TypeFailure, AbsentAttribute, AbsentTag, MissingEntity, Overflow, ExtensionFailure, UnlinkedSlot, UnknownValue, Outcome, Gives, Fails}
 use Rattle.cedar_typing.specs.Rules.{Derives, Recovers}
 use Rattle.cedar_typing.specs.Setting.{Setting, table}
 use Rattle.cedar_typing.specs.TypedExpr.{Source, TypedTree, annotation}
+pub mod PolicyCheck
+pub mod Policies
 
 -- ---- outcomes
 

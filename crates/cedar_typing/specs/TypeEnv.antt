@@ -4,7 +4,7 @@ use Rattle.cedar_types.specs.declared.base.location.Loc.{Loc}
 use Rattle.cedar_types.specs.declared.base.types.ValidationMode.{ValidationMode}
 use Rattle.cedar_types.specs.Names.{Text, Path}
 use Rattle.cedar_types.specs.Schemas.{Schema}
-use Rattle.cedar_types.specs.RequestEnvs.{Env}
+use Rattle.cedar_types.specs.Environments.RequestEnvs.{Env}
 use Rattle.cedar_types.specs.Errors.{Fault, Finding}
 
 -- the schema, the mode, the request environment, the extension types that `<` and `<=` compare, and

@@ -4,7 +4,8 @@ use Rattle.std.specs.List.{list_any}
 use Rattle.cedar_types.specs.declared.base.types.BoolType.TheVariants.{AnyBool, True, False}
 use Rattle.cedar_types.specs.declared.base.types.ValidationMode.TheVariants.{Permissive}
 use Rattle.cedar_types.specs.Types.{Ty, TBool, TLong, TString, TSet, TAnySet, TRecord, TAnyEntity, no_attrs}
-use Rattle.cedar_types.specs.Bounds.{is_subtype}
+use Rattle.cedar_types.specs.Types.Bounds.{is_subtype}
+pub mod Joins
 
 -- ---- what an operand may have to be
 

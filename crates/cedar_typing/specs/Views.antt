@@ -9,12 +9,12 @@ use Rattle.cedar_types.specs.declared.base.expressions.Expr.{Expr}
 use Rattle.cedar_types.specs.declared.base.types.CedarType.{CedarType}
 use Rattle.cedar_types.specs.Names.{text_of, path_of, type_of, Text, Path}
 use Rattle.cedar_types.specs.Types.{Ty, TExtension, ty_of}
-use Rattle.cedar_types.specs.View.{Written, no_name, of_type, chain_of, written}
+use Rattle.cedar_types.specs.Expressions.View.{Written, no_name, of_type, chain_of, written}
 use Rattle.cedar_types.specs.Capability.{caps, HasNone}
 use Rattle.cedar_types.specs.Errors.{Finding, finding_of}
 use Rattle.cedar_types.specs.declared.types.capability.CapabilitySet.{CapabilitySet}
-use Rattle.cedar_types.specs.RequestEnvs.{env_of}
-use Rattle.cedar_types.specs.SchemaContents.{schema_of}
+use Rattle.cedar_types.specs.Environments.RequestEnvs.{env_of}
+use Rattle.cedar_types.specs.Schemas.Contents.{schema_of}
 use Rattle.cedar_typing.specs.Answer.{Answered, AreHanded, none_failed, Taken}
 use Rattle.cedar_typing.specs.Capabilities.{Caps, no_caps, union}
 use Rattle.cedar_typing.specs.Eager.{Expectation, Decision, gives, refuses, Form}
@@ -52,6 +52,11 @@ use Rattle.cedar_typing.specs.declared.typecheck.rules.two_operands.TwoOperands.
 use Rattle.cedar_typing.specs.declared.typecheck.rules.two_operands.TwoOperands.TheVariants.{Equality, Comparison, Arithmetic, Membership, Contains, ContainsSeveral, HasTag, GetTag}
 use Rattle.cedar_typing.specs.declared.typecheck.type_env.TypeEnv.{TypeEnv as CheckerEnv}
 use Rattle.cedar_typing.specs.declared.typecheck.rules.records.FieldValues.{FieldValues}
+pub mod Settings
+pub mod Calls
+pub mod Checks
+pub mod Policies
+pub mod EnvironmentChecks
 
 -- what is typed in
 abbrev pub env_at : CheckerEnv → TypeEnv

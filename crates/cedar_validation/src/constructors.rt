@@ -1,6 +1,6 @@
 //! The check of the arguments of functions that make extension values of a text.
 ghost use Rattle.std.specs.Prelude.{◌≡◌, map};
-ghost use Rattle.cedar_types.specs.View.{written};
+ghost use Rattle.cedar_types.specs.Expressions.View.{written};
 ghost use Rattle.cedar_validation.specs.Constructors.{begins_with_empty_text, is_empty_text};
 
 use cedar_types::base::{ArgumentCheck, ArgumentError, Expr, ExprKind, Literal};

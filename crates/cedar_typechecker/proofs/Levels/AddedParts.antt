@@ -2,8 +2,8 @@
 use Rattle.std.proofs.Common.{◌≡◌, ℕ, ◌+◌, ◌≤◌, Bool, true, false, nat_lt, nat_le, List, [], ◌∷◌, ◌++◌, Option, Some, None, is_some, if◌then◌else◌, refl, sym, subst}
 use Rattle.cedar_types.specs.Errors.{Fault, Finding, maximum_level_exceeded, internal_invariant_violation, literal_dereference_target}
 use Rattle.cedar_types.specs.Names.{Text, text_eq}
-use Rattle.cedar_types.specs.Tree.{Fields, no_fields, field}
-use Rattle.cedar_typing.specs.PolicyOutcome.{Adds}
+use Rattle.cedar_types.specs.Expressions.Tree.{Fields, no_fields, field}
+use Rattle.cedar_typing.specs.PolicyCheck.Outcome.{Adds}
 use Rattle.cedar_typing.specs.TypedExpr.{TypedTree, Mark}
 use Rattle.cedar_typechecker.specs.Levels.Chains.{Base, an_entity, a_record, neither, field_at, Leaf, good_leaf, literal_leaf, bad_leaf, leaf_of_access, leaf_of_field, level}
 use Rattle.cedar_typechecker.specs.Levels.Errors.{exceeds, unless_below, unless_within, faults_of_base, level_at_keys, faults_of_chain, faults_at_leaf, faults_at_end}

@@ -1,9 +1,9 @@
 -- Lists that gain members, in any order and with repeats.
 use Rattle.std.proofs.Common.{◌≡◌, List, [], ◌∷◌, ◌++◌, ◌⊎◌, inl, inr, refl, ap}
 use Rattle.cedar_typing.specs.Evaluation.Conformance.{IsOneOf}
-use Rattle.cedar_typing.specs.PolicyOutcome.{Adds}
-use Rattle.cedar_typing.proofs.Gains.{in_either}
-use Rattle.cedar_typing.proofs.Members.{in_left, in_right}
+use Rattle.cedar_typing.specs.PolicyCheck.Outcome.{Adds}
+use Rattle.cedar_typing.proofs.Basics.Gains.{in_either}
+use Rattle.cedar_typing.proofs.Basics.Members.{in_left, in_right}
 
 -- ---- lists that gain members
 

@@ -2,12 +2,12 @@
 use Rattle.std.proofs.Common.{◌≡◌, Bool, true, false, List, [], ◌∷◌, ◌++◌, Option, Some, None, if◌then◌else◌, inl, inr, refl, subst}
 use Rattle.cedar_types.specs.Errors.{Finding}
 use Rattle.cedar_types.specs.Names.{Text, text_eq}
-use Rattle.cedar_types.specs.Parts.{field_values}
-use Rattle.cedar_types.specs.Tree.{lit, var, slot, unknown, if_then_else, and, or, unary, binary, call, get_attr, has_attr, ext_has_attr, like, is_type, set_of, record_of, Fields, no_fields, field}
+use Rattle.cedar_types.specs.Expressions.Parts.{field_values}
+use Rattle.cedar_types.specs.Expressions.Tree.{lit, var, slot, unknown, if_then_else, and, or, unary, binary, call, get_attr, has_attr, ext_has_attr, like, is_type, set_of, record_of, Fields, no_fields, field}
 use Rattle.cedar_typing.specs.Evaluation.Conformance.{IsOneOf}
 use Rattle.cedar_typing.specs.TypedExpr.{TypedTree, Mark, annotation}
 use Rattle.cedar_typing.proofs.Basics.{some_is}
-use Rattle.cedar_typing.proofs.Members.{in_left, in_right}
+use Rattle.cedar_typing.proofs.Basics.Members.{in_left, in_right}
 use Rattle.cedar_typechecker.specs.Levels.Chains.{Base, an_entity, a_record, neither, base_of, is_get_tag, field_at}
 use Rattle.cedar_typechecker.specs.Levels.Dereferences.{Target, along, fields_beside, checked_beside, target_of_field, next_of_access, checked_below, next_targets}
 use Rattle.cedar_typechecker.specs.Levels.Setting.{LevelSetting}

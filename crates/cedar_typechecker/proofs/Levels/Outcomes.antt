@@ -12,16 +12,16 @@ use Rattle.cedar_types.specs.declared.types.request_env.RequestEnv.{RequestEnv}
 use Rattle.cedar_types.specs.declared.types.request_env.RequestEnv.TheVariants.{DeclaredAction, UndeclaredAction}
 use Rattle.cedar_types.specs.contracts.base.types.ValidationModePartialEq.TheImpl as mode_test
 use Rattle.cedar_types.specs.Errors.{Finding}
-use Rattle.cedar_types.specs.Findings.{unknown_types, unknown_actions, wrong_members}
-use Rattle.cedar_types.specs.Linking.{checked_envs}
+use Rattle.cedar_types.specs.Templates.Findings.{unknown_types, unknown_actions, wrong_members}
+use Rattle.cedar_types.specs.Environments.Linking.{checked_envs}
 use Rattle.cedar_types.specs.Names.{uid_of}
-use Rattle.cedar_types.specs.RequestEnvs.{Env, env_of, action_in}
-use Rattle.cedar_types.specs.SchemaContents.{schema_of}
+use Rattle.cedar_types.specs.Environments.RequestEnvs.{Env, env_of, action_in}
+use Rattle.cedar_types.specs.Schemas.Contents.{schema_of}
 use Rattle.cedar_types.specs.Schemas.{Schema}
 use Rattle.cedar_types.specs.Templates.{PlainTemplate, template_of}
 use Rattle.cedar_typing.specs.declared.typecheck.typechecker.Typechecker.{Typechecker}
-use Rattle.cedar_typing.specs.CheckViews.{schema_by, mode_by}
-use Rattle.cedar_typing.specs.PolicySoundness.{Basis}
+use Rattle.cedar_typing.specs.Views.Checks.{schema_by, mode_by}
+use Rattle.cedar_typing.specs.Soundness.Policies.{Basis}
 use Rattle.cedar_typechecker.specs.Levels.Outcome.{levels_on, name_findings}
 use Rattle.cedar_typechecker.specs.Levels.Requirements.{Surroundings}
 use Rattle.cedar_typechecker.specs.Levels.Setting.{LevelSetting, action_of}

@@ -6,14 +6,14 @@ use Rattle.std.proofs.lemmas.Bool.{leb-true, leb-false}
 use Rattle.std.proofs.lemmas.List.Elements.{All-from_recursion, recursion_from_All}
 use Rattle.std.proofs.lemmas.List.Sorted.{All-permutation, IsPermutation-sym}
 use Rattle.cedar_types.specs.Errors.{Finding}
-use Rattle.cedar_types.specs.Linking.{checked_envs}
-use Rattle.cedar_types.specs.RequestEnvs.{Env}
+use Rattle.cedar_types.specs.Environments.Linking.{checked_envs}
+use Rattle.cedar_types.specs.Environments.RequestEnvs.{Env}
 use Rattle.cedar_types.specs.Templates.{PlainTemplate, condition_of}
 use Rattle.cedar_typing.specs.Evaluation.Conformance.{IsOneOf}
 use Rattle.cedar_typing.specs.PolicyCheck.{Verdict, succeeds, irrelevant, fails, SameVerdict, same_success, same_irrelevant, same_failure}
-use Rattle.cedar_typing.specs.PolicyOutcome.{VerdictsOf}
-use Rattle.cedar_typing.specs.PolicySoundness.{Basis, setting_on}
-use Rattle.cedar_typing.proofs.Verdicts.{verdict_at_most}
+use Rattle.cedar_typing.specs.PolicyCheck.Outcome.{VerdictsOf}
+use Rattle.cedar_typing.specs.Soundness.Policies.{Basis, setting_on}
+use Rattle.cedar_typing.proofs.Policies.Verdicts.{verdict_at_most}
 use Rattle.cedar_typechecker.specs.Levels.Laws.{VerdictIsShared}
 use Rattle.cedar_typechecker.specs.Levels.Outcome.{ChecksOn, levels_on, IsErrorOfVerdict, IsErrorInSome}
 use Rattle.cedar_typechecker.specs.Levels.Required.{IsRequiredLevel, Reaches, WithinWhereReached, SilentWhereReached, RequiredLevelIsOne}

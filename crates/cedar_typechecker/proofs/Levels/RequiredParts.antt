@@ -4,7 +4,7 @@ use Rattle.std.proofs.Common.{◌≡◌, ◌↔◌, ℕ, ◌+◌, ◌≤◌, ◌
 use Rattle.std.proofs.lemmas.Bool.{ltb-true, ltb-false, leb-true, leb-false}
 use Rattle.cedar_types.specs.Errors.{Fault, Finding, internal_invariant_violation, literal_dereference_target}
 use Rattle.cedar_types.specs.Names.{Text}
-use Rattle.cedar_types.specs.Tree.{Fields}
+use Rattle.cedar_types.specs.Expressions.Tree.{Fields}
 use Rattle.cedar_typing.specs.TypedExpr.{TypedTree, Mark}
 use Rattle.cedar_typechecker.specs.Levels.Chains.{Base, an_entity, a_record, neither, Leaf, good_leaf, literal_leaf, bad_leaf, leaf_of_access, leaf_of_field, level}
 use Rattle.cedar_typechecker.specs.Levels.Errors.{exceeds, unless_below, unless_within, faults_of_base, level_at_keys, faults_of_chain, faults_at_leaf, faults_at_end}

@@ -11,22 +11,22 @@ use Rattle.cedar_types.specs.declared.base.templates.Template.{Template}
 use Rattle.cedar_types.specs.declared.base.types.ValidationMode.{ValidationMode}
 use Rattle.cedar_types.specs.ErrorOrder.{error_cmp}
 use Rattle.cedar_types.specs.Errors.{Finding, finding_of}
-use Rattle.cedar_types.specs.ExtensionFunctions.{Refusals}
+use Rattle.cedar_types.specs.Extensions.Functions.{Refusals}
 use Rattle.cedar_types.specs.Extensions.{functions_of, overloaded_types_of}
 use Rattle.cedar_types.specs.Names.{text_of}
-use Rattle.cedar_types.specs.RequestEnvs.{Env}
-use Rattle.cedar_types.specs.SchemaContents.{schema_of}
+use Rattle.cedar_types.specs.Environments.RequestEnvs.{Env}
+use Rattle.cedar_types.specs.Schemas.Contents.{schema_of}
 use Rattle.cedar_types.specs.Templates.{template_of, condition_of}
 use Rattle.cedar_typing.specs.declared.typecheck.typechecker.Typechecker.{Typechecker}
-use Rattle.cedar_typing.specs.CheckViews.{schema_by, extensions_by, mode_by}
-use Rattle.cedar_typing.specs.EnvironmentChecks.{ChecksIn}
+use Rattle.cedar_typing.specs.Views.Checks.{schema_by, extensions_by, mode_by}
+use Rattle.cedar_typing.specs.Views.EnvironmentChecks.{ChecksIn}
 use Rattle.cedar_typing.specs.Evaluation.Conformance.{IsOneOf}
 use Rattle.cedar_typing.specs.PolicyCheck.{Verdict, succeeds, irrelevant, fails, PolicyChecks}
-use Rattle.cedar_typing.specs.PolicyOutcome.{Adds, all_errors}
+use Rattle.cedar_typing.specs.PolicyCheck.Outcome.{Adds, all_errors}
 use Rattle.cedar_typing.specs.TypedExpr.{TypedTree}
-use Rattle.cedar_typing.proofs.Gains.{in_either}
-use Rattle.cedar_typing.proofs.Members.{in_left, in_right}
-use Rattle.cedar_typing.proofs.Tallies.{tie_decides}
+use Rattle.cedar_typing.proofs.Basics.Gains.{in_either}
+use Rattle.cedar_typing.proofs.Basics.Members.{in_left, in_right}
+use Rattle.cedar_typing.proofs.Policies.Tallies.{tie_decides}
 use Rattle.cedar_typechecker.specs.declared.rbac.validator.Validator.{Validator}
 use Rattle.cedar_typechecker.specs.Levels.InOrder.{add_errors}
 use Rattle.cedar_typechecker.specs.Levels.Outcome.{ChecksOn, IsErrorOfVerdict, IsErrorInSome, AreApart}

@@ -3,16 +3,16 @@ use Rattle.std.proofs.Common.{◌≡◌, Bool, true, false, ◌&&◌, List, [], 
 use Rattle.cedar_types.specs.declared.base.location.Loc.{Loc}
 use Rattle.cedar_types.specs.declared.base.types.BoolType.TheVariants.{AnyBool, True, False}
 use Rattle.cedar_types.specs.Errors.{Finding, unexpected_type}
-use Rattle.cedar_types.specs.Tree.{lit, var, slot, unknown, if_then_else, and, or, unary, binary, call, get_attr, has_attr, ext_has_attr, like, is_type, set_of, record_of}
-use Rattle.cedar_types.specs.TypeOrder.{in_order}
+use Rattle.cedar_types.specs.Expressions.Tree.{lit, var, slot, unknown, if_then_else, and, or, unary, binary, call, get_attr, has_attr, ext_has_attr, like, is_type, set_of, record_of}
+use Rattle.cedar_types.specs.Types.Order.{in_order}
 use Rattle.cedar_types.specs.Types.{Ty, TBool}
-use Rattle.cedar_types.specs.View.{Written}
+use Rattle.cedar_types.specs.Expressions.View.{Written}
 use Rattle.cedar_typing.specs.Capabilities.{Caps, union, intersection}
 use Rattle.cedar_typing.specs.Infer.Conditional.{infer_constant_test, infer_open_test, infer_open_parts, infer_open_branches, infer_branches}
 use Rattle.cedar_typing.specs.Infer.Leaves.{infer_leaf}
 use Rattle.cedar_typing.specs.Infer.Parts.{Answer, success, failure, limit, Part, AnswerAndErrors, PartAndErrors, answer_if, part_from, as_failed_untyped, expect_type, expect_part, expect, any_part, after_part, after}
 use Rattle.cedar_typing.specs.Infer.ShortCircuit.{infer_sides, infer_right}
-use Rattle.cedar_typing.specs.Joins.{joined}
+use Rattle.cedar_typing.specs.TypeTests.Joins.{joined}
 use Rattle.cedar_typing.specs.Rules.ShortCircuit.{Connective}
 use Rattle.cedar_typing.specs.TypeEnv.{TypeEnv, finding}
 use Rattle.cedar_typing.specs.TypeTests.{accepts, bool_types, is_true, is_false, annotation_passes}

@@ -1,8 +1,8 @@
 -- What typing makes of an `if` whose test has the type True or False has one branch twice.
 use Rattle.std.proofs.Common.{ℕ, ◌+◌, Bool, true, false, nat_lt, List, [], Option, Some, None, if◌then◌else◌}
 use Rattle.cedar_types.specs.Errors.{Finding}
-use Rattle.cedar_types.specs.Tree.{lit, var, slot, unknown, if_then_else, and, or, unary, binary, call, get_attr, has_attr, ext_has_attr, like, is_type, set_of, record_of, Trees, no_trees, tree, Fields, no_fields, field}
-use Rattle.cedar_types.specs.View.{Written}
+use Rattle.cedar_types.specs.Expressions.Tree.{lit, var, slot, unknown, if_then_else, and, or, unary, binary, call, get_attr, has_attr, ext_has_attr, like, is_type, set_of, record_of, Trees, no_trees, tree, Fields, no_fields, field}
+use Rattle.cedar_types.specs.Expressions.View.{Written}
 use Rattle.cedar_typing.specs.Capabilities.{Caps, no_caps}
 use Rattle.cedar_typing.specs.Eager.{Expectation, first_expectation, later_expectations, Form}
 use Rattle.cedar_typing.specs.Infer.{infer, infer_within, infer_all, infer_fields, unless_too_deep}
@@ -16,15 +16,16 @@ use Rattle.cedar_typing.specs.Rules.Attributes.{has_form, get_form}
 use Rattle.cedar_typing.specs.Rules.Binary.{binary_form}
 use Rattle.cedar_typing.specs.Rules.Calls.{arguments, call_form}
 use Rattle.cedar_typing.specs.Rules.Chains.{chain_form}
-use Rattle.cedar_typing.specs.Rules.Collections.{set_form, field_keys, record_form}
+use Rattle.cedar_typing.specs.Rules.Records.{field_keys, record_form}
+use Rattle.cedar_typing.specs.Rules.Sets.{set_form}
 use Rattle.cedar_typing.specs.Rules.Leaves.{variable_type, slot_ty, type_of_literal}
 use Rattle.cedar_typing.specs.Rules.ShortCircuit.{Connective, conjunction, disjunction}
 use Rattle.cedar_typing.specs.Rules.Unary.{unary_form, like_form, is_form}
 use Rattle.cedar_typing.specs.Setting.{Setting}
 use Rattle.cedar_typing.specs.TypeTests.{bool_types, is_false, annotation_passes}
 use Rattle.cedar_typing.specs.TypedExpr.{Source, TypedTree, Mark, annotation, place_of}
-use Rattle.cedar_typing.proofs.PolicyCheck.{checked}
-use Rattle.cedar_typing.proofs.Verdicts.{verdict_at_most}
+use Rattle.cedar_typing.proofs.Policies.Check.{checked}
+use Rattle.cedar_typing.proofs.Policies.Verdicts.{verdict_at_most}
 use Rattle.cedar_typechecker.specs.Levels.Laws.{VerdictIsShared, TypedBranchesAreShared}
 use Rattle.cedar_typechecker.specs.Levels.Shared.{BranchesAreShared}
 use Rattle.cedar_typechecker.proofs.Levels.TypedForms.{OperandsShared, first_shared, trees_shared, values_shared, KeepsShared, form_shared, one_more_shared, unary_keeps, binary_keeps}

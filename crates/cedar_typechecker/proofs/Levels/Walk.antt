@@ -2,8 +2,8 @@
 use Rattle.std.proofs.Common.{◌≡◌, ℕ, Bool, true, false, nat_le, List, [], ◌∷◌, ◌++◌, Option, Some, None, if◌then◌else◌, inl, inr, refl, sym, subst}
 use Rattle.cedar_types.specs.Errors.{Finding}
 use Rattle.cedar_types.specs.Names.{Text, text_eq}
-use Rattle.cedar_types.specs.Parts.{listed, field_values}
-use Rattle.cedar_types.specs.Tree.{lit, var, slot, unknown, if_then_else, and, or, unary, binary, call, get_attr, has_attr, ext_has_attr, like, is_type, set_of, record_of, Trees, no_trees, tree, Fields, no_fields, field}
+use Rattle.cedar_types.specs.Expressions.Parts.{listed, field_values}
+use Rattle.cedar_types.specs.Expressions.Tree.{lit, var, slot, unknown, if_then_else, and, or, unary, binary, call, get_attr, has_attr, ext_has_attr, like, is_type, set_of, record_of, Trees, no_trees, tree, Fields, no_fields, field}
 use Rattle.cedar_typing.specs.Evaluation.Conformance.{IsOneOf}
 use Rattle.cedar_typing.specs.TypedExpr.{TypedTree, Mark, mark_of, annotation}
 use Rattle.cedar_typing.proofs.Basics.{some_is}

@@ -1,7 +1,7 @@
 -- Accesses of attributes, of entities and of records: `has` and `.`.
 use Rattle.std.proofs.Common.{◌≡◌, ℕ, zero, suc, ◌≤◌, ◌<◌, List, [], ◌∷◌, Option, Some, None, refl, sym, ◌∙◌, ap, subst, arith}
 use Rattle.cedar_types.specs.Names.{Text, Uid}
-use Rattle.cedar_types.specs.Stores.{Entity, Store, entity_at}
+use Rattle.cedar_types.specs.Values.Stores.{Entity, Store, entity_at}
 use Rattle.cedar_types.specs.Types.{Ty, TRecord, TEntity}
 use Rattle.cedar_types.specs.Values.{Value, VEntity, VRecord, Entries, entry_at, OnEntity, OnRecord}
 use Rattle.cedar_typing.specs.Evaluation.Eval.{has_test, entity_has, get, entity_get}

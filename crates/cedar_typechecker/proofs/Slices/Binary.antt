@@ -3,10 +3,10 @@ use Rattle.std.proofs.Common.{◌≡◌, ℕ, suc, ◌≤◌, List, [], ◌∷�
 use Rattle.cedar_types.specs.declared.base.expressions.operators.BinaryOp.{BinaryOp}
 use Rattle.cedar_types.specs.declared.base.location.Loc.{Loc}
 use Rattle.cedar_types.specs.Names.{Text, Uid, uid_eq}
-use Rattle.cedar_types.specs.Stores.{Entity, Store, entity_at}
+use Rattle.cedar_types.specs.Values.Stores.{Entity, Store, entity_at}
 use Rattle.cedar_types.specs.Types.{Ty}
 use Rattle.cedar_types.specs.Values.{Value, VBool, VString, VEntity, VSet, entry_at}
-use Rattle.cedar_types.specs.View.{Written}
+use Rattle.cedar_types.specs.Expressions.View.{Written}
 use Rattle.cedar_typing.specs.Capabilities.{Caps}
 use Rattle.cedar_typing.specs.Eager.{Form}
 use Rattle.cedar_typing.specs.Evaluation.Equality.{all_values, any_value}

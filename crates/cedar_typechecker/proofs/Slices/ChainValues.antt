@@ -1,11 +1,11 @@
 -- Extended `has` of a value whose ids are all reached: it says the same in the part of a store.
 use Rattle.std.proofs.Common.{◌≡◌, ℕ, suc, ◌+◌, ◌≤◌, Bool, false, true, List, [], ◌∷◌, Option, Some, inl, inr, refl, sym, ◌∙◌, ap, subst, arith}
 use Rattle.cedar_types.specs.declared.base.location.Loc.{Loc}
-use Rattle.cedar_types.specs.Lookups.{attribute_type, may_have}
+use Rattle.cedar_types.specs.Types.Lookups.{attribute_type, may_have}
 use Rattle.cedar_types.specs.Names.{Text, Uid}
-use Rattle.cedar_types.specs.RequestEnvs.{is_partial}
+use Rattle.cedar_types.specs.Environments.RequestEnvs.{is_partial}
 use Rattle.cedar_types.specs.Schemas.{Schema}
-use Rattle.cedar_types.specs.Stores.{Store, entity_at}
+use Rattle.cedar_types.specs.Values.Stores.{Store, entity_at}
 use Rattle.cedar_types.specs.Types.{Ty, TRecord, TEntity, TAnyEntity}
 use Rattle.cedar_types.specs.Values.{Value, VEntity, VRecord, Entries, entry_at, HasType}
 use Rattle.cedar_typing.specs.Capabilities.{Caps}

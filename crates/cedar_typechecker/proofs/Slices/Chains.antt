@@ -2,11 +2,11 @@
 use Rattle.std.proofs.Common.{◌≡◌, ℕ, ◌+◌, ◌≤◌, false, true, List, [], Option, Some, None, refl, ◌∙◌, ap, arith}
 use Rattle.cedar_types.specs.declared.base.location.Loc.{Loc}
 use Rattle.cedar_types.specs.Names.{Text, Uid}
-use Rattle.cedar_types.specs.RequestEnvs.{is_partial}
-use Rattle.cedar_types.specs.Stores.{Store}
+use Rattle.cedar_types.specs.Environments.RequestEnvs.{is_partial}
+use Rattle.cedar_types.specs.Values.Stores.{Store}
 use Rattle.cedar_types.specs.Types.{Ty, TRecord, TEntity, TAnyEntity}
 use Rattle.cedar_types.specs.Values.{Value, HasType}
-use Rattle.cedar_types.specs.View.{Written}
+use Rattle.cedar_types.specs.Expressions.View.{Written}
 use Rattle.cedar_typing.specs.Capabilities.{Caps}
 use Rattle.cedar_typing.specs.Eager.{gives}
 use Rattle.cedar_typing.specs.Evaluation.Eval.{path_test}

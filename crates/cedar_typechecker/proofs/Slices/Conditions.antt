@@ -8,12 +8,12 @@ use Rattle.cedar_types.specs.declared.base.names.slots.SlotId.{SlotId}
 use Rattle.cedar_types.specs.declared.base.types.BoolType.TheVariants.{False}
 use Rattle.cedar_types.specs.Environments.{DeclaredEnv}
 use Rattle.cedar_types.specs.Names.{Uid}
-use Rattle.cedar_types.specs.RequestEnvs.{Declared}
-use Rattle.cedar_types.specs.Stores.{Store}
+use Rattle.cedar_types.specs.Environments.RequestEnvs.{Declared}
+use Rattle.cedar_types.specs.Values.Stores.{Store}
 use Rattle.cedar_types.specs.Templates.{to_entity, to_slot, Scope, any, equal, within, typed, typed_within, PlainTemplate, typed_at, scope_at, action_scope_at, scope_condition, with_rest, condition_of}
-use Rattle.cedar_types.specs.Tree.{var, slot, and, binary}
+use Rattle.cedar_types.specs.Expressions.Tree.{var, slot, and, binary}
 use Rattle.cedar_types.specs.Types.{Ty, TBool}
-use Rattle.cedar_types.specs.View.{Written}
+use Rattle.cedar_types.specs.Expressions.View.{Written}
 use Rattle.cedar_typing.specs.Capabilities.{Caps, no_caps}
 use Rattle.cedar_typing.specs.Composition.{in_env, own_env, MentionsNoSlot, NoSlotIn, SlotsInScopeAlone}
 use Rattle.cedar_typing.specs.Evaluation.Conformance.{IsBound, SlotsBound, AllHold}

@@ -4,9 +4,9 @@ use Rattle.std.proofs.Common.{◌≡◌, ℕ, List, [], ◌∷◌, Option, ap}
 use Rattle.cedar_types.specs.declared.base.expressions.operators.UnaryOp.{UnaryOp}
 use Rattle.cedar_types.specs.declared.base.location.Loc.{Loc}
 use Rattle.cedar_types.specs.Names.{Text, Uid}
-use Rattle.cedar_types.specs.Stores.{Store}
+use Rattle.cedar_types.specs.Values.Stores.{Store}
 use Rattle.cedar_types.specs.Types.{Ty}
-use Rattle.cedar_types.specs.View.{Written, trees_of}
+use Rattle.cedar_types.specs.Expressions.View.{Written, trees_of}
 use Rattle.cedar_typing.specs.Capabilities.{Caps}
 use Rattle.cedar_typing.specs.Eager.{Form}
 use Rattle.cedar_typing.specs.Evaluation.Eval.{unary_outcome, has_test, get}

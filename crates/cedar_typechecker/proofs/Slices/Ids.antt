@@ -4,7 +4,7 @@ use Rattle.cedar_types.specs.Names.{Text, Uid, text_eq}
 use Rattle.cedar_types.specs.Values.{Value, VBool, VEntity, VRecord, Entries, no_entries, more_entries, entry_at}
 use Rattle.cedar_typing.specs.Evaluation.Eval.{attribute_value, tag_value}
 use Rattle.cedar_typing.specs.Soundness.{OnValue}
-use Rattle.cedar_typing.proofs.Members.{AreAll, in_left, in_right}
+use Rattle.cedar_typing.proofs.Basics.Members.{AreAll, in_left, in_right}
 use Rattle.cedar_typechecker.specs.Slices.Reach.{ids_in, ids_in_entries}
 use Rattle.cedar_typechecker.specs.Slices.Soundness.{ids_found, ids_along}
 

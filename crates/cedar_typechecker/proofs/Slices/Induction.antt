@@ -2,10 +2,10 @@
 -- many steps: all expressions.
 use Rattle.std.proofs.Common.{ℕ, ◌+◌, Bool, true, List, []}
 use Rattle.cedar_types.specs.Names.{Text, Uid}
-use Rattle.cedar_types.specs.Stores.{Store}
-use Rattle.cedar_types.specs.Tree.{lit, var, slot, unknown, if_then_else, and, or, unary, binary, call, get_attr, has_attr, ext_has_attr, like, is_type, set_of, record_of, Trees, no_trees, tree, Fields, no_fields, field}
+use Rattle.cedar_types.specs.Values.Stores.{Store}
+use Rattle.cedar_types.specs.Expressions.Tree.{lit, var, slot, unknown, if_then_else, and, or, unary, binary, call, get_attr, has_attr, ext_has_attr, like, is_type, set_of, record_of, Trees, no_trees, tree, Fields, no_fields, field}
 use Rattle.cedar_types.specs.Values.{VSet}
-use Rattle.cedar_types.specs.View.{Written}
+use Rattle.cedar_types.specs.Expressions.View.{Written}
 use Rattle.cedar_typing.specs.Capabilities.{Caps}
 use Rattle.cedar_typing.specs.Eager.{Expectation, later_expectations}
 use Rattle.cedar_typing.specs.Evaluation.Conformance.{Fits, SlotsBound, AllSlotsBound, FieldSlotsBound, AllHold}
@@ -16,7 +16,8 @@ use Rattle.cedar_typing.specs.Judgments.{Judgment, within}
 use Rattle.cedar_typing.specs.Rules.{rules, rules_within, rules_all, rules_fields}
 use Rattle.cedar_typing.specs.Rules.Chains.{chain_form}
 use Rattle.cedar_typing.specs.Rules.Calls.{arguments, call_form}
-use Rattle.cedar_typing.specs.Rules.Collections.{set_form, field_keys}
+use Rattle.cedar_typing.specs.Rules.Records.{field_keys}
+use Rattle.cedar_typing.specs.Rules.Sets.{set_form}
 use Rattle.cedar_typing.specs.Rules.Eager.{one_operand_rules}
 use Rattle.cedar_typing.specs.Rules.Unary.{like_form, is_form}
 use Rattle.cedar_typing.specs.Setting.{Setting}

@@ -5,12 +5,12 @@ use Rattle.cedar_types.specs.declared.base.expressions.operators.Var.{Var}
 use Rattle.cedar_types.specs.declared.base.names.slots.SlotId.{SlotId}
 use Rattle.cedar_types.specs.Lemmas.Comparisons.{uid_same}
 use Rattle.cedar_types.specs.Names.{Text, Uid}
-use Rattle.cedar_types.specs.RequestEnvs.{Env, Declared, Undeclared}
-use Rattle.cedar_types.specs.Stores.{Store}
-use Rattle.cedar_types.specs.Tree.{Lit, entity, lit, var, slot}
+use Rattle.cedar_types.specs.Environments.RequestEnvs.{Env, Declared, Undeclared}
+use Rattle.cedar_types.specs.Values.Stores.{Store}
+use Rattle.cedar_types.specs.Expressions.Tree.{Lit, entity, lit, var, slot}
 use Rattle.cedar_types.specs.Types.{Ty}
 use Rattle.cedar_types.specs.Values.{VRecord, VEntity}
-use Rattle.cedar_types.specs.View.{Written}
+use Rattle.cedar_types.specs.Expressions.View.{Written}
 use Rattle.cedar_typing.specs.Capabilities.{Caps}
 use Rattle.cedar_typing.specs.Evaluation.Conformance.{Fits}
 use Rattle.cedar_typing.specs.Evaluation.Eval.{literal_value, variable_value}

@@ -5,12 +5,12 @@ use Rattle.std.proofs.lemmas.Bool.{cases_lt}
 use Rattle.cedar_types.specs.Lemmas.Comparisons.{uid_same}
 use Rattle.cedar_types.specs.Names.{Text, Uid, uid_eq}
 use Rattle.cedar_types.specs.Schemas.{uid_is_among}
-use Rattle.cedar_types.specs.Stores.{Entity, Store, entity_at}
+use Rattle.cedar_types.specs.Values.Stores.{Entity, Store, entity_at}
 use Rattle.cedar_types.specs.Values.{Value, VBool, VLong, VString, VEntity, VSet, VRecord, VExtension}
 use Rattle.cedar_typing.specs.Evaluation.Conformance.{IsOneOf}
 use Rattle.cedar_typing.specs.Evaluation.World.{Request}
 use Rattle.cedar_typing.proofs.Basics.{none_is, or_left, or_right}
-use Rattle.cedar_typing.proofs.Members.{AreAll, in_left, in_right, in_flat}
+use Rattle.cedar_typing.proofs.Basics.Members.{AreAll, in_left, in_right, in_flat}
 use Rattle.cedar_typechecker.specs.Slices.Reach.{ids_in_entries, ids_of, reach, reach_below, slice, IsPartOf, HoldsSlice, SlicesHold}
 use Rattle.cedar_typechecker.proofs.Slices.Ids.{Selected, select_entity}
 

@@ -5,7 +5,7 @@ use Rattle.std.proofs.lemmas.Bool.{ltb-true, leb-true}
 use Rattle.cedar_types.specs.declared.base.expressions.operators.BinaryOp.{BinaryOp}
 use Rattle.cedar_types.specs.Errors.{Fault, Finding}
 use Rattle.cedar_types.specs.Names.{Text, text_eq}
-use Rattle.cedar_types.specs.Tree.{if_then_else, binary, get_attr, has_attr, ext_has_attr, record_of, Fields, no_fields, field}
+use Rattle.cedar_types.specs.Expressions.Tree.{if_then_else, binary, get_attr, has_attr, ext_has_attr, record_of, Fields, no_fields, field}
 use Rattle.cedar_typing.specs.Evaluation.Conformance.{IsOneOf}
 use Rattle.cedar_typing.specs.TypedExpr.{TypedTree, Mark, mark_of, annotation}
 use Rattle.cedar_typechecker.specs.Levels.Chains.{Base, an_entity, a_record, neither, base_of, is_get_tag, field_at, chains_of_access, chains_of_operator, chains, field_chains, greatest, level}

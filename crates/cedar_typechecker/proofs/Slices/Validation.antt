@@ -6,32 +6,32 @@ use Rattle.std.proofs.lemmas.List.Elements.{All-from_recursion, recursion_from_A
 use Rattle.std.proofs.lemmas.List.Sorted.{All-permutation, IsPermutation-sym, IsPermutation-refl}
 use Rattle.cedar_types.specs.declared.base.types.ValidationMode.{ValidationMode}
 use Rattle.cedar_types.specs.declared.base.types.ValidationMode.TheVariants.{Strict, Permissive, Partial}
-use Rattle.cedar_types.specs.Bounds.{is_strict}
+use Rattle.cedar_types.specs.Types.Bounds.{is_strict}
 use Rattle.cedar_types.specs.Errors.{Finding, Caution, impossible_policy, invalid_action_application}
-use Rattle.cedar_types.specs.ExtensionFunctions.{table_fault}
-use Rattle.cedar_types.specs.Findings.{unknown_types, unknown_actions, wrong_members}
-use Rattle.cedar_types.specs.FormedSchemas.{has_formed_types}
+use Rattle.cedar_types.specs.Extensions.Functions.{table_fault}
+use Rattle.cedar_types.specs.Templates.Findings.{unknown_types, unknown_actions, wrong_members}
+use Rattle.cedar_types.specs.Schemas.Formed.{has_formed_types}
 use Rattle.cedar_types.specs.Lemmas.Comparisons.{and_both}
-use Rattle.cedar_types.specs.Linking.{checked_envs}
-use Rattle.cedar_types.specs.RequestEnvs.{Env, is_partial}
+use Rattle.cedar_types.specs.Environments.Linking.{checked_envs}
+use Rattle.cedar_types.specs.Environments.RequestEnvs.{Env, is_partial}
 use Rattle.cedar_types.specs.Schemas.{Schema, has_fault}
 use Rattle.cedar_types.specs.Templates.{PlainTemplate, condition_of}
 use Rattle.cedar_typing.specs.Capabilities.{no_caps}
 use Rattle.cedar_typing.specs.Evaluation.Conformance.{IsOneOf}
 use Rattle.cedar_typing.specs.PolicyCheck.{Verdict, succeeds, irrelevant, fails, PolicyChecks, SameVerdict, same_success, same_irrelevant, same_failure, check_cut}
-use Rattle.cedar_typing.specs.PolicyOutcome.{is_silent, passes, errors_in, VerdictsOf, all_pass, all_errors, impossible, warnings_of}
-use Rattle.cedar_typing.specs.PolicySoundness.{Basis, IsNamedBySchema, setting_on, CheckedOn}
-use Rattle.cedar_typing.specs.RuleLaws.{IsCut}
+use Rattle.cedar_typing.specs.PolicyCheck.Outcome.{is_silent, passes, errors_in, VerdictsOf, all_pass, all_errors, impossible, warnings_of}
+use Rattle.cedar_typing.specs.Soundness.Policies.{Basis, IsNamedBySchema, setting_on, CheckedOn}
+use Rattle.cedar_typing.specs.Rules.Laws.{IsCut}
 use Rattle.cedar_typing.specs.Setting.{Setting}
 use Rattle.cedar_typing.specs.Silence.{HasNoUnknowns, IsWellNamed}
 use Rattle.cedar_typing.specs.TypedExpr.{Source}
-use Rattle.cedar_typing.proofs.EachEnvironment.{each_has_passing}
-use Rattle.cedar_typing.proofs.PolicySoundness.{promises_are_kept, promises_are_kept_in_permissive}
+use Rattle.cedar_typing.proofs.Policies.EachEnvironment.{each_has_passing}
+use Rattle.cedar_typing.proofs.Soundness.Policies.{promises_are_kept, promises_are_kept_in_permissive}
 use Rattle.cedar_typing.proofs.Silence.Checks.{silent_cut}
 use Rattle.cedar_typing.proofs.Silence.Names.{condition_is_well_named}
 use Rattle.cedar_typing.proofs.Silence.Policies.{checked_of_schema}
 use Rattle.cedar_typing.proofs.Silence.Settled.{Settled}
-use Rattle.cedar_typing.proofs.Verdicts.{none, verdict_at_most}
+use Rattle.cedar_typing.proofs.Policies.Verdicts.{none, verdict_at_most}
 use Rattle.cedar_typechecker.specs.Applications.{has_fitting_action, application_warning}
 use Rattle.cedar_typechecker.specs.Levels.Outcome.{ChecksOn, levels_on, IsErrorInSome, name_findings, application_warnings, LevelOutcome}
 use Rattle.cedar_typechecker.specs.Levels.Setting.{LevelSetting}

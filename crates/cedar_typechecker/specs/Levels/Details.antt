@@ -3,9 +3,9 @@ use Rattle.std.specs.Prelude.{◌≡◌, true, false, [], ◌∷◌, Some, None,
 use Rattle.cedar_types.specs.declared.base.names.slots.SlotId.{SlotId}
 use Rattle.cedar_types.specs.declared.base.types.ValidationMode.TheVariants.{Strict}
 use Rattle.cedar_types.specs.Errors.{literal_dereference_target}
-use Rattle.cedar_types.specs.Tree.{entity, lit, slot, record_of, Fields, no_fields, field, and, if_then_else}
+use Rattle.cedar_types.specs.Expressions.Tree.{entity, lit, slot, record_of, Fields, no_fields, field, and, if_then_else}
 use Rattle.cedar_types.specs.Types.{TAnyEntity, TRecord, TEntity, TLong}
-use Rattle.cedar_types.specs.View.{no_name}
+use Rattle.cedar_types.specs.Expressions.View.{no_name}
 use Rattle.cedar_typing.specs.Examples.Expressions.{true_lit, false_lit, principal, has2, is_in, has_tag, get_tag}
 use Rattle.cedar_typing.specs.Examples.World.{user}
 use Rattle.cedar_typing.specs.TypedExpr.{Mark}

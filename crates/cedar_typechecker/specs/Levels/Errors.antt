@@ -2,7 +2,7 @@
 use Rattle.std.specs.Prelude.{ℕ, ◌+◌, min, nat_lt, nat_le, List, [], ◌∷◌, Option, Some, None, if◌then◌else◌}
 use Rattle.cedar_types.specs.Errors.{Fault, Finding, maximum_level_exceeded, literal_dereference_target, internal_invariant_violation}
 use Rattle.cedar_types.specs.Names.{Text}
-use Rattle.cedar_types.specs.Tree.{binary, get_attr, has_attr, ext_has_attr}
+use Rattle.cedar_types.specs.Expressions.Tree.{binary, get_attr, has_attr, ext_has_attr}
 use Rattle.cedar_typing.specs.Evaluation.Conformance.{IsOneOf}
 use Rattle.cedar_typing.specs.TypedExpr.{TypedTree, Mark, mark_of, annotation}
 use Rattle.cedar_typechecker.specs.Levels.Chains.{Base, an_entity, a_record, neither, base_of, Leaf, good_leaf, literal_leaf, bad_leaf, leaf_of, level}

@@ -7,16 +7,16 @@ use Rattle.cedar_types.specs.declared.base.types.ValidationMode.{ValidationMode}
 use Rattle.cedar_types.specs.declared.base.types.ValidationMode.TheVariants.{Strict}
 use Rattle.cedar_types.specs.Errors.{Fault, Finding}
 use Rattle.cedar_types.specs.Names.{Path, Uid}
-use Rattle.cedar_types.specs.RequestEnvs.{Declared}
+use Rattle.cedar_types.specs.Environments.RequestEnvs.{Declared}
 use Rattle.cedar_types.specs.Schemas.{StandardKind, Schema}
 use Rattle.cedar_types.specs.Templates.{to_slot, any, within, PlainTemplate, condition_of}
-use Rattle.cedar_types.specs.Tree.{Shape, var, slot, if_then_else, ext_has_attr}
+use Rattle.cedar_types.specs.Expressions.Tree.{Shape, var, slot, if_then_else, ext_has_attr}
 use Rattle.cedar_types.specs.Types.{Ty, TBool, TString, TRecord, TEntity, TExtension, Attrs, no_attrs, attr}
 use Rattle.cedar_typing.specs.Examples.Composition.{template}
 use Rattle.cedar_typing.specs.Examples.Expressions.{node, principal, dot, has2, record1, record2}
 use Rattle.cedar_typing.specs.Examples.World.{named, user, an_action_named}
 use Rattle.cedar_typing.specs.PolicyCheck.{Verdict, succeeds, irrelevant, fails, policy_check}
-use Rattle.cedar_typing.specs.PolicySoundness.{Basis, setting_on}
+use Rattle.cedar_typing.specs.Soundness.Policies.{Basis, setting_on}
 use Rattle.cedar_typechecker.specs.Levels.Setting.{LevelSetting}
 use Rattle.cedar_typechecker.specs.Levels.Walk.{checked_errors}
 

@@ -3,15 +3,15 @@ use Rattle.std.specs.Prelude.{◌≡◌, ◌↔◌, ℕ, cond, List, [], ◌∷�
 use Rattle.cedar_types.specs.declared.base.types.ValidationMode.{ValidationMode}
 use Rattle.cedar_types.specs.declared.base.types.ValidationMode.TheVariants.{Strict, Permissive, Partial}
 use Rattle.cedar_types.specs.Errors.{Finding, Caution}
-use Rattle.cedar_types.specs.Findings.{unknown_types, unknown_actions, wrong_members}
-use Rattle.cedar_types.specs.Linking.{checked_envs}
-use Rattle.cedar_types.specs.RequestEnvs.{Env}
+use Rattle.cedar_types.specs.Templates.Findings.{unknown_types, unknown_actions, wrong_members}
+use Rattle.cedar_types.specs.Environments.Linking.{checked_envs}
+use Rattle.cedar_types.specs.Environments.RequestEnvs.{Env}
 use Rattle.cedar_types.specs.Schemas.{Schema}
 use Rattle.cedar_types.specs.Templates.{PlainTemplate, condition_of}
 use Rattle.cedar_typing.specs.Evaluation.Conformance.{IsOneOf}
 use Rattle.cedar_typing.specs.PolicyCheck.{Verdict, succeeds, irrelevant, fails, PolicyChecks}
-use Rattle.cedar_typing.specs.PolicyOutcome.{VerdictsOf, all_errors, warnings_of}
-use Rattle.cedar_typing.specs.PolicySoundness.{Basis, setting_on}
+use Rattle.cedar_typing.specs.PolicyCheck.Outcome.{VerdictsOf, all_errors, warnings_of}
+use Rattle.cedar_typing.specs.Soundness.Policies.{Basis, setting_on}
 use Rattle.cedar_typechecker.specs.Applications.{has_fitting_action, application_warning}
 use Rattle.cedar_typechecker.specs.Levels.Errors.{IsLevelError}
 use Rattle.cedar_typechecker.specs.Levels.Setting.{LevelSetting, action_of}

@@ -4,7 +4,7 @@ use Rattle.cedar_types.specs.declared.base.expressions.operators.BinaryOp.{Binar
 use Rattle.cedar_types.specs.declared.base.expressions.operators.Var.{Var}
 use Rattle.cedar_types.specs.declared.base.types.ValidationMode.TheVariants.{Strict, Permissive}
 use Rattle.cedar_types.specs.Errors.{literal_dereference_target}
-use Rattle.cedar_types.specs.Tree.{var, and, or, binary, is_type}
+use Rattle.cedar_types.specs.Expressions.Tree.{var, and, or, binary, is_type}
 use Rattle.cedar_types.specs.Types.{TRecord}
 use Rattle.cedar_typing.specs.Examples.Expressions.{true_lit, false_lit, the, principal, context, has2}
 use Rattle.cedar_typing.specs.Examples.World.{user, alice, bob}

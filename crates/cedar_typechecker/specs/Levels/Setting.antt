@@ -1,7 +1,7 @@
 -- What levels are checked by.
 use Rattle.std.specs.Prelude.{ℕ, Option, Some, None}
 use Rattle.cedar_types.specs.Names.{Text, Uid}
-use Rattle.cedar_types.specs.RequestEnvs.{Env, Declared, Undeclared}
+use Rattle.cedar_types.specs.Environments.RequestEnvs.{Env, Declared, Undeclared}
 use Rattle.cedar_types.specs.Schemas.{Schema}
 
 pub record LevelSetting : Type 0 where

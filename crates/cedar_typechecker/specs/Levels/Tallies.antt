@@ -1,15 +1,15 @@
 -- What the level pass has found so far.
 use Rattle.std.specs.Prelude.{◌≡◌, ◌↔◌, List, map, IsPermutation}
 use Rattle.cedar_types.specs.Errors.{Finding, finding_of}
-use Rattle.cedar_types.specs.ExtensionFunctions.{Refusals}
+use Rattle.cedar_types.specs.Extensions.Functions.{Refusals}
 use Rattle.cedar_types.specs.Extensions.{functions_of, overloaded_types_of}
-use Rattle.cedar_types.specs.RequestEnvs.{Env}
-use Rattle.cedar_types.specs.SchemaContents.{schema_of}
+use Rattle.cedar_types.specs.Environments.RequestEnvs.{Env}
+use Rattle.cedar_types.specs.Schemas.Contents.{schema_of}
 use Rattle.cedar_types.specs.declared.base.types.ValidationMode.{ValidationMode}
 use Rattle.cedar_typing.specs.Evaluation.Conformance.{IsOneOf}
 use Rattle.cedar_typing.specs.PolicyCheck.{Verdict}
-use Rattle.cedar_typing.specs.PolicyOutcome.{VerdictsOf, all_irrelevant, all_errors}
-use Rattle.cedar_typing.specs.PolicySoundness.{Basis}
+use Rattle.cedar_typing.specs.PolicyCheck.Outcome.{VerdictsOf, all_irrelevant, all_errors}
+use Rattle.cedar_typing.specs.Soundness.Policies.{Basis}
 use Rattle.cedar_typechecker.specs.declared.level_validate.tally.LevelTally.{LevelTally}
 use Rattle.cedar_typechecker.specs.declared.rbac.validator.Validator.{Validator}
 use Rattle.cedar_typechecker.specs.Levels.Outcome.{IsErrorInSome}

@@ -7,9 +7,9 @@ use Rattle.cedar_types.specs.declared.base.expressions.Expr.{Expr}
 use Rattle.cedar_types.specs.declared.base.types.CedarType.{CedarType}
 use Rattle.cedar_types.specs.Errors.{Finding, finding_of}
 use Rattle.cedar_types.specs.Names.{text_of, uid_of}
-use Rattle.cedar_types.specs.SchemaContents.{schema_of}
-use Rattle.cedar_types.specs.Tree.{Fields}
-use Rattle.cedar_types.specs.View.{fields_of}
+use Rattle.cedar_types.specs.Schemas.Contents.{schema_of}
+use Rattle.cedar_types.specs.Expressions.Tree.{Fields}
+use Rattle.cedar_types.specs.Expressions.View.{fields_of}
 use Rattle.cedar_typing.specs.TypedExpr.{Mark, typed_tree}
 use Rattle.cedar_typechecker.specs.declared.level_validate.bases.Base as kind
 use Rattle.cedar_typechecker.specs.declared.level_validate.requirements.RequirementWalk.{RequirementWalk}

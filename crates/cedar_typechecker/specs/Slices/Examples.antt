@@ -5,14 +5,14 @@ use Rattle.cedar_types.specs.declared.base.expressions.operators.Var.{Var}
 use Rattle.cedar_types.specs.declared.base.types.ValidationMode.{ValidationMode}
 use Rattle.cedar_types.specs.declared.base.types.ValidationMode.TheVariants.{Strict, Permissive}
 use Rattle.cedar_types.specs.Errors.{Fault, Finding}
-use Rattle.cedar_types.specs.ExtensionFunctions.{table_fault}
-use Rattle.cedar_types.specs.FormedSchemas.{has_formed_types}
-use Rattle.cedar_types.specs.Linking.{checked_envs}
-use Rattle.cedar_types.specs.RequestEnvs.{Env}
+use Rattle.cedar_types.specs.Extensions.Functions.{table_fault}
+use Rattle.cedar_types.specs.Schemas.Formed.{has_formed_types}
+use Rattle.cedar_types.specs.Environments.Linking.{checked_envs}
+use Rattle.cedar_types.specs.Environments.RequestEnvs.{Env}
 use Rattle.cedar_types.specs.Schemas.{has_fault}
-use Rattle.cedar_types.specs.Stores.{entity_at}
+use Rattle.cedar_types.specs.Values.Stores.{entity_at}
 use Rattle.cedar_types.specs.Templates.{to_slot, any, within, PlainTemplate, condition_of}
-use Rattle.cedar_types.specs.Tree.{Shape, var, and, if_then_else}
+use Rattle.cedar_types.specs.Expressions.Tree.{Shape, var, and, if_then_else}
 use Rattle.cedar_types.specs.Values.{VBool, VLong, VString, VEntity, VSet, VRecord, VExtension, no_entries, more_entries}
 use Rattle.cedar_typing.specs.Evaluation.Conformance.{IsOneOf}
 use Rattle.cedar_typing.specs.Evaluation.Eval.{eval}
@@ -23,8 +23,8 @@ use Rattle.cedar_typing.specs.Examples.Greeting.{two_values, stored_action}
 use Rattle.cedar_typing.specs.Examples.PolicySoundness.{Passes}
 use Rattle.cedar_typing.specs.Examples.World.{decimal, alice, bob}
 use Rattle.cedar_typing.specs.PolicyCheck.{Verdict, policy_check}
-use Rattle.cedar_typing.specs.PolicyOutcome.{all_pass}
-use Rattle.cedar_typing.specs.PolicySoundness.{Basis, IsClosedIn, IsNamedBySchema, IsWellFormed, IsConforming, setting_on}
+use Rattle.cedar_typing.specs.PolicyCheck.Outcome.{all_pass}
+use Rattle.cedar_typing.specs.Soundness.Policies.{Basis, IsClosedIn, IsNamedBySchema, IsWellFormed, IsConforming, setting_on}
 use Rattle.cedar_typechecker.specs.Levels.Errors.{exceeds}
 use Rattle.cedar_typechecker.specs.Levels.Outcome.{ChecksOn, levels_on, IsErrorOfVerdict}
 use Rattle.cedar_typechecker.specs.Slices.Policies.{PolicyIsWithinLevel}

@@ -1,10 +1,10 @@
 -- How deep an expression is nested, and that one within the limit is cut nowhere.
 use Rattle.std.specs.Prelude.{ℕ, suc, max, ◌≤◌}
 use Rattle.cedar_types.specs.Templates.{PlainTemplate, condition_of}
-use Rattle.cedar_types.specs.Tree.{lit, var, slot, unknown, if_then_else, and, or, unary, binary, call, get_attr, has_attr, ext_has_attr, like, is_type, set_of, record_of, Trees, no_trees, tree, Fields, no_fields, field}
-use Rattle.cedar_types.specs.View.{Written}
+use Rattle.cedar_types.specs.Expressions.Tree.{lit, var, slot, unknown, if_then_else, and, or, unary, binary, call, get_attr, has_attr, ext_has_attr, like, is_type, set_of, record_of, Trees, no_trees, tree, Fields, no_fields, field}
+use Rattle.cedar_types.specs.Expressions.View.{Written}
 use Rattle.cedar_typing.specs.Judgments.{max_nesting}
-use Rattle.cedar_typing.specs.PolicySoundness.{Basis}
+use Rattle.cedar_typing.specs.Soundness.Policies.{Basis}
 use Rattle.cedar_typing.specs.TypedExpr.{Source}
 use Rattle.cedar_typechecker.specs.Slices.Validation.{IsCutNowhere}
 

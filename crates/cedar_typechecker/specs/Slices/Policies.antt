@@ -3,20 +3,20 @@ use Rattle.std.specs.Prelude.{◌≡◌, ℕ, true, false, List, None}
 use Rattle.cedar_types.specs.declared.base.types.ValidationMode.{ValidationMode}
 use Rattle.cedar_types.specs.declared.base.types.ValidationMode.TheVariants.{Strict, Permissive}
 use Rattle.cedar_types.specs.Errors.{Finding, Caution}
-use Rattle.cedar_types.specs.ExtensionFunctions.{table_fault}
-use Rattle.cedar_types.specs.FormedSchemas.{has_formed_types}
-use Rattle.cedar_types.specs.Linking.{checked_envs}
-use Rattle.cedar_types.specs.RequestEnvs.{Env}
+use Rattle.cedar_types.specs.Extensions.Functions.{table_fault}
+use Rattle.cedar_types.specs.Schemas.Formed.{has_formed_types}
+use Rattle.cedar_types.specs.Environments.Linking.{checked_envs}
+use Rattle.cedar_types.specs.Environments.RequestEnvs.{Env}
 use Rattle.cedar_types.specs.Schemas.{has_fault}
-use Rattle.cedar_types.specs.Stores.{Store}
+use Rattle.cedar_types.specs.Values.Stores.{Store}
 use Rattle.cedar_types.specs.Templates.{PlainTemplate, condition_of}
-use Rattle.cedar_types.specs.Tree.{map_tree}
+use Rattle.cedar_types.specs.Expressions.Tree.{map_tree}
 use Rattle.cedar_typing.specs.Composition.{MentionsNoSlot}
 use Rattle.cedar_typing.specs.Evaluation.Conformance.{IsOneOf}
 use Rattle.cedar_typing.specs.Evaluation.Eval.{eval}
 use Rattle.cedar_typing.specs.Evaluation.World.{World}
 use Rattle.cedar_typing.specs.PolicyCheck.{Verdict, succeeds, irrelevant, fails}
-use Rattle.cedar_typing.specs.PolicySoundness.{Basis, IsClosedIn, IsNamedBySchema, IsWellFormed, IsConforming, CheckedOn}
+use Rattle.cedar_typing.specs.Soundness.Policies.{Basis, IsClosedIn, IsNamedBySchema, IsWellFormed, IsConforming, CheckedOn}
 use Rattle.cedar_typing.specs.TypedExpr.{Source, form_of}
 use Rattle.cedar_typechecker.specs.Levels.Outcome.{ChecksOn, levels_on, IsErrorOfVerdict}
 use Rattle.cedar_typechecker.specs.Levels.Setting.{LevelSetting}

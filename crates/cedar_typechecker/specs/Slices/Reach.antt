@@ -4,7 +4,7 @@ use Rattle.std.specs.Prelude.{◌≡◌, ℕ, zero, suc, List, [], ◌∷◌, �
 use Rattle.std.specs.List.{flat_map}
 use Rattle.cedar_types.specs.Names.{Uid}
 use Rattle.cedar_types.specs.Schemas.{uid_is_among}
-use Rattle.cedar_types.specs.Stores.{Entity, Store, entity_at}
+use Rattle.cedar_types.specs.Values.Stores.{Entity, Store, entity_at}
 use Rattle.cedar_types.specs.Values.{Value, VBool, VLong, VString, VEntity, VSet, VRecord, VExtension, Values, no_values, more_values, Entries, no_entries, more_entries}
 use Rattle.cedar_typing.specs.Evaluation.World.{Request}
 

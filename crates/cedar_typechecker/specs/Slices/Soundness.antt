@@ -2,18 +2,18 @@
 use Rattle.std.specs.Prelude.{◌≡◌, ℕ, ◌≤◌, true, false, List, [], ◌∷◌, Option, Some, None}
 use Rattle.cedar_types.specs.declared.base.types.ValidationMode.{ValidationMode}
 use Rattle.cedar_types.specs.declared.base.types.ValidationMode.TheVariants.{Strict, Permissive}
-use Rattle.cedar_types.specs.ExtensionFunctions.{table_fault}
-use Rattle.cedar_types.specs.FormedSchemas.{has_formed_types}
+use Rattle.cedar_types.specs.Extensions.Functions.{table_fault}
+use Rattle.cedar_types.specs.Schemas.Formed.{has_formed_types}
 use Rattle.cedar_types.specs.Names.{Text, Uid}
 use Rattle.cedar_types.specs.Schemas.{has_fault}
-use Rattle.cedar_types.specs.Stores.{Store}
+use Rattle.cedar_types.specs.Values.Stores.{Store}
 use Rattle.cedar_types.specs.Types.{Ty}
 use Rattle.cedar_types.specs.Values.{Value, VEntity, VRecord, entry_at}
 use Rattle.cedar_typing.specs.Capabilities.{Caps}
 use Rattle.cedar_typing.specs.Evaluation.Conformance.{IsOneOf, SlotsBound, AllHold}
 use Rattle.cedar_typing.specs.Evaluation.Eval.{eval}
 use Rattle.cedar_typing.specs.Evaluation.World.{World}
-use Rattle.cedar_typing.specs.LinkedSlots.{LinksBothSlots}
+use Rattle.cedar_typing.specs.Setting.LinkedSlots.{LinksBothSlots}
 use Rattle.cedar_typing.specs.Rules.{Derives}
 use Rattle.cedar_typing.specs.Setting.{Setting}
 use Rattle.cedar_typing.specs.Soundness.{OnValue, IsReliableIn, IsWorldOf}

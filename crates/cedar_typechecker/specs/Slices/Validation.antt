@@ -3,19 +3,19 @@ use Rattle.std.specs.Prelude.{◌≡◌, ℕ, true, false, List, [], None}
 use Rattle.cedar_types.specs.declared.base.types.ValidationMode.{ValidationMode}
 use Rattle.cedar_types.specs.declared.base.types.ValidationMode.TheVariants.{Strict, Permissive}
 use Rattle.cedar_types.specs.Errors.{Finding, Caution}
-use Rattle.cedar_types.specs.ExtensionFunctions.{table_fault}
-use Rattle.cedar_types.specs.FormedSchemas.{has_formed_types}
-use Rattle.cedar_types.specs.Linking.{checked_envs}
-use Rattle.cedar_types.specs.RequestEnvs.{Env}
+use Rattle.cedar_types.specs.Extensions.Functions.{table_fault}
+use Rattle.cedar_types.specs.Schemas.Formed.{has_formed_types}
+use Rattle.cedar_types.specs.Environments.Linking.{checked_envs}
+use Rattle.cedar_types.specs.Environments.RequestEnvs.{Env}
 use Rattle.cedar_types.specs.Schemas.{has_fault}
 use Rattle.cedar_types.specs.Templates.{PlainTemplate, condition_of}
 use Rattle.cedar_typing.specs.Capabilities.{no_caps}
 use Rattle.cedar_typing.specs.Evaluation.Conformance.{IsOneOf}
 use Rattle.cedar_typing.specs.Evaluation.Eval.{eval}
 use Rattle.cedar_typing.specs.Evaluation.World.{World}
-use Rattle.cedar_typing.specs.PolicySoundness.{Basis, IsClosedIn, IsWellFormed, IsConforming, ImpossibleIsNeverTrueIn, setting_on, CheckedOn}
-use Rattle.cedar_typing.specs.RuleLaws.{IsCut}
-use Rattle.cedar_typing.specs.SoundPolicyCheck.{IsBooleanOrAllowed}
+use Rattle.cedar_typing.specs.Soundness.Policies.{Basis, IsClosedIn, IsWellFormed, IsConforming, ImpossibleIsNeverTrueIn, setting_on, CheckedOn}
+use Rattle.cedar_typing.specs.Rules.Laws.{IsCut}
+use Rattle.cedar_typing.specs.Soundness.PolicyCheck.{IsBooleanOrAllowed}
 use Rattle.cedar_typechecker.specs.Levels.Outcome.{LevelOutcome}
 use Rattle.cedar_typechecker.specs.Slices.Policies.{IsSameInSlices}
 

@@ -1,7 +1,7 @@
 // What a chain of attributes costs, as extended `has` tests it.
 ghost use Rattle.std.specs.Prelude.{◌≡◌, ◌∷◌, IfOk, map, option_map, take};
 ghost use Rattle.cedar_types.specs.Names.{text_of};
-ghost use Rattle.cedar_types.specs.SchemaContents.{schema_of};
+ghost use Rattle.cedar_types.specs.Schemas.Contents.{schema_of};
 ghost use Rattle.cedar_types.specs.Types.{ty_of};
 ghost use Rattle.cedar_typechecker.specs.Levels.Costs.{root_cost, entity_cost, chain_cost, attributes_cost, keys_to_entity};
 ghost use Rattle.cedar_typechecker.specs.Levels.InOrder.{entity_after};

@@ -2,10 +2,10 @@
 ghost use Rattle.std.specs.Prelude.{◌≡◌, ◌++◌, IfOk, OnOk, IsPermutation, map, cond, [], ◌∷◌};
 ghost use Rattle.cedar_types.specs.declared.base.types.ValidationMode.TheVariants.{Strict, Permissive};
 ghost use Rattle.cedar_types.specs.Errors.{caution_of};
-ghost use Rattle.cedar_types.specs.Linking.{checked_envs};
-ghost use Rattle.cedar_types.specs.SchemaContents.{schema_of};
+ghost use Rattle.cedar_types.specs.Environments.Linking.{checked_envs};
+ghost use Rattle.cedar_types.specs.Schemas.Contents.{schema_of};
 ghost use Rattle.cedar_types.specs.Templates.{template_of};
-ghost use Rattle.cedar_typing.specs.PolicyOutcome.{impossible};
+ghost use Rattle.cedar_typing.specs.PolicyCheck.Outcome.{impossible};
 ghost use Rattle.cedar_typechecker.specs.Levels.Answers.{level_errors_left, level_warnings_left};
 ghost use Rattle.cedar_typechecker.specs.Levels.Outcome.{ChecksOn, levels_on, name_findings, application_warnings, AreApart, LevelOutcome};
 ghost use Rattle.cedar_typechecker.specs.Levels.Tallies.{basis_in, TalliesLevels};

@@ -1,7 +1,7 @@
 // The walk over a typed condition that finds the level it requires: its targets, whose values are entities that are dereferenced.
 ghost use Rattle.std.specs.Prelude.{◌≡◌, [], ◌∷◌, None, max, option_map, IfOk, OnOk, if◌then◌else◌};
 ghost use Rattle.cedar_types.specs.Names.{text_of, uid_of};
-ghost use Rattle.cedar_types.specs.View.{lit_of};
+ghost use Rattle.cedar_types.specs.Expressions.View.{lit_of};
 ghost use Rattle.cedar_typing.specs.TypedExpr.{typed_tree, annotation};
 ghost use Rattle.cedar_typechecker.specs.Levels.Chains.{is_get_tag, entity_leaf, leaf_of_literal, base_of};
 ghost use Rattle.cedar_typechecker.specs.Levels.InOrder.{counted_level, counted_at_key, has_key, raised, by_base, on_path};

@@ -2,10 +2,10 @@
 //
 // What some level visits each greater one visits, so the greatest level that a visited node requires is enough for all.
 ghost use Rattle.std.specs.Prelude.{◌≡◌, [], ◌∷◌, None, map, max, OnOk, if◌then◌else◌};
-ghost use Rattle.cedar_types.specs.SchemaContents.{schema_of};
+ghost use Rattle.cedar_types.specs.Schemas.Contents.{schema_of};
 ghost use Rattle.cedar_types.specs.Types.{ty_of};
-ghost use Rattle.cedar_types.specs.View.{chain_of, trees_of};
-ghost use Rattle.cedar_typing.specs.CheckViews.{verdict_of};
+ghost use Rattle.cedar_types.specs.Expressions.View.{chain_of, trees_of};
+ghost use Rattle.cedar_typing.specs.Views.Checks.{verdict_of};
 ghost use Rattle.cedar_typing.specs.TypedExpr.{typed_tree, annotation};
 ghost use Rattle.cedar_typechecker.specs.Levels.Chains.{base_of, base_of_type};
 ghost use Rattle.cedar_typechecker.specs.Levels.Costs.{chain_cost, keys_to_entity};

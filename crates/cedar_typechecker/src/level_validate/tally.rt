@@ -2,10 +2,10 @@
 ghost use Rattle.std.specs.Prelude.{◌≡◌, ◌≤◌, [], ◌∷◌, List, OnOk, IfOk};
 ghost use Rattle.std.specs.Ordering.{eq_by_cmp};
 ghost use Rattle.std.specs.Set.{IsUnion};
-ghost use Rattle.cedar_types.specs.RequestEnvs.{Env};
-ghost use Rattle.cedar_typing.specs.CheckViews.{verdict_of};
+ghost use Rattle.cedar_types.specs.Environments.RequestEnvs.{Env};
+ghost use Rattle.cedar_typing.specs.Views.Checks.{verdict_of};
 ghost use Rattle.cedar_typing.specs.PolicyCheck.{Verdict};
-ghost use Rattle.cedar_typing.specs.PolicyOutcome.{Adds};
+ghost use Rattle.cedar_typing.specs.PolicyCheck.Outcome.{Adds};
 ghost use Rattle.cedar_typing.specs.TypedExpr.{typed_tree};
 ghost use Rattle.cedar_typechecker.specs.Levels.InOrder.{add_errors};
 ghost use Rattle.cedar_typechecker.specs.Levels.Laws.{VerdictIsShared};

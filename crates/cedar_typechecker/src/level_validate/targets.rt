@@ -2,7 +2,7 @@
 ghost use Rattle.std.specs.Prelude.{◌≡◌, [], ◌∷◌, max, option_map, IfOk, OnOk, if◌then◌else◌};
 ghost use Rattle.cedar_types.specs.Errors.{internal_invariant_violation};
 ghost use Rattle.cedar_types.specs.Names.{text_of, uid_of, text_eq, uid_eq};
-ghost use Rattle.cedar_types.specs.View.{lit_of};
+ghost use Rattle.cedar_types.specs.Expressions.View.{lit_of};
 ghost use Rattle.cedar_typing.specs.TypedExpr.{typed_tree, annotation};
 ghost use Rattle.cedar_typechecker.specs.Levels.Chains.{is_get_tag, entity_leaf, leaf_of_literal, base_of};
 ghost use Rattle.cedar_typechecker.specs.Levels.InOrder.{reports, at_leaf, counted_level, counted_at_key, add_target_errors, add_errors_along, has_key, raised, by_base, on_path};

@@ -1,9 +1,9 @@
 // The walk over a typed condition: its checked parts.
 ghost use Rattle.std.specs.Prelude.{◌≡◌, [], ◌∷◌, map, OnOk, if◌then◌else◌};
 ghost use Rattle.cedar_types.specs.Errors.{internal_invariant_violation};
-ghost use Rattle.cedar_types.specs.SchemaContents.{schema_of};
+ghost use Rattle.cedar_types.specs.Schemas.Contents.{schema_of};
 ghost use Rattle.cedar_types.specs.Types.{ty_of};
-ghost use Rattle.cedar_types.specs.View.{chain_of, trees_of};
+ghost use Rattle.cedar_types.specs.Expressions.View.{chain_of, trees_of};
 ghost use Rattle.cedar_typing.specs.TypedExpr.{typed_tree, annotation};
 ghost use Rattle.cedar_typechecker.specs.Levels.Chains.{base_of, base_of_type};
 ghost use Rattle.cedar_typechecker.specs.Levels.Costs.{chain_cost, keys_to_entity};

@@ -1,8 +1,8 @@
 // What the actions apply to that the scope of a policy admits.
 ghost use Rattle.std.specs.Prelude.{◌≡◌, map, IfOk};
-ghost use Rattle.cedar_types.specs.Declarations.{application, declared_action};
+ghost use Rattle.cedar_types.specs.Schemas.Declarations.{application, declared_action};
 ghost use Rattle.cedar_types.specs.Names.{placed_uid, uid_of};
-ghost use Rattle.cedar_types.specs.SchemaContents.{schema_of};
+ghost use Rattle.cedar_types.specs.Schemas.Contents.{schema_of};
 ghost use Rattle.cedar_types.specs.Templates.{action_scope_of, within_actions};
 ghost use Rattle.cedar_typechecker.specs.Members.{SameMembers};
 ghost use Rattle.cedar_typechecker.specs.Scopes.{declarations, admitted_actions, applications, admitted_applications};

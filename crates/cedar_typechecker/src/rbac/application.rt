@@ -1,10 +1,10 @@
 // Whether the scope of a policy fits some action.
 ghost use Rattle.std.specs.Prelude.{◌≡◌, map, IfOk};
 ghost use Rattle.std.specs.List.{list_any};
-ghost use Rattle.cedar_types.specs.Declarations.{application};
+ghost use Rattle.cedar_types.specs.Schemas.Declarations.{application};
 ghost use Rattle.cedar_types.specs.Errors.{caution_of, invalid_action_application};
 ghost use Rattle.cedar_types.specs.Names.{type_of};
-ghost use Rattle.cedar_types.specs.SchemaContents.{schema_of};
+ghost use Rattle.cedar_types.specs.Schemas.Contents.{schema_of};
 ghost use Rattle.cedar_types.specs.Templates.{template_of, scope_of};
 ghost use Rattle.cedar_typechecker.specs.Applications.{fits, AnswersApplication, with_bound_scope};
 ghost use Rattle.cedar_typechecker.specs.ValidatorViews.{schema_in};

@@ -1,8 +1,8 @@
 // The entity types that the scope of a policy admits.
 ghost use Rattle.std.specs.Prelude.{◌≡◌, ◌||◌, map, IfOk};
-ghost use Rattle.cedar_types.specs.Listings.{ListsTypes, types_within};
+ghost use Rattle.cedar_types.specs.Schemas.Listings.{ListsTypes, types_within};
 ghost use Rattle.cedar_types.specs.Names.{type_of};
-ghost use Rattle.cedar_types.specs.SchemaContents.{schema_of};
+ghost use Rattle.cedar_types.specs.Schemas.Contents.{schema_of};
 ghost use Rattle.cedar_types.specs.Schemas.{is_among};
 ghost use Rattle.cedar_types.specs.Templates.{scope_of};
 ghost use Rattle.cedar_typechecker.specs.Scopes.{admitted_types, only_if};

@@ -1,9 +1,9 @@
 // Whether `in` in place of `==` might help where the scope of a policy fits no action.
 ghost use Rattle.std.specs.Prelude.{◌≡◌, map, option_map};
 ghost use Rattle.std.specs.List.{list_any};
-ghost use Rattle.cedar_types.specs.Declarations.{application};
+ghost use Rattle.cedar_types.specs.Schemas.Declarations.{application};
 ghost use Rattle.cedar_types.specs.Names.{type_of};
-ghost use Rattle.cedar_types.specs.SchemaContents.{schema_of};
+ghost use Rattle.cedar_types.specs.Schemas.Contents.{schema_of};
 ghost use Rattle.cedar_types.specs.Schemas.{is_among, descendants_of};
 ghost use Rattle.cedar_types.specs.Templates.{scope_of};
 ghost use Rattle.cedar_types.specs.Types.{types_of};

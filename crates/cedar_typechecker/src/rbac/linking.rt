@@ -1,7 +1,7 @@
 // The scope of a linked policy.
 ghost use Rattle.std.specs.Prelude.{◌≡◌, IfOk, option_map};
 ghost use Rattle.cedar_types.specs.Names.{placed_uid};
-ghost use Rattle.cedar_types.specs.RequestEnvs.{bound_to};
+ghost use Rattle.cedar_types.specs.Environments.RequestEnvs.{bound_to};
 ghost use Rattle.cedar_types.specs.Templates.{reference_of, scope_of};
 ghost use Rattle.cedar_typechecker.specs.Applications.{bound_reference, bound_scope};
 

@@ -1,14 +1,14 @@
 // The passes over the names in a template.
 ghost use Rattle.std.specs.Prelude.{◌≡◌, false, [], ◌∷◌, IfOk, IsPermutation, MatchOption, option_map};
 ghost use Rattle.std.specs.List.{filter_map};
-ghost use Rattle.cedar_types.specs.Declarations.{type_kind};
+ghost use Rattle.cedar_types.specs.Schemas.Declarations.{type_kind};
 ghost use Rattle.cedar_types.specs.Errors.{finding_of};
 ghost use Rattle.cedar_types.specs.FallibleIterators.{YieldsOrEnds, calls_left};
-ghost use Rattle.cedar_types.specs.Findings.{unknown_types, unknown_actions, wrong_members, is_unknown_action, is_wrong_member, excludes};
-ghost use Rattle.cedar_types.specs.Mentions.{template_mentions};
-ghost use Rattle.cedar_types.specs.MentionViews.{mention_of};
+ghost use Rattle.cedar_types.specs.Templates.Findings.{unknown_types, unknown_actions, wrong_members, is_unknown_action, is_wrong_member, excludes};
+ghost use Rattle.cedar_types.specs.Templates.Mentions.{template_mentions};
+ghost use Rattle.cedar_types.specs.Templates.MentionViews.{mention_of};
 ghost use Rattle.cedar_types.specs.Names.{text_of, uid_of, placed_type, placed_uid};
-ghost use Rattle.cedar_types.specs.SchemaContents.{schema_of};
+ghost use Rattle.cedar_types.specs.Schemas.Contents.{schema_of};
 ghost use Rattle.cedar_types.specs.Templates.{template_of};
 ghost use Rattle.cedar_typechecker.specs.Passes.{own_finding, type_finding, action_finding, member_finding, errors_to_come, errors_left, errors_are_over};
 

@@ -4,7 +4,7 @@ ghost use Rattle.std.specs.BTreeMap.{values};
 ghost use Rattle.cedar_types.specs.Errors.{finding_of, unrecognized_entity_type};
 ghost use Rattle.cedar_types.specs.FallibleIterators.{YieldsOrEnds, calls_left};
 ghost use Rattle.cedar_types.specs.Names.{text_of, type_of};
-ghost use Rattle.cedar_types.specs.SchemaContents.{schema_of};
+ghost use Rattle.cedar_types.specs.Schemas.Contents.{schema_of};
 ghost use Rattle.cedar_typechecker.specs.SlotTypes.{unknown_slot_types, slot_errors_to_come, slot_errors_left, slot_errors_are_over};
 ghost use Rattle.cedar_typechecker.specs.ValidatorViews.{schema_in};
 

@@ -8,9 +8,9 @@ use Rattle.std.specs.Map.{keys_of}
 use Rattle.std.specs.Ordering.{match_ordering, ordering_reverse}
 use Rattle.std.specs.BTreeMap.{insert_entry}
 use Rattle.std.specs.declared.rc.RcStr.{RcStr}
-use Rattle.cedar_types.specs.Tree.{Tree, Fields, no_fields, field}
+use Rattle.cedar_types.specs.Expressions.Tree.{Tree, Fields, no_fields, field}
 use Rattle.cedar_types.specs.Names.{Text, text_of}
-use Rattle.cedar_types.specs.View.{Written, written, fields_written}
+use Rattle.cedar_types.specs.Expressions.View.{Written, written, fields_written}
 use Rattle.cedar_types.specs.declared.base.expressions.Expr.{Expr}
 
 abbrev pub Entry : Type 0

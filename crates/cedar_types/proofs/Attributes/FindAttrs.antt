@@ -7,9 +7,9 @@ use Rattle.std.specs.Cmp.{tied_itself}
 use Rattle.std.specs.Cmp.Lexicographic.{nat_list_cmp_total, texts_ties}
 use Rattle.std.specs.List.{list_all}
 use Rattle.cedar_types.specs.Names.{Text, text_cmp, text_eq}
-use Rattle.cedar_types.specs.Ascending.{texts_ascending}
+use Rattle.cedar_types.specs.Names.Ascending.{texts_ascending}
 use Rattle.cedar_types.specs.Types.{Ty, Attrs, no_attrs, attr, attr_names, is_well_formed, are_well_formed}
-use Rattle.cedar_types.specs.Bounds.{find_attr}
+use Rattle.cedar_types.specs.Types.Bounds.{find_attr}
 use Rattle.cedar_types.proofs.Comparisons.SameTypes.{and_left, and_right, and_both, text_decides, text_itself}
 use Rattle.cedar_types.proofs.Names.Unions.{less_is, not_true}
 

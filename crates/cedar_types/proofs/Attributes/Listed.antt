@@ -9,7 +9,7 @@ use Rattle.std.specs.BTreeMap.{insert_entry}
 use Rattle.cedar_types.specs.declared.base.types.AttributeType.{AttributeType}
 use Rattle.cedar_types.specs.Names.{text_of}
 use Rattle.cedar_types.specs.Types.{Ty, ty_of, entries_of, attr}
-use Rattle.cedar_types.specs.Makers.{with_attr}
+use Rattle.cedar_types.specs.Expressions.Makers.{with_attr}
 use Rattle.cedar_types.proofs.Attributes.Records.{key_cmp}
 
 abbrev pub shown : AttributeType → Ty × Bool

@@ -17,9 +17,9 @@ use Rattle.cedar_types.specs.declared.base.types.ValidationMode.{ValidationMode}
 use Rattle.cedar_types.specs.declared.base.types.Attributes.{Attributes, out-Attributes}
 use Rattle.cedar_types.proofs.Attributes.{attributes_are}
 use Rattle.cedar_types.specs.Names.{Text, text_of, text_cmp, text_eq}
-use Rattle.cedar_types.specs.Ascending.{texts_ascending}
+use Rattle.cedar_types.specs.Names.Ascending.{texts_ascending}
 use Rattle.cedar_types.specs.Types.{Ty, TRecord, Attrs, attr, no_attrs, attr_names, ty_of, attributes_of, texts_of, entries_of, join_attrs}
-use Rattle.cedar_types.specs.Bounds.{attr_count, mark_eq, find_attr, both_attrs, common_attrs, with_both, with_common, with_bound, lub, record_lub, wide_lub, closed_lub, is_strict}
+use Rattle.cedar_types.specs.Types.Bounds.{attr_count, mark_eq, find_attr, both_attrs, common_attrs, with_both, with_common, with_bound, lub, record_lub, wide_lub, closed_lub, is_strict}
 
 abbrev pub key_cmp : RcStr Global → RcStr Global → Ordering
 key_cmp a b = text_cmp (text_of a) (text_of b)

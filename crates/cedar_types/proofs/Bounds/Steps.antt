@@ -4,9 +4,9 @@ use Rattle.std.specs.Cmp.Lexicographic.{pointwise}
 use borrow.Author.Tests.{eq-eqb}
 use Rattle.cedar_types.specs.declared.base.types.ValidationMode.{ValidationMode}
 use Rattle.cedar_types.specs.Names.{Text, Path, text_eq, path_eq}
-use Rattle.cedar_types.specs.Ascending.{paths_ascending}
+use Rattle.cedar_types.specs.Names.Ascending.{paths_ascending}
 use Rattle.cedar_types.specs.Types.{Ty, TNever, TBool, TLong, TString, TSet, TAnySet, TRecord, TEntity, TAnyEntity, TExtension, Attrs, no_attrs, attr}
-use Rattle.cedar_types.specs.Bounds.{attr_count, mark_eq, ty_eq, attrs_eq, find_attr, union, is_strict, is_never, apart_lub, lub, closed_lub, wide_lub, with_both, with_bound, with_common, both_attrs, common_attrs}
+use Rattle.cedar_types.specs.Types.Bounds.{attr_count, mark_eq, ty_eq, attrs_eq, find_attr, union, is_strict, is_never, apart_lub, lub, closed_lub, wide_lub, with_both, with_bound, with_common, both_attrs, common_attrs}
 use Rattle.cedar_types.proofs.Comparisons.SameTypes.{and_left, and_right, and_both, ty_to, ty_itself, attrs_to, mark_to, mark_itself, text_itself, paths_decide}
 use Rattle.cedar_types.proofs.Names.Unions.{same_members, union_ascends, has_union, has}
 use Rattle.cedar_types.proofs.Attributes.FindAttrs.{text_to, names_ascend, NamesAbove, found_here, found_later, first_name_below, rest_names_ascend, names_ascend_from, name_absent, same_look_ups}

@@ -6,9 +6,9 @@ use Rattle.cedar_types.specs.declared.base.types.BoolType.{BoolType}
 use Rattle.cedar_types.specs.declared.base.types.BoolType.TheVariants.{AnyBool, True, False}
 use Rattle.cedar_types.specs.declared.base.types.ValidationMode.{ValidationMode}
 use Rattle.cedar_types.specs.Names.{Text, Path, text_eq, path_eq}
-use Rattle.cedar_types.specs.Ascending.{has_members, paths_ascending}
+use Rattle.cedar_types.specs.Names.Ascending.{has_members, paths_ascending}
 use Rattle.cedar_types.specs.Types.{Ty, TNever, TBool, TLong, TString, TSet, TAnySet, TRecord, TEntity, TAnyEntity, TExtension, Attrs, no_attrs, attr, is_well_formed, are_well_formed}
-use Rattle.cedar_types.specs.Bounds.{attr_count, mark_eq, ty_eq, find_attr, union, is_strict, lub, closed_lub, wide_lub, with_both, both_attrs, common_attrs}
+use Rattle.cedar_types.specs.Types.Bounds.{attr_count, mark_eq, ty_eq, find_attr, union, is_strict, lub, closed_lub, wide_lub, with_both, both_attrs, common_attrs}
 use Rattle.cedar_types.proofs.Comparisons.SameTypes.{and_left, and_right, and_both, text_itself, mark_itself}
 use Rattle.cedar_types.proofs.Names.Unions.{union_absorbs}
 use Rattle.cedar_types.proofs.Attributes.FindAttrs.{names_ascend, same_look_ups, AllTypes, found_type}

@@ -4,9 +4,9 @@ use Rattle.std.specs.Cmp.Lexicographic.{pointwise}
 use Rattle.cedar_types.specs.declared.base.types.BoolType.{BoolType}
 use Rattle.cedar_types.specs.declared.base.types.ValidationMode.{ValidationMode}
 use Rattle.cedar_types.specs.Names.{Text, Path, text_eq, path_eq}
-use Rattle.cedar_types.specs.Ascending.{has_members, texts_ascending, paths_ascending}
+use Rattle.cedar_types.specs.Names.Ascending.{has_members, texts_ascending, paths_ascending}
 use Rattle.cedar_types.specs.Types.{Ty, TNever, TBool, TLong, TString, TSet, TAnySet, TRecord, TEntity, TAnyEntity, TExtension, Attrs, no_attrs, attr, attr_names, is_well_formed, are_well_formed}
-use Rattle.cedar_types.specs.Bounds.{mark_eq, attrs_eq, find_attr, union, is_strict, lub, closed_lub, wide_lub, with_both, with_bound, with_common, both_attrs, common_attrs}
+use Rattle.cedar_types.specs.Types.Bounds.{mark_eq, attrs_eq, find_attr, union, is_strict, lub, closed_lub, wide_lub, with_both, with_bound, with_common, both_attrs, common_attrs}
 use Rattle.cedar_types.proofs.Comparisons.SameTypes.{and_left, and_right, and_both}
 use Rattle.cedar_types.proofs.Names.Unions.{union_ascends, union_not_empty, has_first}
 use Rattle.cedar_types.proofs.Attributes.FindAttrs.{names_ascend, AllTypes, found_type, all_well_formed}

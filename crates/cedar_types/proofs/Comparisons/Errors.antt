@@ -18,7 +18,7 @@ use Rattle.cedar_types.specs.contracts.base.errors.validation_errors.ValidationE
 use Rattle.cedar_types.specs.contracts.base.errors.validation_warnings.ValidationWarningPartialEq.TheImpl as warning_impl
 use Rattle.cedar_types.specs.Names.{text_of, type_of, text_eq, path_eq}
 use Rattle.cedar_types.specs.Types.{ty_of, lub_of}
-use Rattle.cedar_types.specs.Comparisons.{bool_eq}
+use Rattle.cedar_types.specs.Names.Comparisons.{bool_eq}
 use Rattle.cedar_types.specs.ErrorOrder.{error_cmp}
 use Rattle.cedar_types.specs.Lemmas.Comparisons.{name_is, entity_type_is, uid_is}
 use Rattle.cedar_types.specs.Errors.{finding_of, caution_of}

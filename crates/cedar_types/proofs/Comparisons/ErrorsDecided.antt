@@ -8,8 +8,8 @@ use Rattle.cedar_types.specs.declared.base.errors.type_errors.LubContext.{LubCon
 use Rattle.cedar_types.specs.contracts.base.errors.type_errors.LubContextPartialEq.TheImpl as context_impl
 use Rattle.cedar_types.specs.Names.{Path, text_eq, path_eq, uid_eq}
 use Rattle.cedar_types.specs.Types.{Ty}
-use Rattle.cedar_types.specs.Bounds.{ty_eq}
-use Rattle.cedar_types.specs.Comparisons.{bool_eq}
+use Rattle.cedar_types.specs.Types.Bounds.{ty_eq}
+use Rattle.cedar_types.specs.Names.Comparisons.{bool_eq}
 use Rattle.cedar_types.specs.Lemmas.Comparisons.{Same, and_left, and_right, and_both, list_same, nat_same, text_same, path_same, uid_same, bool_same}
 use Rattle.cedar_types.specs.Errors.{Fault, unrecognized_entity_type, unrecognized_action_id, invalid_enum_entity, unexpected_type, incompatible_types, unsafe_attribute_access, unsafe_optional_attribute_access, unsafe_tag_access, no_tags_allowed, undefined_function, wrong_number_arguments, function_argument_validation, empty_set_forbidden, non_lit_ext_constructor, internal_invariant_violation, maximum_level_exceeded, literal_dereference_target, Finding, Slip, impossible_policy, invalid_action_application, Caution}
 use Rattle.cedar_types.proofs.Comparisons.TypesDecided.{ty_same}

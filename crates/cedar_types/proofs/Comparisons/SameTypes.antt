@@ -6,7 +6,7 @@ use Rattle.cedar_types.specs.declared.base.types.BoolType.{BoolType}
 use Rattle.cedar_types.specs.declared.base.types.BoolType.TheVariants.{AnyBool, True, False}
 use Rattle.cedar_types.specs.Names.{Text, Path, text_eq, path_eq}
 use Rattle.cedar_types.specs.Types.{Ty, TNever, TBool, TLong, TString, TSet, TAnySet, TRecord, TEntity, TAnyEntity, TExtension, Attrs, no_attrs, attr}
-use Rattle.cedar_types.specs.Bounds.{kind_eq, mark_eq, ty_eq, attrs_eq}
+use Rattle.cedar_types.specs.Types.Bounds.{kind_eq, mark_eq, ty_eq, attrs_eq}
 
 pub and_left : (a b : Bool) → (a && b) ≡ true → a ≡ true
 and_left true b h = refl

@@ -34,7 +34,7 @@ use Rattle.cedar_types.specs.contracts.base.types.AttributeTypeOrd.TheImpl as at
 use Rattle.cedar_types.specs.contracts.base.types.AttributeTypeOrd.TheImpl.Laws as attribute_laws
 use Rattle.cedar_types.specs.Names.{text_of, type_of, text_cmp, path_cmp}
 use Rattle.cedar_types.specs.Types.{is_open_tag, lub_of, kind_of, ty_of, attributes_of, entries_of}
-use Rattle.cedar_types.specs.TypeOrder.{bool_rank, open_rank, required_rank, ty_cmp, attrs_cmp, insert_ty}
+use Rattle.cedar_types.specs.Types.Order.{bool_rank, open_rank, required_rank, ty_cmp, attrs_cmp, insert_ty}
 use Rattle.cedar_types.proofs.Names.Paths.{names_cmp}
 use Rattle.cedar_types.proofs.Attributes.{attributes_are}
 use Rattle.cedar_types.proofs.Comparisons.Types.{tview, is_view}

@@ -33,7 +33,7 @@ use Rattle.cedar_types.specs.declared.base.types.EntityKind.TheVariants as kind
 use mathlib.Core.Bool.{beq}
 use Rattle.cedar_types.specs.Names.{path_of, type_of, text_of, text_eq, path_eq}
 use Rattle.cedar_types.specs.Types.{Ty, TNever, TBool, TLong, TString, TSet, TAnySet, TRecord, TExtension, Attrs, is_open_tag, lub_of, kind_of, ty_step, attribute_step, attributes_step, ty_of, attribute_of, attributes_of, entries_of}
-use Rattle.cedar_types.specs.Bounds.{kind_eq, mark_eq, ty_eq, attrs_eq}
+use Rattle.cedar_types.specs.Types.Bounds.{kind_eq, mark_eq, ty_eq, attrs_eq}
 use Rattle.cedar_types.proofs.Names.Paths.{names_eq}
 use Rattle.cedar_types.proofs.Attributes.{attributes_are}
 

@@ -7,7 +7,7 @@ use Rattle.std.specs.Ordering.{ordering_reverse}
 use Rattle.std.specs.declared.cmp.Ordering.{Ordering}
 use Rattle.std.specs.declared.cmp.Ordering.TheVariants.{Less, Equal, Greater}
 use Rattle.std.proofs.lemmas.Cmp.{alike_right}
-use Rattle.cedar_types.specs.Entries.{IsBelowHead}
+use Rattle.cedar_types.specs.Capability.Entries.{IsBelowHead}
 use Rattle.cedar_types.proofs.Entries.Basics.{all_map, all_push}
 
 module _ {K : Type 0} (cmp : K → K → Ordering) where

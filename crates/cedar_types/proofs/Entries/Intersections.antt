@@ -4,7 +4,7 @@ use Rattle.std.specs.List.{list_any}
 use Rattle.std.specs.Cmp.{IsTotalOrder}
 use Rattle.std.specs.declared.cmp.Ordering.{Ordering}
 use Rattle.std.specs.declared.cmp.Ordering.TheVariants.{Less, Equal, Greater}
-use Rattle.cedar_types.specs.Entries.{IsPoint, HasBoth}
+use Rattle.cedar_types.specs.Capability.Entries.{IsPoint, HasBoth}
 use Rattle.cedar_types.proofs.Entries.Basics.{Equal≢Less, all_map, or_false, any_push, none_where, common_both, drop_left, drop_right}
 use Rattle.cedar_types.proofs.Entries.Ascending.{SortedBy, BelowBy, UnderBy, turned, below_more, below_alike, sorted_head, sorted_tail, sorted_none, sorted_push, under_head, under_push, under_tail}
 

@@ -10,7 +10,7 @@ use Rattle.std.specs.declared.cmp.Ordering.{Ordering}
 use Rattle.std.specs.declared.cmp.Ordering.TheVariants.{Less, Equal, Greater}
 use Rattle.std.proofs.lemmas.Cmp.{tied_back, alike_right}
 use Rattle.std.proofs.lemmas.Map.Keys.{Less-from_sorted}
-use Rattle.cedar_types.specs.Entries.{HasOneMore}
+use Rattle.cedar_types.specs.Capability.Entries.{HasOneMore}
 use Rattle.cedar_types.proofs.Entries.Basics.{Equal≢Less, or_false, or_true, or_turned, or_regroup, there}
 use Rattle.cedar_types.proofs.Entries.Ascending.{SortedBy}
 

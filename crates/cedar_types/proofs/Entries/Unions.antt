@@ -4,7 +4,7 @@ use Rattle.std.specs.List.{list_any}
 use Rattle.std.specs.Cmp.{IsTotalOrder}
 use Rattle.std.specs.declared.cmp.Ordering.{Ordering}
 use Rattle.std.specs.declared.cmp.Ordering.TheVariants.{Equal}
-use Rattle.cedar_types.specs.Entries.{IsPoint, IsFirst, left_first, right_first, both_first, IsBelowHead, HasEither}
+use Rattle.cedar_types.specs.Capability.Entries.{IsPoint, IsFirst, left_first, right_first, both_first, IsBelowHead, HasEither}
 use Rattle.cedar_types.proofs.Entries.Basics.{or_false, any_push, from_left, from_right, from_both}
 use Rattle.cedar_types.proofs.Entries.Ascending.{SortedBy, UnderBy, below_alike, sorted_head, sorted_tail, sorted_none, below_head, sorted_push, under_head, under_push, under_tail}
 

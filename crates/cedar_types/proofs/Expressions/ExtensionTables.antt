@@ -6,7 +6,7 @@ use Rattle.std.proofs.lemmas.List.Sorted.{Contains-permutation, IsPermutation-sy
 use Rattle.std.proofs.lemmas.Map.Keys.{IsDistinct-head, IsDistinct-tail, IsDistinct-IsPermutation, apart_from_distinct}
 use Rattle.cedar_types.specs.Names.{Path, path_eq}
 use Rattle.cedar_types.specs.declared.base.expressions.extensions.ExtensionTableError.{ExtensionTableError}
-use Rattle.cedar_types.specs.ExtensionFunctions.{ExtensionFunction, function_named, has_two_alike, has_bad_return, lacks_arguments, table_fault}
+use Rattle.cedar_types.specs.Extensions.Functions.{ExtensionFunction, function_named, has_two_alike, has_bad_return, lacks_arguments, table_fault}
 use Rattle.cedar_types.proofs.Comparisons.SameTypes.{path_to, path_itself}
 use Rattle.cedar_types.proofs.Tests.{alike}
 

@@ -9,8 +9,8 @@ use Rattle.cedar_types.specs.declared.base.expressions.ExprKind.{ExprKind, Row_o
 use Rattle.cedar_types.specs.declared.base.expressions.ExprKind.TheBlock.{shown-the_row-Expr-0, shown-the_row-Expr-1}
 use Rattle.cedar_types.specs.declared.base.expressions.ExprKind.TheVariants as K
 use Rattle.cedar_types.specs.Names.{text_of, path_of, type_of}
-use Rattle.cedar_types.specs.Tree.{Tree, lit, var, slot, unknown, if_then_else, and, or, unary, binary, call, get_attr, has_attr, ext_has_attr, like, is_type, set_of, record_of, tree, field, map_tree, map_trees, map_fields}
-use Rattle.cedar_types.specs.View.{Places, no_name, of_type, Written, lit_of, lit_places, chain_of, trees_of, fields_of, tree_with, shape, written}
+use Rattle.cedar_types.specs.Expressions.Tree.{Tree, lit, var, slot, unknown, if_then_else, and, or, unary, binary, call, get_attr, has_attr, ext_has_attr, like, is_type, set_of, record_of, tree, field, map_tree, map_trees, map_fields}
+use Rattle.cedar_types.specs.Expressions.View.{Places, no_name, of_type, Written, lit_of, lit_places, chain_of, trees_of, fields_of, tree_with, shape, written}
 use Rattle.cedar_types.specs.Lemmas.Layers as layers
 
 module _ (T : Type 0) (D E : Type 0) (mark : T → Option Loc → Places → D) (g : D → E) where

@@ -9,10 +9,10 @@ use Rattle.std.specs.declared.alloc.Global.{Global}
 use Rattle.std.specs.declared.rc.RcStr.{RcStr}
 use Rattle.cedar_types.specs.declared.base.expressions.Expr.{Expr}
 use Rattle.cedar_types.specs.declared.base.names.slots.SlotId.{SlotId}
-use Rattle.cedar_types.specs.Tree.{Tree, lit, var, slot, unknown, if_then_else, and, or, unary, binary, call, get_attr, has_attr, ext_has_attr, like, is_type, set_of, record_of, Trees, no_trees, tree, Fields, no_fields, field}
-use Rattle.cedar_types.specs.TreeEq.{slot_eq}
-use Rattle.cedar_types.specs.View.{trees_of, written, fields_written}
-use Rattle.cedar_types.specs.Parts.{subexpressions, subexpressions_of_all, subexpressions_of_fields, mentions_slot, any_mentions_slot, field_mentions_slot, is_slot, listed, field_values, parts, from_last}
+use Rattle.cedar_types.specs.Expressions.Tree.{Tree, lit, var, slot, unknown, if_then_else, and, or, unary, binary, call, get_attr, has_attr, ext_has_attr, like, is_type, set_of, record_of, Trees, no_trees, tree, Fields, no_fields, field}
+use Rattle.cedar_types.specs.Expressions.TreeEq.{slot_eq}
+use Rattle.cedar_types.specs.Expressions.View.{trees_of, written, fields_written}
+use Rattle.cedar_types.specs.Expressions.Parts.{subexpressions, subexpressions_of_all, subexpressions_of_fields, mentions_slot, any_mentions_slot, field_mentions_slot, is_slot, listed, field_values, parts, from_last}
 
 module _ {D : Type 0} where
   -- what lies further back on the stack comes first

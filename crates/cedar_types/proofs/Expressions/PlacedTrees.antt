@@ -3,10 +3,10 @@ use Rattle.std.proofs.Common.{◌≡◌, refl, sym, ap, ◌∙◌, Option}
 use Rattle.cedar_types.specs.declared.base.location.Loc.{Loc}
 use Rattle.cedar_types.specs.declared.base.expressions.ExprKind.{ExprKind}
 use Rattle.cedar_types.specs.declared.base.expressions.ExprKind.TheVariants as K
-use Rattle.cedar_types.specs.Tree.{Tree}
-use Rattle.cedar_types.specs.View.{Places, Written, written}
+use Rattle.cedar_types.specs.Expressions.Tree.{Tree}
+use Rattle.cedar_types.specs.Expressions.View.{Places, Written, written}
 use Rattle.cedar_types.specs.Lemmas.Layers as layers
-use Rattle.cedar_types.specs.Makers.{at_place}
+use Rattle.cedar_types.specs.Expressions.Makers.{at_place}
 
 module _ (T : Type 0) where
   abbrev mark : T → Option Loc → Places → Written

@@ -9,11 +9,11 @@ use Rattle.std.proofs.lemmas.List.{get_or-map, get_or_default, length-map, at_dr
 use Rattle.std.proofs.lemmas.List.Sorted.{searchable_from_sorted}
 use Rattle.std.proofs.lemmas.Map.Keys.{IsDistinct-head, IsDistinct-tail, IsDistinct-from_sorted, apart_from_distinct, sorted_from_all_adjacent}
 use Rattle.cedar_types.specs.Names.{Path, path_cmp, path_eq, path_of}
-use Rattle.cedar_types.specs.Comparisons.{name_eq}
+use Rattle.cedar_types.specs.Names.Comparisons.{name_eq}
 use Rattle.cedar_types.specs.Lemmas.Comparisons.{name_is}
 use Rattle.cedar_types.specs.declared.base.expressions.extensions.ExtensionFunctionType.{ExtensionFunctionType}
 use Rattle.cedar_types.specs.declared.base.expressions.extensions.ExtensionTableError.{ExtensionTableError}
-use Rattle.cedar_types.specs.ExtensionFunctions.{Refusals, ExtensionFunction, function_of, function_named, has_two_alike, has_bad_return, lacks_arguments, table_fault}
+use Rattle.cedar_types.specs.Extensions.Functions.{Refusals, ExtensionFunction, function_of, function_named, has_two_alike, has_bad_return, lacks_arguments, table_fault}
 use Rattle.cedar_types.proofs.Names.Paths.{path_ties, any_mapped}
 use Rattle.cedar_types.proofs.Names.Unions.{path_total}
 use Rattle.cedar_types.proofs.Expressions.ExtensionTables.{same, neither, distinct, named_alone, unnamed}

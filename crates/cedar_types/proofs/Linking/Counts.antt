@@ -3,8 +3,8 @@ use Rattle.std.proofs.Common.{◌≡◌, ◌+◌, ◌≤◌, Bool, true, false, 
 use Rattle.std.proofs.lemmas.List.{length-map, length-append}
 use Rattle.std.specs.Borrow.{Bor}
 use Rattle.cedar_types.specs.declared.base.names.entities.EntityType.{EntityType}
-use Rattle.cedar_types.specs.Linking.{slot_links, slot_types, types_above, type_names}
-use Rattle.cedar_types.specs.LinkViews.{link_of}
+use Rattle.cedar_types.specs.Environments.Linking.{slot_links, slot_types, types_above, type_names}
+use Rattle.cedar_types.specs.Environments.LinkViews.{link_of}
 use Rattle.cedar_types.specs.Names.{Path}
 use Rattle.cedar_types.specs.Schemas.{DeclaredType, is_among}
 use Rattle.cedar_types.specs.Templates.{Scope, any, equal, within, typed, typed_within}

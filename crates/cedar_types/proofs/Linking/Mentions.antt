@@ -4,12 +4,12 @@ use Rattle.cedar_types.specs.declared.base.location.Loc.{Loc}
 use Rattle.cedar_types.specs.declared.base.names.slots.SlotId.{SlotId}
 use Rattle.cedar_types.specs.declared.base.names.slots.SlotId.TheVariants.{Principal, Resource}
 use Rattle.cedar_types.specs.declared.base.expressions.operators.Var.{Var}
-use Rattle.cedar_types.specs.Linking.{is_slot, names_slot}
+use Rattle.cedar_types.specs.Environments.Linking.{is_slot, names_slot}
 use Rattle.cedar_types.specs.Names.{PlacedUid}
-use Rattle.cedar_types.specs.Parts.{mentions_slot, any_mentions_slot}
+use Rattle.cedar_types.specs.Expressions.Parts.{mentions_slot, any_mentions_slot}
 use Rattle.cedar_types.specs.Templates.{Reference, to_entity, to_slot, Scope, any, equal, within, typed, typed_within, ActionScope, any_action, equal_action, within_actions, PlainTemplate, reference_at, scope_at, uid_at, action_scope_at, scope_condition}
-use Rattle.cedar_types.specs.TreeEq.{slot_eq}
-use Rattle.cedar_types.specs.View.{trees_of}
+use Rattle.cedar_types.specs.Expressions.TreeEq.{slot_eq}
+use Rattle.cedar_types.specs.Expressions.View.{trees_of}
 
 own_reference : (s : SlotId) (l : Option Loc) (r : Reference) → mentions_slot s (reference_at l s r) ≡ is_slot r
 own_reference Principal l (to_entity u) = refl

@@ -5,10 +5,10 @@ use Rattle.std.proofs.Math.ListN.{drop_of_length-le}
 use Rattle.std.specs.Borrow.{Bor}
 use Rattle.cedar_types.specs.declared.base.names.entities.EntityType.{EntityType}
 use Rattle.cedar_types.specs.declared.types.link_pairs.Place.{Place}
-use Rattle.cedar_types.specs.Linking.{in_all_ways}
-use Rattle.cedar_types.specs.LinkViews.{link_of, place_env, pairs_from}
+use Rattle.cedar_types.specs.Environments.Linking.{in_all_ways}
+use Rattle.cedar_types.specs.Environments.LinkViews.{link_of, place_env, pairs_from}
 use Rattle.cedar_types.specs.Names.{Path}
-use Rattle.cedar_types.specs.RequestEnvs.{Env, Declared}
+use Rattle.cedar_types.specs.Environments.RequestEnvs.{Env, Declared}
 
 abbrev Link : Type 0
 Link = Option (Bor EntityType)

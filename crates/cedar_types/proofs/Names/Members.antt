@@ -4,8 +4,8 @@ use Rattle.std.specs.declared.cmp.Ordering.{Ordering}
 use Rattle.std.specs.declared.cmp.Ordering.TheVariants.{Less, Equal, Greater}
 use Rattle.std.specs.Ordering.{match_ordering}
 use Rattle.cedar_types.specs.Names.{Path, path_cmp}
-use Rattle.cedar_types.specs.Ascending.{has_members}
-use Rattle.cedar_types.specs.Bounds.{union, insert_path}
+use Rattle.cedar_types.specs.Names.Ascending.{has_members}
+use Rattle.cedar_types.specs.Types.Bounds.{union, insert_path}
 
 either : {A : Type 0} (o : Ordering) (xs ys zs : List A) → has_members xs ≡ true → has_members ys ≡ true → has_members zs ≡ true → has_members (match_ordering o xs ys zs) ≡ true
 either Less xs ys zs f g h = f

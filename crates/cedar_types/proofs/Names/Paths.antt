@@ -11,8 +11,8 @@ use Rattle.std.specs.List.Sorted.{IsStrictlySortedBy}
 use Rattle.cedar_types.specs.declared.base.names.Name.{Name}
 use Rattle.cedar_types.specs.declared.base.names.entities.EntityType.{EntityType}
 use Rattle.cedar_types.specs.Names.{Path, text_of, path_of, type_of, placed_type, text_cmp, path_cmp, text_eq, path_eq}
-use Rattle.cedar_types.specs.Ascending.{has_members, types_ascend}
-use Rattle.cedar_types.specs.Bounds.{insert_path}
+use Rattle.cedar_types.specs.Names.Ascending.{has_members, types_ascend}
+use Rattle.cedar_types.specs.Types.Bounds.{insert_path}
 
 pub names_eq : (a b : Name) → (pointwise (λ x y. text_eq (text_of x) (text_of y)) a.path.items b.path.items && text_eq (text_of a.basename) (text_of b.basename)) ≡ path_eq (path_of a) (path_of b)
 names_eq a b = ap (λ r. r && text_eq (text_of a.basename) (text_of b.basename)) (sym (pointwise-map text_of text_eq a.path.items b.path.items))

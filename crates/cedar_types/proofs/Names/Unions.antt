@@ -7,8 +7,8 @@ use Rattle.std.specs.Cmp.{IsTotalOrder, on_total, then_total, tied_itself}
 use Rattle.std.specs.Cmp.Lexicographic.{nat_list_cmp_total, lists_total}
 use Rattle.std.specs.List.{list_all, list_any}
 use Rattle.cedar_types.specs.Names.{Path, path_cmp, path_eq}
-use Rattle.cedar_types.specs.Ascending.{paths_ascending}
-use Rattle.cedar_types.specs.Bounds.{insert_path, union}
+use Rattle.cedar_types.specs.Names.Ascending.{paths_ascending}
+use Rattle.cedar_types.specs.Types.Bounds.{insert_path, union}
 use Rattle.cedar_types.proofs.Names.Paths.{path_ties}
 use Rattle.cedar_types.proofs.Comparisons.SameTypes.{and_left, and_right, and_both, path_to, path_itself}
 

@@ -6,7 +6,7 @@ use Rattle.std.specs.Bool.{Decides}
 use Rattle.std.specs.List.{list_any, list_all, find}
 use Rattle.std.proofs.Math.Bool.{or-true}
 use Rattle.std.proofs.lemmas.List.Folds.{list_all-map}
-use Rattle.cedar_types.specs.Closures.{has_all, is_below, is_kept}
+use Rattle.cedar_types.specs.Schemas.Closures.{has_all, is_below, is_kept}
 use Rattle.cedar_types.proofs.Schema.Places.{any_mapped}
 use Rattle.cedar_types.proofs.Tests.{Within, found, each, and_left, and_right, and_both, alike}
 

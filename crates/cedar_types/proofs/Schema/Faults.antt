@@ -4,7 +4,7 @@ use Rattle.std.specs.List.{list_any, list_all}
 use Rattle.std.proofs.lemmas.List.Folds.{list_all-map}
 use Rattle.cedar_types.specs.Names.{is_action_path, type_of}
 use Rattle.cedar_types.specs.Types.{types_of}
-use Rattle.cedar_types.specs.Declarations.{declared_type, declared_action, declared, type_kind, applies, uids_of}
+use Rattle.cedar_types.specs.Schemas.Declarations.{declared_type, declared_action, declared, type_kind, applies, uids_of}
 use Rattle.cedar_types.specs.Schemas.{DeclaredType, DeclaredAction, later_fault, is_empty_enum, type_is_known, application_is_known, declares_action, kind_is_definite, application_is_definite, is_among, uid_is_among, descendants_of, descendants_of_action}
 use Rattle.cedar_types.specs.declared.base.schema.entity_types.ValidatorEntityType.{ValidatorEntityType}
 use Rattle.cedar_types.specs.declared.base.schema.actions.ValidatorActionId.{ValidatorActionId}

@@ -2,11 +2,11 @@
 use Rattle.std.proofs.Common.{◌≡◌, refl, sym, ap, subst, ◌∙◌, Bool, true, false, ◌&&◌, true≢false, List, [], ◌∷◌, ◌++◌, map}
 use Rattle.std.proofs.lemmas.Grind.{not_there}
 use Rattle.cedar_types.specs.Names.{path_eq, uid_eq}
-use Rattle.cedar_types.specs.Bounds.{ty_eq}
+use Rattle.cedar_types.specs.Types.Bounds.{ty_eq}
 use Rattle.cedar_types.specs.Lemmas.Comparisons.{Same, and_left, and_right, and_both, list_same, path_same, uid_same}
 use Rattle.cedar_types.specs.Environments.{DeclaredEnv, declared_env, environments_of}
-use Rattle.cedar_types.specs.SchemaContents.{schema_of, kept_environments}
-use Rattle.cedar_types.specs.RequestEnvs.{unlinked, undeclared_envs, is_partial}
+use Rattle.cedar_types.specs.Schemas.Contents.{schema_of, kept_environments}
+use Rattle.cedar_types.specs.Environments.RequestEnvs.{unlinked, undeclared_envs, is_partial}
 use Rattle.cedar_types.specs.declared.base.schema.request_environments.UnlinkedRequestEnv.{UnlinkedRequestEnv}
 use Rattle.cedar_types.specs.declared.base.schema.ValidatorSchema.{ValidatorSchema}
 use Rattle.cedar_types.specs.contracts.base.types.ValidationModePartialEq.TheImpl as mode_test

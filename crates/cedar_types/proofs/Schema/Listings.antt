@@ -10,7 +10,7 @@ use Rattle.std.proofs.lemmas.List.Folds.{list_any-append, list_all-map, list_all
 use Rattle.std.proofs.lemmas.Grind.{flat_map-append}
 use Rattle.cedar_types.specs.Names.{Path, Uid, path_eq, uid_eq}
 use Rattle.cedar_types.specs.Schemas.{has_repeat, is_among, uid_is_among, DeclaredAction, descendants_of_action}
-use Rattle.cedar_types.specs.Listings.{ListsTypes, actions_within}
+use Rattle.cedar_types.specs.Schemas.Listings.{ListsTypes, actions_within}
 use Rattle.cedar_types.proofs.Names.Ids.{path_decides}
 
 -- ---- a name and others

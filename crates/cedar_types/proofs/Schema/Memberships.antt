@@ -4,7 +4,7 @@ use Rattle.std.specs.List.{list_any, list_all}
 use Rattle.std.proofs.Math.Bool.{or-true}
 use Rattle.cedar_types.specs.Names.{Path, Uid, is_action_path, path_eq, uid_eq}
 use Rattle.cedar_types.specs.Schemas.{TypeKind, StandardKind, EnumKind, ExternalKind, DeclaredType, DeclaredAction, Schema, uid_is_among, is_among, type_named, declares_type, declares_action, descendants_of, has_fault, are_actions, action_descendants_declared, action_is_below, may_be_in, is_open_type, is_external, is_external_kind, knows_type}
-use Rattle.cedar_types.specs.Stores.{Entity, FitsDeclaration, FitsKind, FitsAction, MembershipsAreAllowed}
+use Rattle.cedar_types.specs.Values.Stores.{Entity, FitsDeclaration, FitsKind, FitsAction, MembershipsAreAllowed}
 use Rattle.cedar_types.proofs.Names.Ids.{path_decides, uid_decides, uid_symm}
 use Rattle.cedar_types.proofs.Schema.Faultless.{faultless}
 use Rattle.cedar_types.proofs.Tests.{found, each, and_left, and_right, and_both, alike}

@@ -10,7 +10,7 @@ use Rattle.std.proofs.lemmas.List.{take_more, take-append-drop, map-append}
 use Rattle.std.proofs.lemmas.Option.{slice_get_past, slice_get-get_or}
 use Rattle.std.proofs.lemmas.List.Folds.{list_any-append}
 use Rattle.std.proofs.lemmas.Bool.Decides.{Decides-like, same_from_decides}
-use Rattle.cedar_types.specs.Places.{place_in}
+use Rattle.cedar_types.specs.Schemas.Tables.Places.{place_in}
 use Rattle.cedar_types.specs.Schemas.{has_repeat}
 
 -- what has a place is there

@@ -20,9 +20,9 @@ use Rattle.cedar_types.specs.Lemmas.Layers as layers
 use Rattle.cedar_types.specs.Lemmas.Same.{expr_is}
 use Rattle.cedar_types.specs.Lemmas.TreeSame.{tree_eq-Decides}
 use Rattle.cedar_types.specs.Names.{Text, text_of, text_eq, text_cmp}
-use Rattle.cedar_types.specs.Tree.{Shape, get_attr}
-use Rattle.cedar_types.specs.TreeEq.{tree_eq}
-use Rattle.cedar_types.specs.View.{shape}
+use Rattle.cedar_types.specs.Expressions.Tree.{Shape, get_attr}
+use Rattle.cedar_types.specs.Expressions.TreeEq.{tree_eq}
+use Rattle.cedar_types.specs.Expressions.View.{shape}
 
 pub owner_eq_equiv : IsEquivalence owner_eq
 owner_eq_equiv = on_equiv shape_on (decided tree_eq tree_eq-Decides)

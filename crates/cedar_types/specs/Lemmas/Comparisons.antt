@@ -11,7 +11,7 @@ use Rattle.cedar_types.specs.declared.base.names.Name.{Name}
 use Rattle.cedar_types.specs.declared.base.names.entities.EntityType.{EntityType}
 use Rattle.cedar_types.specs.declared.base.names.entities.EntityUID.{EntityUID}
 use Rattle.cedar_types.specs.Names.{Path, Uid, text_of, path_of, type_of, uid_of, text_eq, texts_eq, path_eq, uid_eq, text_cmp, path_cmp, uid_cmp}
-use Rattle.cedar_types.specs.Comparisons.{bool_eq, name_eq, entity_type_eq, entity_uid_eq, name_cmp, entity_type_cmp, entity_uid_cmp}
+use Rattle.cedar_types.specs.Names.Comparisons.{bool_eq, name_eq, entity_type_eq, entity_uid_eq, name_cmp, entity_type_cmp, entity_uid_cmp}
 
 pub and_left : (a b : Bool) → (a && b) ≡ true → a ≡ true
 and_left true b h = refl

@@ -8,8 +8,8 @@ use Rattle.cedar_types.specs.declared.base.expressions.ExprKind.TheBlock.{shown-
 use Rattle.cedar_types.specs.declared.base.expressions.ExprKind.TheViews.{out-ExprKind}
 use Rattle.cedar_types.specs.declared.base.expressions.ExprKind.TheVariants as K
 use Rattle.cedar_types.specs.Names.{text_of, path_of, type_of}
-use Rattle.cedar_types.specs.Tree.{Tree, lit, var, slot, unknown, if_then_else, and, or, unary, binary, call, get_attr, has_attr, ext_has_attr, like, is_type, set_of, record_of}
-use Rattle.cedar_types.specs.View.{Places, no_name, of_type, lit_of, lit_places, chain_of, trees_of, fields_of, kind_step, expr_step, tree_with, kind_with}
+use Rattle.cedar_types.specs.Expressions.Tree.{Tree, lit, var, slot, unknown, if_then_else, and, or, unary, binary, call, get_attr, has_attr, ext_has_attr, like, is_type, set_of, record_of}
+use Rattle.cedar_types.specs.Expressions.View.{Places, no_name, of_type, lit_of, lit_places, chain_of, trees_of, fields_of, kind_step, expr_step, tree_with, kind_with}
 
 module _ (T : Type 0) (D : Type 0) (mark : T → Option Loc → Places → D) where
   abbrev pub expr : T → Option Loc → ExprKind T → Expr T

@@ -20,9 +20,9 @@ use Rattle.cedar_types.specs.contracts.base.expressions.ExprPartialEq.TheImpl.La
 use Rattle.cedar_types.specs.contracts.base.expressions.ExprKindPartialEq.TheImpl.Laws as kind_laws
 use Rattle.cedar_types.specs.Names.{text_of, text_eq}
 use Rattle.cedar_types.specs.Lemmas.Comparisons.{name_is, entity_type_is, uid_is}
-use Rattle.cedar_types.specs.Tree.{Tree}
-use Rattle.cedar_types.specs.TreeEq.{lit_eq, var_eq, slot_eq, unary_eq, binary_eq, pattern_eq, tree_eq, trees_eq, fields_eq}
-use Rattle.cedar_types.specs.View.{lit_of, shape, trees_of, fields_of}
+use Rattle.cedar_types.specs.Expressions.Tree.{Tree}
+use Rattle.cedar_types.specs.Expressions.TreeEq.{lit_eq, var_eq, slot_eq, unary_eq, binary_eq, pattern_eq, tree_eq, trees_eq, fields_eq}
+use Rattle.cedar_types.specs.Expressions.View.{lit_of, shape, trees_of, fields_of}
 use Rattle.cedar_types.specs.Lemmas.Layers as layers
 
 lit_is : (x y : Literal) → literal_impl.ghosts.eq x y ≡ lit_eq (lit_of x) (lit_of y)

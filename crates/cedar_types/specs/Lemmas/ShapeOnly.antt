@@ -7,11 +7,11 @@ use denote.Builtin.{unit}
 use Rattle.cedar_types.specs.declared.base.expressions.shapes.ExprShapeOnly.{ExprShapeOnly}
 use Rattle.cedar_types.specs.contracts.base.expressions.ExprOrd.TheImpl.Laws as expr_ord_laws
 use Rattle.cedar_types.specs.contracts.base.expressions.ExprHash.TheImpl.Laws as expr_hash_laws
-use Rattle.cedar_types.specs.TreeEq.{tree_eq}
+use Rattle.cedar_types.specs.Expressions.TreeEq.{tree_eq}
 use Rattle.cedar_types.specs.Lemmas.TreeSame.{tree_eq-Decides}
 use Rattle.cedar_types.specs.Lemmas.Same.{expr_is}
-use Rattle.cedar_types.specs.Writes.{shape_writes}
-use Rattle.cedar_types.specs.ShapeOnly.{expr_of, shape_of, shape_eq, shape_cmp}
+use Rattle.cedar_types.specs.Expressions.Writes.{shape_writes}
+use Rattle.cedar_types.specs.Expressions.ShapeOnly.{expr_of, shape_of, shape_eq, shape_cmp}
 
 pub shape_eq_equiv : IsEquivalence shape_eq
 shape_eq_equiv = on_equiv shape_of (decided tree_eq tree_eq-Decides)

@@ -10,8 +10,8 @@ use Rattle.cedar_types.specs.declared.base.names.slots.SlotId.{SlotId}
 use Rattle.cedar_types.specs.contracts.base.expressions.patterns.PatternElemPartialEq.TheImpl as pattern_impl
 use Rattle.cedar_types.specs.Lemmas.Comparisons.{Same, and_left, and_right, and_both, list_same, text_same, texts_same, path_same, uid_same, bool_same, int_same}
 use Rattle.cedar_types.specs.Names.{text_eq, texts_eq, path_eq}
-use Rattle.cedar_types.specs.Tree.{Lit, bool, long, string, entity, lit, var, slot, unknown, if_then_else, and, or, unary, binary, call, get_attr, has_attr, ext_has_attr, like, is_type, set_of, record_of, Trees, no_trees, tree, Fields, no_fields, field, Shape}
-use Rattle.cedar_types.specs.TreeEq.{lit_eq, var_eq, slot_eq, unary_eq, binary_eq, pattern_eq, tree_eq, trees_eq, fields_eq}
+use Rattle.cedar_types.specs.Expressions.Tree.{Lit, bool, long, string, entity, lit, var, slot, unknown, if_then_else, and, or, unary, binary, call, get_attr, has_attr, ext_has_attr, like, is_type, set_of, record_of, Trees, no_trees, tree, Fields, no_fields, field, Shape}
+use Rattle.cedar_types.specs.Expressions.TreeEq.{lit_eq, var_eq, slot_eq, unary_eq, binary_eq, pattern_eq, tree_eq, trees_eq, fields_eq}
 
 var_to : (x y : Var) → var_eq x y ≡ true → x ≡ y
 var_to Var.Principal Var.Principal h = refl

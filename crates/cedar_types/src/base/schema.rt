@@ -1,8 +1,8 @@
 // Schemas: what they declare, without faults.
 ghost use Rattle.std.specs.Prelude.{◌≡◌, true, false, map};
 ghost use Rattle.cedar_types.specs.Schemas.{has_fault};
-ghost use Rattle.cedar_types.specs.FormedSchemas.{has_formed_types};
-ghost use Rattle.cedar_types.specs.Tables.{schema_in, actions_in};
+ghost use Rattle.cedar_types.specs.Schemas.Formed.{has_formed_types};
+ghost use Rattle.cedar_types.specs.Schemas.Tables.{schema_in, actions_in};
 ghost use Rattle.cedar_types.specs.Environments.{declared_env, environments_of};
 
 mod action_tables;
@@ -45,12 +45,12 @@ pub struct ValidatorSchema {
         ≡ environments_of (actions_in actions) ∥₁ },
 }
 
-#[tactic(auto, unfolding(crate::specs::SchemaContents::schema_of))]
+#[tactic(auto, unfolding(crate::specs::Schemas::Contents::schema_of))]
 impl ValidatorSchema {
     ghost use Rattle.std.specs.Prelude.{◌⊎◌, [], IfOk, IfErr, Some, None, alloc_error};
     ghost use Rattle.cedar_types.specs.Schemas.{first_fault};
-    ghost use Rattle.cedar_types.specs.Declarations.{declared};
-    ghost use Rattle.cedar_types.specs.SchemaContents.{schema_of};
+    ghost use Rattle.cedar_types.specs.Schemas.Declarations.{declared};
+    ghost use Rattle.cedar_types.specs.Schemas.Contents.{schema_of};
 
     /// The schema of these declarations, or the first of their faults. Where memory is refused, the answer is
     /// `SchemaError::Memory`, whatever faults there are.

@@ -2,9 +2,9 @@
 ghost use Rattle.std.specs.Prelude.{◌≡◌, IsTrue, ◌↔◌, true};
 ghost use Rattle.std.specs.declared.cmp.Ordering.TheVariants.{Equal};
 ghost use Rattle.cedar_types.specs.Types.{ty_of, lub_of, attributes_of, attr_names, is_well_formed, are_well_formed};
-ghost use Rattle.cedar_types.specs.Ascending.{has_members, texts_ascending, paths_ascending};
-ghost use Rattle.cedar_types.specs.TypeOrder.{ty_cmp};
-ghost use Rattle.cedar_types.specs.BoundLaws.{BoundIsIdempotent, BoundIsSymmetric, BoundIsUpper, BoundKeepsForm, SubtypingIsReflexive, SubtypingIsTransitive, SubtypeIsByBound};
+ghost use Rattle.cedar_types.specs.Names.Ascending.{has_members, texts_ascending, paths_ascending};
+ghost use Rattle.cedar_types.specs.Types.Order.{ty_cmp};
+ghost use Rattle.cedar_types.specs.Types.BoundLaws.{BoundIsIdempotent, BoundIsSymmetric, BoundIsUpper, BoundKeepsForm, SubtypingIsReflexive, SubtypingIsTransitive, SubtypeIsByBound};
 ghost use Rattle.cedar_types.specs.declared.base.types.entity_sets.EntityLUB.{EntityLUB};
 
 use crate::base::types::{Attributes, CedarType};

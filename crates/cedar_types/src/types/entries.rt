@@ -4,7 +4,7 @@ ghost use Rattle.std.specs.List.{list_any};
 ghost use Rattle.std.specs.List.Sorted.{IsStrictlySortedBy};
 ghost use Rattle.std.specs.Ordering.{is_eq};
 ghost use Rattle.std.specs.declared.cmp.Ordering.TheVariants.{Equal};
-ghost use Rattle.cedar_types.specs.Entries.{IsFirst, HasEither, HasBoth, HasOneMore, HasSame};
+ghost use Rattle.cedar_types.specs.Capability.Entries.{IsFirst, HasEither, HasBoth, HasOneMore, HasSame};
 
 use std::alloc::{AllocError, Global};
 use std::cmp::Ordering;

@@ -2,7 +2,7 @@
 ghost use Rattle.std.specs.Prelude.{◌≡◌, ◌↔◌, IsTrue};
 ghost use Rattle.std.specs.Ordering.{is_eq};
 ghost use Rattle.cedar_types.specs.Capability.{cap_of, capability_eq, capability_cmp};
-ghost use Rattle.cedar_types.specs.RequestEnvs.{linked, request_in};
+ghost use Rattle.cedar_types.specs.Environments.RequestEnvs.{linked, request_in};
 ghost use Rattle.std.specs.Prelude.{Option};
 ghost use Rattle.cedar_types.specs.declared.base.names.entities.EntityType.{EntityType};
 ghost use Rattle.cedar_types.specs.declared.types.capability.digested.Capability.{Capability};

@@ -29,9 +29,9 @@ pub(crate) struct LinkPairs<'a> {
 impl<'a> LinkPairs<'a> {
     ghost use Rattle.std.specs.Prelude.{◌≡◌, IfOk, MatchOption, [], ◌∷◌, option_map};
     ghost use Rattle.cedar_types.specs.Names.{type_of};
-    ghost use Rattle.cedar_types.specs.RequestEnvs.{env_of};
-    ghost use Rattle.cedar_types.specs.LinkViews.{link_of, pairs_left, held_left};
-    ghost use Rattle.cedar_types.specs.SlotLinks.{links_held};
+    ghost use Rattle.cedar_types.specs.Environments.RequestEnvs.{env_of};
+    ghost use Rattle.cedar_types.specs.Environments.LinkViews.{link_of, pairs_left, held_left};
+    ghost use Rattle.cedar_types.specs.Environments.SlotLinks.{links_held};
 
     pub(crate) fn new(
         place: Place<'a>,

@@ -1,6 +1,6 @@
 // The environments that a template is checked in.
 ghost use Rattle.std.specs.Prelude.{◌≤◌};
-ghost use Rattle.cedar_types.specs.SlotLinks.{links_held, most_links};
+ghost use Rattle.cedar_types.specs.Environments.SlotLinks.{links_held, most_links};
 
 use crate::base::{SlotId, Template, ValidationMode, ValidatorSchema};
 use crate::types::link_pairs::{LinkPairs, Place};
@@ -33,13 +33,13 @@ pub struct LinkedRequestEnvs<'a> {
 
 impl ValidatorSchema {
     ghost use Rattle.std.specs.Prelude.{◌≡◌, false, IfOk};
-    ghost use Rattle.cedar_types.specs.Linking.{checked_envs};
-    ghost use Rattle.cedar_types.specs.LinkViews.{linked_left, linked_is_over};
-    ghost use Rattle.cedar_types.specs.SchemaContents.{schema_of};
+    ghost use Rattle.cedar_types.specs.Environments.Linking.{checked_envs};
+    ghost use Rattle.cedar_types.specs.Environments.LinkViews.{linked_left, linked_is_over};
+    ghost use Rattle.cedar_types.specs.Schemas.Contents.{schema_of};
     ghost use Rattle.cedar_types.specs.Templates.{template_of};
 
     /// The environments that this template is checked in. Where memory is refused, the answer is an `AllocError`.
-    #[tactic(auto, unfolding(crate::specs::LinkViews::linked_left, crate::specs::LinkViews::linked_is_over))]
+    #[tactic(auto, unfolding(crate::specs::Environments::LinkViews::linked_left, crate::specs::Environments::LinkViews::linked_is_over))]
     pub fn linked_request_envs<'a>(
         &'a self,
         alloc: Global,
@@ -67,8 +67,8 @@ impl ValidatorSchema {
 
 impl<'a> Iterator for LinkedRequestEnvs<'a> {
     ghost use Rattle.cedar_types.specs.FallibleIterators.{YieldsOrEnds, calls_left};
-    ghost use Rattle.cedar_types.specs.LinkViews.{linked_left, linked_is_over};
-    ghost use Rattle.cedar_types.specs.RequestEnvs.{env_of};
+    ghost use Rattle.cedar_types.specs.Environments.LinkViews.{linked_left, linked_is_over};
+    ghost use Rattle.cedar_types.specs.Environments.RequestEnvs.{env_of};
 
     type Item = Result<RequestEnv<'a>, AllocError>;
 
@@ -76,7 +76,7 @@ impl<'a> Iterator for LinkedRequestEnvs<'a> {
 
     ghost remaining = { calls_left linked_left linked_is_over };
 
-    #[tactic(auto, unfolding(crate::specs::LinkViews::linked_left, crate::specs::LinkViews::linked_is_over))]
+    #[tactic(auto, unfolding(crate::specs::Environments::LinkViews::linked_left, crate::specs::Environments::LinkViews::linked_is_over))]
     fn next(&mut self) -> Option<Result<RequestEnv<'a>, AllocError>> {
         if self.ended {
             return None;
@@ -97,10 +97,10 @@ impl<'a> Iterator for LinkedRequestEnvs<'a> {
 
 impl<'a> LinkedRequestEnvs<'a> {
     ghost use Rattle.std.specs.Prelude.{◌≡◌, [], ◌∷◌, None, Some, IfOk, MatchOption};
-    ghost use Rattle.cedar_types.specs.Linking.{linked_by};
-    ghost use Rattle.cedar_types.specs.LinkViews.{place_env, pairs_left, linked_to_come};
-    ghost use Rattle.cedar_types.specs.RequestEnvs.{Declared, env_of};
-    ghost use Rattle.cedar_types.specs.SchemaContents.{schema_of};
+    ghost use Rattle.cedar_types.specs.Environments.Linking.{linked_by};
+    ghost use Rattle.cedar_types.specs.Environments.LinkViews.{place_env, pairs_left, linked_to_come};
+    ghost use Rattle.cedar_types.specs.Environments.RequestEnvs.{Declared, env_of};
+    ghost use Rattle.cedar_types.specs.Schemas.Contents.{schema_of};
     ghost use Rattle.cedar_types.specs.Templates.{template_of};
 
     /// The next environment; `None` after the last. An environment of the schema may have no link at all.

@@ -2,8 +2,8 @@
 ghost use Rattle.std.specs.Prelude.{◌≡◌, IfOk, option_map};
 ghost use Rattle.cedar_types.specs.Names.{placed_type};
 ghost use Rattle.cedar_types.specs.Types.{ty_of};
-ghost use Rattle.cedar_types.specs.SchemaContents.{schema_of};
-ghost use Rattle.cedar_types.specs.RequestEnvs.{env_of, principal_in, action_in, resource_in, principal_slot_in, resource_slot_in, placed_request, request_in, principal_ty, resource_ty, action_ty, context_ty, linked, IsLinkedTo, bound_type};
+ghost use Rattle.cedar_types.specs.Schemas.Contents.{schema_of};
+ghost use Rattle.cedar_types.specs.Environments.RequestEnvs.{env_of, principal_in, action_in, resource_in, principal_slot_in, resource_slot_in, placed_request, request_in, principal_ty, resource_ty, action_ty, context_ty, linked, IsLinkedTo, bound_type};
 
 use crate::base::{
     CedarType, EntityType, EntityUID, RequestType, SlotEnv, SlotId, ValidatorSchema,

@@ -2,7 +2,7 @@
 ghost use Rattle.std.specs.Prelude.{◌≡◌, [], IfOk, OnOk, OnErr};
 ghost use Rattle.std.specs.List.{list_any};
 ghost use Rattle.std.specs.Ordering.{is_eq};
-ghost use Rattle.cedar_types.specs.Entries.{HasEither, HasBoth, HasOneMore, HasSame};
+ghost use Rattle.cedar_types.specs.Capability.Entries.{HasEither, HasBoth, HasOneMore, HasSame};
 
 pub use crate::types::entries::Entry;
 use crate::types::entries::{add_entry, both_of, copied, either_of, has_entry};

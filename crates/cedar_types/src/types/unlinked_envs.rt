@@ -2,8 +2,8 @@
 ghost use Rattle.std.specs.Prelude.{◌≡◌};
 ghost use Rattle.std.specs.Iterator.{YieldsFirstBy, item_count};
 ghost use Rattle.cedar_types.specs.Environments.{declared_env};
-ghost use Rattle.cedar_types.specs.SchemaContents.{schema_of};
-ghost use Rattle.cedar_types.specs.RequestEnvs.{env_of, unlinked, unlinked_envs, envs_left};
+ghost use Rattle.cedar_types.specs.Schemas.Contents.{schema_of};
+ghost use Rattle.cedar_types.specs.Environments.RequestEnvs.{env_of, unlinked, unlinked_envs, envs_left};
 
 use crate::base::{UnlinkedRequestEnv, ValidationMode, ValidatorSchema};
 use crate::types::request_env::RequestEnv;
@@ -38,7 +38,7 @@ impl<'a> Iterator for UnlinkedRequestEnvs<'a> {
 
     ghost remaining = { item_count envs_left };
 
-    #[tactic(auto, unfolding(crate::specs::RequestEnvs::envs_left))]
+    #[tactic(auto, unfolding(crate::specs::Environments::RequestEnvs::envs_left))]
     fn next(&mut self) -> Option<RequestEnv<'a>> {
         if let Some((first, others)) = self.declared.split_first() {
             self.declared = others;

@@ -5,13 +5,13 @@ use Rattle.cedar_types.specs.declared.base.errors.type_errors.LubContext.TheVari
 use Rattle.cedar_types.specs.declared.base.location.Loc.{Loc}
 use Rattle.cedar_types.specs.declared.base.types.BoolType.TheVariants.{True, False}
 use Rattle.cedar_types.specs.Types.{Ty, TBool}
-use Rattle.cedar_types.specs.Tree.{if_then_else}
-use Rattle.cedar_types.specs.View.{Written}
+use Rattle.cedar_types.specs.Expressions.Tree.{if_then_else}
+use Rattle.cedar_types.specs.Expressions.View.{Written}
 use Rattle.cedar_types.specs.Errors.{Finding}
 use Rattle.cedar_typing.specs.Capabilities.{Caps, union, intersection}
 use Rattle.cedar_typing.specs.Infer.Conditional.{infer_constant_test, infer_open_branches, infer_branches}
 use Rattle.cedar_typing.specs.Infer.Parts.{success, Answer, part_with, answer_if, AnswerAndErrors, expect, after, any_part}
-use Rattle.cedar_typing.specs.Joins.{joined, bound_errors, join_errors}
+use Rattle.cedar_typing.specs.TypeTests.Joins.{joined, bound_errors, join_errors}
 use Rattle.cedar_typing.specs.Judgments.{derived, Judgment, PartResult, Operand}
 use Rattle.cedar_typing.specs.Rules.Conditional.{if_true_recovered, if_false_recovered, if_open_recovered, if_test_cut, if_true_cut, if_false_cut, if_then_cut, if_else_cut, if_true, if_false, if_open, if_rules}
 use Rattle.cedar_typing.specs.TypeEnv.{TypeEnv}

@@ -2,8 +2,8 @@
 use Rattle.std.proofs.Common.{◌≡◌, ℕ, ◌+◌, ◌≤◌, ◌<◌, Bool, true, false, nat_lt, List, [], ◌++◌, Some, None, refl, sym, subst, ◌∙◌, ap, arith, append-nil}
 use Rattle.std.specs.Prelude.{if◌then◌else◌}
 use Rattle.std.proofs.lemmas.Grind.{common_steps}
-use Rattle.cedar_types.specs.Tree.{lit, var, slot, unknown, if_then_else, and, or, unary, binary, call, get_attr, has_attr, ext_has_attr, like, is_type, set_of, record_of, Trees, no_trees, tree, Fields, no_fields, field}
-use Rattle.cedar_types.specs.View.{Written}
+use Rattle.cedar_types.specs.Expressions.Tree.{lit, var, slot, unknown, if_then_else, and, or, unary, binary, call, get_attr, has_attr, ext_has_attr, like, is_type, set_of, record_of, Trees, no_trees, tree, Fields, no_fields, field}
+use Rattle.cedar_types.specs.Expressions.View.{Written}
 use Rattle.cedar_types.specs.Errors.{Finding}
 use Rattle.cedar_typing.specs.Capabilities.{Caps}
 use Rattle.cedar_typing.specs.Eager.{Expectation, first_expectation, later_expectations}
@@ -15,7 +15,8 @@ use Rattle.cedar_typing.specs.Rules.Attributes.{has_form, get_form}
 use Rattle.cedar_typing.specs.Rules.Binary.{binary_form}
 use Rattle.cedar_typing.specs.Rules.Calls.{arguments, call_form}
 use Rattle.cedar_typing.specs.Rules.Chains.{chain_form}
-use Rattle.cedar_typing.specs.Rules.Collections.{set_form, field_keys, record_form}
+use Rattle.cedar_typing.specs.Rules.Records.{field_keys, record_form}
+use Rattle.cedar_typing.specs.Rules.Sets.{set_form}
 use Rattle.cedar_typing.specs.Rules.Leaves.{variable_type, slot_ty, type_of_literal}
 use Rattle.cedar_typing.specs.Rules.ShortCircuit.{conjunction, disjunction}
 use Rattle.cedar_typing.specs.Rules.Unary.{unary_form, like_form, is_form}

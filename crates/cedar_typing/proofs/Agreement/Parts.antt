@@ -3,7 +3,7 @@ use Rattle.std.proofs.Common.{◌≡◌, Bool, true, false, List, [], ◌∷◌,
 use Rattle.std.specs.Prelude.{if◌then◌else◌}
 use Rattle.cedar_types.specs.declared.base.location.Loc.{Loc}
 use Rattle.cedar_types.specs.Types.{Ty}
-use Rattle.cedar_types.specs.TypeOrder.{in_order}
+use Rattle.cedar_types.specs.Types.Order.{in_order}
 use Rattle.cedar_types.specs.Errors.{Finding, unexpected_type}
 use Rattle.cedar_typing.specs.Capabilities.{Caps, no_caps}
 use Rattle.cedar_typing.specs.Infer.Parts.{success, failure, limit, Answer, Part, part_with, part_from, as_failed_untyped, AnswerAndErrors, PartAndErrors, expect_type, expect, after, any_part}

@@ -3,7 +3,7 @@ use Rattle.std.proofs.Common.{◌≡◌, Bool, true, false, ◌&&◌, List, [], 
 use Rattle.std.specs.Prelude.{if◌then◌else◌}
 use Rattle.cedar_types.specs.declared.base.location.Loc.{Loc}
 use Rattle.cedar_types.specs.Types.{Ty}
-use Rattle.cedar_types.specs.View.{Written}
+use Rattle.cedar_types.specs.Expressions.View.{Written}
 use Rattle.cedar_types.specs.Errors.{Finding}
 use Rattle.cedar_typing.specs.Capabilities.{Caps}
 use Rattle.cedar_typing.specs.Infer.Parts.{Answer, success, failure, part_with, answer_if, AnswerAndErrors, expect, after}
@@ -14,7 +14,7 @@ use Rattle.cedar_typing.specs.TypeEnv.{TypeEnv}
 use Rattle.cedar_typing.specs.TypeTests.{accepts, bool_types, annotation_passes}
 use Rattle.cedar_typing.specs.TypedExpr.{TypedTree, Mark, mark_of, typed, annotation, at_place}
 use Rattle.cedar_typing.proofs.Agreement.Parts.{Answers, a_derived, a_recovered, a_cut, Found, Marks, Agrees, operand_found, good_operand, later, after_operand, operand_only, cut_only, derived_operand, says_at}
-use Rattle.cedar_typing.proofs.Marks.{annotation-at_place}
+use Rattle.cedar_typing.proofs.Views.Marks.{annotation-at_place}
 
 sides_failed : (f : Connective) (m : Written) (succeeded succeeded' : Bool) (c c' : Caps) (a b : TypedTree) (x y : Option Ty) → (succeeded && succeeded') ≡ false
     → infer_sides f m (part_with succeeded c a) (part_with succeeded' c' b) x y ≡ failure (f.node (typed (sides_annotation f x y) m) a b)

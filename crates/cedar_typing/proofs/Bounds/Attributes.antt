@@ -5,9 +5,9 @@ use Rattle.cedar_types.specs.declared.base.types.ValidationMode.TheVariants.{Per
 use Rattle.cedar_types.specs.Names.{Text, Path, text_eq, path_eq}
 use Rattle.cedar_types.specs.Lemmas.Comparisons.{and_left, text_same, path_same}
 use Rattle.cedar_types.specs.Types.{Ty, TEntity, Attrs, no_attrs, attr, attr_names, is_well_formed}
-use Rattle.cedar_types.specs.Bounds.{find_attr, lub}
+use Rattle.cedar_types.specs.Types.Bounds.{find_attr, lub}
 use Rattle.cedar_types.specs.Schemas.{Schema, is_among}
-use Rattle.cedar_types.specs.Lookups.{declared_attribute, joined_attribute, types_attribute}
+use Rattle.cedar_types.specs.Types.Lookups.{declared_attribute, joined_attribute, types_attribute}
 use Rattle.cedar_types.specs.Values.{Value, Entries, no_entries, more_entries, entry_at, HasAttr, KeysAmong, HasType, HasAttrs}
 use Rattle.cedar_types.proofs.Bounds.Laws.{bound_form}
 use Rattle.cedar_typing.proofs.Basics.{or_cases}

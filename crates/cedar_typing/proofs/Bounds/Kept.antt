@@ -2,7 +2,7 @@
 use Rattle.std.proofs.Common.{◌≡◌, Bool, true, false, Some, refl}
 use Rattle.cedar_types.specs.declared.base.types.ValidationMode.{ValidationMode}
 use Rattle.cedar_types.specs.Types.{Ty}
-use Rattle.cedar_types.specs.Bounds.{is_strict, lub}
+use Rattle.cedar_types.specs.Types.Bounds.{is_strict, lub}
 use Rattle.cedar_types.specs.Values.{Value, HasType}
 use Rattle.cedar_typing.proofs.Bounds.Strict.{lub_right_strict}
 use Rattle.cedar_typing.proofs.Bounds.Values.{lub_right}

@@ -10,15 +10,15 @@ use Rattle.cedar_types.specs.declared.base.types.BoolType.TheVariants.{AnyBool, 
 use Rattle.cedar_types.specs.declared.base.types.ValidationMode.{ValidationMode}
 use Rattle.cedar_types.specs.Names.{Path, text_cmp, path_cmp}
 use Rattle.cedar_types.specs.Types.{Ty, TNever, TBool, TLong, TString, TSet, TAnySet, TRecord, TEntity, TAnyEntity, TExtension, Attrs, no_attrs, attr}
-use Rattle.cedar_types.specs.TypeOrder.{bool_rank, open_rank, required_rank, ty_cmp, attrs_cmp, insert_ty, insert_tys, in_order}
-use Rattle.cedar_types.specs.Bounds.{is_strict, lub, go_on, fold_lub, list_lub}
+use Rattle.cedar_types.specs.Types.Order.{bool_rank, open_rank, required_rank, ty_cmp, attrs_cmp, insert_ty, insert_tys, in_order}
+use Rattle.cedar_types.specs.Types.Bounds.{is_strict, lub, go_on, fold_lub, list_lub}
 use Rattle.cedar_types.specs.Values.{Value, HasType}
 use Rattle.cedar_types.proofs.Names.Unions.{tied_paths}
 use Rattle.cedar_typing.specs.Evaluation.Conformance.{IsOneOf}
 use Rattle.cedar_typing.proofs.Basics.{some_is}
 use Rattle.cedar_typing.proofs.Bounds.Kept.{right_kept}
 use Rattle.cedar_typing.proofs.Bounds.Values.{lub_left}
-use Rattle.cedar_typing.proofs.Members.{AreAll}
+use Rattle.cedar_typing.proofs.Basics.Members.{AreAll}
 use Rattle.cedar_typing.proofs.KeptTypes.Bounds.{kept_lub}
 use Rattle.cedar_typing.proofs.KeptTypes.Keeping.{HasKept}
 use Rattle.cedar_typing.proofs.KeptTypes.Types.{keeping, KeptIn, strict_if}

@@ -4,7 +4,7 @@ use Rattle.cedar_types.specs.declared.base.types.ValidationMode.{ValidationMode}
 use Rattle.cedar_types.specs.declared.base.types.ValidationMode.TheVariants.{Strict}
 use Rattle.cedar_types.specs.Names.{Text, Path, text_eq}
 use Rattle.cedar_types.specs.Types.{Ty, TNever, TBool, TLong, TString, TSet, TAnySet, TRecord, TEntity, TAnyEntity, TExtension, Attrs, no_attrs, attr, attr_names}
-use Rattle.cedar_types.specs.Bounds.{mark_eq, ty_eq, is_strict, is_never, bool_lub, any_set_lub, entity_lub, any_entity_lub, with_both, apart_lub, both_attrs, lub}
+use Rattle.cedar_types.specs.Types.Bounds.{mark_eq, ty_eq, is_strict, is_never, bool_lub, any_set_lub, entity_lub, any_entity_lub, with_both, apart_lub, both_attrs, lub}
 use Rattle.cedar_types.specs.Values.{Value, Entries, entry_at, VRecord, HasAttr, IsClosedBy, HasType, HasAttrs}
 use Rattle.cedar_types.proofs.Comparisons.SameTypes.{and_left, and_right, ty_to, text_decides, mark_to}
 use Rattle.cedar_typing.proofs.Bounds.Values.{Under, any_set, any_bool, any_entity, set_under, UnderAttrs, NamesAre, both_under, both_named, if_under, if_named, closed_under}

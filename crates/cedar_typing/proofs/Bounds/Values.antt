@@ -8,7 +8,7 @@ use Rattle.cedar_types.specs.declared.base.types.BoolType.TheVariants.{AnyBool}
 use Rattle.cedar_types.specs.Names.{Text, Path, Uid, text_eq}
 use Rattle.cedar_types.specs.Types.{Ty, TNever, TBool, TLong, TString, TSet, TAnySet, TRecord, TEntity, TAnyEntity, TExtension, Attrs, no_attrs, attr, attr_names, is_well_formed}
 use Rattle.cedar_types.specs.Schemas.{is_among}
-use Rattle.cedar_types.specs.Bounds.{mark_eq, ty_eq, union, find_attr, attr_count, is_strict, is_never, bool_lub, any_set_lub, entity_lub, any_entity_lub, closed_lub, wide_lub, record_lub, with_both, with_bound, with_common, apart_lub, both_attrs, common_attrs, lub}
+use Rattle.cedar_types.specs.Types.Bounds.{mark_eq, ty_eq, union, find_attr, attr_count, is_strict, is_never, bool_lub, any_set_lub, entity_lub, any_entity_lub, closed_lub, wide_lub, record_lub, with_both, with_bound, with_common, apart_lub, both_attrs, common_attrs, lub}
 use Rattle.cedar_types.specs.Values.{Value, Values, no_values, more_values, Entries, entry_at, VBool, VEntity, VSet, VRecord, OnBool, OnEntity, OnSet, OnRecord, AllValues, HasKind, HasAttr, IsClosedBy, HasType, HasAttrs}
 use Rattle.cedar_types.proofs.Comparisons.SameTypes.{and_left}
 use Rattle.cedar_types.proofs.Names.Unions.{has_union}

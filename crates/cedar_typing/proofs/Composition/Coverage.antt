@@ -9,12 +9,12 @@ use Rattle.cedar_types.specs.Lemmas.Comparisons.{and_left, and_right, path_same,
 use Rattle.cedar_types.specs.Names.{Path, Uid, is_action_path, path_eq, uid_eq}
 use Rattle.cedar_types.specs.Schemas.{TypeKind, StandardKind, EnumKind, ExternalKind, DeclaredType, DeclaredAction, Schema, Application, is_among, uid_is_among, is_external_kind, knows_type, declares_type, type_named, descendants_of, application_is_known, names_pass, has_fault, type_is_known}
 use Rattle.cedar_types.specs.Environments.{DeclaredEnv, principal_environments, action_environments, environments_of}
-use Rattle.cedar_types.specs.RequestEnvs.{Declared}
+use Rattle.cedar_types.specs.Environments.RequestEnvs.{Declared}
 use Rattle.cedar_types.specs.Templates.{to_entity, to_slot, Scope, any, equal, within, typed, typed_within, typed_at, scope_at, action_scope_at}
 use Rattle.cedar_types.specs.Values.{Value, VBool, VEntity}
-use Rattle.cedar_types.specs.Stores.{Entity, Store, entity_at, FitsDeclaration, FitsKind, ConformingStore}
+use Rattle.cedar_types.specs.Values.Stores.{Entity, Store, entity_at, FitsDeclaration, FitsKind, ConformingStore}
 use Rattle.cedar_types.proofs.Schema.Faultless.{faultless}
-use Rattle.cedar_types.specs.Linking.{types_above, type_names, slot_types, slot_links, has_slot}
+use Rattle.cedar_types.specs.Environments.Linking.{types_above, type_names, slot_types, slot_links, has_slot}
 use Rattle.cedar_typing.specs.Composition.{Coverage, OwnEnvIsCheckedOfTypes, own_link}
 use Rattle.cedar_typing.specs.Evaluation.Conformance.{IsOneOf, FitsSlot, has_external}
 use Rattle.cedar_typing.specs.Evaluation.Eval.{bound_outcome, binary_outcome, has_ancestor, is_in, eval}
@@ -22,7 +22,7 @@ use Rattle.cedar_typing.specs.Evaluation.Outcomes.{test_of, of_test, and_test, o
 use Rattle.cedar_typing.specs.Evaluation.World.{World, Outcome, Gives, Fails}
 use Rattle.cedar_typing.specs.Soundness.{IsTrueOutcome}
 use Rattle.cedar_typing.proofs.Basics.{none_is, some_is, or_cases, neither_left}
-use Rattle.cedar_typing.proofs.Members.{AreAll, in_left, in_right, in_mapped, all_flat, found_in, all_pass, none_passes}
+use Rattle.cedar_typing.proofs.Basics.Members.{AreAll, in_left, in_right, in_mapped, all_flat, found_in, all_pass, none_passes}
 use Rattle.cedar_typing.proofs.Composition.Links.{names_slot, has_principal, has_resource, is_checked, own_linked}
 
 -- ---- lists

@@ -5,17 +5,17 @@ use Rattle.cedar_types.specs.declared.base.expressions.operators.Var.{Var}
 use Rattle.cedar_types.specs.declared.base.names.slots.SlotId.{SlotId}
 use Rattle.cedar_types.specs.declared.base.types.ValidationMode.{ValidationMode}
 use Rattle.cedar_types.specs.Names.{Path, PlacedUid}
-use Rattle.cedar_types.specs.View.{trees_of}
+use Rattle.cedar_types.specs.Expressions.View.{trees_of}
 use Rattle.cedar_types.specs.Schemas.{DeclaredType, Schema}
 use Rattle.cedar_types.specs.Environments.{DeclaredEnv, environments_of}
-use Rattle.cedar_types.specs.RequestEnvs.{Declared, unlinked, unlinked_envs, undeclared_envs, is_partial}
+use Rattle.cedar_types.specs.Environments.RequestEnvs.{Declared, unlinked, unlinked_envs, undeclared_envs, is_partial}
 use Rattle.cedar_types.specs.Templates.{Reference, to_entity, to_slot, Scope, any, equal, within, typed, typed_within, ActionScope, any_action, equal_action, within_actions, PlainTemplate, uid_at, scope_at, action_scope_at, scope_condition, with_rest}
-use Rattle.cedar_types.specs.Parts.{mentions_slot, any_mentions_slot}
-use Rattle.cedar_types.specs.Linking.{types_above, slot_types, slot_links, has_slot, linked_envs, checked_envs}
+use Rattle.cedar_types.specs.Expressions.Parts.{mentions_slot, any_mentions_slot}
+use Rattle.cedar_types.specs.Environments.Linking.{types_above, slot_types, slot_links, has_slot, linked_envs, checked_envs}
 use Rattle.cedar_typing.specs.Composition.{NoSlotIn, SlotsInScopeAlone, own_link, OwnEnvIsChecked}
 use Rattle.cedar_typing.specs.Evaluation.Conformance.{IsOneOf}
 use Rattle.cedar_typing.specs.TypedExpr.{Source}
-use Rattle.cedar_typing.proofs.Members.{in_left, in_right, in_mapped, in_flat}
+use Rattle.cedar_typing.proofs.Basics.Members.{in_left, in_right, in_mapped, in_flat}
 
 -- ---- the slots of a scope
 

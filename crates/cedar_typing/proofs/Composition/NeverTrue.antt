@@ -1,28 +1,28 @@
 -- What the check in the own environment says of each world of the request.
 use Rattle.std.proofs.Common.{◌≡◌, Bool, true, false, true≢false, ◌||◌, Some, None, refl, ap, sym}
 use Rattle.cedar_types.specs.declared.base.names.slots.SlotId.{SlotId}
-use Rattle.cedar_types.specs.Bounds.{is_strict}
-use Rattle.cedar_types.specs.ExtensionFunctions.{table_fault}
-use Rattle.cedar_types.specs.RequestEnvs.{is_partial}
+use Rattle.cedar_types.specs.Types.Bounds.{is_strict}
+use Rattle.cedar_types.specs.Extensions.Functions.{table_fault}
+use Rattle.cedar_types.specs.Environments.RequestEnvs.{is_partial}
 use Rattle.cedar_types.specs.Schemas.{has_fault}
 use Rattle.cedar_types.specs.Names.{Path, Uid}
 use Rattle.cedar_typing.specs.Capabilities.{no_caps}
-use Rattle.cedar_types.specs.FormedSchemas.{has_formed_types}
+use Rattle.cedar_types.specs.Schemas.Formed.{has_formed_types}
 use Rattle.cedar_typing.specs.Rules.{rules}
 use Rattle.cedar_types.specs.Environments.{DeclaredEnv, environments_of}
 use Rattle.cedar_types.specs.Templates.{PlainTemplate, condition_of}
 use Rattle.cedar_types.specs.Values.{VBool}
-use Rattle.cedar_types.specs.Stores.{ConformingStore}
-use Rattle.cedar_types.specs.Linking.{has_slot}
+use Rattle.cedar_types.specs.Values.Stores.{ConformingStore}
+use Rattle.cedar_types.specs.Environments.Linking.{has_slot}
 use Rattle.cedar_typing.specs.Composition.{in_env, SlotsInScopeAlone, own_link, own_env, IsFaultless, IsIrrelevant, IsIrrelevantInAll, NeverTrue, OwnSuccessIsKept}
 use Rattle.cedar_typing.specs.Evaluation.Conformance.{IsOneOf, FitsRequest, ConformingRequest, FitsSlot, has_external, KeepsTable, SlotsBound}
 use Rattle.cedar_typing.specs.Evaluation.Eval.{eval}
 use Rattle.cedar_typing.specs.Evaluation.World.{World, Outcome, Gives, Fails}
 use Rattle.cedar_typing.specs.PolicyCheck.{Verdict, succeeds, irrelevant, fails, PolicyChecks, policy_check}
 use Rattle.cedar_typing.specs.Setting.{Setting, table}
-use Rattle.cedar_typing.specs.SoundPolicyCheck.{IsBooleanOrAllowed, Promises}
+use Rattle.cedar_typing.specs.Soundness.PolicyCheck.{IsBooleanOrAllowed, Promises}
 use Rattle.cedar_typing.specs.Soundness.{IsTrueOutcome, IsWorldOf}
-use Rattle.cedar_typing.proofs.PolicyCheck.{checked}
+use Rattle.cedar_typing.proofs.Policies.Check.{checked}
 use Rattle.cedar_typing.proofs.Soundness.Capabilities.{hold_none}
 use Rattle.cedar_typing.proofs.Soundness.Induction.{sounds}
 use Rattle.cedar_typing.proofs.Soundness.Parts.{Sounds}

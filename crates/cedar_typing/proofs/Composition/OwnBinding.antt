@@ -12,7 +12,7 @@ use Rattle.cedar_types.specs.Values.{Value, VBool, VEntity}
 use Rattle.cedar_typing.specs.Composition.{MentionsNoSlot, NoSlotIn, SlotsInScopeAlone}
 use Rattle.cedar_typing.specs.Evaluation.Conformance.{IsBound, SlotsBound}
 use Rattle.cedar_typing.specs.Evaluation.Eval.{bound_outcome, binary_outcome, is_in, has_ancestor, eval}
-use Rattle.cedar_types.specs.Stores.{entity_at}
+use Rattle.cedar_types.specs.Values.Stores.{entity_at}
 use Rattle.cedar_typing.specs.Evaluation.Outcomes.{Test, Says, Stops, test_of, of_test, and_test, on_value}
 use Rattle.cedar_typing.specs.Evaluation.World.{Request, Slots, World, UnlinkedSlot, Outcome, Gives, Fails}
 use Rattle.cedar_typing.specs.TypedExpr.{Source}

@@ -8,16 +8,16 @@ use Rattle.cedar_types.specs.declared.base.location.Loc.{Loc}
 use Rattle.cedar_types.specs.declared.base.types.BoolType.TheVariants.{AnyBool}
 use Rattle.cedar_types.specs.Names.{Text, Path, Uid}
 use Rattle.cedar_types.specs.Types.{Ty, TBool}
-use Rattle.cedar_types.specs.TypeOrder.{in_order}
-use Rattle.cedar_types.specs.Tree.{if_then_else, binary, get_attr, has_attr, ext_has_attr, set_of, record_of}
-use Rattle.cedar_types.specs.View.{Written, trees_of}
+use Rattle.cedar_types.specs.Types.Order.{in_order}
+use Rattle.cedar_types.specs.Expressions.Tree.{if_then_else, binary, get_attr, has_attr, ext_has_attr, set_of, record_of}
+use Rattle.cedar_types.specs.Expressions.View.{Written, trees_of}
 use Rattle.cedar_types.specs.Capability.{Cap}
-use Rattle.cedar_types.specs.Bounds.{is_strict, is_never, lub, list_lub}
-use Rattle.cedar_types.specs.Lookups.{attribute_type, tag_types}
+use Rattle.cedar_types.specs.Types.Bounds.{is_strict, is_never, lub, list_lub}
+use Rattle.cedar_types.specs.Types.Lookups.{attribute_type, tag_types}
 use Rattle.cedar_types.specs.Environments.{DeclaredEnv}
-use Rattle.cedar_types.specs.RequestEnvs.{Declared}
+use Rattle.cedar_types.specs.Environments.RequestEnvs.{Declared}
 use Rattle.cedar_types.specs.Errors.{Finding, unexpected_type, unsafe_tag_access, internal_invariant_violation}
-use Rattle.cedar_types.specs.ExtensionFunctions.{ExtensionFunction, function_named}
+use Rattle.cedar_types.specs.Extensions.Functions.{ExtensionFunction, function_named}
 use Rattle.cedar_typing.specs.Capabilities.{Caps, no_caps, union, intersection}
 use Rattle.cedar_typing.specs.Composition.{in_env}
 use Rattle.cedar_typing.specs.Eager.{Expectation, Decision, gives, refuses, Form, gives_unless, first_expectation, later_expectations, first_type, second_type, first_tree, second_tree, on_one, on_two}
@@ -25,12 +25,13 @@ use Rattle.cedar_typing.specs.Infer.Conditional.{infer_constant_test, infer_open
 use Rattle.cedar_typing.specs.Infer.Eager.{OperandsAndErrors, infer_none, expect_operand, infer_rest, infer_one_more, infer_eager, infer_one_operand, infer_two_operands}
 use Rattle.cedar_typing.specs.Infer.Parts.{Part, AnswerAndErrors, answer_if, part_from, expect_type, expect_part, expect, any_part, after}
 use Rattle.cedar_typing.specs.Infer.ShortCircuit.{infer_sides, infer_right}
-use Rattle.cedar_typing.specs.Joins.{joined, bound_errors, join_errors, strict_errors}
+use Rattle.cedar_typing.specs.TypeTests.Joins.{joined, bound_errors, join_errors, strict_errors}
 use Rattle.cedar_typing.specs.Rules.Attributes.{attribute_of, has_decides, has_table, get_decides, get_table, has_form, get_form}
 use Rattle.cedar_typing.specs.Rules.Binary.{binary_form}
 use Rattle.cedar_typing.specs.Rules.Calls.{form_of_function, call_form}
 use Rattle.cedar_typing.specs.Rules.Chains.{Progress, no_steps, is_object, step_type, step_earns, with_step, go_on_unless_false, step, end_of_chain, after_access, made_up, chain, chain_table, chain_form}
-use Rattle.cedar_typing.specs.Rules.Collections.{all_types, set_by_bound, set_of_types, set_decides, errors_of, set_form, fields_from, record_of_types, record_form}
+use Rattle.cedar_typing.specs.Rules.Records.{fields_from, record_of_types, record_form}
+use Rattle.cedar_typing.specs.Rules.Sets.{all_types, set_by_bound, set_of_types, set_decides, errors_of, set_form}
 use Rattle.cedar_typing.specs.Rules.Equality.{equality_type, equality_decides, equality_form, member_type}
 use Rattle.cedar_typing.specs.Rules.Membership.{in_decides, in_form}
 use Rattle.cedar_typing.specs.Rules.Numbers.{compare_decides}

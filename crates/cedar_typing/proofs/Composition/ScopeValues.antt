@@ -4,7 +4,7 @@ use Rattle.cedar_types.specs.declared.base.location.Loc.{Loc}
 use Rattle.cedar_types.specs.declared.base.names.slots.SlotId.{SlotId}
 use Rattle.cedar_types.specs.declared.base.expressions.operators.Var.{Var}
 use Rattle.cedar_types.specs.Names.{PlacedUid, Uid}
-use Rattle.cedar_types.specs.View.{trees_of}
+use Rattle.cedar_types.specs.Expressions.View.{trees_of}
 use Rattle.cedar_types.specs.Templates.{to_entity, to_slot, Scope, any, equal, within, typed, typed_within, ActionScope, any_action, equal_action, within_actions, typed_at, uid_at, scope_at, action_scope_at}
 use Rattle.cedar_types.specs.Values.{Value, Values, VBool, VEntity, VSet, no_values, more_values}
 use Rattle.cedar_typing.specs.Composition.{ScopeIsBoolean}

@@ -10,14 +10,14 @@ use Rattle.cedar_types.specs.declared.base.types.BoolType.TheVariants.{AnyBool}
 use Rattle.cedar_types.specs.Lemmas.Comparisons.{path_same}
 use Rattle.cedar_types.specs.Names.{Path}
 use Rattle.cedar_types.specs.Types.{Ty, TBool, TEntity}
-use Rattle.cedar_types.specs.Tree.{var, slot, binary}
-use Rattle.cedar_types.specs.View.{Written}
-use Rattle.cedar_types.specs.RequestEnvs.{Declared}
+use Rattle.cedar_types.specs.Expressions.Tree.{var, slot, binary}
+use Rattle.cedar_types.specs.Expressions.View.{Written}
+use Rattle.cedar_types.specs.Environments.RequestEnvs.{Declared}
 use Rattle.cedar_types.specs.Environments.{DeclaredEnv}
 use Rattle.cedar_typing.specs.Capabilities.{no_caps}
 use Rattle.cedar_typing.specs.Composition.{in_env, IsTypedBool, OwnTestsAreBool}
 use Rattle.cedar_typing.specs.Eager.{gives, gives_unless}
-use Rattle.cedar_typing.specs.Joins.{join_errors, strict_errors}
+use Rattle.cedar_typing.specs.TypeTests.Joins.{join_errors, strict_errors}
 use Rattle.cedar_typing.specs.Judgments.{max_nesting}
 use Rattle.cedar_typing.specs.Rules.Eager.{none_derived, also_derived, eager_typed}
 use Rattle.cedar_typing.specs.Rules.Equality.{equality_type, equality_decides}

@@ -2,10 +2,10 @@
 use Rattle.std.proofs.Common.{◌≡◌, Bool, true, ◌||◌, refl, ap}
 use Rattle.cedar_types.specs.declared.base.names.slots.SlotId.{SlotId}
 use Rattle.cedar_types.specs.Lemmas.TreeSame.{slot_same}
-use Rattle.cedar_types.specs.Tree.{lit, var, slot, unknown, if_then_else, and, or, unary, binary, call, get_attr, has_attr, ext_has_attr, like, is_type, set_of, record_of, Trees, no_trees, tree, Fields, no_fields, field}
-use Rattle.cedar_types.specs.View.{Written}
+use Rattle.cedar_types.specs.Expressions.Tree.{lit, var, slot, unknown, if_then_else, and, or, unary, binary, call, get_attr, has_attr, ext_has_attr, like, is_type, set_of, record_of, Trees, no_trees, tree, Fields, no_fields, field}
+use Rattle.cedar_types.specs.Expressions.View.{Written}
 use Rattle.cedar_types.specs.Values.{VSet}
-use Rattle.cedar_types.specs.Parts.{mentions_slot, any_mentions_slot, field_mentions_slot}
+use Rattle.cedar_types.specs.Expressions.Parts.{mentions_slot, any_mentions_slot, field_mentions_slot}
 use Rattle.cedar_typing.specs.Evaluation.Conformance.{IsBound, SlotsBound, AllSlotsBound, FieldSlotsBound}
 use Rattle.cedar_typing.specs.Evaluation.Eval.{bound_outcome, unary_outcome, binary_outcome, get, has_test, path_test, like_outcome, is_of, called, eval, eval_all, eval_fields}
 use Rattle.cedar_typing.specs.Evaluation.Outcomes.{test_of, of_test, and_test, or_test, choose, on_value, then_test, more_outcomes, on_values, more_entry_outcomes, record_outcome}

@@ -2,10 +2,10 @@
 use Rattle.std.proofs.Common.{◌≡◌, inl, inr, Bool, false, true≢false, Some, None, refl, sym, ◌∙◌, ap, subst}
 use Rattle.cedar_types.specs.Names.{is_action_path}
 use Rattle.cedar_types.specs.declared.base.types.ValidationMode.TheVariants.{Strict}
-use Rattle.cedar_types.specs.RequestEnvs.{Env, Declared, Undeclared}
+use Rattle.cedar_types.specs.Environments.RequestEnvs.{Env, Declared, Undeclared}
 use Rattle.cedar_types.specs.declared.base.names.slots.SlotId.{SlotId}
 use Rattle.cedar_types.specs.Templates.{any, PlainTemplate, condition_of}
-use Rattle.cedar_types.specs.Linking.{checked_envs}
+use Rattle.cedar_types.specs.Environments.Linking.{checked_envs}
 use Rattle.cedar_typing.specs.Evaluation.Conformance.{IsOneOf}
 use Rattle.cedar_typing.specs.Composition.{in_env, own_env, IsIrrelevant, IsIrrelevantInAll}
 use Rattle.cedar_typing.specs.Examples.Composition.{template, slot_is_robot, acting_schema, acting_env, greets, robots_template, EnvironmentsAre, SlotsInTheRestAreNot, OwnEnvMayBeMissing}
@@ -14,8 +14,8 @@ use Rattle.cedar_typing.specs.PolicyCheck.{Verdict, PolicyChecks, policy_check, 
 use Rattle.cedar_typing.specs.Setting.{Setting}
 use Rattle.cedar_typing.specs.TypedExpr.{Source}
 use Rattle.cedar_typing.proofs.Examples.World.{greets as greets_fit, greeting_conforms}
-use Rattle.cedar_typing.proofs.PolicyCheck.{checked}
-use Rattle.cedar_typing.proofs.Verdicts.{verdict_at_most}
+use Rattle.cedar_typing.proofs.Policies.Check.{checked}
+use Rattle.cedar_typing.proofs.Policies.Verdicts.{verdict_at_most}
 
 pub environments : EnvironmentsAre
 environments = record {

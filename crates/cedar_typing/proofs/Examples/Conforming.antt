@@ -7,7 +7,7 @@ use Rattle.cedar_types.specs.declared.base.types.ValidationMode.TheVariants.{Str
 use Rattle.cedar_types.specs.Lemmas.Comparisons.{uid_same}
 use Rattle.cedar_types.specs.Names.{Uid, uid_eq}
 use Rattle.cedar_types.specs.Schemas.{is_among, uid_is_among, type_named, declares_type, declares_action, descendants_of}
-use Rattle.cedar_types.specs.Stores.{Entity, entity_at, declares_ancestor, FitsDeclaration, ConformingStore}
+use Rattle.cedar_types.specs.Values.Stores.{Entity, entity_at, declares_ancestor, FitsDeclaration, ConformingStore}
 use Rattle.cedar_types.specs.Templates.{condition_of}
 use Rattle.cedar_typing.specs.Evaluation.Conformance.{IsBound, ConformingRequest}
 use Rattle.cedar_typing.specs.Examples.Conforming.{document, attic, review, edit, review_schema, review_basis, review_store, reviewing, reviewed_policy, linked_policy, ConformityAllowsIn, ConformityAllows}

@@ -7,7 +7,7 @@ use Rattle.cedar_types.specs.declared.base.types.ValidationMode.TheVariants.{Str
 use Rattle.cedar_types.specs.Lemmas.Comparisons.{uid_same}
 use Rattle.cedar_types.specs.Names.{Uid, uid_eq}
 use Rattle.cedar_types.specs.Schemas.{Schema, uid_is_among, type_named, declares_action}
-use Rattle.cedar_types.specs.Stores.{Entity, entity_at, declares_ancestor, FitsDeclaration, ConformingStore}
+use Rattle.cedar_types.specs.Values.Stores.{Entity, entity_at, declares_ancestor, FitsDeclaration, ConformingStore}
 use Rattle.cedar_types.specs.Templates.{condition_of}
 use Rattle.cedar_typing.specs.Evaluation.Conformance.{IsBound}
 use Rattle.cedar_typing.specs.Evaluation.World.{Slots}
@@ -16,7 +16,7 @@ use Rattle.cedar_typing.specs.Examples.Greeting.{greeting}
 use Rattle.cedar_typing.specs.Examples.NeededPremises.{IsAsAskedIn, of_unknown_type, of_unknown_action, of_unknown, slot_in_rest, equal_to_slot, robots_only, young, decimals_in_order, guest_basis, guest_greeting, guest_has_role, guest_goes_wrong, attribute_of_one, NamesMustBeKnownIn, UnknownsGoWrongIn, SlotsInTheRestGoWrongIn, UnboundSlotsGoWrongIn, RequestsMustConformIn, StoresMustConformIn, FunctionsMustKeepTheTableIn, ExternalTypesGoWrongIn, PartialGoesWrong, PremisesAreNeededIn, PremisesAreNeeded}
 use Rattle.cedar_typing.specs.Examples.PolicySoundness.{sample_basis, Passes, PassesWarned, policy_when, meeting_slots, meeting}
 use Rattle.cedar_typing.specs.Examples.World.{greet}
-use Rattle.cedar_typing.specs.PolicySoundness.{IsClosedIn, IsConforming}
+use Rattle.cedar_typing.specs.Soundness.Policies.{IsClosedIn, IsConforming}
 use Rattle.cedar_typing.proofs.Composition.Slots.{slots_bound}
 use Rattle.cedar_typing.proofs.Examples.PolicySoundness.{passing, formed, both_bound, meeting_conforms}
 use Rattle.cedar_typing.proofs.Examples.World.{greets, AllEntities, all_found, only_one}

@@ -4,19 +4,19 @@ use Rattle.std.proofs.lemmas.List.Sorted.{IsPermutation-refl}
 use Rattle.cedar_types.specs.declared.base.names.slots.SlotId.{SlotId}
 use Rattle.cedar_types.specs.declared.base.types.ValidationMode.TheVariants.{Strict}
 use Rattle.cedar_types.specs.Errors.{Caution}
-use Rattle.cedar_types.specs.Linking.{checked_envs}
-use Rattle.cedar_types.specs.RequestEnvs.{Env}
+use Rattle.cedar_types.specs.Environments.Linking.{checked_envs}
+use Rattle.cedar_types.specs.Environments.RequestEnvs.{Env}
 use Rattle.cedar_types.specs.Templates.{PlainTemplate, condition_of}
 use Rattle.cedar_typing.specs.Composition.{SlotsInScopeAlone}
 use Rattle.cedar_typing.specs.Evaluation.Conformance.{IsBound}
 use Rattle.cedar_typing.specs.Examples.PolicySoundness.{sample_basis, meeting_template, meeting_slots, meeting, PolicyPremisesAreMet}
 use Rattle.cedar_typing.specs.PolicyCheck.{Verdict, PolicyChecks, policy_check}
-use Rattle.cedar_typing.specs.PolicyOutcome.{Adds, VerdictsOf, all_pass, all_errors, warnings_of}
-use Rattle.cedar_typing.specs.PolicySoundness.{Basis, IsStrictAndClosed, IsWellFormed, IsConforming, setting_on, CheckedOn}
+use Rattle.cedar_typing.specs.PolicyCheck.Outcome.{Adds, VerdictsOf, all_pass, all_errors, warnings_of}
+use Rattle.cedar_typing.specs.Soundness.Policies.{Basis, IsStrictAndClosed, IsWellFormed, IsConforming, setting_on, CheckedOn}
 use Rattle.cedar_typing.specs.Silence.{HasNoUnknowns}
 use Rattle.cedar_typing.proofs.Composition.Slots.{slots_bound}
 use Rattle.cedar_typing.proofs.Examples.World.{greets, greeting_conforms}
-use Rattle.cedar_typing.proofs.PolicyCheck.{checked}
+use Rattle.cedar_typing.proofs.Policies.Check.{checked}
 
 -- to nothing is added what there is then
 all_new : {A : Type 0} (these new : List A) → these ≡ new → Adds [] these new

@@ -11,7 +11,7 @@ use Rattle.cedar_typing.specs.Examples.Premises.{guarded_condition, PremisesAreM
 use Rattle.cedar_typing.specs.Examples.World.{user, decimal, duration, ip_address, decimal_function, sample}
 use Rattle.cedar_typing.proofs.Basics.{none_is}
 use Rattle.cedar_typing.proofs.Examples.World.{greets, sample_reliable, greeting_conforms}
-use Rattle.cedar_typing.proofs.PolicyCheck.{checked}
+use Rattle.cedar_typing.proofs.Policies.Check.{checked}
 use Rattle.cedar_typing.proofs.Soundness.Capabilities.{hold_just}
 
 pub premises : PremisesAreMet

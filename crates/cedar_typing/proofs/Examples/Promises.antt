@@ -6,7 +6,7 @@ use Rattle.cedar_typing.specs.Examples.Greeting.{greeting}
 use Rattle.cedar_typing.specs.Examples.PolicySoundness.{sample_basis, meeting}
 use Rattle.cedar_typing.specs.Examples.Promises.{wrong_policy, PromiseExamples, PromisesCanBreakIn, PromisesCanBreak}
 use Rattle.cedar_typing.specs.Examples.World.{sample}
-use Rattle.cedar_typing.specs.PolicySoundness.{IsClosedIn, IsConforming}
+use Rattle.cedar_typing.specs.Soundness.Policies.{IsClosedIn, IsConforming}
 use Rattle.cedar_typing.specs.Soundness.{IsReliableIn, IsWorldOf}
 use Rattle.cedar_typing.proofs.Examples.PolicySoundness.{formed, meeting_conforms}
 use Rattle.cedar_typing.proofs.Examples.World.{greeting_conforms}

@@ -6,14 +6,15 @@ use Rattle.std.proofs.Common.{◌≡◌, ℕ, false, List, [], Option, Some, ref
 use Rattle.std.specs.Prelude.{codes}
 use Rattle.cedar_types.specs.declared.base.types.BoolType.TheVariants.{AnyBool}
 use Rattle.cedar_types.specs.declared.base.types.ValidationMode.TheVariants.{Strict}
-use Rattle.cedar_types.specs.Tree.{Shape}
+use Rattle.cedar_types.specs.Expressions.Tree.{Shape}
 use Rattle.cedar_types.specs.Capability.{attribute}
 use Rattle.cedar_types.specs.Types.{Ty, TBool}
 use Rattle.cedar_types.specs.Errors.{Finding}
 use Rattle.cedar_typing.specs.Capabilities.{Caps, no_caps}
 use Rattle.cedar_typing.specs.Examples.Expressions.{principal, numbered}
 use Rattle.cedar_typing.specs.Examples.Rules.{TypesAsIn, FailsWithIn, IsTypedIn, IsRefusedIn, IsRefusedKnowingIn, CutsAt, ChecksAs, HandsOnNeither, typed_false}
-use Rattle.cedar_typing.specs.Examples.Rules.Collections.{SetTyping, RecordTyping}
+use Rattle.cedar_typing.specs.Examples.Rules.Records.{RecordTyping}
+use Rattle.cedar_typing.specs.Examples.Rules.Sets.{SetTyping}
 use Rattle.cedar_typing.specs.Examples.Rules.Conditional.{ConditionalTyping}
 use Rattle.cedar_typing.specs.Examples.Rules.Equality.{EqualityTyping, MemberTyping}
 use Rattle.cedar_typing.specs.Examples.Rules.Leaves.{LeafTyping}
@@ -30,7 +31,7 @@ use Rattle.cedar_typing.specs.TypedExpr.{Source, TypedTree, annotation}
 use Rattle.cedar_typing.proofs.Agreement.Induction.{agrees}
 use Rattle.cedar_typing.proofs.Agreement.Parts.{Answers, a_derived, a_recovered, a_cut}
 use Rattle.cedar_typing.proofs.Basics.{some_is}
-use Rattle.cedar_typing.proofs.PolicyCheck.{checked}
+use Rattle.cedar_typing.proofs.Policies.Check.{checked}
 
 module _ (s : Setting) (e : Source) (p : Caps) (d : ℕ) where
   abbrev Rules : Answer → List Finding → Type 0

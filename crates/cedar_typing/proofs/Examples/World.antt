@@ -3,11 +3,11 @@ use Rattle.std.proofs.Common.{◌≡◌, inl, Bool, true, false, ◌&&◌, ◌||
 use Rattle.std.specs.Prelude.{IsTrue}
 use Rattle.cedar_types.specs.declared.base.types.ValidationMode.TheVariants.{Strict}
 use Rattle.cedar_types.specs.Names.{Path, Uid, uid_eq, path_eq}
-use Rattle.cedar_types.specs.ExtensionFunctions.{ExtensionFunction, function_named}
+use Rattle.cedar_types.specs.Extensions.Functions.{ExtensionFunction, function_named}
 use Rattle.cedar_types.specs.Lemmas.Comparisons.{path_same, uid_same}
 use Rattle.cedar_types.specs.Schemas.{is_among, uid_is_among, type_named, declares_type, declares_action, descendants_of}
 use Rattle.cedar_types.specs.Values.{Value, Values, HasType}
-use Rattle.cedar_types.specs.Stores.{Entity, Store, entity_at, declares_ancestor, FitsDeclaration, ConformingStore}
+use Rattle.cedar_types.specs.Values.Stores.{Entity, Store, entity_at, declares_ancestor, FitsDeclaration, ConformingStore}
 use Rattle.cedar_typing.specs.Evaluation.Conformance.{FitsRequest, KeepsTable}
 use Rattle.cedar_typing.specs.Evaluation.Equality.{same_values}
 use Rattle.cedar_typing.specs.Evaluation.World.{Call, call_value}

@@ -5,15 +5,15 @@ use Rattle.cedar_types.specs.declared.base.types.ValidationMode.TheVariants.{Per
 use Rattle.cedar_types.specs.Names.{Text, Path, path_eq}
 use Rattle.cedar_types.specs.Lemmas.Comparisons.{and_left}
 use Rattle.cedar_types.specs.Types.{Ty, TNever, TBool, TLong, TString, TSet, TAnySet, TRecord, TEntity, TAnyEntity, TExtension, is_well_formed}
-use Rattle.cedar_types.specs.Bounds.{is_strict, lub}
+use Rattle.cedar_types.specs.Types.Bounds.{is_strict, lub}
 use Rattle.cedar_types.specs.Schemas.{Schema, DeclaredType, DeclaredAction, TypeKind, StandardKind, EnumKind, ExternalKind, has_fault, type_named, are_vague, is_vague, kind_is_definite, tags_pass}
-use Rattle.cedar_types.specs.Lookups.{declared_kind_attribute, kind_attribute, declared_attribute, joined_attribute, types_attribute, attribute_type}
-use Rattle.cedar_types.specs.FormedSchemas.{kind_is_formed, application_is_formed, has_formed_types}
+use Rattle.cedar_types.specs.Types.Lookups.{declared_kind_attribute, kind_attribute, declared_attribute, joined_attribute, types_attribute, attribute_type}
+use Rattle.cedar_types.specs.Schemas.Formed.{kind_is_formed, application_is_formed, has_formed_types}
 use Rattle.cedar_types.proofs.Schema.Faultless.{faultless}
 use Rattle.cedar_typing.specs.Evaluation.Conformance.{IsOneOf}
 use Rattle.cedar_typing.proofs.Basics.{not_true}
 use Rattle.cedar_typing.proofs.Bounds.Attributes.{AttributesFormed}
-use Rattle.cedar_typing.proofs.Members.{all_pass, found_in}
+use Rattle.cedar_typing.proofs.Basics.Members.{all_pass, found_in}
 use Rattle.cedar_typing.proofs.KeptTypes.Bounds.{kept_lub}
 use Rattle.cedar_typing.proofs.KeptTypes.Keeping.{HasKept}
 use Rattle.cedar_typing.proofs.KeptTypes.Types.{Keeping, one_type, ascending, no_any_entity, IsKept, field_kept, definite_kept}

@@ -4,7 +4,7 @@ use Rattle.cedar_types.specs.declared.base.types.ValidationMode.{ValidationMode}
 use Rattle.cedar_types.specs.Names.{Text, Path, text_eq}
 use Rattle.cedar_types.specs.Lemmas.Comparisons.{and_left, and_right, and_both}
 use Rattle.cedar_types.specs.Types.{Ty, TNever, TBool, TLong, TString, TSet, TAnySet, TRecord, TEntity, TAnyEntity, TExtension, Attrs, no_attrs, attr}
-use Rattle.cedar_types.specs.Bounds.{mark_eq, ty_eq, union, find_attr, is_strict, is_never, bool_lub, any_set_lub, entity_lub, any_entity_lub, closed_lub, wide_lub, lub_by, with_both, with_bound, with_common, apart_lub, both_attrs, common_attrs, lub}
+use Rattle.cedar_types.specs.Types.Bounds.{mark_eq, ty_eq, union, find_attr, is_strict, is_never, bool_lub, any_set_lub, entity_lub, any_entity_lub, closed_lub, wide_lub, lub_by, with_both, with_bound, with_common, apart_lub, both_attrs, common_attrs, lub}
 use Rattle.cedar_types.proofs.Attributes.FindAttrs.{found_type}
 use Rattle.cedar_types.proofs.Bounds.Laws.{bound_form}
 use Rattle.cedar_typing.proofs.Basics.{or_left, or_right, or_cases}

@@ -5,9 +5,9 @@ use Rattle.cedar_types.specs.declared.base.expressions.extensions.ExtensionTable
 use Rattle.cedar_types.specs.declared.base.types.BoolType.TheVariants.{AnyBool}
 use Rattle.cedar_types.specs.Names.{Path, path_eq}
 use Rattle.cedar_types.specs.Types.{Ty, TNever, TBool, TLong, TString, TSet, TAnySet, TRecord, TEntity, TAnyEntity, TExtension}
-use Rattle.cedar_types.specs.View.{Written}
+use Rattle.cedar_types.specs.Expressions.View.{Written}
 use Rattle.cedar_types.specs.Errors.{Finding}
-use Rattle.cedar_types.specs.ExtensionFunctions.{ExtensionFunction, function_named, is_plain_type, may_be_returned, has_bad_return, table_fault}
+use Rattle.cedar_types.specs.Extensions.Functions.{ExtensionFunction, function_named, is_plain_type, may_be_returned, has_bad_return, table_fault}
 use Rattle.cedar_typing.specs.Rules.Calls.{return_type, call_decides, call_errors, call_form}
 use Rattle.cedar_typing.specs.TypeEnv.{TypeEnv}
 use Rattle.cedar_typing.specs.TypedExpr.{Source}

@@ -5,9 +5,9 @@ use Rattle.cedar_types.specs.declared.base.types.BoolType.{BoolType}
 use Rattle.cedar_types.specs.declared.base.types.BoolType.TheVariants.{AnyBool, True, False}
 use Rattle.cedar_types.specs.Names.{Text}
 use Rattle.cedar_types.specs.Types.{Ty, TBool}
-use Rattle.cedar_types.specs.View.{Written}
+use Rattle.cedar_types.specs.Expressions.View.{Written}
 use Rattle.cedar_types.specs.Capability.{Cap}
-use Rattle.cedar_types.specs.Lookups.{attribute_type}
+use Rattle.cedar_types.specs.Types.Lookups.{attribute_type}
 use Rattle.cedar_typing.specs.Capabilities.{Caps, union}
 use Rattle.cedar_typing.specs.Eager.{Decision, gives, refuses}
 use Rattle.cedar_typing.specs.Rules.Attributes.{attribute_of, get_decides}

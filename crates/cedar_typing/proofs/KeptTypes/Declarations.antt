@@ -6,12 +6,12 @@ use Rattle.cedar_types.specs.Names.{Path, Uid, path_eq}
 use Rattle.cedar_types.specs.Types.{Ty, TRecord, TEntity, TAnyEntity, is_well_formed}
 use Rattle.cedar_types.specs.Schemas.{Schema, Application, DeclaredType, DeclaredAction, TypeKind, StandardKind, EnumKind, ExternalKind, has_fault, type_named, are_vague, is_vague, is_record, kind_is_definite, application_is_definite}
 use Rattle.cedar_types.specs.Environments.{DeclaredEnv, principal_environments, action_environments, environments_of}
-use Rattle.cedar_types.specs.Lookups.{kind_tags, declared_tags, tags_of_types, tags_of_any, tag_types}
-use Rattle.cedar_types.specs.FormedSchemas.{kind_is_formed, application_is_formed, has_formed_types}
+use Rattle.cedar_types.specs.Types.Lookups.{kind_tags, declared_tags, tags_of_types, tags_of_any, tag_types}
+use Rattle.cedar_types.specs.Schemas.Formed.{kind_is_formed, application_is_formed, has_formed_types}
 use Rattle.cedar_types.proofs.Schema.Faultless.{faultless}
 use Rattle.cedar_typing.proofs.Basics.{not_true}
 use Rattle.cedar_typing.proofs.Bounds.Lists.{in_order_all}
-use Rattle.cedar_typing.proofs.Members.{AreAll, all_flat, found_in, all_pass}
+use Rattle.cedar_typing.proofs.Basics.Members.{AreAll, all_flat, found_in, all_pass}
 use Rattle.cedar_typing.proofs.KeptTypes.Attributes.{kind_says_enough}
 use Rattle.cedar_typing.proofs.KeptTypes.Types.{Keeping, ascending, IsKept, definite_kept}
 

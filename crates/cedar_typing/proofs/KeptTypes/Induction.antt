@@ -5,13 +5,13 @@ use Rattle.cedar_types.specs.declared.base.types.BoolType.TheVariants.{AnyBool, 
 use Rattle.cedar_types.specs.declared.base.types.ValidationMode.{ValidationMode}
 use Rattle.cedar_types.specs.Names.{Text, Path, Uid}
 use Rattle.cedar_types.specs.Types.{Ty, TNever, TBool, TEntity}
-use Rattle.cedar_types.specs.Tree.{Lit, bool, long, string, entity, lit, var, slot, unknown, if_then_else, and, or, unary, binary, call, get_attr, has_attr, ext_has_attr, like, is_type, set_of, record_of, Trees, no_trees, tree, Fields, no_fields, field}
-use Rattle.cedar_types.specs.View.{Written}
-use Rattle.cedar_types.specs.Lookups.{declares_entity, literal_type, attribute_type, may_have}
+use Rattle.cedar_types.specs.Expressions.Tree.{Lit, bool, long, string, entity, lit, var, slot, unknown, if_then_else, and, or, unary, binary, call, get_attr, has_attr, ext_has_attr, like, is_type, set_of, record_of, Trees, no_trees, tree, Fields, no_fields, field}
+use Rattle.cedar_types.specs.Expressions.View.{Written}
+use Rattle.cedar_types.specs.Types.Lookups.{declares_entity, literal_type, attribute_type, may_have}
 use Rattle.cedar_types.specs.Environments.{DeclaredEnv, environments_of}
-use Rattle.cedar_types.specs.RequestEnvs.{Env, Declared, Undeclared, is_partial}
+use Rattle.cedar_types.specs.Environments.RequestEnvs.{Env, Declared, Undeclared, is_partial}
 use Rattle.cedar_types.specs.Errors.{Finding}
-use Rattle.cedar_types.specs.ExtensionFunctions.{table_fault}
+use Rattle.cedar_types.specs.Extensions.Functions.{table_fault}
 use Rattle.cedar_typing.specs.Capabilities.{Caps, no_caps}
 use Rattle.cedar_typing.specs.Eager.{Expectation, gives, refuses, first_expectation, later_expectations}
 use Rattle.cedar_typing.specs.Evaluation.Conformance.{IsOneOf, IsEnvironmentOf}
@@ -21,7 +21,8 @@ use Rattle.cedar_typing.specs.Rules.Attributes.{attribute_of, has_decides, get_d
 use Rattle.cedar_typing.specs.Rules.Binary.{binary_form}
 use Rattle.cedar_typing.specs.Rules.Calls.{arguments, call_form}
 use Rattle.cedar_typing.specs.Rules.Chains.{chain_form}
-use Rattle.cedar_typing.specs.Rules.Collections.{set_form, field_keys, record_form}
+use Rattle.cedar_typing.specs.Rules.Records.{field_keys, record_form}
+use Rattle.cedar_typing.specs.Rules.Sets.{set_form}
 use Rattle.cedar_typing.specs.Rules.Leaves.{leaf_rules, unknown_rules, leaf_missing, unknown_fails, variable_type, type_of_literal, known_entity_type, unknown_entity_type, LeafRule, leaf, LeafRecovery, UnknownRecovery}
 use Rattle.cedar_typing.specs.Rules.ShortCircuit.{conjunction, disjunction}
 use Rattle.cedar_typing.specs.Rules.Unary.{unary_form, like_form, is_form}
@@ -34,7 +35,8 @@ use Rattle.cedar_typing.proofs.Agreement.Operators.{unary_marked, binary_marked}
 use Rattle.cedar_typing.proofs.Agreement.Parts.{Marks}
 use Rattle.cedar_typing.proofs.KeptTypes.Calls.{call_kept}
 use Rattle.cedar_typing.proofs.KeptTypes.Chains.{chain_kept}
-use Rattle.cedar_typing.proofs.KeptTypes.Collections.{set_kept, record_kept}
+use Rattle.cedar_typing.proofs.KeptTypes.Records.{record_kept}
+use Rattle.cedar_typing.proofs.KeptTypes.Sets.{set_kept}
 use Rattle.cedar_typing.proofs.KeptTypes.Eager.{KeptForm, KeepsAll, none_kept, more_kept, form_kept, decided_type, one_operand_kept, two_operands_kept}
 use Rattle.cedar_typing.proofs.KeptTypes.Keeping.{HasKept, IsKeeping, pick, truth_value_kept}
 use Rattle.cedar_typing.proofs.KeptTypes.Operators.{unary_kept, unary_failed_kept, binary_kept, binary_failed_kept, like_kept, is_kept}

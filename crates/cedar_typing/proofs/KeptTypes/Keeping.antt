@@ -3,17 +3,17 @@ use Rattle.std.proofs.Common.{◌≡◌, Bool, true, false, List, [], ◌∷◌,
 use Rattle.cedar_types.specs.declared.base.names.slots.SlotId.{SlotId}
 use Rattle.cedar_types.specs.declared.base.types.BoolType.{BoolType}
 use Rattle.cedar_types.specs.declared.base.types.BoolType.TheVariants.{True, False}
-use Rattle.cedar_types.specs.Ascending.{texts_ascending}
-use Rattle.cedar_types.specs.Bounds.{is_strict, lub}
+use Rattle.cedar_types.specs.Names.Ascending.{texts_ascending}
+use Rattle.cedar_types.specs.Types.Bounds.{is_strict, lub}
 use Rattle.cedar_types.specs.Environments.{DeclaredEnv, environments_of}
-use Rattle.cedar_types.specs.Lookups.{attribute_type, tag_types}
+use Rattle.cedar_types.specs.Types.Lookups.{attribute_type, tag_types}
 use Rattle.cedar_types.specs.Names.{Text, Path}
-use Rattle.cedar_types.specs.RequestEnvs.{is_partial}
+use Rattle.cedar_types.specs.Environments.RequestEnvs.{is_partial}
 use Rattle.cedar_types.specs.Types.{Ty, TNever, TBool, TLong, TString, TSet, TRecord, TEntity, TExtension}
-use Rattle.cedar_typing.specs.Rules.Collections.{required_attrs}
+use Rattle.cedar_typing.specs.Rules.Records.{required_attrs}
 use Rattle.cedar_typing.specs.Rules.Leaves.{slot_ty, bool_ty}
 use Rattle.cedar_typing.specs.TypeEnv.{TypeEnv}
-use Rattle.cedar_typing.proofs.Members.{AreAll}
+use Rattle.cedar_typing.proofs.Basics.Members.{AreAll}
 
 module _ (Kept : Ty → Type 0) where
   -- the type has it, if one was found

@@ -2,15 +2,15 @@
 use Rattle.std.proofs.Common.{◌≡◌, ℕ, Bool, true, false, true≢false, ◌||◌, Some, None, refl, sym, ◌∙◌}
 use Rattle.cedar_types.specs.declared.base.names.slots.SlotId.{SlotId}
 use Rattle.cedar_types.specs.declared.base.types.ValidationMode.{ValidationMode}
-use Rattle.cedar_types.specs.Bounds.{is_strict}
-use Rattle.cedar_types.specs.ExtensionFunctions.{table_fault}
-use Rattle.cedar_types.specs.FormedSchemas.{has_formed_types}
-use Rattle.cedar_types.specs.RequestEnvs.{Env, Declared, Undeclared, is_partial}
+use Rattle.cedar_types.specs.Types.Bounds.{is_strict}
+use Rattle.cedar_types.specs.Extensions.Functions.{table_fault}
+use Rattle.cedar_types.specs.Schemas.Formed.{has_formed_types}
+use Rattle.cedar_types.specs.Environments.RequestEnvs.{Env, Declared, Undeclared, is_partial}
 use Rattle.cedar_types.specs.Schemas.{has_fault}
 use Rattle.cedar_types.specs.Types.{TNever, TSet, TAnyEntity}
 use Rattle.cedar_typing.specs.Capabilities.{Caps}
 use Rattle.cedar_typing.specs.Evaluation.Conformance.{IsEnvironmentOf}
-use Rattle.cedar_typing.specs.LinkedSlots.{LinksBothSlots}
+use Rattle.cedar_typing.specs.Setting.LinkedSlots.{LinksBothSlots}
 use Rattle.cedar_typing.specs.Rules.{rules}
 use Rattle.cedar_typing.specs.Rules.Leaves.{slot_ty}
 use Rattle.cedar_typing.specs.Setting.{Setting}
@@ -22,7 +22,7 @@ use Rattle.cedar_typing.proofs.KeptTypes.Bounds.{kept_lub}
 use Rattle.cedar_typing.proofs.KeptTypes.Declarations.{tags_kept, contexts_kept}
 use Rattle.cedar_typing.proofs.KeptTypes.Induction.{types_are_kept}
 use Rattle.cedar_typing.proofs.KeptTypes.Keeping.{IsKeeping}
-use Rattle.cedar_typing.proofs.KeptTypes.Records.{record_kept}
+use Rattle.cedar_typing.proofs.KeptTypes.RecordTypes.{record_kept}
 use Rattle.cedar_typing.proofs.KeptTypes.Rules.{KeepsTypes}
 use Rattle.cedar_typing.proofs.KeptTypes.Types.{Keeping, one_type, ascending, no_any_entity, allowed, is_made_of, IsKept, keeping, KeptIn, one_kept}
 

@@ -8,9 +8,9 @@ use Rattle.cedar_types.specs.declared.base.expressions.patterns.PatternElem.{Pat
 use Rattle.cedar_types.specs.declared.base.types.BoolType.TheVariants.{AnyBool, True, False}
 use Rattle.cedar_types.specs.Names.{Path}
 use Rattle.cedar_types.specs.Types.{Ty, TNever, TBool, TEntity, sole}
-use Rattle.cedar_types.specs.View.{Written}
+use Rattle.cedar_types.specs.Expressions.View.{Written}
 use Rattle.cedar_types.specs.Schemas.{is_among}
-use Rattle.cedar_types.specs.Bounds.{ty_eq, is_never}
+use Rattle.cedar_types.specs.Types.Bounds.{ty_eq, is_never}
 use Rattle.cedar_types.specs.Errors.{Finding}
 use Rattle.cedar_typing.specs.Capabilities.{Caps}
 use Rattle.cedar_typing.specs.Eager.{Decision, gives_unless}

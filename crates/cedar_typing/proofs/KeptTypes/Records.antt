@@ -1,44 +1,30 @@
 -- The type of a record is kept to where those of its fields are.
-use Rattle.std.proofs.Common.{◌≡◌, true, false, List, [], ◌∷◌, refl}
-use Rattle.std.specs.List.{list_all}
-use Rattle.std.specs.Ordering.{is_lt}
-use Rattle.cedar_types.specs.Ascending.{texts_ascending}
-use Rattle.cedar_types.specs.Lemmas.Comparisons.{and_left, and_right, and_both}
-use Rattle.cedar_types.specs.Names.{Text, text_cmp}
-use Rattle.cedar_types.specs.Types.{Ty, TRecord, attr_names, is_well_formed, are_well_formed}
-use Rattle.cedar_typing.specs.Rules.Collections.{required_attrs}
-use Rattle.cedar_typing.proofs.KeptTypes.Keeping.{AreKept}
-use Rattle.cedar_typing.proofs.KeptTypes.Types.{Keeping, ascending, allowed, is_made_of, are_made_of, IsKept}
+use Rattle.std.proofs.Common.{◌≡◌, Bool, true, false, List, [], ◌∷◌, Option, Some, None, if◌then◌else◌, refl}
+use Rattle.cedar_types.specs.Names.Ascending.{texts_ascending}
+use Rattle.cedar_types.specs.Names.{Text}
+use Rattle.cedar_types.specs.Types.{Ty, TRecord}
+use Rattle.cedar_types.specs.Expressions.View.{Written}
+use Rattle.cedar_types.specs.Errors.{internal_invariant_violation}
+use Rattle.cedar_typing.specs.Capabilities.{no_caps}
+use Rattle.cedar_typing.specs.Eager.{gives, refuses}
+use Rattle.cedar_typing.specs.Rules.Records.{required_attrs, record_of_types, record_form}
+use Rattle.cedar_typing.specs.Rules.Sets.{all_types}
+use Rattle.cedar_typing.specs.TypeEnv.{TypeEnv, finding}
+use Rattle.cedar_typing.proofs.KeptTypes.Eager.{decided_type, KeptForm}
+use Rattle.cedar_typing.proofs.KeptTypes.Keeping.{HasKept, AllKept, IsKeeping}
+use Rattle.cedar_typing.proofs.KeptTypes.Sets.{found_kept}
 
-above_kept : (k : Text) (ks : List Text) (ts : List Ty) → list_all (λ l. is_lt (text_cmp k l)) ks ≡ true → list_all (λ l. is_lt (text_cmp k l)) (attr_names (required_attrs ks ts)) ≡ true
-above_kept k [] ts h = refl
-above_kept k (l ∷ ls) [] h = refl
-above_kept k (l ∷ ls) (t ∷ ts) h =
-    let below = is_lt (text_cmp k l) in
-    let others = list_all (λ j. is_lt (text_cmp k j)) ls in
-    and_both below (list_all (λ j. is_lt (text_cmp k j)) (attr_names (required_attrs ls ts))) (and_left below others h) (above_kept k ls ts (and_right below others h))
+module _ (Kept : Ty → Type 0) (env : TypeEnv) (keeps : IsKeeping Kept env) (m : Written) where
+  module _ (ks : List Text) where
+    fields_kept : (ts : List (Option Ty)) (found : Option (List Ty)) → AllKept Kept ts → all_types ts ≡ found
+        → HasKept Kept (decided_type (record_of_types env m.place ks found))
+    fields_kept ts None h e = tt
+    fields_kept ts (Some us) h e = by_keys (texts_ascending ks) refl
+      where
+        by_keys : (b : Bool) → texts_ascending ks ≡ b
+            → HasKept Kept (decided_type (if b then gives (TRecord (required_attrs ks us) false) no_caps else refuses None (finding env m.place internal_invariant_violation ∷ [])))
+        by_keys true a = keeps.records ks us a (found_kept Kept ts us h e)
+        by_keys false a = tt
 
--- the names of attributes ascend where the keys do
-names_ascend : (ks : List Text) (ts : List Ty) → texts_ascending ks ≡ true → texts_ascending (attr_names (required_attrs ks ts)) ≡ true
-names_ascend [] ts h = refl
-names_ascend (k ∷ ks) [] h = refl
-names_ascend (k ∷ ks) (t ∷ ts) h =
-    let above = list_all (λ l. is_lt (text_cmp k l)) ks in
-    and_both (list_all (λ l. is_lt (text_cmp k l)) (attr_names (required_attrs ks ts))) (texts_ascending (attr_names (required_attrs ks ts)))
-    (above_kept k ks ts (and_left above (texts_ascending ks) h)) (names_ascend ks ts (and_right above (texts_ascending ks) h))
-
-module _ (k : Keeping) where
-  fields_made : (ks : List Text) (ts : List Ty) → AreKept (IsKept k) ts → are_made_of (allowed k) (required_attrs ks ts) ≡ true
-  fields_made [] ts h = refl
-  fields_made (x ∷ ks) [] h = refl
-  fields_made (x ∷ ks) (t ∷ ts) h = and_both (is_made_of (allowed k) t) (are_made_of (allowed k) (required_attrs ks ts)) h.0.0 (fields_made ks ts h.1)
-
-  fields_formed : k ≡ ascending → (ks : List Text) (ts : List Ty) → AreKept (IsKept k) ts → are_well_formed (required_attrs ks ts) ≡ true
-  fields_formed e [] ts h = refl
-  fields_formed e (x ∷ ks) [] h = refl
-  fields_formed e (x ∷ ks) (t ∷ ts) h = and_both (is_well_formed t) (are_well_formed (required_attrs ks ts)) (h.0.1 e) (fields_formed e ks ts h.1)
-
-  pub record_kept : (ks : List Text) (ts : List Ty) → texts_ascending ks ≡ true → AreKept (IsKept k) ts → IsKept k (TRecord (required_attrs ks ts) false)
-  record_kept ks ts a h =
-      let xs = required_attrs ks ts in
-      (fields_made ks ts h, λ e. and_both (texts_ascending (attr_names xs)) (are_well_formed xs) (names_ascend ks ts a) (fields_formed e ks ts h))
+    pub record_kept : KeptForm Kept (record_form env m ks)
+    record_kept ts h = fields_kept ts (all_types ts) h refl

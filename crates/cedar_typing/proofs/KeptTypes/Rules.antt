@@ -3,10 +3,10 @@ use Rattle.std.proofs.Common.{◌≡◌, Bool, List, Option, Some, None, sym, ap
 use Rattle.cedar_types.specs.declared.base.location.Loc.{Loc}
 use Rattle.cedar_types.specs.declared.base.types.BoolType.TheVariants.{AnyBool}
 use Rattle.cedar_types.specs.Types.{Ty}
-use Rattle.cedar_types.specs.View.{Written}
+use Rattle.cedar_types.specs.Expressions.View.{Written}
 use Rattle.cedar_types.specs.Errors.{Finding}
 use Rattle.cedar_typing.specs.Capabilities.{Caps, union}
-use Rattle.cedar_typing.specs.Joins.{joined}
+use Rattle.cedar_typing.specs.TypeTests.Joins.{joined}
 use Rattle.cedar_typing.specs.Judgments.{derived, recovered, accepted, refused, missing, Judgment, PartResult, Operand}
 use Rattle.cedar_typing.specs.Rules.Conditional.{if_true_recovered, if_false_recovered, if_open_recovered, if_true, if_false, if_open, if_rules}
 use Rattle.cedar_typing.specs.Rules.ShortCircuit.{Side, right_ends, left_alone, right_alone, neither, Connective, side_of, type_of_side, sides_type, sides_annotation, short_circuit_rules, left_ends, both_sides, left_ends_failed, side_failed}
@@ -14,7 +14,7 @@ use Rattle.cedar_typing.specs.TypeEnv.{TypeEnv}
 use Rattle.cedar_typing.specs.TypeTests.{bool_types}
 use Rattle.cedar_typing.specs.TypedExpr.{TypedTree, Mark, mark_of, annotation}
 use Rattle.cedar_typing.proofs.Agreement.Parts.{Marks}
-use Rattle.cedar_typing.proofs.Marks.{annotation-at_place, annotation-without_type}
+use Rattle.cedar_typing.proofs.Views.Marks.{annotation-at_place, annotation-without_type}
 use Rattle.cedar_typing.proofs.KeptTypes.Keeping.{HasKept, IsKeeping}
 
 -- each type that is derived or recovered is kept to

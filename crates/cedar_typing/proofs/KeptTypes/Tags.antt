@@ -2,9 +2,9 @@
 use Rattle.std.proofs.Common.{◌≡◌, Bool, true, false, List, [], ◌∷◌, Option, Some, None, if◌then◌else◌, refl, subst}
 use Rattle.cedar_types.specs.declared.base.types.BoolType.TheVariants.{AnyBool, True, False}
 use Rattle.cedar_types.specs.Types.{Ty, TNever, TBool}
-use Rattle.cedar_types.specs.View.{Written}
-use Rattle.cedar_types.specs.Bounds.{lub, list_lub}
-use Rattle.cedar_types.specs.Lookups.{tag_types}
+use Rattle.cedar_types.specs.Expressions.View.{Written}
+use Rattle.cedar_types.specs.Types.Bounds.{lub, list_lub}
+use Rattle.cedar_types.specs.Types.Lookups.{tag_types}
 use Rattle.cedar_types.specs.Errors.{Finding}
 use Rattle.cedar_typing.specs.Capabilities.{Caps}
 use Rattle.cedar_typing.specs.Eager.{refuses}
@@ -12,7 +12,7 @@ use Rattle.cedar_typing.specs.Rules.Tags.{tag_of, has_tag_type, has_tag_table, h
 use Rattle.cedar_typing.specs.TypeEnv.{TypeEnv}
 use Rattle.cedar_typing.specs.TypedExpr.{Source}
 use Rattle.cedar_typing.proofs.Bounds.Lists.{bound_keeps}
-use Rattle.cedar_typing.proofs.Members.{AreAll}
+use Rattle.cedar_typing.proofs.Basics.Members.{AreAll}
 use Rattle.cedar_typing.proofs.KeptTypes.Eager.{decided_type, KeptForm}
 use Rattle.cedar_typing.proofs.KeptTypes.Keeping.{HasKept, IsKeeping, pick}
 

@@ -6,9 +6,9 @@ use Rattle.cedar_types.specs.declared.base.types.ValidationMode.{ValidationMode}
 use Rattle.cedar_types.specs.Names.{Text, Path}
 use Rattle.cedar_types.specs.Lemmas.Comparisons.{and_left, and_right, and_both}
 use Rattle.cedar_types.specs.Types.{Ty, TNever, TBool, TLong, TString, TSet, TAnySet, TRecord, TEntity, TAnyEntity, TExtension, Attrs, no_attrs, attr, attr_names, is_well_formed, are_well_formed}
-use Rattle.cedar_types.specs.Ascending.{texts_ascending}
+use Rattle.cedar_types.specs.Names.Ascending.{texts_ascending}
 use Rattle.cedar_types.specs.Schemas.{is_vague, are_vague}
-use Rattle.cedar_types.specs.Bounds.{is_strict, find_attr}
+use Rattle.cedar_types.specs.Types.Bounds.{is_strict, find_attr}
 use Rattle.cedar_types.proofs.Attributes.FindAttrs.{AllTypes, found_type}
 use Rattle.cedar_typing.proofs.Basics.{or_right, neither_left, neither_right}
 

@@ -1,13 +1,13 @@
 -- What fails has an error: `has`, `.`, extended `has`, `hasTag` and `getTag`.
 use Rattle.std.proofs.Common.{Bool, ◌&&◌, ◌||◌, List, [], ◌∷◌, Option, Some, None, refl}
 use Rattle.cedar_types.specs.declared.base.location.Loc.{Loc}
-use Rattle.cedar_types.specs.Bounds.{is_never, list_lub}
+use Rattle.cedar_types.specs.Types.Bounds.{is_never, list_lub}
 use Rattle.cedar_types.specs.Capability.{Cap}
-use Rattle.cedar_types.specs.Lookups.{attribute_type, may_have, tag_types}
+use Rattle.cedar_types.specs.Types.Lookups.{attribute_type, may_have, tag_types}
 use Rattle.cedar_types.specs.Names.{Text}
-use Rattle.cedar_types.specs.RequestEnvs.{is_partial}
+use Rattle.cedar_types.specs.Environments.RequestEnvs.{is_partial}
 use Rattle.cedar_types.specs.Types.{Ty}
-use Rattle.cedar_types.specs.View.{Written}
+use Rattle.cedar_types.specs.Expressions.View.{Written}
 use Rattle.cedar_typing.specs.Capabilities.{Caps, union}
 use Rattle.cedar_typing.specs.Eager.{Decision, gives, refuses}
 use Rattle.cedar_typing.specs.Rules.Attributes.{attribute_of, has_decides, has_form, get_decides, get_form}

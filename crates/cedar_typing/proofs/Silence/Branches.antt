@@ -4,11 +4,11 @@ use Rattle.cedar_types.specs.declared.base.location.Loc.{Loc}
 use Rattle.cedar_types.specs.declared.base.errors.type_errors.LubContext.{LubContext}
 use Rattle.cedar_types.specs.declared.base.errors.type_errors.LubContext.TheVariants.{Conditional}
 use Rattle.cedar_types.specs.Types.{Ty}
-use Rattle.cedar_types.specs.View.{Written}
-use Rattle.cedar_types.specs.Bounds.{lub}
+use Rattle.cedar_types.specs.Expressions.View.{Written}
+use Rattle.cedar_types.specs.Types.Bounds.{lub}
 use Rattle.cedar_types.specs.Errors.{Finding}
 use Rattle.cedar_typing.specs.Capabilities.{Caps, union}
-use Rattle.cedar_typing.specs.Joins.{joined, bound_errors, join_errors}
+use Rattle.cedar_typing.specs.TypeTests.Joins.{joined, bound_errors, join_errors}
 use Rattle.cedar_typing.specs.Judgments.{Judgment}
 use Rattle.cedar_typing.specs.Rules.Conditional.{if_true_recovered, if_false_recovered, if_open_recovered, if_rules}
 use Rattle.cedar_typing.specs.Rules.ShortCircuit.{Connective, short_circuit_rules, left_ends_failed, side_failed}

@@ -5,8 +5,8 @@ use Rattle.std.proofs.lemmas.List.Sorted.{IsPermutation-sym}
 use Rattle.cedar_types.specs.Errors.{Finding}
 use Rattle.cedar_typing.specs.Capabilities.{no_caps}
 use Rattle.cedar_typing.specs.PolicyCheck.{Verdict, fails, RefusedCondition, PolicyChecks, check_true, check_false, check_refused_false, check_refused, check_cut}
-use Rattle.cedar_typing.specs.PolicyOutcome.{is_silent, passes}
-use Rattle.cedar_typing.specs.RuleLaws.{IsCut}
+use Rattle.cedar_typing.specs.PolicyCheck.Outcome.{is_silent, passes}
+use Rattle.cedar_typing.specs.Rules.Laws.{IsCut}
 use Rattle.cedar_typing.specs.Rules.{rules}
 use Rattle.cedar_typing.specs.Setting.{Setting}
 use Rattle.cedar_typing.specs.Silence.{IsWellNamed, SilentFailureIsCut, IsDerivedAs, PassingIsDerived}
@@ -16,7 +16,7 @@ use Rattle.cedar_typing.proofs.Silence.Induction.{loud}
 use Rattle.cedar_typing.proofs.Silence.Names.{clean}
 use Rattle.cedar_typing.proofs.Silence.Parts.{IsLoud, operand_loud}
 use Rattle.cedar_typing.proofs.Silence.Settled.{Settled, in_strict}
-use Rattle.cedar_typing.proofs.Verdicts.{none}
+use Rattle.cedar_typing.proofs.Policies.Verdicts.{none}
 
 -- there is an error in every order
 reordered_loud : (es fs : List Finding) → IsPermutation es fs → IsLoud es → IsLoud fs

@@ -2,11 +2,11 @@
 use Rattle.std.proofs.Common.{◌≡◌, ℕ, zero, ◌+◌, Bool, true, false, List, [], ◌∷◌, ◌++◌, Option, Some, None, if◌then◌else◌, true≢false}
 use Rattle.cedar_types.specs.declared.base.expressions.operators.Var.{Var}
 use Rattle.cedar_types.specs.Errors.{Finding}
-use Rattle.cedar_types.specs.Lookups.{declares_entity}
-use Rattle.cedar_types.specs.Parts.{subexpressions, subexpressions_of_all, subexpressions_of_fields}
-use Rattle.cedar_types.specs.Tree.{Lit, bool, long, string, entity, lit, var, slot, unknown, if_then_else, and, or, unary, binary, call, get_attr, has_attr, ext_has_attr, like, is_type, set_of, record_of, Trees, no_trees, tree, Fields, no_fields, field}
+use Rattle.cedar_types.specs.Types.Lookups.{declares_entity}
+use Rattle.cedar_types.specs.Expressions.Parts.{subexpressions, subexpressions_of_all, subexpressions_of_fields}
+use Rattle.cedar_types.specs.Expressions.Tree.{Lit, bool, long, string, entity, lit, var, slot, unknown, if_then_else, and, or, unary, binary, call, get_attr, has_attr, ext_has_attr, like, is_type, set_of, record_of, Trees, no_trees, tree, Fields, no_fields, field}
 use Rattle.cedar_types.specs.Types.{Ty, TEntity}
-use Rattle.cedar_types.specs.View.{Written}
+use Rattle.cedar_types.specs.Expressions.View.{Written}
 use Rattle.cedar_typing.specs.Capabilities.{Caps}
 use Rattle.cedar_typing.specs.Eager.{Expectation, first_expectation, later_expectations}
 use Rattle.cedar_typing.specs.Judgments.{Judgment, within}
@@ -15,7 +15,8 @@ use Rattle.cedar_typing.specs.Rules.Attributes.{has_form, get_form}
 use Rattle.cedar_typing.specs.Rules.Binary.{binary_form}
 use Rattle.cedar_typing.specs.Rules.Calls.{arguments, call_form}
 use Rattle.cedar_typing.specs.Rules.Chains.{chain_form}
-use Rattle.cedar_typing.specs.Rules.Collections.{set_form, field_keys, record_form}
+use Rattle.cedar_typing.specs.Rules.Records.{field_keys, record_form}
+use Rattle.cedar_typing.specs.Rules.Sets.{set_form}
 use Rattle.cedar_typing.specs.Rules.Leaves.{LeafRecovery, leaf_missing, leaf_rules, variable_type, type_of_literal, known_entity_type, unknown_entity_type}
 use Rattle.cedar_typing.specs.Rules.ShortCircuit.{conjunction, disjunction}
 use Rattle.cedar_typing.specs.Rules.Unary.{unary_form, like_form, is_form}

@@ -4,22 +4,22 @@ use Rattle.std.specs.List.{list_any, flat_map}
 use Rattle.std.proofs.lemmas.List.Folds.{list_any-append}
 use Rattle.cedar_types.specs.Environments.{DeclaredEnv, principal_environments, action_environments, environments_of}
 use Rattle.cedar_types.specs.Errors.{unrecognized_entity_type, unrecognized_action_id}
-use Rattle.cedar_types.specs.Findings.{uids_named, types_named, template_uids, template_types, is_unknown_type, is_unknown_action, finding_at}
+use Rattle.cedar_types.specs.Templates.Findings.{uids_named, types_named, template_uids, template_types, is_unknown_type, is_unknown_action, finding_at}
 use Rattle.cedar_types.specs.Lemmas.Comparisons.{uid_same}
-use Rattle.cedar_types.specs.Lookups.{declares_entity}
+use Rattle.cedar_types.specs.Types.Lookups.{declares_entity}
 use Rattle.cedar_types.specs.Names.{Uid, PlacedType, PlacedUid, uid_eq, is_action_path}
-use Rattle.cedar_types.specs.Parts.{subexpressions}
-use Rattle.cedar_types.specs.RequestEnvs.{Env, Declared, Undeclared, action_ty}
+use Rattle.cedar_types.specs.Expressions.Parts.{subexpressions}
+use Rattle.cedar_types.specs.Environments.RequestEnvs.{Env, Declared, Undeclared, action_ty}
 use Rattle.cedar_types.specs.Schemas.{Schema, Application, DeclaredAction, has_fault, declares_type, declares_action}
-use Rattle.cedar_types.specs.Tree.{entity, lit}
+use Rattle.cedar_types.specs.Expressions.Tree.{entity, lit}
 use Rattle.cedar_types.specs.Types.{Ty, TEntity}
-use Rattle.cedar_types.specs.View.{Written}
+use Rattle.cedar_types.specs.Expressions.View.{Written}
 use Rattle.cedar_types.proofs.Schema.Faultless.{faultless}
 use Rattle.cedar_typing.specs.Evaluation.Conformance.{IsOneOf, IsEnvironmentOf}
 use Rattle.cedar_typing.specs.Silence.{is_unknown, IsWellNamed, ConditionIsWellNamed}
 use Rattle.cedar_typing.specs.TypedExpr.{Source}
 use Rattle.cedar_typing.proofs.Basics.{neither_left, neither_right, or_left, or_right}
-use Rattle.cedar_typing.proofs.Members.{all_flat, all_pass}
+use Rattle.cedar_typing.proofs.Basics.Members.{all_flat, all_pass}
 
 -- ---- an expression itself, and its parts
 

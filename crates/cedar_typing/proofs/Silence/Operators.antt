@@ -5,12 +5,12 @@ use Rattle.cedar_types.specs.declared.base.expressions.operators.BinaryOp.{Binar
 use Rattle.cedar_types.specs.declared.base.expressions.operators.Var.{Var}
 use Rattle.cedar_types.specs.Lemmas.Comparisons.{and_both}
 use Rattle.cedar_types.specs.Names.{Uid}
-use Rattle.cedar_types.specs.Parts.{subexpressions, subexpressions_of_all}
-use Rattle.cedar_types.specs.RequestEnvs.{Env, Declared, Undeclared}
+use Rattle.cedar_types.specs.Expressions.Parts.{subexpressions, subexpressions_of_all}
+use Rattle.cedar_types.specs.Environments.RequestEnvs.{Env, Declared, Undeclared}
 use Rattle.cedar_types.specs.Schemas.{has_fault, declares_action}
-use Rattle.cedar_types.specs.Tree.{bool, long, string, entity, lit, var, set_of, Trees, no_trees, tree}
+use Rattle.cedar_types.specs.Expressions.Tree.{bool, long, string, entity, lit, var, set_of, Trees, no_trees, tree}
 use Rattle.cedar_types.specs.Types.{Ty}
-use Rattle.cedar_types.specs.View.{Written}
+use Rattle.cedar_types.specs.Expressions.View.{Written}
 use Rattle.cedar_typing.specs.Capabilities.{Caps}
 use Rattle.cedar_typing.specs.Eager.{Decision, first_type, second_type}
 use Rattle.cedar_typing.specs.Evaluation.Conformance.{IsEnvironmentOf}

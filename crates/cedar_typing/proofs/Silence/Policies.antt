@@ -2,25 +2,25 @@
 use Rattle.std.proofs.Common.{◌≡◌, inl, inr, Bool, true, false, ◌||◌, None, ap, List, [], ◌∷◌, ◌++◌, map, Option, refl, sym, subst}
 use Rattle.cedar_types.specs.declared.base.names.slots.SlotId.{SlotId}
 use Rattle.cedar_types.specs.declared.base.types.ValidationMode.{ValidationMode}
-use Rattle.cedar_types.specs.Bounds.{is_strict}
+use Rattle.cedar_types.specs.Types.Bounds.{is_strict}
 use Rattle.cedar_types.specs.Errors.{Finding, Caution}
-use Rattle.cedar_types.specs.ExtensionFunctions.{table_fault}
+use Rattle.cedar_types.specs.Extensions.Functions.{table_fault}
 use Rattle.cedar_types.specs.Environments.{DeclaredEnv, environments_of}
-use Rattle.cedar_types.specs.Linking.{has_slot, slot_links, in_all_ways, linked_envs, checked_envs}
+use Rattle.cedar_types.specs.Environments.Linking.{has_slot, slot_links, in_all_ways, linked_envs, checked_envs}
 use Rattle.cedar_types.specs.Names.{Path}
-use Rattle.cedar_types.specs.RequestEnvs.{Env, Declared, Undeclared, is_partial, unlinked, unlinked_envs}
+use Rattle.cedar_types.specs.Environments.RequestEnvs.{Env, Declared, Undeclared, is_partial, unlinked, unlinked_envs}
 use Rattle.cedar_types.specs.Schemas.{Schema, has_fault}
 use Rattle.cedar_types.specs.Templates.{PlainTemplate, condition_of}
 use Rattle.cedar_typing.specs.Composition.{in_env}
 use Rattle.cedar_typing.specs.Evaluation.Conformance.{IsOneOf, IsEnvironmentOf}
-use Rattle.cedar_typing.specs.PolicyOutcome.{passes, PolicyOutcome}
+use Rattle.cedar_typing.specs.PolicyCheck.Outcome.{passes, PolicyOutcome}
 use Rattle.cedar_typing.specs.Silence.{IsWellNamedTemplate, ChecksOf, IsDerivedIn, PassingPolicyIsDerived}
-use Rattle.cedar_typing.proofs.EachEnvironment.{each_has_passing}
-use Rattle.cedar_typing.proofs.Members.{all_flat}
+use Rattle.cedar_typing.proofs.Policies.EachEnvironment.{each_has_passing}
+use Rattle.cedar_typing.proofs.Basics.Members.{all_flat}
 use Rattle.cedar_typing.proofs.Silence.Checks.{passing_derived}
 use Rattle.cedar_typing.proofs.Silence.Names.{condition_is_well_named}
 use Rattle.cedar_typing.proofs.Silence.Settled.{Settled}
-use Rattle.cedar_types.specs.FormedSchemas.{has_formed_types}
+use Rattle.cedar_types.specs.Schemas.Formed.{has_formed_types}
 use Rattle.cedar_typing.specs.Setting.{Setting}
 
 -- ---- the environments of a template

@@ -1,13 +1,13 @@
 -- Settings of which silence is proved: not Partial, without faults, in an environment of the schema, whose types are formed in
 -- Permissive.
 use Rattle.std.proofs.Common.{◌≡◌, Bool, true, false, ◌||◌, None, refl, ap}
-use Rattle.cedar_types.specs.Bounds.{is_strict}
+use Rattle.cedar_types.specs.Types.Bounds.{is_strict}
 use Rattle.cedar_types.specs.declared.base.types.ValidationMode.TheVariants.{Permissive}
-use Rattle.cedar_types.specs.ExtensionFunctions.{table_fault}
-use Rattle.cedar_types.specs.RequestEnvs.{is_partial}
+use Rattle.cedar_types.specs.Extensions.Functions.{table_fault}
+use Rattle.cedar_types.specs.Environments.RequestEnvs.{is_partial}
 use Rattle.cedar_types.specs.Schemas.{has_fault}
 use Rattle.cedar_typing.specs.Evaluation.Conformance.{IsEnvironmentOf}
-use Rattle.cedar_types.specs.FormedSchemas.{has_formed_types}
+use Rattle.cedar_types.specs.Schemas.Formed.{has_formed_types}
 use Rattle.cedar_typing.specs.Setting.{Setting}
 use Rattle.cedar_typing.specs.Silence.{IsSettled, IsSettledIn}
 

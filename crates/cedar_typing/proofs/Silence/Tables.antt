@@ -4,16 +4,17 @@ use Rattle.cedar_types.specs.declared.base.expressions.operators.BinaryOp.{Binar
 use Rattle.cedar_types.specs.declared.base.expressions.operators.UnaryOp.{UnaryOp}
 use Rattle.cedar_types.specs.declared.base.expressions.patterns.PatternElem.{PatternElem}
 use Rattle.cedar_types.specs.declared.base.location.Loc.{Loc}
-use Rattle.cedar_types.specs.Ascending.{texts_ascending}
-use Rattle.cedar_types.specs.Bounds.{is_strict, is_never, ty_eq, list_lub}
+use Rattle.cedar_types.specs.Names.Ascending.{texts_ascending}
+use Rattle.cedar_types.specs.Types.Bounds.{is_strict, is_never, ty_eq, list_lub}
 use Rattle.cedar_types.specs.Errors.{Finding}
-use Rattle.cedar_types.specs.ExtensionFunctions.{ExtensionFunction, function_named}
+use Rattle.cedar_types.specs.Extensions.Functions.{ExtensionFunction, function_named}
 use Rattle.cedar_types.specs.Names.{Text, Path}
 use Rattle.cedar_types.specs.Types.{Ty, TNever, TLong}
-use Rattle.cedar_types.specs.View.{Written}
+use Rattle.cedar_types.specs.Expressions.View.{Written}
 use Rattle.cedar_typing.specs.Eager.{Decision, refuses, gives_unless}
 use Rattle.cedar_typing.specs.Rules.Calls.{call_decides, call_errors, return_type, call_form}
-use Rattle.cedar_typing.specs.Rules.Collections.{with_type, all_types, set_by_bound, set_of_types, set_form, record_of_types, record_form}
+use Rattle.cedar_typing.specs.Rules.Records.{record_of_types, record_form}
+use Rattle.cedar_typing.specs.Rules.Sets.{with_type, all_types, set_by_bound, set_of_types, set_form}
 use Rattle.cedar_typing.specs.Rules.Numbers.{is_comparable, beside_never, incomparable, compares, arithmetic_form, comparison_form}
 use Rattle.cedar_typing.specs.Rules.Unary.{unary_form, like_form, is_form}
 use Rattle.cedar_typing.specs.TypeEnv.{TypeEnv}

@@ -3,11 +3,11 @@ use Rattle.std.proofs.Common.{◌≡◌, Bool, true, false, ◌||◌, ◌&&◌, 
 use Rattle.cedar_types.specs.declared.base.types.BoolType.TheVariants.{AnyBool, True, False}
 use Rattle.cedar_types.specs.Names.{Text}
 use Rattle.cedar_types.specs.Types.{Ty, TBool}
-use Rattle.cedar_types.specs.Tree.{has_attr, get_attr}
-use Rattle.cedar_types.specs.View.{Written}
-use Rattle.cedar_types.specs.Lookups.{attribute_type, may_have}
-use Rattle.cedar_types.specs.RequestEnvs.{is_partial}
-use Rattle.cedar_types.specs.Stores.{ConformingStore}
+use Rattle.cedar_types.specs.Expressions.Tree.{has_attr, get_attr}
+use Rattle.cedar_types.specs.Expressions.View.{Written}
+use Rattle.cedar_types.specs.Types.Lookups.{attribute_type, may_have}
+use Rattle.cedar_types.specs.Environments.RequestEnvs.{is_partial}
+use Rattle.cedar_types.specs.Values.Stores.{ConformingStore}
 use Rattle.cedar_types.specs.Errors.{Finding}
 use Rattle.cedar_typing.specs.Capabilities.{Caps, no_caps, single}
 use Rattle.cedar_typing.specs.Eager.{gives, refuses}

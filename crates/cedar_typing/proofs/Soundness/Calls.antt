@@ -2,10 +2,10 @@
 use Rattle.std.proofs.Common.{◌≡◌, Bool, List, [], ◌∷◌, Option, Some, None, refl, sym, subst}
 use Rattle.cedar_types.specs.Names.{Path}
 use Rattle.cedar_types.specs.Types.{Ty}
-use Rattle.cedar_types.specs.Tree.{call, Trees}
-use Rattle.cedar_types.specs.View.{Written}
+use Rattle.cedar_types.specs.Expressions.Tree.{call, Trees}
+use Rattle.cedar_types.specs.Expressions.View.{Written}
 use Rattle.cedar_types.specs.Errors.{Finding}
-use Rattle.cedar_types.specs.ExtensionFunctions.{ExtensionFunction, function_named}
+use Rattle.cedar_types.specs.Extensions.Functions.{ExtensionFunction, function_named}
 use Rattle.cedar_types.specs.Values.{Value, Values, HasType}
 use Rattle.cedar_typing.specs.Eager.{Expectation}
 use Rattle.cedar_typing.specs.Evaluation.Conformance.{KeepsTable}

@@ -1,7 +1,7 @@
 -- Capabilities that hold: of sets put together, and of an expression seen by its form.
 use Rattle.std.proofs.Common.{◌≡◌, refl, sym, ap, subst}
 use Rattle.cedar_types.specs.Lemmas.Comparisons.{and_left, and_right}
-use Rattle.cedar_types.specs.Tree.{Tree, lit, var, slot, unknown, if_then_else, and, or, unary, binary, call, get_attr, has_attr, ext_has_attr, like, is_type, set_of, record_of, Trees, no_trees, tree, Fields, no_fields, field, map_tree, map_trees, map_fields}
+use Rattle.cedar_types.specs.Expressions.Tree.{Tree, lit, var, slot, unknown, if_then_else, and, or, unary, binary, call, get_attr, has_attr, ext_has_attr, like, is_type, set_of, record_of, Trees, no_trees, tree, Fields, no_fields, field, map_tree, map_trees, map_fields}
 use Rattle.cedar_types.specs.Capability.{Cap}
 use Rattle.cedar_types.proofs.Caps.{cap_to}
 use Rattle.cedar_types.specs.Values.{VSet}

@@ -3,15 +3,15 @@ use Rattle.std.proofs.Common.{◌≡◌, Bool, true, false, ◌||◌, List, [], 
 use Rattle.cedar_types.specs.declared.base.location.Loc.{Loc}
 use Rattle.cedar_types.specs.Names.{Text}
 use Rattle.cedar_types.specs.Types.{Ty}
-use Rattle.cedar_types.specs.Tree.{ext_has_attr}
-use Rattle.cedar_types.specs.View.{Written}
+use Rattle.cedar_types.specs.Expressions.Tree.{ext_has_attr}
+use Rattle.cedar_types.specs.Expressions.View.{Written}
 use Rattle.cedar_types.specs.Schemas.{has_fault}
-use Rattle.cedar_types.specs.Lookups.{attribute_type}
-use Rattle.cedar_types.specs.RequestEnvs.{is_partial}
-use Rattle.cedar_types.specs.Stores.{ConformingStore}
+use Rattle.cedar_types.specs.Types.Lookups.{attribute_type}
+use Rattle.cedar_types.specs.Environments.RequestEnvs.{is_partial}
+use Rattle.cedar_types.specs.Values.Stores.{ConformingStore}
 use Rattle.cedar_types.specs.Errors.{Finding}
 use Rattle.cedar_typing.specs.Capabilities.{Caps, no_caps}
-use Rattle.cedar_types.specs.FormedSchemas.{has_formed_types}
+use Rattle.cedar_types.specs.Schemas.Formed.{has_formed_types}
 use Rattle.cedar_typing.specs.Eager.{Decision, gives, refuses}
 use Rattle.cedar_typing.specs.Evaluation.Conformance.{HasAttribute, AllHold}
 use Rattle.cedar_typing.specs.Evaluation.Eval.{get, path_test, eval}

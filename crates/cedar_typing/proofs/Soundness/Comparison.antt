@@ -7,8 +7,8 @@ use Rattle.cedar_types.specs.declared.base.types.BoolType.TheVariants.{AnyBool}
 use Rattle.cedar_types.specs.Names.{Path, path_eq}
 use Rattle.cedar_types.specs.Lemmas.Comparisons.{and_left, and_right, and_both, path_same}
 use Rattle.cedar_types.specs.Types.{Ty, TNever, TBool, TLong, TExtension}
-use Rattle.cedar_types.specs.View.{Written}
-use Rattle.cedar_types.specs.Bounds.{ty_eq, is_never}
+use Rattle.cedar_types.specs.Expressions.View.{Written}
+use Rattle.cedar_types.specs.Types.Bounds.{ty_eq, is_never}
 use Rattle.cedar_types.specs.Errors.{Finding}
 use Rattle.cedar_types.specs.Values.{Value, VBool, VLong, VExtension, IsLong, HasType}
 use Rattle.cedar_types.proofs.Comparisons.SameTypes.{ty_to}

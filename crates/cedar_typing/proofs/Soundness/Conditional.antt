@@ -5,14 +5,14 @@ use Rattle.cedar_types.specs.declared.base.types.ValidationMode.{ValidationMode}
 use Rattle.cedar_types.specs.Names.{Path}
 use Rattle.cedar_types.proofs.Comparisons.SameTypes.{ty_to}
 use Rattle.cedar_types.specs.Types.{Attrs, Ty, TNever, TBool, TLong, TString, TSet, TAnySet, TRecord, TEntity, TAnyEntity, TExtension}
-use Rattle.cedar_types.specs.View.{Written}
-use Rattle.cedar_types.specs.Bounds.{is_strict, is_never, ty_eq, union as union_of_types, closed_lub, wide_lub, lub, apart_lub, bool_lub, set_lub, any_set_lub, entity_lub, any_entity_lub, record_lub, both_attrs, common_attrs}
+use Rattle.cedar_types.specs.Expressions.View.{Written}
+use Rattle.cedar_types.specs.Types.Bounds.{is_strict, is_never, ty_eq, union as union_of_types, closed_lub, wide_lub, lub, apart_lub, bool_lub, set_lub, any_set_lub, entity_lub, any_entity_lub, record_lub, both_attrs, common_attrs}
 use Rattle.cedar_types.specs.Errors.{Finding}
 use Rattle.cedar_typing.specs.Capabilities.{Caps, no_caps, union, intersection}
 use Rattle.cedar_typing.specs.Evaluation.Conformance.{AllHold, SaysTrue}
 use Rattle.cedar_typing.specs.Evaluation.Outcomes.{Test, Says, Stops, test_of, choose}
 use Rattle.cedar_typing.specs.Evaluation.World.{World, Failure, Outcome, Gives, Fails}
-use Rattle.cedar_typing.specs.Joins.{joined}
+use Rattle.cedar_typing.specs.TypeTests.Joins.{joined}
 use Rattle.cedar_typing.specs.Judgments.{Judgment}
 use Rattle.cedar_typing.specs.Rules.Conditional.{if_true_recovered, if_false_recovered, if_open_recovered, if_true, if_false, if_open, if_rules}
 use Rattle.cedar_typing.specs.Soundness.{HasFound, IsSafe, IsTrueOutcome}
@@ -24,7 +24,7 @@ use Rattle.cedar_typing.proofs.KeptTypes.Keeping.{HasKept}
 use Rattle.cedar_typing.proofs.KeptTypes.Rules.{KeepsTypes, part_kept}
 use Rattle.cedar_typing.proofs.KeptTypes.Types.{KeptIn}
 use Rattle.cedar_typing.proofs.Soundness.Capabilities.{hold_either, hold_left, hold_right}
-use Rattle.cedar_typing.proofs.Soundness.Conjunction.{derived_test, true_sort, false_sort}
+use Rattle.cedar_typing.proofs.Soundness.ShortCircuit.Conjunction.{derived_test, true_sort, false_sort}
 use Rattle.cedar_typing.proofs.Soundness.Parts.{IsSureType, Sound, Sounds, IsSure, refused_sound, part_sound}
 use Rattle.cedar_typing.proofs.Soundness.Tests.{Sort, Yes, No, TestHas, SafeTest, SoundTest, sorted, operand_sort, tested_operand}
 

@@ -8,12 +8,12 @@ use Rattle.cedar_types.specs.declared.base.types.BoolType.TheVariants.{AnyBool, 
 use Rattle.cedar_types.specs.Names.{Path, Uid, path_eq, uid_eq}
 use Rattle.cedar_types.specs.Lemmas.Comparisons.{path_same, uid_same}
 use Rattle.cedar_types.specs.Types.{Ty, TNever, TBool, TSet, TAnySet, TEntity}
-use Rattle.cedar_types.specs.Tree.{Lit, bool, long, string, entity, lit, var, binary}
-use Rattle.cedar_types.specs.TreeEq.{lit_eq}
-use Rattle.cedar_types.specs.View.{Written}
+use Rattle.cedar_types.specs.Expressions.Tree.{Lit, bool, long, string, entity, lit, var, binary}
+use Rattle.cedar_types.specs.Expressions.TreeEq.{lit_eq}
+use Rattle.cedar_types.specs.Expressions.View.{Written}
 use Rattle.cedar_types.specs.Schemas.{is_among}
-use Rattle.cedar_types.specs.Bounds.{share_member, are_disjoint}
-use Rattle.cedar_types.specs.RequestEnvs.{Env, Declared, Undeclared}
+use Rattle.cedar_types.specs.Types.Bounds.{share_member, are_disjoint}
+use Rattle.cedar_types.specs.Environments.RequestEnvs.{Env, Declared, Undeclared}
 use Rattle.cedar_types.specs.Errors.{Finding}
 use Rattle.cedar_types.specs.Values.{Value, VBool, VEntity, VSet, HasType}
 use Rattle.cedar_typing.specs.Capabilities.{no_caps}
@@ -23,7 +23,7 @@ use Rattle.cedar_typing.specs.Evaluation.Equality.{same_value}
 use Rattle.cedar_typing.specs.Evaluation.Eval.{literal_value, contains, contains_all, contains_any, binary_outcome, eval}
 use Rattle.cedar_typing.specs.Evaluation.Outcomes.{on_value}
 use Rattle.cedar_typing.specs.Evaluation.World.{World, Outcome, Gives, Fails}
-use Rattle.cedar_typing.specs.Joins.{strict_errors}
+use Rattle.cedar_typing.specs.TypeTests.Joins.{strict_errors}
 use Rattle.cedar_typing.specs.Rules.Equality.{action_literal, literal_of, compared_literals, are_apart, equality_type, equality_form, member_type, contains_form, contains_several_form}
 use Rattle.cedar_typing.specs.Rules.Leaves.{bool_ty}
 use Rattle.cedar_typing.specs.Soundness.{HasFound, IsSafe}

@@ -6,16 +6,16 @@ use Rattle.cedar_types.specs.declared.base.expressions.operators.UnaryOp.{UnaryO
 use Rattle.cedar_types.specs.declared.base.types.BoolType.TheVariants.{True}
 use Rattle.cedar_types.specs.Names.{Path}
 use Rattle.cedar_types.specs.Types.{Ty, TEntity, TBool, TNever, TLong, TString, TSet, TAnySet, TRecord, TAnyEntity, TExtension}
-use Rattle.cedar_types.specs.Tree.{lit, var, slot, unknown, if_then_else, and, or, unary, binary, call, get_attr, has_attr, ext_has_attr, like, is_type, set_of, record_of, Trees, no_trees, tree, Fields, no_fields, field}
-use Rattle.cedar_types.specs.View.{Written}
-use Rattle.cedar_types.specs.Bounds.{is_strict}
+use Rattle.cedar_types.specs.Expressions.Tree.{lit, var, slot, unknown, if_then_else, and, or, unary, binary, call, get_attr, has_attr, ext_has_attr, like, is_type, set_of, record_of, Trees, no_trees, tree, Fields, no_fields, field}
+use Rattle.cedar_types.specs.Expressions.View.{Written}
+use Rattle.cedar_types.specs.Types.Bounds.{is_strict}
 use Rattle.cedar_types.specs.Schemas.{Schema, has_fault}
-use Rattle.cedar_types.specs.RequestEnvs.{is_partial}
+use Rattle.cedar_types.specs.Environments.RequestEnvs.{is_partial}
 use Rattle.cedar_types.specs.Errors.{Finding}
-use Rattle.cedar_types.specs.ExtensionFunctions.{table_fault}
-use Rattle.cedar_types.specs.Stores.{ConformingStore}
+use Rattle.cedar_types.specs.Extensions.Functions.{table_fault}
+use Rattle.cedar_types.specs.Values.Stores.{ConformingStore}
 use Rattle.cedar_typing.specs.Capabilities.{Caps, no_caps}
-use Rattle.cedar_types.specs.FormedSchemas.{has_formed_types}
+use Rattle.cedar_types.specs.Schemas.Formed.{has_formed_types}
 use Rattle.cedar_typing.specs.Eager.{Expectation, later_expectations}
 use Rattle.cedar_typing.specs.Evaluation.Conformance.{Fits, IsEnvironmentOf, SlotsBound, AllSlotsBound, FieldSlotsBound, has_external, KeepsTable, AllHold}
 use Rattle.cedar_typing.specs.Evaluation.Eval.{unary_outcome, eval}
@@ -43,8 +43,8 @@ use Rattle.cedar_typing.proofs.Soundness.Calls.{call_sounds}
 use Rattle.cedar_typing.proofs.Soundness.Chains.{chain_sound}
 use Rattle.cedar_typing.proofs.Soundness.Comparison.{comparison_sound}
 use Rattle.cedar_typing.proofs.Soundness.Conditional.{if_sounds}
-use Rattle.cedar_typing.proofs.Soundness.Conjunction.{and_sounds}
-use Rattle.cedar_typing.proofs.Soundness.Disjunction.{or_sounds}
+use Rattle.cedar_typing.proofs.Soundness.ShortCircuit.Conjunction.{and_sounds}
+use Rattle.cedar_typing.proofs.Soundness.ShortCircuit.Disjunction.{or_sounds}
 use Rattle.cedar_typing.proofs.Soundness.Eager.{SoundForm, SoundKeptForm, SoundsAll, of_any, none_sounds, more_sounds, one_operand_sounds, two_operands_sound}
 use Rattle.cedar_typing.proofs.Soundness.Equality.{literal_outcome, equality_sound, contains_sound, contains_all_sound, contains_any_sound}
 use Rattle.cedar_typing.proofs.Soundness.Kinds.{is_empty_sound, like_sound, is_sound}

@@ -7,8 +7,8 @@ use Rattle.cedar_types.specs.declared.base.expressions.patterns.PatternElem.{Pat
 use Rattle.cedar_types.specs.Names.{Path, path_eq}
 use Rattle.cedar_types.specs.Lemmas.Comparisons.{path_same}
 use Rattle.cedar_types.specs.Types.{Ty, TNever, TBool, TString, TSet, TAnySet, TEntity, TAnyEntity, sole}
-use Rattle.cedar_types.specs.Tree.{unary, like}
-use Rattle.cedar_types.specs.View.{Written}
+use Rattle.cedar_types.specs.Expressions.Tree.{unary, like}
+use Rattle.cedar_types.specs.Expressions.View.{Written}
 use Rattle.cedar_types.specs.Schemas.{is_among}
 use Rattle.cedar_types.specs.Values.{Value, VBool, VString, VEntity, VSet, no_values, more_values, IsString, OnEntity, OnSet, HasType}
 use Rattle.cedar_typing.specs.Evaluation.Eval.{is_empty, is_of, like_outcome}

@@ -7,11 +7,11 @@ use Rattle.cedar_types.specs.declared.base.types.ValidationMode.{ValidationMode}
 use Rattle.cedar_types.specs.Names.{Text, Path, Uid, path_eq}
 use Rattle.cedar_types.specs.Lemmas.Comparisons.{path_same}
 use Rattle.cedar_types.specs.Types.{Ty, TEntity}
-use Rattle.cedar_types.specs.Tree.{Lit, bool, long, string, entity}
-use Rattle.cedar_types.specs.View.{Written}
+use Rattle.cedar_types.specs.Expressions.Tree.{Lit, bool, long, string, entity}
+use Rattle.cedar_types.specs.Expressions.View.{Written}
 use Rattle.cedar_types.specs.Schemas.{Schema, is_among}
-use Rattle.cedar_types.specs.Lookups.{declares_entity, literal_type}
-use Rattle.cedar_types.specs.RequestEnvs.{Env, Declared, Undeclared, principal_ty, resource_ty, action_ty, context_ty}
+use Rattle.cedar_types.specs.Types.Lookups.{declares_entity, literal_type}
+use Rattle.cedar_types.specs.Environments.RequestEnvs.{Env, Declared, Undeclared, principal_ty, resource_ty, action_ty, context_ty}
 use Rattle.cedar_types.specs.Errors.{Finding}
 use Rattle.cedar_types.specs.Values.{Value, VEntity, HasType}
 use Rattle.cedar_typing.specs.Capabilities.{Caps, no_caps}

@@ -6,11 +6,11 @@ use Rattle.cedar_types.specs.declared.base.expressions.operators.BinaryOp.{Binar
 use Rattle.cedar_types.specs.declared.base.types.BoolType.TheVariants.{AnyBool}
 use Rattle.cedar_types.specs.Names.{Uid}
 use Rattle.cedar_types.specs.Types.{Ty, TBool}
-use Rattle.cedar_types.specs.Tree.{Lit, entity, Trees, no_trees, tree, set_of, binary}
-use Rattle.cedar_types.specs.View.{Written}
+use Rattle.cedar_types.specs.Expressions.Tree.{Lit, entity, Trees, no_trees, tree, set_of, binary}
+use Rattle.cedar_types.specs.Expressions.View.{Written}
 use Rattle.cedar_types.specs.Schemas.{has_fault, declares_action}
-use Rattle.cedar_types.specs.RequestEnvs.{Env, is_partial}
-use Rattle.cedar_types.specs.Stores.{Store, ConformingStore}
+use Rattle.cedar_types.specs.Environments.RequestEnvs.{Env, is_partial}
+use Rattle.cedar_types.specs.Values.Stores.{Store, ConformingStore}
 use Rattle.cedar_types.specs.Values.{VBool, VEntity, VSet, Values, no_values, more_values}
 use Rattle.cedar_typing.specs.Capabilities.{no_caps}
 use Rattle.cedar_typing.specs.Eager.{Decision, gives, refuses}

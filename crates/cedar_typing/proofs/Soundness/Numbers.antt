@@ -4,8 +4,8 @@ use Rattle.std.specs.Prelude.{neg_ℤ, int_le, int_lt}
 use Rattle.cedar_types.specs.declared.base.expressions.operators.BinaryOp.{BinaryOp}
 use Rattle.cedar_types.specs.declared.base.expressions.operators.UnaryOp.{UnaryOp}
 use Rattle.cedar_types.specs.Types.{Ty, TNever, TLong}
-use Rattle.cedar_types.specs.Tree.{unary, binary}
-use Rattle.cedar_types.specs.View.{Written}
+use Rattle.cedar_types.specs.Expressions.Tree.{unary, binary}
+use Rattle.cedar_types.specs.Expressions.View.{Written}
 use Rattle.cedar_types.specs.Values.{Value, VLong, IsLong, HasType}
 use Rattle.cedar_typing.specs.Evaluation.Eval.{long_limit, in_range, on_longs, negation}
 use Rattle.cedar_typing.specs.Evaluation.Outcomes.{on_value}

@@ -14,7 +14,7 @@ use Rattle.cedar_typing.specs.TypeEnv.{TypeEnv}
 use Rattle.cedar_typing.specs.TypeTests.{accepts}
 use Rattle.cedar_typing.specs.TypedExpr.{TypedTree, annotation}
 use Rattle.cedar_typing.proofs.Agreement.Parts.{Marks}
-use Rattle.cedar_typing.proofs.Marks.{annotation-without_type}
+use Rattle.cedar_typing.proofs.Views.Marks.{annotation-without_type}
 
 -- True, or of no value
 abbrev pub IsSureType : Ty → Type 0

@@ -2,20 +2,20 @@
 use Rattle.std.proofs.Common.{◌≡◌, true, false, Option, Some, None, refl, ap, subst}
 use Rattle.cedar_types.specs.declared.base.types.BoolType.TheVariants.{False}
 use Rattle.cedar_types.specs.declared.base.types.ValidationMode.TheVariants.{Permissive}
-use Rattle.cedar_types.specs.Bounds.{is_strict}
-use Rattle.cedar_types.specs.RequestEnvs.{is_partial}
+use Rattle.cedar_types.specs.Types.Bounds.{is_strict}
+use Rattle.cedar_types.specs.Environments.RequestEnvs.{is_partial}
 use Rattle.cedar_types.specs.Types.{Ty, TBool}
-use Rattle.cedar_types.specs.ExtensionFunctions.{table_fault}
+use Rattle.cedar_types.specs.Extensions.Functions.{table_fault}
 use Rattle.cedar_types.specs.Schemas.{has_fault}
 use Rattle.cedar_types.specs.Values.{Value, VBool, HasType}
 use Rattle.cedar_typing.specs.Capabilities.{no_caps}
-use Rattle.cedar_types.specs.FormedSchemas.{has_formed_types}
+use Rattle.cedar_types.specs.Schemas.Formed.{has_formed_types}
 use Rattle.cedar_typing.specs.Evaluation.Eval.{eval}
 use Rattle.cedar_typing.specs.Evaluation.World.{World, Outcome, Gives, Fails}
 use Rattle.cedar_typing.specs.PolicyCheck.{Verdict, PolicyChecks, check_true, check_false, check_refused_false, check_refused, check_cut}
 use Rattle.cedar_typing.specs.Rules.{rules}
 use Rattle.cedar_typing.specs.Setting.{Setting}
-use Rattle.cedar_typing.specs.SoundPolicyCheck.{IsBoolean, IsFalse, Promises, IsSoundPolicyCheck, IsSoundPolicyCheckIn}
+use Rattle.cedar_typing.specs.Soundness.PolicyCheck.{IsBoolean, IsFalse, Promises, IsSoundPolicyCheck, IsSoundPolicyCheckIn}
 use Rattle.cedar_typing.specs.Soundness.{OnValue, HasFound}
 use Rattle.cedar_typing.specs.TypeTests.{accepts, bool_types, is_false, annotation_passes}
 use Rattle.cedar_typing.specs.TypedExpr.{Source, annotation, place_of}

@@ -7,11 +7,11 @@ use Rattle.std.specs.Cmp.Lexicographic.{texts_ties}
 use Rattle.std.specs.declared.cmp.Ordering.{Ordering}
 use Rattle.std.specs.declared.cmp.Ordering.TheVariants.{Less, Equal, Greater}
 use Rattle.cedar_types.specs.Names.{Text, text_cmp, text_eq}
-use Rattle.cedar_types.specs.Ascending.{texts_ascending}
+use Rattle.cedar_types.specs.Names.Ascending.{texts_ascending}
 use Rattle.cedar_types.specs.Lemmas.Comparisons.{and_left, and_right, text_same}
 use Rattle.cedar_types.specs.Types.{Ty, TRecord, attr_names}
-use Rattle.cedar_types.specs.Tree.{record_of, Fields, no_fields, field}
-use Rattle.cedar_types.specs.View.{Written}
+use Rattle.cedar_types.specs.Expressions.Tree.{record_of, Fields, no_fields, field}
+use Rattle.cedar_types.specs.Expressions.View.{Written}
 use Rattle.cedar_types.specs.Errors.{internal_invariant_violation}
 use Rattle.cedar_types.specs.Values.{Value, Entries, no_entries, more_entries, entry_at, HasAttr, KeysAmong, HasType, HasAttrs}
 use Rattle.cedar_typing.specs.Capabilities.{no_caps}
@@ -19,7 +19,8 @@ use Rattle.cedar_typing.specs.Eager.{Decision, gives, refuses}
 use Rattle.cedar_typing.specs.Evaluation.Eval.{eval, eval_fields}
 use Rattle.cedar_typing.specs.Evaluation.Outcomes.{EntryOutcomes, GiveEntries, FailEntry, more_entry_outcomes, record_outcome}
 use Rattle.cedar_typing.specs.Evaluation.World.{World, Outcome, Gives, Fails}
-use Rattle.cedar_typing.specs.Rules.Collections.{all_types, field_keys, required_attrs, record_of_types, record_form}
+use Rattle.cedar_typing.specs.Rules.Records.{field_keys, required_attrs, record_of_types, record_form}
+use Rattle.cedar_typing.specs.Rules.Sets.{all_types}
 use Rattle.cedar_typing.specs.Rules.Eager.{Judgments, eager_rules}
 use Rattle.cedar_typing.specs.Soundness.{HasFound, IsAllowed, IsSafe}
 use Rattle.cedar_typing.specs.TypeEnv.{TypeEnv, finding}

@@ -2,9 +2,9 @@
 use Rattle.std.proofs.Common.{◌≡◌, inl, inr, Bool, true, false, List, [], ◌∷◌, Option, Some, None, if◌then◌else◌, refl, sym, ap, subst}
 use Rattle.cedar_types.specs.declared.base.types.ValidationMode.{ValidationMode}
 use Rattle.cedar_types.specs.Types.{Ty, TSet}
-use Rattle.cedar_types.specs.Tree.{set_of, Trees, no_trees, tree}
-use Rattle.cedar_types.specs.View.{Written}
-use Rattle.cedar_types.specs.Bounds.{is_strict, list_lub}
+use Rattle.cedar_types.specs.Expressions.Tree.{set_of, Trees, no_trees, tree}
+use Rattle.cedar_types.specs.Expressions.View.{Written}
+use Rattle.cedar_types.specs.Types.Bounds.{is_strict, list_lub}
 use Rattle.cedar_types.specs.Errors.{empty_set_forbidden}
 use Rattle.cedar_types.specs.Values.{Value, VSet, no_values, AllValues, HasType}
 use Rattle.cedar_typing.specs.Eager.{Decision, refuses}
@@ -12,17 +12,17 @@ use Rattle.cedar_typing.specs.Evaluation.Conformance.{IsOneOf}
 use Rattle.cedar_typing.specs.Evaluation.Eval.{eval, eval_all}
 use Rattle.cedar_typing.specs.Evaluation.Outcomes.{Outcomes, GiveAll, FailAt, more_outcomes, on_values}
 use Rattle.cedar_typing.specs.Evaluation.World.{World, Outcome, Gives, Fails}
-use Rattle.cedar_typing.specs.Rules.Collections.{with_type, all_types, set_by_bound, set_of_types, set_decides, set_form}
+use Rattle.cedar_typing.specs.Rules.Sets.{with_type, all_types, set_by_bound, set_of_types, set_decides, set_form}
 use Rattle.cedar_typing.specs.Rules.Eager.{Judgments, eager_rules}
 use Rattle.cedar_typing.specs.Soundness.{HasFound, IsAllowed, IsSafe}
 use Rattle.cedar_typing.specs.TypeEnv.{TypeEnv, finding}
 use Rattle.cedar_typing.proofs.Basics.{some_is}
 use Rattle.cedar_typing.proofs.Bounds.Lists.{bound_has}
-use Rattle.cedar_typing.proofs.KeptTypes.Collections.{found_kept}
+use Rattle.cedar_typing.proofs.KeptTypes.Sets.{found_kept}
 use Rattle.cedar_typing.proofs.KeptTypes.Eager.{decided_type}
 use Rattle.cedar_typing.proofs.KeptTypes.Keeping.{AreKept, AllKept}
 use Rattle.cedar_typing.proofs.KeptTypes.Types.{KeptIn}
-use Rattle.cedar_typing.proofs.Members.{AreAll}
+use Rattle.cedar_typing.proofs.Basics.Members.{AreAll}
 use Rattle.cedar_typing.proofs.Soundness.Capabilities.{hold_none}
 use Rattle.cedar_typing.proofs.Soundness.Eager.{AllHave, AllSafe, GiftIsSound, SoundKeptForm, SoundsAll, form_sounds}
 use Rattle.cedar_typing.proofs.Soundness.Parts.{Sounds}

@@ -4,16 +4,16 @@ use Rattle.cedar_types.specs.declared.base.expressions.operators.BinaryOp.{Binar
 use Rattle.cedar_types.specs.declared.base.types.BoolType.TheVariants.{AnyBool, True, False}
 use Rattle.cedar_types.specs.Names.{Text}
 use Rattle.cedar_types.specs.Types.{Ty, TNever, TBool}
-use Rattle.cedar_types.specs.Tree.{binary}
-use Rattle.cedar_types.specs.View.{Written}
-use Rattle.cedar_types.specs.Bounds.{is_strict, list_lub}
-use Rattle.cedar_types.specs.Lookups.{tag_types}
+use Rattle.cedar_types.specs.Expressions.Tree.{binary}
+use Rattle.cedar_types.specs.Expressions.View.{Written}
+use Rattle.cedar_types.specs.Types.Bounds.{is_strict, list_lub}
+use Rattle.cedar_types.specs.Types.Lookups.{tag_types}
 use Rattle.cedar_types.specs.Schemas.{has_fault}
 use Rattle.cedar_types.specs.Errors.{Finding}
 use Rattle.cedar_types.specs.Values.{Value, VString, VEntity, IsString, OnEntity, HasType, entry_at}
-use Rattle.cedar_types.specs.Stores.{Entity, Store, entity_at, ConformingStore}
+use Rattle.cedar_types.specs.Values.Stores.{Entity, Store, entity_at, ConformingStore}
 use Rattle.cedar_typing.specs.Capabilities.{Caps, single}
-use Rattle.cedar_types.specs.FormedSchemas.{has_formed_types}
+use Rattle.cedar_types.specs.Schemas.Formed.{has_formed_types}
 use Rattle.cedar_typing.specs.Eager.{Decision, refuses, Form}
 use Rattle.cedar_typing.specs.Evaluation.Conformance.{has_external, HasTagOf, HasTag, AllHold}
 use Rattle.cedar_typing.specs.Evaluation.Eval.{entity_has_tag, has_tag, tag_value, entity_tag, get_tag, eval}
@@ -25,7 +25,7 @@ use Rattle.cedar_typing.specs.TypeEnv.{TypeEnv}
 use Rattle.cedar_typing.specs.TypeTests.{accepts, entity_types, string_types}
 use Rattle.cedar_typing.specs.TypedExpr.{Source, form_of}
 use Rattle.cedar_typing.proofs.Bounds.Lists.{bound_has}
-use Rattle.cedar_typing.proofs.Members.{AreAll}
+use Rattle.cedar_typing.proofs.Basics.Members.{AreAll}
 use Rattle.cedar_typing.proofs.KeptTypes.Declarations.{tags_kept}
 use Rattle.cedar_typing.proofs.KeptTypes.Eager.{decided_type}
 use Rattle.cedar_typing.proofs.KeptTypes.Types.{keeping, KeptIn, formed_if}

@@ -14,7 +14,7 @@ use Rattle.cedar_typing.specs.Soundness.{HasFound, IsAllowed, IsSafe, IsTrueOutc
 use Rattle.cedar_typing.specs.TypeEnv.{TypeEnv}
 use Rattle.cedar_typing.specs.TypeTests.{accepts, bool_types}
 use Rattle.cedar_typing.specs.TypedExpr.{TypedTree, annotation}
-use Rattle.cedar_typing.proofs.Marks.{annotation-without_type}
+use Rattle.cedar_typing.proofs.Views.Marks.{annotation-without_type}
 use Rattle.cedar_typing.proofs.Soundness.Parts.{Sound, Sounds, IsSure, IsAccepted, operand_sound, operand_accepted}
 
 -- the types that are accepted where a Boolean is required

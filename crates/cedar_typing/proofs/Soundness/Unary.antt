@@ -2,7 +2,7 @@
 use Rattle.std.proofs.Common.{◌≡◌, true, List, [], ◌∷◌, Option, Some, None, sym, subst, arith}
 use Rattle.cedar_types.specs.declared.base.types.BoolType.TheVariants.{AnyBool}
 use Rattle.cedar_types.specs.Types.{Ty, TBool}
-use Rattle.cedar_types.specs.View.{Written}
+use Rattle.cedar_types.specs.Expressions.View.{Written}
 use Rattle.cedar_typing.specs.Evaluation.Outcomes.{Test, test_of, of_test, not_test}
 use Rattle.cedar_typing.specs.Evaluation.World.{World, Outcome}
 use Rattle.cedar_typing.specs.Rules.Unary.{not_type, not_form}
@@ -10,7 +10,7 @@ use Rattle.cedar_typing.specs.Soundness.{HasFound, IsSafe}
 use Rattle.cedar_typing.specs.TypeTests.{accepts, bool_types}
 use Rattle.cedar_typing.proofs.KeptTypes.Eager.{decided_type}
 use Rattle.cedar_typing.proofs.Soundness.Capabilities.{hold_none}
-use Rattle.cedar_typing.proofs.Soundness.Conjunction.{of_test_safe}
+use Rattle.cedar_typing.proofs.Soundness.ShortCircuit.Conjunction.{of_test_safe}
 use Rattle.cedar_typing.proofs.Soundness.Eager.{AreTypes, GiftIsSound, AllFound, SoundForm}
 use Rattle.cedar_typing.proofs.Soundness.Tests.{Sort, sort_ty, TestHas, SafeTest, accepted_sort, test_typed, test_safe}
 

@@ -5,7 +5,7 @@ use Rattle.cedar_types.specs.declared.base.types.BoolType.TheVariants.{AnyBool, 
 use Rattle.cedar_types.specs.Names.{Path, Uid}
 use Rattle.cedar_types.specs.Types.{Ty, TNever, TBool, TSet, TEntity, TAnyEntity}
 use Rattle.cedar_types.specs.Schemas.{Schema, has_fault, is_among}
-use Rattle.cedar_types.specs.Stores.{Store, ConformingStore}
+use Rattle.cedar_types.specs.Values.Stores.{Store, ConformingStore}
 use Rattle.cedar_types.specs.Values.{Value, VBool, VEntity, VSet, Values, no_values, more_values, OnEntity, AllValues, HasType}
 use Rattle.cedar_typing.specs.Evaluation.Equality.{all_values, any_value}
 use Rattle.cedar_typing.specs.Evaluation.Eval.{is_in, is_in_entity, is_some_entity, entity_in, value_in}

@@ -5,11 +5,11 @@ use Rattle.std.specs.List.{list_any}
 use Rattle.cedar_types.specs.Names.{Text, Path, Uid, path_eq}
 use Rattle.cedar_types.specs.Lemmas.Comparisons.{path_same}
 use Rattle.cedar_types.specs.Types.{Ty, TNever, TBool, TLong, TString, TSet, TAnySet, TRecord, TEntity, TAnyEntity, TExtension, Attrs, attr_names}
-use Rattle.cedar_types.specs.Bounds.{find_attr}
+use Rattle.cedar_types.specs.Types.Bounds.{find_attr}
 use Rattle.cedar_types.specs.Schemas.{TypeKind, StandardKind, EnumKind, ExternalKind, DeclaredType, Schema, is_among, is_external, knows_type, type_named}
-use Rattle.cedar_types.specs.Lookups.{kind_attribute, declared_kind_attribute, types_attribute, attribute_type, may_declare, may_have}
+use Rattle.cedar_types.specs.Types.Lookups.{kind_attribute, declared_kind_attribute, types_attribute, attribute_type, may_declare, may_have}
 use Rattle.cedar_types.specs.Values.{Value, VBool, VLong, VString, VEntity, VSet, VRecord, VExtension, Entries, no_entries, entry_at, HasType}
-use Rattle.cedar_types.specs.Stores.{Entity, Store, entity_at, FitsKind, FitsDeclaration, ConformingStore}
+use Rattle.cedar_types.specs.Values.Stores.{Entity, Store, entity_at, FitsKind, FitsDeclaration, ConformingStore}
 use Rattle.cedar_typing.specs.Evaluation.Conformance.{SaysTrue}
 use Rattle.cedar_typing.specs.Evaluation.Eval.{entity_has, has_test, attribute_value, entity_get, get}
 use Rattle.cedar_typing.specs.Evaluation.Outcomes.{Says}

@@ -5,7 +5,7 @@ use Rattle.std.proofs.Math.Bool.{or-false}
 use Rattle.cedar_types.specs.Names.{Path, Uid, is_action_path, path_eq, uid_eq}
 use Rattle.cedar_types.specs.Lemmas.Comparisons.{and_left, and_right, path_same, uid_same}
 use Rattle.cedar_types.specs.Schemas.{DeclaredType, DeclaredAction, Schema, uid_is_among, is_among, type_named, action_named, declares_action, action_descendants, descendants_of, descendants_of_action, declares_action_type, repeats_action, action_is_below, is_open_type, may_be_in, any_may_be_in, has_fault}
-use Rattle.cedar_types.specs.Stores.{Entity, Store, entity_at, declares_ancestor, FitsDeclaration, ConformingStore}
+use Rattle.cedar_types.specs.Values.Stores.{Entity, Store, entity_at, declares_ancestor, FitsDeclaration, ConformingStore}
 use Rattle.cedar_types.proofs.Schema.Faultless.{faultless}
 use Rattle.cedar_types.proofs.Schema.Memberships.{memberships_allowed}
 use Rattle.cedar_types.proofs.Tests.{found, each}

@@ -5,16 +5,16 @@ use Rattle.cedar_types.specs.declared.base.types.BoolType.TheVariants.{False}
 use Rattle.cedar_types.specs.Names.{Text, Path, Uid, path_eq}
 use Rattle.cedar_types.specs.Types.{Ty, TBool, TEntity, TAnyEntity}
 use Rattle.cedar_types.specs.Schemas.{TypeKind, StandardKind, EnumKind, ExternalKind, DeclaredType, Schema, type_named, is_external_kind, is_external}
-use Rattle.cedar_types.specs.Lookups.{kind_tags, declared_tags, tags_of_types, tags_of_any, tag_types}
+use Rattle.cedar_types.specs.Types.Lookups.{kind_tags, declared_tags, tags_of_types, tags_of_any, tag_types}
 use Rattle.cedar_types.specs.Values.{Value, VString, VEntity, Entries, no_entries, entry_at, HasType}
-use Rattle.cedar_types.specs.Stores.{Entity, Store, entity_at, FitsKind, FitsDeclaration, ConformingStore}
+use Rattle.cedar_types.specs.Values.Stores.{Entity, Store, entity_at, FitsKind, FitsDeclaration, ConformingStore}
 use Rattle.cedar_typing.specs.Evaluation.Conformance.{IsOneOf, has_external}
 use Rattle.cedar_typing.specs.Evaluation.Eval.{entity_has_tag, has_tag, tag_value, entity_tag, get_tag}
 use Rattle.cedar_typing.specs.Evaluation.Outcomes.{of_test}
 use Rattle.cedar_typing.specs.Soundness.{OnValue}
 use Rattle.cedar_typing.proofs.Basics.{neither_left}
 use Rattle.cedar_typing.proofs.Bounds.Lists.{in_order_has}
-use Rattle.cedar_typing.proofs.Members.{in_flat, found_in, none_passes, name_in}
+use Rattle.cedar_typing.proofs.Basics.Members.{in_flat, found_in, none_passes, name_in}
 use Rattle.cedar_typing.proofs.Values.Equality.{OnSome, entry_has}
 
 -- it has one of the types

@@ -3,15 +3,15 @@ use Rattle.std.specs.Prelude.{◌≡◌, Bool, not, ◌||◌, List, [], ◌∷�
 use Rattle.std.specs.List.{list_any}
 use Rattle.cedar_types.specs.declared.base.names.slots.SlotId.{SlotId}
 use Rattle.cedar_types.specs.Names.{Text, Path, Uid, path_eq}
-use Rattle.cedar_types.specs.Tree.{Tree, lit, var, slot, unknown, if_then_else, and, or, unary, binary, call, get_attr, has_attr, ext_has_attr, like, is_type, set_of, record_of, Trees, no_trees, tree, Fields, no_fields, field}
+use Rattle.cedar_types.specs.Expressions.Tree.{Tree, lit, var, slot, unknown, if_then_else, and, or, unary, binary, call, get_attr, has_attr, ext_has_attr, like, is_type, set_of, record_of, Trees, no_trees, tree, Fields, no_fields, field}
 use Rattle.cedar_types.specs.Capability.{Cap, attribute, tag}
 use Rattle.cedar_types.specs.Schemas.{DeclaredType, DeclaredAction, Schema, is_external_kind}
 use Rattle.cedar_types.specs.Environments.{DeclaredEnv, environments_of}
-use Rattle.cedar_types.specs.RequestEnvs.{Env, Declared, Undeclared}
-use Rattle.cedar_types.specs.ExtensionFunctions.{ExtensionFunction, function_named}
+use Rattle.cedar_types.specs.Environments.RequestEnvs.{Env, Declared, Undeclared}
+use Rattle.cedar_types.specs.Extensions.Functions.{ExtensionFunction, function_named}
 use Rattle.cedar_types.specs.Extensions.{ExtensionTable}
 use Rattle.cedar_types.specs.Values.{Value, VString, VRecord, Values, HasType}
-use Rattle.cedar_types.specs.Stores.{Store}
+use Rattle.cedar_types.specs.Values.Stores.{Store}
 use Rattle.cedar_typing.specs.Capabilities.{Caps}
 use Rattle.cedar_typing.specs.Evaluation.Eval.{has_test, has_tag, eval}
 use Rattle.cedar_typing.specs.Evaluation.Outcomes.{Test, Says, Stops}

@@ -5,7 +5,7 @@ use Rattle.std.specs.List.{list_any}
 use Rattle.cedar_types.specs.declared.base.names.slots.SlotId.{SlotId}
 use Rattle.cedar_types.specs.Names.{Path, Uid, path_eq}
 use Rattle.cedar_types.specs.Values.{Value, Values, Entries}
-use Rattle.cedar_types.specs.Stores.{Store}
+use Rattle.cedar_types.specs.Values.Stores.{Store}
 use Rattle.cedar_typing.specs.Evaluation.Equality.{same_value, same_values}
 
 -- who asks to do what with what, and the context

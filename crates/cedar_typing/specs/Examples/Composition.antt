@@ -4,13 +4,13 @@ use Rattle.std.specs.Prelude.{◌≡◌, false, [], ◌∷◌, Option, Some, Non
 use Rattle.cedar_types.specs.declared.base.names.slots.SlotId.{SlotId}
 use Rattle.cedar_types.specs.declared.base.types.ValidationMode.TheVariants.{Strict, Partial}
 use Rattle.cedar_types.specs.Names.{Path, Uid, PlacedType, PlacedUid}
-use Rattle.cedar_types.specs.Tree.{Shape, slot, is_type, or}
+use Rattle.cedar_types.specs.Expressions.Tree.{Shape, slot, is_type, or}
 use Rattle.cedar_types.specs.Templates.{to_entity, to_slot, Scope, any, equal, within, typed, typed_within, any_action, PlainTemplate, condition_of}
 use Rattle.cedar_types.specs.Schemas.{Schema, has_fault}
-use Rattle.cedar_types.specs.Stores.{ConformingStore}
+use Rattle.cedar_types.specs.Values.Stores.{ConformingStore}
 use Rattle.cedar_types.specs.Environments.{DeclaredEnv, environments_of}
-use Rattle.cedar_types.specs.RequestEnvs.{Env, Declared, Undeclared}
-use Rattle.cedar_types.specs.Linking.{checked_envs}
+use Rattle.cedar_types.specs.Environments.RequestEnvs.{Env, Declared, Undeclared}
+use Rattle.cedar_types.specs.Environments.Linking.{checked_envs}
 use Rattle.cedar_typing.specs.Composition.{own_env, IsFaultless, IsIrrelevantInAll}
 use Rattle.cedar_typing.specs.Evaluation.Conformance.{IsOneOf, ConformingRequest, KeepsTable}
 use Rattle.cedar_typing.specs.Evaluation.Eval.{eval}

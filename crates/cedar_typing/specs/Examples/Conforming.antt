@@ -8,12 +8,12 @@ use Rattle.cedar_types.specs.declared.base.expressions.operators.Var.{Var}
 use Rattle.cedar_types.specs.declared.base.names.slots.SlotId.{SlotId}
 use Rattle.cedar_types.specs.declared.base.types.ValidationMode.{ValidationMode}
 use Rattle.cedar_types.specs.declared.base.types.ValidationMode.TheVariants.{Strict, Permissive}
-use Rattle.cedar_types.specs.FormedSchemas.{has_formed_types}
+use Rattle.cedar_types.specs.Schemas.Formed.{has_formed_types}
 use Rattle.cedar_types.specs.Names.{Path, Uid, is_action_path}
 use Rattle.cedar_types.specs.Schemas.{StandardKind, EnumKind, DeclaredType, DeclaredAction, Schema, knows_type, type_named, has_fault}
-use Rattle.cedar_types.specs.Stores.{Entity, Store, entity_at, IsStoredAncestor}
+use Rattle.cedar_types.specs.Values.Stores.{Entity, Store, entity_at, IsStoredAncestor}
 use Rattle.cedar_types.specs.Templates.{to_slot, any, within, PlainTemplate, condition_of}
-use Rattle.cedar_types.specs.Tree.{Shape, var, and, unary}
+use Rattle.cedar_types.specs.Expressions.Tree.{Shape, var, and, unary}
 use Rattle.cedar_types.specs.Types.{TEntity, TRecord, Attrs, no_attrs, attr}
 use Rattle.cedar_types.specs.Values.{VBool, VEntity, no_entries, more_entries}
 use Rattle.cedar_typing.specs.Evaluation.Eval.{eval}
@@ -23,7 +23,7 @@ use Rattle.cedar_typing.specs.Examples.Expressions.{the, principal, dot, equal, 
 use Rattle.cedar_typing.specs.Examples.Greeting.{stored_action, sample_functions}
 use Rattle.cedar_typing.specs.Examples.PolicySoundness.{sample_basis, Passes, policy_when}
 use Rattle.cedar_typing.specs.Examples.World.{named, an_action_named}
-use Rattle.cedar_typing.specs.PolicySoundness.{Basis, IsClosedIn, IsNamedBySchema, IsWellFormed, IsConforming}
+use Rattle.cedar_typing.specs.Soundness.Policies.{Basis, IsClosedIn, IsNamedBySchema, IsWellFormed, IsConforming}
 
 -- ---- names
 

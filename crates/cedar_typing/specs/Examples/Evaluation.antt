@@ -6,7 +6,7 @@ pub mod Entities
 pub mod Ancestors
 pub mod Calls
 use Rattle.std.specs.Prelude.{◌≡◌, true, false}
-use Rattle.cedar_types.specs.Tree.{Shape}
+use Rattle.cedar_types.specs.Expressions.Tree.{Shape}
 use Rattle.cedar_types.specs.Values.{Value, VBool}
 use Rattle.cedar_typing.specs.Evaluation.Eval.{eval}
 use Rattle.cedar_typing.specs.Evaluation.World.{Failure, Gives, Fails}

@@ -6,13 +6,13 @@ use Rattle.cedar_types.specs.declared.base.expressions.operators.Var.{Var}
 use Rattle.cedar_types.specs.declared.base.names.slots.SlotId.{SlotId}
 use Rattle.cedar_types.specs.declared.base.types.ValidationMode.{ValidationMode}
 use Rattle.cedar_types.specs.declared.base.types.ValidationMode.TheVariants.{Strict, Permissive, Partial}
-use Rattle.cedar_types.specs.Findings.{unknown_types, unknown_actions}
-use Rattle.cedar_types.specs.FormedSchemas.{has_formed_types}
+use Rattle.cedar_types.specs.Templates.Findings.{unknown_types, unknown_actions}
+use Rattle.cedar_types.specs.Schemas.Formed.{has_formed_types}
 use Rattle.cedar_types.specs.Names.{Path, Uid}
 use Rattle.cedar_types.specs.Schemas.{ExternalKind, DeclaredType, has_fault}
-use Rattle.cedar_types.specs.Stores.{ConformingStore}
+use Rattle.cedar_types.specs.Values.Stores.{ConformingStore}
 use Rattle.cedar_types.specs.Templates.{to_entity, to_slot, any, equal, PlainTemplate, condition_of}
-use Rattle.cedar_types.specs.Tree.{Shape, var, unknown, if_then_else, and, is_type}
+use Rattle.cedar_types.specs.Expressions.Tree.{Shape, var, unknown, if_then_else, and, is_type}
 use Rattle.cedar_types.specs.Values.{no_entries, more_entries}
 use Rattle.cedar_typing.specs.Composition.{SlotsInScopeAlone}
 use Rattle.cedar_typing.specs.Evaluation.Conformance.{ConformingRequest, SlotsBound, KeepsTable}
@@ -23,9 +23,9 @@ use Rattle.cedar_typing.specs.Examples.Expressions.{true_lit, false_lit, one, tw
 use Rattle.cedar_typing.specs.Examples.Greeting.{number, words, one_value, sample_functions, stored_alice, stored_action, sample_store, greeting}
 use Rattle.cedar_typing.specs.Examples.PolicySoundness.{sample_basis, Passes, PassesWarned, policy_when, meeting}
 use Rattle.cedar_typing.specs.Examples.World.{named, robot, group, decimal, alice, bob, greet, wave, declared_user, declared_greet, sample_schema}
-use Rattle.cedar_typing.specs.PolicySoundness.{Basis, IsClosedIn, IsNamedBySchema, IsWellFormed, IsConforming}
+use Rattle.cedar_typing.specs.Soundness.Policies.{Basis, IsClosedIn, IsNamedBySchema, IsWellFormed, IsConforming}
 use Rattle.cedar_typing.specs.Silence.{HasNoUnknowns}
-use Rattle.cedar_typing.specs.SoundPolicyCheck.{IsBooleanOrAllowed}
+use Rattle.cedar_typing.specs.Soundness.PolicyCheck.{IsBooleanOrAllowed}
 use Rattle.cedar_typing.specs.Soundness.{IsTrueOutcome}
 
 -- what is asked of the checker and of the world, in a mode

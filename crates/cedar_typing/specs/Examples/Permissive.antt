@@ -6,14 +6,14 @@ use Rattle.cedar_types.specs.declared.base.expressions.operators.Var.{Var}
 use Rattle.cedar_types.specs.declared.base.types.BoolType.TheVariants.{AnyBool}
 use Rattle.cedar_types.specs.declared.base.types.ValidationMode.{ValidationMode}
 use Rattle.cedar_types.specs.declared.base.types.ValidationMode.TheVariants.{Strict, Permissive}
-use Rattle.cedar_types.specs.Bounds.{find_attr, wide_lub, with_bound, lub}
-use Rattle.cedar_types.specs.FormedSchemas.{has_formed_types}
+use Rattle.cedar_types.specs.Types.Bounds.{find_attr, wide_lub, with_bound, lub}
+use Rattle.cedar_types.specs.Schemas.Formed.{has_formed_types}
 use Rattle.cedar_types.specs.Names.{Text, Path, Uid}
-use Rattle.cedar_types.specs.RequestEnvs.{Env, Declared}
+use Rattle.cedar_types.specs.Environments.RequestEnvs.{Env, Declared}
 use Rattle.cedar_types.specs.Schemas.{StandardKind, DeclaredType, DeclaredAction, Schema, has_fault}
-use Rattle.cedar_types.specs.Stores.{Entity, Store}
+use Rattle.cedar_types.specs.Values.Stores.{Entity, Store}
 use Rattle.cedar_types.specs.Templates.{PlainTemplate, condition_of}
-use Rattle.cedar_types.specs.Tree.{Shape, var, and, if_then_else}
+use Rattle.cedar_types.specs.Expressions.Tree.{Shape, var, and, if_then_else}
 use Rattle.cedar_types.specs.Types.{Ty, TBool, TLong, TString, TRecord, TEntity, Attrs, no_attrs, attr}
 use Rattle.cedar_types.specs.Values.{VBool, VEntity, VRecord, no_entries, more_entries, HasType}
 use Rattle.cedar_typing.specs.Evaluation.Conformance.{SlotsBound}
@@ -25,8 +25,8 @@ use Rattle.cedar_typing.specs.Examples.NeededPremises.{BreaksPromise}
 use Rattle.cedar_typing.specs.Examples.PolicySoundness.{sample_basis, Passes, PassesWarned, policy_when, meeting}
 use Rattle.cedar_typing.specs.Examples.World.{named, user, alice, bob, greet, an_action_named, declared_user}
 use Rattle.cedar_typing.specs.PolicyCheck.{Verdict, policy_check}
-use Rattle.cedar_typing.specs.PolicyOutcome.{all_pass}
-use Rattle.cedar_typing.specs.PolicySoundness.{Basis, IsClosedIn, IsNamedBySchema, IsWellFormed, IsConforming, setting_on}
+use Rattle.cedar_typing.specs.PolicyCheck.Outcome.{all_pass}
+use Rattle.cedar_typing.specs.Soundness.Policies.{Basis, IsClosedIn, IsNamedBySchema, IsWellFormed, IsConforming, setting_on}
 use Rattle.cedar_typing.specs.Soundness.{IsReliableIn, IsWorldOf}
 
 -- ---- users join teams

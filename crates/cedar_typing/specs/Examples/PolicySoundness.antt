@@ -3,7 +3,7 @@ use Rattle.std.specs.Prelude.{◌≡◌, true, [], ◌∷◌, Some}
 use Rattle.cedar_types.specs.declared.base.types.ValidationMode.{ValidationMode}
 use Rattle.cedar_types.specs.declared.base.types.ValidationMode.TheVariants.{Strict}
 use Rattle.cedar_types.specs.Templates.{to_slot, any, within, within_actions, PlainTemplate, condition_of}
-use Rattle.cedar_types.specs.Tree.{Shape}
+use Rattle.cedar_types.specs.Expressions.Tree.{Shape}
 use Rattle.cedar_types.specs.Values.{VBool}
 use Rattle.cedar_typing.specs.Evaluation.Eval.{eval}
 use Rattle.cedar_typing.specs.Evaluation.World.{Slots, World, Gives}
@@ -11,8 +11,8 @@ use Rattle.cedar_typing.specs.Examples.Composition.{template, the_entity}
 use Rattle.cedar_typing.specs.Examples.Greeting.{greeting}
 use Rattle.cedar_typing.specs.Examples.Premises.{in_order}
 use Rattle.cedar_typing.specs.Examples.World.{bob, meet, sample_schema, sample}
-use Rattle.cedar_typing.specs.PolicyOutcome.{impossible}
-use Rattle.cedar_typing.specs.PolicySoundness.{Basis, IsStrictAndClosed, IsNamedBySchema, IsWellFormed, IsConforming, CheckedOn}
+use Rattle.cedar_typing.specs.PolicyCheck.Outcome.{impossible}
+use Rattle.cedar_typing.specs.Soundness.Policies.{Basis, IsStrictAndClosed, IsNamedBySchema, IsWellFormed, IsConforming, CheckedOn}
 use Rattle.cedar_typing.specs.Setting.{table}
 
 -- the sample schema and the sample functions, in a mode

@@ -6,10 +6,10 @@ use Rattle.cedar_types.specs.declared.base.expressions.operators.Var.{Var}
 use Rattle.cedar_types.specs.declared.base.names.slots.SlotId.{SlotId}
 use Rattle.cedar_types.specs.declared.base.types.ValidationMode.TheVariants.{Strict}
 use Rattle.cedar_types.specs.Names.{Path}
-use Rattle.cedar_types.specs.Tree.{Shape, if_then_else, and, or, unary, slot, var}
+use Rattle.cedar_types.specs.Expressions.Tree.{Shape, if_then_else, and, or, unary, slot, var}
 use Rattle.cedar_types.specs.Templates.{PlainTemplate, any, any_action, condition_of}
 use Rattle.cedar_types.specs.Capability.{attribute}
-use Rattle.cedar_types.specs.ExtensionFunctions.{table_fault}
+use Rattle.cedar_types.specs.Extensions.Functions.{table_fault}
 use Rattle.cedar_types.specs.Schemas.{has_fault}
 use Rattle.cedar_types.specs.Values.{VBool}
 use Rattle.cedar_typing.specs.Evaluation.Conformance.{ConformingRequest, FitsSlot, SlotsBound, KeepsTable, Holds, AllHold}

@@ -12,9 +12,9 @@ use Rattle.cedar_typing.specs.Examples.Expressions.{true_lit, mistyped, numbered
 use Rattle.cedar_typing.specs.Examples.PolicySoundness.{sample_basis, policy_when}
 use Rattle.cedar_typing.specs.Examples.World.{decimal, alice, sample}
 use Rattle.cedar_typing.specs.PolicyCheck.{succeeds, irrelevant, fails}
-use Rattle.cedar_typing.specs.PolicyOutcome.{impossible}
-use Rattle.cedar_typing.specs.PolicySoundness.{PolicyIsSafeIn, ImpossibleIsNeverTrueIn}
-use Rattle.cedar_typing.specs.SoundPolicyCheck.{IsBooleanOrAllowed, Promises, IsSoundPolicyCheckIn}
+use Rattle.cedar_typing.specs.PolicyCheck.Outcome.{impossible}
+use Rattle.cedar_typing.specs.Soundness.Policies.{PolicyIsSafeIn, ImpossibleIsNeverTrueIn}
+use Rattle.cedar_typing.specs.Soundness.PolicyCheck.{IsBooleanOrAllowed, Promises, IsSoundPolicyCheckIn}
 use Rattle.cedar_typing.specs.Soundness.{HasFound, IsTrueOutcome}
 use Rattle.cedar_typing.specs.TypedExpr.{Source, TypedTree}
 

@@ -11,17 +11,18 @@ pub mod Equality
 pub mod Membership
 pub mod Tags
 pub mod Chains
-pub mod Collections
 pub mod Calls
 pub mod Nesting
 pub mod Check
+pub mod Sets
+pub mod Records
 use Rattle.std.specs.Prelude.{◌≡◌, ℕ, pos, true, false, List, [], ◌∷◌, Option, codes}
 use Rattle.cedar_types.specs.declared.base.expressions.operators.Var.{Var}
 use Rattle.cedar_types.specs.declared.base.types.BoolType.TheVariants.{AnyBool, True, False}
 use Rattle.cedar_types.specs.declared.base.types.ValidationMode.TheVariants.{Strict}
 use Rattle.cedar_types.specs.Names.{Text}
 use Rattle.cedar_types.specs.Types.{Ty, TBool, TLong, TRecord, TAnyEntity, no_attrs}
-use Rattle.cedar_types.specs.Tree.{bool, long, Shape, lit, var, if_then_else, get_attr, has_attr}
+use Rattle.cedar_types.specs.Expressions.Tree.{bool, long, Shape, lit, var, if_then_else, get_attr, has_attr}
 use Rattle.cedar_types.specs.Capability.{attribute}
 use Rattle.cedar_types.specs.Errors.{Finding, Fault, unexpected_type, unsafe_attribute_access, unsafe_optional_attribute_access}
 use Rattle.cedar_typing.specs.Capabilities.{Caps, no_caps, single}

@@ -5,10 +5,10 @@ use Rattle.cedar_types.specs.declared.base.types.ValidationMode.{ValidationMode}
 use Rattle.cedar_types.specs.declared.base.types.ValidationMode.TheVariants.{Strict, Partial}
 use Rattle.cedar_types.specs.Names.{Text, Path, Uid}
 use Rattle.cedar_types.specs.Types.{Ty, TBool, TLong, TString, TRecord, TEntity, TExtension, Attrs, no_attrs, attr}
-use Rattle.cedar_types.specs.Tree.{string, lit}
-use Rattle.cedar_types.specs.ExtensionFunctions.{ExtensionFunction}
+use Rattle.cedar_types.specs.Expressions.Tree.{string, lit}
+use Rattle.cedar_types.specs.Extensions.Functions.{ExtensionFunction}
 use Rattle.cedar_types.specs.Schemas.{StandardKind, DeclaredType, DeclaredAction, Schema}
-use Rattle.cedar_types.specs.RequestEnvs.{Declared, Undeclared}
+use Rattle.cedar_types.specs.Environments.RequestEnvs.{Declared, Undeclared}
 use Rattle.cedar_typing.specs.Setting.{Setting}
 use Rattle.cedar_typing.specs.TypeEnv.{TypeEnv}
 use Rattle.cedar_typing.specs.TypedExpr.{Source}

@@ -1,12 +1,12 @@
 -- Inference for `if`.
 use Rattle.std.specs.Prelude.{◌&&◌, List, ◌++◌, Option, Some, is_some, if◌then◌else◌}
 use Rattle.cedar_types.specs.declared.base.errors.type_errors.LubContext.TheVariants.{Conditional}
-use Rattle.cedar_types.specs.Tree.{if_then_else}
-use Rattle.cedar_types.specs.View.{Written}
+use Rattle.cedar_types.specs.Expressions.Tree.{if_then_else}
+use Rattle.cedar_types.specs.Expressions.View.{Written}
 use Rattle.cedar_types.specs.Errors.{Finding}
 use Rattle.cedar_typing.specs.Capabilities.{Caps, union, intersection}
 use Rattle.cedar_typing.specs.Infer.Parts.{Answer, limit, Part, AnswerAndErrors, answer_if, part_from, any_part, after}
-use Rattle.cedar_typing.specs.Joins.{joined, join_errors}
+use Rattle.cedar_typing.specs.TypeTests.Joins.{joined, join_errors}
 use Rattle.cedar_typing.specs.TypeEnv.{TypeEnv}
 use Rattle.cedar_typing.specs.TypeTests.{is_false, is_true, annotation_passes}
 use Rattle.cedar_typing.specs.TypedExpr.{typed_as, annotation}

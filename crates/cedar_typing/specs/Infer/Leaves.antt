@@ -2,8 +2,8 @@
 use Rattle.std.specs.Prelude.{Option, Some, None}
 use Rattle.cedar_types.specs.Names.{Path}
 use Rattle.cedar_types.specs.Types.{Ty}
-use Rattle.cedar_types.specs.Tree.{unknown}
-use Rattle.cedar_types.specs.View.{Written}
+use Rattle.cedar_types.specs.Expressions.Tree.{unknown}
+use Rattle.cedar_types.specs.Expressions.View.{Written}
 use Rattle.cedar_typing.specs.Capabilities.{no_caps}
 use Rattle.cedar_typing.specs.Infer.Parts.{Answer, success, failure}
 use Rattle.cedar_typing.specs.TypedExpr.{TypedTree, Mark, typed, untyped}

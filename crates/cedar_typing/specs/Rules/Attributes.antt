@@ -4,12 +4,12 @@ use Rattle.cedar_types.specs.declared.base.location.Loc.{Loc}
 use Rattle.cedar_types.specs.declared.base.types.BoolType.TheVariants.{AnyBool, True, False}
 use Rattle.cedar_types.specs.Names.{Text}
 use Rattle.cedar_types.specs.Types.{Ty, TNever, TBool}
-use Rattle.cedar_types.specs.Tree.{get_attr, has_attr}
-use Rattle.cedar_types.specs.View.{Written}
+use Rattle.cedar_types.specs.Expressions.Tree.{get_attr, has_attr}
+use Rattle.cedar_types.specs.Expressions.View.{Written}
 use Rattle.cedar_types.specs.Capability.{Cap, attribute}
 use Rattle.cedar_types.specs.Schemas.{Schema}
-use Rattle.cedar_types.specs.Lookups.{attribute_type, may_have}
-use Rattle.cedar_types.specs.RequestEnvs.{is_partial}
+use Rattle.cedar_types.specs.Types.Lookups.{attribute_type, may_have}
+use Rattle.cedar_types.specs.Environments.RequestEnvs.{is_partial}
 use Rattle.cedar_types.specs.Errors.{unsafe_attribute_access, unsafe_optional_attribute_access}
 use Rattle.cedar_typing.specs.Capabilities.{Caps, no_caps, single}
 use Rattle.cedar_typing.specs.Eager.{Decision, gives, refuses, Form, on_one}

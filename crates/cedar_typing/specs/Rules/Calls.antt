@@ -5,11 +5,11 @@ use Rattle.cedar_types.specs.declared.base.types.ValidationMode.{ValidationMode}
 use Rattle.cedar_types.specs.declared.base.location.Loc.{Loc}
 use Rattle.cedar_types.specs.Names.{Text, Path}
 use Rattle.cedar_types.specs.Types.{Ty}
-use Rattle.cedar_types.specs.Tree.{lit, call, Trees, no_trees, tree}
-use Rattle.cedar_types.specs.View.{Written, trees_of}
-use Rattle.cedar_types.specs.Bounds.{is_strict}
+use Rattle.cedar_types.specs.Expressions.Tree.{lit, call, Trees, no_trees, tree}
+use Rattle.cedar_types.specs.Expressions.View.{Written, trees_of}
+use Rattle.cedar_types.specs.Types.Bounds.{is_strict}
 use Rattle.cedar_types.specs.Errors.{Fault, Finding, undefined_function, wrong_number_arguments, function_argument_validation, non_lit_ext_constructor}
-use Rattle.cedar_types.specs.ExtensionFunctions.{Refusals, ExtensionFunction, function_named}
+use Rattle.cedar_types.specs.Extensions.Functions.{Refusals, ExtensionFunction, function_named}
 use Rattle.cedar_typing.specs.Eager.{Expectation, Decision, refuses, gives_unless, Form}
 use Rattle.cedar_typing.specs.TypeEnv.{TypeEnv, finding}
 use Rattle.cedar_typing.specs.TypedExpr.{Source}

@@ -4,11 +4,11 @@ use Rattle.cedar_types.specs.declared.base.location.Loc.{Loc}
 use Rattle.cedar_types.specs.declared.base.types.BoolType.TheVariants.{AnyBool, True, False}
 use Rattle.cedar_types.specs.Names.{Text}
 use Rattle.cedar_types.specs.Types.{Ty, TBool, TRecord, TEntity, TAnyEntity}
-use Rattle.cedar_types.specs.Tree.{get_attr, ext_has_attr}
-use Rattle.cedar_types.specs.TypeOrder.{in_order}
-use Rattle.cedar_types.specs.View.{Written, no_name}
+use Rattle.cedar_types.specs.Expressions.Tree.{get_attr, ext_has_attr}
+use Rattle.cedar_types.specs.Types.Order.{in_order}
+use Rattle.cedar_types.specs.Expressions.View.{Written, no_name}
 use Rattle.cedar_types.specs.Capability.{Cap}
-use Rattle.cedar_types.specs.Lookups.{attribute_type}
+use Rattle.cedar_types.specs.Types.Lookups.{attribute_type}
 use Rattle.cedar_types.specs.Errors.{unexpected_type}
 use Rattle.cedar_typing.specs.Capabilities.{Caps, no_caps, single, union}
 use Rattle.cedar_typing.specs.Eager.{Decision, gives, refuses, Form, on_one}

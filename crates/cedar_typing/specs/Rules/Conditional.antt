@@ -4,12 +4,12 @@ use Rattle.cedar_types.specs.declared.base.location.Loc.{Loc}
 use Rattle.cedar_types.specs.declared.base.errors.type_errors.LubContext.TheVariants.{Conditional}
 use Rattle.cedar_types.specs.declared.base.types.BoolType.TheVariants.{True, False}
 use Rattle.cedar_types.specs.Types.{Ty, TBool}
-use Rattle.cedar_types.specs.Tree.{if_then_else}
-use Rattle.cedar_types.specs.View.{Written}
-use Rattle.cedar_types.specs.Bounds.{lub}
+use Rattle.cedar_types.specs.Expressions.Tree.{if_then_else}
+use Rattle.cedar_types.specs.Expressions.View.{Written}
+use Rattle.cedar_types.specs.Types.Bounds.{lub}
 use Rattle.cedar_types.specs.Errors.{Finding}
 use Rattle.cedar_typing.specs.Capabilities.{Caps, union, intersection}
-use Rattle.cedar_typing.specs.Joins.{joined, join_errors}
+use Rattle.cedar_typing.specs.TypeTests.Joins.{joined, join_errors}
 use Rattle.cedar_typing.specs.Judgments.{Judgment, PartResult, Operand, PartOrCut}
 use Rattle.cedar_typing.specs.TypeEnv.{TypeEnv}
 use Rattle.cedar_typing.specs.TypeTests.{accepts, bool_types, is_false, is_true, annotation_passes}

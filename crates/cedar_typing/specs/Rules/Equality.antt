@@ -6,14 +6,14 @@ use Rattle.cedar_types.specs.declared.base.expressions.operators.BinaryOp.{Binar
 use Rattle.cedar_types.specs.declared.base.errors.type_errors.LubContext.TheVariants.{Equality, Contains, ContainsAnyAll}
 use Rattle.cedar_types.specs.declared.base.types.BoolType.TheVariants.{AnyBool, False}
 use Rattle.cedar_types.specs.Types.{Ty, TBool, TSet}
-use Rattle.cedar_types.specs.Tree.{Lit, entity, lit, var, binary}
-use Rattle.cedar_types.specs.View.{Written}
-use Rattle.cedar_types.specs.TreeEq.{lit_eq}
-use Rattle.cedar_types.specs.Bounds.{are_disjoint}
-use Rattle.cedar_types.specs.RequestEnvs.{Env, Declared, Undeclared}
+use Rattle.cedar_types.specs.Expressions.Tree.{Lit, entity, lit, var, binary}
+use Rattle.cedar_types.specs.Expressions.View.{Written}
+use Rattle.cedar_types.specs.Expressions.TreeEq.{lit_eq}
+use Rattle.cedar_types.specs.Types.Bounds.{are_disjoint}
+use Rattle.cedar_types.specs.Environments.RequestEnvs.{Env, Declared, Undeclared}
 use Rattle.cedar_typing.specs.Capabilities.{no_caps}
 use Rattle.cedar_typing.specs.Eager.{Decision, gives, Form, gives_unless, first_type, second_type, first_tree, second_tree, on_two}
-use Rattle.cedar_typing.specs.Joins.{strict_errors}
+use Rattle.cedar_typing.specs.TypeTests.Joins.{strict_errors}
 use Rattle.cedar_typing.specs.Rules.Leaves.{bool_ty}
 use Rattle.cedar_typing.specs.TypeEnv.{TypeEnv}
 use Rattle.cedar_typing.specs.TypeTests.{set_types, is_any_bool}

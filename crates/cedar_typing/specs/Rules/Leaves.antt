@@ -6,10 +6,10 @@ use Rattle.cedar_types.specs.declared.base.types.BoolType.TheVariants.{True, Fal
 use Rattle.cedar_types.specs.declared.base.types.ValidationMode.{ValidationMode}
 use Rattle.cedar_types.specs.Names.{Path, Uid}
 use Rattle.cedar_types.specs.Types.{Ty, TBool, TLong, TString, TEntity, TAnyEntity}
-use Rattle.cedar_types.specs.Tree.{Lit, bool, long, string, entity, unknown}
-use Rattle.cedar_types.specs.View.{Written}
-use Rattle.cedar_types.specs.Lookups.{literal_type}
-use Rattle.cedar_types.specs.RequestEnvs.{Env, Declared, Undeclared, principal_ty, resource_ty, action_ty, context_ty, is_partial}
+use Rattle.cedar_types.specs.Expressions.Tree.{Lit, bool, long, string, entity, unknown}
+use Rattle.cedar_types.specs.Expressions.View.{Written}
+use Rattle.cedar_types.specs.Types.Lookups.{literal_type}
+use Rattle.cedar_types.specs.Environments.RequestEnvs.{Env, Declared, Undeclared, principal_ty, resource_ty, action_ty, context_ty, is_partial}
 use Rattle.cedar_types.specs.Errors.{Finding}
 use Rattle.cedar_typing.specs.Capabilities.{Caps, no_caps}
 use Rattle.cedar_typing.specs.Judgments.{Judgment, NoDerivation, NoCut}

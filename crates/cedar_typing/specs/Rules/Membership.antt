@@ -5,10 +5,10 @@ use Rattle.cedar_types.specs.declared.base.expressions.operators.BinaryOp.{Binar
 use Rattle.cedar_types.specs.declared.base.types.BoolType.TheVariants.{AnyBool, False}
 use Rattle.cedar_types.specs.Names.{Path, Uid, uid_eq, is_action_path}
 use Rattle.cedar_types.specs.Types.{Ty, TBool, TSet, TEntity}
-use Rattle.cedar_types.specs.Tree.{Lit, entity, Trees, no_trees, tree, set_of, binary}
-use Rattle.cedar_types.specs.View.{Written}
+use Rattle.cedar_types.specs.Expressions.Tree.{Lit, entity, Trees, no_trees, tree, set_of, binary}
+use Rattle.cedar_types.specs.Expressions.View.{Written}
 use Rattle.cedar_types.specs.Schemas.{DeclaredAction, Schema, uid_is_among, descendants_of_action, declares_action, any_may_be_in}
-use Rattle.cedar_types.specs.RequestEnvs.{Env, is_partial}
+use Rattle.cedar_types.specs.Environments.RequestEnvs.{Env, is_partial}
 use Rattle.cedar_typing.specs.Capabilities.{no_caps}
 use Rattle.cedar_typing.specs.Eager.{Decision, gives, refuses, Form, first_type, second_type, first_tree, second_tree}
 use Rattle.cedar_typing.specs.Rules.Equality.{literal_of}

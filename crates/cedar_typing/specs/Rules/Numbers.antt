@@ -5,10 +5,10 @@ use Rattle.cedar_types.specs.declared.base.location.Loc.{Loc}
 use Rattle.cedar_types.specs.declared.base.expressions.operators.BinaryOp.{BinaryOp}
 use Rattle.cedar_types.specs.declared.base.types.BoolType.TheVariants.{AnyBool}
 use Rattle.cedar_types.specs.Types.{Ty, TBool, TLong, TExtension}
-use Rattle.cedar_types.specs.Tree.{binary}
-use Rattle.cedar_types.specs.View.{Written}
-use Rattle.cedar_types.specs.TypeOrder.{in_order}
-use Rattle.cedar_types.specs.Bounds.{ty_eq, is_never}
+use Rattle.cedar_types.specs.Expressions.Tree.{binary}
+use Rattle.cedar_types.specs.Expressions.View.{Written}
+use Rattle.cedar_types.specs.Types.Order.{in_order}
+use Rattle.cedar_types.specs.Types.Bounds.{ty_eq, is_never}
 use Rattle.cedar_types.specs.Errors.{Finding, unexpected_type}
 use Rattle.cedar_typing.specs.Capabilities.{no_caps}
 use Rattle.cedar_typing.specs.Eager.{Decision, gives, refuses, Form, gives_unless, on_two}

@@ -6,11 +6,11 @@ use Rattle.cedar_types.specs.declared.base.errors.type_errors.LubContext.TheVari
 use Rattle.cedar_types.specs.declared.base.types.BoolType.TheVariants.{AnyBool, True, False}
 use Rattle.cedar_types.specs.Names.{Path}
 use Rattle.cedar_types.specs.Types.{Ty, TBool, TEntity, sole}
-use Rattle.cedar_types.specs.Tree.{binary}
-use Rattle.cedar_types.specs.View.{Written}
+use Rattle.cedar_types.specs.Expressions.Tree.{binary}
+use Rattle.cedar_types.specs.Expressions.View.{Written}
 use Rattle.cedar_types.specs.Capability.{Cap, tag}
-use Rattle.cedar_types.specs.Bounds.{is_never, list_lub}
-use Rattle.cedar_types.specs.Lookups.{tag_types}
+use Rattle.cedar_types.specs.Types.Bounds.{is_never, list_lub}
+use Rattle.cedar_types.specs.Types.Lookups.{tag_types}
 use Rattle.cedar_types.specs.Errors.{incompatible_types, unsafe_tag_access, no_tags_allowed, internal_invariant_violation}
 use Rattle.cedar_typing.specs.Capabilities.{Caps, no_caps, single}
 use Rattle.cedar_typing.specs.Eager.{Decision, gives, refuses, Form, on_two}

@@ -5,8 +5,8 @@ use Rattle.cedar_types.specs.declared.base.expressions.patterns.PatternElem.{Pat
 use Rattle.cedar_types.specs.declared.base.types.BoolType.TheVariants.{AnyBool, True, False}
 use Rattle.cedar_types.specs.Names.{Path}
 use Rattle.cedar_types.specs.Types.{Ty, TNever, TBool, TLong, TEntity, sole}
-use Rattle.cedar_types.specs.Tree.{unary, like, is_type}
-use Rattle.cedar_types.specs.View.{Written}
+use Rattle.cedar_types.specs.Expressions.Tree.{unary, like, is_type}
+use Rattle.cedar_types.specs.Expressions.View.{Written}
 use Rattle.cedar_types.specs.Schemas.{is_among}
 use Rattle.cedar_typing.specs.Capabilities.{no_caps}
 use Rattle.cedar_typing.specs.Eager.{Decision, gives, refuses, Form, on_one}

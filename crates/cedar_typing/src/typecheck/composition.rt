@@ -4,7 +4,7 @@ ghost use Rattle.cedar_typing.specs.Examples.Composition.{EnvironmentsAre, Slots
 ghost use Rattle.cedar_typing.specs.Examples.Conforming.{ConformityAllows};
 ghost use Rattle.cedar_typing.specs.Examples.NeededPremises.{PremisesAreNeeded};
 ghost use Rattle.cedar_typing.specs.Examples.PolicySoundness.{PolicyPremisesAreMet};
-ghost use Rattle.cedar_typing.specs.PolicySoundness.{PromisesAreKept, PromisesAreKeptInPermissive};
+ghost use Rattle.cedar_typing.specs.Soundness.Policies.{PromisesAreKept, PromisesAreKeptInPermissive};
 ghost use Rattle.cedar_typing.specs.Silence.{ConditionIsWellNamed, FailuresHaveErrors, FailuresHaveErrorsInPermissive, SilentFailureIsCut, PassingIsDerived, PassingPolicyIsDerived};
 
 /// One of the environments that are checked links each slot to its variable's own type, and there the scope's tests of slots

@@ -1,12 +1,12 @@
 // Expressions, one arm for each form.
 ghost use Rattle.std.specs.Prelude.{◌≡◌, IfOk, option_map};
-ghost use Rattle.cedar_types.specs.View.{written};
+ghost use Rattle.cedar_types.specs.Expressions.View.{written};
 ghost use Rattle.cedar_typing.specs.Infer.{infer};
 ghost use Rattle.cedar_typing.specs.Infer.Parts.{expect};
 ghost use Rattle.cedar_typing.specs.TypedExpr.{place_of};
-ghost use Rattle.cedar_typing.specs.SettingViews.{setting_at};
+ghost use Rattle.cedar_typing.specs.Views.Settings.{setting_at};
 ghost use Rattle.cedar_typing.specs.Views.{expected_types, answer_of, part_of, findings};
-ghost use Rattle.cedar_typing.specs.Priors.{known_in};
+ghost use Rattle.cedar_typing.specs.Capabilities.Priors.{known_in};
 
 use crate::typecheck::answer::{Part, TypecheckAnswer};
 use crate::typecheck::operands::Expected;

@@ -1,10 +1,10 @@
 // Types that have to have a bound.
 ghost use Rattle.std.specs.Prelude.{◌≡◌, [], ◌∷◌, IfOk, option_map};
 ghost use Rattle.cedar_types.specs.Types.{ty_of};
-ghost use Rattle.cedar_types.specs.TypeOrder.{in_order};
-ghost use Rattle.cedar_types.specs.Bounds.{is_strict, lub};
+ghost use Rattle.cedar_types.specs.Types.Order.{in_order};
+ghost use Rattle.cedar_types.specs.Types.Bounds.{is_strict, lub};
 ghost use Rattle.cedar_types.specs.Errors.{finding_of, incompatible_types};
-ghost use Rattle.cedar_typing.specs.Joins.{bound_errors, join_errors, strict_errors};
+ghost use Rattle.cedar_typing.specs.TypeTests.Joins.{bound_errors, join_errors, strict_errors};
 ghost use Rattle.cedar_typing.specs.TypeEnv.{finding};
 ghost use Rattle.cedar_typing.specs.Views.{env_at, findings};
 

@@ -12,7 +12,8 @@ ghost use Rattle.cedar_typing.specs.Examples.Rules.Attributes.{HasTyping, GetTyp
 ghost use Rattle.cedar_typing.specs.Examples.Rules.Calls.{CallTyping, ArgumentTyping};
 ghost use Rattle.cedar_typing.specs.Examples.Rules.Chains.{ChainTyping};
 ghost use Rattle.cedar_typing.specs.Examples.Rules.Check.{CheckTyping};
-ghost use Rattle.cedar_typing.specs.Examples.Rules.Collections.{SetTyping, RecordTyping};
+ghost use Rattle.cedar_typing.specs.Examples.Rules.Records.{RecordTyping};
+ghost use Rattle.cedar_typing.specs.Examples.Rules.Sets.{SetTyping};
 ghost use Rattle.cedar_typing.specs.Examples.Rules.Conditional.{ConditionalTyping};
 ghost use Rattle.cedar_typing.specs.Examples.Rules.Equality.{EqualityTyping, MemberTyping};
 ghost use Rattle.cedar_typing.specs.Examples.Rules.Leaves.{LeafTyping};
@@ -23,7 +24,7 @@ ghost use Rattle.cedar_typing.specs.Examples.Rules.ShortCircuit.{AndTyping, OrTy
 ghost use Rattle.cedar_typing.specs.Examples.Rules.Tags.{HasTagTyping, GetTagTyping};
 ghost use Rattle.cedar_typing.specs.Examples.Rules.Unary.{UnaryTyping};
 ghost use Rattle.cedar_typing.specs.Examples.Values.{RecordsOfType, SetsOfType, EntitiesOfType, LeavesOfType};
-ghost use Rattle.cedar_typing.specs.RuleLaws.{TypingIsAFunction, RecoveryIsAFunction, CutIsAFunction, OneOfThreeAtMost, OneOfThreeAtLeast, CutIsByDepth, OneVerdictAtMost, OneVerdictAtLeast, ErrorsInAnyOrder};
+ghost use Rattle.cedar_typing.specs.Rules.Laws.{TypingIsAFunction, RecoveryIsAFunction, CutIsAFunction, OneOfThreeAtMost, OneOfThreeAtLeast, CutIsByDepth, OneVerdictAtMost, OneVerdictAtLeast, ErrorsInAnyOrder};
 ghost use Rattle.cedar_typing.specs.Soundness.{TypeSoundness, TypeSoundnessInPermissive};
 
 /// An expression is derived, recovered and cut in one way at most: with one type, one set of capabilities, one typed expression

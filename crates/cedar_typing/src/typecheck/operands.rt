@@ -1,7 +1,7 @@
 // Parts that have to be of certain types.
 ghost use Rattle.std.specs.Prelude.{◌≡◌, Some, IfOk, map, option_map};
 ghost use Rattle.cedar_types.specs.Types.{ty_of};
-ghost use Rattle.cedar_types.specs.TypeOrder.{in_order};
+ghost use Rattle.cedar_types.specs.Types.Order.{in_order};
 ghost use Rattle.cedar_types.specs.Errors.{finding_of, unexpected_type};
 ghost use Rattle.cedar_typing.specs.Infer.Eager.{expect_operand};
 ghost use Rattle.cedar_typing.specs.Infer.Parts.{as_failed, as_failed_untyped, expect, expect_type};

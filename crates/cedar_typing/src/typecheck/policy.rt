@@ -2,15 +2,15 @@
 ghost use Rattle.std.specs.Prelude.{◌≡◌, ◌∷◌, List, IfOk, OnOk, OnErr, IsPermutation, map};
 ghost use Rattle.cedar_types.specs.declared.base.types.ValidationMode.TheVariants.{Permissive};
 ghost use Rattle.cedar_types.specs.Errors.{finding_of, caution_of};
-ghost use Rattle.cedar_types.specs.Linking.{checked_envs};
-ghost use Rattle.cedar_types.specs.SchemaContents.{schema_of};
+ghost use Rattle.cedar_types.specs.Environments.Linking.{checked_envs};
+ghost use Rattle.cedar_types.specs.Schemas.Contents.{schema_of};
 ghost use Rattle.cedar_types.specs.Templates.{template_of};
-ghost use Rattle.cedar_typing.specs.CheckViews.{schema_by, mode_by, basis_of, verdict_of};
-ghost use Rattle.cedar_typing.specs.EnvironmentChecks.{ChecksIn};
+ghost use Rattle.cedar_typing.specs.Views.Checks.{schema_by, mode_by, basis_of, verdict_of};
+ghost use Rattle.cedar_typing.specs.Views.EnvironmentChecks.{ChecksIn};
 ghost use Rattle.cedar_typing.specs.PolicyCheck.{Verdict};
-ghost use Rattle.cedar_typing.specs.PolicyOutcome.{impossible, PolicyOutcome};
-ghost use Rattle.cedar_typing.specs.PolicySoundness.{PolicyIsSafe, ImpossibleIsNeverTrue, PolicyIsSafeIn, ImpossibleIsNeverTrueIn};
-ghost use Rattle.cedar_typing.specs.PolicyViews.{IsTally, TalliesEnvs};
+ghost use Rattle.cedar_typing.specs.PolicyCheck.Outcome.{impossible, PolicyOutcome};
+ghost use Rattle.cedar_typing.specs.Soundness.Policies.{PolicyIsSafe, ImpossibleIsNeverTrue, PolicyIsSafeIn, ImpossibleIsNeverTrueIn};
+ghost use Rattle.cedar_typing.specs.Views.Policies.{IsTally, TalliesEnvs};
 
 use crate::typecheck::sets::{insert_all, put_all};
 use crate::typecheck::typechecker::{PolicyCheck, Typechecker};

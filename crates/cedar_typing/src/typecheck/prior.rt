@@ -2,7 +2,7 @@
 ghost use Rattle.std.specs.Prelude.{◌≡◌};
 ghost use Rattle.cedar_types.specs.Capability.{caps, cap_of};
 ghost use Rattle.cedar_typing.specs.Capabilities.{union};
-ghost use Rattle.cedar_typing.specs.Priors.{known_in};
+ghost use Rattle.cedar_typing.specs.Capabilities.Priors.{known_in};
 
 use cedar_types::types::capability::{Capability, CapabilitySet};
 

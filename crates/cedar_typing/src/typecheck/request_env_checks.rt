@@ -1,5 +1,5 @@
 // The checks of a template, one environment after another.
-ghost use Rattle.cedar_types.specs.LinkViews.{HoldsFewLinks};
+ghost use Rattle.cedar_types.specs.Environments.LinkViews.{HoldsFewLinks};
 
 use crate::typecheck::typechecker::{PolicyCheck, Typechecker};
 use cedar_types::base::{ArgumentCheck, Expr, Template};
@@ -26,15 +26,15 @@ pub struct RequestEnvChecks<'b, C = Box<dyn ArgumentCheck>> {
 
 impl<'a, C: ArgumentCheck> Typechecker<'a, C> {
     ghost use Rattle.std.specs.Prelude.{◌≡◌, false, IfOk, IsPermutation};
-    ghost use Rattle.cedar_types.specs.Linking.{checked_envs};
-    ghost use Rattle.cedar_types.specs.SchemaContents.{schema_of};
+    ghost use Rattle.cedar_types.specs.Environments.Linking.{checked_envs};
+    ghost use Rattle.cedar_types.specs.Schemas.Contents.{schema_of};
     ghost use Rattle.cedar_types.specs.Templates.{template_of, condition_of};
-    ghost use Rattle.cedar_typing.specs.CheckViews.{schema_by, mode_by};
-    ghost use Rattle.cedar_typing.specs.EnvironmentChecks.{checks_left, checks_are_over, checker_of, template_in, condition_in};
+    ghost use Rattle.cedar_typing.specs.Views.Checks.{schema_by, mode_by};
+    ghost use Rattle.cedar_typing.specs.Views.EnvironmentChecks.{checks_left, checks_are_over, checker_of, template_in, condition_in};
 
     /// The checks of this template in all of its environments: those of the schema, each with the template's slots linked
     /// in all ways. Where memory is refused, the answer is an `AllocError`.
-    #[tactic(auto, unfolding(crate::specs::EnvironmentChecks::checks_left, crate::specs::EnvironmentChecks::checks_are_over, crate::specs::EnvironmentChecks::checker_of, crate::specs::EnvironmentChecks::template_in, crate::specs::EnvironmentChecks::condition_in))]
+    #[tactic(auto, unfolding(crate::specs::Views::EnvironmentChecks::checks_left, crate::specs::Views::EnvironmentChecks::checks_are_over, crate::specs::Views::EnvironmentChecks::checker_of, crate::specs::Views::EnvironmentChecks::template_in, crate::specs::Views::EnvironmentChecks::condition_in))]
     pub fn typecheck_by_request_env<'b>(
         &'b self,
         alloc: Global,
@@ -63,7 +63,7 @@ impl<'a, C: ArgumentCheck> Typechecker<'a, C> {
 
 impl<'b, C: ArgumentCheck> Iterator for RequestEnvChecks<'b, C> {
     ghost use Rattle.cedar_types.specs.FallibleIterators.{calls_left};
-    ghost use Rattle.cedar_typing.specs.EnvironmentChecks.{checks_left, checks_are_over, GivesChecks};
+    ghost use Rattle.cedar_typing.specs.Views.EnvironmentChecks.{checks_left, checks_are_over, GivesChecks};
 
     type Item = Result<(RequestEnv<'b>, PolicyCheck), AllocError>;
 
@@ -71,7 +71,7 @@ impl<'b, C: ArgumentCheck> Iterator for RequestEnvChecks<'b, C> {
 
     ghost remaining = { calls_left checks_left checks_are_over };
 
-    #[tactic(auto, unfolding(crate::specs::EnvironmentChecks::checks_left, crate::specs::EnvironmentChecks::checks_are_over, crate::specs::EnvironmentChecks::checker_of, crate::specs::EnvironmentChecks::template_in, crate::specs::EnvironmentChecks::condition_in))]
+    #[tactic(auto, unfolding(crate::specs::Views::EnvironmentChecks::checks_left, crate::specs::Views::EnvironmentChecks::checks_are_over, crate::specs::Views::EnvironmentChecks::checker_of, crate::specs::Views::EnvironmentChecks::template_in, crate::specs::Views::EnvironmentChecks::condition_in))]
     fn next(&mut self) -> Option<Result<(RequestEnv<'b>, PolicyCheck), AllocError>> {
         if self.ended {
             return None;
@@ -98,11 +98,11 @@ impl<'b, C: ArgumentCheck> Iterator for RequestEnvChecks<'b, C> {
 
 impl<C: ArgumentCheck> RequestEnvChecks<'_, C> {
     ghost use Rattle.std.specs.Prelude.{◌≡◌, IfOk};
-    ghost use Rattle.cedar_typing.specs.CheckViews.{setting_for, verdict_of};
-    ghost use Rattle.cedar_typing.specs.EnvironmentChecks.{condition_in};
+    ghost use Rattle.cedar_typing.specs.Views.Checks.{setting_for, verdict_of};
+    ghost use Rattle.cedar_typing.specs.Views.EnvironmentChecks.{condition_in};
     ghost use Rattle.cedar_typing.specs.PolicyCheck.{PolicyChecks};
 
-    #[tactic(auto, unfolding(crate::specs::EnvironmentChecks::condition_in))]
+    #[tactic(auto, unfolding(crate::specs::Views::EnvironmentChecks::condition_in))]
     fn check(&self, env: &RequestEnv<'_>) -> Result<PolicyCheck, AllocError>
         ensures { IfOk result (λ r.
             PolicyChecks (setting_for C.refusal self.now.checker.now self.now.template.now env.now)

@@ -1,7 +1,7 @@
 // What an expression is typed in, but for the extension functions.
-ghost use Rattle.cedar_types.specs.RequestEnvs.{env_of};
-ghost use Rattle.cedar_types.specs.SchemaContents.{schema_of};
-ghost use Rattle.cedar_typing.specs.VariableTypes.{HasPrincipal, HasAction, HasResource, HasContext};
+ghost use Rattle.cedar_types.specs.Environments.RequestEnvs.{env_of};
+ghost use Rattle.cedar_types.specs.Schemas.Contents.{schema_of};
+ghost use Rattle.cedar_typing.specs.Setting.VariableTypes.{HasPrincipal, HasAction, HasResource, HasContext};
 
 use crate::typecheck::variable_types::VariableTypes;
 use cedar_types::base::{Name, PolicyID, ValidationMode, ValidatorSchema};

@@ -1,7 +1,7 @@
 // Tests of types.
 ghost use Rattle.std.specs.Prelude.{◌≡◌, Some, option_map};
 ghost use Rattle.cedar_types.specs.Types.{ty_of, lub_of, TBool};
-ghost use Rattle.cedar_types.specs.Bounds.{is_never};
+ghost use Rattle.cedar_types.specs.Types.Bounds.{is_never};
 ghost use Rattle.cedar_types.specs.declared.base.types.BoolType.TheVariants.{AnyBool};
 ghost use Rattle.cedar_typing.specs.Rules.Chains.{is_object};
 ghost use Rattle.cedar_typing.specs.Rules.Membership.{types_of_entity};
@@ -124,7 +124,7 @@ pub(crate) fn is_record_type(ty: &CedarType) -> bool
 }
 
 /// Whether the type False was found at the root.
-#[tactic(auto, using(crate::proofs::TypedViews::annotation_is))]
+#[tactic(auto, using(crate::proofs::Views::Typed::annotation_is))]
 pub(crate) fn is_typed_false(typed: &Expr<Option<CedarType>>) -> bool
     ensures { result ≡ annotation_passes is_false (annotation (typed_tree typed.now)) }
 {
@@ -135,7 +135,7 @@ pub(crate) fn is_typed_false(typed: &Expr<Option<CedarType>>) -> bool
 }
 
 /// Whether the type True was found at the root.
-#[tactic(auto, using(crate::proofs::TypedViews::annotation_is))]
+#[tactic(auto, using(crate::proofs::Views::Typed::annotation_is))]
 pub(crate) fn is_typed_true(typed: &Expr<Option<CedarType>>) -> bool
     ensures { result ≡ annotation_passes is_true (annotation (typed_tree typed.now)) }
 {

@@ -1,13 +1,13 @@
 // The check of a policy in one environment.
 ghost use Rattle.std.specs.Prelude.{◌≡◌, IfOk, map, option_map};
-ghost use Rattle.cedar_types.specs.View.{written};
+ghost use Rattle.cedar_types.specs.Expressions.View.{written};
 ghost use Rattle.cedar_types.specs.declared.base.types.ValidationMode.TheVariants.{Permissive};
 ghost use Rattle.cedar_types.specs.Errors.{finding_of};
 ghost use Rattle.cedar_types.specs.Templates.{template_of, condition_of, with_rest};
-ghost use Rattle.cedar_typing.specs.CheckViews.{verdict_of, schema_by, extensions_by, mode_by, setting_for};
+ghost use Rattle.cedar_typing.specs.Views.Checks.{verdict_of, schema_by, extensions_by, mode_by, setting_for};
 ghost use Rattle.cedar_typing.specs.PolicyCheck.{PolicyChecks, policy_check, part_verdict};
-ghost use Rattle.cedar_typing.specs.SoundPolicyCheck.{IsSoundPolicyCheck, IsSoundPolicyCheckIn};
-ghost use Rattle.cedar_typing.specs.SettingViews.{setting_at};
+ghost use Rattle.cedar_typing.specs.Soundness.PolicyCheck.{IsSoundPolicyCheck, IsSoundPolicyCheckIn};
+ghost use Rattle.cedar_typing.specs.Views.Settings.{setting_at};
 ghost use Rattle.cedar_typing.specs.Views.{env_at, part_of};
 
 use crate::typecheck::answer::Part;
@@ -55,7 +55,7 @@ impl<'a, C: ArgumentCheck> Typechecker<'a, C> {
     ghost use Rattle.std.specs.Prelude.{◌≡◌};
 
     /// Types by this schema and these functions, in this mode.
-    #[tactic(auto, unfolding(crate::specs::CheckViews::schema_by, crate::specs::CheckViews::extensions_by, crate::specs::CheckViews::mode_by))]
+    #[tactic(auto, unfolding(crate::specs::Views::Checks::schema_by, crate::specs::Views::Checks::extensions_by, crate::specs::Views::Checks::mode_by))]
     pub fn new(
         schema: &'a ValidatorSchema,
         extensions: &'a ExtensionSchemas<C>,

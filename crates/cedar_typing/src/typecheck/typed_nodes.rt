@@ -2,9 +2,9 @@
 ghost use Rattle.std.specs.Prelude.{◌≡◌, IfOk, map, option_map};
 ghost use Rattle.cedar_types.specs.Capability.{caps};
 ghost use Rattle.cedar_types.specs.Names.{path_of};
-ghost use Rattle.cedar_types.specs.Tree.{binary, call, ext_has_attr};
+ghost use Rattle.cedar_types.specs.Expressions.Tree.{binary, call, ext_has_attr};
 ghost use Rattle.cedar_types.specs.Types.{ty_of};
-ghost use Rattle.cedar_types.specs.View.{chain_of, trees_of};
+ghost use Rattle.cedar_types.specs.Expressions.View.{chain_of, trees_of};
 ghost use Rattle.cedar_typing.specs.Capabilities.{no_caps};
 ghost use Rattle.cedar_typing.specs.Infer.Parts.{answer_if};
 ghost use Rattle.cedar_typing.specs.TypedExpr.{typed_as, typed_tree, at_place};

@@ -1,8 +1,8 @@
 // The types of the variables in one environment.
 ghost use Rattle.std.specs.Prelude.{IfOk};
-ghost use Rattle.cedar_types.specs.RequestEnvs.{env_of};
-ghost use Rattle.cedar_types.specs.SchemaContents.{schema_of};
-ghost use Rattle.cedar_typing.specs.VariableTypes.{HasPrincipal, HasAction, HasResource, HasContext};
+ghost use Rattle.cedar_types.specs.Environments.RequestEnvs.{env_of};
+ghost use Rattle.cedar_types.specs.Schemas.Contents.{schema_of};
+ghost use Rattle.cedar_typing.specs.Setting.VariableTypes.{HasPrincipal, HasAction, HasResource, HasContext};
 
 use cedar_types::base::{CedarType, ValidatorSchema};
 use cedar_types::types::request_env::RequestEnv;
@@ -20,7 +20,7 @@ pub(crate) struct VariableTypes {
 }
 
 impl VariableTypes {
-    #[tactic(auto, using(crate::proofs::VariableTypes::kept, crate::proofs::VariableTypes::kept_if_any))]
+    #[tactic(auto, using(crate::proofs::TypeTests::VariableTypes::kept, crate::proofs::TypeTests::VariableTypes::kept_if_any))]
     pub(crate) fn of_environment(
         alloc: Global,
         schema: &ValidatorSchema,

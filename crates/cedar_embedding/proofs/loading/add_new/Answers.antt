@@ -3,10 +3,10 @@ use Rattle.std.specs.Bool.{OnFalse}
 use Rattle.std.specs.declared.cmp.Ordering.TheVariants.{Equal}
 use Rattle.std.specs.Ordering.{is_eq}
 use Rattle.std.proofs.lemmas.List.{map_push}
-use Rattle.cedar_types.specs.Comparisons.{entity_uid_cmp}
+use Rattle.cedar_types.specs.Names.Comparisons.{entity_uid_cmp}
 use Rattle.cedar_types.specs.declared.base.names.entities.EntityUID.{EntityUID}
 use Rattle.cedar_types.specs.Names.{Uid, uid_of, uid_eq}
-use Rattle.cedar_types.specs.Declarations.{uids_of}
+use Rattle.cedar_types.specs.Schemas.Declarations.{uids_of}
 use Rattle.cedar_types.specs.Schemas.{uid_is_among}
 use Rattle.cedar_types.proofs.Names.Ids.{uid_decides, uid_ties, uids_cmp}
 use Rattle.cedar_types.proofs.Schema.Listings.{inserted}

@@ -1,6 +1,6 @@
 use Rattle.std.proofs.Common.{map, take}
 use Rattle.cedar_types.specs.Names.{uid_of}
-use Rattle.cedar_types.specs.Declarations.{uids_of}
+use Rattle.cedar_types.specs.Schemas.Declarations.{uids_of}
 use Rattle.cedar_embedding.specs.Loading.{AddsNew}
 use Rattle.cedar_embedding.proofs.loading.add_new.Given as goal
 

@@ -3,7 +3,7 @@ use Rattle.std.specs.List.{flat_map}
 use Rattle.std.proofs.lemmas.List.{nil_from_length}
 use borrow.Author.Tests.{eqb-true}
 use Rattle.cedar_types.specs.Names.{Uid, uid_of}
-use Rattle.cedar_types.specs.Declarations.{uids_of}
+use Rattle.cedar_types.specs.Schemas.Declarations.{uids_of}
 use Rattle.cedar_embedding.specs.Loading.{AreAmong, AreSame, ids_below, LoadsSlices, AddsNew}
 use Rattle.cedar_embedding.proofs.Rounds.{IsRound, first_round, next_round, same_at_none, same_after, same_at_end}
 use Rattle.cedar_embedding.proofs.LoadedSlices.{loads_slices}

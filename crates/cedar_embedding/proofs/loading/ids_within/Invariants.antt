@@ -1,6 +1,6 @@
 use Rattle.std.proofs.Common.{◌≡◌, ℕ, suc, map}
 use Rattle.cedar_types.specs.Names.{uid_of}
-use Rattle.cedar_types.specs.Declarations.{uids_of}
+use Rattle.cedar_types.specs.Schemas.Declarations.{uids_of}
 use Rattle.cedar_embedding.proofs.Rounds.{IsRound}
 use Rattle.cedar_embedding.proofs.loading.ids_within.Given as goal
 

@@ -2,12 +2,12 @@ use Rattle.std.proofs.Common.{List, map, refl, ap, subst}
 use Rattle.cedar_types.specs.declared.base.types.ValidationMode.{ValidationMode}
 use Rattle.cedar_types.specs.Errors.{Caution, caution_of, finding_of}
 use Rattle.cedar_types.specs.Lemmas.Comparisons.{and_left, and_right}
-use Rattle.cedar_types.specs.SchemaContents.{schema_of}
+use Rattle.cedar_types.specs.Schemas.Contents.{schema_of}
 use Rattle.cedar_types.specs.Templates.{template_of}
 use Rattle.cedar_typing.specs.Evaluation.Conformance.{IsOneOf}
-use Rattle.cedar_typing.specs.PolicyOutcome.{impossible}
-use Rattle.cedar_typing.specs.PolicySoundness.{Basis, IsNamedBySchema, CheckedOn, PolicyIsSafeIn, ImpossibleIsNeverTrueIn}
-use Rattle.cedar_typing.proofs.PolicySoundness.{warned_impossible}
+use Rattle.cedar_typing.specs.PolicyCheck.Outcome.{impossible}
+use Rattle.cedar_typing.specs.Soundness.Policies.{Basis, IsNamedBySchema, CheckedOn, PolicyIsSafeIn, ImpossibleIsNeverTrueIn}
+use Rattle.cedar_typing.proofs.Soundness.Policies.{warned_impossible}
 use Rattle.cedar_embedding.specs.Safety.{basis_in}
 use Rattle.cedar_embedding.proofs.Promises.{passes_everywhere, accepted_is_safe, warned_is_never_true}
 use Rattle.cedar_embedding.proofs.Warnings.{some_warning}

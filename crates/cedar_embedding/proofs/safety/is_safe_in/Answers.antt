@@ -1,11 +1,11 @@
 use Rattle.std.proofs.Common.{refl, ap, subst}
 use Rattle.cedar_types.specs.declared.base.types.ValidationMode.{ValidationMode}
-use Rattle.cedar_types.specs.RequestEnvs.{env_of}
+use Rattle.cedar_types.specs.Environments.RequestEnvs.{env_of}
 use Rattle.cedar_types.specs.Templates.{template_of, condition_of}
-use Rattle.cedar_typing.specs.CheckViews.{verdict_of}
+use Rattle.cedar_typing.specs.Views.Checks.{verdict_of}
 use Rattle.cedar_typing.specs.PolicyCheck.{Verdict}
-use Rattle.cedar_typing.specs.PolicySoundness.{Basis, setting_on}
-use Rattle.cedar_typing.specs.SoundPolicyCheck.{IsSoundPolicyCheckIn}
+use Rattle.cedar_typing.specs.Soundness.Policies.{Basis, setting_on}
+use Rattle.cedar_typing.specs.Soundness.PolicyCheck.{IsSoundPolicyCheckIn}
 use Rattle.cedar_typing.specs.TypedExpr.{typed_tree}
 use Rattle.cedar_embedding.specs.Safety.{basis_in}
 use Rattle.cedar_embedding.proofs.Promises.{success_is_safe}

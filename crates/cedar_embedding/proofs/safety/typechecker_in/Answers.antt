@@ -1,6 +1,6 @@
 use Rattle.std.proofs.Common.{ap, ◌∙◌}
 use Rattle.cedar_types.specs.Extensions.{functions_of, overloaded_types_of}
-use Rattle.cedar_types.specs.SchemaContents.{schema_of}
+use Rattle.cedar_types.specs.Schemas.Contents.{schema_of}
 use Rattle.cedar_embedding.proofs.safety.typechecker_in.Goals as goal
 
 pub returns : goal.returns

@@ -3,16 +3,16 @@
 use Rattle.std.proofs.Common.{◌≡◌, ℕ, List, [], ◌∷◌, ◌⊎◌, inl, inr, refl, ap, ◌∙◌, subst}
 use Rattle.std.specs.List.{flat_map}
 use Rattle.cedar_types.specs.Errors.{Fault, Finding}
-use Rattle.cedar_types.specs.Linking.{checked_envs}
-use Rattle.cedar_types.specs.RequestEnvs.{Env}
+use Rattle.cedar_types.specs.Environments.Linking.{checked_envs}
+use Rattle.cedar_types.specs.Environments.RequestEnvs.{Env}
 use Rattle.cedar_types.specs.Templates.{PlainTemplate, condition_of}
 use Rattle.cedar_typing.specs.Evaluation.Conformance.{IsOneOf}
 use Rattle.cedar_typing.specs.PolicyCheck.{Verdict, succeeds, irrelevant, fails, SameVerdict, same_success, same_irrelevant, same_failure, policy_check}
-use Rattle.cedar_typing.specs.PolicySoundness.{Basis, setting_on}
-use Rattle.cedar_typing.proofs.Gains.{in_either}
-use Rattle.cedar_typing.proofs.Members.{in_flat}
-use Rattle.cedar_typing.proofs.PolicyCheck.{checked}
-use Rattle.cedar_typing.proofs.Verdicts.{verdict_at_most}
+use Rattle.cedar_typing.specs.Soundness.Policies.{Basis, setting_on}
+use Rattle.cedar_typing.proofs.Basics.Gains.{in_either}
+use Rattle.cedar_typing.proofs.Basics.Members.{in_flat}
+use Rattle.cedar_typing.proofs.Policies.Check.{checked}
+use Rattle.cedar_typing.proofs.Policies.Verdicts.{verdict_at_most}
 use Rattle.cedar_typechecker.specs.Levels.Outcome.{ChecksOn, levels_on, IsErrorOfVerdict}
 use Rattle.cedar_typechecker.specs.Levels.Setting.{LevelSetting}
 use Rattle.cedar_typechecker.specs.Levels.Walk.{checked_errors}

@@ -3,8 +3,8 @@ use Rattle.std.proofs.Common.{inl, inr, refl, subst}
 use Rattle.cedar_types.specs.declared.base.types.ValidationMode.{ValidationMode}
 use Rattle.cedar_types.specs.declared.base.types.ValidationMode.TheVariants.{Strict, Permissive}
 use Rattle.cedar_types.specs.Errors.{literal_dereference_target}
-use Rattle.cedar_types.specs.Linking.{checked_envs}
-use Rattle.cedar_types.specs.RequestEnvs.{Env}
+use Rattle.cedar_types.specs.Environments.Linking.{checked_envs}
+use Rattle.cedar_types.specs.Environments.RequestEnvs.{Env}
 use Rattle.cedar_typing.specs.Evaluation.Conformance.{IsOneOf}
 use Rattle.cedar_typing.specs.Examples.PolicySoundness.{Passes, PassesWarned}
 use Rattle.cedar_typing.proofs.Examples.PolicySoundness.{passing}

@@ -4,13 +4,13 @@ use Rattle.std.proofs.Common.{false, [], ◌∷◌, map, refl}
 use Rattle.std.proofs.lemmas.List.Sorted.{IsPermutation-refl}
 use Rattle.cedar_types.specs.declared.base.types.ValidationMode.{ValidationMode}
 use Rattle.cedar_types.specs.declared.base.types.ValidationMode.TheVariants.{Strict, Permissive}
-use Rattle.cedar_types.specs.Linking.{checked_envs}
+use Rattle.cedar_types.specs.Environments.Linking.{checked_envs}
 use Rattle.cedar_types.specs.Templates.{condition_of}
 use Rattle.cedar_typing.specs.Examples.PolicySoundness.{PassesWarned}
-use Rattle.cedar_typing.specs.PolicySoundness.{CheckedOn}
+use Rattle.cedar_typing.specs.Soundness.Policies.{CheckedOn}
 use Rattle.cedar_typing.proofs.Composition.Slots.{slots_bound}
 use Rattle.cedar_typing.proofs.Examples.PolicySoundness.{passing}
-use Rattle.cedar_typing.proofs.PolicyCheck.{checked}
+use Rattle.cedar_typing.proofs.Policies.Check.{checked}
 use Rattle.cedar_typechecker.specs.Slices.Examples.World.{wiki_schema, wiki_basis, staff_slots, reading, slice_of}
 use Rattle.cedar_typechecker.specs.Slices.NeededPremises.Policies.{IsReadingIn, unguarded, unguarded_access, of_unknown_type, of_unknown_action, of_unknown, slot_in_rest, RefusedPoliciesGoWrongIn, NamesMustBeKnownIn, UnknownsGoWrongIn, SlotsInTheRestGoWrongIn, PoliciesAreNeededIn}
 use Rattle.cedar_typechecker.specs.Slices.Policies.{PolicyIsWithinLevel}

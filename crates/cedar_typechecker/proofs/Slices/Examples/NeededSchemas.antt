@@ -3,11 +3,11 @@
 use Rattle.std.proofs.Common.{◌≡◌, inl, Bool, true, false, ◌&&◌, ◌||◌, [], ◌∷◌, Some, None, if◌then◌else◌, refl, sym, subst}
 use Rattle.cedar_types.specs.declared.base.types.ValidationMode.{ValidationMode}
 use Rattle.cedar_types.specs.declared.base.types.ValidationMode.TheVariants.{Strict, Permissive}
-use Rattle.cedar_types.specs.ExtensionFunctions.{ExtensionFunction}
+use Rattle.cedar_types.specs.Extensions.Functions.{ExtensionFunction}
 use Rattle.cedar_types.specs.Lemmas.Comparisons.{uid_same}
 use Rattle.cedar_types.specs.Names.{Uid, uid_eq, path_eq}
 use Rattle.cedar_types.specs.Schemas.{uid_is_among, declares_action}
-use Rattle.cedar_types.specs.Stores.{declares_ancestor, ConformingStore}
+use Rattle.cedar_types.specs.Values.Stores.{declares_ancestor, ConformingStore}
 use Rattle.cedar_types.specs.Values.{Value, VEntity, no_values, HasType}
 use Rattle.cedar_typing.specs.Evaluation.Conformance.{KeepsTable}
 use Rattle.cedar_typing.specs.Evaluation.Equality.{same_values}

@@ -6,7 +6,7 @@ use Rattle.cedar_typing.specs.PolicyCheck.{Verdict, succeeds, irrelevant, fails,
 use Rattle.cedar_typing.specs.TypedExpr.{TypedTree}
 use Rattle.cedar_typing.specs.Eager.{no_tree}
 use Rattle.cedar_typing.proofs.Examples.PolicySoundness.{passing}
-use Rattle.cedar_typing.proofs.PolicyCheck.{checked}
+use Rattle.cedar_typing.proofs.Policies.Check.{checked}
 use Rattle.cedar_typechecker.specs.Slices.Examples.World.{page, read_context, wiki_basis, reading, slice_of}
 use Rattle.cedar_typechecker.specs.Slices.NeededPremises.Settings.{is_no_user, unlinked, slot_has_profile, alice_bound, PartialGoesWrong, UnlinkedSlotsGoWrongIn}
 use Rattle.cedar_typechecker.specs.Slices.Soundness.{levels_in}

@@ -6,7 +6,7 @@ use Rattle.cedar_types.specs.declared.base.types.ValidationMode.{ValidationMode}
 use Rattle.cedar_types.specs.Lemmas.Comparisons.{uid_same}
 use Rattle.cedar_types.specs.Names.{Path, Uid, uid_eq}
 use Rattle.cedar_types.specs.Schemas.{DeclaredType, DeclaredAction, Schema, is_among, type_named, declares_type, descendants_of}
-use Rattle.cedar_types.specs.Stores.{Entity, Store, entity_at, AncestorsFit, FitsStandard, FitsAction, FitsDeclaration, ConformingStore}
+use Rattle.cedar_types.specs.Values.Stores.{Entity, Store, entity_at, AncestorsFit, FitsStandard, FitsAction, FitsDeclaration, ConformingStore}
 use Rattle.cedar_types.specs.Templates.{PlainTemplate, condition_of}
 use Rattle.cedar_types.specs.Types.{Ty, no_attrs}
 use Rattle.cedar_typing.specs.Composition.{SlotsInScopeAlone}
@@ -18,7 +18,7 @@ use Rattle.cedar_typing.specs.Examples.Greeting.{stored_action, sample_functions
 use Rattle.cedar_typing.specs.Examples.NeededPremises.{declared_guest}
 use Rattle.cedar_typing.specs.Examples.Permissive.{team, staff}
 use Rattle.cedar_typing.specs.Examples.World.{user, a_user, bob}
-use Rattle.cedar_typing.specs.PolicySoundness.{IsWellFormed, IsConforming}
+use Rattle.cedar_typing.specs.Soundness.Policies.{IsWellFormed, IsConforming}
 use Rattle.cedar_typing.specs.Silence.{HasNoUnknowns}
 use Rattle.cedar_typing.proofs.Composition.Slots.{slots_bound}
 use Rattle.cedar_typing.proofs.Examples.World.{AllEntities, all_found, none_among, only_one, greeting_conforms}

@@ -4,7 +4,7 @@ use Rattle.cedar_types.specs.declared.base.types.BoolType.TheVariants.{AnyBool}
 use Rattle.cedar_types.specs.declared.base.types.ValidationMode.{ValidationMode}
 use Rattle.cedar_types.specs.Names.{Path, Uid}
 use Rattle.cedar_types.specs.Schemas.{StandardKind, DeclaredType, DeclaredAction, Schema}
-use Rattle.cedar_types.specs.Stores.{Entity, Store}
+use Rattle.cedar_types.specs.Values.Stores.{Entity, Store}
 use Rattle.cedar_types.specs.Types.{Ty, TBool, TString, TRecord, Attrs, no_attrs, attr}
 use Rattle.cedar_types.specs.Values.{VBool, VEntity, VRecord, Entries, no_entries, more_entries}
 use Rattle.cedar_typing.specs.Evaluation.World.{Slots, World}
@@ -12,7 +12,7 @@ use Rattle.cedar_typing.specs.Examples.Greeting.{words, stored_action, sample_fu
 use Rattle.cedar_typing.specs.Examples.Permissive.{team, staff}
 use Rattle.cedar_typing.specs.Examples.PolicySoundness.{sample_basis}
 use Rattle.cedar_typing.specs.Examples.World.{named, user, user_named, an_action_named, alice, bob, a_user}
-use Rattle.cedar_typing.specs.PolicySoundness.{Basis}
+use Rattle.cedar_typing.specs.Soundness.Policies.{Basis}
 use Rattle.cedar_typechecker.specs.Slices.Reach.{slice}
 
 -- ---- names

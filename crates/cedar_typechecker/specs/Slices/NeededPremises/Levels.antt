@@ -3,17 +3,17 @@
 use Rattle.std.specs.Prelude.{ℕ, true, false}
 use Rattle.cedar_types.specs.declared.base.types.ValidationMode.{ValidationMode}
 use Rattle.cedar_types.specs.Errors.{literal_dereference_target}
-use Rattle.cedar_types.specs.Linking.{checked_envs}
-use Rattle.cedar_types.specs.RequestEnvs.{Env}
+use Rattle.cedar_types.specs.Environments.Linking.{checked_envs}
+use Rattle.cedar_types.specs.Environments.RequestEnvs.{Env}
 use Rattle.cedar_types.specs.Templates.{PlainTemplate}
-use Rattle.cedar_types.specs.Tree.{and}
+use Rattle.cedar_types.specs.Expressions.Tree.{and}
 use Rattle.cedar_types.specs.Values.{VBool}
 use Rattle.cedar_typing.specs.Evaluation.Conformance.{IsOneOf}
 use Rattle.cedar_typing.specs.Evaluation.World.{MissingEntity, Gives, Fails}
 use Rattle.cedar_typing.specs.Examples.Expressions.{false_lit, the, principal}
 use Rattle.cedar_typing.specs.Examples.PolicySoundness.{Passes, PassesWarned, policy_when}
 use Rattle.cedar_typing.specs.PolicyCheck.{succeeds}
-use Rattle.cedar_typing.specs.PolicySoundness.{Basis}
+use Rattle.cedar_typing.specs.Soundness.Policies.{Basis}
 use Rattle.cedar_typing.specs.TypedExpr.{TypedTree}
 use Rattle.cedar_typechecker.specs.Levels.Errors.{exceeds, IsWithinLevel}
 use Rattle.cedar_typechecker.specs.Levels.Outcome.{ChecksOn, levels_on}

@@ -3,7 +3,7 @@
 use Rattle.std.specs.Prelude.{◌≡◌, not, true, false, ◌∷◌, filter, codes}
 use Rattle.cedar_types.specs.declared.base.types.ValidationMode.{ValidationMode}
 use Rattle.cedar_types.specs.Names.{Uid, uid_eq}
-use Rattle.cedar_types.specs.Stores.{Entity, Store, entity_at}
+use Rattle.cedar_types.specs.Values.Stores.{Entity, Store, entity_at}
 use Rattle.cedar_types.specs.Templates.{PlainTemplate}
 use Rattle.cedar_types.specs.Values.{VBool, no_entries, more_entries}
 use Rattle.cedar_typing.specs.Evaluation.World.{World, MissingEntity, Gives, Fails}

@@ -5,9 +5,9 @@ use Rattle.std.specs.Prelude.{◌≡◌, true, false, [], ◌∷◌, Some, codes
 use Rattle.cedar_types.specs.declared.base.names.slots.SlotId.{SlotId}
 use Rattle.cedar_types.specs.declared.base.types.ValidationMode.{ValidationMode}
 use Rattle.cedar_types.specs.Errors.{Finding, unsafe_tag_access}
-use Rattle.cedar_types.specs.Findings.{unknown_types, unknown_actions}
+use Rattle.cedar_types.specs.Templates.Findings.{unknown_types, unknown_actions}
 use Rattle.cedar_types.specs.Templates.{to_entity, any, equal, PlainTemplate, condition_of}
-use Rattle.cedar_types.specs.Tree.{Shape, slot, unknown, if_then_else, and, is_type}
+use Rattle.cedar_types.specs.Expressions.Tree.{Shape, slot, unknown, if_then_else, and, is_type}
 use Rattle.cedar_types.specs.Values.{VBool}
 use Rattle.cedar_typing.specs.Composition.{SlotsInScopeAlone}
 use Rattle.cedar_typing.specs.Evaluation.Conformance.{SlotsBound}
@@ -17,7 +17,7 @@ use Rattle.cedar_typing.specs.Examples.Expressions.{false_lit, one, the, princip
 use Rattle.cedar_typing.specs.Examples.Permissive.{team}
 use Rattle.cedar_typing.specs.Examples.PolicySoundness.{PassesWarned, policy_when}
 use Rattle.cedar_typing.specs.Examples.World.{named, group, alice, wave}
-use Rattle.cedar_typing.specs.PolicySoundness.{IsNamedBySchema, IsWellFormed, CheckedOn}
+use Rattle.cedar_typing.specs.Soundness.Policies.{IsNamedBySchema, IsWellFormed, CheckedOn}
 use Rattle.cedar_typing.specs.Silence.{HasNoUnknowns}
 use Rattle.cedar_typechecker.specs.Slices.Examples.{active_of, guide_of, resource}
 use Rattle.cedar_typechecker.specs.Slices.Examples.World.{page, wiki_schema, wiki_basis, reading, slice_of}

@@ -6,12 +6,12 @@ use Rattle.cedar_types.specs.declared.base.expressions.operators.Var.{Var}
 use Rattle.cedar_types.specs.declared.base.schema.errors.SchemaError.TheVariants.{DuplicateAction}
 use Rattle.cedar_types.specs.declared.base.types.ValidationMode.{ValidationMode}
 use Rattle.cedar_types.specs.declared.base.types.ValidationMode.TheVariants.{Permissive}
-use Rattle.cedar_types.specs.ExtensionFunctions.{ExtensionFunction, table_fault}
-use Rattle.cedar_types.specs.FormedSchemas.{has_formed_types}
+use Rattle.cedar_types.specs.Extensions.Functions.{ExtensionFunction, table_fault}
+use Rattle.cedar_types.specs.Schemas.Formed.{has_formed_types}
 use Rattle.cedar_types.specs.Names.{Path}
 use Rattle.cedar_types.specs.Schemas.{Schema, first_fault, has_fault}
 use Rattle.cedar_types.specs.Templates.{PlainTemplate}
-use Rattle.cedar_types.specs.Tree.{var, and, if_then_else, ext_has_attr}
+use Rattle.cedar_types.specs.Expressions.Tree.{var, and, if_then_else, ext_has_attr}
 use Rattle.cedar_types.specs.Types.{TAnyEntity}
 use Rattle.cedar_types.specs.Values.{VBool, VEntity, no_values}
 use Rattle.cedar_typing.specs.Evaluation.World.{Interpretation, World, MissingEntity, Gives, Fails}
@@ -21,7 +21,7 @@ use Rattle.cedar_typing.specs.Examples.NeededPremises.{guest, declared_guest, a_
 use Rattle.cedar_typing.specs.Examples.Permissive.{twice_context, twice_greeting}
 use Rattle.cedar_typing.specs.Examples.PolicySoundness.{Passes, PassesWarned, policy_when}
 use Rattle.cedar_typing.specs.Examples.World.{named, alice, bob, meet, declared_group}
-use Rattle.cedar_typing.specs.PolicySoundness.{Basis, IsClosedIn, IsConforming}
+use Rattle.cedar_typing.specs.Soundness.Policies.{Basis, IsClosedIn, IsConforming}
 use Rattle.cedar_typechecker.specs.Slices.Examples.{active_of, has_guide, guide_of, resource}
 use Rattle.cedar_typechecker.specs.Slices.Examples.World.{page, read, wiki_types, read_context, declared_read, wiki_schema, wiki_basis, page_guided_by, guided_wiki, wiki_store, reading, slice_of}
 use Rattle.cedar_typechecker.specs.Slices.NeededPremises.Differing.{IsAskedPolicy, DiffersIn}

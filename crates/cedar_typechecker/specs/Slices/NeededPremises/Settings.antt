@@ -6,11 +6,11 @@ use Rattle.cedar_types.specs.declared.base.expressions.operators.UnaryOp.{UnaryO
 use Rattle.cedar_types.specs.declared.base.names.slots.SlotId.{SlotId}
 use Rattle.cedar_types.specs.declared.base.types.ValidationMode.{ValidationMode}
 use Rattle.cedar_types.specs.declared.base.types.ValidationMode.TheVariants.{Partial}
-use Rattle.cedar_types.specs.ExtensionFunctions.{table_fault}
+use Rattle.cedar_types.specs.Extensions.Functions.{table_fault}
 use Rattle.cedar_types.specs.Schemas.{has_fault}
 use Rattle.cedar_types.specs.Templates.{PlainTemplate}
-use Rattle.cedar_types.specs.Tree.{Shape, slot, if_then_else, and, unary, ext_has_attr}
-use Rattle.cedar_types.specs.RequestEnvs.{Declared}
+use Rattle.cedar_types.specs.Expressions.Tree.{Shape, slot, if_then_else, and, unary, ext_has_attr}
+use Rattle.cedar_types.specs.Environments.RequestEnvs.{Declared}
 use Rattle.cedar_types.specs.Values.{VBool}
 use Rattle.cedar_typing.specs.Evaluation.Conformance.{SlotsBound}
 use Rattle.cedar_typing.specs.Evaluation.Eval.{eval}
@@ -19,7 +19,7 @@ use Rattle.cedar_typing.specs.Examples.Expressions.{one, principal, context, dot
 use Rattle.cedar_typing.specs.Examples.PolicySoundness.{Passes, policy_when}
 use Rattle.cedar_typing.specs.Examples.World.{user, alice}
 use Rattle.cedar_typing.specs.PolicyCheck.{PolicyChecks, succeeds}
-use Rattle.cedar_typing.specs.PolicySoundness.{setting_on}
+use Rattle.cedar_typing.specs.Soundness.Policies.{setting_on}
 use Rattle.cedar_typing.specs.Setting.{Setting}
 use Rattle.cedar_typing.specs.Soundness.{IsReliableIn, IsWorldOf}
 use Rattle.cedar_typing.specs.TypedExpr.{Source, TypedTree}

@@ -3,9 +3,9 @@
 -- store.)
 use Rattle.std.specs.Prelude.{true, [], ◌∷◌, codes}
 use Rattle.cedar_types.specs.declared.base.types.ValidationMode.{ValidationMode}
-use Rattle.cedar_types.specs.Stores.{ConformingStore}
+use Rattle.cedar_types.specs.Values.Stores.{ConformingStore}
 use Rattle.cedar_types.specs.Templates.{PlainTemplate}
-use Rattle.cedar_types.specs.Tree.{Shape, and, is_type}
+use Rattle.cedar_types.specs.Expressions.Tree.{Shape, and, is_type}
 use Rattle.cedar_types.specs.Values.{VBool}
 use Rattle.cedar_typing.specs.Evaluation.Conformance.{ConformingRequest, KeepsTable}
 use Rattle.cedar_typing.specs.Evaluation.World.{World, MissingEntity, Gives, Fails}

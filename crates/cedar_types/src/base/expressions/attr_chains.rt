@@ -1,6 +1,6 @@
 // The attributes of an extended `has`.
 ghost use Rattle.std.specs.Prelude.{◌≡◌, IfOk, map};
-ghost use Rattle.cedar_types.specs.View.{chain_of};
+ghost use Rattle.cedar_types.specs.Expressions.View.{chain_of};
 
 use crate::base::names::{copy_texts, texts_from};
 use std::alloc::{AllocError, Global};

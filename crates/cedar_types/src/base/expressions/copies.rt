@@ -1,6 +1,6 @@
 // Copies of expressions.
 ghost use Rattle.std.specs.Prelude.{◌≡◌, IfOk, Option, map};
-ghost use Rattle.cedar_types.specs.View.{written, kind_written, trees_of, fields_written};
+ghost use Rattle.cedar_types.specs.Expressions.View.{written, kind_written, trees_of, fields_written};
 
 use crate::base::expressions::patterns::copy_pattern;
 use crate::base::expressions::{Expr, ExprKind};

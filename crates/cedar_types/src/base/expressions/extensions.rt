@@ -3,11 +3,11 @@ ghost use Rattle.std.specs.Prelude.{◌≡◌, false, List, Option, None, map, I
 ghost use Rattle.std.specs.Option.{is_some};
 ghost use Rattle.std.specs.Ordering.{is_lt};
 ghost use Rattle.std.specs.List.Sorted.{IsSortedBy};
-ghost use Rattle.cedar_types.specs.Tree.{Tree};
-ghost use Rattle.cedar_types.specs.View.{Written, written};
-ghost use Rattle.cedar_types.specs.ArgumentChecks.{refusal_of};
+ghost use Rattle.cedar_types.specs.Expressions.Tree.{Tree};
+ghost use Rattle.cedar_types.specs.Expressions.View.{Written, written};
+ghost use Rattle.cedar_types.specs.Extensions.ArgumentChecks.{refusal_of};
 ghost use Rattle.cedar_types.specs.Names.{Text, path_of, path_cmp};
-ghost use Rattle.cedar_types.specs.ExtensionFunctions.{function_of, table_fault};
+ghost use Rattle.cedar_types.specs.Extensions.Functions.{function_of, table_fault};
 
 mod faults;
 
@@ -77,8 +77,8 @@ pub struct ExtensionSchemas<C = Box<dyn ArgumentCheck>> {
 #[tactic(auto, unfolding(crate::specs::Extensions::functions_of, crate::specs::Extensions::overloaded_types_of))]
 impl ExtensionSchemas {
     ghost use Rattle.std.specs.Prelude.{[], Some, option_map, IfErr};
-    ghost use Rattle.cedar_types.specs.Comparisons.{name_cmp};
-    ghost use Rattle.cedar_types.specs.ExtensionFunctions.{function_named};
+    ghost use Rattle.cedar_types.specs.Names.Comparisons.{name_cmp};
+    ghost use Rattle.cedar_types.specs.Extensions.Functions.{function_named};
     ghost use Rattle.cedar_types.specs.Extensions.{functions_of, overloaded_types_of};
 
     /// The table without functions and without overloaded types. It takes no memory.
@@ -135,7 +135,7 @@ impl ExtensionSchemas {
 #[tactic(auto, unfolding(crate::specs::Extensions::functions_of, crate::specs::Extensions::overloaded_types_of))]
 impl<C> ExtensionSchemas<C> {
     ghost use Rattle.std.specs.Prelude.{option_map};
-    ghost use Rattle.cedar_types.specs.ExtensionFunctions.{function_named};
+    ghost use Rattle.cedar_types.specs.Extensions.Functions.{function_named};
     ghost use Rattle.cedar_types.specs.Extensions.{functions_of, overloaded_types_of};
 
     /// The function of this name, if there is one. It takes no memory, and each comparison of two names halves the

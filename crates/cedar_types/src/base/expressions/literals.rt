@@ -1,8 +1,8 @@
 // Literals.
 ghost use Rattle.std.specs.Prelude.{◌≡◌, IfOk};
 ghost use Rattle.cedar_types.specs.Names.{uid_of};
-ghost use Rattle.cedar_types.specs.Tree.{bool, long, string, entity};
-ghost use Rattle.cedar_types.specs.View.{no_name, of_uid, lit_of, lit_places};
+ghost use Rattle.cedar_types.specs.Expressions.Tree.{bool, long, string, entity};
+ghost use Rattle.cedar_types.specs.Expressions.View.{no_name, of_uid, lit_of, lit_places};
 
 use crate::base::names::entities::EntityUID;
 use std::alloc::{AllocError, Global};

@@ -1,9 +1,9 @@
 // Makers of expressions, one for each form. What they make has no place; the parts keep theirs.
 ghost use Rattle.std.specs.Prelude.{◌≡◌, None, IfOk, map};
 ghost use Rattle.cedar_types.specs.Names.{path_of, type_of};
-ghost use Rattle.cedar_types.specs.Tree.{lit, var, slot, unknown, if_then_else, and, or, call, get_attr, has_attr, ext_has_attr, like, is_type, set_of, record_of};
-ghost use Rattle.cedar_types.specs.View.{of_type, written, lit_of, lit_places, chain_of, trees_of, kind_written, fields_written};
-ghost use Rattle.cedar_types.specs.Makers.{unplaced, naming, at_place};
+ghost use Rattle.cedar_types.specs.Expressions.Tree.{lit, var, slot, unknown, if_then_else, and, or, call, get_attr, has_attr, ext_has_attr, like, is_type, set_of, record_of};
+ghost use Rattle.cedar_types.specs.Expressions.View.{of_type, written, lit_of, lit_places, chain_of, trees_of, kind_written, fields_written};
+ghost use Rattle.cedar_types.specs.Expressions.Makers.{unplaced, naming, at_place};
 
 use crate::base::expressions::attr_chains::AttrChain;
 use crate::base::expressions::literals::Literal;

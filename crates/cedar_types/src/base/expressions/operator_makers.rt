@@ -2,9 +2,9 @@
 ghost use Rattle.std.specs.Prelude.{◌≡◌, IfOk};
 ghost use Rattle.cedar_types.specs.declared.base.expressions.operators.UnaryOp.TheVariants as UnaryOp;
 ghost use Rattle.cedar_types.specs.declared.base.expressions.operators.BinaryOp.TheVariants as BinaryOp;
-ghost use Rattle.cedar_types.specs.Tree.{unary, binary};
-ghost use Rattle.cedar_types.specs.View.{written};
-ghost use Rattle.cedar_types.specs.Makers.{unplaced};
+ghost use Rattle.cedar_types.specs.Expressions.Tree.{unary, binary};
+ghost use Rattle.cedar_types.specs.Expressions.View.{written};
+ghost use Rattle.cedar_types.specs.Expressions.Makers.{unplaced};
 
 use crate::base::expressions::makers::without_place;
 use crate::base::expressions::operators::{BinaryOp, UnaryOp};

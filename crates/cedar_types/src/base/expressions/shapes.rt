@@ -1,8 +1,8 @@
 // Expressions that count by their shape alone.
 ghost use Rattle.std.specs.Prelude.{◌≡◌, IsTrue, ◌↔◌};
 ghost use Rattle.std.specs.Ordering.{as_partial_cmp};
-ghost use Rattle.cedar_types.specs.View.{shape, written};
-ghost use Rattle.cedar_types.specs.TreeEq.{tree_eq};
+ghost use Rattle.cedar_types.specs.Expressions.View.{shape, written};
+ghost use Rattle.cedar_types.specs.Expressions.TreeEq.{tree_eq};
 
 use crate::base::expressions::Expr;
 use crate::base::expressions::copies::copy_expr;
@@ -35,7 +35,7 @@ pub enum ExprShapeOnly<'a> {
 
 impl<'a> ExprShapeOnly<'a> {
     ghost use Rattle.std.specs.Prelude.{IfOk};
-    ghost use Rattle.cedar_types.specs.ShapeOnly.{expr_of};
+    ghost use Rattle.cedar_types.specs.Expressions.ShapeOnly.{expr_of};
 
     /// The expression inside.
     pub fn expr(&self) -> &Expr
@@ -60,7 +60,7 @@ impl<'a> ExprShapeOnly<'a> {
 
 impl<'a> PartialEq for ExprShapeOnly<'a> {
     ghost use Rattle.std.specs.Cmp.{partial_equiv_from_equiv};
-    ghost use Rattle.cedar_types.specs.ShapeOnly.{shape_eq};
+    ghost use Rattle.cedar_types.specs.Expressions.ShapeOnly.{shape_eq};
     ghost use Rattle.cedar_types.specs.Lemmas.ShapeOnly.{shape_eq_equiv};
 
     ghost eq = { shape_eq };
@@ -80,7 +80,7 @@ impl<'a> Eq for ExprShapeOnly<'a> {
 
 impl<'a> PartialOrd for ExprShapeOnly<'a> {
     ghost use Rattle.std.specs.Cmp.{po};
-    ghost use Rattle.cedar_types.specs.ShapeOnly.{shape_cmp};
+    ghost use Rattle.cedar_types.specs.Expressions.ShapeOnly.{shape_cmp};
     ghost use Rattle.cedar_types.specs.Lemmas.ShapeOnly.{shape_cmp_total, shape_cmp_ties};
 
     ghost partial_cmp = { as_partial_cmp shape_cmp };
@@ -94,7 +94,7 @@ impl<'a> PartialOrd for ExprShapeOnly<'a> {
 
 impl<'a> Ord for ExprShapeOnly<'a> {
     ghost use Rattle.std.specs.Prelude.{refl};
-    ghost use Rattle.cedar_types.specs.ShapeOnly.{shape_cmp};
+    ghost use Rattle.cedar_types.specs.Expressions.ShapeOnly.{shape_cmp};
     ghost use Rattle.cedar_types.specs.Lemmas.ShapeOnly.{shape_cmp_total, shape_cmp_ties};
 
     ghost cmp = { shape_cmp };
@@ -111,14 +111,14 @@ impl<'a> Ord for ExprShapeOnly<'a> {
 }
 
 impl<'a> Hash for ExprShapeOnly<'a> {
-    ghost use Rattle.cedar_types.specs.Writes.{shape_writes};
+    ghost use Rattle.cedar_types.specs.Expressions.Writes.{shape_writes};
     ghost use Rattle.cedar_types.specs.Lemmas.ShapeOnly.{shape_writes_alike};
 
     ghost hash_input = { shape_writes };
 
     ghost respects_eq = { shape_writes_alike };
 
-    #[tactic(auto, unfolding(crate::specs::Writes::shape_writes))]
+    #[tactic(auto, unfolding(crate::specs::Expressions::Writes::shape_writes))]
     fn hash<H: Hasher>(&self, state: &mut H) {
         self.expr().hash(state);
     }

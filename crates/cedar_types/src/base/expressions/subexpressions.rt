@@ -1,8 +1,8 @@
 // The parts of an expression, one after another.
 ghost use Rattle.std.specs.Prelude.{◌≡◌, ◌++◌, [], ◌∷◌, false, IfOk, map};
 ghost use Rattle.cedar_types.specs.FallibleIterators.{YieldsOrEnds, calls_left};
-ghost use Rattle.cedar_types.specs.Parts.{subexpressions, mentions_slot, is_slot, listed, field_values, parts, has_ended, expressions_left};
-ghost use Rattle.cedar_types.specs.View.{trees_of, written, fields_written};
+ghost use Rattle.cedar_types.specs.Expressions.Parts.{subexpressions, mentions_slot, is_slot, listed, field_values, parts, has_ended, expressions_left};
+ghost use Rattle.cedar_types.specs.Expressions.View.{trees_of, written, fields_written};
 
 use crate::base::expressions::{Expr, ExprKind};
 use crate::base::names::slots::SlotId;
@@ -28,7 +28,7 @@ impl<'a, T> Iterator for ExprIterator<'a, T> {
 
     ghost remaining = { calls_left expressions_left has_ended };
 
-    #[tactic(auto, unfolding(crate::specs::Parts::expressions_left, crate::specs::Parts::has_ended))]
+    #[tactic(auto, unfolding(crate::specs::Expressions::Parts::expressions_left, crate::specs::Expressions::Parts::has_ended))]
     fn next(&mut self) -> Option<Result<&'a Expr<T>, AllocError>> {
         if self.ended {
             return None;
@@ -126,7 +126,7 @@ impl<T> Expr<T> {
     ///
     /// It does not recurse. An `AllocError` comes where memory for what is still to visit is refused, here or from the
     /// iterator.
-    #[tactic(auto, unfolding(crate::specs::Parts::expressions_left, crate::specs::Parts::has_ended))]
+    #[tactic(auto, unfolding(crate::specs::Expressions::Parts::expressions_left, crate::specs::Expressions::Parts::has_ended))]
     pub fn subexpressions(&self, alloc: Global) -> Result<ExprIterator<'_, T>, AllocError>
         ensures started { IfOk result (λ s. has_ended s ≡ false) }
         ensures left { IfOk result (λ s. expressions_left s ≡ subexpressions (written self.now)) }

@@ -1,7 +1,7 @@
 // The actions that a schema declares, found by id.
 ghost use Rattle.std.specs.Prelude.{◌≡◌, true, false, IfOk, MatchOption, map};
-ghost use Rattle.cedar_types.specs.Places.{IsActionIndex};
-ghost use Rattle.cedar_types.specs.Declarations.{declared_action};
+ghost use Rattle.cedar_types.specs.Schemas.Tables.Places.{IsActionIndex};
+ghost use Rattle.cedar_types.specs.Schemas.Declarations.{declared_action};
 ghost use Rattle.cedar_types.specs.Schemas.{repeats_action};
 
 use crate::base::names::entities::EntityUID;
@@ -22,8 +22,8 @@ impl ActionTable {
     ghost use Rattle.std.specs.List.{list_all};
     ghost use Rattle.cedar_types.specs.Names.{uid_of};
     ghost use Rattle.cedar_types.specs.Schemas.{declares_action, action_named};
-    ghost use Rattle.cedar_types.specs.Declarations.{uids_of};
-    ghost use Rattle.cedar_types.specs.Tables.{actions_in};
+    ghost use Rattle.cedar_types.specs.Schemas.Declarations.{uids_of};
+    ghost use Rattle.cedar_types.specs.Schemas.Tables.{actions_in};
 
     /// The table of these actions; `None` where an id repeats.
     pub(crate) fn new(

@@ -34,7 +34,7 @@ pub struct ValidatorApplySpec {
 }
 
 impl ValidatorActionId {
-    ghost use Rattle.cedar_types.specs.Declarations.{application, applies};
+    ghost use Rattle.cedar_types.specs.Schemas.Declarations.{application, applies};
 
     /// What the action applies to; `None` of an external one.
     pub fn defined(&self) -> Option<&ValidatorApplySpec>

@@ -3,10 +3,10 @@ ghost use Rattle.std.specs.Prelude.{◌≡◌, ◌||◌, true, IfSome};
 ghost use Rattle.std.specs.List.{list_all};
 ghost use Rattle.cedar_types.specs.Names.{type_of, uid_of};
 ghost use Rattle.cedar_types.specs.Types.{types_of};
-ghost use Rattle.cedar_types.specs.Declarations.{declared_type, declared_action, uids_of};
-ghost use Rattle.cedar_types.specs.Tables.{types_in, actions_in};
+ghost use Rattle.cedar_types.specs.Schemas.Declarations.{declared_type, declared_action, uids_of};
+ghost use Rattle.cedar_types.specs.Schemas.Tables.{types_in, actions_in};
 ghost use Rattle.cedar_types.specs.Schemas.{is_among, uid_is_among, descendants_of, descendants_of_action};
-ghost use Rattle.cedar_types.specs.Closures.{types_are_kept, actions_are_kept, IsTypeBelow, IsActionBelow};
+ghost use Rattle.cedar_types.specs.Schemas.Closures.{types_are_kept, actions_are_kept, IsTypeBelow, IsActionBelow};
 
 use crate::base::names::entities::{EntityType, EntityUID};
 use crate::base::schema::action_tables::ActionTable;

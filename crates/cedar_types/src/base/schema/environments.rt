@@ -2,8 +2,8 @@
 ghost use Rattle.std.specs.Prelude.{◌≡◌, ◌++◌, map, Some, IfOk, OnOk};
 ghost use Rattle.cedar_types.specs.Names.{type_of, uid_of};
 ghost use Rattle.cedar_types.specs.Types.{types_of, ty_of};
-ghost use Rattle.cedar_types.specs.Declarations.{application};
-ghost use Rattle.cedar_types.specs.Tables.{actions_in};
+ghost use Rattle.cedar_types.specs.Schemas.Declarations.{application};
+ghost use Rattle.cedar_types.specs.Schemas.Tables.{actions_in};
 ghost use Rattle.cedar_types.specs.Environments.{declared_env, principal_environments, action_environments, environments_of};
 
 use crate::base::names::entities::{EntityType, EntityUID};

@@ -3,8 +3,8 @@ ghost use Rattle.std.specs.Prelude.{◌≡◌, not, option_map};
 ghost use Rattle.std.specs.List.{list_all, list_any};
 ghost use Rattle.cedar_types.specs.Names.{is_action_path, type_of};
 ghost use Rattle.cedar_types.specs.Types.{ty_of};
-ghost use Rattle.cedar_types.specs.Declarations.{type_kind, applies, declared_type, uids_of};
-ghost use Rattle.cedar_types.specs.Tables.{types_in, actions_in, schema_in};
+ghost use Rattle.cedar_types.specs.Schemas.Declarations.{type_kind, applies, declared_type, uids_of};
+ghost use Rattle.cedar_types.specs.Schemas.Tables.{types_in, actions_in, schema_in};
 ghost use Rattle.cedar_types.specs.Schemas.{later_fault, knows_type, is_empty_enum, names_pass, tags_pass, kind_names_pass, type_is_known, application_is_known, declares_action, is_vague, kind_is_definite, application_is_definite};
 
 use crate::base::schema::action_tables::ActionTable;

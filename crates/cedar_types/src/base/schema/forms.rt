@@ -1,9 +1,9 @@
 // The types of every schema are well-formed: walks that show it, and do nothing else.
 ghost use Rattle.std.specs.Prelude.{◌≡◌, true, map};
 ghost use Rattle.std.specs.List.{list_all};
-ghost use Rattle.cedar_types.specs.Declarations.{type_kind, applies, declared_type, declared_action};
-ghost use Rattle.cedar_types.specs.FormedSchemas.{kind_is_formed, application_is_formed, has_formed_types};
-ghost use Rattle.cedar_types.specs.Tables.{schema_in};
+ghost use Rattle.cedar_types.specs.Schemas.Declarations.{type_kind, applies, declared_type, declared_action};
+ghost use Rattle.cedar_types.specs.Schemas.Formed.{kind_is_formed, application_is_formed, has_formed_types};
+ghost use Rattle.cedar_types.specs.Schemas.Tables.{schema_in};
 
 use crate::base::schema::action_tables::ActionTable;
 use crate::base::schema::actions::{ValidatorActionId, ValidatorActionKind};

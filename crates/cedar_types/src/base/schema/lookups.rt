@@ -3,9 +3,9 @@ ghost use Rattle.std.specs.Prelude.{◌≡◌, IfOk, option_map, is_some};
 ghost use Rattle.std.specs.List.{list_any};
 ghost use Rattle.cedar_types.specs.Names.{text_of, type_of, uid_of};
 ghost use Rattle.cedar_types.specs.Types.{ty_of, kind_of, lub_of, is_open_tag};
-ghost use Rattle.cedar_types.specs.Declarations.{type_kind};
-ghost use Rattle.cedar_types.specs.Lookups.{attribute_view, attribute_type, may_have, may_declare, literal_type, declares_entity, kind_attribute, declared_attribute, joined_attribute, types_attribute};
-ghost use Rattle.cedar_types.specs.SchemaContents.{schema_of};
+ghost use Rattle.cedar_types.specs.Schemas.Declarations.{type_kind};
+ghost use Rattle.cedar_types.specs.Types.Lookups.{attribute_view, attribute_type, may_have, may_declare, literal_type, declares_entity, kind_attribute, declared_attribute, joined_attribute, types_attribute};
+ghost use Rattle.cedar_types.specs.Schemas.Contents.{schema_of};
 
 use crate::base::names::entities::{EntityType, EntityUID};
 use crate::base::schema::ValidatorSchema;
@@ -81,7 +81,7 @@ impl CedarType {
     }
 }
 
-#[tactic(auto, unfolding(crate::specs::SchemaContents::schema_of))]
+#[tactic(auto, unfolding(crate::specs::Schemas::Contents::schema_of))]
 fn is_declared(entity: &EntityUID, schema: &ValidatorSchema) -> bool
     ensures { result ≡ declares_entity (schema_of schema.now) (uid_of entity.now) }
 {
@@ -138,7 +138,7 @@ fn types_lookup(
 }
 
 /// What one type declares.
-#[tactic(auto, unfolding(crate::specs::SchemaContents::schema_of))]
+#[tactic(auto, unfolding(crate::specs::Schemas::Contents::schema_of))]
 fn declared_lookup<'a>(
     schema: &'a ValidatorSchema,
     entity_type: &EntityType,

@@ -3,10 +3,10 @@ ghost use Rattle.std.specs.Prelude.{◌≡◌, ◌&&◌};
 ghost use Rattle.std.specs.List.{list_any};
 ghost use Rattle.cedar_types.specs.Names.{is_action_path, type_of, path_eq};
 ghost use Rattle.cedar_types.specs.Types.{lub_of};
-ghost use Rattle.cedar_types.specs.Declarations.{type_kind, uids_of};
+ghost use Rattle.cedar_types.specs.Schemas.Declarations.{type_kind, uids_of};
 ghost use Rattle.cedar_types.specs.Schemas.{is_open_type, is_external, is_external_kind, type_named, is_among, descendants_of, action_is_below, may_be_in, any_may_be_in};
-ghost use Rattle.cedar_types.specs.SchemaContents.{schema_of};
-ghost use Rattle.cedar_types.specs.Stores.{MembershipsAreAllowed};
+ghost use Rattle.cedar_types.specs.Schemas.Contents.{schema_of};
+ghost use Rattle.cedar_types.specs.Values.Stores.{MembershipsAreAllowed};
 
 use crate::base::names::entities::{EntityType, EntityUID};
 use crate::base::schema::ValidatorSchema;
@@ -53,14 +53,14 @@ impl ValidatorSchema {
             || self.is_action_below(left, right)
     }
 
-    #[tactic(auto, unfolding(crate::specs::SchemaContents::schema_of))]
+    #[tactic(auto, unfolding(crate::specs::Schemas::Contents::schema_of))]
     pub(crate) fn is_open(&self, name: &EntityType) -> bool
         ensures { result ≡ is_open_type (schema_of self.now).types (type_of name.now) }
     {
         !self.types.knows(name) || self.is_external(name)
     }
 
-    #[tactic(auto, unfolding(crate::specs::SchemaContents::schema_of))]
+    #[tactic(auto, unfolding(crate::specs::Schemas::Contents::schema_of))]
     fn is_external(&self, name: &EntityType) -> bool
         ensures { result ≡ is_external (type_named (schema_of self.now).types (type_of name.now)) }
     {
@@ -70,7 +70,7 @@ impl ValidatorSchema {
         }
     }
 
-    #[tactic(auto, unfolding(crate::specs::SchemaContents::schema_of))]
+    #[tactic(auto, unfolding(crate::specs::Schemas::Contents::schema_of))]
     fn is_type_below(&self, left: &EntityType, right: &EntityType) -> bool
         ensures { result ≡ is_among (descendants_of (schema_of self.now).types (type_of right.now))
             (type_of left.now) }

@@ -2,10 +2,10 @@
 ghost use Rattle.std.specs.Prelude.{◌≡◌, false, [], map, option_map, IfOk, OnOk};
 ghost use Rattle.std.specs.List.Sorted.{IsPermutation};
 ghost use Rattle.cedar_types.specs.Names.{type_of, uid_of, uid_eq};
-ghost use Rattle.cedar_types.specs.Declarations.{declared_type, declared_action, declared, uids_of};
-ghost use Rattle.cedar_types.specs.Listings.{ListsTypes, ListsActions, AddsIds, types_within};
+ghost use Rattle.cedar_types.specs.Schemas.Declarations.{declared_type, declared_action, declared, uids_of};
+ghost use Rattle.cedar_types.specs.Schemas.Listings.{ListsTypes, ListsActions, AddsIds, types_within};
 ghost use Rattle.cedar_types.specs.Schemas.{has_repeat, knows_type, type_named, declares_action, action_named};
-ghost use Rattle.cedar_types.specs.SchemaContents.{schema_of};
+ghost use Rattle.cedar_types.specs.Schemas.Contents.{schema_of};
 
 use crate::base::names::entities::{EntityType, EntityUID};
 use crate::base::schema::ValidatorSchema;
@@ -17,7 +17,7 @@ use crate::base::schema::type_tables::EntityTypeTable;
 use std::alloc::{AllocError, Global};
 use std::collections::BTreeSet;
 
-#[tactic(auto, unfolding(crate::specs::SchemaContents::schema_of))]
+#[tactic(auto, unfolding(crate::specs::Schemas::Contents::schema_of))]
 impl ValidatorSchema {
     /// The schema that declares nothing.
     pub fn empty(alloc: Global) -> ValidatorSchema

@@ -2,9 +2,9 @@
 ghost use Rattle.std.specs.Prelude.{◌≡◌, ◌++◌, ◌∷◌, [], map, Some, IfOk, OnOk};
 ghost use Rattle.cedar_types.specs.Names.{type_of};
 ghost use Rattle.cedar_types.specs.Templates.{scope_of};
-ghost use Rattle.cedar_types.specs.SchemaContents.{schema_of};
-ghost use Rattle.cedar_types.specs.Linking.{slot_links as links_of_slot, slot_types, type_names, types_above};
-ghost use Rattle.cedar_types.specs.LinkViews.{link_of};
+ghost use Rattle.cedar_types.specs.Schemas.Contents.{schema_of};
+ghost use Rattle.cedar_types.specs.Environments.Linking.{slot_links as links_of_slot, slot_types, type_names, types_above};
+ghost use Rattle.cedar_types.specs.Environments.LinkViews.{link_of};
 
 use crate::base::names::entities::EntityType;
 use crate::base::schema::ValidatorSchema;
@@ -62,7 +62,7 @@ fn add_types<'a>(
 }
 
 /// A type that is above itself is added twice.
-#[tactic(auto, unfolding(crate::specs::SchemaContents::schema_of))]
+#[tactic(auto, unfolding(crate::specs::Schemas::Contents::schema_of))]
 fn add_types_above_and_own<'a>(
     schema: &'a ValidatorSchema,
     own: &'a EntityType,
@@ -83,7 +83,7 @@ fn add_types_above_and_own<'a>(
     Ok(())
 }
 
-#[tactic(auto, unfolding(crate::specs::SchemaContents::schema_of))]
+#[tactic(auto, unfolding(crate::specs::Schemas::Contents::schema_of))]
 fn add_all_types<'a>(
     schema: &'a ValidatorSchema,
     links: &mut Vec<Option<&'a EntityType>>,

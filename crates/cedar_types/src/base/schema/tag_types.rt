@@ -2,10 +2,10 @@
 ghost use Rattle.std.specs.Prelude.{◌≡◌, ◌++◌, IfOk, map};
 ghost use Rattle.cedar_types.specs.Names.{type_of};
 ghost use Rattle.cedar_types.specs.Types.{ty_of, kind_of, lub_of};
-ghost use Rattle.cedar_types.specs.Declarations.{declared_type, type_kind};
-ghost use Rattle.cedar_types.specs.Lookups.{kind_tags, declared_tags, tags_of_types, tags_of_any, tag_types};
+ghost use Rattle.cedar_types.specs.Schemas.Declarations.{declared_type, type_kind};
+ghost use Rattle.cedar_types.specs.Types.Lookups.{kind_tags, declared_tags, tags_of_types, tags_of_any, tag_types};
 ghost use Rattle.cedar_types.specs.Schemas.{type_named};
-ghost use Rattle.cedar_types.specs.SchemaContents.{schema_of};
+ghost use Rattle.cedar_types.specs.Schemas.Contents.{schema_of};
 
 use crate::base::names::entities::EntityType;
 use crate::base::schema::ValidatorSchema;
@@ -16,7 +16,7 @@ use crate::base::types::{CedarType, EntityKind};
 use std::alloc::{AllocError, Global};
 use std::collections::BTreeSet;
 
-#[tactic(auto, unfolding(crate::specs::SchemaContents::schema_of))]
+#[tactic(auto, unfolding(crate::specs::Schemas::Contents::schema_of))]
 impl ValidatorSchema {
     /// The types that a tag may have, in ascending order: of some entity types those that they declare, of any entity
     /// those that any type declares.
@@ -66,7 +66,7 @@ fn tags_of_any(alloc: Global, types: &[ValidatorEntityType]) -> Result<Vec<Cedar
 }
 
 /// Adds what the type of this name declares.
-#[tactic(auto, unfolding(crate::specs::SchemaContents::schema_of))]
+#[tactic(auto, unfolding(crate::specs::Schemas::Contents::schema_of))]
 fn add_declared_tags(
     schema: &ValidatorSchema,
     entity_type: &EntityType,

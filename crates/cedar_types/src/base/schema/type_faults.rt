@@ -1,7 +1,7 @@
 // Which entity types a type names, and whether it says enough for a schema.
 ghost use Rattle.std.specs.Prelude.{◌≡◌};
 ghost use Rattle.cedar_types.specs.Types.{ty_of, attributes_of, kind_of};
-ghost use Rattle.cedar_types.specs.Tables.{types_in};
+ghost use Rattle.cedar_types.specs.Schemas.Tables.{types_in};
 ghost use Rattle.cedar_types.specs.Schemas.{knows_type, names_pass, attr_names_pass, is_vague, are_vague, is_vague_bool, is_record};
 
 use crate::base::schema::type_tables::EntityTypeTable;

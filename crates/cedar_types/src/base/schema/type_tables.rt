@@ -1,7 +1,7 @@
 // The entity types that a schema declares, found by name.
 ghost use Rattle.std.specs.Prelude.{◌≡◌, true, false, IfOk, MatchOption, map};
-ghost use Rattle.cedar_types.specs.Places.{IsTypeIndex};
-ghost use Rattle.cedar_types.specs.Declarations.{declared_type};
+ghost use Rattle.cedar_types.specs.Schemas.Tables.Places.{IsTypeIndex};
+ghost use Rattle.cedar_types.specs.Schemas.Declarations.{declared_type};
 ghost use Rattle.cedar_types.specs.Schemas.{repeats_type};
 
 use crate::base::names::entities::EntityType;
@@ -23,7 +23,7 @@ impl EntityTypeTable {
     ghost use Rattle.cedar_types.specs.Names.{type_of};
     ghost use Rattle.cedar_types.specs.Schemas.{declares_type, knows_type, type_named};
     ghost use Rattle.cedar_types.specs.Types.{types_of};
-    ghost use Rattle.cedar_types.specs.Tables.{types_in};
+    ghost use Rattle.cedar_types.specs.Schemas.Tables.{types_in};
 
     /// The table of these types; `None` where a name repeats.
     pub(crate) fn new(

@@ -1,8 +1,8 @@
 // The condition of a template, made from its scope and its rest.
 ghost use Rattle.std.specs.Prelude.{◌≡◌, IfOk, map, option_map};
 ghost use Rattle.cedar_types.specs.Names.{placed_type, placed_uid};
-ghost use Rattle.cedar_types.specs.Tree.{var, and as and_tree, binary as binary_tree};
-ghost use Rattle.cedar_types.specs.View.{written, kind_written};
+ghost use Rattle.cedar_types.specs.Expressions.Tree.{var, and as and_tree, binary as binary_tree};
+ghost use Rattle.cedar_types.specs.Expressions.View.{written, kind_written};
 ghost use Rattle.cedar_types.specs.Templates.{template_of, scope_condition, condition_of, with_rest as with_rest_tree, scope_of, scope_at, action_scope_of, action_scope_at, reference_of, reference_at, typed_at, within_at, equal_at, true_at, uid_at, made};
 
 use crate::base::expressions::literals::Literal;

@@ -1,9 +1,9 @@
 // What a template names, one occurrence after another.
 ghost use Rattle.std.specs.Prelude.{◌≡◌, false, [], ◌∷◌, map, option_map, IfOk, MatchOption};
 ghost use Rattle.cedar_types.specs.FallibleIterators.{YieldsOrEnds, calls_left};
-ghost use Rattle.cedar_types.specs.Findings.{template_uids, template_types};
-ghost use Rattle.cedar_types.specs.Mentions.{mentioned_uid, mentioned_type, template_mentions};
-ghost use Rattle.cedar_types.specs.MentionViews.{mention_of, mentions_to_come, mentions_left, mentions_are_over};
+ghost use Rattle.cedar_types.specs.Templates.Findings.{template_uids, template_types};
+ghost use Rattle.cedar_types.specs.Templates.Mentions.{mentioned_uid, mentioned_type, template_mentions};
+ghost use Rattle.cedar_types.specs.Templates.MentionViews.{mention_of, mentions_to_come, mentions_left, mentions_are_over};
 ghost use Rattle.cedar_types.specs.Names.{placed_type, placed_uid};
 ghost use Rattle.cedar_types.specs.Templates.{template_of};
 
@@ -65,7 +65,7 @@ impl<'a> Iterator for Mentions<'a> {
 
     ghost remaining = { calls_left mentions_left mentions_are_over };
 
-    #[tactic(auto, unfolding(crate::specs::MentionViews::mentions_left, crate::specs::MentionViews::mentions_are_over))]
+    #[tactic(auto, unfolding(crate::specs::Templates::MentionViews::mentions_left, crate::specs::Templates::MentionViews::mentions_are_over))]
     fn next(&mut self) -> Option<Result<Mention<'a>, AllocError>> {
         if self.ended {
             return None;
@@ -102,7 +102,7 @@ impl<'a> Mentions<'a> {
 impl Template {
     /// The names in the scope's constraints and in the rest: entity ids, and the types that an `is` tests for. It takes
     /// no memory. The original walks over ids and over type names, each in a function of its own.
-    #[tactic(auto, unfolding(crate::specs::MentionViews::mentions_left, crate::specs::MentionViews::mentions_are_over))]
+    #[tactic(auto, unfolding(crate::specs::Templates::MentionViews::mentions_left, crate::specs::Templates::MentionViews::mentions_are_over))]
     pub fn mentions(&self, alloc: Global) -> Mentions<'_>
         ensures begun { mentions_are_over result ≡ false }
         ensures left { mentions_left result ≡ template_mentions (template_of self.now) }

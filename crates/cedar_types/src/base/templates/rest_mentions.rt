@@ -1,8 +1,8 @@
 // What the rest of a template names.
 ghost use Rattle.std.specs.Prelude.{◌≡◌, [], ◌∷◌, IfOk, MatchOption, option_map};
-ghost use Rattle.cedar_types.specs.Mentions.{own_mention, rest_mentions};
-ghost use Rattle.cedar_types.specs.MentionViews.{mention_of, named_by_left, rest_to_come};
-ghost use Rattle.cedar_types.specs.View.{written};
+ghost use Rattle.cedar_types.specs.Templates.Mentions.{own_mention, rest_mentions};
+ghost use Rattle.cedar_types.specs.Templates.MentionViews.{mention_of, named_by_left, rest_to_come};
+ghost use Rattle.cedar_types.specs.Expressions.View.{written};
 
 use crate::base::expressions::literals::Literal;
 use crate::base::expressions::subexpressions::ExprIterator;

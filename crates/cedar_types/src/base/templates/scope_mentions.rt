@@ -1,8 +1,8 @@
 // What the scope of a template names.
 ghost use Rattle.std.specs.Prelude.{◌≡◌, [], ◌∷◌, ◌++◌, map, option_map, MatchOption};
 ghost use Rattle.std.specs.Option.{option_to_list};
-ghost use Rattle.cedar_types.specs.Mentions.{named_uid, reference_mentions, scope_mentions, named_actions, action_mentions};
-ghost use Rattle.cedar_types.specs.MentionViews.{mention_of, constraint_left, scope_left};
+ghost use Rattle.cedar_types.specs.Templates.Mentions.{named_uid, reference_mentions, scope_mentions, named_actions, action_mentions};
+ghost use Rattle.cedar_types.specs.Templates.MentionViews.{mention_of, constraint_left, scope_left};
 ghost use Rattle.cedar_types.specs.Names.{placed_uid};
 ghost use Rattle.cedar_types.specs.Templates.{template_of, reference_of, scope_of, action_scope_of};
 

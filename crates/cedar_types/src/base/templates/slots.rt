@@ -1,7 +1,7 @@
 // Which slots occur in a template.
 ghost use Rattle.std.specs.Prelude.{◌≡◌, IfOk};
-ghost use Rattle.cedar_types.specs.Linking.{is_slot as reference_is_slot, names_slot as constraint_names_slot, has_slot};
-ghost use Rattle.cedar_types.specs.Parts.{mentions_slot};
+ghost use Rattle.cedar_types.specs.Environments.Linking.{is_slot as reference_is_slot, names_slot as constraint_names_slot, has_slot};
+ghost use Rattle.cedar_types.specs.Expressions.Parts.{mentions_slot};
 ghost use Rattle.cedar_types.specs.Templates.{template_of, scope_of, reference_of, scope_condition};
 
 use crate::base::names::slots::SlotId;

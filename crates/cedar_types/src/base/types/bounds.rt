@@ -1,7 +1,7 @@
 // Least upper bounds of types.
 ghost use Rattle.std.specs.Prelude.{◌≡◌, IfOk, option_map};
 ghost use Rattle.cedar_types.specs.Types.{ty_of, attributes_of, entries_of, TRecord, is_open_tag};
-ghost use Rattle.cedar_types.specs.Bounds.{lub, lub_by, apart_lub, set_lub, both_attrs, common_attrs, record_lub};
+ghost use Rattle.cedar_types.specs.Types.Bounds.{lub, lub_by, apart_lub, set_lub, both_attrs, common_attrs, record_lub};
 
 use crate::base::types::flat_bounds::{
     any_entity_bound, any_set_bound, bool_bound, entity_bound, is_never, is_same, is_strict,

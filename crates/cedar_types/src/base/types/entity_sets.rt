@@ -1,6 +1,6 @@
 // Sets of entity types that are never empty.
 ghost use Rattle.std.specs.Prelude.{◌≡◌, true};
-ghost use Rattle.cedar_types.specs.Ascending.{has_members, types_ascend};
+ghost use Rattle.cedar_types.specs.Names.Ascending.{has_members, types_ascend};
 
 use crate::base::names::entities::EntityType;
 use crate::base::types::entity_unions::{shares, union_of};
@@ -36,7 +36,7 @@ impl EntityLUB {
     ghost use Rattle.std.specs.List.{list_any};
     ghost use Rattle.cedar_types.specs.Names.{type_of, path_eq};
     ghost use Rattle.cedar_types.specs.Types.{lub_of, types_of, lub_from, sole};
-    ghost use Rattle.cedar_types.specs.Bounds.{union, share_member};
+    ghost use Rattle.cedar_types.specs.Types.Bounds.{union, share_member};
 
     /// The set of this one type.
     pub fn single_entity(

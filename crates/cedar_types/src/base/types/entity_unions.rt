@@ -3,7 +3,7 @@ ghost use Rattle.std.specs.Prelude.{◌≡◌, IfOk};
 ghost use Rattle.std.specs.List.{list_any};
 ghost use Rattle.cedar_types.specs.Names.{type_of, path_eq};
 ghost use Rattle.cedar_types.specs.Types.{lub_of, types_of};
-ghost use Rattle.cedar_types.specs.Bounds.{union};
+ghost use Rattle.cedar_types.specs.Types.Bounds.{union};
 
 use crate::base::names::entities::EntityType;
 use crate::base::types::entity_sets::EntityLUB;

@@ -1,7 +1,7 @@
 // Bounds of types that look at no part of a type, and tests of types and modes.
 ghost use Rattle.std.specs.Prelude.{◌≡◌, IfOk, option_map};
 ghost use Rattle.cedar_types.specs.Types.{ty_of, lub_of};
-ghost use Rattle.cedar_types.specs.Bounds.{ty_eq, is_never as is_never_type, is_strict as is_strict_mode, bool_lub, any_set_lub, entity_lub, any_entity_lub};
+ghost use Rattle.cedar_types.specs.Types.Bounds.{ty_eq, is_never as is_never_type, is_strict as is_strict_mode, bool_lub, any_set_lub, entity_lub, any_entity_lub};
 
 use crate::base::types::entity_sets::EntityLUB;
 use crate::base::types::{BoolType, CedarType, EntityKind, ValidationMode};

@@ -2,8 +2,8 @@
 ghost use Rattle.std.specs.Prelude.{◌≡◌, IfOk, map, option_map};
 ghost use Rattle.cedar_types.specs.Names.{text_of};
 ghost use Rattle.cedar_types.specs.Types.{ty_of, attributes_of, entries_of, no_attrs};
-ghost use Rattle.cedar_types.specs.Bounds.{find_attr};
-ghost use Rattle.cedar_types.specs.Makers.{with_attrs};
+ghost use Rattle.cedar_types.specs.Types.Bounds.{find_attr};
+ghost use Rattle.cedar_types.specs.Expressions.Makers.{with_attrs};
 
 use crate::base::types::{AttributeType, Attributes};
 use std::alloc::{AllocError, Global};

@@ -4,7 +4,7 @@ ghost use Rattle.std.specs.declared.cmp.Ordering.TheVariants.{Less};
 ghost use Rattle.std.specs.List.{AllByRecursion};
 ghost use Rattle.cedar_types.specs.Names.{text_of, text_cmp, text_eq};
 ghost use Rattle.cedar_types.specs.Types.{ty_of, entries_of, texts_of, join_attrs, attr, no_attrs, TRecord, is_open_tag};
-ghost use Rattle.cedar_types.specs.Bounds.{mark_eq};
+ghost use Rattle.cedar_types.specs.Types.Bounds.{mark_eq};
 
 use crate::base::types::{AttributeType, Attributes, CedarType, OpenTag};
 use std::alloc::{AllocError, Global};

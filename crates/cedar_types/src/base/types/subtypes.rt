@@ -1,7 +1,7 @@
 // What rests on the bounds of types: bounds of lists, subtypes. Disjointness of types.
 ghost use Rattle.std.specs.Prelude.{◌≡◌, IfOk, option_map, map};
 ghost use Rattle.cedar_types.specs.Types.{ty_of, lub_of};
-ghost use Rattle.cedar_types.specs.Bounds.{fold_lub, list_lub, is_subtype, are_disjoint};
+ghost use Rattle.cedar_types.specs.Types.Bounds.{fold_lub, list_lub, is_subtype, are_disjoint};
 
 use crate::base::types::flat_bounds::is_same;
 use crate::base::types::{CedarType, EntityKind, ValidationMode};

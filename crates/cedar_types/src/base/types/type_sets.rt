@@ -1,7 +1,7 @@
 // Sets of types, as errors list them.
 ghost use Rattle.std.specs.Prelude.{◌≡◌, IfOk, map};
 ghost use Rattle.cedar_types.specs.Types.{ty_of};
-ghost use Rattle.cedar_types.specs.TypeOrder.{in_order};
+ghost use Rattle.cedar_types.specs.Types.Order.{in_order};
 
 use crate::base::types::CedarType;
 use std::alloc::{AllocError, Global};

@@ -17,7 +17,7 @@ pub(crate) struct Accesses<'a> {
 
 impl<'a> Accesses<'a> {
     ghost use Rattle.cedar_types.specs.Accesses.{shape_at, texts_at};
-    ghost use Rattle.cedar_types.specs.View.{shape};
+    ghost use Rattle.cedar_types.specs.Expressions.View.{shape};
 
     /// The expression itself.
     pub(crate) fn none(base: &'a Expr) -> Accesses<'a>

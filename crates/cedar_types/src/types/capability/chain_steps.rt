@@ -1,7 +1,7 @@
 // The steps of an extended `has`.
 ghost use Rattle.std.specs.Prelude.{◌≡◌, [], ◌∷◌, ◌++◌, map, take, MatchOption};
 ghost use Rattle.cedar_types.specs.Accesses.{shape_at, texts_at};
-ghost use Rattle.cedar_types.specs.Digest.{with_text, shape_digest};
+ghost use Rattle.cedar_types.specs.Capability.Digest.{with_text, shape_digest};
 ghost use Rattle.cedar_types.specs.Names.{text_of};
 
 use crate::base::{AttrChain, Expr};
@@ -32,7 +32,7 @@ impl<'a> ChainStep<'a> {
     ghost use Rattle.std.specs.Prelude.{IfOk};
     ghost use Rattle.cedar_types.specs.Capability.{attribute, cap_of};
     ghost use Rattle.cedar_types.specs.ChainSteps.{step_written, step_shape, step_attr, steps_left, made_up};
-    ghost use Rattle.cedar_types.specs.View.{chain_of, written};
+    ghost use Rattle.cedar_types.specs.Expressions.View.{chain_of, written};
 
     /// That the base has the first attribute.
     pub fn first(base: &'a Expr, attrs: &'a AttrChain) -> ChainStep<'a>

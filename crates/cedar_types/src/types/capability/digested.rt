@@ -1,7 +1,7 @@
 // A capability, with the digest of its shape.
 ghost use Rattle.std.specs.Prelude.{◌≡◌, IfOk};
 ghost use Rattle.cedar_types.specs.Accesses.{shape_on};
-ghost use Rattle.cedar_types.specs.Digest.{digest_of};
+ghost use Rattle.cedar_types.specs.Capability.Digest.{digest_of};
 
 use crate::base::{Expr, ExprShapeOnly};
 use crate::types::capability::accesses::Accesses;
@@ -33,11 +33,11 @@ pub struct Capability<'a> {
 #[tactic(auto, unfolding(crate::specs::Capability::cap_of))]
 impl<'a> Capability<'a> {
     ghost use Rattle.cedar_types.specs.Names.{text_of};
-    ghost use Rattle.cedar_types.specs.View.{shape};
+    ghost use Rattle.cedar_types.specs.Expressions.View.{shape};
     ghost use Rattle.cedar_types.specs.Accesses.{shape_at};
     ghost use Rattle.cedar_types.specs.Capability.{attribute, tag, cap_of, known_of};
-    ghost use Rattle.cedar_types.specs.Digest.{with_text, shape_digest};
-    ghost use Rattle.cedar_types.specs.ShapeOnly.{shape_of};
+    ghost use Rattle.cedar_types.specs.Capability.Digest.{with_text, shape_digest};
+    ghost use Rattle.cedar_types.specs.Expressions.ShapeOnly.{shape_of};
 
     /// That `on_expr` has the attribute `attr`.
     pub fn new_attribute(on_expr: &'a Expr, attr: RcStr) -> Capability<'a>

@@ -1,15 +1,15 @@
 // Digests of shapes. They take no memory, and go no further into an expression than typing does.
 ghost use Rattle.std.specs.Prelude.{◌≡◌};
-ghost use Rattle.cedar_types.specs.Digest.{with_text, with_digest, var_digest, lit_digest, shape_digest};
+ghost use Rattle.cedar_types.specs.Capability.Digest.{with_text, with_digest, var_digest, lit_digest, shape_digest};
 ghost use Rattle.cedar_types.specs.Names.{text_of};
-ghost use Rattle.cedar_types.specs.View.{lit_of, shape};
+ghost use Rattle.cedar_types.specs.Expressions.View.{lit_of, shape};
 
 use crate::base::{Expr, ExprKind, Literal, Var};
 use std::hash::{FoldHasher, Hash, Hasher};
 use std::rc::RcStr;
 
 /// A digest, and then a text.
-#[tactic(auto, unfolding(crate::specs::Digest::with_text))]
+#[tactic(auto, unfolding(crate::specs::Capability::Digest::with_text))]
 pub(crate) fn with_text(digest: u64, text: &RcStr) -> u64
     ensures { result ≡ with_text digest (text_of text.now) }
 {
@@ -20,7 +20,7 @@ pub(crate) fn with_text(digest: u64, text: &RcStr) -> u64
 }
 
 /// A digest, and then another.
-#[tactic(auto, unfolding(crate::specs::Digest::with_digest))]
+#[tactic(auto, unfolding(crate::specs::Capability::Digest::with_digest))]
 pub(crate) fn with_digest(digest: u64, other: u64) -> u64
     ensures { result ≡ with_digest digest other }
 {

@@ -7,8 +7,8 @@ use Rattle.cedar_types.specs.declared.base.types.BoolType.TheVariants.{AnyBool, 
 use Rattle.cedar_types.specs.Names.{Text}
 use Rattle.cedar_types.specs.Lemmas.Comparisons.{and_left, and_right}
 use Rattle.cedar_types.specs.Types.{Ty, TBool, TRecord, TEntity, TAnyEntity}
-use Rattle.cedar_types.specs.Lookups.{attribute_type, may_have}
-use Rattle.cedar_types.specs.Stores.{ConformingStore}
+use Rattle.cedar_types.specs.Types.Lookups.{attribute_type, may_have}
+use Rattle.cedar_types.specs.Values.Stores.{ConformingStore}
 use Rattle.cedar_types.specs.Values.{VBool}
 use Rattle.cedar_types.specs.Errors.{Finding}
 use Rattle.cedar_typing.specs.Capabilities.{Caps, no_caps, single, union}
@@ -24,7 +24,7 @@ use Rattle.cedar_typing.specs.TypeEnv.{TypeEnv}
 use Rattle.cedar_typing.specs.TypeTests.{accepts, object_types, is_false, is_true, is_record}
 use Rattle.cedar_typing.specs.TypedExpr.{Source}
 use Rattle.cedar_typing.proofs.Basics.{or_cases}
-use Rattle.cedar_typing.proofs.Operands.{record_accepted}
+use Rattle.cedar_typing.proofs.Rules.Operands.{record_accepted}
 use Rattle.cedar_typing.proofs.KeptTypes.Chains.{IsBool, end_bool}
 use Rattle.cedar_typing.proofs.KeptTypes.Eager.{decided_type}
 use Rattle.cedar_typing.proofs.Soundness.Capabilities.{eval_form, hold_none, hold_just, hold_either}

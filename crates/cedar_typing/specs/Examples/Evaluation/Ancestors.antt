@@ -1,8 +1,8 @@
 -- That `in` looks at the ancestors that are stored of its left side, and at nothing else.
 use Rattle.std.specs.Prelude.{◌≡◌, true, false, Bool, [], ◌∷◌, None}
 use Rattle.cedar_types.specs.declared.base.expressions.operators.BinaryOp.{BinaryOp}
-use Rattle.cedar_types.specs.Stores.{entity_at}
-use Rattle.cedar_types.specs.Tree.{Shape, binary}
+use Rattle.cedar_types.specs.Values.Stores.{entity_at}
+use Rattle.cedar_types.specs.Expressions.Tree.{Shape, binary}
 use Rattle.cedar_types.specs.Values.{VBool}
 use Rattle.cedar_typing.specs.Evaluation.Eval.{eval}
 use Rattle.cedar_typing.specs.Evaluation.World.{World, Gives}

@@ -1,7 +1,7 @@
 -- What `in`, `is`, attributes and tags come to.
 use Rattle.std.specs.Prelude.{pos, [], ◌∷◌, codes}
 use Rattle.cedar_types.specs.declared.base.expressions.operators.BinaryOp.{BinaryOp}
-use Rattle.cedar_types.specs.Tree.{binary, ext_has_attr}
+use Rattle.cedar_types.specs.Expressions.Tree.{binary, ext_has_attr}
 use Rattle.cedar_types.specs.Values.{VEntity}
 use Rattle.cedar_typing.specs.Evaluation.World.{TypeFailure, AbsentAttribute, AbsentTag, MissingEntity}
 use Rattle.cedar_typing.specs.Examples.Evaluation.{Yields, YieldsTrue, YieldsFalse, FailsAs}

@@ -3,7 +3,7 @@ use Rattle.std.specs.Prelude.{pos, true, codes}
 use Rattle.cedar_types.specs.declared.base.expressions.operators.Var.{Var}
 use Rattle.cedar_types.specs.declared.base.expressions.operators.UnaryOp.{UnaryOp}
 use Rattle.cedar_types.specs.declared.base.names.slots.SlotId.{SlotId}
-use Rattle.cedar_types.specs.Tree.{var, slot, unknown, if_then_else, and, or, unary, record_of, no_fields}
+use Rattle.cedar_types.specs.Expressions.Tree.{var, slot, unknown, if_then_else, and, or, unary, record_of, no_fields}
 use Rattle.cedar_types.specs.Values.{VBool, VEntity, VSet, VRecord, VExtension, no_values, no_entries, more_entries}
 use Rattle.cedar_typing.specs.Evaluation.World.{TypeFailure, MissingEntity, UnlinkedSlot, UnknownValue}
 use Rattle.cedar_typing.specs.Examples.Evaluation.{Yields, YieldsTrue, YieldsFalse, FailsAs}

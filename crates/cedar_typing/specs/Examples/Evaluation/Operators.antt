@@ -2,7 +2,7 @@
 use Rattle.std.specs.Prelude.{pos, neg_ℤ, [], codes}
 use Rattle.cedar_types.specs.declared.base.expressions.operators.UnaryOp.{UnaryOp}
 use Rattle.cedar_types.specs.declared.base.expressions.operators.BinaryOp.{BinaryOp}
-use Rattle.cedar_types.specs.Tree.{unary, binary, record_of, no_fields}
+use Rattle.cedar_types.specs.Expressions.Tree.{unary, binary, record_of, no_fields}
 use Rattle.cedar_typing.specs.Evaluation.World.{TypeFailure, MissingEntity, Overflow}
 use Rattle.cedar_typing.specs.Examples.Evaluation.{Yields, YieldsTrue, YieldsFalse, FailsAs}
 use Rattle.cedar_typing.specs.Examples.Expressions.{true_lit, false_lit, num, one, two, three, least, greatest, text, the, principal, context, dot, set0, set1, set2, set3, record1, record2, decimal_one, decimal_two, a_duration, missing, too_great}

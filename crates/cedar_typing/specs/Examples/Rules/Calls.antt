@@ -4,7 +4,7 @@ use Rattle.cedar_types.specs.declared.base.types.BoolType.TheVariants.{True}
 use Rattle.cedar_types.specs.declared.base.types.ValidationMode.TheVariants.{Permissive, Partial}
 use Rattle.cedar_types.specs.Names.{Path}
 use Rattle.cedar_types.specs.Types.{TBool, TLong, TString}
-use Rattle.cedar_types.specs.Tree.{string, Shape, lit, if_then_else, call, no_trees, tree}
+use Rattle.cedar_types.specs.Expressions.Tree.{string, Shape, lit, if_then_else, call, no_trees, tree}
 use Rattle.cedar_types.specs.Errors.{Finding, unexpected_type, undefined_function, wrong_number_arguments, function_argument_validation, non_lit_ext_constructor}
 use Rattle.cedar_typing.specs.Capabilities.{no_caps}
 use Rattle.cedar_typing.specs.Examples.Expressions.{true_lit, one, two, three, text, the, principal, dot, has, has_vip, get_vip, get_boss, get_rank, has_friend, call0, call1, call2, call3, to_decimal, decimal_one, decimal_two, node}

@@ -5,10 +5,10 @@ use Rattle.cedar_types.specs.declared.base.types.BoolType.TheVariants.{True, Fal
 use Rattle.cedar_types.specs.declared.base.types.ValidationMode.TheVariants.{Strict}
 use Rattle.cedar_types.specs.Names.{Text}
 use Rattle.cedar_types.specs.Types.{Ty, TNever, TBool, TRecord, TEntity, TAnyEntity, no_attrs, attr}
-use Rattle.cedar_types.specs.Tree.{Shape, var, and, get_attr, ext_has_attr}
+use Rattle.cedar_types.specs.Expressions.Tree.{Shape, var, and, get_attr, ext_has_attr}
 use Rattle.cedar_types.specs.Capability.{attribute}
 use Rattle.cedar_types.specs.Errors.{Fault, unexpected_type, unsafe_attribute_access}
-use Rattle.cedar_types.specs.RequestEnvs.{Declared}
+use Rattle.cedar_types.specs.Environments.RequestEnvs.{Declared}
 use Rattle.cedar_typing.specs.Capabilities.{Caps, no_caps, single, union}
 use Rattle.cedar_typing.specs.Examples.Expressions.{one, principal, context, dot, has2, record1, get_boss, get_rank, node}
 use Rattle.cedar_typing.specs.Examples.Rules.{TypesAs, TypesAsIn, IsTyped, IsTypedIn, IsRefused, IsRefusedIn, bool_type, bool_at, true_at, typed_principal, typed_get_boss, error_at, not_an_object, unguarded_boss, unknown_rank}

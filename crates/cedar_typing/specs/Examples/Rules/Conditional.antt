@@ -3,7 +3,7 @@ use Rattle.std.specs.Prelude.{[], ◌∷◌, codes}
 use Rattle.cedar_types.specs.declared.base.errors.type_errors.LubContext.TheVariants.{Conditional}
 use Rattle.cedar_types.specs.declared.base.types.BoolType.TheVariants.{AnyBool}
 use Rattle.cedar_types.specs.Types.{TBool, TLong, TString}
-use Rattle.cedar_types.specs.Tree.{string, lit, if_then_else, or}
+use Rattle.cedar_types.specs.Expressions.Tree.{string, lit, if_then_else, or}
 use Rattle.cedar_types.specs.Errors.{incompatible_types}
 use Rattle.cedar_typing.specs.Capabilities.{no_caps, union, intersection}
 use Rattle.cedar_typing.specs.Examples.Expressions.{true_lit, false_lit, one, text, has_vip, has_age, get_vip, get_rank, has_friend, false_with_friend, node}

@@ -6,8 +6,8 @@ use Rattle.cedar_types.specs.declared.base.types.BoolType.TheVariants.{False}
 use Rattle.cedar_types.specs.declared.base.types.ValidationMode.TheVariants.{Partial}
 use Rattle.cedar_types.specs.Names.{Uid}
 use Rattle.cedar_types.specs.Types.{Ty, TBool, TLong, TString, TEntity, TAnyEntity}
-use Rattle.cedar_types.specs.Tree.{string, entity, lit, var, slot, unknown}
-use Rattle.cedar_types.specs.View.{no_name}
+use Rattle.cedar_types.specs.Expressions.Tree.{string, entity, lit, var, slot, unknown}
+use Rattle.cedar_types.specs.Expressions.View.{no_name}
 use Rattle.cedar_typing.specs.Capabilities.{no_caps}
 use Rattle.cedar_typing.specs.Examples.Expressions.{false_lit, one, text, the, principal, node}
 use Rattle.cedar_typing.specs.Examples.Rules.{TypesAs, TypesAsIn, FailsWith, FailsWithIn, user_at, no_type_at, typed_false, typed_one, typed_principal}

@@ -5,7 +5,7 @@ use Rattle.cedar_types.specs.declared.base.names.slots.SlotId.{SlotId}
 use Rattle.cedar_types.specs.declared.base.types.BoolType.TheVariants.{True, False}
 use Rattle.cedar_types.specs.declared.base.types.ValidationMode.TheVariants.{Permissive, Partial}
 use Rattle.cedar_types.specs.Types.{TBool, TLong, TSet, TAnyEntity}
-use Rattle.cedar_types.specs.Tree.{Shape, slot, if_then_else}
+use Rattle.cedar_types.specs.Expressions.Tree.{Shape, slot, if_then_else}
 use Rattle.cedar_types.specs.Errors.{incompatible_types, unexpected_type, empty_set_forbidden}
 use Rattle.cedar_typing.specs.Examples.Expressions.{one, the, principal, is_in, set0, set1, set2, has_vip, get_boss, get_rank}
 use Rattle.cedar_typing.specs.Examples.Rules.{IsTyped, IsTypedIn, IsRefused, IsRefusedIn, bool_type, error_at, unguarded_boss, unknown_rank}

@@ -5,7 +5,7 @@ use Rattle.cedar_types.specs.declared.base.expressions.operators.UnaryOp.{UnaryO
 use Rattle.cedar_types.specs.declared.base.types.BoolType.TheVariants.{AnyBool, True, False}
 use Rattle.cedar_types.specs.declared.base.types.ValidationMode.TheVariants.{Strict}
 use Rattle.cedar_types.specs.Types.{TBool, TLong, TString}
-use Rattle.cedar_types.specs.Tree.{Shape, if_then_else, and, or, unary, ext_has_attr}
+use Rattle.cedar_types.specs.Expressions.Tree.{Shape, if_then_else, and, or, unary, ext_has_attr}
 use Rattle.cedar_types.specs.Capability.{attribute}
 use Rattle.cedar_types.specs.Errors.{incompatible_types, undefined_function}
 use Rattle.cedar_typing.specs.Capabilities.{Caps, no_caps, single, union}

@@ -7,7 +7,7 @@ use Rattle.cedar_types.specs.declared.base.expressions.patterns.PatternElem.{Pat
 use Rattle.cedar_types.specs.declared.base.types.BoolType.TheVariants.{True, False}
 use Rattle.cedar_types.specs.declared.base.types.ValidationMode.TheVariants.{Strict, Permissive}
 use Rattle.cedar_types.specs.Types.{Ty, TBool, TLong, TString, TAnySet, TAnyEntity, TExtension}
-use Rattle.cedar_types.specs.Tree.{Shape, var, slot, if_then_else, unary, binary}
+use Rattle.cedar_types.specs.Expressions.Tree.{Shape, var, slot, if_then_else, unary, binary}
 use Rattle.cedar_types.specs.declared.base.names.slots.SlotId.{SlotId}
 use Rattle.cedar_types.specs.Errors.{Finding, unexpected_type, function_argument_validation}
 use Rattle.cedar_typing.specs.Examples.Expressions.{true_lit, one, two, text, set1, principal, context, dot, is, matching, less, at_most, plus, has_vip, get_rank, to_decimal, decimal_one, decimal_two, a_duration}

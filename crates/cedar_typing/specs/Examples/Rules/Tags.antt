@@ -7,7 +7,7 @@ use Rattle.cedar_types.specs.declared.base.names.slots.SlotId.{SlotId}
 use Rattle.cedar_types.specs.declared.base.types.BoolType.TheVariants.{True, False}
 use Rattle.cedar_types.specs.declared.base.types.ValidationMode.TheVariants.{Strict, Permissive}
 use Rattle.cedar_types.specs.Types.{Ty, TBool, TLong, TString, TEntity, TAnyEntity}
-use Rattle.cedar_types.specs.Tree.{string, Shape, lit, var, slot, if_then_else, and, binary}
+use Rattle.cedar_types.specs.Expressions.Tree.{string, Shape, lit, var, slot, if_then_else, and, binary}
 use Rattle.cedar_types.specs.Capability.{tag}
 use Rattle.cedar_types.specs.Errors.{unexpected_type, incompatible_types, unsafe_tag_access, no_tags_allowed, internal_invariant_violation}
 use Rattle.cedar_typing.specs.Capabilities.{Caps, no_caps, single, union}

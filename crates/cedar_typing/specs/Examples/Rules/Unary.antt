@@ -3,7 +3,7 @@ use Rattle.std.specs.Prelude.{[], ◌∷◌}
 use Rattle.cedar_types.specs.declared.base.expressions.operators.UnaryOp.{UnaryOp}
 use Rattle.cedar_types.specs.declared.base.types.BoolType.TheVariants.{AnyBool, True, False}
 use Rattle.cedar_types.specs.Types.{TBool}
-use Rattle.cedar_types.specs.Tree.{and, unary}
+use Rattle.cedar_types.specs.Expressions.Tree.{and, unary}
 use Rattle.cedar_typing.specs.Capabilities.{no_caps}
 use Rattle.cedar_typing.specs.Examples.Expressions.{true_lit, false_lit, one, has_vip, get_vip, get_rank}
 use Rattle.cedar_typing.specs.Examples.Rules.{TypesAs, FailsWith, bool_at, true_at, false_at, typed_true, typed_false, refused_one, typed_has_vip, typed_get_vip, untyped_get_rank, not_a_bool, unguarded_vip, unknown_rank}

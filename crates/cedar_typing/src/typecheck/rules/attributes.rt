@@ -2,16 +2,16 @@
 ghost use Rattle.std.specs.Prelude.{◌≡◌, [], ◌∷◌, IfOk, IfSome, option_map};
 ghost use Rattle.cedar_types.specs.Names.{text_of};
 ghost use Rattle.cedar_types.specs.Types.{ty_of};
-ghost use Rattle.cedar_types.specs.Tree.{has_attr, get_attr};
-ghost use Rattle.cedar_types.specs.View.{written};
+ghost use Rattle.cedar_types.specs.Expressions.Tree.{has_attr, get_attr};
+ghost use Rattle.cedar_types.specs.Expressions.View.{written};
 ghost use Rattle.cedar_types.specs.Capability.{cap_of};
-ghost use Rattle.cedar_types.specs.Lookups.{attribute_type};
+ghost use Rattle.cedar_types.specs.Types.Lookups.{attribute_type};
 ghost use Rattle.cedar_types.specs.Errors.{unsafe_optional_attribute_access};
 ghost use Rattle.cedar_typing.specs.Rules.Attributes.{attribute_of, declared_has, undeclared_has, has_table, get_decides, get_table, undeclared_get};
 ghost use Rattle.cedar_typing.specs.TypeEnv.{finding};
 ghost use Rattle.cedar_typing.specs.TypedExpr.{typed_as, typed_tree};
 ghost use Rattle.cedar_typing.specs.Views.{env_at, at, decision_of, findings};
-ghost use Rattle.cedar_typing.specs.Priors.{known_in};
+ghost use Rattle.cedar_typing.specs.Capabilities.Priors.{known_in};
 
 use crate::typecheck::capabilities::{no_capabilities, one_capability};
 use crate::typecheck::prior::Prior;

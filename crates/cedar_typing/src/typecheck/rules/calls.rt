@@ -2,18 +2,18 @@
 ghost use Rattle.std.specs.Prelude.{◌≡◌, ◌≤◌, ◌+◌, ◌∷◌, ◌++◌, length, IfOk, Some, map, option_map};
 ghost use Rattle.std.specs.List.{list_all};
 ghost use Rattle.cedar_types.specs.Errors.{finding_of, wrong_number_arguments};
-ghost use Rattle.cedar_types.specs.ExtensionFunctions.{function_of};
+ghost use Rattle.cedar_types.specs.Extensions.Functions.{function_of};
 ghost use Rattle.cedar_types.specs.Names.{path_of};
 ghost use Rattle.cedar_types.specs.Types.{ty_of};
-ghost use Rattle.cedar_types.specs.Tree.{call};
-ghost use Rattle.cedar_types.specs.View.{trees_of, written};
-ghost use Rattle.cedar_typing.specs.CallViews.{IsCallOf, added_at, shape_of};
+ghost use Rattle.cedar_types.specs.Expressions.Tree.{call};
+ghost use Rattle.cedar_types.specs.Expressions.View.{trees_of, written};
+ghost use Rattle.cedar_typing.specs.Views.Calls.{IsCallOf, added_at, shape_of};
 ghost use Rattle.cedar_typing.specs.Infer.{infer_within};
 ghost use Rattle.cedar_typing.specs.Infer.Eager.{infer_form};
 ghost use Rattle.cedar_typing.specs.Judgments.{max_nesting};
-ghost use Rattle.cedar_typing.specs.Priors.{known_in};
+ghost use Rattle.cedar_typing.specs.Capabilities.Priors.{known_in};
 ghost use Rattle.cedar_typing.specs.Rules.Calls.{call_decides, call_errors, check_faults, is_literal, literal_faults, number_faults, takes, types_wanted};
-ghost use Rattle.cedar_typing.specs.SettingViews.{setting_at};
+ghost use Rattle.cedar_typing.specs.Views.Settings.{setting_at};
 ghost use Rattle.cedar_typing.specs.TypeEnv.{finding};
 ghost use Rattle.cedar_typing.specs.Views.{answer_of, at, decision_of, env_at, findings, operands_of};
 

@@ -2,15 +2,15 @@
 ghost use Rattle.std.specs.Prelude.{◌≡◌, ◌||◌, is_some, IfOk, option_map};
 ghost use Rattle.cedar_types.specs.Capability.{caps, cap_of};
 ghost use Rattle.cedar_types.specs.ChainSteps.{step_attr, step_written};
-ghost use Rattle.cedar_types.specs.Lookups.{attribute_type};
+ghost use Rattle.cedar_types.specs.Types.Lookups.{attribute_type};
 ghost use Rattle.cedar_types.specs.Names.{text_of};
 ghost use Rattle.cedar_types.specs.Types.{ty_of};
-ghost use Rattle.cedar_types.specs.View.{chain_of, written};
+ghost use Rattle.cedar_types.specs.Expressions.View.{chain_of, written};
 ghost use Rattle.cedar_typing.specs.Capabilities.{union};
 ghost use Rattle.cedar_typing.specs.Rules.Attributes.{attribute_of, get_decides};
 ghost use Rattle.cedar_typing.specs.Rules.Chains.{no_steps, step_type, step_earns, with_step, step, end_of_chain, link, after_access, chain_table};
 ghost use Rattle.cedar_typing.specs.Views.{env_at, decision_of, progress_of, by_step, by_link, KnowsAfter};
-ghost use Rattle.cedar_typing.specs.Priors.{known_in};
+ghost use Rattle.cedar_typing.specs.Capabilities.Priors.{known_in};
 
 use crate::typecheck::capabilities::no_capabilities;
 use crate::typecheck::operands::Expected;

@@ -2,19 +2,19 @@
 ghost use Rattle.std.specs.Prelude.{◌≡◌, ◌≤◌, ◌++◌, IfOk, option_map};
 ghost use Rattle.cedar_types.specs.declared.base.errors.type_errors.LubContext.TheVariants.{Conditional};
 ghost use Rattle.cedar_types.specs.Types.{ty_of};
-ghost use Rattle.cedar_types.specs.Tree.{if_then_else};
-ghost use Rattle.cedar_types.specs.View.{written};
-ghost use Rattle.cedar_types.specs.Bounds.{lub};
+ghost use Rattle.cedar_types.specs.Expressions.Tree.{if_then_else};
+ghost use Rattle.cedar_types.specs.Expressions.View.{written};
+ghost use Rattle.cedar_types.specs.Types.Bounds.{lub};
 ghost use Rattle.cedar_types.specs.Capability.{caps};
 ghost use Rattle.cedar_typing.specs.Capabilities.{union};
 ghost use Rattle.cedar_typing.specs.Infer.{infer_within};
 ghost use Rattle.cedar_typing.specs.Infer.Conditional.{infer_constant_test, infer_open_test, infer_open_parts};
-ghost use Rattle.cedar_typing.specs.Joins.{joined, join_errors, bound_errors};
+ghost use Rattle.cedar_typing.specs.TypeTests.Joins.{joined, join_errors, bound_errors};
 ghost use Rattle.cedar_typing.specs.Judgments.{max_nesting};
 ghost use Rattle.cedar_typing.specs.TypedExpr.{annotation, typed_tree, typed_as};
-ghost use Rattle.cedar_typing.specs.SettingViews.{setting_at};
+ghost use Rattle.cedar_typing.specs.Views.Settings.{setting_at};
 ghost use Rattle.cedar_typing.specs.Views.{env_at, answer_of, part_of, findings, at};
-ghost use Rattle.cedar_typing.specs.Priors.{known_in};
+ghost use Rattle.cedar_typing.specs.Capabilities.Priors.{known_in};
 
 use crate::typecheck::answer::{Part, TypecheckAnswer};
 use crate::typecheck::capabilities::{intersection_of, union_of};
@@ -106,7 +106,7 @@ impl TypeEnv<'_, '_, '_, '_> {
         Ok(answer)
     }
 
-    #[tactic(auto, using(crate::proofs::TypedViews::annotation_is))]
+    #[tactic(auto, using(crate::proofs::Views::Typed::annotation_is))]
     #[inline(never)]
     fn open_test_parts<'a>(
         &self,
@@ -222,7 +222,7 @@ fn false_test_answer<'a>(
 }
 
 /// One branch that stands for both, which share it.
-#[tactic(auto, using(crate::proofs::TypedViews::annotation_is))]
+#[tactic(auto, using(crate::proofs::Views::Typed::annotation_is))]
 fn constant_test_node(
     alloc: Global,
     loc: Option<Loc>,

@@ -1,8 +1,8 @@
 // `==`, and the operators on sets and their members.
 ghost use Rattle.std.specs.Prelude.{◌≡◌, IfOk, option_map};
 ghost use Rattle.cedar_types.specs.Types.{ty_of};
-ghost use Rattle.cedar_types.specs.View.{lit_of, written};
-ghost use Rattle.cedar_types.specs.TreeEq.{lit_eq};
+ghost use Rattle.cedar_types.specs.Expressions.View.{lit_of, written};
+ghost use Rattle.cedar_types.specs.Expressions.TreeEq.{lit_eq};
 ghost use Rattle.cedar_typing.specs.Rules.Equality.{action_literal, literal_of, compared_literals, are_apart, equality_type, equality_decides, member_type};
 ghost use Rattle.cedar_typing.specs.Views.{env_at, decision_of};
 

@@ -2,8 +2,8 @@
 ghost use Rattle.std.specs.Prelude.{◌≡◌, IfOk, None, Some, option_map};
 ghost use Rattle.cedar_types.specs.Names.{type_of, uid_of, path_of};
 ghost use Rattle.cedar_types.specs.Types.{ty_of};
-ghost use Rattle.cedar_types.specs.Tree.{entity, lit, var, slot as slot_tree};
-ghost use Rattle.cedar_types.specs.View.{lit_of, lit_places};
+ghost use Rattle.cedar_types.specs.Expressions.Tree.{entity, lit, var, slot as slot_tree};
+ghost use Rattle.cedar_types.specs.Expressions.View.{lit_of, lit_places};
 ghost use Rattle.cedar_typing.specs.Infer.Leaves.{infer_leaf, infer_unknown};
 ghost use Rattle.cedar_typing.specs.Rules.Leaves.{bool_ty, linked_ty, slot_ty, type_of_literal, variable_type};
 ghost use Rattle.cedar_typing.specs.Views.{env_at, answer_of, findings, at};
@@ -55,7 +55,7 @@ impl TypeEnv<'_, '_, '_, '_> {
         Ok(without_capabilities(self.alloc, succeeded, typed))
     }
 
-    #[tactic(auto, using(crate::proofs::VariableTypes::is_kept, crate::proofs::VariableTypes::is_kept_if_any))]
+    #[tactic(auto, using(crate::proofs::TypeTests::VariableTypes::is_kept, crate::proofs::TypeTests::VariableTypes::is_kept_if_any))]
     fn type_of_variable(&self, variable: Var) -> Result<Option<CedarType>, AllocError>
         ensures { IfOk result (λ o. option_map ty_of o ≡ variable_type (env_at self.now) variable) }
     {

@@ -1,11 +1,11 @@
 // `in`.
 ghost use Rattle.std.specs.Prelude.{◌≡◌, ◌||◌, [], ◌∷◌, Some, IfOk, map, option_map};
 ghost use Rattle.std.specs.List.{list_any, list_all};
-ghost use Rattle.cedar_types.specs.Declarations.{uids_of};
+ghost use Rattle.cedar_types.specs.Schemas.Declarations.{uids_of};
 ghost use Rattle.cedar_types.specs.Names.{uid_of, uid_eq};
 ghost use Rattle.cedar_types.specs.Schemas.{declares_action, descendants_of_action, uid_is_among};
 ghost use Rattle.cedar_types.specs.Types.{ty_of, lub_of};
-ghost use Rattle.cedar_types.specs.View.{trees_of, written};
+ghost use Rattle.cedar_types.specs.Expressions.View.{trees_of, written};
 ghost use Rattle.cedar_typing.specs.Rules.Membership.{entity_of, entities_of, ancestors_of, is_action_in, only_actions, action_decides, types_of_entity, types_of_ancestors, may_be_among, entity_decides, in_decides};
 ghost use Rattle.cedar_typing.specs.Views.{env_at, decision_of};
 

@@ -1,6 +1,6 @@
 // `<` and `<=`.
 ghost use Rattle.std.specs.Prelude.{◌≡◌, IfOk, map, option_map};
-ghost use Rattle.cedar_types.specs.Bounds.{ty_eq};
+ghost use Rattle.cedar_types.specs.Types.Bounds.{ty_eq};
 ghost use Rattle.cedar_types.specs.Types.{ty_of, TLong};
 ghost use Rattle.std.specs.List.{list_any};
 ghost use Rattle.cedar_types.specs.Names.{path_eq, path_of};

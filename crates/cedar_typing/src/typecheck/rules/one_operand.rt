@@ -1,14 +1,14 @@
 // Forms with one operand.
 ghost use Rattle.std.specs.Prelude.{◌≡◌, ◌≤◌, [], ◌∷◌, Some, IfOk, option_map};
 ghost use Rattle.cedar_types.specs.Types.{ty_of};
-ghost use Rattle.cedar_types.specs.View.{written};
+ghost use Rattle.cedar_types.specs.Expressions.View.{written};
 ghost use Rattle.cedar_typing.specs.Eager.{first_expectation};
 ghost use Rattle.cedar_typing.specs.Infer.Eager.{infer_decided};
 ghost use Rattle.cedar_typing.specs.Judgments.{max_nesting};
 ghost use Rattle.cedar_typing.specs.TypedExpr.{annotation, typed_as, typed_tree};
-ghost use Rattle.cedar_typing.specs.SettingViews.{setting_at, infer_one};
+ghost use Rattle.cedar_typing.specs.Views.Settings.{setting_at, infer_one};
 ghost use Rattle.cedar_typing.specs.Views.{env_at, expected_types, answer_of, part_of, findings, decision_of, form_of_one, mark_of_one};
-ghost use Rattle.cedar_typing.specs.Priors.{known_in};
+ghost use Rattle.cedar_typing.specs.Capabilities.Priors.{known_in};
 
 use crate::typecheck::answer::{Part, TypecheckAnswer};
 use crate::typecheck::operands::Expected;

@@ -1,14 +1,14 @@
 // Operands of any number, one after another: the elements of a set, the arguments of a call.
 ghost use Rattle.std.specs.Prelude.{◌≡◌, ◌≤◌, ◌+◌, true, [], IfOk, map, option_map};
 ghost use Rattle.cedar_types.specs.Types.{ty_of};
-ghost use Rattle.cedar_types.specs.View.{trees_of, written};
+ghost use Rattle.cedar_types.specs.Expressions.View.{trees_of, written};
 ghost use Rattle.cedar_typing.specs.Infer.{infer_all};
 ghost use Rattle.cedar_typing.specs.Infer.Eager.{all_typed};
 ghost use Rattle.cedar_typing.specs.Judgments.{max_nesting};
 ghost use Rattle.cedar_typing.specs.Rules.Calls.{expected_arguments};
-ghost use Rattle.cedar_typing.specs.SettingViews.{setting_at};
+ghost use Rattle.cedar_typing.specs.Views.Settings.{setting_at};
 ghost use Rattle.cedar_typing.specs.Views.{expected_types, findings, first_wanted, later_types, operands_of, part_of, with_element};
-ghost use Rattle.cedar_typing.specs.Priors.{known_in};
+ghost use Rattle.cedar_typing.specs.Capabilities.Priors.{known_in};
 
 use crate::typecheck::answer::Part;
 use crate::typecheck::operands::Expected;

@@ -1,17 +1,18 @@
 // Records: the values of the fields one after another, and what their types say of the whole.
 ghost use Rattle.std.specs.Prelude.{◌≡◌, ◌≤◌, ◌+◌, false, IfOk, option_map};
-ghost use Rattle.cedar_types.specs.Tree.{record_of};
+ghost use Rattle.cedar_types.specs.Expressions.Tree.{record_of};
 ghost use Rattle.cedar_types.specs.Types.{ty_of};
-ghost use Rattle.cedar_types.specs.View.{fields_written};
+ghost use Rattle.cedar_types.specs.Expressions.View.{fields_written};
 ghost use Rattle.cedar_typing.specs.Eager.{types_found};
 ghost use Rattle.cedar_typing.specs.Infer.{infer_fields};
 ghost use Rattle.cedar_typing.specs.Infer.Eager.{infer_decided, infer_eager, infer_form};
 ghost use Rattle.cedar_typing.specs.Judgments.{max_nesting};
-ghost use Rattle.cedar_typing.specs.Rules.Collections.{all_types, field_keys, fields_from, record_form, record_of_types};
+ghost use Rattle.cedar_typing.specs.Rules.Records.{field_keys, fields_from, record_form, record_of_types};
+ghost use Rattle.cedar_typing.specs.Rules.Sets.{all_types};
 ghost use Rattle.cedar_typing.specs.TypedExpr.{typed_as, typed_tree};
-ghost use Rattle.cedar_typing.specs.SettingViews.{setting_at};
+ghost use Rattle.cedar_typing.specs.Views.Settings.{setting_at};
 ghost use Rattle.cedar_typing.specs.Views.{answer_of, at, decision_without_errors, env_at, field_operands, findings, keys_in, trees_in};
-ghost use Rattle.cedar_typing.specs.Priors.{known_in};
+ghost use Rattle.cedar_typing.specs.Capabilities.Priors.{known_in};
 
 use crate::typecheck::answer::TypecheckAnswer;
 use crate::typecheck::prior::Prior;

@@ -1,7 +1,7 @@
 // `&&` and `||`.
 ghost use Rattle.std.specs.Prelude.{◌≡◌, ◌≤◌, IfOk, option_map};
 ghost use Rattle.cedar_types.specs.Types.{ty_of};
-ghost use Rattle.cedar_types.specs.View.{written};
+ghost use Rattle.cedar_types.specs.Expressions.View.{written};
 ghost use Rattle.cedar_types.specs.Capability.{caps};
 ghost use Rattle.cedar_typing.specs.Infer.Parts.{answer_if};
 ghost use Rattle.cedar_typing.specs.Infer.ShortCircuit.{infer_sides};
@@ -9,9 +9,9 @@ ghost use Rattle.cedar_typing.specs.Judgments.{max_nesting};
 ghost use Rattle.cedar_typing.specs.Rules.ShortCircuit.{side_of, type_of_side};
 ghost use Rattle.cedar_typing.specs.TypeTests.{annotation_passes};
 ghost use Rattle.cedar_typing.specs.TypedExpr.{annotation, at_place, typed, typed_tree};
-ghost use Rattle.cedar_typing.specs.SettingViews.{setting_at, infer_connective};
+ghost use Rattle.cedar_typing.specs.Views.Settings.{setting_at, infer_connective};
 ghost use Rattle.cedar_typing.specs.Views.{answer_of, part_of, findings, at, connective_of, side_seen};
-ghost use Rattle.cedar_typing.specs.Priors.{known_in};
+ghost use Rattle.cedar_typing.specs.Capabilities.Priors.{known_in};
 
 use crate::typecheck::answer::{Part, TypecheckAnswer};
 use crate::typecheck::capabilities::{intersection_of, no_capabilities, union_of};
@@ -63,7 +63,7 @@ impl Connective {
         }
     }
 
-    #[tactic(auto, using(crate::proofs::TypedViews::annotation_is))]
+    #[tactic(auto, using(crate::proofs::Views::Typed::annotation_is))]
     fn ends_with(self, typed: &Expr<Option<CedarType>>) -> bool
         ensures { result
             ≡ annotation_passes (connective_of self).ends (annotation (typed_tree typed.now)) }
@@ -215,7 +215,7 @@ impl TypeEnv<'_, '_, '_, '_> {
     }
 
     /// `&&` or `||` at `loc` of two typed sides, the left of which does not end the whole.
-    #[tactic(auto, using(crate::proofs::TypedViews::annotation_is))]
+    #[tactic(auto, using(crate::proofs::Views::Typed::annotation_is))]
     #[inline(never)]
     fn sides_answer<'a>(
         &self,

@@ -1,17 +1,17 @@
 // `hasTag` and `getTag`.
 ghost use Rattle.std.specs.Prelude.{◌≡◌, [], ◌∷◌, None, IfOk, map, option_map};
-ghost use Rattle.cedar_types.specs.Bounds.{list_lub};
+ghost use Rattle.cedar_types.specs.Types.Bounds.{list_lub};
 ghost use Rattle.cedar_types.specs.Capability.{cap_of};
 ghost use Rattle.cedar_types.specs.Errors.{internal_invariant_violation};
-ghost use Rattle.cedar_types.specs.Lookups.{tag_types};
+ghost use Rattle.cedar_types.specs.Types.Lookups.{tag_types};
 ghost use Rattle.cedar_types.specs.Names.{type_of};
 ghost use Rattle.cedar_types.specs.Types.{ty_of, lub_of};
-ghost use Rattle.cedar_types.specs.View.{written};
+ghost use Rattle.cedar_types.specs.Expressions.View.{written};
 ghost use Rattle.cedar_typing.specs.Eager.{refuses};
 ghost use Rattle.cedar_typing.specs.Rules.Tags.{tag_of, has_tag_type, has_tag_table, types_named, only_type, get_known_tag, get_tag_table};
 ghost use Rattle.cedar_typing.specs.TypeEnv.{finding};
 ghost use Rattle.cedar_typing.specs.Views.{env_at, decision_of};
-ghost use Rattle.cedar_typing.specs.Priors.{known_in};
+ghost use Rattle.cedar_typing.specs.Capabilities.Priors.{known_in};
 
 use crate::typecheck::capabilities::one_capability;
 use crate::typecheck::prior::Prior;

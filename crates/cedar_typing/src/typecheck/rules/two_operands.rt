@@ -2,15 +2,15 @@
 ghost use Rattle.std.specs.Prelude.{◌≡◌, ◌≤◌, [], ◌∷◌, Some, IfOk, option_map, if◌then◌else◌};
 ghost use Rattle.cedar_types.specs.declared.base.types.BoolType.TheVariants.{AnyBool};
 ghost use Rattle.cedar_types.specs.Types.{ty_of, TBool};
-ghost use Rattle.cedar_types.specs.Tree.{binary};
-ghost use Rattle.cedar_types.specs.View.{written};
+ghost use Rattle.cedar_types.specs.Expressions.Tree.{binary};
+ghost use Rattle.cedar_types.specs.Expressions.View.{written};
 ghost use Rattle.cedar_typing.specs.Eager.{first_expectation, later_expectations};
 ghost use Rattle.cedar_typing.specs.Infer.Eager.{infer_form, type_given};
 ghost use Rattle.cedar_typing.specs.Judgments.{max_nesting};
 ghost use Rattle.cedar_typing.specs.Rules.Binary.{binary_form};
-ghost use Rattle.cedar_typing.specs.SettingViews.{setting_at, infer_two};
+ghost use Rattle.cedar_typing.specs.Views.Settings.{setting_at, infer_two};
 ghost use Rattle.cedar_typing.specs.Views.{env_at, expected_types, answer_of, part_of, findings, at, form_of_two, two_parts};
-ghost use Rattle.cedar_typing.specs.Priors.{known_in};
+ghost use Rattle.cedar_typing.specs.Capabilities.Priors.{known_in};
 
 use crate::typecheck::answer::{Part, TypecheckAnswer};
 use crate::typecheck::operands::Expected;

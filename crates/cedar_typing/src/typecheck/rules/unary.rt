@@ -2,8 +2,8 @@
 ghost use Rattle.std.specs.Prelude.{◌≡◌, IfOk, option_map};
 ghost use Rattle.cedar_types.specs.Names.{type_of};
 ghost use Rattle.cedar_types.specs.Types.{ty_of, lub_of};
-ghost use Rattle.cedar_types.specs.Tree.{unary, like, is_type};
-ghost use Rattle.cedar_types.specs.View.{of_type};
+ghost use Rattle.cedar_types.specs.Expressions.Tree.{unary, like, is_type};
+ghost use Rattle.cedar_types.specs.Expressions.View.{of_type};
 ghost use Rattle.cedar_typing.specs.Rules.Unary.{not_decides, not_type, is_type_of, is_decides};
 ghost use Rattle.cedar_typing.specs.TypedExpr.{typed_as, typed_tree};
 ghost use Rattle.cedar_typing.specs.Views.{at, decision_of};

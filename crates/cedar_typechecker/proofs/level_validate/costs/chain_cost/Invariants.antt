@@ -1,6 +1,6 @@
 use Rattle.std.proofs.Common.{◌≡◌, ◌+◌, ◌≤◌, map, drop}
 use Rattle.cedar_types.specs.Names.{text_of}
-use Rattle.cedar_types.specs.SchemaContents.{schema_of}
+use Rattle.cedar_types.specs.Schemas.Contents.{schema_of}
 use Rattle.cedar_types.specs.Types.{ty_of}
 use Rattle.cedar_typechecker.specs.Levels.Costs.{steps_cost, chain_cost}
 use Rattle.cedar_typechecker.proofs.level_validate.costs.chain_cost.Given as goal

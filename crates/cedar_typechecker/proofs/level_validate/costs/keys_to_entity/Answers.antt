@@ -1,6 +1,6 @@
 use Rattle.std.proofs.Common.{◌∷◌, map, Some, None, ap, ◌∙◌}
 use Rattle.cedar_types.specs.Names.{text_of}
-use Rattle.cedar_types.specs.SchemaContents.{schema_of}
+use Rattle.cedar_types.specs.Schemas.Contents.{schema_of}
 use Rattle.cedar_types.specs.Types.{ty_of}
 use Rattle.cedar_typechecker.proofs.Levels.Costs.{keys_counted}
 use Rattle.cedar_typechecker.proofs.level_validate.costs.keys_to_entity.Goals as goal

@@ -1,9 +1,9 @@
 use Rattle.std.proofs.Common.{◌≡◌, ◌∙◌, ap, sym, subst, Bool, false, cond, [], map, List, Some, option_map}
 use Rattle.std.specs.List.{list_all, list_any}
-use Rattle.cedar_types.specs.Declarations.{declared_action}
-use Rattle.cedar_types.specs.Listings.{ListsActions, actions_within}
+use Rattle.cedar_types.specs.Schemas.Declarations.{declared_action}
+use Rattle.cedar_types.specs.Schemas.Listings.{ListsActions, actions_within}
 use Rattle.cedar_types.specs.Names.{Uid, uid_of, placed_uid}
-use Rattle.cedar_types.specs.SchemaContents.{schema_of}
+use Rattle.cedar_types.specs.Schemas.Contents.{schema_of}
 use Rattle.cedar_types.specs.Schemas.{DeclaredAction, declares_action}
 use Rattle.cedar_typechecker.specs.Scopes.{declarations}
 use Rattle.cedar_typechecker.proofs.Answers.{ids_of, same_declarations}

@@ -1,7 +1,7 @@
 use Rattle.std.proofs.Common.{map, sym}
 use Rattle.std.proofs.lemmas.List.Sorted.{list_any-IsPermutation}
-use Rattle.cedar_types.specs.Declarations.{declared_action}
-use Rattle.cedar_types.specs.SchemaContents.{schema_of}
+use Rattle.cedar_types.specs.Schemas.Declarations.{declared_action}
+use Rattle.cedar_types.specs.Schemas.Contents.{schema_of}
 use Rattle.cedar_typechecker.proofs.rbac.actions.admitted_actions.Goals as goal
 
 pub returns-in_ok-actions-in-Any : goal.returns-in_ok-actions-in-Any

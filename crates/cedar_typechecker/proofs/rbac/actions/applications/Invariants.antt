@@ -1,5 +1,5 @@
 use Rattle.std.proofs.Common.{◌≡◌, ◌++◌, map, drop}
-use Rattle.cedar_types.specs.Declarations.{application, declared_action}
+use Rattle.cedar_types.specs.Schemas.Declarations.{application, declared_action}
 use Rattle.cedar_typechecker.specs.Scopes.{applications}
 use Rattle.cedar_typechecker.proofs.rbac.actions.applications.Given as goal
 

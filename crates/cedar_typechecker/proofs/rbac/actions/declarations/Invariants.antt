@@ -1,7 +1,7 @@
 use Rattle.std.proofs.Common.{◌≡◌, ◌++◌, map, drop}
-use Rattle.cedar_types.specs.Declarations.{declared_action}
+use Rattle.cedar_types.specs.Schemas.Declarations.{declared_action}
 use Rattle.cedar_types.specs.Names.{uid_of}
-use Rattle.cedar_types.specs.SchemaContents.{schema_of}
+use Rattle.cedar_types.specs.Schemas.Contents.{schema_of}
 use Rattle.cedar_typechecker.specs.Scopes.{declarations}
 use Rattle.cedar_typechecker.proofs.rbac.actions.declarations.Given as goal
 

@@ -1,9 +1,9 @@
 use Rattle.std.proofs.Common.{◌∙◌, sym, subst, map}
-use Rattle.cedar_types.specs.Declarations.{application}
+use Rattle.cedar_types.specs.Schemas.Declarations.{application}
 use Rattle.cedar_types.specs.Errors.{invalid_action_application}
-use Rattle.cedar_types.specs.Listings.{ListsTypes}
+use Rattle.cedar_types.specs.Schemas.Listings.{ListsTypes}
 use Rattle.cedar_types.specs.Names.{type_of}
-use Rattle.cedar_types.specs.SchemaContents.{schema_of}
+use Rattle.cedar_types.specs.Schemas.Contents.{schema_of}
 use Rattle.cedar_types.specs.Templates.{template_of, scope_of}
 use Rattle.cedar_typechecker.specs.declared.rbac.flags.Side.{Side}
 use Rattle.cedar_typechecker.specs.Members.{SameMembers}

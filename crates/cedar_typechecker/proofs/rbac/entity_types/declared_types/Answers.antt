@@ -1,6 +1,6 @@
 use Rattle.std.proofs.Common.{map}
 use Rattle.cedar_types.specs.Names.{type_of}
-use Rattle.cedar_types.specs.SchemaContents.{schema_of}
+use Rattle.cedar_types.specs.Schemas.Contents.{schema_of}
 use Rattle.cedar_typechecker.proofs.Answers.{declared_types}
 use Rattle.cedar_typechecker.proofs.rbac.entity_types.declared_types.Goals as goal
 

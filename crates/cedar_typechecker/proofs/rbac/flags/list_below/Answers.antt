@@ -2,9 +2,9 @@ use Rattle.std.proofs.Common.{◌∙◌, List, rules, tests}
 use Rattle.std.proofs.lemmas.Iterator.{YieldsList-from_slice}
 use Rattle.std.proofs.lemmas.Iterator.Search.{any_from_yields_List}
 use Rattle.std.specs.List.{list_any}
-use Rattle.cedar_types.specs.Declarations.{application}
+use Rattle.cedar_types.specs.Schemas.Declarations.{application}
 use Rattle.cedar_types.specs.Names.{Path, type_of}
-use Rattle.cedar_types.specs.SchemaContents.{schema_of}
+use Rattle.cedar_types.specs.Schemas.Contents.{schema_of}
 use Rattle.cedar_types.specs.Schemas.{is_among, descendants_of}
 use Rattle.cedar_types.proofs.Schema.Places.{any_mapped}
 use Rattle.cedar_typechecker.specs.Applications.{types_on}

@@ -1,7 +1,7 @@
 use Rattle.std.proofs.Common.{◌∙◌, rules, tests}
 use Rattle.std.proofs.lemmas.Iterator.{YieldsList-from_slice}
 use Rattle.std.proofs.lemmas.Iterator.Search.{any_from_yields_List}
-use Rattle.cedar_types.specs.Declarations.{application}
+use Rattle.cedar_types.specs.Schemas.Declarations.{application}
 use Rattle.cedar_types.specs.Names.{type_of}
 use Rattle.cedar_types.specs.Schemas.{is_among}
 use Rattle.cedar_types.proofs.Schema.Places.{any_mapped}

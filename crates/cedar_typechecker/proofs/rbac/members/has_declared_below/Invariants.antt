@@ -2,7 +2,7 @@ use Rattle.std.proofs.Common.{◌≡◌, map}
 use Rattle.std.specs.List.{list_any}
 use Rattle.cedar_types.specs.Names.{type_of}
 use Rattle.cedar_types.specs.Schemas.{is_among, descendants_of}
-use Rattle.cedar_types.specs.SchemaContents.{schema_of}
+use Rattle.cedar_types.specs.Schemas.Contents.{schema_of}
 use Rattle.cedar_types.specs.Types.{types_of}
 use Rattle.cedar_typechecker.proofs.rbac.members.has_declared_below.Given as goal
 

@@ -1,6 +1,6 @@
 use Rattle.std.proofs.Common.{sym, subst, insert}
 use Rattle.std.specs.List.Sorted.{IsStrictlySortedBy}
-use Rattle.cedar_types.specs.Entries.{HasOneMore}
+use Rattle.cedar_types.specs.Capability.Entries.{HasOneMore}
 use Rattle.cedar_types.proofs.Entries.Searches.{there_already, inserted_sorted, inserted_more}
 use Rattle.cedar_types.proofs.types.entries.add_entry.Goals as goal
 

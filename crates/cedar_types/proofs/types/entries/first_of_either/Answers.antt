@@ -1,5 +1,5 @@
 use Rattle.std.proofs.Common.{sym, ◌∙◌}
-use Rattle.cedar_types.specs.Entries.{both_first}
+use Rattle.cedar_types.specs.Capability.Entries.{both_first}
 use Rattle.cedar_types.proofs.types.entries.first_of_either.Goals as goal
 
 pub returns-in-Equal : goal.returns-in-Equal

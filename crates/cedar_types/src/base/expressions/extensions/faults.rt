@@ -3,8 +3,8 @@ ghost use Rattle.std.specs.Prelude.{◌≡◌, not, map};
 ghost use Rattle.std.specs.List.{list_any, IsAllAdjacentAnswer};
 ghost use Rattle.cedar_types.specs.Names.{path_of, path_eq};
 ghost use Rattle.cedar_types.specs.Types.{ty_of};
-ghost use Rattle.cedar_types.specs.ExtensionFunctions.{function_of, is_plain_type, may_be_returned};
-ghost use Rattle.cedar_types.specs.ExtensionFunctions.{has_bad_return, lacks_arguments};
+ghost use Rattle.cedar_types.specs.Extensions.Functions.{function_of, is_plain_type, may_be_returned};
+ghost use Rattle.cedar_types.specs.Extensions.Functions.{has_bad_return, lacks_arguments};
 
 use crate::base::expressions::extensions::ExtensionFunctionType;
 use crate::base::types::{BoolType, CedarType};

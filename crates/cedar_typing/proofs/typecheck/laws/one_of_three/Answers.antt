@@ -1,5 +1,5 @@
 use Rattle.cedar_typing.proofs.Cuts.{by_depth}
-use Rattle.cedar_typing.proofs.RuleLaws.{three_at_most, three_at_least}
+use Rattle.cedar_typing.proofs.Rules.Laws.{three_at_most, three_at_least}
 use Rattle.cedar_typing.proofs.typecheck.laws.one_of_three.Goals as goal
 
 pub returns : goal.returns

@@ -1,4 +1,4 @@
-use Rattle.cedar_typing.proofs.Verdicts.{verdict_at_most, verdict_at_least, any_order}
+use Rattle.cedar_typing.proofs.Policies.Verdicts.{verdict_at_most, verdict_at_least, any_order}
 use Rattle.cedar_typing.proofs.typecheck.laws.one_verdict.Goals as goal
 
 pub returns : goal.returns

@@ -1,4 +1,4 @@
-use Rattle.cedar_typing.proofs.Operands.{record_is_object}
+use Rattle.cedar_typing.proofs.Rules.Operands.{record_is_object}
 use Rattle.cedar_typing.proofs.typecheck.operand_tests.is_object_operand.Goals as goal
 
 pub returns-in-Record : goal.returns-in-Record

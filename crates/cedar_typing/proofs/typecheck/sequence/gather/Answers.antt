@@ -2,7 +2,7 @@ use Rattle.std.proofs.Common.{◌&&◌, [], ◌∷◌, ◌++◌, ap, sym, ◌∙
 use Rattle.std.specs.Prelude.{Ok}
 use Rattle.cedar_typing.specs.Answer.{AreHanded}
 use Rattle.cedar_typing.specs.Views.{HandsOn}
-use Rattle.cedar_typing.proofs.Sequence.{one_more, is_limit, all_more, handed_more, none_more, drained, cut}
+use Rattle.cedar_typing.proofs.Rules.Sequence.{one_more, is_limit, all_more, handed_more, none_more, drained, cut}
 use Rattle.cedar_typing.proofs.typecheck.sequence.gather.Goals as goal
 use Rattle.cedar_typing.proofs.typecheck.sequence.gather.Goals.{in-None, in-Some+in_ok-answer+in_default}
 

@@ -1,11 +1,11 @@
 use Rattle.std.proofs.Common.{◌≤◌, ◌∙◌, map, refl, subst}
 use Rattle.cedar_types.specs.Errors.{finding_of}
 use Rattle.cedar_typing.specs.declared.typecheck.typechecker.PolicyCheck.{PolicyCheck}
-use Rattle.cedar_typing.specs.CheckViews.{verdict_of}
+use Rattle.cedar_typing.specs.Views.Checks.{verdict_of}
 use Rattle.cedar_typing.specs.PolicyCheck.{irrelevant, fails}
 use Rattle.cedar_typing.specs.TypedExpr.{typed_tree}
-use Rattle.cedar_typing.proofs.Gains.{union_adds}
-use Rattle.cedar_typing.proofs.Tallies.{is_tied, tie_decides, one_more}
+use Rattle.cedar_typing.proofs.Basics.Gains.{union_adds}
+use Rattle.cedar_typing.proofs.Policies.Tallies.{is_tied, tie_decides, one_more}
 use Rattle.cedar_typechecker.specs.Levels.Laws.{VerdictIsShared}
 use Rattle.cedar_typechecker.specs.Levels.Setting.{LevelSetting}
 use Rattle.cedar_typechecker.proofs.Levels.Tallies.{of_success, of_irrelevant, of_failure, gained_in, types_kept}

@@ -1,10 +1,10 @@
 use Rattle.std.proofs.Common.{◌≡◌, List, map, sym, subst}
 use Rattle.cedar_types.specs.declared.base.errors.validation_errors.ValidationError.{ValidationError}
 use Rattle.cedar_types.specs.Errors.{Finding, finding_of}
-use Rattle.cedar_typing.specs.PolicyOutcome.{Adds}
+use Rattle.cedar_typing.specs.PolicyCheck.Outcome.{Adds}
 use Rattle.cedar_typing.specs.TypedExpr.{typed_tree}
-use Rattle.cedar_typing.proofs.Gains.{union_adds}
-use Rattle.cedar_typing.proofs.Tallies.{is_tied, tie_decides}
+use Rattle.cedar_typing.proofs.Basics.Gains.{union_adds}
+use Rattle.cedar_typing.proofs.Policies.Tallies.{is_tied, tie_decides}
 use Rattle.cedar_typechecker.specs.Levels.InOrder.{add_errors}
 use Rattle.cedar_typechecker.specs.Levels.Views.{setting_of, findings}
 use Rattle.cedar_typechecker.proofs.level_validate.tally.LevelTally.take_in_levels.Goals as goal

@@ -1,6 +1,6 @@
 use Rattle.std.proofs.Common.{◌≡◌, map, drop}
 use Rattle.cedar_types.specs.Names.{text_of}
-use Rattle.cedar_types.specs.View.{trees_of}
+use Rattle.cedar_types.specs.Expressions.View.{trees_of}
 use Rattle.cedar_typing.specs.TypedExpr.{typed_tree}
 use Rattle.cedar_typechecker.specs.Levels.InOrder.{add_all_errors, add_field_errors, add_errors_along, counted_at_key, unless_found}
 use Rattle.cedar_typechecker.specs.Levels.Paths.{keys_along}

@@ -1,5 +1,5 @@
 use Rattle.std.proofs.Common.{◌≡◌, ◌+◌, cond, length}
-use Rattle.cedar_types.specs.MentionViews.{mentions_left, mentions_are_over}
+use Rattle.cedar_types.specs.Templates.MentionViews.{mentions_left, mentions_are_over}
 use Rattle.cedar_typechecker.specs.Passes.{errors_to_come}
 use Rattle.cedar_typechecker.proofs.rbac.literal_errors.LiteralErrors.next_error.Given as goal
 

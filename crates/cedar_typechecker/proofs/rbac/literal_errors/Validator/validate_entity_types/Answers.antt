@@ -1,4 +1,4 @@
-use Rattle.cedar_types.specs.SchemaContents.{schema_of}
+use Rattle.cedar_types.specs.Schemas.Contents.{schema_of}
 use Rattle.cedar_types.specs.Templates.{template_of}
 use Rattle.cedar_typechecker.specs.Passes.{errors_left}
 use Rattle.cedar_typechecker.proofs.Passes.{types_left}

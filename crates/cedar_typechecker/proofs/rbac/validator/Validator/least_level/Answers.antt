@@ -2,14 +2,14 @@ use Rattle.std.proofs.Common.{◌∷◌, List, [], refl, ap, ◌∙◌}
 use Rattle.std.specs.Borrow.{Bor}
 use Rattle.cedar_types.specs.declared.base.expressions.extensions.ExtensionSchemas.{ExtensionSchemas}
 use Rattle.cedar_types.specs.declared.base.schema.ValidatorSchema.{ValidatorSchema}
-use Rattle.cedar_types.specs.Linking.{checked_envs}
-use Rattle.cedar_types.specs.RequestEnvs.{Env, env_of}
-use Rattle.cedar_types.specs.SchemaContents.{schema_of}
+use Rattle.cedar_types.specs.Environments.Linking.{checked_envs}
+use Rattle.cedar_types.specs.Environments.RequestEnvs.{Env, env_of}
+use Rattle.cedar_types.specs.Schemas.Contents.{schema_of}
 use Rattle.cedar_types.specs.Templates.{template_of}
 use Rattle.cedar_typing.specs.declared.typecheck.typechecker.Typechecker.{Typechecker}
-use Rattle.cedar_typing.specs.CheckViews.{verdict_of, schema_by, extensions_by, mode_by, setting_within}
-use Rattle.cedar_typing.specs.EnvironmentChecks.{checker_of, template_in, condition_in, checks_left}
-use Rattle.cedar_typing.proofs.ChecksLeft.{one_more_done, of_item, of_input}
+use Rattle.cedar_typing.specs.Views.Checks.{verdict_of, schema_by, extensions_by, mode_by, setting_within}
+use Rattle.cedar_typing.specs.Views.EnvironmentChecks.{checker_of, template_in, condition_in, checks_left}
+use Rattle.cedar_typing.proofs.Policies.ChecksLeft.{one_more_done, of_item, of_input}
 use Rattle.cedar_typechecker.specs.Levels.Tallies.{basis_in}
 use Rattle.cedar_typechecker.specs.ValidatorViews.{schema_in, extensions_in}
 use Rattle.cedar_typechecker.proofs.Levels.Outcomes.{all_left, walk_surroundings}

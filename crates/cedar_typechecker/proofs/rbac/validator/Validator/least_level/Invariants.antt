@@ -1,11 +1,11 @@
 use Rattle.std.proofs.Common.{◌≡◌, ◌↔◌, ℕ, ◌≤◌, ◌++◌, List}
 use Rattle.std.specs.Prelude.{IsPermutation}
-use Rattle.cedar_types.specs.Linking.{checked_envs}
-use Rattle.cedar_types.specs.RequestEnvs.{Env}
-use Rattle.cedar_types.specs.SchemaContents.{schema_of}
+use Rattle.cedar_types.specs.Environments.Linking.{checked_envs}
+use Rattle.cedar_types.specs.Environments.RequestEnvs.{Env}
+use Rattle.cedar_types.specs.Schemas.Contents.{schema_of}
 use Rattle.cedar_types.specs.Templates.{template_of, condition_of}
-use Rattle.cedar_typing.specs.CheckViews.{schema_by, extensions_by, mode_by}
-use Rattle.cedar_typing.specs.EnvironmentChecks.{checker_of, template_in, condition_in, checks_left}
+use Rattle.cedar_typing.specs.Views.Checks.{schema_by, extensions_by, mode_by}
+use Rattle.cedar_typing.specs.Views.EnvironmentChecks.{checker_of, template_in, condition_in, checks_left}
 use Rattle.cedar_typechecker.specs.Levels.Required.{Reaches}
 use Rattle.cedar_typechecker.specs.Levels.Requirements.{AreWithinLevel}
 use Rattle.cedar_typechecker.specs.Levels.Tallies.{basis_in}

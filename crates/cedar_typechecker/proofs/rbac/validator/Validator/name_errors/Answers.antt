@@ -1,7 +1,7 @@
 use Rattle.std.proofs.Common.{sym, ◌∙◌, ap, map}
 use Rattle.cedar_types.specs.Errors.{finding_of}
-use Rattle.cedar_types.specs.Findings.{unknown_types, unknown_actions, wrong_members}
-use Rattle.cedar_types.specs.SchemaContents.{schema_of}
+use Rattle.cedar_types.specs.Templates.Findings.{unknown_types, unknown_actions, wrong_members}
+use Rattle.cedar_types.specs.Schemas.Contents.{schema_of}
 use Rattle.cedar_types.specs.Templates.{template_of}
 use Rattle.cedar_typechecker.specs.Levels.Views.{findings}
 use Rattle.cedar_typechecker.specs.Passes.{errors_left}

@@ -2,10 +2,10 @@ use Rattle.std.proofs.Common.{◌++◌, ◌∷◌, [], List, map, cond, sym, ap,
 use Rattle.std.specs.Prelude.{IsPermutation}
 use Rattle.cedar_types.specs.Errors.{Finding, finding_of, caution_of}
 use Rattle.cedar_types.specs.Extensions.{functions_of}
-use Rattle.cedar_types.specs.SchemaContents.{schema_of}
+use Rattle.cedar_types.specs.Schemas.Contents.{schema_of}
 use Rattle.cedar_types.specs.Templates.{template_of}
 use Rattle.cedar_types.proofs.Expressions.SortedTables.{no_fault}
-use Rattle.cedar_typing.specs.PolicyOutcome.{impossible}
+use Rattle.cedar_typing.specs.PolicyCheck.Outcome.{impossible}
 use Rattle.cedar_typechecker.specs.Levels.Answers.{level_errors_left, level_warnings_left}
 use Rattle.cedar_typechecker.specs.Levels.Outcome.{name_findings, application_warnings}
 use Rattle.cedar_typechecker.specs.Levels.Tallies.{basis_in}

@@ -1,5 +1,5 @@
 use Rattle.std.proofs.Common.{◌∙◌, sym}
-use Rattle.cedar_types.specs.View.{shape}
+use Rattle.cedar_types.specs.Expressions.View.{shape}
 use Rattle.cedar_types.specs.Lemmas.TreeSame.{tree_eq-Decides}
 use Rattle.cedar_types.specs.Lemmas.Same.{expr_is}
 use Rattle.cedar_types.proofs.base.expressions.Expr.has_shape_of.Goals as goal

@@ -1,7 +1,7 @@
 use Rattle.std.proofs.Common.{◌≡◌, ap, ◌∙◌}
 use Rattle.std.specs.List.{list_any}
-use Rattle.cedar_types.specs.View.{written}
-use Rattle.cedar_types.specs.Parts.{is_slot, subexpressions, expressions_left}
+use Rattle.cedar_types.specs.Expressions.View.{written}
+use Rattle.cedar_types.specs.Expressions.Parts.{is_slot, subexpressions, expressions_left}
 use Rattle.cedar_types.proofs.Expressions.Parts.{slot_found}
 use Rattle.cedar_types.proofs.base.expressions.Expr.mentions_slot.Goals as goal
 

@@ -1,7 +1,7 @@
 use Rattle.std.proofs.Common.{◌≡◌}
 use Rattle.std.specs.List.{list_any}
-use Rattle.cedar_types.specs.Parts.{mentions_slot, is_slot, expressions_left}
-use Rattle.cedar_types.specs.View.{written}
+use Rattle.cedar_types.specs.Expressions.Parts.{mentions_slot, is_slot, expressions_left}
+use Rattle.cedar_types.specs.Expressions.View.{written}
 use Rattle.cedar_types.proofs.base.expressions.Expr.mentions_slot.Given as goal
 
 -- what is left decides

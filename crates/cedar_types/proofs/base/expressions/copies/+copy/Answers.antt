@@ -2,7 +2,7 @@ use Rattle.std.proofs.Common.{◌≡◌, [], ◌∷◌, ◌++◌, sym, ap, ◌�
 use Rattle.std.specs.List.Sorted.{IsStrictlySortedBy}
 use Rattle.std.specs.Map.{keys_of}
 use Rattle.cedar_types.specs.Names.{text_of}
-use Rattle.cedar_types.specs.View.{fields_written}
+use Rattle.cedar_types.specs.Expressions.View.{fields_written}
 use Rattle.cedar_types.proofs.Attributes.Entries.{Entry, rc_cmp, fields_insert, put_last}
 use Rattle.cedar_types.proofs.base.expressions.copies.+copy.Goals as goal
 

@@ -1,5 +1,5 @@
 use Rattle.std.proofs.Common.{◌≡◌, List, ◌++◌, take, map}
-use Rattle.cedar_types.specs.View.{written, fields_written}
+use Rattle.cedar_types.specs.Expressions.View.{written, fields_written}
 use Rattle.cedar_types.proofs.base.expressions.copies.+copy.Given as goal
 
 abbrev pub invariant-copy_list-loop-e : goal.invariant-copy_list-loop-e

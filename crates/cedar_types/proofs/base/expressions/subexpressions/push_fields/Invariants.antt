@@ -1,6 +1,6 @@
 use Rattle.std.proofs.Common.{◌≡◌, ◌++◌, map}
-use Rattle.cedar_types.specs.Parts.{field_values}
-use Rattle.cedar_types.specs.View.{written, fields_written}
+use Rattle.cedar_types.specs.Expressions.Parts.{field_values}
+use Rattle.cedar_types.specs.Expressions.View.{written, fields_written}
 use Rattle.cedar_types.proofs.base.expressions.subexpressions.push_fields.Given as goal
 
 -- what is there, and then the fields that are left

@@ -1,7 +1,7 @@
 use Rattle.std.proofs.Common.{◌≡◌, List, ◌++◌, map, sym, ap, ◌∙◌, arith}
 use Rattle.std.proofs.lemmas.Grind.{common_steps}
-use Rattle.cedar_types.specs.Tree.{Tree}
-use Rattle.cedar_types.specs.View.{Written, written}
+use Rattle.cedar_types.specs.Expressions.Tree.{Tree}
+use Rattle.cedar_types.specs.Expressions.View.{Written, written}
 use Rattle.cedar_types.proofs.Expressions.Parts.{listed_again}
 use Rattle.cedar_types.proofs.base.expressions.subexpressions.push_list.Goals as goal
 

@@ -1,5 +1,5 @@
 use Rattle.std.proofs.Common.{◌≡◌, take, map}
-use Rattle.cedar_types.specs.Declarations.{declared_action}
+use Rattle.cedar_types.specs.Schemas.Declarations.{declared_action}
 use Rattle.cedar_types.proofs.base.schema.ValidatorSchema.action_ids.Given as goal
 
 -- those so far

@@ -1,6 +1,6 @@
 use Rattle.std.proofs.Common.{◌≡◌, take, map}
 use Rattle.cedar_types.specs.Names.{type_of}
-use Rattle.cedar_types.specs.Declarations.{declared_type}
+use Rattle.cedar_types.specs.Schemas.Declarations.{declared_type}
 use Rattle.cedar_types.proofs.base.schema.ValidatorSchema.entity_type_names.Given as goal
 
 -- those so far

@@ -4,11 +4,11 @@ use Rattle.std.specs.Ordering.{is_eq}
 use Rattle.std.proofs.Math.Seq.{take-length}
 use Rattle.std.proofs.lemmas.List.Folds.{list_all-append}
 use Rattle.cedar_types.specs.Names.{uid_of, uid_eq}
-use Rattle.cedar_types.specs.Declarations.{declared_action, uids_of}
+use Rattle.cedar_types.specs.Schemas.Declarations.{declared_action, uids_of}
 use Rattle.cedar_types.specs.Schemas.{declares_action, action_named, action_descendants, uid_is_among}
-use Rattle.cedar_types.specs.Listings.{actions_within}
-use Rattle.cedar_types.specs.SchemaContents.{schema_of}
-use Rattle.cedar_types.specs.Tables.{actions_in}
+use Rattle.cedar_types.specs.Schemas.Listings.{actions_within}
+use Rattle.cedar_types.specs.Schemas.Contents.{schema_of}
+use Rattle.cedar_types.specs.Schemas.Tables.{actions_in}
 use Rattle.cedar_types.proofs.Names.Ids.{uid_decides, uid_ties, uids_cmp}
 use Rattle.cedar_types.proofs.Schema.Places.{next_mapped}
 use Rattle.cedar_types.proofs.Schema.Listings.{inserted, next_within, found_some, found_none, all_fails}

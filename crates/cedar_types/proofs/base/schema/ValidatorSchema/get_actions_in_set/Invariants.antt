@@ -2,8 +2,8 @@ use Rattle.std.proofs.Common.{◌≡◌, true, take, map}
 use Rattle.std.specs.List.{list_all}
 use Rattle.cedar_types.specs.Names.{Uid, uid_of}
 use Rattle.cedar_types.specs.Schemas.{declares_action, uid_is_among}
-use Rattle.cedar_types.specs.Listings.{actions_within}
-use Rattle.cedar_types.specs.SchemaContents.{schema_of}
+use Rattle.cedar_types.specs.Schemas.Listings.{actions_within}
+use Rattle.cedar_types.specs.Schemas.Contents.{schema_of}
 use Rattle.cedar_types.proofs.base.schema.ValidatorSchema.get_actions_in_set.Given as goal
 
 -- the actions so far are declared, and they and their descendants are there

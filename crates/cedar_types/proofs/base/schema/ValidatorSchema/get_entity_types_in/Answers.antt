@@ -1,11 +1,11 @@
 use Rattle.std.proofs.Common.{◌≡◌, ◌∙◌, ap, sym, subst, false, ◌∷◌, ◌++◌, map, List, option_map, append-nil}
 use Rattle.cedar_types.specs.Names.{Path, type_of, path_eq, path_cmp}
 use Rattle.cedar_types.specs.Types.{types_of}
-use Rattle.cedar_types.specs.Declarations.{declared_type}
+use Rattle.cedar_types.specs.Schemas.Declarations.{declared_type}
 use Rattle.cedar_types.specs.Schemas.{has_repeat, type_descendants}
-use Rattle.cedar_types.specs.Listings.{ListsTypes, types_within}
-use Rattle.cedar_types.specs.SchemaContents.{schema_of}
-use Rattle.cedar_types.specs.Tables.{types_in}
+use Rattle.cedar_types.specs.Schemas.Listings.{ListsTypes, types_within}
+use Rattle.cedar_types.specs.Schemas.Contents.{schema_of}
+use Rattle.cedar_types.specs.Schemas.Tables.{types_in}
 use Rattle.cedar_types.proofs.Names.Paths.{names_cmp, path_ties}
 use Rattle.cedar_types.proofs.Schema.Listings.{others, lists_within, apart_sorted, less_apart}
 use Rattle.cedar_types.proofs.base.schema.ValidatorSchema.get_entity_types_in.Goals as goal

@@ -1,9 +1,9 @@
 use Rattle.std.proofs.Common.{◌∙◌, ap, sym, ◌&&◌}
 use Rattle.std.specs.List.{list_any}
 use Rattle.cedar_types.specs.Names.{type_of, path_eq}
-use Rattle.cedar_types.specs.Declarations.{declared_action}
-use Rattle.cedar_types.specs.Tables.{actions_in}
-use Rattle.cedar_types.specs.SchemaContents.{schema_of}
+use Rattle.cedar_types.specs.Schemas.Declarations.{declared_action}
+use Rattle.cedar_types.specs.Schemas.Tables.{actions_in}
+use Rattle.cedar_types.specs.Schemas.Contents.{schema_of}
 use Rattle.cedar_types.proofs.Schema.Places.{any_mapped}
 use Rattle.cedar_types.proofs.Schema.Memberships.{below_seen, below_is}
 use Rattle.cedar_types.proofs.base.schema.ValidatorSchema.is_action_below.Goals as goal

@@ -3,7 +3,7 @@ use Rattle.std.specs.List.{list_any}
 use Rattle.cedar_types.specs.Names.{type_of}
 use Rattle.cedar_types.specs.Types.{lub_of}
 use Rattle.cedar_types.specs.Schemas.{may_be_in}
-use Rattle.cedar_types.specs.SchemaContents.{schema_of}
+use Rattle.cedar_types.specs.Schemas.Contents.{schema_of}
 use Rattle.cedar_types.proofs.base.schema.ValidatorSchema.may_be_in_any.Given as goal
 
 -- what is left decides

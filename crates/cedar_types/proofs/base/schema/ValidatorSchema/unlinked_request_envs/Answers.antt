@@ -1,5 +1,5 @@
 use Rattle.std.proofs.Common.{◌∙◌}
-use Rattle.cedar_types.specs.RequestEnvs.{envs_left}
+use Rattle.cedar_types.specs.Environments.RequestEnvs.{envs_left}
 use Rattle.cedar_types.proofs.Schema.KeptEnvironments.{all_left, tells_partial}
 use Rattle.cedar_types.proofs.base.schema.ValidatorSchema.unlinked_request_envs.Goals as goal
 

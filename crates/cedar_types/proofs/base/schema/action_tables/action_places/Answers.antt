@@ -3,8 +3,8 @@ use Rattle.std.specs.List.{list_any}
 use Rattle.std.specs.Ordering.{is_eq}
 use Rattle.std.proofs.lemmas.List.{take_more, length-take-le}
 use Rattle.cedar_types.specs.Names.{uid_of, uid_eq}
-use Rattle.cedar_types.specs.Places.{action_place, place_in}
-use Rattle.cedar_types.specs.Declarations.{declared_action}
+use Rattle.cedar_types.specs.Schemas.Tables.Places.{action_place, place_in}
+use Rattle.cedar_types.specs.Schemas.Declarations.{declared_action}
 use Rattle.cedar_types.proofs.Names.Ids.{uid_lookup, uids_cmp, uid_ties, uid_symm, uid_decides}
 use Rattle.cedar_types.proofs.Schema.Places.{any_placed, repeat_found, repeat_not_found, placed_next, is_none}
 use Rattle.cedar_types.proofs.base.schema.action_tables.action_places.Goals as goal

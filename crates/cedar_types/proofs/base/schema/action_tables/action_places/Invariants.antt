@@ -1,6 +1,6 @@
 use Rattle.std.proofs.Common.{◌≡◌, false, take, map}
-use Rattle.cedar_types.specs.Declarations.{declared_action}
-use Rattle.cedar_types.specs.Places.{IsActionIndex}
+use Rattle.cedar_types.specs.Schemas.Declarations.{declared_action}
+use Rattle.cedar_types.specs.Schemas.Tables.Places.{IsActionIndex}
 use Rattle.cedar_types.specs.Schemas.{repeats_action}
 use Rattle.cedar_types.proofs.base.schema.action_tables.action_places.Given as goal
 

@@ -2,10 +2,10 @@ use Rattle.std.proofs.Common.{◌≡◌, ◌∙◌, ap, sym, true, take_all, ari
 use Rattle.std.specs.List.{list_all}
 use Rattle.std.proofs.lemmas.List.Folds.{list_all-map}
 use Rattle.cedar_types.specs.Names.{uid_eq}
-use Rattle.cedar_types.specs.Declarations.{declared_action, uids_of}
-use Rattle.cedar_types.specs.Tables.{actions_in}
+use Rattle.cedar_types.specs.Schemas.Declarations.{declared_action, uids_of}
+use Rattle.cedar_types.specs.Schemas.Tables.{actions_in}
 use Rattle.cedar_types.specs.Schemas.{uid_is_among, descendants_of_action}
-use Rattle.cedar_types.specs.Closures.{actions_are_kept}
+use Rattle.cedar_types.specs.Schemas.Closures.{actions_are_kept}
 use Rattle.cedar_types.proofs.Names.Ids.{uid_decides}
 use Rattle.cedar_types.proofs.Schema.Closures.{kept_closed}
 use Rattle.cedar_types.proofs.base.schema.closures.are_actions_closed.Goals as goal

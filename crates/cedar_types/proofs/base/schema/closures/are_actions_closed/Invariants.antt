@@ -1,8 +1,8 @@
 use Rattle.std.proofs.Common.{◌≡◌, true, take}
 use Rattle.std.specs.List.{list_all}
-use Rattle.cedar_types.specs.Declarations.{uids_of}
-use Rattle.cedar_types.specs.Tables.{actions_in}
-use Rattle.cedar_types.specs.Closures.{actions_are_kept}
+use Rattle.cedar_types.specs.Schemas.Declarations.{uids_of}
+use Rattle.cedar_types.specs.Schemas.Tables.{actions_in}
+use Rattle.cedar_types.specs.Schemas.Closures.{actions_are_kept}
 use Rattle.cedar_types.proofs.base.schema.closures.are_actions_closed.Given as goal
 
 -- those so far are kept

@@ -3,7 +3,7 @@ use Rattle.std.specs.List.{list_all}
 use Rattle.cedar_types.specs.Names.{type_of}
 use Rattle.cedar_types.specs.Types.{types_of}
 use Rattle.cedar_types.specs.Schemas.{is_among, descendants_of}
-use Rattle.cedar_types.specs.Tables.{types_in}
+use Rattle.cedar_types.specs.Schemas.Tables.{types_in}
 use Rattle.cedar_types.proofs.base.schema.closures.are_other_types_closed.Given as goal
 
 -- what is left decides

@@ -3,10 +3,10 @@ use Rattle.std.specs.List.{list_all}
 use Rattle.std.proofs.lemmas.List.Folds.{list_all-map}
 use Rattle.cedar_types.specs.Names.{path_eq}
 use Rattle.cedar_types.specs.Types.{types_of}
-use Rattle.cedar_types.specs.Declarations.{declared_type}
-use Rattle.cedar_types.specs.Tables.{types_in}
+use Rattle.cedar_types.specs.Schemas.Declarations.{declared_type}
+use Rattle.cedar_types.specs.Schemas.Tables.{types_in}
 use Rattle.cedar_types.specs.Schemas.{is_among, descendants_of}
-use Rattle.cedar_types.specs.Closures.{types_are_kept}
+use Rattle.cedar_types.specs.Schemas.Closures.{types_are_kept}
 use Rattle.cedar_types.proofs.Names.Ids.{path_decides}
 use Rattle.cedar_types.proofs.Schema.Closures.{kept_closed}
 use Rattle.cedar_types.proofs.base.schema.closures.are_types_closed.Goals as goal

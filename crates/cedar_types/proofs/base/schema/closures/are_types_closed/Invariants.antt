@@ -1,8 +1,8 @@
 use Rattle.std.proofs.Common.{◌≡◌, true, take}
 use Rattle.std.specs.List.{list_all}
 use Rattle.cedar_types.specs.Types.{types_of}
-use Rattle.cedar_types.specs.Tables.{types_in}
-use Rattle.cedar_types.specs.Closures.{types_are_kept}
+use Rattle.cedar_types.specs.Schemas.Tables.{types_in}
+use Rattle.cedar_types.specs.Schemas.Closures.{types_are_kept}
 use Rattle.cedar_types.proofs.base.schema.closures.are_types_closed.Given as goal
 
 -- those so far are kept

@@ -1,8 +1,8 @@
 use Rattle.std.proofs.Common.{◌∙◌, ◌||◌, ap, sym}
 use Rattle.std.specs.List.{list_all}
 use Rattle.cedar_types.specs.Names.{uid_eq}
-use Rattle.cedar_types.specs.Declarations.{declared_action, uids_of}
-use Rattle.cedar_types.specs.Tables.{actions_in}
+use Rattle.cedar_types.specs.Schemas.Declarations.{declared_action, uids_of}
+use Rattle.cedar_types.specs.Schemas.Tables.{actions_in}
 use Rattle.cedar_types.specs.Schemas.{uid_is_among, descendants_of_action, action_descendants}
 use Rattle.cedar_types.proofs.Names.Ids.{uid_decides}
 use Rattle.cedar_types.proofs.Tests.{and_left, and_right, and_both}

@@ -2,8 +2,8 @@ use Rattle.std.proofs.Common.{◌∙◌, ◌||◌, ap, sym}
 use Rattle.std.specs.List.{list_all}
 use Rattle.cedar_types.specs.Names.{path_eq}
 use Rattle.cedar_types.specs.Types.{types_of}
-use Rattle.cedar_types.specs.Declarations.{declared_type}
-use Rattle.cedar_types.specs.Tables.{types_in}
+use Rattle.cedar_types.specs.Schemas.Declarations.{declared_type}
+use Rattle.cedar_types.specs.Schemas.Tables.{types_in}
 use Rattle.cedar_types.specs.Schemas.{is_among, descendants_of, type_descendants}
 use Rattle.cedar_types.proofs.Names.Ids.{path_decides}
 use Rattle.cedar_types.proofs.Tests.{and_left, and_right, and_both}

@@ -2,8 +2,8 @@ use Rattle.std.proofs.Common.{◌≡◌, ◌∷◌, ◌∙◌, ap, sym, true, ma
 use Rattle.std.specs.List.{list_all}
 use Rattle.std.proofs.lemmas.List.{length-map}
 use Rattle.cedar_types.specs.Names.{uid_of, uid_eq}
-use Rattle.cedar_types.specs.Declarations.{declared_action, uids_of}
-use Rattle.cedar_types.specs.Tables.{actions_in}
+use Rattle.cedar_types.specs.Schemas.Declarations.{declared_action, uids_of}
+use Rattle.cedar_types.specs.Schemas.Tables.{actions_in}
 use Rattle.cedar_types.specs.Schemas.{uid_is_among}
 use Rattle.cedar_types.proofs.Names.Ids.{uid_decides}
 use Rattle.cedar_types.proofs.Tests.{and_left, and_right}

@@ -1,10 +1,10 @@
 use Rattle.std.proofs.Common.{◌≡◌, true, IfSome, map}
 use Rattle.std.specs.List.{list_all}
 use Rattle.cedar_types.specs.Names.{uid_of}
-use Rattle.cedar_types.specs.Declarations.{declared_action, uids_of}
-use Rattle.cedar_types.specs.Tables.{actions_in}
+use Rattle.cedar_types.specs.Schemas.Declarations.{declared_action, uids_of}
+use Rattle.cedar_types.specs.Schemas.Tables.{actions_in}
 use Rattle.cedar_types.specs.Schemas.{uid_is_among}
-use Rattle.cedar_types.specs.Closures.{IsActionBelow}
+use Rattle.cedar_types.specs.Schemas.Closures.{IsActionBelow}
 use Rattle.cedar_types.proofs.base.schema.closures.widest_action_below.Given as goal
 
 -- what was found is below, and what is left is among the actions

@@ -3,8 +3,8 @@ use Rattle.std.specs.List.{list_all}
 use Rattle.std.proofs.lemmas.List.{length-map}
 use Rattle.cedar_types.specs.Names.{type_of, path_eq}
 use Rattle.cedar_types.specs.Types.{types_of}
-use Rattle.cedar_types.specs.Declarations.{declared_type}
-use Rattle.cedar_types.specs.Tables.{types_in}
+use Rattle.cedar_types.specs.Schemas.Declarations.{declared_type}
+use Rattle.cedar_types.specs.Schemas.Tables.{types_in}
 use Rattle.cedar_types.specs.Schemas.{is_among}
 use Rattle.cedar_types.proofs.Names.Ids.{path_decides}
 use Rattle.cedar_types.proofs.Tests.{and_left, and_right}

@@ -2,10 +2,10 @@ use Rattle.std.proofs.Common.{◌≡◌, true, IfSome, map}
 use Rattle.std.specs.List.{list_all}
 use Rattle.cedar_types.specs.Names.{type_of}
 use Rattle.cedar_types.specs.Types.{types_of}
-use Rattle.cedar_types.specs.Declarations.{declared_type}
-use Rattle.cedar_types.specs.Tables.{types_in}
+use Rattle.cedar_types.specs.Schemas.Declarations.{declared_type}
+use Rattle.cedar_types.specs.Schemas.Tables.{types_in}
 use Rattle.cedar_types.specs.Schemas.{is_among}
-use Rattle.cedar_types.specs.Closures.{IsTypeBelow}
+use Rattle.cedar_types.specs.Schemas.Closures.{IsTypeBelow}
 use Rattle.cedar_types.proofs.base.schema.closures.widest_type_below.Given as goal
 
 -- what was found is below, and what is left is among the types

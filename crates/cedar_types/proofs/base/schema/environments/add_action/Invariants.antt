@@ -2,7 +2,7 @@ use Rattle.std.proofs.Common.{◌≡◌, ◌++◌, map, Some}
 use Rattle.std.specs.List.{flat_map}
 use Rattle.cedar_types.specs.Names.{type_of, uid_of}
 use Rattle.cedar_types.specs.Types.{types_of, ty_of}
-use Rattle.cedar_types.specs.Declarations.{application}
+use Rattle.cedar_types.specs.Schemas.Declarations.{application}
 use Rattle.cedar_types.specs.Environments.{declared_env, principal_environments, action_environments}
 use Rattle.cedar_types.proofs.base.schema.environments.add_action.Given as goal
 

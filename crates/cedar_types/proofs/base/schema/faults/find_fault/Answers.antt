@@ -1,6 +1,6 @@
 use Rattle.std.proofs.Common.{◌≡◌, ◌∙◌, rules, Some, None}
 use Rattle.cedar_types.specs.declared.base.schema.errors.SchemaError.TheVariants.{ActionTypeDeclared, NotAnActionType, EmptyEnum, UnknownType, UnknownActionDescendant, VagueType, DescendantsNotClosed}
-use Rattle.cedar_types.specs.Tables.{types_in, actions_in}
+use Rattle.cedar_types.specs.Schemas.Tables.{types_in, actions_in}
 use Rattle.cedar_types.proofs.Schema.Faults.{seen_fault, fault_seen}
 use Rattle.cedar_types.proofs.base.schema.faults.find_fault.Goals as goal
 

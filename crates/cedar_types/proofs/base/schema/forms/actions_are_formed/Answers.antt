@@ -1,7 +1,7 @@
 use Rattle.std.proofs.Common.{◌+◌, ◌<◌, ◌&&◌, length, map, drop, arith, ap, sym, ◌∙◌}
 use Rattle.std.specs.List.{list_all}
-use Rattle.cedar_types.specs.Declarations.{declared_action}
-use Rattle.cedar_types.specs.FormedSchemas.{application_is_formed}
+use Rattle.cedar_types.specs.Schemas.Declarations.{declared_action}
+use Rattle.cedar_types.specs.Schemas.Formed.{application_is_formed}
 use Rattle.cedar_types.specs.Schemas.{DeclaredAction}
 use Rattle.cedar_types.proofs.Items.{next_item}
 use Rattle.cedar_types.proofs.base.schema.forms.actions_are_formed.Goals as goal

@@ -1,7 +1,7 @@
 use Rattle.std.proofs.Common.{◌≡◌, map, drop}
 use Rattle.std.specs.List.{list_all}
-use Rattle.cedar_types.specs.Declarations.{declared_type}
-use Rattle.cedar_types.specs.FormedSchemas.{kind_is_formed}
+use Rattle.cedar_types.specs.Schemas.Declarations.{declared_type}
+use Rattle.cedar_types.specs.Schemas.Formed.{kind_is_formed}
 use Rattle.cedar_types.specs.Schemas.{DeclaredType}
 use Rattle.cedar_types.proofs.base.schema.forms.types_are_formed.Given as goal
 

@@ -1,8 +1,8 @@
 use Rattle.std.proofs.Common.{◌≡◌, map, option_map, fold}
 use Rattle.cedar_types.specs.Names.{text_of, type_of}
 use Rattle.cedar_types.specs.Types.{lub_of}
-use Rattle.cedar_types.specs.Lookups.{attribute_view, declared_attribute, joined_attribute, types_attribute}
-use Rattle.cedar_types.specs.SchemaContents.{schema_of}
+use Rattle.cedar_types.specs.Types.Lookups.{attribute_view, declared_attribute, joined_attribute, types_attribute}
+use Rattle.cedar_types.specs.Schemas.Contents.{schema_of}
 use Rattle.cedar_types.proofs.base.schema.lookups.types_lookup.Given as goal
 
 -- what was found, joined with what the types that are left declare

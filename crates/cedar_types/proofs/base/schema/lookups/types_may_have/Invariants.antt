@@ -2,8 +2,8 @@ use Rattle.std.proofs.Common.{◌≡◌, map}
 use Rattle.std.specs.List.{list_any}
 use Rattle.cedar_types.specs.Names.{text_of, type_of}
 use Rattle.cedar_types.specs.Types.{lub_of}
-use Rattle.cedar_types.specs.Lookups.{may_declare}
-use Rattle.cedar_types.specs.SchemaContents.{schema_of}
+use Rattle.cedar_types.specs.Types.Lookups.{may_declare}
+use Rattle.cedar_types.specs.Schemas.Contents.{schema_of}
 use Rattle.cedar_types.proofs.base.schema.lookups.types_may_have.Given as goal
 
 -- what is left decides

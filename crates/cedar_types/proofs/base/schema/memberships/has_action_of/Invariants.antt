@@ -1,7 +1,7 @@
 use Rattle.std.proofs.Common.{◌≡◌, map}
 use Rattle.std.specs.List.{list_any}
 use Rattle.cedar_types.specs.Names.{type_of, uid_of, path_eq}
-use Rattle.cedar_types.specs.Declarations.{uids_of}
+use Rattle.cedar_types.specs.Schemas.Declarations.{uids_of}
 use Rattle.cedar_types.proofs.base.schema.memberships.has_action_of.Given as goal
 
 -- what is left decides

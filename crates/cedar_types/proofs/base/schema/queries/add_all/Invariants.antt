@@ -1,6 +1,6 @@
 use Rattle.std.proofs.Common.{◌≡◌, ◌||◌, map}
 use Rattle.cedar_types.specs.Names.{Uid, uid_of}
-use Rattle.cedar_types.specs.Declarations.{uids_of}
+use Rattle.cedar_types.specs.Schemas.Declarations.{uids_of}
 use Rattle.cedar_types.specs.Schemas.{uid_is_among}
 use Rattle.cedar_types.proofs.base.schema.queries.add_all.Given as goal
 

@@ -1,7 +1,7 @@
 use Rattle.std.proofs.Common.{◌≡◌, ◌++◌, map, drop, Some}
-use Rattle.cedar_types.specs.Declarations.{declared_type}
-use Rattle.cedar_types.specs.Linking.{type_names}
-use Rattle.cedar_types.specs.LinkViews.{link_of}
+use Rattle.cedar_types.specs.Schemas.Declarations.{declared_type}
+use Rattle.cedar_types.specs.Environments.Linking.{type_names}
+use Rattle.cedar_types.specs.Environments.LinkViews.{link_of}
 use Rattle.cedar_types.proofs.base.schema.slot_links.add_all_types.Given as goal
 
 -- what was added, and the types that are left

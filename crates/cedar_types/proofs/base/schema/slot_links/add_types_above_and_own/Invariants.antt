@@ -1,7 +1,7 @@
 use Rattle.std.proofs.Common.{◌≡◌, ◌++◌, map, drop, Some}
-use Rattle.cedar_types.specs.Declarations.{declared_type}
-use Rattle.cedar_types.specs.Linking.{types_above}
-use Rattle.cedar_types.specs.LinkViews.{link_of}
+use Rattle.cedar_types.specs.Schemas.Declarations.{declared_type}
+use Rattle.cedar_types.specs.Environments.Linking.{types_above}
+use Rattle.cedar_types.specs.Environments.LinkViews.{link_of}
 use Rattle.cedar_types.specs.Names.{type_of}
 use Rattle.cedar_types.proofs.base.schema.slot_links.add_types_above_and_own.Given as goal
 

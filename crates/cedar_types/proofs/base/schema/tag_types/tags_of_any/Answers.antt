@@ -1,7 +1,7 @@
 use Rattle.std.proofs.Common.{◌+◌, ◌<◌, ◌++◌, length, map, drop, append_assoc, arith, ap, sym, ◌∙◌}
-use Rattle.cedar_types.specs.Declarations.{declared_type, type_kind}
+use Rattle.cedar_types.specs.Schemas.Declarations.{declared_type, type_kind}
 use Rattle.cedar_types.specs.Types.{ty_of}
-use Rattle.cedar_types.specs.Lookups.{kind_tags, tags_of_any}
+use Rattle.cedar_types.specs.Types.Lookups.{kind_tags, tags_of_any}
 use Rattle.cedar_types.proofs.Items.{next_item}
 use Rattle.cedar_types.proofs.base.schema.tag_types.tags_of_any.Goals as goal
 

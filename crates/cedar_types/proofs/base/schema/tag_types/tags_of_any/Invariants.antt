@@ -1,7 +1,7 @@
 use Rattle.std.proofs.Common.{◌≡◌, ◌++◌, map, drop}
-use Rattle.cedar_types.specs.Declarations.{declared_type}
+use Rattle.cedar_types.specs.Schemas.Declarations.{declared_type}
 use Rattle.cedar_types.specs.Types.{ty_of}
-use Rattle.cedar_types.specs.Lookups.{tags_of_any}
+use Rattle.cedar_types.specs.Types.Lookups.{tags_of_any}
 use Rattle.cedar_types.proofs.base.schema.tag_types.tags_of_any.Given as goal
 
 -- what was added, and what the types that are left declare

@@ -1,8 +1,8 @@
 use Rattle.std.proofs.Common.{◌≡◌, ◌++◌, map}
 use Rattle.cedar_types.specs.Names.{type_of}
 use Rattle.cedar_types.specs.Types.{ty_of, lub_of}
-use Rattle.cedar_types.specs.Lookups.{tags_of_types}
-use Rattle.cedar_types.specs.SchemaContents.{schema_of}
+use Rattle.cedar_types.specs.Types.Lookups.{tags_of_types}
+use Rattle.cedar_types.specs.Schemas.Contents.{schema_of}
 use Rattle.cedar_types.proofs.base.schema.tag_types.tags_of_types.Given as goal
 
 -- what was added, and what the types that are left declare

@@ -1,6 +1,6 @@
 use Rattle.std.proofs.Common.{◌∙◌, ap, sym}
 use Rattle.cedar_types.specs.Types.{entries_of}
-use Rattle.cedar_types.specs.Tables.{types_in}
+use Rattle.cedar_types.specs.Schemas.Tables.{types_in}
 use Rattle.cedar_types.specs.Schemas.{attr_names_pass, knows_type}
 use Rattle.cedar_types.proofs.Attributes.{attributes_are}
 use Rattle.cedar_types.proofs.base.schema.type_faults.+names.Goals as goal

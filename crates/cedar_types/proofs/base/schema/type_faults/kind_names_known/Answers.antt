@@ -1,7 +1,7 @@
 use Rattle.std.proofs.Common.{◌∙◌, ap, sym}
 use Rattle.std.specs.List.{list_all}
 use Rattle.cedar_types.specs.Types.{types_of, lub_of, kind_of}
-use Rattle.cedar_types.specs.Tables.{types_in}
+use Rattle.cedar_types.specs.Schemas.Tables.{types_in}
 use Rattle.cedar_types.specs.Schemas.{names_pass, knows_type}
 use Rattle.cedar_types.proofs.base.schema.type_faults.kind_names_known.Goals as goal
 

@@ -3,8 +3,8 @@ use Rattle.std.specs.List.{list_any}
 use Rattle.std.specs.Ordering.{is_eq}
 use Rattle.std.proofs.lemmas.List.{take_more, length-take-le}
 use Rattle.cedar_types.specs.Names.{type_of, path_eq}
-use Rattle.cedar_types.specs.Places.{type_place, place_in}
-use Rattle.cedar_types.specs.Declarations.{declared_type}
+use Rattle.cedar_types.specs.Schemas.Tables.Places.{type_place, place_in}
+use Rattle.cedar_types.specs.Schemas.Declarations.{declared_type}
 use Rattle.cedar_types.proofs.Names.Ids.{type_lookup, path_symm, path_decides}
 use Rattle.cedar_types.proofs.Names.Paths.{names_cmp, path_ties}
 use Rattle.cedar_types.proofs.Schema.Places.{any_placed, repeat_found, repeat_not_found, placed_next, is_none}

@@ -1,6 +1,6 @@
 use Rattle.std.proofs.Common.{◌≡◌, false, take, map}
-use Rattle.cedar_types.specs.Declarations.{declared_type}
-use Rattle.cedar_types.specs.Places.{IsTypeIndex}
+use Rattle.cedar_types.specs.Schemas.Declarations.{declared_type}
+use Rattle.cedar_types.specs.Schemas.Tables.Places.{IsTypeIndex}
 use Rattle.cedar_types.specs.Schemas.{repeats_type}
 use Rattle.cedar_types.proofs.base.schema.type_tables.type_places.Given as goal
 

@@ -1,5 +1,5 @@
 use Rattle.std.proofs.Common.{◌++◌, sym, ◌∙◌}
-use Rattle.cedar_types.specs.MentionViews.{mentions_left}
+use Rattle.cedar_types.specs.Templates.MentionViews.{mentions_left}
 use Rattle.cedar_types.specs.Templates.{template_of}
 use Rattle.cedar_types.proofs.Mentions.{mentions_are_those_of_the_condition}
 use Rattle.cedar_types.proofs.base.templates.Template.mentions.Goals as goal

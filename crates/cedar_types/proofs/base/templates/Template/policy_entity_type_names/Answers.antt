@@ -1,5 +1,5 @@
 use Rattle.std.proofs.Common.{◌≡◌, map, ◌∙◌, rules}
-use Rattle.cedar_types.specs.Mentions.{mentioned_type, template_mentions}
+use Rattle.cedar_types.specs.Templates.Mentions.{mentioned_type, template_mentions}
 use Rattle.cedar_types.specs.Names.{placed_type}
 use Rattle.cedar_types.specs.Templates.{template_of}
 use Rattle.cedar_types.proofs.Mentions.{types_are_those_mentioned}

@@ -1,6 +1,6 @@
 use Rattle.std.proofs.Common.{◌≡◌, ◌++◌, map}
-use Rattle.cedar_types.specs.Mentions.{mentioned_type, template_mentions}
-use Rattle.cedar_types.specs.MentionViews.{mentions_left}
+use Rattle.cedar_types.specs.Templates.Mentions.{mentioned_type, template_mentions}
+use Rattle.cedar_types.specs.Templates.MentionViews.{mentions_left}
 use Rattle.cedar_types.specs.Names.{placed_type}
 use Rattle.cedar_types.specs.Templates.{template_of}
 use Rattle.cedar_types.proofs.base.templates.Template.policy_entity_type_names.Given as goal

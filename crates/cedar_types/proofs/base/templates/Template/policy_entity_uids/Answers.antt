@@ -1,6 +1,6 @@
 use Rattle.std.proofs.Common.{◌≡◌, map, ◌∙◌, rules}
 use Rattle.std.specs.List.{filter_map}
-use Rattle.cedar_types.specs.Mentions.{mentioned_uid, template_mentions}
+use Rattle.cedar_types.specs.Templates.Mentions.{mentioned_uid, template_mentions}
 use Rattle.cedar_types.specs.Names.{placed_uid}
 use Rattle.cedar_types.specs.Templates.{template_of}
 use Rattle.cedar_types.proofs.Mentions.{uids_are_those_mentioned}

@@ -1,7 +1,7 @@
 use Rattle.std.proofs.Common.{◌≡◌, ◌++◌, map}
 use Rattle.std.specs.List.{filter_map}
-use Rattle.cedar_types.specs.Mentions.{mentioned_uid, template_mentions}
-use Rattle.cedar_types.specs.MentionViews.{mentions_left}
+use Rattle.cedar_types.specs.Templates.Mentions.{mentioned_uid, template_mentions}
+use Rattle.cedar_types.specs.Templates.MentionViews.{mentions_left}
 use Rattle.cedar_types.specs.Names.{placed_uid}
 use Rattle.cedar_types.specs.Templates.{template_of}
 use Rattle.cedar_types.proofs.base.templates.Template.policy_entity_uids.Given as goal

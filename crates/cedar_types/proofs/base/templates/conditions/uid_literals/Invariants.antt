@@ -1,6 +1,6 @@
 use Rattle.std.proofs.Common.{◌≡◌, take, map}
 use Rattle.cedar_types.specs.Names.{placed_uid}
-use Rattle.cedar_types.specs.View.{written}
+use Rattle.cedar_types.specs.Expressions.View.{written}
 use Rattle.cedar_types.specs.Templates.{uid_at}
 use Rattle.cedar_types.proofs.base.templates.conditions.uid_literals.Given as goal
 

@@ -1,5 +1,5 @@
 use Rattle.std.proofs.Common.{◌≡◌}
-use Rattle.cedar_types.specs.MentionViews.{named_by_left}
+use Rattle.cedar_types.specs.Templates.MentionViews.{named_by_left}
 use Rattle.cedar_types.proofs.base.templates.rest_mentions.next_of_parts.Given as goal
 
 -- what was passed over named nothing

@@ -1,6 +1,6 @@
 use Rattle.std.proofs.Common.{ap, sym, ◌∙◌, map}
 use Rattle.cedar_types.specs.Types.{entries_of}
-use Rattle.cedar_types.specs.Makers.{with_attr, with_attrs}
+use Rattle.cedar_types.specs.Expressions.Makers.{with_attr, with_attrs}
 use Rattle.cedar_types.proofs.Attributes.Listed.{shown, entries_with}
 use Rattle.cedar_types.proofs.base.types.Attributes.from_list.Goals as goal
 

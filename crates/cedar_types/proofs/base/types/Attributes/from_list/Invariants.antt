@@ -1,6 +1,6 @@
 use Rattle.std.proofs.Common.{◌≡◌, map}
 use Rattle.cedar_types.specs.Types.{entries_of, no_attrs}
-use Rattle.cedar_types.specs.Makers.{with_attrs}
+use Rattle.cedar_types.specs.Expressions.Makers.{with_attrs}
 use Rattle.cedar_types.proofs.Attributes.Listed.{shown}
 use Rattle.cedar_types.proofs.base.types.Attributes.from_list.Given as goal
 

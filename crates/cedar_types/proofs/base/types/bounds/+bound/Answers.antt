@@ -2,7 +2,7 @@ use Rattle.std.proofs.Common.{ap, ◌∙◌, sym, subst, Some, option_map, ◌++
 use Rattle.cedar_types.specs.Names.{text_of}
 use Rattle.cedar_types.specs.declared.base.types.Attributes.{out-Attributes}
 use Rattle.cedar_types.specs.Types.{ty_of, attributes_of, entries_of, texts_of, join_attrs, attr, no_attrs, is_open_tag}
-use Rattle.cedar_types.specs.Bounds.{both_attrs, common_attrs}
+use Rattle.cedar_types.specs.Types.Bounds.{both_attrs, common_attrs}
 use Rattle.cedar_types.proofs.Attributes.{attributes_are}
 use Rattle.cedar_types.proofs.Attributes.Records.{both_starts, both_goes_on, common_starts, common_goes_on, common_drops, common_lacks, found_in, ascends, ascends_on, ascends_past, both_ends, none_left, common_ends, wide_here, size_is, count_is, below_next, Ascends}
 use Rattle.cedar_types.proofs.base.types.bounds.+bound.Goals as goal

@@ -1,6 +1,6 @@
 use Rattle.std.proofs.Common.{◌≡◌, ◌++◌, option_map}
 use Rattle.cedar_types.specs.Types.{attributes_of, entries_of, texts_of, join_attrs}
-use Rattle.cedar_types.specs.Bounds.{both_attrs, common_attrs}
+use Rattle.cedar_types.specs.Types.Bounds.{both_attrs, common_attrs}
 use Rattle.cedar_types.proofs.Attributes.Records.{Ascends}
 use Rattle.cedar_types.proofs.base.types.bounds.+bound.Given as goal
 

@@ -1,7 +1,7 @@
 use Rattle.std.proofs.Common.{ap, ◌∙◌, sym, map}
 use Rattle.cedar_types.specs.Names.{type_of}
 use Rattle.cedar_types.specs.Types.{types_of}
-use Rattle.cedar_types.specs.Bounds.{union, insert_path}
+use Rattle.cedar_types.specs.Types.Bounds.{union, insert_path}
 use Rattle.cedar_types.proofs.Names.Paths.{clones_alike, inserted, names_cmp}
 use Rattle.cedar_types.proofs.base.types.entity_unions.union_of.Goals as goal
 

@@ -1,7 +1,7 @@
 use Rattle.std.proofs.Common.{◌≡◌, map}
 use Rattle.cedar_types.specs.Names.{type_of}
 use Rattle.cedar_types.specs.Types.{types_of}
-use Rattle.cedar_types.specs.Bounds.{union}
+use Rattle.cedar_types.specs.Types.Bounds.{union}
 use Rattle.cedar_types.proofs.base.types.entity_unions.union_of.Given as goal
 
 -- what is left goes into what is there

@@ -1,6 +1,6 @@
 use Rattle.std.proofs.Common.{◌≡◌, map, drop}
 use Rattle.cedar_types.specs.Types.{ty_of}
-use Rattle.cedar_types.specs.Bounds.{fold_lub}
+use Rattle.cedar_types.specs.Types.Bounds.{fold_lub}
 use Rattle.cedar_types.proofs.base.types.subtypes.fold_bound.Given as goal
 
 -- the bound so far, with what is left, has the bound of all

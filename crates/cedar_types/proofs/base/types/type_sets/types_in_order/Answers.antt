@@ -1,7 +1,7 @@
 use Rattle.std.proofs.Common.{◌∙◌, ap, sym, map, []}
 use Rattle.std.proofs.lemmas.List.{nil_from_length}
 use Rattle.cedar_types.specs.Types.{ty_of}
-use Rattle.cedar_types.specs.TypeOrder.{insert_tys}
+use Rattle.cedar_types.specs.Types.Order.{insert_tys}
 use Rattle.cedar_types.proofs.Comparisons.TypeOrder.{type_inserted}
 use Rattle.cedar_types.proofs.base.types.type_sets.types_in_order.Goals as goal
 

@@ -1,6 +1,6 @@
 use Rattle.std.proofs.Common.{◌≡◌, map}
 use Rattle.cedar_types.specs.Types.{ty_of}
-use Rattle.cedar_types.specs.TypeOrder.{in_order, insert_tys}
+use Rattle.cedar_types.specs.Types.Order.{in_order, insert_tys}
 use Rattle.cedar_types.proofs.base.types.type_sets.types_in_order.Given as goal
 
 -- what is left goes to its place among what is there

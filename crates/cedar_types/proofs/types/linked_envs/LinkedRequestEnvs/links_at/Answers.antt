@@ -1,6 +1,6 @@
 use Rattle.std.proofs.Common.{length, ap, arith}
 use Rattle.cedar_types.specs.Names.{type_of}
-use Rattle.cedar_types.specs.SchemaContents.{schema_of}
+use Rattle.cedar_types.specs.Schemas.Contents.{schema_of}
 use Rattle.cedar_types.specs.Templates.{scope_of}
 use Rattle.cedar_types.proofs.Linking.Counts.{links_few}
 use Rattle.cedar_types.proofs.types.linked_envs.LinkedRequestEnvs.links_at.Goals as goal

@@ -1,6 +1,6 @@
 use Rattle.std.proofs.Common.{◌≡◌, length}
-use Rattle.cedar_types.specs.LinkViews.{linked_to_come}
-use Rattle.cedar_types.specs.RequestEnvs.{envs_left}
+use Rattle.cedar_types.specs.Environments.LinkViews.{linked_to_come}
+use Rattle.cedar_types.specs.Environments.RequestEnvs.{envs_left}
 use Rattle.cedar_types.proofs.types.linked_envs.LinkedRequestEnvs.next_env.Given as goal
 
 abbrev pub decreases-loop-env : goal.decreases-loop-env

@@ -1,10 +1,10 @@
 use Rattle.std.proofs.Common.{map, refl}
 use Rattle.cedar_types.specs.Errors.{finding_of}
 use Rattle.cedar_typing.specs.PolicyCheck.{irrelevant, fails}
-use Rattle.cedar_typing.specs.PolicyOutcome.{all_pass, is_silent}
+use Rattle.cedar_typing.specs.PolicyCheck.Outcome.{all_pass, is_silent}
 use Rattle.cedar_typing.specs.TypedExpr.{typed_tree}
-use Rattle.cedar_typing.proofs.Gains.{union_adds}
-use Rattle.cedar_typing.proofs.Tallies.{is_tied, tie_decides, one_more, silent, in_other_order}
+use Rattle.cedar_typing.proofs.Basics.Gains.{union_adds}
+use Rattle.cedar_typing.proofs.Policies.Tallies.{is_tied, tie_decides, one_more, silent, in_other_order}
 use Rattle.cedar_typing.proofs.typecheck.policy.Tally.take_in.Goals as goal
 
 pub returns-in-Success : goal.returns-in-Success

@@ -1,9 +1,9 @@
 use Rattle.std.proofs.Common.{sym, subst}
-use Rattle.cedar_typing.specs.CheckViews.{setting_for}
-use Rattle.cedar_typing.specs.EnvironmentChecks.{condition_in}
+use Rattle.cedar_typing.specs.Views.Checks.{setting_for}
+use Rattle.cedar_typing.specs.Views.EnvironmentChecks.{condition_in}
 use Rattle.cedar_typing.specs.PolicyCheck.{Verdict, PolicyChecks}
 use Rattle.cedar_typing.specs.Setting.{Setting}
-use Rattle.cedar_typing.proofs.PolicyCheck.{checked}
+use Rattle.cedar_typing.proofs.Policies.Check.{checked}
 use Rattle.cedar_typing.proofs.typecheck.request_env_checks.RequestEnvChecks.check.Goals as goal
 
 pub returns : goal.returns

@@ -1,5 +1,5 @@
 use Rattle.std.proofs.Common.{◌∙◌, sym}
-use Rattle.cedar_types.specs.View.{written}
+use Rattle.cedar_types.specs.Expressions.View.{written}
 use Rattle.cedar_typing.specs.Rules.Calls.{is_literal}
 use Rattle.std.proofs.lemmas.List.Folds.{list_all-map}
 use Rattle.cedar_typing.proofs.typecheck.rules.calls.all_literals.Goals as goal

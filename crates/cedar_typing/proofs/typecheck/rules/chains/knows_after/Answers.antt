@@ -1,6 +1,6 @@
 use Rattle.std.proofs.Common.{◌&&◌, ◌||◌, not, ap, ◌∙◌}
 use Rattle.cedar_types.specs.Types.{ty_of}
-use Rattle.cedar_typing.proofs.ChainSteps.{earns_itself}
+use Rattle.cedar_typing.proofs.Rules.Chains.{earns_itself}
 use Rattle.cedar_typing.proofs.typecheck.rules.chains.knows_after.Goals as goal
 
 pub returns : goal.returns

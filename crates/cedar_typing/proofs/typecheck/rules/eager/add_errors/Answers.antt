@@ -1,7 +1,7 @@
 use Rattle.std.proofs.Common.{◌++◌, sym, ap, ◌∙◌, append-nil}
 use Rattle.std.proofs.lemmas.List.{nil_from_length}
 use Rattle.cedar_typing.specs.Views.{findings}
-use Rattle.cedar_typing.proofs.PartViews.{one_more_finding}
+use Rattle.cedar_typing.proofs.Views.Parts.{one_more_finding}
 use Rattle.cedar_typing.proofs.typecheck.rules.eager.add_errors.Goals as goal
 
 pub loop-error-init : goal.loop-error-init

@@ -2,8 +2,8 @@ use Rattle.std.proofs.Common.{◌≡◌, ◌∙◌, refl}
 use Rattle.cedar_types.specs.declared.base.expressions.literals.Literal.{Literal}
 use Rattle.cedar_types.specs.contracts.base.expressions.literals.LiteralPartialEq.TheImpl as derived
 use Rattle.cedar_types.specs.Lemmas.Comparisons.{uid_is}
-use Rattle.cedar_types.specs.TreeEq.{lit_eq}
-use Rattle.cedar_types.specs.View.{lit_of}
+use Rattle.cedar_types.specs.Expressions.TreeEq.{lit_eq}
+use Rattle.cedar_types.specs.Expressions.View.{lit_of}
 use Rattle.cedar_typing.proofs.typecheck.rules.equality.is_same_literal.Goals as goal
 
 -- the derived `==` of literals is that of plain ones

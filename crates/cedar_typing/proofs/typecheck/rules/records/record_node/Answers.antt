@@ -1,10 +1,10 @@
 use Rattle.std.proofs.Common.{rules, option_map, ap, ◌∙◌}
 use Rattle.cedar_types.specs.declared.base.expressions.ExprKind.{the_lemmas}
-use Rattle.cedar_types.specs.Tree.{record_of}
+use Rattle.cedar_types.specs.Expressions.Tree.{record_of}
 use Rattle.cedar_types.specs.Types.{ty_of}
 use Rattle.cedar_typing.specs.TypedExpr.{typed_as}
 use Rattle.cedar_typing.specs.Views.{at}
-use Rattle.cedar_typing.proofs.FieldValues.{fields_are}
+use Rattle.cedar_typing.proofs.Rules.Records.{fields_are}
 use Rattle.cedar_typing.proofs.typecheck.rules.records.record_node.Goals as goal
 
 pub returns : goal.returns

@@ -8,10 +8,11 @@ use Rattle.cedar_types.specs.Types.{ty_of, no_attrs, attr, join_attrs, entries_o
 use Rattle.cedar_types.proofs.Attributes.Records.{key_cmp, pushed_attrs}
 use Rattle.cedar_typing.specs.Capabilities.{no_caps}
 use Rattle.cedar_typing.specs.Eager.{gives, types_found}
-use Rattle.cedar_typing.specs.Rules.Collections.{all_types, record_of_types}
+use Rattle.cedar_typing.specs.Rules.Records.{record_of_types}
+use Rattle.cedar_typing.specs.Rules.Sets.{all_types}
 use Rattle.cedar_typing.specs.Views.{keys_in, trees_in}
-use Rattle.cedar_typing.proofs.FieldValues.{TypedField, attrs_typed, goes_last, key_is_last, keys_with_last, one_more_attr, typed_fields_decide, untyped_field_decides}
-use Rattle.cedar_typing.proofs.TypedViews.{annotation_is}
+use Rattle.cedar_typing.proofs.Rules.Records.{TypedField, attrs_typed, goes_last, key_is_last, keys_with_last, one_more_attr, typed_fields_decide, untyped_field_decides}
+use Rattle.cedar_typing.proofs.Views.Typed.{annotation_is}
 use Rattle.cedar_typing.proofs.typecheck.rules.records.record_type.Goals as goal
 
 pub returns-in_default : goal.returns-in_default

@@ -1,7 +1,7 @@
 use Rattle.std.proofs.Common.{◌≡◌, List, ◌++◌, Some}
 use Rattle.cedar_types.specs.Types.{entries_of}
 use Rattle.cedar_typing.specs.Views.{keys_in}
-use Rattle.cedar_typing.proofs.FieldValues.{TypedField, attrs_typed}
+use Rattle.cedar_typing.proofs.Rules.Records.{TypedField, attrs_typed}
 use Rattle.cedar_typing.proofs.typecheck.rules.records.record_type.Given as goal
 
 -- the fields so far, then those to come

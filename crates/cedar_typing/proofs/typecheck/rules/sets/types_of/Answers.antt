@@ -1,6 +1,6 @@
 use Rattle.std.proofs.Common.{◌<◌, ◌+◌, length, map, drop, arith, ap, sym, ◌∙◌}
 use Rattle.cedar_types.specs.Types.{ty_of}
-use Rattle.cedar_typing.proofs.Elements.{types_in, after, next_item, one_type, no_type, map_end}
+use Rattle.cedar_typing.proofs.Rules.Sets.{types_in, after, next_item, one_type, no_type, map_end}
 use Rattle.cedar_typing.proofs.typecheck.rules.sets.types_of.Goals as goal
 
 pub returns-in_default : goal.returns-in_default

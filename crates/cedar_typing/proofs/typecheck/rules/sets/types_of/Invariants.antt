@@ -1,6 +1,6 @@
 use Rattle.std.proofs.Common.{◌≡◌, map, drop}
 use Rattle.cedar_types.specs.Types.{ty_of}
-use Rattle.cedar_typing.proofs.Elements.{types_in, after}
+use Rattle.cedar_typing.proofs.Rules.Sets.{types_in, after}
 use Rattle.cedar_typing.proofs.typecheck.rules.sets.types_of.Given as goal
 
 -- the types so far, before those that are left, are all of them

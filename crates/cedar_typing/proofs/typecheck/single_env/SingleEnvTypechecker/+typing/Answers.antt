@@ -4,31 +4,31 @@ use Rattle.std.specs.List.Sorted.{IsStrictlySortedBy}
 use Rattle.std.specs.Map.{keys_of}
 use Rattle.cedar_types.specs.declared.base.expressions.ExprKind.TheVariants as K
 use Rattle.cedar_types.specs.Names.{path_of, text_of, type_of}
-use Rattle.cedar_types.specs.Tree.{and, or, has_attr, get_attr, ext_has_attr, unary, binary, like, is_type}
-use Rattle.cedar_types.specs.View.{written, Written, of_type, fields_written, chain_of}
+use Rattle.cedar_types.specs.Expressions.Tree.{and, or, has_attr, get_attr, ext_has_attr, unary, binary, like, is_type}
+use Rattle.cedar_types.specs.Expressions.View.{written, Written, of_type, fields_written, chain_of}
 use Rattle.cedar_types.specs.Types.{ty_of}
 use Rattle.cedar_types.proofs.Attributes.Entries.{Entry}
 use Rattle.cedar_types.proofs.Attributes.Records.{key_cmp}
-use Rattle.cedar_typing.specs.Priors.{known_in}
+use Rattle.cedar_typing.specs.Capabilities.Priors.{known_in}
 use Rattle.cedar_typing.specs.Infer.{infer_within, infer, infer_fields}
 use Rattle.cedar_typing.specs.Infer.Parts.{AnswerAndErrors, expect}
 use Rattle.cedar_typing.specs.TypedExpr.{Source, place_of, typed_tree}
-use Rattle.cedar_typing.specs.CallViews.{IsCallOf}
-use Rattle.cedar_typing.specs.SettingViews.{setting_at}
+use Rattle.cedar_typing.specs.Views.Calls.{IsCallOf}
+use Rattle.cedar_typing.specs.Views.Settings.{setting_at}
 use Rattle.cedar_typing.specs.Views.{expected_types, first_wanted, answer_of, findings, operands_of, at, part_of, form_of_two, keys_in, trees_in}
 use Rattle.cedar_typing.specs.Eager.{Form}
 use Rattle.cedar_typing.specs.Infer.Eager.{expect_operand, infer_form, infer_two_operands}
 use Rattle.cedar_typing.specs.Rules.Calls.{expected_arguments}
-use Rattle.cedar_typing.specs.Rules.Collections.{field_keys, record_form}
-use Rattle.cedar_typing.proofs.CallTyping.{written_call, written_set, call_inferred}
+use Rattle.cedar_typing.specs.Rules.Records.{field_keys, record_form}
+use Rattle.cedar_typing.proofs.Rules.Calls.{written_call, written_set, call_inferred}
 use Rattle.cedar_typing.proofs.Agreement.Induction.{below_limit, infer_as}
-use Rattle.cedar_typing.proofs.Elements.{next_item}
-use Rattle.cedar_typing.proofs.OperandLists.{resumed, all_inferred, one_operand, last_operand, goes_further, goes_no_further}
-use Rattle.cedar_typing.proofs.TypedViews.{written_as, place_is}
-use Rattle.cedar_typing.proofs.FieldValues.{goes_last, key_is_last, keys_with_last, keys_written, trees_append}
-use Rattle.cedar_typing.proofs.FieldsInOrder.{finish, starts, goes_on, by_keys_typed}
-use Rattle.cedar_typing.proofs.FieldViews.{written_record}
-use Rattle.cedar_typing.proofs.TwoOperands.{is_limit, stops, typed_on, two_stopped, two_typed}
+use Rattle.cedar_typing.proofs.Rules.Sets.{next_item}
+use Rattle.cedar_typing.proofs.Rules.OperandLists.{resumed, all_inferred, one_operand, last_operand, goes_further, goes_no_further}
+use Rattle.cedar_typing.proofs.Views.Typed.{written_as, place_is}
+use Rattle.cedar_typing.proofs.Rules.Records.{goes_last, key_is_last, keys_with_last, keys_written, trees_append}
+use Rattle.cedar_typing.proofs.Rules.FieldsInOrder.{finish, starts, goes_on, by_keys_typed}
+use Rattle.cedar_typing.proofs.Views.Fields.{written_record}
+use Rattle.cedar_typing.proofs.Rules.TwoOperands.{is_limit, stops, typed_on, two_stopped, two_typed}
 use Rattle.cedar_typing.proofs.typecheck.single_env.SingleEnvTypechecker.+typing.Goals as goal
 
 pub type_part-returns : goal.type_part-returns

@@ -1,12 +1,12 @@
 use Rattle.std.proofs.Common.{◌≡◌, ◌+◌, ◌-◌, ◌*◌, drop, map, List, ◌++◌}
 use Rattle.cedar_types.specs.Types.{ty_of}
-use Rattle.cedar_types.specs.View.{fields_written}
-use Rattle.cedar_typing.specs.Priors.{known_in}
+use Rattle.cedar_types.specs.Expressions.View.{fields_written}
+use Rattle.cedar_typing.specs.Capabilities.Priors.{known_in}
 use Rattle.cedar_typing.specs.Views.{findings, operands_of, keys_in, trees_in}
 use Rattle.cedar_typing.specs.Infer.{infer_fields}
-use Rattle.cedar_typing.specs.SettingViews.{setting_at}
-use Rattle.cedar_typing.proofs.OperandLists.{resumed, all_inferred}
-use Rattle.cedar_typing.proofs.FieldsInOrder.{finish}
+use Rattle.cedar_typing.specs.Views.Settings.{setting_at}
+use Rattle.cedar_typing.proofs.Rules.OperandLists.{resumed, all_inferred}
+use Rattle.cedar_typing.proofs.Rules.FieldsInOrder.{finish}
 use Rattle.cedar_typing.proofs.typecheck.single_env.SingleEnvTypechecker.+typing.Given as goal
 
 abbrev pub decreases-typecheck : goal.decreases-typecheck

@@ -1,9 +1,9 @@
 use Rattle.std.proofs.Common.{◌≡◌, ◌∙◌, ap, sym, map, Some, None, option_map}
-use Rattle.cedar_types.specs.ExtensionFunctions.{function_of, function_named}
+use Rattle.cedar_types.specs.Extensions.Functions.{function_of, function_named}
 use Rattle.cedar_types.specs.Names.{path_of}
-use Rattle.cedar_types.specs.View.{written}
+use Rattle.cedar_types.specs.Expressions.View.{written}
 use Rattle.cedar_typing.specs.Rules.Calls.{call_errors, return_type, types_wanted}
-use Rattle.cedar_typing.specs.SettingViews.{setting_at}
+use Rattle.cedar_typing.specs.Views.Settings.{setting_at}
 use Rattle.cedar_typing.specs.Views.{findings}
 use Rattle.cedar_typing.proofs.typecheck.single_env.SingleEnvTypechecker.call_of.Goals as goal
 

@@ -1,6 +1,6 @@
 use Rattle.std.proofs.Common.{◌≡◌, [], ◌∙◌, sym, ap, option_map}
-use Rattle.cedar_types.specs.Tree.{and}
-use Rattle.cedar_types.specs.View.{written}
+use Rattle.cedar_types.specs.Expressions.Tree.{and}
+use Rattle.cedar_types.specs.Expressions.View.{written}
 use Rattle.cedar_types.specs.Templates.{with_rest}
 use Rattle.cedar_typing.specs.Capabilities.{no_caps}
 use Rattle.cedar_typing.specs.Infer.{infer}
@@ -8,7 +8,7 @@ use Rattle.cedar_typing.specs.Infer.Parts.{expect}
 use Rattle.cedar_typing.specs.PolicyCheck.{out_verdict, policy_check}
 use Rattle.cedar_typing.specs.TypeTests.{bool_types}
 use Rattle.cedar_typing.specs.TypedExpr.{Source}
-use Rattle.cedar_typing.specs.SettingViews.{setting_at}
+use Rattle.cedar_typing.specs.Views.Settings.{setting_at}
 use Rattle.cedar_typing.specs.Views.{answer_of, findings, at}
 use Rattle.cedar_typing.proofs.typecheck.single_env.SingleEnvTypechecker.check_rest.Goals as goal
 

@@ -1,10 +1,10 @@
 use Rattle.std.proofs.Common.{◌∙◌, ap, sym, true, false, [], ◌∷◌, ◌++◌, append-nil}
 use Rattle.std.proofs.lemmas.List.{map-append}
 use Rattle.cedar_types.specs.Errors.{finding_of, wrong_number_arguments}
-use Rattle.cedar_typing.specs.CallViews.{added_at}
+use Rattle.cedar_typing.specs.Views.Calls.{added_at}
 use Rattle.cedar_typing.specs.TypeEnv.{finding}
 use Rattle.cedar_typing.specs.Views.{env_at, findings}
-use Rattle.cedar_typing.proofs.CallErrors.{number_added}
+use Rattle.cedar_typing.proofs.Rules.CallErrors.{number_added}
 use Rattle.cedar_typing.proofs.typecheck.type_env.TypeEnv.add_number_error.Goals as goal
 
 pub returns-then-takes : goal.returns-then-takes

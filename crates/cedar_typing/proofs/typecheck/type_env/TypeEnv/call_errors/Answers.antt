@@ -1,10 +1,10 @@
 use Rattle.std.proofs.Common.{ap, map}
 use Rattle.std.proofs.lemmas.List.{length-map}
-use Rattle.cedar_types.specs.ExtensionFunctions.{function_of}
-use Rattle.cedar_types.specs.View.{written}
+use Rattle.cedar_types.specs.Extensions.Functions.{function_of}
+use Rattle.cedar_types.specs.Expressions.View.{written}
 use Rattle.cedar_typing.specs.Rules.Calls.{number_faults, check_faults, literal_faults}
 use Rattle.cedar_typing.specs.Views.{env_at, findings}
-use Rattle.cedar_typing.proofs.CallErrors.{three_added}
+use Rattle.cedar_typing.proofs.Rules.CallErrors.{three_added}
 use Rattle.cedar_typing.proofs.typecheck.type_env.TypeEnv.call_errors.Goals as goal
 
 pub returns : goal.returns

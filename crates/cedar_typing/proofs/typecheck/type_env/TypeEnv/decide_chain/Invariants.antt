@@ -1,8 +1,8 @@
 use Rattle.std.proofs.Common.{◌≡◌, length, option_map}
 use Rattle.cedar_types.specs.ChainSteps.{step_attr, step_written, steps_left}
 use Rattle.cedar_types.specs.Types.{ty_of}
-use Rattle.cedar_types.specs.View.{chain_of, written}
-use Rattle.cedar_typing.specs.Priors.{known_in}
+use Rattle.cedar_types.specs.Expressions.View.{chain_of, written}
+use Rattle.cedar_typing.specs.Capabilities.Priors.{known_in}
 use Rattle.cedar_typing.specs.Rules.Chains.{chain, chain_table}
 use Rattle.cedar_typing.specs.Views.{env_at, progress_of}
 use Rattle.cedar_typing.proofs.typecheck.type_env.TypeEnv.decide_chain.Given as goal

@@ -2,13 +2,13 @@ use Rattle.std.proofs.Common.{◌≡◌, [], ◌∷◌, Option, sym, subst, opti
 use Rattle.std.specs.Prelude.{IfOk}
 use Rattle.cedar_types.specs.declared.base.location.Loc.{Loc}
 use Rattle.cedar_types.specs.Types.{ty_of}
-use Rattle.cedar_types.specs.View.{written}
-use Rattle.cedar_typing.specs.Priors.{known_in}
+use Rattle.cedar_types.specs.Expressions.View.{written}
+use Rattle.cedar_typing.specs.Capabilities.Priors.{known_in}
 use Rattle.cedar_typing.specs.Rules.Numbers.{compare_decides}
 use Rattle.cedar_typing.specs.TypedExpr.{place_of}
 use Rattle.cedar_typing.specs.Views.{env_at, at, decision_of, form_of_two}
 use Rattle.cedar_typing.specs.declared.typecheck.rules.two_operands.TwoOperands.{TwoOperands}
-use Rattle.cedar_typing.proofs.TypedViews.{place_is}
+use Rattle.cedar_typing.proofs.Views.Typed.{place_is}
 use Rattle.cedar_typing.proofs.typecheck.type_env.TypeEnv.decide_two.Goals as goal
 
 pub returns-in-Comparison : goal.returns-in-Comparison

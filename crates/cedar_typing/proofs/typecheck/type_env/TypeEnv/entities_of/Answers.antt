@@ -1,8 +1,8 @@
 use Rattle.std.proofs.Common.{◌<◌, ◌+◌, length, map, drop, arith, ap, sym, ◌∙◌}
 use Rattle.cedar_types.specs.Names.{uid_of}
 use Rattle.cedar_typing.specs.Views.{env_at}
-use Rattle.cedar_typing.proofs.Ancestors.{entities_in, after, one_entity, no_entity}
-use Rattle.cedar_typing.proofs.Elements.{next_item, map_end}
+use Rattle.cedar_typing.proofs.Rules.Membership.{entities_in, after, one_entity, no_entity}
+use Rattle.cedar_typing.proofs.Rules.Sets.{next_item, map_end}
 use Rattle.cedar_typing.proofs.typecheck.type_env.TypeEnv.entities_of.Goals as goal
 
 pub returns-in_default : goal.returns-in_default

@@ -1,7 +1,7 @@
 use Rattle.std.proofs.Common.{◌≡◌, map, drop}
 use Rattle.cedar_types.specs.Names.{uid_of}
 use Rattle.cedar_typing.specs.Views.{env_at}
-use Rattle.cedar_typing.proofs.Ancestors.{entities_in, after}
+use Rattle.cedar_typing.proofs.Rules.Membership.{entities_in, after}
 use Rattle.cedar_typing.proofs.typecheck.type_env.TypeEnv.entities_of.Given as goal
 
 -- the entities so far, before those that are left, are all of them

@@ -1,6 +1,6 @@
 use Rattle.std.proofs.Common.{◌∙◌}
 use Rattle.cedar_typing.specs.Views.{env_at, expected_types}
-use Rattle.cedar_typing.proofs.PartViews.{part_is_expected}
+use Rattle.cedar_typing.proofs.Views.Parts.{part_is_expected}
 use Rattle.cedar_typing.proofs.typecheck.type_env.TypeEnv.expect.Goals as goal
 
 pub returns : goal.returns

@@ -2,7 +2,7 @@ use Rattle.std.proofs.Common.{◌≡◌, ◌∙◌, ap, sym, Some, None, option_
 use Rattle.cedar_types.specs.Names.{path_of}
 use Rattle.cedar_types.specs.Types.{ty_of}
 use Rattle.cedar_typing.specs.Views.{env_at, extension_named}
-use Rattle.cedar_typing.proofs.Comparables.{comparable_if}
+use Rattle.cedar_typing.proofs.Rules.Numbers.{comparable_if}
 use Rattle.cedar_typing.proofs.typecheck.type_env.TypeEnv.is_comparable.Goals as goal
 
 pub returns-in-Some : goal.returns-in-Some

@@ -1,7 +1,7 @@
 use Rattle.std.proofs.Common.{◌∙◌}
 use Rattle.cedar_types.proofs.Names.Paths.{names_cmp}
 use Rattle.cedar_types.specs.Names.{path_of}
-use Rattle.cedar_typing.proofs.Comparables.{overloaded}
+use Rattle.cedar_typing.proofs.Rules.Numbers.{overloaded}
 use Rattle.cedar_typing.proofs.typecheck.type_env.TypeEnv.is_overloaded.Goals as goal
 
 pub returns : goal.returns

@@ -1,10 +1,10 @@
 use Rattle.std.proofs.Common.{sym, ap, subst, ◌≡◌, ◌∙◌}
 use Rattle.cedar_types.specs.Capability.{caps}
 use Rattle.cedar_types.specs.ChainSteps.{step_attr, step_written}
-use Rattle.cedar_types.specs.Lookups.{attribute_type}
+use Rattle.cedar_types.specs.Types.Lookups.{attribute_type}
 use Rattle.cedar_types.specs.Names.{Text, text_of}
 use Rattle.cedar_types.specs.Types.{ty_of}
-use Rattle.cedar_typing.specs.Priors.{known_in}
+use Rattle.cedar_typing.specs.Capabilities.Priors.{known_in}
 use Rattle.cedar_typing.specs.Capabilities.{union}
 use Rattle.cedar_typing.specs.Eager.{Decision}
 use Rattle.cedar_typing.specs.Rules.Attributes.{attribute_of, get_decides}

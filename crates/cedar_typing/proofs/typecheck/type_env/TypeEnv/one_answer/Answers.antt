@@ -1,15 +1,15 @@
 use Rattle.std.proofs.Common.{◌≡◌, [], ◌∷◌, ◌∙◌, sym, ap, option_map}
 use Rattle.cedar_types.specs.Types.{ty_of}
-use Rattle.cedar_types.specs.View.{written}
+use Rattle.cedar_types.specs.Expressions.View.{written}
 use Rattle.cedar_types.specs.Capability.{caps}
-use Rattle.cedar_typing.specs.Priors.{known_in}
+use Rattle.cedar_typing.specs.Capabilities.Priors.{known_in}
 use Rattle.cedar_typing.specs.Eager.{gives, refuses}
 use Rattle.cedar_typing.specs.Infer.Eager.{infer_decided}
 use Rattle.cedar_typing.specs.Infer.Parts.{failure, answer_if}
 use Rattle.cedar_typing.specs.TypedExpr.{annotation, typed_tree}
 use Rattle.cedar_typing.specs.Views.{env_at, answer_of, findings, decision_of, form_of_one, mark_of_one}
-use Rattle.cedar_typing.proofs.TypesGiven.{given_is, one_keeps}
-use Rattle.cedar_typing.proofs.TypedViews.{annotation_is}
+use Rattle.cedar_typing.proofs.Rules.TypesGiven.{given_is, one_keeps}
+use Rattle.cedar_typing.proofs.Views.Typed.{annotation_is}
 use Rattle.cedar_typing.proofs.typecheck.type_env.TypeEnv.one_answer.Goals as goal
 
 pub returns-in-Gives : goal.returns-in-Gives

@@ -1,7 +1,7 @@
 use Rattle.std.proofs.Common.{ap, ◌∙◌}
 use Rattle.std.specs.Prelude.{if◌then◌else◌}
 use Rattle.cedar_typing.specs.Infer.Eager.{all_typed, cut_after, infer_form}
-use Rattle.cedar_typing.specs.Rules.Collections.{record_form}
+use Rattle.cedar_typing.specs.Rules.Records.{record_form}
 use Rattle.cedar_typing.specs.Views.{at, env_at, keys_in, trees_in}
 use Rattle.cedar_typing.proofs.typecheck.type_env.TypeEnv.record_answer.Goals as goal
 

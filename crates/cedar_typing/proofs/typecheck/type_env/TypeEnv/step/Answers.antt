@@ -3,17 +3,17 @@ use Rattle.std.specs.Prelude.{is_some}
 use Rattle.cedar_types.specs.Capability.{attribute, cap_of, caps}
 use Rattle.cedar_types.specs.ChainSteps.{step_attr, step_written}
 use Rattle.cedar_types.proofs.ChainSteps.{step_form}
-use Rattle.cedar_types.specs.Lookups.{attribute_type}
+use Rattle.cedar_types.specs.Types.Lookups.{attribute_type}
 use Rattle.cedar_types.specs.Names.{Text, text_of}
 use Rattle.cedar_types.specs.Types.{ty_of, TBool}
 use Rattle.cedar_types.specs.declared.base.types.BoolType.TheVariants.{False}
-use Rattle.cedar_typing.specs.Priors.{known_in}
+use Rattle.cedar_typing.specs.Capabilities.Priors.{known_in}
 use Rattle.cedar_typing.specs.Capabilities.{no_caps, union}
 use Rattle.cedar_typing.specs.Eager.{gives}
 use Rattle.cedar_typing.specs.Rules.Attributes.{attribute_of}
 use Rattle.cedar_typing.specs.Rules.Chains.{Progress, step, step_earns}
 use Rattle.cedar_typing.specs.Views.{env_at, progress_of}
-use Rattle.cedar_typing.proofs.ChainSteps.{ends, goes_on, known_after, some_declared}
+use Rattle.cedar_typing.proofs.Rules.Chains.{ends, goes_on, known_after, some_declared}
 use Rattle.cedar_typing.proofs.typecheck.type_env.TypeEnv.step.Goals as goal
 
 pub returns-clause-decides : goal.returns-clause-decides

@@ -1,16 +1,16 @@
 use Rattle.std.proofs.Common.{◌≡◌, ◌&&◌, [], ◌∷◌, ◌∙◌, Some, sym, ap, option_map}
 use Rattle.cedar_types.specs.Types.{ty_of}
-use Rattle.cedar_types.specs.Tree.{binary}
-use Rattle.cedar_types.specs.View.{written}
+use Rattle.cedar_types.specs.Expressions.Tree.{binary}
+use Rattle.cedar_types.specs.Expressions.View.{written}
 use Rattle.cedar_types.specs.Capability.{caps}
-use Rattle.cedar_typing.specs.Priors.{known_in}
+use Rattle.cedar_typing.specs.Capabilities.Priors.{known_in}
 use Rattle.cedar_typing.specs.Eager.{gives, refuses}
 use Rattle.cedar_typing.specs.Infer.Eager.{infer_decided, type_given}
 use Rattle.cedar_typing.specs.Infer.Parts.{failure, answer_if}
 use Rattle.cedar_typing.specs.TypedExpr.{annotation, typed_as, typed_tree}
 use Rattle.cedar_typing.specs.Views.{env_at, answer_of, findings, at, decision_of, form_of_two}
-use Rattle.cedar_typing.proofs.TwoOperands.{form_at}
-use Rattle.cedar_typing.proofs.TypedViews.{annotation_is}
+use Rattle.cedar_typing.proofs.Rules.TwoOperands.{form_at}
+use Rattle.cedar_typing.proofs.Views.Typed.{annotation_is}
 use Rattle.cedar_typing.proofs.typecheck.type_env.TypeEnv.two_parts_answer.Goals as goal
 
 pub returns-in-Gives : goal.returns-in-Gives

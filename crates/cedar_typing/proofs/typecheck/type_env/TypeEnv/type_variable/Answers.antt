@@ -2,7 +2,7 @@ use Rattle.std.proofs.Common.{◌∙◌, ap}
 use Rattle.cedar_typing.specs.Capabilities.{no_caps}
 use Rattle.cedar_typing.specs.Infer.Parts.{answer_if}
 use Rattle.cedar_typing.specs.TypedExpr.{typed_tree}
-use Rattle.cedar_typing.proofs.PartViews.{variable_answer}
+use Rattle.cedar_typing.proofs.Views.Parts.{variable_answer}
 use Rattle.cedar_typing.proofs.typecheck.type_env.TypeEnv.type_variable.Goals as goal
 
 pub returns : goal.returns

@@ -1,10 +1,10 @@
 use Rattle.std.proofs.Common.{List, ap, ◌∙◌, option_map}
 use Rattle.cedar_types.specs.Names.{Path}
 use Rattle.cedar_types.specs.Extensions.{functions_of, overloaded_types_of}
-use Rattle.cedar_types.specs.SchemaContents.{schema_of}
-use Rattle.cedar_types.specs.View.{written}
+use Rattle.cedar_types.specs.Schemas.Contents.{schema_of}
+use Rattle.cedar_types.specs.Expressions.View.{written}
 use Rattle.cedar_types.specs.Templates.{with_rest}
-use Rattle.cedar_typing.specs.CheckViews.{schema_by, extensions_by, mode_by, setting_for}
+use Rattle.cedar_typing.specs.Views.Checks.{schema_by, extensions_by, mode_by, setting_for}
 use Rattle.cedar_typing.specs.PolicyCheck.{policy_check}
 use Rattle.cedar_typing.specs.Setting.{Setting}
 use Rattle.cedar_typing.proofs.typecheck.typechecker.Typechecker.check_with_scope.Goals as goal

@@ -2,15 +2,15 @@ use Rattle.std.proofs.Common.{◌↔◌, ◌∷◌, List, [], map, refl, sym, ap
 use Rattle.std.specs.Prelude.{IsPermutation}
 use Rattle.cedar_types.specs.declared.base.errors.validation_errors.ValidationError.{ValidationError}
 use Rattle.cedar_types.specs.Errors.{Finding, finding_of}
-use Rattle.cedar_types.specs.Linking.{checked_envs}
-use Rattle.cedar_types.specs.RequestEnvs.{Env, env_of}
-use Rattle.cedar_types.specs.SchemaContents.{schema_of}
+use Rattle.cedar_types.specs.Environments.Linking.{checked_envs}
+use Rattle.cedar_types.specs.Environments.RequestEnvs.{Env, env_of}
+use Rattle.cedar_types.specs.Schemas.Contents.{schema_of}
 use Rattle.cedar_types.specs.Templates.{template_of}
 use Rattle.cedar_typing.specs.declared.typecheck.request_env_checks.RequestEnvChecks.{RequestEnvChecks}
-use Rattle.cedar_typing.specs.CheckViews.{verdict_of, schema_by, mode_by}
-use Rattle.cedar_typing.specs.EnvironmentChecks.{checker_of, template_in, condition_in, checks_left}
+use Rattle.cedar_typing.specs.Views.Checks.{verdict_of, schema_by, mode_by}
+use Rattle.cedar_typing.specs.Views.EnvironmentChecks.{checker_of, template_in, condition_in, checks_left}
 use Rattle.cedar_typing.specs.Evaluation.Conformance.{IsOneOf}
-use Rattle.cedar_typing.proofs.ChecksLeft.{one_more_done, of_item, of_input}
+use Rattle.cedar_typing.proofs.Policies.ChecksLeft.{one_more_done, of_item, of_input}
 use Rattle.cedar_typing.proofs.typecheck.typechecker.Typechecker.tally.Goals as goal
 
 pub loop-item-init : goal.loop-item-init

@@ -1,14 +1,14 @@
 use Rattle.std.proofs.Common.{◌≡◌, ◌++◌, List}
 use Rattle.std.specs.Prelude.{IsPermutation}
-use Rattle.cedar_types.specs.Linking.{checked_envs}
-use Rattle.cedar_types.specs.RequestEnvs.{Env}
-use Rattle.cedar_types.specs.SchemaContents.{schema_of}
+use Rattle.cedar_types.specs.Environments.Linking.{checked_envs}
+use Rattle.cedar_types.specs.Environments.RequestEnvs.{Env}
+use Rattle.cedar_types.specs.Schemas.Contents.{schema_of}
 use Rattle.cedar_types.specs.Templates.{template_of, condition_of}
-use Rattle.cedar_typing.specs.CheckViews.{schema_by, mode_by}
-use Rattle.cedar_typing.specs.EnvironmentChecks.{ChecksIn, checker_of, template_in, condition_in, checks_left}
+use Rattle.cedar_typing.specs.Views.Checks.{schema_by, mode_by}
+use Rattle.cedar_typing.specs.Views.EnvironmentChecks.{ChecksIn, checker_of, template_in, condition_in, checks_left}
 use Rattle.cedar_typing.specs.PolicyCheck.{Verdict}
-use Rattle.cedar_typing.specs.PolicyOutcome.{VerdictsOf}
-use Rattle.cedar_typing.specs.PolicyViews.{IsTally}
+use Rattle.cedar_typing.specs.PolicyCheck.Outcome.{VerdictsOf}
+use Rattle.cedar_typing.specs.Views.Policies.{IsTally}
 use Rattle.cedar_typing.proofs.typecheck.typechecker.Typechecker.tally.Given as goal
 
 -- the tally is that of some environments, and with those that are left they are all

@@ -1,12 +1,12 @@
 use Rattle.std.proofs.Common.{List, sym, subst}
 use Rattle.std.specs.Prelude.{IsPermutation}
 use Rattle.std.proofs.lemmas.List.Sorted.{IsPermutation-refl}
-use Rattle.cedar_types.specs.Linking.{checked_envs}
-use Rattle.cedar_types.specs.RequestEnvs.{Env}
-use Rattle.cedar_types.specs.SchemaContents.{schema_of}
+use Rattle.cedar_types.specs.Environments.Linking.{checked_envs}
+use Rattle.cedar_types.specs.Environments.RequestEnvs.{Env}
+use Rattle.cedar_types.specs.Schemas.Contents.{schema_of}
 use Rattle.cedar_types.specs.Templates.{template_of}
-use Rattle.cedar_typing.specs.CheckViews.{schema_by, mode_by}
-use Rattle.cedar_typing.specs.EnvironmentChecks.{checks_left}
+use Rattle.cedar_typing.specs.Views.Checks.{schema_by, mode_by}
+use Rattle.cedar_typing.specs.Views.EnvironmentChecks.{checks_left}
 use Rattle.cedar_typing.proofs.typecheck.typechecker.Typechecker.typecheck_by_request_env.Goals as goal
 
 pub returns-clause-left : goal.returns-clause-left

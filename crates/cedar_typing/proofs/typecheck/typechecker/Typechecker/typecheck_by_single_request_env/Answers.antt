@@ -1,14 +1,14 @@
 use Rattle.std.proofs.Common.{sym, subst}
 use Rattle.cedar_types.proofs.Expressions.SortedTables.{no_fault}
 use Rattle.cedar_types.specs.Extensions.{functions_of}
-use Rattle.cedar_types.specs.SchemaContents.{schema_of}
-use Rattle.cedar_types.specs.View.{written}
+use Rattle.cedar_types.specs.Schemas.Contents.{schema_of}
+use Rattle.cedar_types.specs.Expressions.View.{written}
 use Rattle.cedar_types.specs.Templates.{template_of, condition_of, with_rest}
-use Rattle.cedar_typing.specs.CheckViews.{verdict_of, schema_by, extensions_by, setting_for}
+use Rattle.cedar_typing.specs.Views.Checks.{verdict_of, schema_by, extensions_by, setting_for}
 use Rattle.cedar_typing.specs.PolicyCheck.{Verdict, PolicyChecks}
 use Rattle.cedar_typing.specs.Setting.{Setting}
 use Rattle.cedar_typing.specs.TypedExpr.{Source}
-use Rattle.cedar_typing.proofs.PolicyCheck.{checked}
+use Rattle.cedar_typing.proofs.Policies.Check.{checked}
 use Rattle.cedar_typing.proofs.Soundness.PolicyCheck.{check_sound, check_sound_in_permissive}
 use Rattle.cedar_typing.proofs.typecheck.typechecker.Typechecker.typecheck_by_single_request_env.Goals as goal
 

@@ -6,12 +6,12 @@ use Rattle.cedar_types.specs.Errors.{finding_of, caution_of}
 use Rattle.cedar_types.specs.Templates.{template_of}
 use Rattle.cedar_types.proofs.Expressions.SortedTables.{no_fault}
 use Rattle.cedar_types.specs.Extensions.{functions_of}
-use Rattle.cedar_types.specs.SchemaContents.{schema_of}
-use Rattle.cedar_typing.specs.CheckViews.{schema_by, extensions_by, basis_of}
-use Rattle.cedar_typing.specs.PolicyOutcome.{Adds, all_errors, warnings_of}
-use Rattle.cedar_typing.proofs.Gains.{union_adds, put_adds}
-use Rattle.cedar_typing.proofs.PolicySoundness.{promises_are_kept, promises_are_kept_in_permissive}
-use Rattle.cedar_typing.proofs.Tallies.{error_decides, warning_decides, adds_same, warned, not_warned}
+use Rattle.cedar_types.specs.Schemas.Contents.{schema_of}
+use Rattle.cedar_typing.specs.Views.Checks.{schema_by, extensions_by, basis_of}
+use Rattle.cedar_typing.specs.PolicyCheck.Outcome.{Adds, all_errors, warnings_of}
+use Rattle.cedar_typing.proofs.Basics.Gains.{union_adds, put_adds}
+use Rattle.cedar_typing.proofs.Soundness.Policies.{promises_are_kept, promises_are_kept_in_permissive}
+use Rattle.cedar_typing.proofs.Policies.Tallies.{error_decides, warning_decides, adds_same, warned, not_warned}
 use Rattle.cedar_typing.proofs.typecheck.typechecker.Typechecker.typecheck_policy.Goals as goal
 use Rattle.cedar_typing.proofs.typecheck.typechecker.Typechecker.typecheck_policy.Goals.{then-tally+in_ok-warning+in_ok-insert, else-tally}
 

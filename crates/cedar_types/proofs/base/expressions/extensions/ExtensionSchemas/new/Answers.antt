@@ -2,9 +2,9 @@ use Rattle.std.proofs.Common.{◌≡◌, sym, ap, ◌∙◌, refl, subst, map, l
 use Rattle.std.specs.List.{list_any, AllAdjacentBelow}
 use Rattle.std.proofs.lemmas.List.Sorted.{answers_always, ranks_by, IsPermutation-map}
 use Rattle.cedar_types.specs.Names.{path_of, path_cmp, path_eq}
-use Rattle.cedar_types.specs.Comparisons.{name_cmp}
+use Rattle.cedar_types.specs.Names.Comparisons.{name_cmp}
 use Rattle.cedar_types.specs.Extensions.{functions_of}
-use Rattle.cedar_types.specs.ExtensionFunctions.{function_of, has_bad_return, lacks_arguments, has_two_alike}
+use Rattle.cedar_types.specs.Extensions.Functions.{function_of, has_bad_return, lacks_arguments, has_two_alike}
 use Rattle.cedar_types.specs.Lemmas.Comparisons.{name_cmp_is}
 use Rattle.cedar_types.proofs.Names.Unions.{path_total}
 use Rattle.cedar_types.proofs.Expressions.ExtensionTables.{two_alike_moved, fault_moved, named_moved}

@@ -1,7 +1,7 @@
 use Rattle.std.proofs.Common.{sym, ◌∙◌, ◌<◌, length, None, true, false, arith}
 use Rattle.std.specs.List.{list_any}
 use Rattle.std.proofs.lemmas.List.{at_drop_all}
-use Rattle.cedar_types.specs.ExtensionFunctions.{function_of, lacks_arguments}
+use Rattle.cedar_types.specs.Extensions.Functions.{function_of, lacks_arguments}
 use Rattle.cedar_types.proofs.Names.Paths.{any_mapped}
 use Rattle.cedar_types.proofs.Expressions.SortedTables.{any_turn}
 use Rattle.cedar_types.proofs.base.expressions.extensions.faults.has_variadic_without_arguments.Goals as goal

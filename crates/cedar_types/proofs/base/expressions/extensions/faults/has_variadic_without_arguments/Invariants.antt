@@ -1,6 +1,6 @@
 use Rattle.std.proofs.Common.{◌≡◌, None, drop}
 use Rattle.std.specs.List.{list_any}
-use Rattle.cedar_types.specs.ExtensionFunctions.{function_of, lacks_arguments}
+use Rattle.cedar_types.specs.Extensions.Functions.{function_of, lacks_arguments}
 use Rattle.cedar_types.proofs.base.expressions.extensions.faults.has_variadic_without_arguments.Given as goal
 
 -- what is left decides

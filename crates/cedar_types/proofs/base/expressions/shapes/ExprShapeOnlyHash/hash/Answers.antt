@@ -1,7 +1,7 @@
 use Rattle.std.proofs.Common.{ap, fold, ◌∙◌}
 use denote.Builtin.{unit}
 use Rattle.cedar_types.specs.contracts.base.expressions.ExprHash.TheImpl as expr_hash
-use Rattle.cedar_types.specs.Writes.{shape_writes}
+use Rattle.cedar_types.specs.Expressions.Writes.{shape_writes}
 use Rattle.cedar_types.proofs.base.expressions.shapes.ExprShapeOnlyHash.hash.Goals as goal
 
 pub returns : goal.returns

@@ -1,8 +1,8 @@
 use Rattle.std.proofs.Common.{◌≡◌, false, List, [], ◌∷◌, ◌++◌, map, cond, sym, ap, ◌∙◌}
 use Rattle.std.proofs.lemmas.List.{map-append}
-use Rattle.cedar_types.specs.Tree.{Tree}
-use Rattle.cedar_types.specs.View.{Written, written}
-use Rattle.cedar_types.specs.Parts.{parts, from_last, has_ended, expressions_left}
+use Rattle.cedar_types.specs.Expressions.Tree.{Tree}
+use Rattle.cedar_types.specs.Expressions.View.{Written, written}
+use Rattle.cedar_types.specs.Expressions.Parts.{parts, from_last, has_ended, expressions_left}
 use Rattle.cedar_types.proofs.Expressions.Parts.{visited}
 use Rattle.cedar_types.proofs.FallibleIterators.{fewer_calls}
 use Rattle.cedar_types.proofs.base.expressions.subexpressions.ExprIteratorIterator.next.Goals as goal

@@ -1,9 +1,9 @@
 use Rattle.std.proofs.Common.{◌≡◌, map}
 use Rattle.std.specs.List.{list_all}
 use Rattle.cedar_types.specs.Names.{uid_of}
-use Rattle.cedar_types.specs.Declarations.{uids_of}
+use Rattle.cedar_types.specs.Schemas.Declarations.{uids_of}
 use Rattle.cedar_types.specs.Schemas.{declares_action}
-use Rattle.cedar_types.specs.Tables.{actions_in}
+use Rattle.cedar_types.specs.Schemas.Tables.{actions_in}
 use Rattle.cedar_types.proofs.base.schema.action_tables.ActionTable.all_declared.Given as goal
 
 -- what is left decides

@@ -1,6 +1,6 @@
 use Rattle.std.proofs.Common.{◌∙◌, ap, is_some}
 use Rattle.cedar_types.specs.Names.{uid_of, uid_eq}
-use Rattle.cedar_types.specs.Declarations.{declared_action}
+use Rattle.cedar_types.specs.Schemas.Declarations.{declared_action}
 use Rattle.cedar_types.proofs.Names.Ids.{uid_lookup, uids_cmp}
 use Rattle.cedar_types.proofs.Schema.Places.{any_placed, any_mapped}
 use Rattle.cedar_types.proofs.base.schema.action_tables.ActionTable.contains.Goals as goal

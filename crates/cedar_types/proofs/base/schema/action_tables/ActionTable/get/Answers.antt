@@ -1,8 +1,8 @@
 use Rattle.std.proofs.Common.{◌≡◌, ◌∙◌, ap, sym, Some, None, option_map}
 use Rattle.std.specs.List.{slice_get}
 use Rattle.cedar_types.specs.Names.{uid_of, uid_eq}
-use Rattle.cedar_types.specs.Places.{place_in}
-use Rattle.cedar_types.specs.Declarations.{declared_action}
+use Rattle.cedar_types.specs.Schemas.Tables.Places.{place_in}
+use Rattle.cedar_types.specs.Schemas.Declarations.{declared_action}
 use Rattle.cedar_types.proofs.Names.Ids.{uid_lookup, uids_cmp}
 use Rattle.cedar_types.proofs.Schema.Places.{found_at, found_nowhere, find_mapped, item_at, map_twice}
 use Rattle.cedar_types.proofs.base.schema.action_tables.ActionTable.get.Goals as goal

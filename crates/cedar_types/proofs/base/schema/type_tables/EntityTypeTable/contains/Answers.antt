@@ -1,6 +1,6 @@
 use Rattle.std.proofs.Common.{◌∙◌, ap, is_some}
 use Rattle.cedar_types.specs.Names.{type_of, path_eq}
-use Rattle.cedar_types.specs.Declarations.{declared_type}
+use Rattle.cedar_types.specs.Schemas.Declarations.{declared_type}
 use Rattle.cedar_types.proofs.Names.Ids.{type_lookup}
 use Rattle.cedar_types.proofs.Names.Paths.{names_cmp}
 use Rattle.cedar_types.proofs.Schema.Places.{any_placed, any_mapped}

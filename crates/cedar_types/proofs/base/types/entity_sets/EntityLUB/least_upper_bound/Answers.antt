@@ -1,7 +1,7 @@
 use Rattle.std.proofs.Common.{◌∙◌, ap, sym}
 use Rattle.cedar_types.specs.Names.{type_of}
 use Rattle.cedar_types.specs.Types.{types_of}
-use Rattle.cedar_types.specs.Ascending.{has_members}
+use Rattle.cedar_types.specs.Names.Ascending.{has_members}
 use Rattle.cedar_types.proofs.Names.Members.{union_has, mapped_has}
 use Rattle.cedar_types.proofs.base.types.entity_sets.EntityLUB.least_upper_bound.Goals as goal
 

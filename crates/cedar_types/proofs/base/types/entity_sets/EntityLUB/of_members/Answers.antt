@@ -1,5 +1,5 @@
 use Rattle.std.proofs.Common.{◌∙◌, ap}
-use Rattle.cedar_types.specs.Ascending.{has_members, types_ascend}
+use Rattle.cedar_types.specs.Names.Ascending.{has_members, types_ascend}
 use Rattle.cedar_types.proofs.Names.Paths.{ascend, names_cmp}
 use Rattle.cedar_types.proofs.base.types.entity_sets.EntityLUB.of_members.Goals as goal
 

@@ -1,8 +1,8 @@
 use Rattle.std.proofs.Common.{[], ◌∷◌, ◌++◌, fold, sym, ap, ◌∙◌}
 use Rattle.cedar_types.specs.ChainSteps.{step_written, made_up}
-use Rattle.cedar_types.specs.Digest.{with_text, shape_digest}
+use Rattle.cedar_types.specs.Capability.Digest.{with_text, shape_digest}
 use Rattle.cedar_types.specs.Names.{text_of}
-use Rattle.cedar_types.specs.View.{written}
+use Rattle.cedar_types.specs.Expressions.View.{written}
 use Rattle.cedar_types.proofs.types.capability.chain_steps.ChainStep.first.Goals as goal
 
 pub invariant_of-result : goal.invariant_of-result

@@ -1,9 +1,9 @@
 use Rattle.std.proofs.Common.{◌≡◌, [], ◌∷◌, ◌++◌, ◌<◌, length, get_or, map, take, subst, sym, ap, ◌∙◌}
 use Rattle.cedar_types.specs.Accesses.{got, texts_at}
 use Rattle.cedar_types.specs.ChainSteps.{step_written, step_attr, steps_left, made_up}
-use Rattle.cedar_types.specs.Digest.{with_text, shape_digest}
+use Rattle.cedar_types.specs.Capability.Digest.{with_text, shape_digest}
 use Rattle.cedar_types.specs.Names.{text_of}
-use Rattle.cedar_types.specs.View.{shape, written}
+use Rattle.cedar_types.specs.Expressions.View.{shape, written}
 use Rattle.cedar_types.proofs.ChainSteps.{accessed_last, left_more}
 use Rattle.cedar_types.proofs.Schema.Places.{next_mapped}
 use Rattle.cedar_types.proofs.types.capability.chain_steps.ChainStep.next.Goals as goal

@@ -3,7 +3,7 @@ use Rattle.cedar_types.specs.Capability.{cap_of, caps}
 use Rattle.cedar_types.specs.Types.{ty_of}
 use Rattle.cedar_typing.specs.Rules.Chains.{step_earns}
 use Rattle.cedar_typing.specs.Views.{progress_of}
-use Rattle.cedar_typing.proofs.ChainSteps.{earned, is_new, is_there, not_earned, with_step_is}
+use Rattle.cedar_typing.proofs.Rules.Chains.{earned, is_new, is_there, not_earned, with_step_is}
 use Rattle.cedar_typing.proofs.typecheck.rules.chains.Progress.with.Goals as goal
 
 pub returns-then-is_declared-is_true : goal.returns-then-is_declared-is_true

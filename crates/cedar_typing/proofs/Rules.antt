@@ -1,0 +1,15 @@
+-- The rules form by form, as the program follows them, and what holds of them all.
+pub mod Sequence
+pub mod Operands
+pub mod TwoOperands
+pub mod OperandLists
+pub mod TypesGiven
+pub mod Chains
+pub mod Numbers
+pub mod Membership
+pub mod Sets
+pub mod Records
+pub mod FieldsInOrder
+pub mod Calls
+pub mod CallErrors
+pub mod Laws

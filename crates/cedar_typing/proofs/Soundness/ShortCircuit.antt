@@ -1,0 +1,3 @@
+-- `&&` and `||` do not go wrong.
+pub mod Conjunction
+pub mod Disjunction

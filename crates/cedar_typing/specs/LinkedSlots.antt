@@ -1,8 +1,0 @@
--- Environments whose slots are linked.
-use Rattle.std.specs.Prelude.{Some}
-use Rattle.cedar_types.specs.RequestEnvs.{Env, Declared}
-
--- both slots are linked to types
-abbrev pub LinksBothSlots : Env → Type 0
-LinksBothSlots (Declared d (Some p) (Some r)) = Unit {0}
-LinksBothSlots e = ⊥

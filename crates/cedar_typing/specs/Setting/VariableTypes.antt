@@ -1,0 +1,28 @@
+-- The types of the variables as the checker keeps them, each against what the environment says, by the
+-- test for equal types: what a value keeps as a fact has to be a type with at most one value, and that a
+-- test is true is one.
+use Rattle.std.specs.Prelude.{◌≡◌, Bool, true, false, Option, Some, None, option_map}
+use Rattle.cedar_types.specs.Types.Bounds.{ty_eq}
+use Rattle.cedar_types.specs.Environments.RequestEnvs.{Env, principal_ty, action_ty, resource_ty, context_ty}
+use Rattle.cedar_types.specs.Schemas.{Schema}
+use Rattle.cedar_types.specs.Types.{Ty, ty_of}
+use Rattle.cedar_typing.specs.declared.typecheck.variable_types.VariableTypes.{VariableTypes}
+
+-- both have a type, the same, or neither has one
+abbrev pub same_if_any : Option Ty → Option Ty → Bool
+same_if_any None None = true
+same_if_any (Some s) (Some t) = ty_eq s t
+same_if_any s t = false
+
+-- principal, action, resource and context have these types
+abbrev pub HasPrincipal : Env → VariableTypes → Type 0
+HasPrincipal r v = ty_eq (ty_of v.principal) (principal_ty r) ≡ true
+
+abbrev pub HasAction : Schema → Env → VariableTypes → Type 0
+HasAction s r v = same_if_any (option_map ty_of v.action) (action_ty s r) ≡ true
+
+abbrev pub HasResource : Env → VariableTypes → Type 0
+HasResource r v = ty_eq (ty_of v.resource) (resource_ty r) ≡ true
+
+abbrev pub HasContext : Env → VariableTypes → Type 0
+HasContext r v = ty_eq (ty_of v.context) (context_ty r) ≡ true
