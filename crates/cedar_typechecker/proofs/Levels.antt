@@ -24,5 +24,6 @@ pub mod Keys
 pub mod Tallies
 pub mod Outcomes
 pub mod RequiredParts
+pub mod RequiredPaths
 pub mod Requirements
 pub mod RequiredLevels

@@ -1,19 +1,17 @@
 -- What the walk for required levels raises at a node and for its parts: a level is enough after it exactly
 -- where it was before and the walk for errors finds nothing there.
-use Rattle.std.proofs.Common.{◌≡◌, ◌↔◌, ℕ, ◌+◌, ◌≤◌, ◌<◌, max, Bool, true, false, nat_lt, nat_le, List, [], ◌∷◌, ◌++◌, Option, Some, None, is_some, if◌then◌else◌, refl, ap, ◌∙◌, subst, arith}
+use Rattle.std.proofs.Common.{◌≡◌, ◌↔◌, ℕ, ◌+◌, ◌≤◌, ◌<◌, max, Bool, true, false, nat_lt, nat_le, List, [], ◌∷◌, ◌++◌, Option, Some, None, if◌then◌else◌, refl, ap, ◌∙◌, subst, arith}
 use Rattle.std.proofs.lemmas.Bool.{ltb-true, ltb-false, leb-true, leb-false}
 use Rattle.cedar_types.specs.Errors.{Fault, Finding, internal_invariant_violation, literal_dereference_target}
 use Rattle.cedar_types.specs.Names.{Text}
-use Rattle.cedar_types.specs.Expressions.Tree.{Fields}
 use Rattle.cedar_typing.specs.TypedExpr.{TypedTree, Mark}
-use Rattle.cedar_typechecker.specs.Levels.Chains.{Base, an_entity, a_record, neither, Leaf, good_leaf, literal_leaf, bad_leaf, leaf_of_access, leaf_of_field, level}
-use Rattle.cedar_typechecker.specs.Levels.Errors.{exceeds, unless_below, unless_within, faults_of_base, level_at_keys, faults_of_chain, faults_at_leaf, faults_at_end}
-use Rattle.cedar_typechecker.specs.Levels.InOrder.{capped, raised, by_base, on_keys, counted_level}
+use Rattle.cedar_typechecker.specs.Levels.Chains.{Base, an_entity, a_record, neither, Leaf, good_leaf, literal_leaf, bad_leaf, level}
+use Rattle.cedar_typechecker.specs.Levels.Errors.{exceeds, unless_below, unless_within, faults_of_base, faults_at_leaf}
+use Rattle.cedar_typechecker.specs.Levels.InOrder.{capped, raised, by_base, counted_level}
 use Rattle.cedar_typechecker.specs.Levels.Required.{Reaches}
-use Rattle.cedar_typechecker.specs.Levels.Requirements.{Surroundings, raise, after_leaf, after_chain, required_after, required_after_fields, required_after_target, required_along}
+use Rattle.cedar_typechecker.specs.Levels.Requirements.{Surroundings, raise, after_leaf, required_after, required_after_target}
 use Rattle.cedar_typechecker.specs.Levels.Setting.{LevelSetting}
-use Rattle.cedar_typechecker.specs.Levels.Walk.{found_at, of_base, of_keys, of_value, of_chain, checked_errors, field_errors, target_errors, errors_along}
-use Rattle.cedar_typechecker.proofs.Levels.Capped.{same_sum}
+use Rattle.cedar_typechecker.specs.Levels.Walk.{found_at, of_base, checked_errors, target_errors}
 use Rattle.cedar_typechecker.proofs.Levels.Gains.{joined_again}
 use Rattle.cedar_typechecker.proofs.Levels.SilentFromWalk.{both_nil}
 
@@ -22,7 +20,7 @@ use Rattle.cedar_typechecker.proofs.Levels.SilentFromWalk.{both_nil}
 nil_joined : {A : Type 0} (xs ys : List A) → xs ≡ [] → ys ≡ [] → xs ++ ys ≡ []
 nil_joined xs ys e f = ap (λ z. z ++ ys) e ∙ f
 
-not_nil : {A : Type 0} (x : A) (xs : List A) (X : Type 0) → x ∷ xs ≡ [] → X
+pub not_nil : {A : Type 0} (x : A) (xs : List A) (X : Type 0) → x ∷ xs ≡ [] → X
 not_nil x xs X h = cc
 
 -- ---- numbers
@@ -48,13 +46,13 @@ capped_within k j n e h = omega arith
 capped_above : (k j n : ℕ) → n ≤ 4294967295 → k ≡ capped j → n < j → k ≤ n → ⊥
 capped_above k j n le e h i = omega arith
 
-cost_above : (k c n : ℕ) → n ≤ 4294967295 → n < c → raised k c ≤ n → ⊥
+pub cost_above : (k c n : ℕ) → n ≤ 4294967295 → n < c → raised k c ≤ n → ⊥
 cost_above k c n le h i = omega arith
 
-not_both : (c n : ℕ) → n < c → c ≤ n → ⊥
+pub not_both : (c n : ℕ) → n < c → c ≤ n → ⊥
 not_both c n h i = omega arith
 
-raise_reached : (k : ℕ) (r : Option ℕ) (n : ℕ) → Reaches (raise k r) n → k ≤ n
+pub raise_reached : (k : ℕ) (r : Option ℕ) (n : ℕ) → Reaches (raise k r) n → k ≤ n
 raise_reached k None n h = absurd h
 raise_reached k (Some j) n h = second_below j k n h
 
@@ -88,7 +86,7 @@ module _ (s : LevelSetting) (bounded : s.maximum ≤ 4294967295) where
       from i = let e = both_nil xs ys i.1 in k.1 (h.1 (i.0, e.0), e.1)
 
   -- the second before the first
-  covers_before : (r : Option ℕ) (xs : List Finding) (q : Option ℕ) (ys : List Finding)
+  pub covers_before : (r : Option ℕ) (xs : List Finding) (q : Option ℕ) (ys : List Finding)
       (p : Option ℕ) → Covers r xs q → Covers q ys p → Covers r (ys ++ xs) p
   covers_before r xs q ys p h k = (to, from)
     where
@@ -111,7 +109,7 @@ module _ (s : LevelSetting) (bounded : s.maximum ≤ 4294967295) where
       from : Reaches r n × (xs ++ xs ≡ []) → Reaches q n
       from i = let e = both_nil xs xs i.1 in h.1 (i.0, e.0)
 
-  covers_end : (r : Option ℕ) (xs : List Finding) (q : Option ℕ) → Covers r xs q
+  pub covers_end : (r : Option ℕ) (xs : List Finding) (q : Option ℕ) → Covers r xs q
       → Covers r (xs ++ []) q
   covers_end r xs q h = (to, from)
     where
@@ -151,7 +149,7 @@ module _ (s : LevelSetting) (bounded : s.maximum ≤ 4294967295) where
           (λ i. absurd (one_more_above k j n bounded e (ltb-false j n q) i), λ i. not_nil _ [] _ i)
 
   -- a level that is within the maximum, or not
-  within_covers : (m : Mark) (k j : ℕ) (r : Option ℕ) → k ≡ capped j
+  pub within_covers : (m : Mark) (k j : ℕ) (r : Option ℕ) → k ≡ capped j
       → Covers r (found_at s m (unless_within n j)) (raise k r)
   within_covers m k j r e =
       raise_covers k r (found_at s m (unless_within n j)) (go (nat_le j n) refl)
@@ -163,7 +161,7 @@ module _ (s : LevelSetting) (bounded : s.maximum ≤ 4294967295) where
           (λ i. absurd (capped_above k j n bounded e (leb-false j n q) i), λ i. not_nil _ [] _ i)
 
   -- a cost that is within the maximum
-  cost_covers : (c : ℕ) (r : Option ℕ) → c ≤ n → Covers r [] (raise c r)
+  pub cost_covers : (c : ℕ) (r : Option ℕ) → c ≤ n → Covers r [] (raise c r)
   cost_covers c r le = raise_covers c r [] (λ i. refl, λ i. le)
 
   pub leaf_covers : (m : Mark) (l : Leaf) (r : Option ℕ)
@@ -174,15 +172,15 @@ module _ (s : LevelSetting) (bounded : s.maximum ≤ 4294967295) where
 
   -- ---- of an expression whose parts are covered
 
-  abbrev Checks : TypedTree → Type 0
+  abbrev pub Checks : TypedTree → Type 0
   Checks x = (r : Option ℕ) → Covers r (checked_errors s x) (required_after around x r)
 
-  abbrev Targets : TypedTree → Type 0
+  abbrev pub Targets : TypedTree → Type 0
   Targets x =
       (path : List Text) (r : Option ℕ)
       → Covers r (target_errors s x path) (required_after_target around x path r)
 
-  abbrev Counts : TypedTree → Type 0
+  abbrev pub Counts : TypedTree → Type 0
   Counts x = (path : List Text) → counted_level x path ≡ capped (level s.action x path)
 
   pub if_covers : (d : Bool) (b c e : TypedTree) (r : Option ℕ) → (d ≡ true → c ≡ e) → Checks b
@@ -271,144 +269,3 @@ module _ (s : LevelSetting) (bounded : s.maximum ≤ 4294967295) where
       let r2 = required_after around d r1 in
       subst (λ es. Covers r es r2) (joined_again own first (checked_errors s d))
       (covers_both r (own ++ first) r1 (checked_errors s d) r2 (first_covers k m b r h i c) (j r1))
-
-  -- ---- of extended `has`
-
-  reach_covers : (m : Mark) (b : TypedTree) (path : List Text) (c : ℕ) (r : Option ℕ) → Targets b
-      → Counts b
-      → Covers r (found_at s m (unless_within n (level s.action b path + c)) ++ target_errors s b
-      path) (raise (raised (counted_level b path) c) (required_after_target around b path r))
-  reach_covers m b path c r h k =
-      let r1 = required_after_target around b path r in
-      covers_before r (target_errors s b path) r1
-      (found_at s m (unless_within n (level s.action b path + c)))
-      (raise (raised (counted_level b path) c) r1) (h path r)
-      (within_covers m (raised (counted_level b path) c) (level s.action b path + c) r1
-      (same_sum (counted_level b path) (level s.action b path) c (k path)))
-
-  keys_covers : (m : Mark) (b : TypedTree) (keys : Option (List Text)) (c : ℕ) (r : Option ℕ)
-      → Checks b → Targets b → Counts b
-      → Covers r (found_at s m (level_at_keys s b keys c)
-      ++ (checked_errors s b ++ of_keys keys (target_errors s b)))
-      (on_keys keys (required_after around b r)
-      (λ path. raise (raised (counted_level b path) c)
-      (required_after_target around b path (required_after around b r))))
-  keys_covers m b None c r h i k = covers_end r (checked_errors s b) (required_after around b r) (h r)
-  keys_covers m b (Some path) c r h i k =
-      let own = found_at s m (unless_within n (level s.action b path + c)) in
-      let B = checked_errors s b in
-      let T = target_errors s b path in
-      let r1 = required_after around b r in
-      let r2 = required_after_target around b path r1 in
-      let r3 = raise (raised (counted_level b path) c) r2 in
-      covers_before r (B ++ T) r2 own r3 (covers_both r B r1 T r2 (h r) (i path r1))
-      (within_covers m (raised (counted_level b path) c) (level s.action b path + c) r2
-      (same_sum (counted_level b path) (level s.action b path) c (k path)))
-
-  -- where its cost is above n, n is not enough
-  costs_reached : (b : TypedTree) (keys : Option (List Text)) (c : ℕ) (r : Option ℕ) → Checks b
-      → Reaches (on_keys keys (required_after around b (raise c r))
-      (λ path. raise (raised (counted_level b path) c)
-      (required_after_target around b path (required_after around b (raise c r))))) n
-      → n < c → ⊥
-  costs_reached b None c r h i l =
-      not_both c n l (raise_reached c r n ((h (raise c r)).0 i).0)
-  costs_reached b (Some path) c r h i l =
-      cost_above (counted_level b path) c n bounded l
-      (raise_reached (raised (counted_level b path) c)
-      (required_after_target around b path (required_after around b (raise c r))) n i)
-
-  pub chain_covers : (k : Base) (m : Mark) (b : TypedTree) (c : ℕ) (keys : Option (List Text))
-      (r : Option ℕ) → Checks b → Targets b → Counts b
-      → Covers r (found_at s m (faults_of_chain s k c b keys) ++ of_chain n k c keys
-      (target_errors s b) (checked_errors s b))
-      (after_chain k c keys (counted_level b) (required_after_target around b)
-      (required_after around b) r)
-  chain_covers an_entity m b c keys r h i j = go (nat_le c n) refl
-    where
-      go : (q : Bool) → nat_le c n ≡ q
-          → Covers r (found_at s m
-          (if q then unless_within n (level s.action b [] + c) else exceeds n c ∷ [])
-          ++ (if q then target_errors s b [] else []))
-          (raise (raised (counted_level b []) c) (required_after_target around b [] (raise c r)))
-      go true e =
-          covers_both r [] (raise c r)
-          (found_at s m (unless_within n (level s.action b [] + c)) ++ target_errors s b [])
-          (raise (raised (counted_level b []) c) (required_after_target around b [] (raise c r)))
-          (cost_covers c r (leb-true c n e)) (reach_covers m b [] c (raise c r) i j)
-      go false e = (
-        λ w. absurd (cost_above (counted_level b []) c n bounded (leb-false c n e)
-            (raise_reached (raised (counted_level b []) c)
-            (required_after_target around b [] (raise c r)) n w)),
-        λ w. not_nil _ [] _ w.1,
-      )
-  chain_covers a_record m b c keys r h i j = go (nat_le c n) refl
-    where
-      go : (q : Bool) → nat_le c n ≡ q
-          → Covers r (found_at s m (if q then level_at_keys s b keys c else exceeds n c ∷ [])
-          ++ (if q then checked_errors s b ++ of_keys keys (target_errors s b) else []))
-          (on_keys keys (required_after around b (raise c r))
-          (λ path. raise (raised (counted_level b path) c)
-          (required_after_target around b path (required_after around b (raise c r)))))
-      go true e =
-          covers_both r [] (raise c r)
-          (found_at s m (level_at_keys s b keys c)
-          ++ (checked_errors s b ++ of_keys keys (target_errors s b)))
-          (on_keys keys (required_after around b (raise c r))
-          (λ path. raise (raised (counted_level b path) c)
-          (required_after_target around b path (required_after around b (raise c r)))))
-          (cost_covers c r (leb-true c n e)) (keys_covers m b keys c (raise c r) h i j)
-      go false e =
-          (λ w. absurd (costs_reached b keys c r h w (leb-false c n e)), λ w. not_nil _ [] _ w.1)
-  chain_covers neither m b c keys r h i j = h r
-
-  -- ---- of a target
-
-  pub tag_covers : (k : Bool) (m : Mark) (b d : TypedTree) (path : List Text) (r : Option ℕ)
-      → Targets b → Checks d
-      → Covers r (found_at s m (faults_at_end (if k then None else Some bad_leaf))
-      ++ (if k then target_errors s b path ++ checked_errors s d else []))
-      (if k then required_after around d (required_after_target around b path r) else None)
-  tag_covers true m b d path r h i =
-      let r1 = required_after_target around b path r in
-      covers_both r (target_errors s b path) r1 (checked_errors s d) (required_after around d r1)
-      (h path r) (i r1)
-  tag_covers false m b d path r h i = end_covers m internal_invariant_violation r
-
-  pub attribute_covers : (k : Base) (m : Mark) (b : TypedTree) (x : Text) (path : List Text)
-      (r : Option ℕ) → Targets b
-      → Covers r (found_at s m (faults_at_end (leaf_of_access k)) ++ of_base k
-      (target_errors s b path) (target_errors s b (x ∷ path)))
-      (by_base k (required_after_target around b path r)
-      (required_after_target around b (x ∷ path) r) None)
-  attribute_covers an_entity m b x path r h = h path r
-  attribute_covers a_record m b x path r h = h (x ∷ path) r
-  attribute_covers neither m b x path r h = end_covers m internal_invariant_violation r
-
-  pub record_covers : (m : Mark) (es : Fields Mark) (p : Text) (path : List Text) (r : Option ℕ)
-      (k : Bool) (o : Option TypedTree) → k ≡ is_some o
-      → Covers r (errors_along s es p path) (required_along around es p path r)
-      → Covers r (found_at s m (faults_at_end (leaf_of_field o)) ++ of_value o
-      (errors_along s es p path))
-      (if k then required_along around es p path r else None)
-  record_covers m es p path r true (Some t) q h = h
-  record_covers m es p path r false None q h = end_covers m internal_invariant_violation r
-  record_covers m es p path r true None q h = cc
-  record_covers m es p path r false (Some t) q h = cc
-
-  pub along_covers : (k : Bool) (t : TypedTree) (es : Fields Mark) (p : Text) (path : List Text)
-      (r : Option ℕ) → Checks t → Targets t
-      → ((r : Option ℕ) → Covers r (field_errors s es) (required_after_fields around es r))
-      → ((r : Option ℕ) → Covers r (errors_along s es p path) (required_along around es p path r))
-      → Covers r (if k then target_errors s t path ++ field_errors s es else checked_errors s t
-      ++ errors_along s es p path)
-      (if k then required_after_fields around es (required_after_target around t path r) else
-      required_along around es p path (required_after around t r))
-  along_covers true t es p path r h i j k =
-      let r1 = required_after_target around t path r in
-      covers_both r (target_errors s t path) r1 (field_errors s es)
-      (required_after_fields around es r1) (i path r) (j r1)
-  along_covers false t es p path r h i j k =
-      let r1 = required_after around t r in
-      covers_both r (checked_errors s t) r1 (errors_along s es p path)
-      (required_along around es p path r1) (h r) (k r1)

@@ -14,7 +14,8 @@ use Rattle.cedar_typechecker.specs.Levels.Shared.{is_constant, BranchesAreShared
 use Rattle.cedar_typechecker.specs.Levels.Walk.{checked_errors, all_errors, field_errors, target_errors, errors_along}
 use Rattle.cedar_typechecker.proofs.Levels.AddedParts.{key_is}
 use Rattle.cedar_typechecker.proofs.Levels.CountedLevels.{level_is}
-use Rattle.cedar_typechecker.proofs.Levels.RequiredParts.{around, Covers, covers_none, covers_both, found_covers, end_covers, leaf_covers, if_covers, if_target_covers, base_covers, operator_covers, chain_covers, tag_covers, attribute_covers, record_covers, along_covers}
+use Rattle.cedar_typechecker.proofs.Levels.RequiredParts.{around, Covers, covers_none, covers_both, found_covers, end_covers, leaf_covers, if_covers, if_target_covers, base_covers, operator_covers}
+use Rattle.cedar_typechecker.proofs.Levels.RequiredPaths.{chain_covers, tag_covers, attribute_covers, record_covers, along_covers}
 
 module _ (s : LevelSetting) (bounded : s.maximum ≤ 4294967295) where
   mutual
