@@ -10,12 +10,14 @@ no_fault_of_addresses r = refl
 pub no_fault_with_sum : (r : Refusals) → table_fault (ip r ∷ is_in_range ∷ sum ∷ []) ≡ None
 no_fault_with_sum r = refl
 
-pub none_refused : {fs gs : List ExtensionFunction} {e : ExtensionTableError} → table_fault gs ≡ None → fs ≡ gs → table_fault fs ≡ Some e → ⊥
+pub none_refused : {fs gs : List ExtensionFunction} {e : ExtensionTableError} → table_fault gs ≡ None → fs ≡ gs
+    → table_fault fs ≡ Some e → ⊥
 none_refused faultless same refused = cc
 
 -- what two values, or three, are listed as
 pub two_listed : {A B : Type 0} (h : A → B) {x y : A} {xs : List A} {a b : B} → xs ≡ x ∷ y ∷ [] → h x ≡ a → h y ≡ b → map h xs ≡ a ∷ b ∷ []
 two_listed h items first second = ap (map h) items ∙ cc
 
-pub three_listed : {A B : Type 0} (h : A → B) {x y z : A} {xs : List A} {a b d : B} → xs ≡ x ∷ y ∷ z ∷ [] → h x ≡ a → h y ≡ b → h z ≡ d → map h xs ≡ a ∷ b ∷ d ∷ []
+pub three_listed : {A B : Type 0} (h : A → B) {x y z : A} {xs : List A} {a b d : B} → xs ≡ x ∷ y ∷ z ∷ [] → h x ≡ a
+    → h y ≡ b → h z ≡ d → map h xs ≡ a ∷ b ∷ d ∷ []
 three_listed h items first second third = ap (map h) items ∙ cc

@@ -9,5 +9,7 @@ use Rattle.cedar_rows.specs.declared.rows.NamedRow.{NamedRow}
 -- all of them without a word, the first of that name with one, and none with more
 abbrev pub rows_asked : {R A : Type 0} → List (NamedRow R) → List (String A) → Option (List (NamedRow R))
 rows_asked rows [] = Some rows
-rows_asked rows (word ∷ []) = option_map (λ at. slice_range rows at (at + 1)) (position (λ row. bytes_eq row.name.now (string_bytes word)) rows)
+rows_asked rows (word ∷ []) =
+    option_map (λ at. slice_range rows at (at + 1))
+    (position (λ row. bytes_eq row.name.now (string_bytes word)) rows)
 rows_asked rows (word ∷ next ∷ more) = None

@@ -8,7 +8,8 @@ use Rattle.std.proofs.lemmas.Map.Keys.{IsDistinct-IsPermutation}
 use Rattle.cedar_types.specs.declared.base.names.entities.EntityUID.{EntityUID}
 use Rattle.cedar_types.specs.Schemas.Listings.{ListsTypes}
 use Rattle.cedar_types.specs.Names.{Path, Uid, path_eq, uid_eq, uid_of, placed_uid}
-use Rattle.cedar_types.specs.Schemas.{Schema, DeclaredAction, Application, has_fault, has_repeat, is_among, uid_is_among, descendants_of, action_named}
+use Rattle.cedar_types.specs.Schemas.{Schema, DeclaredAction, Application, has_fault, has_repeat, is_among, uid_is_among, descendants_of}
+use Rattle.cedar_types.specs.Schemas.{action_named}
 use Rattle.cedar_types.specs.Templates.{Scope, PlainTemplate}
 use Rattle.cedar_types.proofs.Names.Ids.{path_decides, uid_decides, path_symm}
 use Rattle.cedar_types.proofs.Schema.Faultless.{faultless}
@@ -21,7 +22,8 @@ use Rattle.cedar_typechecker.proofs.Lists.{pass_alike, any_of_all, distinct_from
 -- ---- entity types
 
 -- the declared types in any order, each once
-pub declared_types : (s : Schema) → has_fault s ≡ false → (listed : List Path) → IsPermutation (map (λ t. t.name) s.types) listed → ListsTypes (map (λ t. t.name) s.types) listed
+pub declared_types : (s : Schema) → has_fault s ≡ false → (listed : List Path)
+    → IsPermutation (map (λ t. t.name) s.types) listed → ListsTypes (map (λ t. t.name) s.types) listed
 declared_types s faults listed order =
     let names : List Path = map (λ t. t.name) s.types in
     let apart : has_repeat path_eq names ≡ false = repeat_mapped (λ t. t.name) path_eq s.types ∙ (faultless s faults).types_apart in
@@ -40,7 +42,9 @@ pub ids_of : (us : List EntityUID) → map (λ u. u.uid) (map placed_uid us) ≡
 ids_of [] = refl
 ids_of (u ∷ us) = ap (λ vs. uid_of u ∷ vs) (ids_of us)
 
-pub same_declarations : (acts : List DeclaredAction) (listed wanted : List Uid) → ((u : Uid) → uid_is_among listed u ≡ uid_is_among wanted u) → SameMembers (declarations acts listed) (declarations acts wanted)
+pub same_declarations : (acts : List DeclaredAction) (listed wanted : List Uid)
+    → ((u : Uid) → uid_is_among listed u ≡ uid_is_among wanted u)
+    → SameMembers (declarations acts listed) (declarations acts wanted)
 same_declarations acts listed wanted h p =
     let f : Uid → List DeclaredAction = λ u. option_to_list (action_named acts u) in
     any_of_all p f listed
@@ -55,7 +59,9 @@ same_applications xs ys h p =
 -- ---- the application
 
 -- an action fits, by the types and applications that were listed
-pub fits_listed : (s : Schema) (t : PlainTemplate) (ps rs : List Path) (apps : List Application) → ListsTypes (admitted_types s t.principal) ps → ListsTypes (admitted_types s t.resource) rs → SameMembers apps (admitted_applications s t.action) → list_any (fits ps rs) apps ≡ has_fitting_action s t
+pub fits_listed : (s : Schema) (t : PlainTemplate) (ps rs : List Path) (apps : List Application)
+    → ListsTypes (admitted_types s t.principal) ps → ListsTypes (admitted_types s t.resource) rs
+    → SameMembers apps (admitted_applications s t.action) → list_any (fits ps rs) apps ≡ has_fitting_action s t
 fits_listed s t ps rs apps principals resources same =
     ap (λ f. list_any f apps)
     (λ i a. same_types (is_among a.principals) (admitted_types s t.principal) ps principals i
@@ -63,7 +69,8 @@ fits_listed s t ps rs apps principals resources same =
     ∙ same (fits (admitted_types s t.principal) (admitted_types s t.resource))
 
 -- a flag, by the applications that were listed
-pub flag_listed : (s : Schema) (side : Side) (c : Scope) (apps wanted : List Application) → SameMembers apps wanted → in_might_help s side apps c ≡ in_might_help s side wanted c
+pub flag_listed : (s : Schema) (side : Side) (c : Scope) (apps wanted : List Application) → SameMembers apps wanted
+    → in_might_help s side apps c ≡ in_might_help s side wanted c
 flag_listed s side c apps wanted same = along (equal_type c)
   where
     along : (o : Option Path) → might_help s side apps o ≡ might_help s side wanted o

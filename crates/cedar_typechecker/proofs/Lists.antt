@@ -17,12 +17,14 @@ module _ {X : Type 0} (same : X → X → Bool) (decides : (x y : X) → Decides
   passed_by x [] h k = cc
   passed_by x (y ∷ ys) h k = along (same x y) refl (λ m. passed_by x ys m k) h
     where
-      along : (b : Bool) → b ≡ same x y → (list_any (same x) ys ≡ true → list_any p ys ≡ true) → (b || list_any (same x) ys) ≡ true → (p y || list_any p ys) ≡ true
+      along : (b : Bool) → b ≡ same x y → (list_any (same x) ys ≡ true → list_any p ys ≡ true)
+          → (b || list_any (same x) ys) ≡ true → (p y || list_any p ys) ≡ true
       along true e later h = ap (λ r. r || list_any p ys) (ap p (sym ((decides x y).0 (sym e))) ∙ k)
       along false e later h = ap (λ r. p y || r) (later h) ∙ or-true (p y)
 
   -- a list that has all members of another passes where that does
-  covered : (xs ys : List X) → ((x : X) → list_any (same x) xs ≡ true → list_any (same x) ys ≡ true) → list_any p xs ≡ true → list_any p ys ≡ true
+  covered : (xs ys : List X) → ((x : X) → list_any (same x) xs ≡ true → list_any (same x) ys ≡ true)
+      → list_any p xs ≡ true → list_any p ys ≡ true
   covered [] ys h k = cc
   covered (x ∷ xs) ys h k = along (p x) refl (covered xs ys (λ z m. h z (ap (λ b. same z x || b) m ∙ or-true (same z x)))) k
     where
@@ -41,7 +43,8 @@ module _ {X : Type 0} (same : X → X → Bool) (decides : (x y : X) → Decides
       (λ k. k, λ k. k)
 
 -- a test of what each member gives
-pub any_of_all : {X Y : Type 0} (p : Y → Bool) (f : X → List Y) (xs : List X) → list_any p (flat_map f xs) ≡ list_any (λ x. list_any p (f x)) xs
+pub any_of_all : {X Y : Type 0} (p : Y → Bool) (f : X → List Y) (xs : List X)
+    → list_any p (flat_map f xs) ≡ list_any (λ x. list_any p (f x)) xs
 any_of_all p f [] = refl
 any_of_all p f (x ∷ xs) = list_any-append p (f x) (flat_map f xs) ∙ ap (λ b. list_any p (f x) || b) (any_of_all p f xs)
 
@@ -69,6 +72,7 @@ module _ {X : Type 0} (same : X → X → Bool) where
   apart_from [] d = refl
   apart_from (x ∷ xs) d = λ i. none_passes (same x) xs d.0 i || apart_from xs d.1 i
 
-pub repeat_mapped : {X Y : Type 0} (f : X → Y) (same : Y → Y → Bool) (xs : List X) → has_repeat same (map f xs) ≡ has_repeat (λ x y. same (f x) (f y)) xs
+pub repeat_mapped : {X Y : Type 0} (f : X → Y) (same : Y → Y → Bool) (xs : List X)
+    → has_repeat same (map f xs) ≡ has_repeat (λ x y. same (f x) (f y)) xs
 repeat_mapped f same [] = refl
 repeat_mapped f same (x ∷ xs) = λ i. sym (any_mapped f (same (f x)) xs) i || repeat_mapped f same xs i

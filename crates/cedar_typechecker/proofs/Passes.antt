@@ -4,7 +4,8 @@ use Rattle.std.specs.List.{filter_map, cons_option}
 use Rattle.std.specs.Prelude.{IsPermutation}
 use Rattle.std.proofs.lemmas.List.Sorted.{IsPermutation-refl}
 use Rattle.cedar_types.specs.Errors.{Finding, unrecognized_entity_type, unrecognized_action_id, invalid_enum_entity}
-use Rattle.cedar_types.specs.Templates.Findings.{finding_at, template_uids, template_types, is_unknown_type, is_unknown_action, is_wrong_member, unknown_types, unknown_actions, wrong_members}
+use Rattle.cedar_types.specs.Templates.Findings.{finding_at, template_uids, template_types, is_unknown_type, is_unknown_action}
+use Rattle.cedar_types.specs.Templates.Findings.{is_wrong_member, unknown_types, unknown_actions, wrong_members}
 use Rattle.cedar_types.specs.Templates.Mentions.{Mention, named_uid, named_type, mentioned_uid, mentioned_type, template_mentions}
 use Rattle.cedar_types.specs.Names.{PlacedType, PlacedUid}
 use Rattle.cedar_types.specs.Schemas.{Schema}
@@ -16,20 +17,25 @@ use Rattle.cedar_typechecker.specs.Passes.{own_finding, of_uid, type_finding, ac
 -- ---- lists
 
 -- what is found of those that a test keeps
-kept : {X Y : Type 0} (test : X → Bool) (f : X → Y) (xs : List X) → filter_map (λ x. cond (test x) (Some (f x)) None) xs ≡ map f (filter test xs)
+kept : {X Y : Type 0} (test : X → Bool) (f : X → Y) (xs : List X)
+    → filter_map (λ x. cond (test x) (Some (f x)) None) xs ≡ map f (filter test xs)
 kept test f [] = refl
 kept {X} {Y} test f (x ∷ xs) = along (test x) (kept test f xs)
   where
-    along : (b : Bool) → filter_map (λ x. cond (test x) (Some (f x)) None) xs ≡ map f (filter test xs) → cons_option (cond b (Some (f x)) None) (filter_map (λ x. cond (test x) (Some (f x)) None) xs) ≡ map f (cond b (x ∷ filter test xs) (filter test xs))
+    along : (b : Bool) → filter_map (λ x. cond (test x) (Some (f x)) None) xs ≡ map f (filter test xs)
+        → cons_option (cond b (Some (f x)) None) (filter_map (λ x. cond (test x) (Some (f x)) None) xs)
+        ≡ map f (cond b (x ∷ filter test xs) (filter test xs))
     along true h = ap (λ ys. f x ∷ ys) h
     along false h = h
 
 -- of each type that is mentioned, and of each id
-of_types : (h : PlacedType → Option Finding) (ms : List Mention) → filter_map (λ m. h (mentioned_type m)) ms ≡ filter_map h (map mentioned_type ms)
+of_types : (h : PlacedType → Option Finding) (ms : List Mention) → filter_map (λ m. h (mentioned_type m)) ms
+    ≡ filter_map h (map mentioned_type ms)
 of_types h [] = refl
 of_types h (m ∷ ms) = ap (cons_option (h (mentioned_type m))) (of_types h ms)
 
-of_uids : (h : PlacedUid → Option Finding) (ms : List Mention) → filter_map (λ m. of_uid h (mentioned_uid m)) ms ≡ filter_map h (filter_map mentioned_uid ms)
+of_uids : (h : PlacedUid → Option Finding) (ms : List Mention) → filter_map (λ m. of_uid h (mentioned_uid m)) ms
+    ≡ filter_map h (filter_map mentioned_uid ms)
 of_uids h [] = refl
 of_uids h (named_uid u ∷ ms) = ap (cons_option (h u)) (of_uids h ms)
 of_uids h (named_type t ∷ ms) = of_uids h ms
@@ -58,11 +64,17 @@ same_order : (found wanted left : List Finding) → left ≡ found → found ≡
 same_order found wanted left h k = subst (λ xs. IsPermutation left xs) (h ∙ k) (IsPermutation-refl left)
 
 -- what is left of a pass at its beginning, in any order
-pub types_left : (s : Schema) (t : PlainTemplate) (left : List Finding) → left ≡ filter_map (own_finding EntityTypes s t.id) (template_mentions t) → IsPermutation left (unknown_types s t)
+pub types_left : (s : Schema) (t : PlainTemplate) (left : List Finding)
+    → left ≡ filter_map (own_finding EntityTypes s t.id) (template_mentions t)
+    → IsPermutation left (unknown_types s t)
 types_left s t left h = same_order _ (unknown_types s t) left h (finds_types s t)
 
-pub actions_left : (s : Schema) (t : PlainTemplate) (left : List Finding) → left ≡ filter_map (own_finding ActionIds s t.id) (template_mentions t) → IsPermutation left (unknown_actions s t)
+pub actions_left : (s : Schema) (t : PlainTemplate) (left : List Finding)
+    → left ≡ filter_map (own_finding ActionIds s t.id) (template_mentions t)
+    → IsPermutation left (unknown_actions s t)
 actions_left s t left h = same_order _ (unknown_actions s t) left h (finds_actions s t)
 
-pub members_left : (s : Schema) (t : PlainTemplate) (left : List Finding) → left ≡ filter_map (own_finding EnumEntities s t.id) (template_mentions t) → IsPermutation left (wrong_members s t)
+pub members_left : (s : Schema) (t : PlainTemplate) (left : List Finding)
+    → left ≡ filter_map (own_finding EnumEntities s t.id) (template_mentions t)
+    → IsPermutation left (wrong_members s t)
 members_left s t left h = same_order _ (wrong_members s t) left h (finds_members s t)

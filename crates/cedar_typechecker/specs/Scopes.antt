@@ -6,7 +6,8 @@ use Rattle.cedar_types.specs.Environments.Linking.{type_names}
 use Rattle.cedar_types.specs.Schemas.Listings.{types_within, actions_within}
 use Rattle.cedar_types.specs.Names.{Path, Uid}
 use Rattle.cedar_types.specs.Schemas.{DeclaredAction, Application, Schema, knows_type, is_among, declares_action, action_named}
-use Rattle.cedar_types.specs.Templates.{to_entity, to_slot, Scope, any, equal, within, typed, typed_within, ActionScope, any_action, equal_action, within_actions}
+use Rattle.cedar_types.specs.Templates.{to_entity, to_slot, Scope, any, equal, within, typed, typed_within, ActionScope, any_action}
+use Rattle.cedar_types.specs.Templates.{equal_action, within_actions}
 
 -- ---- entity types
 

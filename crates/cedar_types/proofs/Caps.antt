@@ -39,7 +39,9 @@ equal_where Greater h = absurd (true≢false (sym h))
 pub point : (q : Cap) → IsPoint cmp (λ c. cap_eq q (cap_of c))
 point q = record {
   alike = λ x y e. ap (cap_eq q) (cap_to (cap_of x) (cap_of y) (sym (at_is x y) ∙ ap is_eq e));
-  alone = λ x y h k. equal_where (cmp x y) (at_is x y ∙ cap_same (cap_of x) (cap_of y) (sym (cap_to q (cap_of x) h) ∙ cap_to q (cap_of y) k));
+  alone =
+      λ x y h k. equal_where (cmp x y)
+      (at_is x y ∙ cap_same (cap_of x) (cap_of y) (sym (cap_to q (cap_of x) h) ∙ cap_to q (cap_of y) k));
 }
 
 -- a copy ties with what it was made from
@@ -47,11 +49,13 @@ pub copy_is : (r : Result Capability AllocError) (c : Capability) → IfOk r (λ
 copy_is (Ok d) c h = equal_where (cmp d c) (at_is d c ∙ cap_same (cap_of d) (cap_of c) h)
 copy_is (Err e) c h = h
 
-pub adds_is : (r : Result (Unit {0}) AllocError) (c : Capability) (ks ns : List Capability) → OnOk r (HasOneMore cmp ks c ns) → OnOk r ((q : Cap) → among ns q ≡ (among ks q || cap_eq q (cap_of c)))
+pub adds_is : (r : Result (Unit {0}) AllocError) (c : Capability) (ks ns : List Capability)
+    → OnOk r (HasOneMore cmp ks c ns) → OnOk r ((q : Cap) → among ns q ≡ (among ks q || cap_eq q (cap_of c)))
 adds_is (Ok u) c ks ns h = λ q. h (λ k. cap_eq q (cap_of k)) (point q)
 adds_is (Err e) c ks ns h = h
 
 -- what keeps the entries keeps what is in the set
-pub keeps_is : (r : Result (Unit {0}) AllocError) (ks ns : List Capability) → OnErr r (ns ≡ ks) → OnErr r ((q : Cap) → among ns q ≡ among ks q)
+pub keeps_is : (r : Result (Unit {0}) AllocError) (ks ns : List Capability) → OnErr r (ns ≡ ks)
+    → OnErr r ((q : Cap) → among ns q ≡ among ks q)
 keeps_is (Ok u) ks ns h = h
 keeps_is (Err e) ks ns h = λ q. ap (λ xs. among xs q) h

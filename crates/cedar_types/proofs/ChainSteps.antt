@@ -17,7 +17,8 @@ accessed_last f s xs ys x h = sym (fold-append f s xs (x ∷ [])) ∙ ap (fold f
 one_more : (i : ℕ) → suc i ≡ i + 1
 one_more i = omega arith
 
-pub left_more : {X Y : Type 0} (f : X → Y) (xs : List X) (i : ℕ) (x : X) → i < length xs → x ≡ get_or xs i x → map f (drop i xs) ≡ f x ∷ map f (drop (i + 1) xs)
+pub left_more : {X Y : Type 0} (f : X → Y) (xs : List X) (i : ℕ) (x : X) → i < length xs → x ≡ get_or xs i x
+    → map f (drop i xs) ≡ f x ∷ map f (drop (i + 1) xs)
 left_more f xs i x below is =
     ap (map f) (drop-cons xs i x below) ∙ ap (λ y. f y ∷ map f (drop (suc i) xs)) (sym is)
     ∙ ap (λ j. f x ∷ map f (drop j xs)) (one_more i)

@@ -26,8 +26,12 @@ known_is a s t x y e = and_false a
 
 -- what the test of equality tells
 pub one_cap : (c d : Cap) → cap_eq c d ≡ true → c ≡ d
-one_cap (attribute s x) (attribute t y) h = λ i. attribute (tree_same.to s t (and_left (tree_eq s t) (text_eq x y) h) i) (text_same.to x y (and_right (tree_eq s t) (text_eq x y) h) i)
-one_cap (tag s x) (tag t y) h = λ i. tag (tree_same.to s t (and_left (tree_eq s t) (tree_eq x y) h) i) (tree_same.to x y (and_right (tree_eq s t) (tree_eq x y) h) i)
+one_cap (attribute s x) (attribute t y) h =
+    λ i. attribute (tree_same.to s t (and_left (tree_eq s t) (text_eq x y) h) i)
+    (text_same.to x y (and_right (tree_eq s t) (text_eq x y) h) i)
+one_cap (tag s x) (tag t y) h =
+    λ i. tag (tree_same.to s t (and_left (tree_eq s t) (tree_eq x y) h) i)
+    (tree_same.to x y (and_right (tree_eq s t) (tree_eq x y) h) i)
 one_cap c d h = absurd (true≢false (sym h))
 
 pub cap_itself : (c : Cap) → cap_eq c c ≡ true
@@ -67,6 +71,9 @@ unfolding cap_of
 by_digest c d =
     let s = shape_on c.on_expr in
     let t = shape_on d.on_expr in
-    let rest : (tree_eq s t && known_eq.ghosts.eq c.known d.known) ≡ cap_eq (known_of s c.known) (known_of t d.known) = known_is (tree_eq s t) s t c.known d.known refl in
-    and_in (nat_eq c.digest d.digest) (tree_eq s t && known_eq.ghosts.eq c.known d.known) (λ h. eq-eqb c.digest d.digest (one_digest c d (one_cap (known_of s c.known) (known_of t d.known) (sym rest ∙ h))))
+    let rest : (tree_eq s t && known_eq.ghosts.eq c.known d.known)
+    ≡ cap_eq (known_of s c.known) (known_of t d.known) = known_is (tree_eq s t) s t c.known d.known refl in
+    and_in (nat_eq c.digest d.digest) (tree_eq s t && known_eq.ghosts.eq c.known d.known)
+    (λ h. eq-eqb c.digest d.digest
+    (one_digest c d (one_cap (known_of s c.known) (known_of t d.known) (sym rest ∙ h))))
     ∙ rest

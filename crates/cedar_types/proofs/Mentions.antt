@@ -9,10 +9,14 @@ use Rattle.cedar_types.specs.declared.base.location.Loc.{Loc}
 use Rattle.cedar_types.specs.declared.base.names.slots.SlotId.{SlotId}
 use Rattle.cedar_types.specs.declared.base.expressions.operators.Var.{Var}
 use Rattle.cedar_types.specs.Templates.Findings.{uids_named, types_named, template_uids, template_types}
-use Rattle.cedar_types.specs.Templates.Mentions.{Mention, named_uid, named_type, mentioned_uid, mentioned_type, own_mention, mentions_of, template_mentions, scope_mentions, named_actions, action_mentions, rest_mentions, mentions_by_part}
+use Rattle.cedar_types.specs.Templates.Mentions.{Mention, named_uid, named_type, mentioned_uid, mentioned_type, own_mention, mentions_of}
+use Rattle.cedar_types.specs.Templates.Mentions.{template_mentions, scope_mentions, named_actions, action_mentions, rest_mentions}
+use Rattle.cedar_types.specs.Templates.Mentions.{mentions_by_part}
 use Rattle.cedar_types.specs.Names.{PlacedUid}
 use Rattle.cedar_types.specs.Expressions.Parts.{subexpressions, subexpressions_of_all}
-use Rattle.cedar_types.specs.Templates.{to_entity, to_slot, Scope, any, equal, within, typed, typed_within, ActionScope, any_action, equal_action, within_actions, PlainTemplate, scope_at, uid_at, action_scope_at, scope_condition, with_rest, condition_of}
+use Rattle.cedar_types.specs.Templates.{to_entity, to_slot, Scope, any, equal, within, typed, typed_within, ActionScope, any_action}
+use Rattle.cedar_types.specs.Templates.{equal_action, within_actions, PlainTemplate, scope_at, uid_at, action_scope_at, scope_condition}
+use Rattle.cedar_types.specs.Templates.{with_rest, condition_of}
 use Rattle.cedar_types.specs.Expressions.Tree.{Tree}
 use Rattle.cedar_types.specs.Expressions.View.{Written, trees_of}
 

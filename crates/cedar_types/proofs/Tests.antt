@@ -19,13 +19,21 @@ found p (x ∷ xs) h = along (p x) refl h (found p xs)
   where
     along : (b : Bool) → b ≡ p x → (b || list_any p xs) ≡ true → (list_any p xs ≡ true → Found p xs) → Found p (x ∷ xs)
     along true e h k = record { element = x; passes = sym e; within = record { passes = λ q t. ap (λ b. b || list_any q xs) t } }
-    along false e h k = let r = k h in record { element = r.element; passes = r.passes; within = record { passes = λ q t. ap (λ b. q x || b) (r.within.passes q t) ∙ or-true (q x) } }
+    along false e h k =
+        let r =
+        k h in record {
+          element = r.element;
+          passes = r.passes;
+          within =
+              record { passes = λ q t. ap (λ b. q x || b) (r.within.passes q t) ∙ or-true (q x) };
+        }
 
 none_fails : {X : Type 0} (p : X → Bool) (xs : List X) → list_all p xs ≡ true → list_any (λ x. not (p x)) xs ≡ false
 none_fails p [] h = refl
 none_fails p (x ∷ xs) h = along (p x) h (none_fails p xs)
   where
-    along : (b : Bool) → (b && list_all p xs) ≡ true → (list_all p xs ≡ true → list_any (λ y. not (p y)) xs ≡ false) → (not b || list_any (λ y. not (p y)) xs) ≡ false
+    along : (b : Bool) → (b && list_all p xs) ≡ true → (list_all p xs ≡ true → list_any (λ y. not (p y)) xs ≡ false)
+        → (not b || list_any (λ y. not (p y)) xs) ≡ false
     along true h k = k h
     along false h k = cc
 
@@ -35,7 +43,9 @@ each p xs x h w = settle (p x) refl
   where
     settle : (b : Bool) → b ≡ p x → p x ≡ true
     settle true e = sym e
-    settle false e = let one : list_any (λ y. not (p y)) xs ≡ true = w.passes (λ y. not (p y)) (ap not (sym e)) in let no : list_any (λ y. not (p y)) xs ≡ false = none_fails p xs h in cc
+    settle false e =
+        let one : list_any (λ y. not (p y)) xs ≡ true = w.passes (λ y. not (p y)) (ap not (sym e)) in
+        let no : list_any (λ y. not (p y)) xs ≡ false = none_fails p xs h in cc
 
 pub and_left : (a b : Bool) → (a && b) ≡ true → a ≡ true
 and_left true b h = refl

@@ -1,13 +1,16 @@
 -- Inference: the rules as a function, which answers, and adds errors to those so far in its own
 -- order.
 use Rattle.std.specs.Prelude.{ℕ, ◌+◌, Bool, false, nat_lt, List, Some, None, if◌then◌else◌}
-use Rattle.cedar_types.specs.Expressions.Tree.{lit, var, slot, unknown, if_then_else, and, or, unary, binary, call, get_attr, has_attr, ext_has_attr, like, is_type, set_of, record_of, Trees, no_trees, tree, Fields, no_fields, field}
+use Rattle.cedar_types.specs.Expressions.Tree.{lit, var, slot, unknown, if_then_else, and, or, unary, binary, call, get_attr, has_attr}
+use Rattle.cedar_types.specs.Expressions.Tree.{ext_has_attr, like, is_type, set_of, record_of, Trees, no_trees, tree, Fields, no_fields}
+use Rattle.cedar_types.specs.Expressions.Tree.{field}
 use Rattle.cedar_types.specs.Expressions.View.{Written}
 use Rattle.cedar_types.specs.Errors.{Finding}
 use Rattle.cedar_typing.specs.Capabilities.{Caps}
 use Rattle.cedar_typing.specs.Eager.{Expectation, first_expectation, later_expectations}
 use Rattle.cedar_typing.specs.Infer.Conditional.{infer_branches}
-use Rattle.cedar_typing.specs.Infer.Eager.{OperandsAndErrors, infer_none, infer_one_more, infer_eager, infer_one_operand, infer_two_operands, infer_operand_list}
+use Rattle.cedar_typing.specs.Infer.Eager.{OperandsAndErrors, infer_none, infer_one_more, infer_eager, infer_one_operand}
+use Rattle.cedar_typing.specs.Infer.Eager.{infer_two_operands, infer_operand_list}
 use Rattle.cedar_typing.specs.Infer.Leaves.{infer_leaf, infer_unknown}
 use Rattle.cedar_typing.specs.Infer.Parts.{limit, AnswerAndErrors, expect, after}
 use Rattle.cedar_typing.specs.Infer.ShortCircuit.{infer_right}

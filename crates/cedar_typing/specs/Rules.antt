@@ -1,7 +1,9 @@
 -- The rules of typing, form by form: of each expression its type, the capabilities that it produces
 -- and its typed copy; where no rule gives it a type, how it fails; and where it is cut.
 use Rattle.std.specs.Prelude.{ℕ, ◌+◌, Bool, false, List, Some, None}
-use Rattle.cedar_types.specs.Expressions.Tree.{lit, var, slot, unknown, if_then_else, and, or, unary, binary, call, get_attr, has_attr, ext_has_attr, like, is_type, set_of, record_of, Trees, no_trees, tree, Fields, no_fields, field}
+use Rattle.cedar_types.specs.Expressions.Tree.{lit, var, slot, unknown, if_then_else, and, or, unary, binary, call, get_attr, has_attr}
+use Rattle.cedar_types.specs.Expressions.Tree.{ext_has_attr, like, is_type, set_of, record_of, Trees, no_trees, tree, Fields, no_fields}
+use Rattle.cedar_types.specs.Expressions.Tree.{field}
 use Rattle.cedar_types.specs.Expressions.View.{Written}
 use Rattle.cedar_typing.specs.Capabilities.{Caps}
 use Rattle.cedar_typing.specs.Eager.{Expectation, first_expectation, later_expectations}
@@ -13,7 +15,8 @@ use Rattle.cedar_typing.specs.Rules.Chains.{chain_form}
 use Rattle.cedar_typing.specs.Rules.Records.{field_keys, record_form}
 use Rattle.cedar_typing.specs.Rules.Sets.{set_form}
 use Rattle.cedar_typing.specs.Rules.Conditional.{if_rules}
-use Rattle.cedar_typing.specs.Rules.Eager.{Judgments, no_operands, one_more, eager_rules, one_operand_rules, two_operand_rules, operand_list_rules}
+use Rattle.cedar_typing.specs.Rules.Eager.{Judgments, no_operands, one_more, eager_rules, one_operand_rules, two_operand_rules}
+use Rattle.cedar_typing.specs.Rules.Eager.{operand_list_rules}
 use Rattle.cedar_typing.specs.Rules.Leaves.{variable_type, slot_ty, type_of_literal, leaf_rules, unknown_rules}
 use Rattle.cedar_typing.specs.Rules.ShortCircuit.{conjunction, disjunction, short_circuit_rules}
 use Rattle.cedar_typing.specs.Rules.Unary.{unary_form, like_form, is_form}

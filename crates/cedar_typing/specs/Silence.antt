@@ -7,7 +7,8 @@ use Rattle.cedar_types.specs.declared.base.types.ValidationMode.{ValidationMode}
 use Rattle.cedar_types.specs.declared.base.types.ValidationMode.TheVariants.{Strict, Permissive}
 use Rattle.cedar_types.specs.Errors.{Finding, Caution}
 use Rattle.cedar_types.specs.Extensions.Functions.{table_fault}
-use Rattle.cedar_types.specs.Templates.Findings.{uids_named, types_named, is_unknown_type, is_unknown_action, unknown_types, unknown_actions}
+use Rattle.cedar_types.specs.Templates.Findings.{uids_named, types_named, is_unknown_type, is_unknown_action, unknown_types}
+use Rattle.cedar_types.specs.Templates.Findings.{unknown_actions}
 use Rattle.cedar_types.specs.Environments.Linking.{checked_envs}
 use Rattle.cedar_types.specs.Expressions.Parts.{subexpressions}
 use Rattle.cedar_types.specs.Environments.RequestEnvs.{Env}

@@ -13,7 +13,8 @@ use Rattle.cedar_typing.specs.Capabilities.{Caps}
 use Rattle.cedar_types.specs.Schemas.Formed.{has_formed_types}
 use Rattle.cedar_typing.specs.Evaluation.Conformance.{Fits, IsEnvironmentOf, SlotsBound, has_external, KeepsTable, AllHold}
 use Rattle.cedar_typing.specs.Evaluation.Eval.{eval}
-use Rattle.cedar_typing.specs.Evaluation.World.{World, Failure, TypeFailure, AbsentAttribute, AbsentTag, MissingEntity, Overflow, ExtensionFailure, UnlinkedSlot, UnknownValue, Outcome, Gives, Fails}
+use Rattle.cedar_typing.specs.Evaluation.World.{World, Failure, TypeFailure, AbsentAttribute, AbsentTag, MissingEntity, Overflow}
+use Rattle.cedar_typing.specs.Evaluation.World.{ExtensionFailure, UnlinkedSlot, UnknownValue, Outcome, Gives, Fails}
 use Rattle.cedar_typing.specs.Rules.{Derives, Recovers}
 use Rattle.cedar_typing.specs.Setting.{Setting, table}
 use Rattle.cedar_typing.specs.TypedExpr.{Source, TypedTree, annotation}

@@ -4,7 +4,8 @@ use Rattle.cedar_types.specs.declared.base.location.Loc.{Loc}
 use Rattle.cedar_types.specs.declared.base.expressions.Expr.{Expr}
 use Rattle.cedar_types.specs.declared.base.types.CedarType.{CedarType}
 use Rattle.cedar_types.specs.Types.{Ty, ty_of}
-use Rattle.cedar_types.specs.Expressions.Tree.{Tree, lit, var, slot, unknown, if_then_else, and, or, unary, binary, call, get_attr, has_attr, ext_has_attr, like, is_type, set_of, record_of, Shape, map_tree}
+use Rattle.cedar_types.specs.Expressions.Tree.{Tree, lit, var, slot, unknown, if_then_else, and, or, unary, binary, call, get_attr}
+use Rattle.cedar_types.specs.Expressions.Tree.{has_attr, ext_has_attr, like, is_type, set_of, record_of, Shape, map_tree}
 use Rattle.cedar_types.specs.Expressions.View.{Written, tree_with}
 use Rattle.std.specs.Option.{option_map}
 

@@ -49,7 +49,8 @@ use Rattle.cedar_typing.specs.declared.typecheck.rules.operand_list.OperandList.
 use Rattle.cedar_typing.specs.declared.typecheck.rules.short_circuit.Connective as connective
 use Rattle.cedar_typing.specs.declared.typecheck.rules.short_circuit.Side as side
 use Rattle.cedar_typing.specs.declared.typecheck.rules.two_operands.TwoOperands.{TwoOperands}
-use Rattle.cedar_typing.specs.declared.typecheck.rules.two_operands.TwoOperands.TheVariants.{Equality, Comparison, Arithmetic, Membership, Contains, ContainsSeveral, HasTag, GetTag}
+use Rattle.cedar_typing.specs.declared.typecheck.rules.two_operands.TwoOperands.TheVariants.{Equality, Comparison, Arithmetic, Membership}
+use Rattle.cedar_typing.specs.declared.typecheck.rules.two_operands.TwoOperands.TheVariants.{Contains, ContainsSeveral, HasTag, GetTag}
 use Rattle.cedar_typing.specs.declared.typecheck.type_env.TypeEnv.{TypeEnv as CheckerEnv}
 use Rattle.cedar_typing.specs.declared.typecheck.rules.records.FieldValues.{FieldValues}
 pub mod Settings

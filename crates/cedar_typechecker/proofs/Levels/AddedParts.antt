@@ -1,15 +1,21 @@
 -- What the program adds at a node and for its parts are the errors of the walk there.
-use Rattle.std.proofs.Common.{◌≡◌, ℕ, ◌+◌, ◌≤◌, Bool, true, false, nat_lt, nat_le, List, [], ◌∷◌, ◌++◌, Option, Some, None, is_some, if◌then◌else◌, refl, sym, subst}
+use Rattle.std.proofs.Common.{◌≡◌, ℕ, ◌+◌, ◌≤◌, Bool, true, false, nat_lt, nat_le, List, [], ◌∷◌, ◌++◌, Option, Some, None, is_some}
+use Rattle.std.proofs.Common.{if◌then◌else◌, refl, sym, subst}
 use Rattle.cedar_types.specs.Errors.{Fault, Finding, maximum_level_exceeded, internal_invariant_violation, literal_dereference_target}
 use Rattle.cedar_types.specs.Names.{Text, text_eq}
 use Rattle.cedar_types.specs.Expressions.Tree.{Fields, no_fields, field}
 use Rattle.cedar_typing.specs.PolicyCheck.Outcome.{Adds}
 use Rattle.cedar_typing.specs.TypedExpr.{TypedTree, Mark}
-use Rattle.cedar_typechecker.specs.Levels.Chains.{Base, an_entity, a_record, neither, field_at, Leaf, good_leaf, literal_leaf, bad_leaf, leaf_of_access, leaf_of_field, level}
-use Rattle.cedar_typechecker.specs.Levels.Errors.{exceeds, unless_below, unless_within, faults_of_base, level_at_keys, faults_of_chain, faults_at_leaf, faults_at_end}
-use Rattle.cedar_typechecker.specs.Levels.InOrder.{capped, raised, reports, below, within, at_leaf, by_base, has_key, on_keys, counted_level, add_chain_errors, add_errors, add_field_errors, add_target_errors, add_errors_along}
+use Rattle.cedar_typechecker.specs.Levels.Chains.{Base, an_entity, a_record, neither, field_at, Leaf, good_leaf, literal_leaf, bad_leaf}
+use Rattle.cedar_typechecker.specs.Levels.Chains.{leaf_of_access, leaf_of_field, level}
+use Rattle.cedar_typechecker.specs.Levels.Errors.{exceeds, unless_below, unless_within, faults_of_base, level_at_keys, faults_of_chain}
+use Rattle.cedar_typechecker.specs.Levels.Errors.{faults_at_leaf, faults_at_end}
+use Rattle.cedar_typechecker.specs.Levels.InOrder.{capped, raised, reports, below, within, at_leaf, by_base, has_key, on_keys}
+use Rattle.cedar_typechecker.specs.Levels.InOrder.{counted_level, add_chain_errors, add_errors, add_field_errors, add_target_errors}
+use Rattle.cedar_typechecker.specs.Levels.InOrder.{add_errors_along}
 use Rattle.cedar_typechecker.specs.Levels.Setting.{LevelSetting}
-use Rattle.cedar_typechecker.specs.Levels.Walk.{found_at, of_base, of_keys, of_value, of_chain, checked_errors, field_errors, target_errors, errors_along}
+use Rattle.cedar_typechecker.specs.Levels.Walk.{found_at, of_base, of_keys, of_value, of_chain, checked_errors, field_errors, target_errors}
+use Rattle.cedar_typechecker.specs.Levels.Walk.{errors_along}
 use Rattle.cedar_typechecker.proofs.Levels.Capped.{same_less, same_at_most, same_required, same_report, same_sum}
 use Rattle.cedar_typechecker.proofs.Levels.Gains.{joined_again, adds_none, adds_both, adds_before, adds_twice, adds_end}
 

@@ -1,14 +1,19 @@
 -- The list of chains is that of the rules, and the level is the greatest.
-use Rattle.std.proofs.Common.{◌≡◌, ℕ, ◌+◌, ◌≤◌, Bool, true, false, nat_le, List, [], ◌∷◌, map, Option, Some, None, if◌then◌else◌, ◌⊎◌, inl, inr, refl, sym, ap, subst, arith}
+use Rattle.std.proofs.Common.{◌≡◌, ℕ, ◌+◌, ◌≤◌, Bool, true, false, nat_le, List, [], ◌∷◌, map, Option, Some, None, if◌then◌else◌, ◌⊎◌, inl}
+use Rattle.std.proofs.Common.{inr, refl, sym, ap, subst, arith}
 use Rattle.std.proofs.lemmas.Bool.{leb-true, leb-false}
 use Rattle.cedar_types.specs.declared.base.expressions.operators.BinaryOp.{BinaryOp}
 use Rattle.cedar_types.specs.Names.{Text, Uid, text_eq}
-use Rattle.cedar_types.specs.Expressions.Tree.{lit, var, slot, unknown, if_then_else, and, or, unary, binary, call, get_attr, has_attr, ext_has_attr, like, is_type, set_of, record_of, Fields, no_fields, field}
+use Rattle.cedar_types.specs.Expressions.Tree.{lit, var, slot, unknown, if_then_else, and, or, unary, binary, call, get_attr, has_attr}
+use Rattle.cedar_types.specs.Expressions.Tree.{ext_has_attr, like, is_type, set_of, record_of, Fields, no_fields, field}
 use Rattle.cedar_typing.specs.Evaluation.Conformance.{IsOneOf}
 use Rattle.cedar_typing.specs.TypedExpr.{TypedTree, Mark, annotation}
 use Rattle.cedar_typing.proofs.Basics.{some_is, none_is}
 use Rattle.cedar_typing.proofs.Basics.Members.{in_left, in_right, in_mapped}
-use Rattle.cedar_typechecker.specs.Levels.Chains.{Base, an_entity, a_record, neither, base_of, field_at, Leaf, bad_leaf, leaf_of_access, leaf_of_field, leaf_of, HasChain, ends, of_entity, of_record, of_tag, of_then, of_else, of_field, Chain, ends_at, one_more, chains_of_access, chains_of_operator, chains, field_chains, greatest}
+use Rattle.cedar_typechecker.specs.Levels.Chains.{Base, an_entity, a_record, neither, base_of, field_at, Leaf, bad_leaf, leaf_of_access}
+use Rattle.cedar_typechecker.specs.Levels.Chains.{leaf_of_field, leaf_of, HasChain, ends, of_entity, of_record, of_tag, of_then, of_else}
+use Rattle.cedar_typechecker.specs.Levels.Chains.{of_field, Chain, ends_at, one_more, chains_of_access, chains_of_operator, chains}
+use Rattle.cedar_typechecker.specs.Levels.Chains.{field_chains, greatest}
 use Rattle.cedar_typechecker.specs.Levels.Laws.{ChainsAreListed, LevelIsGreatest}
 use Rattle.cedar_typechecker.proofs.Levels.Greatest.{IsNotEmpty, has_chain}
 use Rattle.cedar_typechecker.proofs.Levels.Inclusions.{in_either}

@@ -1,5 +1,6 @@
 -- The attributes that lead to the first entity, as they are counted.
-use Rattle.std.proofs.Common.{◌≡◌, ℕ, suc, ◌+◌, ◌-◌, ◌≤◌, Bool, List, [], ◌∷◌, Option, Some, None, option_map, take, refl, sym, ap, ◌∙◌, arith}
+use Rattle.std.proofs.Common.{◌≡◌, ℕ, suc, ◌+◌, ◌-◌, ◌≤◌, Bool, List, [], ◌∷◌, Option, Some, None, option_map, take, refl, sym, ap, ◌∙◌}
+use Rattle.std.proofs.Common.{arith}
 use Rattle.cedar_types.specs.Types.Lookups.{attribute_type}
 use Rattle.cedar_types.specs.Names.{Text}
 use Rattle.cedar_types.specs.Schemas.{Schema}

@@ -1,10 +1,13 @@
 -- A level as the program counts it is the level, up to the greatest number that it counts to.
-use Rattle.std.proofs.Common.{◌≡◌, ℕ, ◌+◌, max, Bool, true, false, List, [], ◌∷◌, ◌++◌, map, Option, if◌then◌else◌, refl, sym, ap, ◌∙◌, arith}
+use Rattle.std.proofs.Common.{◌≡◌, ℕ, ◌+◌, max, Bool, true, false, List, [], ◌∷◌, ◌++◌, map, Option, if◌then◌else◌, refl, sym, ap, ◌∙◌}
+use Rattle.std.proofs.Common.{arith}
 use Rattle.cedar_types.specs.declared.base.expressions.operators.BinaryOp.{BinaryOp}
 use Rattle.cedar_types.specs.Names.{Text, Uid, text_eq}
-use Rattle.cedar_types.specs.Expressions.Tree.{lit, var, slot, unknown, if_then_else, and, or, unary, binary, call, get_attr, has_attr, ext_has_attr, like, is_type, set_of, record_of, Fields, no_fields, field}
+use Rattle.cedar_types.specs.Expressions.Tree.{lit, var, slot, unknown, if_then_else, and, or, unary, binary, call, get_attr, has_attr}
+use Rattle.cedar_types.specs.Expressions.Tree.{ext_has_attr, like, is_type, set_of, record_of, Fields, no_fields, field}
 use Rattle.cedar_typing.specs.TypedExpr.{TypedTree, Mark, annotation}
-use Rattle.cedar_typechecker.specs.Levels.Chains.{Base, an_entity, a_record, neither, base_of, is_get_tag, Chain, one_more, chains_of_access, chains_of_operator, chains, field_chains, greatest}
+use Rattle.cedar_typechecker.specs.Levels.Chains.{Base, an_entity, a_record, neither, base_of, is_get_tag, Chain, one_more}
+use Rattle.cedar_typechecker.specs.Levels.Chains.{chains_of_access, chains_of_operator, chains, field_chains, greatest}
 use Rattle.cedar_typechecker.specs.Levels.InOrder.{capped, raised, by_base, counted_level, counted_at_key, has_key}
 use Rattle.cedar_typechecker.specs.Levels.Shared.{is_constant, BranchesAreShared, FieldsAreShared}
 use Rattle.cedar_typechecker.proofs.Levels.Greatest.{IsNotEmpty, has_chain, greatest_of_both, greatest_more}

@@ -2,20 +2,24 @@
 use Rattle.std.proofs.Common.{◌≤◌, List, [], ◌∷◌}
 use Rattle.cedar_types.specs.Errors.{Finding, internal_invariant_violation, literal_dereference_target}
 use Rattle.cedar_types.specs.Names.{Text, text_eq}
-use Rattle.cedar_types.specs.Expressions.Tree.{lit, var, slot, unknown, if_then_else, and, or, unary, binary, call, get_attr, has_attr, ext_has_attr, like, is_type, set_of, record_of, Trees, no_trees, tree, Fields, no_fields, field}
+use Rattle.cedar_types.specs.Expressions.Tree.{lit, var, slot, unknown, if_then_else, and, or, unary, binary, call, get_attr, has_attr}
+use Rattle.cedar_types.specs.Expressions.Tree.{ext_has_attr, like, is_type, set_of, record_of, Trees, no_trees, tree, Fields, no_fields}
+use Rattle.cedar_types.specs.Expressions.Tree.{field}
 use Rattle.cedar_typing.specs.PolicyCheck.Outcome.{Adds}
 use Rattle.cedar_typing.specs.TypedExpr.{TypedTree, Mark, annotation}
 use Rattle.cedar_typechecker.specs.Levels.Chains.{base_of, is_get_tag, field_at, leaf_of_literal}
 use Rattle.cedar_typechecker.specs.Levels.Costs.{cost_of, keys_of}
 use Rattle.cedar_typechecker.specs.Levels.Dereferences.{accesses_first}
-use Rattle.cedar_typechecker.specs.Levels.InOrder.{has_key, add_errors, add_all_errors, add_field_errors, add_target_errors, add_errors_along}
+use Rattle.cedar_typechecker.specs.Levels.InOrder.{has_key, add_errors, add_all_errors, add_field_errors, add_target_errors}
+use Rattle.cedar_typechecker.specs.Levels.InOrder.{add_errors_along}
 use Rattle.cedar_typechecker.specs.Levels.Laws.{ErrorsAreAdded}
 use Rattle.cedar_typechecker.specs.Levels.Setting.{LevelSetting}
 use Rattle.cedar_typechecker.specs.Levels.Shared.{is_constant, BranchesAreShared, AllAreShared, FieldsAreShared}
 use Rattle.cedar_typechecker.specs.Levels.Walk.{checked_errors, all_errors, field_errors, target_errors, errors_along}
 use Rattle.cedar_typechecker.proofs.Levels.CountedLevels.{level_is}
 use Rattle.cedar_typechecker.proofs.Levels.Walk.{walk_finds_errors}
-use Rattle.cedar_typechecker.proofs.Levels.AddedParts.{key_is, reported_one, reported_end, leaf_adds, if_adds, if_target_adds, base_adds, operator_adds, chain_adds, tag_adds, attribute_adds, record_adds, along_adds}
+use Rattle.cedar_typechecker.proofs.Levels.AddedParts.{key_is, reported_one, reported_end, leaf_adds, if_adds, if_target_adds, base_adds}
+use Rattle.cedar_typechecker.proofs.Levels.AddedParts.{operator_adds, chain_adds, tag_adds, attribute_adds, record_adds, along_adds}
 use Rattle.cedar_typechecker.proofs.Levels.Gains.{adds_none, adds_both}
 
 module _ (s : LevelSetting) (bounded : s.maximum ≤ 4294967295) where

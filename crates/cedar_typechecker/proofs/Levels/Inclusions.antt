@@ -1,18 +1,23 @@
 -- What is checked below a node, and what is a target there, has its errors among those of the node.
-use Rattle.std.proofs.Common.{◌≡◌, ℕ, Bool, true, false, nat_le, List, [], ◌∷◌, ◌++◌, Option, Some, None, if◌then◌else◌, inl, inr, refl, sym, subst}
+use Rattle.std.proofs.Common.{◌≡◌, ℕ, Bool, true, false, nat_le, List, [], ◌∷◌, ◌++◌, Option, Some, None, if◌then◌else◌, inl, inr, refl}
+use Rattle.std.proofs.Common.{sym, subst}
 use Rattle.cedar_types.specs.Errors.{Fault, Finding}
 use Rattle.cedar_types.specs.Names.{Text}
 use Rattle.cedar_types.specs.Expressions.Parts.{listed, field_values}
-use Rattle.cedar_types.specs.Expressions.Tree.{lit, var, slot, unknown, if_then_else, and, or, unary, binary, call, get_attr, has_attr, ext_has_attr, like, is_type, set_of, record_of, Trees, no_trees, tree, Fields, no_fields, field}
+use Rattle.cedar_types.specs.Expressions.Tree.{lit, var, slot, unknown, if_then_else, and, or, unary, binary, call, get_attr, has_attr}
+use Rattle.cedar_types.specs.Expressions.Tree.{ext_has_attr, like, is_type, set_of, record_of, Trees, no_trees, tree, Fields, no_fields}
+use Rattle.cedar_types.specs.Expressions.Tree.{field}
 use Rattle.cedar_typing.specs.Evaluation.Conformance.{IsOneOf}
 use Rattle.cedar_typing.specs.TypedExpr.{TypedTree, Mark, annotation}
 use Rattle.cedar_typing.proofs.Basics.Members.{in_left, in_right}
 use Rattle.cedar_typechecker.specs.Levels.Chains.{Base, an_entity, a_record, neither, base_of}
 use Rattle.cedar_typechecker.specs.Levels.Costs.{cost_of, keys_of}
-use Rattle.cedar_typechecker.specs.Levels.Dereferences.{Target, along, accesses_first, checked_of_chain, targets_of_chain, target_at_keys, checked_of_base, targets_of_base, checked_parts, targets}
+use Rattle.cedar_typechecker.specs.Levels.Dereferences.{Target, along, accesses_first, checked_of_chain, targets_of_chain, target_at_keys}
+use Rattle.cedar_typechecker.specs.Levels.Dereferences.{checked_of_base, targets_of_base, checked_parts, targets}
 use Rattle.cedar_typechecker.specs.Levels.Errors.{faults, finding_at}
 use Rattle.cedar_typechecker.specs.Levels.Setting.{LevelSetting}
-use Rattle.cedar_typechecker.specs.Levels.Walk.{found_at, of_base, of_keys, of_chain, checked_errors, all_errors, field_errors, target_errors}
+use Rattle.cedar_typechecker.specs.Levels.Walk.{found_at, of_base, of_keys, of_chain, checked_errors, all_errors, field_errors}
+use Rattle.cedar_typechecker.specs.Levels.Walk.{target_errors}
 
 abbrev pub Within : List Finding → List Finding → Type 0
 Within xs ys = (e : Finding) → IsOneOf e xs → IsOneOf e ys

@@ -3,13 +3,15 @@ use Rattle.std.proofs.Common.{◌≡◌, Bool, true, false, List, [], ◌∷◌,
 use Rattle.cedar_types.specs.Errors.{Finding}
 use Rattle.cedar_types.specs.Names.{Text, text_eq}
 use Rattle.cedar_types.specs.Expressions.Parts.{field_values}
-use Rattle.cedar_types.specs.Expressions.Tree.{lit, var, slot, unknown, if_then_else, and, or, unary, binary, call, get_attr, has_attr, ext_has_attr, like, is_type, set_of, record_of, Fields, no_fields, field}
+use Rattle.cedar_types.specs.Expressions.Tree.{lit, var, slot, unknown, if_then_else, and, or, unary, binary, call, get_attr, has_attr}
+use Rattle.cedar_types.specs.Expressions.Tree.{ext_has_attr, like, is_type, set_of, record_of, Fields, no_fields, field}
 use Rattle.cedar_typing.specs.Evaluation.Conformance.{IsOneOf}
 use Rattle.cedar_typing.specs.TypedExpr.{TypedTree, Mark, annotation}
 use Rattle.cedar_typing.proofs.Basics.{some_is}
 use Rattle.cedar_typing.proofs.Basics.Members.{in_left, in_right}
 use Rattle.cedar_typechecker.specs.Levels.Chains.{Base, an_entity, a_record, neither, base_of, is_get_tag, field_at}
-use Rattle.cedar_typechecker.specs.Levels.Dereferences.{Target, along, fields_beside, checked_beside, target_of_field, next_of_access, checked_below, next_targets}
+use Rattle.cedar_typechecker.specs.Levels.Dereferences.{Target, along, fields_beside, checked_beside, target_of_field, next_of_access}
+use Rattle.cedar_typechecker.specs.Levels.Dereferences.{checked_below, next_targets}
 use Rattle.cedar_typechecker.specs.Levels.Setting.{LevelSetting}
 use Rattle.cedar_typechecker.specs.Levels.Walk.{of_base, of_value, leaf_errors, checked_errors, field_errors, target_errors, errors_along}
 use Rattle.cedar_typechecker.proofs.Levels.Inclusions.{Within, left, right, same, there, field_parts}

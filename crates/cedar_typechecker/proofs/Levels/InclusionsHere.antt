@@ -2,7 +2,8 @@
 use Rattle.std.proofs.Common.{List}
 use Rattle.cedar_types.specs.Errors.{Fault, Finding}
 use Rattle.cedar_types.specs.Names.{Text}
-use Rattle.cedar_types.specs.Expressions.Tree.{lit, var, slot, unknown, if_then_else, and, or, unary, binary, call, get_attr, has_attr, ext_has_attr, like, is_type, set_of, record_of}
+use Rattle.cedar_types.specs.Expressions.Tree.{lit, var, slot, unknown, if_then_else, and, or, unary, binary, call, get_attr, has_attr}
+use Rattle.cedar_types.specs.Expressions.Tree.{ext_has_attr, like, is_type, set_of, record_of}
 use Rattle.cedar_typing.specs.Evaluation.Conformance.{IsOneOf}
 use Rattle.cedar_typing.specs.TypedExpr.{TypedTree, mark_of}
 use Rattle.cedar_typing.proofs.Basics.Members.{in_left, in_mapped}

@@ -1,7 +1,9 @@
 -- What has no level error at a maximum has none at any larger one.
 use Rattle.std.proofs.Common.{ℕ, zero, suc, ◌≤◌, Bool, true, false, List, [], ◌∷◌, Option, Some, None, arith}
 use Rattle.cedar_types.specs.Names.{Text, text_eq}
-use Rattle.cedar_types.specs.Expressions.Tree.{lit, var, slot, unknown, if_then_else, and, or, unary, binary, call, get_attr, has_attr, ext_has_attr, like, is_type, set_of, record_of, Trees, no_trees, tree, Fields, no_fields, field}
+use Rattle.cedar_types.specs.Expressions.Tree.{lit, var, slot, unknown, if_then_else, and, or, unary, binary, call, get_attr, has_attr}
+use Rattle.cedar_types.specs.Expressions.Tree.{ext_has_attr, like, is_type, set_of, record_of, Trees, no_trees, tree, Fields, no_fields}
+use Rattle.cedar_types.specs.Expressions.Tree.{field}
 use Rattle.cedar_typing.specs.TypedExpr.{TypedTree, Mark, annotation}
 use Rattle.cedar_typechecker.specs.Levels.Chains.{Base, an_entity, a_record, neither, base_of, is_get_tag}
 use Rattle.cedar_typechecker.specs.Levels.Costs.{cost_of, keys_of}
@@ -9,7 +11,8 @@ use Rattle.cedar_typechecker.specs.Levels.Dereferences.{accesses_first}
 use Rattle.cedar_typechecker.specs.Levels.Errors.{IsWithinLevel}
 use Rattle.cedar_typechecker.specs.Levels.Laws.{LargerLevelsAreWithin}
 use Rattle.cedar_typechecker.specs.Levels.Setting.{LevelSetting}
-use Rattle.cedar_typechecker.proofs.Levels.Silent.{Spends, IfSo, ByBase, OnKeys, Leaves, OnKeysOf, ByChain, Silent, AllSilent, FieldsSilent, Targeted, FieldTargeted}
+use Rattle.cedar_typechecker.proofs.Levels.Silent.{Spends, IfSo, ByBase, OnKeys, Leaves, OnKeysOf, ByChain, Silent, AllSilent, FieldsSilent}
+use Rattle.cedar_typechecker.proofs.Levels.Silent.{Targeted, FieldTargeted}
 use Rattle.cedar_typechecker.proofs.Levels.SilentFromWalk.{silent_if_none}
 use Rattle.cedar_typechecker.proofs.Levels.WalkFromSilent.{none_if_silent}
 use Rattle.cedar_typechecker.proofs.Levels.Walk.{silent_walk_is_within}

@@ -1,5 +1,6 @@
 -- What the walk for required levels raises along a path: of an extended `has`, and of a target.
-use Rattle.std.proofs.Common.{◌≡◌, ℕ, ◌+◌, ◌≤◌, ◌<◌, Bool, true, false, nat_le, List, [], ◌∷◌, ◌++◌, Option, Some, None, is_some, if◌then◌else◌, refl}
+use Rattle.std.proofs.Common.{◌≡◌, ℕ, ◌+◌, ◌≤◌, ◌<◌, Bool, true, false, nat_le, List, [], ◌∷◌, ◌++◌, Option, Some, None, is_some}
+use Rattle.std.proofs.Common.{if◌then◌else◌, refl}
 use Rattle.std.proofs.lemmas.Bool.{leb-true, leb-false}
 use Rattle.cedar_types.specs.Errors.{internal_invariant_violation}
 use Rattle.cedar_types.specs.Names.{Text}
@@ -9,11 +10,15 @@ use Rattle.cedar_typechecker.specs.Levels.Chains.{Base, an_entity, a_record, nei
 use Rattle.cedar_typechecker.specs.Levels.Errors.{exceeds, unless_within, level_at_keys, faults_of_chain, faults_at_end}
 use Rattle.cedar_typechecker.specs.Levels.InOrder.{raised, by_base, on_keys, counted_level}
 use Rattle.cedar_typechecker.specs.Levels.Required.{Reaches}
-use Rattle.cedar_typechecker.specs.Levels.Requirements.{raise, after_chain, required_after, required_after_fields, required_after_target, required_along}
+use Rattle.cedar_typechecker.specs.Levels.Requirements.{raise, after_chain, required_after, required_after_fields, required_after_target}
+use Rattle.cedar_typechecker.specs.Levels.Requirements.{required_along}
 use Rattle.cedar_typechecker.specs.Levels.Setting.{LevelSetting}
-use Rattle.cedar_typechecker.specs.Levels.Walk.{found_at, of_base, of_keys, of_value, of_chain, checked_errors, field_errors, target_errors, errors_along}
+use Rattle.cedar_typechecker.specs.Levels.Walk.{found_at, of_base, of_keys, of_value, of_chain, checked_errors, field_errors, target_errors}
+use Rattle.cedar_typechecker.specs.Levels.Walk.{errors_along}
 use Rattle.cedar_typechecker.proofs.Levels.Capped.{same_sum}
-use Rattle.cedar_typechecker.proofs.Levels.RequiredParts.{not_nil, cost_above, not_both, raise_reached, around, Covers, covers_both, covers_before, covers_end, end_covers, within_covers, cost_covers, Checks, Targets, Counts}
+use Rattle.cedar_typechecker.proofs.Levels.RequiredParts.{not_nil, cost_above, not_both, raise_reached, around, Covers, covers_both}
+use Rattle.cedar_typechecker.proofs.Levels.RequiredParts.{covers_before, covers_end, end_covers, within_covers, cost_covers, Checks}
+use Rattle.cedar_typechecker.proofs.Levels.RequiredParts.{Targets, Counts}
 
 module _ (s : LevelSetting) (bounded : s.maximum ≤ 4294967295) where
   abbrev n : ℕ

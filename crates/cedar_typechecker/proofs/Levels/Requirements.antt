@@ -2,19 +2,23 @@
 use Rattle.std.proofs.Common.{◌≤◌, List, [], ◌∷◌, Option, ℕ}
 use Rattle.cedar_types.specs.Errors.{internal_invariant_violation, literal_dereference_target}
 use Rattle.cedar_types.specs.Names.{Text, text_eq}
-use Rattle.cedar_types.specs.Expressions.Tree.{lit, var, slot, unknown, if_then_else, and, or, unary, binary, call, get_attr, has_attr, ext_has_attr, like, is_type, set_of, record_of, Trees, no_trees, tree, Fields, no_fields, field}
+use Rattle.cedar_types.specs.Expressions.Tree.{lit, var, slot, unknown, if_then_else, and, or, unary, binary, call, get_attr, has_attr}
+use Rattle.cedar_types.specs.Expressions.Tree.{ext_has_attr, like, is_type, set_of, record_of, Trees, no_trees, tree, Fields, no_fields}
+use Rattle.cedar_types.specs.Expressions.Tree.{field}
 use Rattle.cedar_typing.specs.TypedExpr.{TypedTree, Mark, annotation}
 use Rattle.cedar_typechecker.specs.Levels.Chains.{base_of, is_get_tag, field_at, leaf_of_literal}
 use Rattle.cedar_typechecker.specs.Levels.Costs.{cost_of, keys_of}
 use Rattle.cedar_typechecker.specs.Levels.Dereferences.{accesses_first}
 use Rattle.cedar_typechecker.specs.Levels.InOrder.{has_key}
-use Rattle.cedar_typechecker.specs.Levels.Requirements.{required_after, required_after_all, required_after_fields, required_after_target, required_along}
+use Rattle.cedar_typechecker.specs.Levels.Requirements.{required_after, required_after_all, required_after_fields, required_after_target}
+use Rattle.cedar_typechecker.specs.Levels.Requirements.{required_along}
 use Rattle.cedar_typechecker.specs.Levels.Setting.{LevelSetting}
 use Rattle.cedar_typechecker.specs.Levels.Shared.{is_constant, BranchesAreShared, AllAreShared, FieldsAreShared}
 use Rattle.cedar_typechecker.specs.Levels.Walk.{checked_errors, all_errors, field_errors, target_errors, errors_along}
 use Rattle.cedar_typechecker.proofs.Levels.AddedParts.{key_is}
 use Rattle.cedar_typechecker.proofs.Levels.CountedLevels.{level_is}
-use Rattle.cedar_typechecker.proofs.Levels.RequiredParts.{around, Covers, covers_none, covers_both, found_covers, end_covers, leaf_covers, if_covers, if_target_covers, base_covers, operator_covers}
+use Rattle.cedar_typechecker.proofs.Levels.RequiredParts.{around, Covers, covers_none, covers_both, found_covers, end_covers, leaf_covers}
+use Rattle.cedar_typechecker.proofs.Levels.RequiredParts.{if_covers, if_target_covers, base_covers, operator_covers}
 use Rattle.cedar_typechecker.proofs.Levels.RequiredPaths.{chain_covers, tag_covers, attribute_covers, record_covers, along_covers}
 
 module _ (s : LevelSetting) (bounded : s.maximum ≤ 4294967295) where

@@ -1,7 +1,9 @@
 -- Where the dereference rules find nothing, by recursion on the typed expression.
 use Rattle.std.proofs.Common.{ℕ, zero, suc, Bool, true, false, List, [], ◌∷◌, Option, Some, None}
 use Rattle.cedar_types.specs.Names.{Text, Uid, text_eq, uid_eq}
-use Rattle.cedar_types.specs.Expressions.Tree.{Lit, entity, lit, var, slot, unknown, if_then_else, and, or, unary, binary, call, get_attr, has_attr, ext_has_attr, like, is_type, set_of, record_of, Trees, no_trees, tree, Fields, no_fields, field}
+use Rattle.cedar_types.specs.Expressions.Tree.{Lit, entity, lit, var, slot, unknown, if_then_else, and, or, unary, binary, call, get_attr}
+use Rattle.cedar_types.specs.Expressions.Tree.{has_attr, ext_has_attr, like, is_type, set_of, record_of, Trees, no_trees, tree, Fields}
+use Rattle.cedar_types.specs.Expressions.Tree.{no_fields, field}
 use Rattle.cedar_typing.specs.TypedExpr.{TypedTree, Mark, annotation}
 use Rattle.std.specs.Prelude.{◌≡◌, ◌+◌, ◌≤◌}
 use Rattle.cedar_typechecker.specs.Levels.Chains.{Base, an_entity, a_record, neither, base_of, is_get_tag}

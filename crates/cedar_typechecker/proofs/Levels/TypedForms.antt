@@ -8,7 +8,8 @@ use Rattle.cedar_types.specs.Names.{Text}
 use Rattle.cedar_types.specs.Expressions.View.{Written, trees_of}
 use Rattle.cedar_typing.specs.Capabilities.{Caps}
 use Rattle.cedar_typing.specs.Eager.{Expectation, Decision, gives, refuses, Form, types_found, first_tree, second_tree}
-use Rattle.cedar_typing.specs.Infer.Eager.{Operands, all_typed, cut_after, OperandsAndErrors, expect_operand, with_operand, infer_rest, infer_one_more, infer_decided, infer_form}
+use Rattle.cedar_typing.specs.Infer.Eager.{Operands, all_typed, cut_after, OperandsAndErrors, expect_operand, with_operand, infer_rest}
+use Rattle.cedar_typing.specs.Infer.Eager.{infer_one_more, infer_decided, infer_form}
 use Rattle.cedar_typing.specs.Infer.Parts.{Part, AnswerAndErrors}
 use Rattle.cedar_typing.specs.Rules.Binary.{binary_form}
 use Rattle.cedar_typing.specs.Rules.Records.{fields_from}

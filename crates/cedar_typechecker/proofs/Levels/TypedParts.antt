@@ -1,16 +1,20 @@
 -- What is made of parts in which constant tests have one branch twice has it too.
-use Rattle.std.proofs.Common.{◌≡◌, Bool, true, false, ◌&&◌, List, [], ◌∷◌, ◌++◌, Option, Some, None, is_some, if◌then◌else◌, true≢false, refl, sym, ◌∙◌}
+use Rattle.std.proofs.Common.{◌≡◌, Bool, true, false, ◌&&◌, List, [], ◌∷◌, ◌++◌, Option, Some, None, is_some, if◌then◌else◌, true≢false}
+use Rattle.std.proofs.Common.{refl, sym, ◌∙◌}
 use Rattle.cedar_types.specs.declared.base.location.Loc.{Loc}
 use Rattle.cedar_types.specs.declared.base.types.BoolType.TheVariants.{AnyBool, True, False}
 use Rattle.cedar_types.specs.Errors.{Finding, unexpected_type}
-use Rattle.cedar_types.specs.Expressions.Tree.{lit, var, slot, unknown, if_then_else, and, or, unary, binary, call, get_attr, has_attr, ext_has_attr, like, is_type, set_of, record_of}
+use Rattle.cedar_types.specs.Expressions.Tree.{lit, var, slot, unknown, if_then_else, and, or, unary, binary, call, get_attr, has_attr}
+use Rattle.cedar_types.specs.Expressions.Tree.{ext_has_attr, like, is_type, set_of, record_of}
 use Rattle.cedar_types.specs.Types.Order.{in_order}
 use Rattle.cedar_types.specs.Types.{Ty, TBool}
 use Rattle.cedar_types.specs.Expressions.View.{Written}
 use Rattle.cedar_typing.specs.Capabilities.{Caps, union, intersection}
-use Rattle.cedar_typing.specs.Infer.Conditional.{infer_constant_test, infer_open_test, infer_open_parts, infer_open_branches, infer_branches}
+use Rattle.cedar_typing.specs.Infer.Conditional.{infer_constant_test, infer_open_test, infer_open_parts, infer_open_branches}
+use Rattle.cedar_typing.specs.Infer.Conditional.{infer_branches}
 use Rattle.cedar_typing.specs.Infer.Leaves.{infer_leaf}
-use Rattle.cedar_typing.specs.Infer.Parts.{Answer, success, failure, limit, Part, AnswerAndErrors, PartAndErrors, answer_if, part_from, as_failed_untyped, expect_type, expect_part, expect, any_part, after_part, after}
+use Rattle.cedar_typing.specs.Infer.Parts.{Answer, success, failure, limit, Part, AnswerAndErrors, PartAndErrors, answer_if, part_from}
+use Rattle.cedar_typing.specs.Infer.Parts.{as_failed_untyped, expect_type, expect_part, expect, any_part, after_part, after}
 use Rattle.cedar_typing.specs.Infer.ShortCircuit.{infer_sides, infer_right}
 use Rattle.cedar_typing.specs.TypeTests.Joins.{joined}
 use Rattle.cedar_typing.specs.Rules.ShortCircuit.{Connective}

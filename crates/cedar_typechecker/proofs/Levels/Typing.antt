@@ -1,7 +1,9 @@
 -- What typing makes of an `if` whose test has the type True or False has one branch twice.
 use Rattle.std.proofs.Common.{ℕ, ◌+◌, Bool, true, false, nat_lt, List, [], Option, Some, None, if◌then◌else◌}
 use Rattle.cedar_types.specs.Errors.{Finding}
-use Rattle.cedar_types.specs.Expressions.Tree.{lit, var, slot, unknown, if_then_else, and, or, unary, binary, call, get_attr, has_attr, ext_has_attr, like, is_type, set_of, record_of, Trees, no_trees, tree, Fields, no_fields, field}
+use Rattle.cedar_types.specs.Expressions.Tree.{lit, var, slot, unknown, if_then_else, and, or, unary, binary, call, get_attr, has_attr}
+use Rattle.cedar_types.specs.Expressions.Tree.{ext_has_attr, like, is_type, set_of, record_of, Trees, no_trees, tree, Fields, no_fields}
+use Rattle.cedar_types.specs.Expressions.Tree.{field}
 use Rattle.cedar_types.specs.Expressions.View.{Written}
 use Rattle.cedar_typing.specs.Capabilities.{Caps, no_caps}
 use Rattle.cedar_typing.specs.Eager.{Expectation, first_expectation, later_expectations, Form}
@@ -11,7 +13,8 @@ use Rattle.cedar_typing.specs.Infer.Eager.{infer_none, infer_one_more, infer_one
 use Rattle.cedar_typing.specs.Infer.Parts.{Part, AnswerAndErrors, expect, after}
 use Rattle.cedar_typing.specs.Infer.ShortCircuit.{infer_right}
 use Rattle.cedar_typing.specs.Judgments.{max_nesting}
-use Rattle.cedar_typing.specs.PolicyCheck.{Verdict, irrelevant, SameVerdict, same_success, same_irrelevant, same_failure, verdict_if, part_verdict, policy_check}
+use Rattle.cedar_typing.specs.PolicyCheck.{Verdict, irrelevant, SameVerdict, same_success, same_irrelevant, same_failure, verdict_if}
+use Rattle.cedar_typing.specs.PolicyCheck.{part_verdict, policy_check}
 use Rattle.cedar_typing.specs.Rules.Attributes.{has_form, get_form}
 use Rattle.cedar_typing.specs.Rules.Binary.{binary_form}
 use Rattle.cedar_typing.specs.Rules.Calls.{arguments, call_form}
@@ -28,8 +31,10 @@ use Rattle.cedar_typing.proofs.Policies.Check.{checked}
 use Rattle.cedar_typing.proofs.Policies.Verdicts.{verdict_at_most}
 use Rattle.cedar_typechecker.specs.Levels.Laws.{VerdictIsShared, TypedBranchesAreShared}
 use Rattle.cedar_typechecker.specs.Levels.Shared.{BranchesAreShared}
-use Rattle.cedar_typechecker.proofs.Levels.TypedForms.{OperandsShared, first_shared, trees_shared, values_shared, KeepsShared, form_shared, one_more_shared, unary_keeps, binary_keeps}
-use Rattle.cedar_typechecker.proofs.Levels.TypedParts.{AnswerShared, PartShared, expected, gone_on, deep, branches_shared, right_shared, leaf_shared}
+use Rattle.cedar_typechecker.proofs.Levels.TypedForms.{OperandsShared, first_shared, trees_shared, values_shared, KeepsShared, form_shared}
+use Rattle.cedar_typechecker.proofs.Levels.TypedForms.{one_more_shared, unary_keeps, binary_keeps}
+use Rattle.cedar_typechecker.proofs.Levels.TypedParts.{AnswerShared, PartShared, expected, gone_on, deep, branches_shared, right_shared}
+use Rattle.cedar_typechecker.proofs.Levels.TypedParts.{leaf_shared}
 
 -- ---- every expression
 

@@ -1,19 +1,27 @@
 -- Where nothing is found by recursion, the walk finds nothing, and levels are bounded.
-use Rattle.std.proofs.Common.{◌≡◌, ℕ, zero, suc, ◌+◌, ◌≤◌, Bool, true, false, nat_lt, nat_le, List, [], ◌∷◌, ◌++◌, Option, Some, None, if◌then◌else◌, refl, ap, arith}
+use Rattle.std.proofs.Common.{◌≡◌, ℕ, zero, suc, ◌+◌, ◌≤◌, Bool, true, false, nat_lt, nat_le, List, [], ◌∷◌, ◌++◌, Option, Some, None}
+use Rattle.std.proofs.Common.{if◌then◌else◌, refl, ap, arith}
 use Rattle.std.proofs.lemmas.Bool.{le-leb, lt-ltb}
 use Rattle.cedar_types.specs.declared.base.expressions.operators.BinaryOp.{BinaryOp}
 use Rattle.cedar_types.specs.Errors.{Fault, Finding}
 use Rattle.cedar_types.specs.Names.{Text, Uid, text_eq}
-use Rattle.cedar_types.specs.Expressions.Tree.{Lit, bool, long, string, entity, lit, var, slot, unknown, if_then_else, and, or, unary, binary, call, get_attr, has_attr, ext_has_attr, like, is_type, set_of, record_of, Trees, no_trees, tree, Fields, no_fields, field}
+use Rattle.cedar_types.specs.Expressions.Tree.{Lit, bool, long, string, entity, lit, var, slot, unknown, if_then_else, and, or, unary}
+use Rattle.cedar_types.specs.Expressions.Tree.{binary, call, get_attr, has_attr, ext_has_attr, like, is_type, set_of, record_of, Trees}
+use Rattle.cedar_types.specs.Expressions.Tree.{no_trees, tree, Fields, no_fields, field}
 use Rattle.cedar_typing.specs.TypedExpr.{TypedTree, Mark, annotation}
-use Rattle.cedar_typechecker.specs.Levels.Chains.{Base, an_entity, a_record, neither, base_of, is_get_tag, field_at, good_leaf, literal_leaf, bad_leaf, leaf_of_literal, leaf_of_access, leaf_of_field, chains_of_access, chains_of_operator, chains, field_chains, greatest, level}
+use Rattle.cedar_typechecker.specs.Levels.Chains.{Base, an_entity, a_record, neither, base_of, is_get_tag, field_at, good_leaf}
+use Rattle.cedar_typechecker.specs.Levels.Chains.{literal_leaf, bad_leaf, leaf_of_literal, leaf_of_access, leaf_of_field, chains_of_access}
+use Rattle.cedar_typechecker.specs.Levels.Chains.{chains_of_operator, chains, field_chains, greatest, level}
 use Rattle.cedar_typechecker.specs.Levels.Costs.{cost_of, keys_of}
 use Rattle.cedar_typechecker.specs.Levels.Dereferences.{accesses_first}
-use Rattle.cedar_typechecker.specs.Levels.Errors.{unless_below, unless_within, exceeds, faults_of_base, level_at_keys, faults_of_chain, faults_at_leaf, faults_at_end}
+use Rattle.cedar_typechecker.specs.Levels.Errors.{unless_below, unless_within, exceeds, faults_of_base, level_at_keys, faults_of_chain}
+use Rattle.cedar_typechecker.specs.Levels.Errors.{faults_at_leaf, faults_at_end}
 use Rattle.cedar_typechecker.specs.Levels.Setting.{LevelSetting}
-use Rattle.cedar_typechecker.specs.Levels.Walk.{found_at, of_base, of_keys, of_value, of_chain, checked_errors, all_errors, field_errors, target_errors, errors_along}
+use Rattle.cedar_typechecker.specs.Levels.Walk.{found_at, of_base, of_keys, of_value, of_chain, checked_errors, all_errors, field_errors}
+use Rattle.cedar_typechecker.specs.Levels.Walk.{target_errors, errors_along}
 use Rattle.cedar_typechecker.proofs.Levels.Greatest.{has_chain, greatest_of_both, greatest_more}
-use Rattle.cedar_typechecker.proofs.Levels.Silent.{Spends, IfSo, ByBase, IsOwnAction, Leaves, OnKeysOf, ByChain, Silent, AllSilent, FieldsSilent, Targeted, FieldTargeted}
+use Rattle.cedar_typechecker.proofs.Levels.Silent.{Spends, IfSo, ByBase, IsOwnAction, Leaves, OnKeysOf, ByChain, Silent, AllSilent}
+use Rattle.cedar_typechecker.proofs.Levels.Silent.{FieldsSilent, Targeted, FieldTargeted}
 
 nil_both : {A : Type 0} (xs ys : List A) → xs ≡ [] → ys ≡ [] → xs ++ ys ≡ []
 nil_both [] ys h k = k

@@ -10,7 +10,8 @@ use Rattle.cedar_types.specs.Expressions.View.{Written}
 use Rattle.cedar_typing.specs.Capabilities.{Caps}
 use Rattle.cedar_typing.specs.Eager.{Form}
 use Rattle.cedar_typing.specs.Evaluation.Equality.{all_values, any_value}
-use Rattle.cedar_typing.specs.Evaluation.Eval.{has_ancestor, is_in_entity, is_some_entity, entity_in, entity_has_tag, entity_tag, binary_outcome}
+use Rattle.cedar_typing.specs.Evaluation.Eval.{has_ancestor, is_in_entity, is_some_entity, entity_in, entity_has_tag, entity_tag}
+use Rattle.cedar_typing.specs.Evaluation.Eval.{binary_outcome}
 use Rattle.cedar_typing.specs.Evaluation.Outcomes.{Says, of_test, on_value}
 use Rattle.cedar_typing.specs.Evaluation.World.{Request, Interpretation, Outcome, Gives, Fails, TypeFailure}
 use Rattle.cedar_typing.specs.Judgments.{Judgment}

@@ -20,7 +20,8 @@ use Rattle.cedar_typechecker.specs.Levels.Chains.{Base, an_entity, a_record, nei
 use Rattle.cedar_typechecker.specs.Levels.Costs.{entity_cost, on_attribute, steps_cost, keys_on, keys_to_entity}
 use Rattle.cedar_typechecker.proofs.Levels.Silent.{OnKeysOf}
 use Rattle.cedar_typechecker.proofs.Slices.ChainSteps.{GoesOn, step_object}
-use Rattle.cedar_typechecker.proofs.Slices.ChainValues.{AreKept, ObjectOf, of_entity, of_record, object_of, IsTestedAlike, by_step, cost_from, declared_cost, reached_path}
+use Rattle.cedar_typechecker.proofs.Slices.ChainValues.{AreKept, ObjectOf, of_entity, of_record, object_of, IsTestedAlike, by_step}
+use Rattle.cedar_typechecker.proofs.Slices.ChainValues.{cost_from, declared_cost, reached_path}
 use Rattle.cedar_typechecker.proofs.Slices.Ids.{Selected, SelectedIn}
 use Rattle.cedar_typechecker.proofs.Slices.Stores.{Agrees}
 

@@ -25,7 +25,8 @@ use Rattle.cedar_typechecker.specs.Slices.Soundness.{levels_in}
 use Rattle.cedar_typechecker.proofs.Levels.Silent.{OnKeysOf, Leaves, ByChain, Silent, Targeted}
 use Rattle.cedar_typechecker.proofs.Slices.ChainRecords.{entity_not_record, IsReachedAlong, IsKnown, record_path}
 use Rattle.cedar_typechecker.proofs.Slices.ChainSteps.{step_object}
-use Rattle.cedar_typechecker.proofs.Slices.ChainValues.{AreKept, ObjectOf, of_entity, of_record, both_on, object_of, IsTestedAlike, reached_path}
+use Rattle.cedar_typechecker.proofs.Slices.ChainValues.{AreKept, ObjectOf, of_entity, of_record, both_on, object_of, IsTestedAlike}
+use Rattle.cedar_typechecker.proofs.Slices.ChainValues.{reached_path}
 use Rattle.cedar_typechecker.proofs.Slices.Ids.{Selected}
 use Rattle.cedar_typechecker.proofs.Slices.Same.{IsReached, IsSame}
 use Rattle.cedar_typechecker.proofs.Slices.Stores.{Agrees}

@@ -7,11 +7,13 @@ use Rattle.cedar_types.specs.Values.{Value, entry_at}
 use Rattle.cedar_types.specs.Expressions.View.{Written, trees_of}
 use Rattle.cedar_typing.specs.Capabilities.{Caps}
 use Rattle.cedar_typing.specs.Eager.{Expectation}
-use Rattle.cedar_typing.specs.Evaluation.Outcomes.{Outcomes, more_outcomes, EntryOutcomes, GiveEntries, FailEntry, more_entry_outcomes, record_outcome}
+use Rattle.cedar_typing.specs.Evaluation.Outcomes.{Outcomes, more_outcomes, EntryOutcomes, GiveEntries, FailEntry, more_entry_outcomes}
+use Rattle.cedar_typing.specs.Evaluation.Outcomes.{record_outcome}
 use Rattle.cedar_typing.specs.Evaluation.World.{Outcome, Gives, Fails}
 use Rattle.cedar_typing.specs.Judgments.{Judgment}
 use Rattle.cedar_typing.specs.Rules.Records.{record_form, fields_from}
-use Rattle.cedar_typing.specs.Rules.Eager.{Judgments, NoneDerived, none_derived, also_derived, no_operands, one_more, eager_typed, eager_rules}
+use Rattle.cedar_typing.specs.Rules.Eager.{Judgments, NoneDerived, none_derived, also_derived, no_operands, one_more, eager_typed}
+use Rattle.cedar_typing.specs.Rules.Eager.{eager_rules}
 use Rattle.cedar_typing.specs.Soundness.{OnValue}
 use Rattle.cedar_typing.specs.TypeEnv.{TypeEnv}
 use Rattle.cedar_typing.specs.TypedExpr.{TypedTree}

@@ -21,7 +21,8 @@ use Rattle.cedar_typing.proofs.Soundness.Capabilities.{hold_either}
 use Rattle.cedar_typing.proofs.TypeTests.{false_type, true_type}
 use Rattle.cedar_typechecker.specs.Levels.Setting.{LevelSetting}
 use Rattle.cedar_typechecker.proofs.Levels.Silent.{Silent, Targeted}
-use Rattle.cedar_typechecker.proofs.Slices.Same.{IsTold, IsToldLeft, IsReached, IsSame, fails_reached, test_ids, chosen_true, chosen_false, chosen_open, and_left_false, or_left_true, and_sides}
+use Rattle.cedar_typechecker.proofs.Slices.Same.{IsTold, IsToldLeft, IsReached, IsSame, fails_reached, test_ids, chosen_true, chosen_false}
+use Rattle.cedar_typechecker.proofs.Slices.Same.{chosen_open, and_left_false, or_left_true, and_sides}
 
 module _ (s : LevelSetting) (P : ℕ → Uid → Type 0) where
   -- ---- where a node stands does not matter

@@ -10,7 +10,8 @@ use Rattle.cedar_types.specs.Environments.{DeclaredEnv}
 use Rattle.cedar_types.specs.Names.{Uid}
 use Rattle.cedar_types.specs.Environments.RequestEnvs.{Declared}
 use Rattle.cedar_types.specs.Values.Stores.{Store}
-use Rattle.cedar_types.specs.Templates.{to_entity, to_slot, Scope, any, equal, within, typed, typed_within, PlainTemplate, typed_at, scope_at, action_scope_at, scope_condition, with_rest, condition_of}
+use Rattle.cedar_types.specs.Templates.{to_entity, to_slot, Scope, any, equal, within, typed, typed_within, PlainTemplate, typed_at}
+use Rattle.cedar_types.specs.Templates.{scope_at, action_scope_at, scope_condition, with_rest, condition_of}
 use Rattle.cedar_types.specs.Expressions.Tree.{var, slot, and, binary}
 use Rattle.cedar_types.specs.Types.{Ty, TBool}
 use Rattle.cedar_types.specs.Expressions.View.{Written}
@@ -29,7 +30,8 @@ use Rattle.cedar_typing.specs.TypedExpr.{Source, TypedTree, place_of}
 use Rattle.cedar_typing.proofs.Agreement.Induction.{agrees}
 use Rattle.cedar_typing.proofs.Composition.Links.{no_action}
 use Rattle.cedar_typing.proofs.Composition.NeverTrue.{true_most}
-use Rattle.cedar_typing.proofs.Composition.OwnBinding.{own_slots, own_world, IsAtMost, itself, is_false, unlinked, and_most, equal_most, within_most, unmentioned}
+use Rattle.cedar_typing.proofs.Composition.OwnBinding.{own_slots, own_world, IsAtMost, itself, is_false, unlinked, and_most, equal_most}
+use Rattle.cedar_typing.proofs.Composition.OwnBinding.{within_most, unmentioned}
 use Rattle.cedar_typing.proofs.Composition.SlotFree.{links_do_not_matter}
 use Rattle.cedar_typing.proofs.Composition.Slots.{eval_alike}
 use Rattle.cedar_typing.proofs.Soundness.Capabilities.{hold_none}

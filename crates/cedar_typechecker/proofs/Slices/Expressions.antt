@@ -31,7 +31,9 @@ use Rattle.cedar_typing.proofs.Soundness.Induction.{kept_joins, sounds}
 use Rattle.cedar_typing.proofs.Values.Attributes.{get_typed, has_not}
 use Rattle.cedar_typechecker.specs.Levels.Chains.{level}
 use Rattle.cedar_typechecker.specs.Slices.Reach.{HoldsSlice}
-use Rattle.cedar_typechecker.specs.Slices.Soundness.{with_store, levels_in, IsSlicedIn, IsReachedIn, EvaluatesAlike, TargetsReach, SliceSoundness, TargetsAreReached, SliceSoundnessInPermissive, TargetsAreReachedInPermissive}
+use Rattle.cedar_typechecker.specs.Slices.Soundness.{with_store, levels_in, IsSlicedIn, IsReachedIn, EvaluatesAlike, TargetsReach}
+use Rattle.cedar_typechecker.specs.Slices.Soundness.{SliceSoundness, TargetsAreReached, SliceSoundnessInPermissive}
+use Rattle.cedar_typechecker.specs.Slices.Soundness.{TargetsAreReachedInPermissive}
 use Rattle.cedar_typechecker.proofs.Levels.Monotone.{silent_of}
 use Rattle.cedar_typechecker.proofs.Slices.Chains.{IsKeptType, chain_same}
 use Rattle.cedar_typechecker.proofs.Slices.ChainValues.{AreKept}

@@ -3,11 +3,16 @@ use Rattle.std.proofs.Common.{ℕ, suc, ◌+◌, ◌≤◌, Bool, true, false, a
 use Rattle.std.proofs.Math.Nat.{le-max_left, le-max_right}
 use Rattle.std.specs.Prelude.{max}
 use Rattle.cedar_types.specs.Templates.{condition_of}
-use Rattle.cedar_types.specs.Expressions.Tree.{lit, var, slot, unknown, if_then_else, and, or, unary, binary, call, get_attr, has_attr, ext_has_attr, like, is_type, set_of, record_of, Trees, no_trees, tree, Fields, no_fields, field}
+use Rattle.cedar_types.specs.Expressions.Tree.{lit, var, slot, unknown, if_then_else, and, or, unary, binary, call, get_attr, has_attr}
+use Rattle.cedar_types.specs.Expressions.Tree.{ext_has_attr, like, is_type, set_of, record_of, Trees, no_trees, tree, Fields, no_fields}
+use Rattle.cedar_types.specs.Expressions.Tree.{field}
 use Rattle.cedar_types.specs.Expressions.View.{Written}
 use Rattle.cedar_typing.specs.Capabilities.{Caps, no_caps}
 use Rattle.cedar_typing.specs.Soundness.Policies.{setting_on}
-use Rattle.cedar_typing.specs.Rules.Laws.{IsVisited, itself, left_of_and, right_of_and, left_of_or, right_of_or, test_of_if, then_of_if, else_of_if, operand_of_unary, left_of_binary, right_of_binary, base_of_has, base_of_get, base_of_chain, operand_of_like, operand_of_is, argument_of_call, element_of_set, value_of_record, SomeIsVisited, in_first, in_later, SomeFieldIsVisited, in_first_field, in_later_field}
+use Rattle.cedar_typing.specs.Rules.Laws.{IsVisited, itself, left_of_and, right_of_and, left_of_or, right_of_or, test_of_if, then_of_if}
+use Rattle.cedar_typing.specs.Rules.Laws.{else_of_if, operand_of_unary, left_of_binary, right_of_binary, base_of_has, base_of_get}
+use Rattle.cedar_typing.specs.Rules.Laws.{base_of_chain, operand_of_like, operand_of_is, argument_of_call, element_of_set, value_of_record}
+use Rattle.cedar_typing.specs.Rules.Laws.{SomeIsVisited, in_first, in_later, SomeFieldIsVisited, in_first_field, in_later_field}
 use Rattle.cedar_typing.specs.Setting.{Setting}
 use Rattle.cedar_typing.specs.TypedExpr.{Source}
 use Rattle.cedar_typing.proofs.Cuts.{by_depth}

@@ -25,15 +25,19 @@ use Rattle.cedar_typing.proofs.Composition.Slots.{slots_bound}
 use Rattle.cedar_typing.proofs.Silence.Policies.{passing_derived_in}
 use Rattle.cedar_typing.proofs.Soundness.Induction.{sound_at}
 use Rattle.cedar_typechecker.specs.Levels.Outcome.{levels_on}
-use Rattle.cedar_typechecker.specs.Slices.Policies.{VerdictIsWithin, PolicyIsWithinLevel, IsSameIn, IsSameInSlices, PassingNeedsSliceAlone, PassingNeedsSliceAloneInPermissive, PassingNeedsSliceWithoutSlots, PassingNeedsSliceForWholeCopies}
+use Rattle.cedar_typechecker.specs.Slices.Policies.{VerdictIsWithin, PolicyIsWithinLevel, IsSameIn, IsSameInSlices, PassingNeedsSliceAlone}
+use Rattle.cedar_typechecker.specs.Slices.Policies.{PassingNeedsSliceAloneInPermissive, PassingNeedsSliceWithoutSlots}
+use Rattle.cedar_typechecker.specs.Slices.Policies.{PassingNeedsSliceForWholeCopies}
 use Rattle.cedar_typechecker.specs.Slices.Reach.{HoldsSlice}
 use Rattle.cedar_typechecker.proofs.Slices.Conditions.{linked, derived_same}
 use Rattle.cedar_typechecker.proofs.Slices.Expressions.{same_at}
 
 -- ---- in one of both modes
 
-module _ (strictly : Bool) (b : Basis) (t : PlainTemplate) (schema : has_fault b.schema ≡ false) (formed : (strictly || has_formed_types b.schema) ≡ true)
-    (functions : table_fault b.table.functions ≡ None) (strict : is_strict b.mode ≡ strictly) (total : is_partial b.mode ≡ false) (closed : has_external b.schema ≡ false) where
+module _ (strictly : Bool) (b : Basis) (t : PlainTemplate) (schema : has_fault b.schema ≡ false)
+    (formed : (strictly || has_formed_types b.schema) ≡ true)
+    (functions : table_fault b.table.functions ≡ None) (strict : is_strict b.mode ≡ strictly)
+    (total : is_partial b.mode ≡ false) (closed : has_external b.schema ≡ false) where
   -- the setting, whose environment does not matter
   abbrev s : Setting
   s = setting_on b t.id Undeclared
@@ -41,7 +45,8 @@ module _ (strictly : Bool) (b : Basis) (t : PlainTemplate) (schema : has_fault b
   sure : Sure strictly s
   sure = record { strict = strict; total = total; formed = formed; schema = schema; functions = functions; closed = closed }
 
-  module _ (n : ℕ) (world : World) (w : IsWellFormed t world.slots) (i : IsConforming b world) (part : Store) (holds : HoldsSlice world.request world.store n part) where
+  module _ (n : ℕ) (world : World) (w : IsWellFormed t world.slots) (i : IsConforming b world) (part : Store)
+      (holds : HoldsSlice world.request world.store n part) where
     bound : (e : Source) → SlotsBound (own_slots world.request) e
     bound = slots_bound (own_slots world.request) (both_bound world.request)
 
@@ -83,11 +88,13 @@ module _ (strictly : Bool) (b : Basis) (t : PlainTemplate) (schema : has_fault b
 
 pub passing_needs_slice_alone : PassingNeedsSliceAlone
 passing_needs_slice_alone b t schema functions errors errors' old new o n k names quiet world w i =
-    suffices true b t schema refl functions (ap is_strict k.mode) (ap is_partial k.mode) k.closed errors errors' old new o n names quiet world w i
+    suffices true b t schema refl functions (ap is_strict k.mode) (ap is_partial k.mode)
+    k.closed errors errors' old new o n names quiet world w i
 
 pub passing_needs_slice_alone_in_permissive : PassingNeedsSliceAloneInPermissive
 passing_needs_slice_alone_in_permissive b t schema formed functions errors errors' old new o n k names quiet world w i =
-    suffices false b t schema formed functions (ap is_strict k.mode) (ap is_partial k.mode) k.closed errors errors' old new o n names quiet world w i
+    suffices false b t schema formed functions (ap is_strict k.mode) (ap is_partial k.mode)
+    k.closed errors errors' old new o n names quiet world w i
 
 pub passing_needs_slice_without_slots : PassingNeedsSliceWithoutSlots
 passing_needs_slice_without_slots b t schema functions errors errors' old new o no_slots =

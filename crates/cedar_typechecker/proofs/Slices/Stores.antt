@@ -1,6 +1,7 @@
 -- A part of a store that holds a slice agrees with the store on what is reached in fewer steps; the
 -- slice is such a part itself.
-use Rattle.std.proofs.Common.{◌≡◌, ℕ, zero, suc, ◌≤◌, ◌<◌, Bool, true, false, List, [], ◌∷◌, ◌++◌, Option, Some, None, if◌then◌else◌, cond, filter, true≢false, ◌⊎◌, inl, inr, refl, sym, ap, ◌∙◌, subst, arith}
+use Rattle.std.proofs.Common.{◌≡◌, ℕ, zero, suc, ◌≤◌, ◌<◌, Bool, true, false, List, [], ◌∷◌, ◌++◌, Option, Some, None, if◌then◌else◌, cond}
+use Rattle.std.proofs.Common.{filter, true≢false, ◌⊎◌, inl, inr, refl, sym, ap, ◌∙◌, subst, arith}
 use Rattle.std.proofs.lemmas.Bool.{cases_lt}
 use Rattle.cedar_types.specs.Lemmas.Comparisons.{uid_same}
 use Rattle.cedar_types.specs.Names.{Text, Uid, uid_eq}

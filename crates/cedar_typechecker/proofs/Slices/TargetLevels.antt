@@ -1,6 +1,7 @@
 -- Each target in an expression without level errors has at most the level that is allowed, and
 -- nothing is found along it.
-use Rattle.std.proofs.Common.{◌≡◌, ℕ, ◌+◌, ◌≤◌, Bool, true, false, nat_lt, nat_le, List, [], ◌∷◌, Option, Some, None, if◌then◌else◌, inl, inr, refl, sym, subst, arith}
+use Rattle.std.proofs.Common.{◌≡◌, ℕ, ◌+◌, ◌≤◌, Bool, true, false, nat_lt, nat_le, List, [], ◌∷◌, Option, Some, None, if◌then◌else◌, inl}
+use Rattle.std.proofs.Common.{inr, refl, sym, subst, arith}
 use Rattle.std.proofs.lemmas.Bool.{ltb-true, leb-true}
 use Rattle.cedar_types.specs.declared.base.expressions.operators.BinaryOp.{BinaryOp}
 use Rattle.cedar_types.specs.Errors.{Fault, Finding}
@@ -8,10 +9,14 @@ use Rattle.cedar_types.specs.Names.{Text, text_eq}
 use Rattle.cedar_types.specs.Expressions.Tree.{if_then_else, binary, get_attr, has_attr, ext_has_attr, record_of, Fields, no_fields, field}
 use Rattle.cedar_typing.specs.Evaluation.Conformance.{IsOneOf}
 use Rattle.cedar_typing.specs.TypedExpr.{TypedTree, Mark, mark_of, annotation}
-use Rattle.cedar_typechecker.specs.Levels.Chains.{Base, an_entity, a_record, neither, base_of, is_get_tag, field_at, chains_of_access, chains_of_operator, chains, field_chains, greatest, level}
+use Rattle.cedar_typechecker.specs.Levels.Chains.{Base, an_entity, a_record, neither, base_of, is_get_tag, field_at, chains_of_access}
+use Rattle.cedar_typechecker.specs.Levels.Chains.{chains_of_operator, chains, field_chains, greatest, level}
 use Rattle.cedar_typechecker.specs.Levels.Costs.{cost_of, keys_of}
-use Rattle.cedar_typechecker.specs.Levels.Dereferences.{Target, along, accesses_first, targets_of_base, target_at_keys, targets_of_chain, targets, target_of_field, next_of_access, next_targets, IsTarget, target_of_checked, next_target}
-use Rattle.cedar_typechecker.specs.Levels.Errors.{exceeds, unless_below, unless_within, faults_of_base, level_at_keys, faults_of_chain, faults, finding_at, at_checked, IsWithinLevel}
+use Rattle.cedar_typechecker.specs.Levels.Dereferences.{Target, along, accesses_first, targets_of_base, target_at_keys, targets_of_chain}
+use Rattle.cedar_typechecker.specs.Levels.Dereferences.{targets, target_of_field, next_of_access, next_targets, IsTarget, target_of_checked}
+use Rattle.cedar_typechecker.specs.Levels.Dereferences.{next_target}
+use Rattle.cedar_typechecker.specs.Levels.Errors.{exceeds, unless_below, unless_within, faults_of_base, level_at_keys, faults_of_chain}
+use Rattle.cedar_typechecker.specs.Levels.Errors.{faults, finding_at, at_checked, IsWithinLevel}
 use Rattle.cedar_typechecker.specs.Levels.Setting.{LevelSetting}
 use Rattle.cedar_typechecker.specs.Levels.Walk.{checked_errors, target_errors}
 use Rattle.cedar_typechecker.proofs.Levels.Greatest.{has_chain, greatest_of_both, greatest_more}

@@ -18,7 +18,8 @@ use Rattle.cedar_types.specs.Schemas.{Schema, has_fault}
 use Rattle.cedar_types.specs.Templates.{PlainTemplate, condition_of}
 use Rattle.cedar_typing.specs.Capabilities.{no_caps}
 use Rattle.cedar_typing.specs.Evaluation.Conformance.{IsOneOf}
-use Rattle.cedar_typing.specs.PolicyCheck.{Verdict, succeeds, irrelevant, fails, PolicyChecks, SameVerdict, same_success, same_irrelevant, same_failure, check_cut}
+use Rattle.cedar_typing.specs.PolicyCheck.{Verdict, succeeds, irrelevant, fails, PolicyChecks, SameVerdict, same_success, same_irrelevant}
+use Rattle.cedar_typing.specs.PolicyCheck.{same_failure, check_cut}
 use Rattle.cedar_typing.specs.PolicyCheck.Outcome.{is_silent, passes, errors_in, VerdictsOf, all_pass, all_errors, impossible, warnings_of}
 use Rattle.cedar_typing.specs.Soundness.Policies.{Basis, IsNamedBySchema, setting_on, CheckedOn}
 use Rattle.cedar_typing.specs.Rules.Laws.{IsCut}
@@ -252,7 +253,9 @@ outcomes_are_kept b t schema functions n errors warnings o =
           let p = passed b t n errors warnings o silent true (ap is_strict k.mode) total refl schema functions uncut w.no_unknowns in
           record {
             safe = (promises_are_kept b t schema functions true [] all [] due_of_check p).safe refl k names world w i;
-            same = passing_needs_slice_alone b t schema functions [] all [] due_of_check p n k names (within b t n errors warnings o silent) world w i;
+            same =
+                passing_needs_slice_alone b t schema functions [] all [] due_of_check p n k names
+                (within b t n errors warnings o silent) world w i;
           };
       never_true = λ absent there k alone_in_scope world i.
           (promises_are_kept b t schema functions (all_pass o.verdicts) [] all [] due_of_check alone).never_true
@@ -271,7 +274,9 @@ outcomes_are_kept_in_permissive b t schema formed functions n errors warnings o 
           let p = passed b t n errors warnings o silent false (ap is_strict k.mode) total formed schema functions uncut w.no_unknowns in
           record {
             safe = (promises_are_kept_in_permissive b t schema formed functions true [] all [] due_of_check p).safe refl k names world w i;
-            same = passing_needs_slice_alone_in_permissive b t schema formed functions [] all [] due_of_check p n k names (within b t n errors warnings o silent) world w i;
+            same =
+                passing_needs_slice_alone_in_permissive b t schema formed functions [] all [] due_of_check p n k
+                names (within b t n errors warnings o silent) world w i;
           };
       never_true = λ absent there k alone_in_scope world i.
           (promises_are_kept_in_permissive b t schema formed functions (all_pass o.verdicts) [] all [] due_of_check alone).never_true
@@ -289,5 +294,6 @@ passing_is_no_cut s e v c p cut =
 
 pub passing_is_cut_nowhere : PassingIsCutNowhere
 passing_is_cut_nowhere b t errors errors' old new o env k =
-    let h = each_has_passing (ChecksOn b t) passes o.listed (checked_envs b.schema b.mode t) o.verdicts o.in_some_order o.checked (sym o.answered) env k in
+    let h = each_has_passing (ChecksOn b t) passes o.listed (checked_envs b.schema b.mode t)
+    o.verdicts o.in_some_order o.checked (sym o.answered) env k in
     passing_is_no_cut (setting_on b t.id env) (condition_of t) h.0 h.1 h.2

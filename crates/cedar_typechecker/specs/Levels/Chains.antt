@@ -3,7 +3,8 @@
 use Rattle.std.specs.Prelude.{◌≡◌, ℕ, ◌+◌, max, Bool, true, false, List, [], ◌∷◌, ◌++◌, map, Option, Some, None, if◌then◌else◌}
 use Rattle.cedar_types.specs.declared.base.expressions.operators.BinaryOp.{BinaryOp}
 use Rattle.cedar_types.specs.Names.{Text, Uid, uid_eq, text_eq}
-use Rattle.cedar_types.specs.Expressions.Tree.{Lit, entity, lit, var, slot, unknown, if_then_else, and, or, unary, binary, call, get_attr, has_attr, ext_has_attr, like, is_type, set_of, record_of, Fields, no_fields, field}
+use Rattle.cedar_types.specs.Expressions.Tree.{Lit, entity, lit, var, slot, unknown, if_then_else, and, or, unary, binary, call, get_attr}
+use Rattle.cedar_types.specs.Expressions.Tree.{has_attr, ext_has_attr, like, is_type, set_of, record_of, Fields, no_fields, field}
 use Rattle.cedar_types.specs.Types.{Ty, TRecord, TEntity}
 use Rattle.cedar_typing.specs.TypedExpr.{TypedTree, Mark, annotation}
 

@@ -12,7 +12,8 @@ use Rattle.cedar_typing.specs.TypedExpr.{Mark}
 use Rattle.cedar_typechecker.specs.Levels.Chains.{good_leaf, literal_leaf, bad_leaf, leaf_of}
 use Rattle.cedar_typechecker.specs.Levels.Costs.{attributes_cost, keys_to_entity}
 use Rattle.cedar_typechecker.specs.Levels.Errors.{exceeds}
-use Rattle.cedar_typechecker.specs.Levels.Examples.{photo, view, edit, a_user, one_user, photos, faults_in, verdict_linked, passes, strictly, resource, user_of, bool_of, other_of, has_three, only_foo, has_in_slot}
+use Rattle.cedar_typechecker.specs.Levels.Examples.{photo, view, edit, a_user, one_user, photos, faults_in, verdict_linked, passes}
+use Rattle.cedar_typechecker.specs.Levels.Examples.{strictly, resource, user_of, bool_of, other_of, has_three, only_foo, has_in_slot}
 
 -- a node of a typed expression, without a type and without a place
 abbrev pub bare : Mark

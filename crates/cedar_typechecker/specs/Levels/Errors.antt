@@ -5,7 +5,8 @@ use Rattle.cedar_types.specs.Names.{Text}
 use Rattle.cedar_types.specs.Expressions.Tree.{binary, get_attr, has_attr, ext_has_attr}
 use Rattle.cedar_typing.specs.Evaluation.Conformance.{IsOneOf}
 use Rattle.cedar_typing.specs.TypedExpr.{TypedTree, Mark, mark_of, annotation}
-use Rattle.cedar_typechecker.specs.Levels.Chains.{Base, an_entity, a_record, neither, base_of, Leaf, good_leaf, literal_leaf, bad_leaf, leaf_of, level}
+use Rattle.cedar_typechecker.specs.Levels.Chains.{Base, an_entity, a_record, neither, base_of, Leaf, good_leaf, literal_leaf, bad_leaf}
+use Rattle.cedar_typechecker.specs.Levels.Chains.{leaf_of, level}
 use Rattle.cedar_typechecker.specs.Levels.Costs.{cost_of, keys_of}
 use Rattle.cedar_typechecker.specs.Levels.Dereferences.{accesses_first, IsChecked, IsTarget}
 use Rattle.cedar_typechecker.specs.Levels.Setting.{LevelSetting}

@@ -1,15 +1,19 @@
 -- The level errors of a typed expression as the program finds them: node after node, each added to
 -- those before it, and levels as it counts them.
-use Rattle.std.specs.Prelude.{ℕ, ◌+◌, ◌-◌, ◌^◌, min, max, nat_lt, nat_le, Bool, true, false, List, [], ◌∷◌, ◌++◌, Option, Some, None, if◌then◌else◌}
+use Rattle.std.specs.Prelude.{ℕ, ◌+◌, ◌-◌, ◌^◌, min, max, nat_lt, nat_le, Bool, true, false, List, [], ◌∷◌, ◌++◌, Option, Some, None}
+use Rattle.std.specs.Prelude.{if◌then◌else◌}
 use Rattle.cedar_types.specs.declared.base.location.Loc.{Loc}
 use Rattle.cedar_types.specs.Errors.{Fault, Finding, internal_invariant_violation, literal_dereference_target}
 use Rattle.cedar_types.specs.Types.Lookups.{attribute_type}
 use Rattle.cedar_types.specs.Names.{Text, text_eq}
 use Rattle.cedar_types.specs.Schemas.{Schema}
-use Rattle.cedar_types.specs.Expressions.Tree.{lit, var, slot, unknown, if_then_else, and, or, unary, binary, call, get_attr, has_attr, ext_has_attr, like, is_type, set_of, record_of, Trees, no_trees, tree, Fields, no_fields, field}
+use Rattle.cedar_types.specs.Expressions.Tree.{lit, var, slot, unknown, if_then_else, and, or, unary, binary, call, get_attr, has_attr}
+use Rattle.cedar_types.specs.Expressions.Tree.{ext_has_attr, like, is_type, set_of, record_of, Trees, no_trees, tree, Fields, no_fields}
+use Rattle.cedar_types.specs.Expressions.Tree.{field}
 use Rattle.cedar_types.specs.Types.{Ty}
 use Rattle.cedar_typing.specs.TypedExpr.{TypedTree, Mark, annotation}
-use Rattle.cedar_typechecker.specs.Levels.Chains.{Base, an_entity, a_record, neither, base_of, base_of_type, is_get_tag, Leaf, good_leaf, literal_leaf, bad_leaf, leaf_of_literal}
+use Rattle.cedar_typechecker.specs.Levels.Chains.{Base, an_entity, a_record, neither, base_of, base_of_type, is_get_tag, Leaf, good_leaf}
+use Rattle.cedar_typechecker.specs.Levels.Chains.{literal_leaf, bad_leaf, leaf_of_literal}
 use Rattle.cedar_typechecker.specs.Levels.Costs.{on_attribute, cost_of, keys_of}
 use Rattle.cedar_typechecker.specs.Levels.Dereferences.{accesses_first}
 use Rattle.cedar_typechecker.specs.Levels.Errors.{exceeds}

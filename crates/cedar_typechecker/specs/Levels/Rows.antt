@@ -10,7 +10,9 @@ use Rattle.cedar_typing.specs.Examples.Expressions.{true_lit, false_lit, the, pr
 use Rattle.cedar_typing.specs.Examples.World.{user, alice, bob}
 use Rattle.cedar_typechecker.specs.Levels.Costs.{attributes_cost}
 use Rattle.cedar_typechecker.specs.Levels.Errors.{exceeds}
-use Rattle.cedar_typechecker.specs.Levels.Examples.{a_user, one_user, view, photos, faults_in, verdict_linked, faults_at, strictly, errors_at, at_node, resource, user_of, bool_of, has_three, foo_bar, foo_of, only_foo, chosen, four_users, long_chain, in_slot}
+use Rattle.cedar_typechecker.specs.Levels.Examples.{a_user, one_user, view, photos, faults_in, verdict_linked, faults_at, strictly}
+use Rattle.cedar_typechecker.specs.Levels.Examples.{errors_at, at_node, resource, user_of, bool_of, has_three, foo_bar, foo_of, only_foo}
+use Rattle.cedar_typechecker.specs.Levels.Examples.{chosen, four_users, long_chain, in_slot}
 
 pub record LevelRows : Type 0 where
   -- 1: `{foo: principal}.foo is User`

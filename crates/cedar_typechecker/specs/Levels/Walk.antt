@@ -2,7 +2,9 @@
 use Rattle.std.specs.Prelude.{ℕ, nat_le, List, [], ◌∷◌, ◌++◌, map, Option, Some, None, if◌then◌else◌}
 use Rattle.cedar_types.specs.Errors.{Fault, Finding}
 use Rattle.cedar_types.specs.Names.{Text, text_eq}
-use Rattle.cedar_types.specs.Expressions.Tree.{lit, var, slot, unknown, if_then_else, and, or, unary, binary, call, get_attr, has_attr, ext_has_attr, like, is_type, set_of, record_of, Trees, no_trees, tree, Fields, no_fields, field}
+use Rattle.cedar_types.specs.Expressions.Tree.{lit, var, slot, unknown, if_then_else, and, or, unary, binary, call, get_attr, has_attr}
+use Rattle.cedar_types.specs.Expressions.Tree.{ext_has_attr, like, is_type, set_of, record_of, Trees, no_trees, tree, Fields, no_fields}
+use Rattle.cedar_types.specs.Expressions.Tree.{field}
 use Rattle.cedar_typing.specs.TypedExpr.{TypedTree, Mark, annotation}
 use Rattle.cedar_typechecker.specs.Levels.Chains.{Base, an_entity, a_record, neither, base_of, is_get_tag, field_at, leaf_of}
 use Rattle.cedar_typechecker.specs.Levels.Costs.{cost_of, keys_of}

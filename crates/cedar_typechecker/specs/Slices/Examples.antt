@@ -30,7 +30,8 @@ use Rattle.cedar_typechecker.specs.Levels.Outcome.{ChecksOn, levels_on, IsErrorO
 use Rattle.cedar_typechecker.specs.Slices.Policies.{PolicyIsWithinLevel}
 use Rattle.cedar_typechecker.specs.Slices.Reach.{ids_in, ids_in_entries, ids_of, reach, HoldsSlice}
 use Rattle.cedar_typechecker.specs.Slices.Soundness.{with_store}
-use Rattle.cedar_typechecker.specs.Slices.Examples.World.{home, read, carol, dan, erin, wiki_schema, wiki_basis, stored_alice, stored_bob, stored_carol, plain_user, page_guided_by, wiki_store, reading, slice_of}
+use Rattle.cedar_typechecker.specs.Slices.Examples.World.{home, read, carol, dan, erin, wiki_schema, wiki_basis, stored_alice, stored_bob}
+use Rattle.cedar_typechecker.specs.Slices.Examples.World.{stored_carol, plain_user, page_guided_by, wiki_store, reading, slice_of}
 pub mod World
 
 -- ---- level errors of a policy

@@ -1,7 +1,9 @@
 -- How deep an expression is nested, and that one within the limit is cut nowhere.
 use Rattle.std.specs.Prelude.{ℕ, suc, max, ◌≤◌}
 use Rattle.cedar_types.specs.Templates.{PlainTemplate, condition_of}
-use Rattle.cedar_types.specs.Expressions.Tree.{lit, var, slot, unknown, if_then_else, and, or, unary, binary, call, get_attr, has_attr, ext_has_attr, like, is_type, set_of, record_of, Trees, no_trees, tree, Fields, no_fields, field}
+use Rattle.cedar_types.specs.Expressions.Tree.{lit, var, slot, unknown, if_then_else, and, or, unary, binary, call, get_attr, has_attr}
+use Rattle.cedar_types.specs.Expressions.Tree.{ext_has_attr, like, is_type, set_of, record_of, Trees, no_trees, tree, Fields, no_fields}
+use Rattle.cedar_types.specs.Expressions.Tree.{field}
 use Rattle.cedar_types.specs.Expressions.View.{Written}
 use Rattle.cedar_typing.specs.Judgments.{max_nesting}
 use Rattle.cedar_typing.specs.Soundness.Policies.{Basis}

@@ -5,7 +5,8 @@ use Rattle.std.specs.List.{flat_map}
 use Rattle.cedar_types.specs.Names.{Uid}
 use Rattle.cedar_types.specs.Schemas.{uid_is_among}
 use Rattle.cedar_types.specs.Values.Stores.{Entity, Store, entity_at}
-use Rattle.cedar_types.specs.Values.{Value, VBool, VLong, VString, VEntity, VSet, VRecord, VExtension, Values, no_values, more_values, Entries, no_entries, more_entries}
+use Rattle.cedar_types.specs.Values.{Value, VBool, VLong, VString, VEntity, VSet, VRecord, VExtension, Values, no_values, more_values}
+use Rattle.cedar_types.specs.Values.{Entries, no_entries, more_entries}
 use Rattle.cedar_typing.specs.Evaluation.World.{Request}
 
 -- ---- the ids in a value

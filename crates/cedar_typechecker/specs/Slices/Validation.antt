@@ -13,7 +13,8 @@ use Rattle.cedar_typing.specs.Capabilities.{no_caps}
 use Rattle.cedar_typing.specs.Evaluation.Conformance.{IsOneOf}
 use Rattle.cedar_typing.specs.Evaluation.Eval.{eval}
 use Rattle.cedar_typing.specs.Evaluation.World.{World}
-use Rattle.cedar_typing.specs.Soundness.Policies.{Basis, IsClosedIn, IsWellFormed, IsConforming, ImpossibleIsNeverTrueIn, setting_on, CheckedOn}
+use Rattle.cedar_typing.specs.Soundness.Policies.{Basis, IsClosedIn, IsWellFormed, IsConforming, ImpossibleIsNeverTrueIn, setting_on}
+use Rattle.cedar_typing.specs.Soundness.Policies.{CheckedOn}
 use Rattle.cedar_typing.specs.Rules.Laws.{IsCut}
 use Rattle.cedar_typing.specs.Soundness.PolicyCheck.{IsBooleanOrAllowed}
 use Rattle.cedar_typechecker.specs.Levels.Outcome.{LevelOutcome}

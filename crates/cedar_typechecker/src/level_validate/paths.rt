@@ -16,7 +16,8 @@ pub(crate) enum Path<'p> {
 
 /// The first key, and the others, if there is one.
 pub(crate) fn split<'p>(path: Path<'p>) -> Option<(&'p RcStr, Path<'p>)>
-    ensures { option_map (λ s. (text_of s.0.now, keys_along s.1)) result ≡ split_keys (keys_along path.entry) }
+    ensures { option_map (λ s. (text_of s.0.now, keys_along s.1)) result
+        ≡ split_keys (keys_along path.entry) }
 {
     match path {
         Path::Keys(keys) => match keys.split_first() {

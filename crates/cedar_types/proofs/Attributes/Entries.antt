@@ -24,22 +24,27 @@ abbrev pub put : Text → Tree Written → Fields Written → Fields Written
 put k t no_fields = field k t no_fields
 put k t (field l u fs) = match_ordering (slice_cmp nat_cmp k l) (field k t (field l u fs)) (field l t fs) (field l u (put k t fs))
 
-fields_match : (o : Ordering) (a b c : List Entry) → fields_written (match_ordering o a b c) ≡ match_ordering o (fields_written a) (fields_written b) (fields_written c)
+fields_match : (o : Ordering) (a b c : List Entry) → fields_written (match_ordering o a b c)
+    ≡ match_ordering o (fields_written a) (fields_written b) (fields_written c)
 fields_match Less a b c = refl
 fields_match Equal a b c = refl
 fields_match Greater a b c = refl
 
-pub fields_insert : (es : List Entry) (k : RcStr Global) (e : Expr (Unit {0})) → fields_written (insert_entry rc_cmp es k e) ≡ put (text_of k) (written e) (fields_written es)
+pub fields_insert : (es : List Entry) (k : RcStr Global) (e : Expr (Unit {0}))
+    → fields_written (insert_entry rc_cmp es k e) ≡ put (text_of k) (written e) (fields_written es)
 fields_insert [] k e = refl
 fields_insert (x ∷ es) k e =
     fields_match (rc_cmp k x.0) ((k, e) ∷ x ∷ es) ((x.0, e) ∷ es) (x ∷ insert_entry rc_cmp es k e) ∙ rw (fields_insert es k e)
 
-below_middle : (first : Entry) (es : List Entry) (e : Entry) (more : List Entry) → AllByRecursion (λ y. rc_cmp first.0 y ≡ Less) (keys_of (es ++ e ∷ more)) → rc_cmp first.0 e.0 ≡ Less
+below_middle : (first : Entry) (es : List Entry) (e : Entry) (more : List Entry)
+    → AllByRecursion (λ y. rc_cmp first.0 y ≡ Less) (keys_of (es ++ e ∷ more)) → rc_cmp first.0 e.0 ≡ Less
 below_middle first [] e more h = h.0
 below_middle first (x ∷ es) e more h = below_middle first es e more h.1
 
 -- a key that is above those before it goes last
-pub put_last : (done : List Entry) (e : Entry) (more : List Entry) → IsStrictlySortedBy rc_cmp (keys_of (done ++ e ∷ more)) → put (text_of e.0) (written e.1) (fields_written done) ≡ fields_written (done ++ e ∷ [])
+pub put_last : (done : List Entry) (e : Entry) (more : List Entry)
+    → IsStrictlySortedBy rc_cmp (keys_of (done ++ e ∷ more)) → put (text_of e.0) (written e.1) (fields_written done)
+    ≡ fields_written (done ++ e ∷ [])
 unfolding IsStrictlySortedBy
 put_last [] e more h = refl
 put_last (first ∷ done) e more h =

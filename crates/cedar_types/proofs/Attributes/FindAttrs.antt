@@ -50,22 +50,33 @@ none_is_some a e = cc
 
 pub names_above_from : (k : Text) (xs : Attrs) → list_all (λ l. is_lt (text_cmp k l)) (attr_names xs) ≡ true → NamesAbove k xs
 names_above_from k no_attrs h l a e = absurd (none_is_some a e)
-names_above_from k (attr j t r xs) h l a e = by (names_above_from k xs (and_right (is_lt (text_cmp k j)) (list_all (λ l. is_lt (text_cmp k l)) (attr_names xs)) h) l a) (text_eq l j) refl
+names_above_from k (attr j t r xs) h l a e =
+    by (names_above_from k xs
+    (and_right (is_lt (text_cmp k j)) (list_all (λ l. is_lt (text_cmp k l)) (attr_names xs)) h) l a) (text_eq l j)
+    refl
   where
     by : (find_attr l xs ≡ Some a → text_cmp k l ≡ Less) → (b : Bool) → text_eq l j ≡ b → text_cmp k l ≡ Less
-    by others true f = subst (λ m. text_cmp k m ≡ Less) (sym (text_to l j f)) (less_is (text_cmp k j) (and_left (is_lt (text_cmp k j)) (list_all (λ l. is_lt (text_cmp k l)) (attr_names xs)) h))
+    by others true f =
+        subst (λ m. text_cmp k m ≡ Less) (sym (text_to l j f))
+        (less_is (text_cmp k j) (and_left (is_lt (text_cmp k j))
+        (list_all (λ l. is_lt (text_cmp k l)) (attr_names xs)) h))
     by others false f = others (sym (found_later l j t r xs f) ∙ e)
 
 -- the names but the first are found too, where they are above the first
-later_found : (j l : Text) (t : Ty) (r : Bool) (xs : Attrs) (a : Ty × Bool) → text_cmp j l ≡ Less → find_attr l xs ≡ Some a → find_attr l (attr j t r xs) ≡ Some a
-later_found j l t r xs a less e = found_later l j t r xs (not_true (text_eq l j) (λ f. text_not_below_itself l (subst (λ m. text_cmp m l ≡ Less) (sym (text_to l j f)) less))) ∙ e
+later_found : (j l : Text) (t : Ty) (r : Bool) (xs : Attrs) (a : Ty × Bool) → text_cmp j l ≡ Less
+    → find_attr l xs ≡ Some a → find_attr l (attr j t r xs) ≡ Some a
+later_found j l t r xs a less e =
+    found_later l j t r xs (not_true (text_eq l j)
+    (λ f. text_not_below_itself l (subst (λ m. text_cmp m l ≡ Less) (sym (text_to l j f)) less))) ∙ e
 
-pub names_above_to : (k : Text) (xs : Attrs) → names_ascend xs ≡ true → NamesAbove k xs → list_all (λ l. is_lt (text_cmp k l)) (attr_names xs) ≡ true
+pub names_above_to : (k : Text) (xs : Attrs) → names_ascend xs ≡ true → NamesAbove k xs
+    → list_all (λ l. is_lt (text_cmp k l)) (attr_names xs) ≡ true
 names_above_to k no_attrs s h = refl
 names_above_to k (attr j t r xs) s h =
     let first = names_above_from j xs (and_left (list_all (λ l. is_lt (text_cmp j l)) (attr_names xs)) (names_ascend xs) s) in
     and_both (is_lt (text_cmp k j)) (list_all (λ l. is_lt (text_cmp k l)) (attr_names xs)) (ap is_lt (h j (t, r) (found_first j t r xs)))
-    (names_above_to k xs (and_right (list_all (λ l. is_lt (text_cmp j l)) (attr_names xs)) (names_ascend xs) s) (λ l a e. h l a (later_found j l t r xs a (first l a e) e)))
+    (names_above_to k xs (and_right (list_all (λ l. is_lt (text_cmp j l)) (attr_names xs)) (names_ascend xs) s)
+    (λ l a e. h l a (later_found j l t r xs a (first l a e) e)))
 
 pub first_name_below : (k : Text) (t : Ty) (r : Bool) (xs : Attrs) → names_ascend (attr k t r xs) ≡ true → NamesAbove k xs
 first_name_below k t r xs s = names_above_from k xs (and_left (list_all (λ l. is_lt (text_cmp k l)) (attr_names xs)) (names_ascend xs) s)
@@ -73,8 +84,10 @@ first_name_below k t r xs s = names_above_from k xs (and_left (list_all (λ l. i
 pub rest_names_ascend : (k : Text) (t : Ty) (r : Bool) (xs : Attrs) → names_ascend (attr k t r xs) ≡ true → names_ascend xs ≡ true
 rest_names_ascend k t r xs s = and_right (list_all (λ l. is_lt (text_cmp k l)) (attr_names xs)) (names_ascend xs) s
 
-pub names_ascend_from : (k : Text) (t : Ty) (r : Bool) (xs : Attrs) → NamesAbove k xs → names_ascend xs ≡ true → names_ascend (attr k t r xs) ≡ true
-names_ascend_from k t r xs h s = and_both (list_all (λ l. is_lt (text_cmp k l)) (attr_names xs)) (names_ascend xs) (names_above_to k xs s h) s
+pub names_ascend_from : (k : Text) (t : Ty) (r : Bool) (xs : Attrs) → NamesAbove k xs → names_ascend xs ≡ true
+    → names_ascend (attr k t r xs) ≡ true
+names_ascend_from k t r xs h s =
+    and_both (list_all (λ l. is_lt (text_cmp k l)) (attr_names xs)) (names_ascend xs) (names_above_to k xs s h) s
 
 option_none : {A : Type 0} (o : Option A) → ((a : A) → o ≡ Some a → ⊥) → o ≡ None
 option_none None h = refl
@@ -87,19 +100,25 @@ some_type : (a b : Ty × Bool) → ◌≡◌ {A = Option (Ty × Bool)} (Some a) 
 some_type a b e = cc
 
 -- ascending attributes are told by their look-ups
-pub same_look_ups : (xs ys : Attrs) → names_ascend xs ≡ true → names_ascend ys ≡ true → ((k : Text) → find_attr k xs ≡ find_attr k ys) → xs ≡ ys
+pub same_look_ups : (xs ys : Attrs) → names_ascend xs ≡ true → names_ascend ys ≡ true
+    → ((k : Text) → find_attr k xs ≡ find_attr k ys) → xs ≡ ys
 same_look_ups no_attrs no_attrs a b h = refl
 same_look_ups no_attrs (attr l t q ys) a b h = absurd (none_is_some (t, q) (h l ∙ found_first l t q ys))
 same_look_ups (attr k s r xs) no_attrs a b h = absurd (none_is_some (s, r) (sym (sym (found_first k s r xs) ∙ h k)))
-same_look_ups (attr k s r xs) (attr l t q ys) a b h = by (same_look_ups xs ys (rest_names_ascend k s r xs a) (rest_names_ascend l t q ys b)) (text_cmp k l) refl
+same_look_ups (attr k s r xs) (attr l t q ys) a b h =
+    by (same_look_ups xs ys (rest_names_ascend k s r xs a) (rest_names_ascend l t q ys b)) (text_cmp k l) refl
   where
     first_of_l : text_cmp k l ≡ Less → (c : Bool) → text_eq k l ≡ c → ⊥
     first_of_l e true f = text_not_below_itself k (subst (λ m. text_cmp k m ≡ Less) (sym (text_to k l f)) e)
-    first_of_l e false f = text_not_both_ways k l e (first_name_below l t q ys b k (s, r) (sym (found_later k l t q ys f) ∙ sym (h k) ∙ found_first k s r xs))
+    first_of_l e false f =
+        text_not_both_ways k l e
+        (first_name_below l t q ys b k (s, r) (sym (found_later k l t q ys f) ∙ sym (h k) ∙ found_first k s r xs))
 
     first_of_k : text_cmp l k ≡ Less → (c : Bool) → text_eq l k ≡ c → ⊥
     first_of_k e true f = text_not_below_itself l (subst (λ m. text_cmp l m ≡ Less) (sym (text_to l k f)) e)
-    first_of_k e false f = text_not_both_ways l k e (first_name_below k s r xs a l (t, q) (sym (found_later l k s r xs f) ∙ h l ∙ found_first l t q ys))
+    first_of_k e false f =
+        text_not_both_ways l k e
+        (first_name_below k s r xs a l (t, q) (sym (found_later l k s r xs f) ∙ h l ∙ found_first l t q ys))
 
     rest : k ≡ l → (j : Text) (c : Bool) → text_eq j k ≡ c → find_attr j xs ≡ find_attr j ys
     rest e j true f =
@@ -131,4 +150,7 @@ found_type P k (attr l t r xs) h a e = by (found_type P k xs h.1 a) (text_eq k l
 
 pub all_well_formed : (xs : Attrs) → are_well_formed xs ≡ true → AllTypes (λ t. is_well_formed t ≡ true) xs
 all_well_formed no_attrs w = tt
-all_well_formed (attr k t r xs) w = (and_left (is_well_formed t) (are_well_formed xs) w, all_well_formed xs (and_right (is_well_formed t) (are_well_formed xs) w))
+all_well_formed (attr k t r xs) w = (
+  and_left (is_well_formed t) (are_well_formed xs) w,
+  all_well_formed xs (and_right (is_well_formed t) (are_well_formed xs) w),
+)

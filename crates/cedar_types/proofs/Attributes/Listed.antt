@@ -15,13 +15,16 @@ use Rattle.cedar_types.proofs.Attributes.Records.{key_cmp}
 abbrev pub shown : AttributeType → Ty × Bool
 shown v = (ty_of v.attr_type, v.is_required)
 
-entries_match : (o : Ordering) (a b c : List (RcStr Global × AttributeType)) → entries_of (match_ordering o a b c) ≡ match_ordering o (entries_of a) (entries_of b) (entries_of c)
+entries_match : (o : Ordering) (a b c : List (RcStr Global × AttributeType)) → entries_of (match_ordering o a b c)
+    ≡ match_ordering o (entries_of a) (entries_of b) (entries_of c)
 entries_match Less a b c = refl
 entries_match Equal a b c = refl
 entries_match Greater a b c = refl
 
-pub entries_with : (es : List (RcStr Global × AttributeType)) (k : RcStr Global) (v : AttributeType) → entries_of (insert_entry key_cmp es k v) ≡ with_attr (text_of k) (shown v) (entries_of es)
+pub entries_with : (es : List (RcStr Global × AttributeType)) (k : RcStr Global) (v : AttributeType)
+    → entries_of (insert_entry key_cmp es k v) ≡ with_attr (text_of k) (shown v) (entries_of es)
 entries_with [] k v = refl
 entries_with (e ∷ es) k v =
     entries_match (key_cmp k e.0) ((k, v) ∷ e ∷ es) ((e.0, v) ∷ es) (e ∷ insert_entry key_cmp es k v)
-    ∙ ap (λ r. match_ordering (key_cmp k e.0) (entries_of ((k, v) ∷ e ∷ es)) (entries_of ((e.0, v) ∷ es)) (attr (text_of e.0) (ty_of e.1.attr_type) e.1.is_required r)) (entries_with es k v)
+    ∙ ap (λ r. match_ordering (key_cmp k e.0) (entries_of ((k, v) ∷ e ∷ es)) (entries_of ((e.0, v) ∷ es))
+    (attr (text_of e.0) (ty_of e.1.attr_type) e.1.is_required r)) (entries_with es k v)

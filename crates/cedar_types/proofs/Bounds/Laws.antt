@@ -2,7 +2,8 @@
 use Rattle.std.proofs.Common.{◌≡◌, sym, ap, ◌∙◌, true, true≢false, Option, Some, None}
 use Rattle.cedar_types.specs.Types.{Ty}
 use Rattle.cedar_types.specs.Types.Bounds.{lub, is_just}
-use Rattle.cedar_types.specs.Types.BoundLaws.{BoundIsIdempotent, BoundIsSymmetric, BoundIsUpper, BoundKeepsForm, SubtypingIsReflexive, SubtypingIsTransitive, SubtypeIsByBound}
+use Rattle.cedar_types.specs.Types.BoundLaws.{BoundIsIdempotent, BoundIsSymmetric, BoundIsUpper, BoundKeepsForm, SubtypingIsReflexive}
+use Rattle.cedar_types.specs.Types.BoundLaws.{SubtypingIsTransitive, SubtypeIsByBound}
 use Rattle.cedar_types.proofs.Comparisons.SameTypes.{ty_to, ty_itself}
 use Rattle.cedar_types.proofs.Bounds.Steps.{lub_same}
 use Rattle.cedar_types.proofs.Bounds.Symmetric.{symmetric}

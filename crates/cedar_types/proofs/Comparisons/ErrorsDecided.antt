@@ -10,8 +10,13 @@ use Rattle.cedar_types.specs.Names.{Path, text_eq, path_eq, uid_eq}
 use Rattle.cedar_types.specs.Types.{Ty}
 use Rattle.cedar_types.specs.Types.Bounds.{ty_eq}
 use Rattle.cedar_types.specs.Names.Comparisons.{bool_eq}
-use Rattle.cedar_types.specs.Lemmas.Comparisons.{Same, and_left, and_right, and_both, list_same, nat_same, text_same, path_same, uid_same, bool_same}
-use Rattle.cedar_types.specs.Errors.{Fault, unrecognized_entity_type, unrecognized_action_id, invalid_enum_entity, unexpected_type, incompatible_types, unsafe_attribute_access, unsafe_optional_attribute_access, unsafe_tag_access, no_tags_allowed, undefined_function, wrong_number_arguments, function_argument_validation, empty_set_forbidden, non_lit_ext_constructor, internal_invariant_violation, maximum_level_exceeded, literal_dereference_target, Finding, Slip, impossible_policy, invalid_action_application, Caution}
+use Rattle.cedar_types.specs.Lemmas.Comparisons.{Same, and_left, and_right, and_both, list_same, nat_same, text_same, path_same, uid_same}
+use Rattle.cedar_types.specs.Lemmas.Comparisons.{bool_same}
+use Rattle.cedar_types.specs.Errors.{Fault, unrecognized_entity_type, unrecognized_action_id, invalid_enum_entity, unexpected_type}
+use Rattle.cedar_types.specs.Errors.{incompatible_types, unsafe_attribute_access, unsafe_optional_attribute_access, unsafe_tag_access}
+use Rattle.cedar_types.specs.Errors.{no_tags_allowed, undefined_function, wrong_number_arguments, function_argument_validation}
+use Rattle.cedar_types.specs.Errors.{empty_set_forbidden, non_lit_ext_constructor, internal_invariant_violation, maximum_level_exceeded}
+use Rattle.cedar_types.specs.Errors.{literal_dereference_target, Finding, Slip, impossible_policy, invalid_action_application, Caution}
 use Rattle.cedar_types.proofs.Comparisons.TypesDecided.{ty_same}
 
 -- ---- the parts of errors
@@ -106,7 +111,8 @@ caution_eq v w = option_eq loc_eq v.place w.place && (text_eq v.policy w.policy 
 -- ---- these tests decide equality
 
 -- two tests together, and what they say of a value made of two parts
-abbrev both_to : {A B C : Type 0} {D : A → A → Bool} {E : B → B → Bool} → Same D → Same E → (f : A → B → C) → (a b : A) (x y : B) → (D a b && E x y) ≡ true → f a x ≡ f b y
+abbrev both_to : {A B C : Type 0} {D : A → A → Bool} {E : B → B → Bool} → Same D → Same E → (f : A → B → C)
+    → (a b : A) (x y : B) → (D a b && E x y) ≡ true → f a x ≡ f b y
 both_to {D = D} {E = E} s t f a b x y h = λ i. f (s.to a b (and_left (D a b) (E x y) h) i) (t.to x y (and_right (D a b) (E x y) h) i)
 
 fault_to : (f g : Fault) → fault_eq f g ≡ true → f ≡ g
@@ -117,8 +123,11 @@ fault_to (unexpected_type ts a) (unexpected_type us b) h = both_to (list_same ty
 fault_to (incompatible_types ts c) (incompatible_types us d) h = both_to (list_same ty_same) context_same incompatible_types ts us c d h
 fault_to (unsafe_attribute_access t a m) (unsafe_attribute_access u b n) h =
     let rest = and_right (ty_eq t u) (text_eq a b && bool_eq m n) h in
-    λ i. unsafe_attribute_access (ty_same.to t u (and_left (ty_eq t u) (text_eq a b && bool_eq m n) h) i) (text_same.to a b (and_left (text_eq a b) (bool_eq m n) rest) i) (bool_same.to m n (and_right (text_eq a b) (bool_eq m n) rest) i)
-fault_to (unsafe_optional_attribute_access t a) (unsafe_optional_attribute_access u b) h = both_to ty_same text_same unsafe_optional_attribute_access t u a b h
+    λ i. unsafe_attribute_access (ty_same.to t u (and_left (ty_eq t u) (text_eq a b && bool_eq m n) h) i)
+    (text_same.to a b (and_left (text_eq a b) (bool_eq m n) rest) i)
+    (bool_same.to m n (and_right (text_eq a b) (bool_eq m n) rest) i)
+fault_to (unsafe_optional_attribute_access t a) (unsafe_optional_attribute_access u b) h =
+    both_to ty_same text_same unsafe_optional_attribute_access t u a b h
 fault_to (unsafe_tag_access t) (unsafe_tag_access u) h = ap unsafe_tag_access ((opt_same (list_same path_same)).to t u h)
 fault_to (no_tags_allowed t) (no_tags_allowed u) h = ap no_tags_allowed ((opt_same path_same).to t u h)
 fault_to (undefined_function m) (undefined_function n) h = ap undefined_function (path_same.to m n h)
@@ -137,7 +146,9 @@ fault_itself (unrecognized_action_id t) = uid_same.itself t
 fault_itself (invalid_enum_entity t) = uid_same.itself t
 fault_itself (unexpected_type ts a) = and_both (tys_eq ts ts) (ty_eq a a) ((list_same ty_same).itself ts) (ty_same.itself a)
 fault_itself (incompatible_types ts c) = and_both (tys_eq ts ts) (context_eq c c) ((list_same ty_same).itself ts) (context_same.itself c)
-fault_itself (unsafe_attribute_access t a m) = and_both (ty_eq t t) (text_eq a a && bool_eq m m) (ty_same.itself t) (and_both (text_eq a a) (bool_eq m m) (text_same.itself a) (bool_same.itself m))
+fault_itself (unsafe_attribute_access t a m) =
+    and_both (ty_eq t t) (text_eq a a && bool_eq m m) (ty_same.itself t)
+    (and_both (text_eq a a) (bool_eq m m) (text_same.itself a) (bool_same.itself m))
 fault_itself (unsafe_optional_attribute_access t a) = and_both (ty_eq t t) (text_eq a a) (ty_same.itself t) (text_same.itself a)
 fault_itself (unsafe_tag_access t) = (opt_same (list_same path_same)).itself t
 fault_itself (no_tags_allowed t) = (opt_same path_same).itself t
@@ -161,17 +172,23 @@ finding_same = record {
   to = λ f g h.
       let rest = and_right (option_eq loc_eq f.place g.place) (text_eq f.policy g.policy && fault_eq f.fault g.fault) h in
       λ i. record {
-        place = place_same.to f.place g.place (and_left (option_eq loc_eq f.place g.place) (text_eq f.policy g.policy && fault_eq f.fault g.fault) h) i;
+        place =
+            place_same.to f.place g.place
+            (and_left (option_eq loc_eq f.place g.place) (text_eq f.policy g.policy && fault_eq f.fault g.fault) h)
+            i;
         policy = text_same.to f.policy g.policy (and_left (text_eq f.policy g.policy) (fault_eq f.fault g.fault) rest) i;
         fault = fault_same.to f.fault g.fault (and_right (text_eq f.policy g.policy) (fault_eq f.fault g.fault) rest) i;
       };
-  itself = λ f. and_both (option_eq loc_eq f.place f.place) (text_eq f.policy f.policy && fault_eq f.fault f.fault) (place_same.itself f.place)
+  itself =
+      λ f. and_both (option_eq loc_eq f.place f.place) (text_eq f.policy f.policy && fault_eq f.fault f.fault)
+      (place_same.itself f.place)
       (and_both (text_eq f.policy f.policy) (fault_eq f.fault f.fault) (text_same.itself f.policy) (fault_same.itself f.fault));
 }
 
 slip_to : (s t : Slip) → slip_eq s t ≡ true → s ≡ t
 slip_to impossible_policy impossible_policy h = refl
-slip_to (invalid_action_application p r) (invalid_action_application q s) h = both_to bool_same bool_same invalid_action_application p q r s h
+slip_to (invalid_action_application p r) (invalid_action_application q s) h =
+    both_to bool_same bool_same invalid_action_application p q r s h
 slip_to s t h = absurd (true≢false (sym h))
 
 slip_itself : (s : Slip) → slip_eq s s ≡ true
@@ -183,7 +200,9 @@ caution_same = record {
   to = λ v w h.
       let rest = and_right (option_eq loc_eq v.place w.place) (text_eq v.policy w.policy && slip_eq v.slip w.slip) h in
       λ i. record {
-        place = place_same.to v.place w.place (and_left (option_eq loc_eq v.place w.place) (text_eq v.policy w.policy && slip_eq v.slip w.slip) h) i;
+        place =
+            place_same.to v.place w.place
+            (and_left (option_eq loc_eq v.place w.place) (text_eq v.policy w.policy && slip_eq v.slip w.slip) h) i;
         policy = text_same.to v.policy w.policy (and_left (text_eq v.policy w.policy) (slip_eq v.slip w.slip) rest) i;
         slip = slip_to v.slip w.slip (and_right (text_eq v.policy w.policy) (slip_eq v.slip w.slip) rest) i;
       };

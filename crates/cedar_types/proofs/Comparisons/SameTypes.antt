@@ -5,7 +5,8 @@ use Rattle.std.specs.Cmp.Lexicographic.{pointwise, pointwise_decides, bytes_deci
 use Rattle.cedar_types.specs.declared.base.types.BoolType.{BoolType}
 use Rattle.cedar_types.specs.declared.base.types.BoolType.TheVariants.{AnyBool, True, False}
 use Rattle.cedar_types.specs.Names.{Text, Path, text_eq, path_eq}
-use Rattle.cedar_types.specs.Types.{Ty, TNever, TBool, TLong, TString, TSet, TAnySet, TRecord, TEntity, TAnyEntity, TExtension, Attrs, no_attrs, attr}
+use Rattle.cedar_types.specs.Types.{Ty, TNever, TBool, TLong, TString, TSet, TAnySet, TRecord, TEntity, TAnyEntity, TExtension, Attrs}
+use Rattle.cedar_types.specs.Types.{no_attrs, attr}
 use Rattle.cedar_types.specs.Types.Bounds.{kind_eq, mark_eq, ty_eq, attrs_eq}
 
 pub and_left : (a b : Bool) → (a && b) ≡ true → a ≡ true
@@ -35,7 +36,9 @@ path_to p q h = λ i. record {
 }
 
 pub path_itself : (p : Path) → path_eq p p ≡ true
-path_itself p = and_both (pointwise text_eq p.path p.path) (text_eq p.basename p.basename) ((texts_decide p.path p.path).1 refl) (text_itself p.basename)
+path_itself p =
+    and_both (pointwise text_eq p.path p.path) (text_eq p.basename p.basename) ((texts_decide p.path p.path).1 refl)
+    (text_itself p.basename)
 
 pub path_decides : (p q : Path) → Decides (path_eq p q) (p ≡ q)
 path_decides p q = (path_to p q, λ e. subst (λ r. path_eq p r ≡ true) e (path_itself p))
@@ -72,7 +75,9 @@ mutual
   ty_to TString TString h = refl
   ty_to (TSet s) (TSet t) h = ap TSet (ty_to s t h)
   ty_to TAnySet TAnySet h = refl
-  ty_to (TRecord xs o) (TRecord ys p) h = λ i. TRecord (attrs_to xs ys (and_left (attrs_eq xs ys) (mark_eq o p) h) i) (mark_to o p (and_right (attrs_eq xs ys) (mark_eq o p) h) i)
+  ty_to (TRecord xs o) (TRecord ys p) h =
+      λ i. TRecord (attrs_to xs ys (and_left (attrs_eq xs ys) (mark_eq o p) h) i)
+      (mark_to o p (and_right (attrs_eq xs ys) (mark_eq o p) h) i)
   ty_to (TEntity ps) (TEntity qs) h = ap TEntity ((paths_decide ps qs).0 h)
   ty_to TAnyEntity TAnyEntity h = refl
   ty_to (TExtension m) (TExtension n) h = ap TExtension (path_to m n h)
@@ -83,7 +88,9 @@ mutual
   attrs_to (attr k s r xs) (attr l t q ys) h =
       let head = and_left (text_eq k l && (ty_eq s t && mark_eq r q)) (attrs_eq xs ys) h in
       let both = and_right (text_eq k l) (ty_eq s t && mark_eq r q) head in
-      λ i. attr ((text_decides k l).0 (and_left (text_eq k l) (ty_eq s t && mark_eq r q) head) i) (ty_to s t (and_left (ty_eq s t) (mark_eq r q) both) i) (mark_to r q (and_right (ty_eq s t) (mark_eq r q) both) i)
+      λ i. attr ((text_decides k l).0 (and_left (text_eq k l) (ty_eq s t && mark_eq r q) head) i)
+      (ty_to s t (and_left (ty_eq s t) (mark_eq r q) both) i)
+      (mark_to r q (and_right (ty_eq s t) (mark_eq r q) both) i)
       (attrs_to xs ys (and_right (text_eq k l && (ty_eq s t && mark_eq r q)) (attrs_eq xs ys) h) i)
   attrs_to xs ys h = absurd (true≢false (sym h))
 
@@ -102,7 +109,10 @@ mutual
 
   pub attrs_itself : (xs : Attrs) → attrs_eq xs xs ≡ true
   attrs_itself no_attrs = refl
-  attrs_itself (attr k t r xs) = and_both (text_eq k k && (ty_eq t t && mark_eq r r)) (attrs_eq xs xs) (and_both (text_eq k k) (ty_eq t t && mark_eq r r) (text_itself k) (and_both (ty_eq t t) (mark_eq r r) (ty_itself t) (mark_itself r))) (attrs_itself xs)
+  attrs_itself (attr k t r xs) =
+      and_both (text_eq k k && (ty_eq t t && mark_eq r r)) (attrs_eq xs xs)
+      (and_both (text_eq k k) (ty_eq t t && mark_eq r r) (text_itself k)
+      (and_both (ty_eq t t) (mark_eq r r) (ty_itself t) (mark_itself r))) (attrs_itself xs)
 
 pub ty_decides : (s t : Ty) → Decides (ty_eq s t) (s ≡ t)
 ty_decides s t = (ty_to s t, λ e. subst (λ u. ty_eq s u ≡ true) e (ty_itself s))

@@ -20,7 +20,9 @@ use Rattle.cedar_types.specs.declared.base.types.AttributeType.{AttributeType}
 use Rattle.cedar_types.specs.declared.base.types.Attributes.{Attributes}
 use Rattle.cedar_types.specs.declared.base.types.CedarType.{CedarType}
 use Rattle.cedar_types.specs.declared.base.types.CedarType.TheViews.{out-CedarType, out-Attributes}
-use Rattle.cedar_types.specs.declared.base.types.CedarType.TheBlock.{struct-Attributes, Row_of-AttributeType, end_of-AttributeType, more_of-AttributeType, items-the_row-AttributeType, shown-the_row-AttributeType-0, items_shown-the_row-AttributeType-0}
+use Rattle.cedar_types.specs.declared.base.types.CedarType.TheBlock.{struct-Attributes, Row_of-AttributeType, end_of-AttributeType}
+use Rattle.cedar_types.specs.declared.base.types.CedarType.TheBlock.{more_of-AttributeType, items-the_row-AttributeType}
+use Rattle.cedar_types.specs.declared.base.types.CedarType.TheBlock.{shown-the_row-AttributeType-0, items_shown-the_row-AttributeType-0}
 use Rattle.cedar_types.specs.declared.base.types.CedarType.TheVariants as T
 use Rattle.cedar_types.specs.contracts.base.names.entities.EntityTypeOrd.TheImpl as entity_type_impl
 use Rattle.cedar_types.specs.contracts.base.types.BoolTypeOrd.TheImpl as bool_impl
@@ -86,21 +88,26 @@ mark_is false false = refl
 
 -- the two orders agree at x
 abbrev Agrees : AttributeType → Type 0
-Agrees x = (y : AttributeType) → attribute_order x y ≡ ordering_then (ty_cmp (ty_of x.attr_type) (ty_of y.attr_type)) (nat_cmp (required_rank x.is_required) (required_rank y.is_required))
+Agrees x =
+    (y : AttributeType) → attribute_order x y ≡ ordering_then (ty_cmp (ty_of x.attr_type) (ty_of y.attr_type))
+    (nat_cmp (required_rank x.is_required) (required_rank y.is_required))
 
 abbrev AllAgree : List AttributeType → Type 0
 AllAgree [] = Unit {0}
 AllAgree (x ∷ xs) = Agrees x × AllAgree xs
 
 entries_is : (xs ys : List (RcStr Global × AttributeType)) → AllAgree (values_of xs)
-    → slice_cmp (λ p q. ordering_then (text_cmp (text_of p.0) (text_of q.0)) (attribute_order p.1 q.1)) xs ys ≡ attrs_cmp (entries_of xs) (entries_of ys)
+    → slice_cmp (λ p q. ordering_then (text_cmp (text_of p.0) (text_of q.0)) (attribute_order p.1 q.1)) xs ys
+    ≡ attrs_cmp (entries_of xs) (entries_of ys)
 entries_is [] [] h = refl
 entries_is [] (y ∷ ys) h = refl
 entries_is (x ∷ xs) [] h = refl
-entries_is (x ∷ xs) (y ∷ ys) h = λ i. ordering_then (ordering_then (text_cmp (text_of x.0) (text_of y.0)) (h.0 y.1 i)) (entries_is xs ys h.1 i)
+entries_is (x ∷ xs) (y ∷ ys) h =
+    λ i. ordering_then (ordering_then (text_cmp (text_of x.0) (text_of y.0)) (h.0 y.1 i)) (entries_is xs ys h.1 i)
 
 -- from one step of the derived order
-agrees : (x : CedarType) → ((y : CedarType) → type_laws.unfolded x y ≡ ty_cmp (tview x) (tview y)) → (y : CedarType) → order x y ≡ ty_cmp (ty_of x) (ty_of y)
+agrees : (x : CedarType) → ((y : CedarType) → type_laws.unfolded x y ≡ ty_cmp (tview x) (tview y)) → (y : CedarType)
+    → order x y ≡ ty_cmp (ty_of x) (ty_of y)
 agrees x h y = type_laws.is x y ∙ h y ∙ sym (λ i. ty_cmp (is_view x i) (is_view y i))
 
 mutual
@@ -125,18 +132,24 @@ mutual
   attributes_agree : (a b : Attributes) → attributes_order a b ≡ attrs_cmp (attributes_of a) (attributes_of b)
   attributes_agree (struct-Attributes p h r) (struct-Attributes q k l) =
       attributes_laws.is (struct-Attributes p h r) (struct-Attributes q k l)
-      ∙ entries_is (shown-the_row-AttributeType-0 h r).entries (shown-the_row-AttributeType-0 k l).entries (subst AllAgree (sym (items_shown-the_row-AttributeType-0 h r)) (row_agrees r))
+      ∙ entries_is (shown-the_row-AttributeType-0 h r).entries (shown-the_row-AttributeType-0 k l).entries
+      (subst AllAgree (sym (items_shown-the_row-AttributeType-0 h r)) (row_agrees r))
       ∙ sym (λ i. attrs_cmp (attributes_are (struct-Attributes p h r) i) (attributes_are (struct-Attributes q k l) i))
 
   row_agrees : {n : _} → (r : Row_of-AttributeType n) → AllAgree (items-the_row-AttributeType n r)
   row_agrees end_of-AttributeType = tt
-  row_agrees (more_of-AttributeType t r rest) = (λ y. attribute_laws.is (record { attr_type = t; is_required = r }) y ∙ (λ i. ordering_then (agrees t (step_is t) y.attr_type i) (mark_is r y.is_required i)), row_agrees rest)
+  row_agrees (more_of-AttributeType t r rest) = (
+    λ y. attribute_laws.is (record { attr_type = t; is_required = r }) y
+        ∙ (λ i. ordering_then (agrees t (step_is t) y.attr_type i) (mark_is r y.is_required i)),
+    row_agrees rest,
+  )
 
 -- types are ordered as their plain types are
 pub types_order : (x y : CedarType) → order x y ≡ ty_cmp (ty_of x) (ty_of y)
 types_order x = agrees x (step_is x)
 
-map_match : (o : Ordering) (a b c : List CedarType) → map ty_of (match_ordering o a b c) ≡ match_ordering o (map ty_of a) (map ty_of b) (map ty_of c)
+map_match : (o : Ordering) (a b c : List CedarType) → map ty_of (match_ordering o a b c)
+    ≡ match_ordering o (map ty_of a) (map ty_of b) (map ty_of c)
 map_match Less a b c = refl
 map_match Equal a b c = refl
 map_match Greater a b c = refl

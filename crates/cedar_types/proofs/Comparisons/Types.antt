@@ -11,7 +11,9 @@ use Rattle.cedar_types.specs.declared.base.types.AttributeType.{AttributeType}
 use Rattle.cedar_types.specs.declared.base.types.Attributes.{Attributes}
 use Rattle.cedar_types.specs.declared.base.types.CedarType.{CedarType, fold_out-CedarType, map-CedarType}
 use Rattle.cedar_types.specs.declared.base.types.CedarType.TheViews.{out-CedarType, out-Attributes}
-use Rattle.cedar_types.specs.declared.base.types.CedarType.TheBlock.{struct-Attributes, Row_of-AttributeType, end_of-AttributeType, more_of-AttributeType, items-the_row-AttributeType, shown-the_row-AttributeType-0, items_shown-the_row-AttributeType-0}
+use Rattle.cedar_types.specs.declared.base.types.CedarType.TheBlock.{struct-Attributes, Row_of-AttributeType, end_of-AttributeType}
+use Rattle.cedar_types.specs.declared.base.types.CedarType.TheBlock.{more_of-AttributeType, items-the_row-AttributeType}
+use Rattle.cedar_types.specs.declared.base.types.CedarType.TheBlock.{shown-the_row-AttributeType-0, items_shown-the_row-AttributeType-0}
 use Rattle.cedar_types.specs.declared.base.types.CedarType.TheVariants as T
 use Rattle.cedar_types.specs.contracts.base.names.NamePartialEq.TheImpl as name_impl
 use Rattle.cedar_types.specs.contracts.base.names.entities.EntityTypePartialEq.TheImpl as type_impl
@@ -32,7 +34,8 @@ use Rattle.cedar_types.specs.declared.base.types.EntityKind.{EntityKind}
 use Rattle.cedar_types.specs.declared.base.types.EntityKind.TheVariants as kind
 use mathlib.Core.Bool.{beq}
 use Rattle.cedar_types.specs.Names.{path_of, type_of, text_of, text_eq, path_eq}
-use Rattle.cedar_types.specs.Types.{Ty, TNever, TBool, TLong, TString, TSet, TAnySet, TRecord, TExtension, Attrs, is_open_tag, lub_of, kind_of, ty_step, attribute_step, attributes_step, ty_of, attribute_of, attributes_of, entries_of}
+use Rattle.cedar_types.specs.Types.{Ty, TNever, TBool, TLong, TString, TSet, TAnySet, TRecord, TExtension, Attrs, is_open_tag, lub_of}
+use Rattle.cedar_types.specs.Types.{kind_of, ty_step, attribute_step, attributes_step, ty_of, attribute_of, attributes_of, entries_of}
 use Rattle.cedar_types.specs.Types.Bounds.{kind_eq, mark_eq, ty_eq, attrs_eq}
 use Rattle.cedar_types.proofs.Names.Paths.{names_eq}
 use Rattle.cedar_types.proofs.Attributes.{attributes_are}
@@ -97,7 +100,9 @@ tview (T.Record a o) = TRecord (attributes_of a) (is_open_tag o)
 tview (T.Entity k) = kind_of k
 tview (T.Extension n) = TExtension (path_of n.value)
 
-opened : (x : CedarType) → ty_of x ≡ ty_step (map-CedarType CedarType AttributeType Attributes Ty (Ty × Bool) Attrs ty_of attribute_of attributes_of (out-CedarType x))
+opened : (x : CedarType)
+    → ty_of x ≡ ty_step (map-CedarType CedarType AttributeType Attributes Ty (Ty × Bool)
+    Attrs ty_of attribute_of attributes_of (out-CedarType x))
 opened x = fold_out-CedarType Ty (Ty × Bool) Attrs ty_step attribute_step attributes_step x
 
 pub is_view : (x : CedarType) → ty_of x ≡ tview x
@@ -128,7 +133,8 @@ entries_is (x ∷ xs) [] h = refl
 entries_is (x ∷ xs) (y ∷ ys) h = λ i. (text_eq (text_of x.0) (text_of y.0) && h.0 y.1 i) && entries_is xs ys h.1 i
 
 -- from one step of the derived `==`
-agrees : (x : CedarType) → ((y : CedarType) → ty_laws.unfolded x y ≡ ty_eq (tview x) (tview y)) → (y : CedarType) → eq x y ≡ ty_eq (ty_of x) (ty_of y)
+agrees : (x : CedarType) → ((y : CedarType) → ty_laws.unfolded x y ≡ ty_eq (tview x) (tview y)) → (y : CedarType)
+    → eq x y ≡ ty_eq (ty_of x) (ty_of y)
 agrees x h y = ty_laws.is x y ∙ h y ∙ sym (λ i. ty_eq (is_view x i) (is_view y i))
 
 mutual
@@ -153,12 +159,17 @@ mutual
   attributes_agree : (a b : Attributes) → attributes_same a b ≡ attrs_eq (attributes_of a) (attributes_of b)
   attributes_agree (struct-Attributes p h r) (struct-Attributes q k l) =
       attributes_laws.is (struct-Attributes p h r) (struct-Attributes q k l)
-      ∙ entries_is (shown-the_row-AttributeType-0 h r).entries (shown-the_row-AttributeType-0 k l).entries (subst AllAgree (sym (items_shown-the_row-AttributeType-0 h r)) (row_agrees r))
+      ∙ entries_is (shown-the_row-AttributeType-0 h r).entries (shown-the_row-AttributeType-0 k l).entries
+      (subst AllAgree (sym (items_shown-the_row-AttributeType-0 h r)) (row_agrees r))
       ∙ sym (λ i. attrs_eq (attributes_are (struct-Attributes p h r) i) (attributes_are (struct-Attributes q k l) i))
 
   row_agrees : {n : _} → (r : Row_of-AttributeType n) → AllAgree (items-the_row-AttributeType n r)
   row_agrees end_of-AttributeType = tt
-  row_agrees (more_of-AttributeType t r rest) = (λ y. attribute_laws.is (record { attr_type = t; is_required = r }) y ∙ (λ i. agrees t (step_is t) y.attr_type i && mark_is r y.is_required i), row_agrees rest)
+  row_agrees (more_of-AttributeType t r rest) = (
+    λ y. attribute_laws.is (record { attr_type = t; is_required = r }) y
+        ∙ (λ i. agrees t (step_is t) y.attr_type i && mark_is r y.is_required i),
+    row_agrees rest,
+  )
 
 -- `==` holds exactly where the plain types are equal
 pub types_same : (x y : CedarType) → eq x y ≡ ty_eq (ty_of x) (ty_of y)

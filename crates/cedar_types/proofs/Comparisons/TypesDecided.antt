@@ -1,7 +1,8 @@
 -- The test of equality of plain types decides it.
 use Rattle.std.proofs.Common.{◌≡◌, refl, sym, ap, Bool, true, false, ◌&&◌, true≢false}
 use Rattle.cedar_types.specs.declared.base.types.BoolType.{BoolType}
-use Rattle.cedar_types.specs.Types.{Ty, TNever, TBool, TLong, TString, TSet, TAnySet, TRecord, TEntity, TAnyEntity, TExtension, Attrs, no_attrs, attr}
+use Rattle.cedar_types.specs.Types.{Ty, TNever, TBool, TLong, TString, TSet, TAnySet, TRecord, TEntity, TAnyEntity, TExtension, Attrs}
+use Rattle.cedar_types.specs.Types.{no_attrs, attr}
 use Rattle.cedar_types.specs.Types.Bounds.{kind_eq, mark_eq, ty_eq, attrs_eq}
 use Rattle.cedar_types.specs.Lemmas.Comparisons.{Same, and_left, and_right, and_both, list_same, text_same, path_same}
 use Rattle.cedar_types.specs.Names.{text_eq}
@@ -34,7 +35,9 @@ mutual
   ty_to TString TString h = refl
   ty_to (TSet s) (TSet t) h = ap TSet (ty_to s t h)
   ty_to TAnySet TAnySet h = refl
-  ty_to (TRecord xs o) (TRecord ys p) h = λ i. TRecord (attrs_to xs ys (and_left (attrs_eq xs ys) (mark_eq o p) h) i) (mark_to o p (and_right (attrs_eq xs ys) (mark_eq o p) h) i)
+  ty_to (TRecord xs o) (TRecord ys p) h =
+      λ i. TRecord (attrs_to xs ys (and_left (attrs_eq xs ys) (mark_eq o p) h) i)
+      (mark_to o p (and_right (attrs_eq xs ys) (mark_eq o p) h) i)
   ty_to (TEntity ps) (TEntity qs) h = ap TEntity ((list_same path_same).to ps qs h)
   ty_to TAnyEntity TAnyEntity h = refl
   ty_to (TExtension n) (TExtension m) h = ap TExtension (path_same.to n m h)
@@ -68,7 +71,8 @@ mutual
   attrs_itself no_attrs = refl
   attrs_itself (attr k t r xs) =
       and_both (text_eq k k && (ty_eq t t && mark_eq r r)) (attrs_eq xs xs)
-      (and_both (text_eq k k) (ty_eq t t && mark_eq r r) (text_same.itself k) (and_both (ty_eq t t) (mark_eq r r) (ty_itself t) (mark_itself r)))
+      (and_both (text_eq k k) (ty_eq t t && mark_eq r r) (text_same.itself k)
+      (and_both (ty_eq t t) (mark_eq r r) (ty_itself t) (mark_itself r)))
       (attrs_itself xs)
 
 pub ty_same : Same ty_eq

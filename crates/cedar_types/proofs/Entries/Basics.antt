@@ -1,5 +1,6 @@
 -- Facts about lists and truth values that walks over two lists rest on.
-use Rattle.std.proofs.Common.{◌≡◌, suc, ◌+◌, ◌<◌, Bool, true, false, ◌&&◌, ◌||◌, List, [], ◌∷◌, ◌++◌, length, refl, sym, ap, ◌∙◌, true≢false, arith}
+use Rattle.std.proofs.Common.{◌≡◌, suc, ◌+◌, ◌<◌, Bool, true, false, ◌&&◌, ◌||◌, List, [], ◌∷◌, ◌++◌, length, refl, sym, ap, ◌∙◌}
+use Rattle.std.proofs.Common.{true≢false, arith}
 use Rattle.std.specs.List.{list_any, AllByRecursion}
 use Rattle.std.proofs.lemmas.List.Folds.{list_any-append}
 use Rattle.std.specs.Ordering.{is_eq}
@@ -83,7 +84,8 @@ pub empty : {K : Type 0} (xs : List K) → length xs ≡ 0 → xs ≡ []
 empty [] e = refl
 empty (x ∷ xs) e = let no : ⊥ = omega arith in absurd no
 
-pub both_smaller : {K : Type 0} (ls rs : List K) (x y : K) (xs ys : List K) → ls ≡ x ∷ xs → rs ≡ y ∷ ys → length xs + length ys < length ls + length rs
+pub both_smaller : {K : Type 0} (ls rs : List K) (x y : K) (xs ys : List K) → ls ≡ x ∷ xs → rs ≡ y ∷ ys
+    → length xs + length ys < length ls + length rs
 both_smaller ls rs x y xs ys a b =
     let p : length ls ≡ suc (length xs) = ap length a in
     let q : length rs ≡ suc (length ys) = ap length b in

@@ -6,7 +6,8 @@ use Rattle.std.specs.declared.cmp.Ordering.{Ordering}
 use Rattle.std.specs.declared.cmp.Ordering.TheVariants.{Less, Equal, Greater}
 use Rattle.cedar_types.specs.Capability.Entries.{IsPoint, HasBoth}
 use Rattle.cedar_types.proofs.Entries.Basics.{Equal≢Less, all_map, or_false, any_push, none_where, common_both, drop_left, drop_right}
-use Rattle.cedar_types.proofs.Entries.Ascending.{SortedBy, BelowBy, UnderBy, turned, below_more, below_alike, sorted_head, sorted_tail, sorted_none, sorted_push, under_head, under_push, under_tail}
+use Rattle.cedar_types.proofs.Entries.Ascending.{SortedBy, BelowBy, UnderBy, turned, below_more, below_alike, sorted_head, sorted_tail}
+use Rattle.cedar_types.proofs.Entries.Ascending.{sorted_none, sorted_push, under_head, under_push, under_tail}
 
 module _ {K : Type 0} (cmp : K → K → Ordering) where
   -- a walk over both of ls0 and rs0 has found what both have, up to ls and rs
@@ -29,7 +30,9 @@ module _ {K : Type 0} {cmp : K → K → Ordering} (o : IsTotalOrder cmp) where
   and_false false = refl
 
   pub meeting_ends_right : (ls rs zs xs : List K) → Meeting cmp ls rs zs xs [] → HasBoth cmp ls rs zs
-  meeting_ends_right ls rs zs xs m = λ p q. sym (or_false (list_any p zs)) ∙ ap (λ b. list_any p zs || b) (sym (and_false (list_any p xs))) ∙ m.has p q
+  meeting_ends_right ls rs zs xs m =
+      λ p q. sym (or_false (list_any p zs)) ∙ ap (λ b. list_any p zs || b) (sym (and_false (list_any p xs)))
+      ∙ m.has p q
 
   -- what a point takes is alone, so it takes nothing that lies above
   differs : (p : K → Bool) → IsPoint cmp p → (x y : K) → p x ≡ true → cmp x y ≡ Less → (b : Bool) → p y ≡ b → b ≡ false
@@ -46,7 +49,9 @@ module _ {K : Type 0} {cmp : K → K → Ordering} (o : IsTotalOrder cmp) where
       left = sorted_tail o x xs m.left;
       right = m.right;
       under_left = under_tail o zs x xs m.under_left;
-      has = λ p q. drop_left (list_any p zs) (p x) (list_any p xs) (list_any p (y ∷ ys)) (λ h. none_above p q x (y ∷ ys) h (t, below_more o x y ys t (sorted_head o y ys m.right))) ∙ m.has p q;
+      has =
+          λ p q. drop_left (list_any p zs) (p x) (list_any p xs) (list_any p (y ∷ ys))
+          (λ h. none_above p q x (y ∷ ys) h (t, below_more o x y ys t (sorted_head o y ys m.right))) ∙ m.has p q;
     }
 
     pub meeting_greater : cmp x y ≡ Greater → Meeting cmp ls0 rs0 zs (x ∷ xs) ys
@@ -55,7 +60,10 @@ module _ {K : Type 0} {cmp : K → K → Ordering} (o : IsTotalOrder cmp) where
       left = m.left;
       right = sorted_tail o y ys m.right;
       under_left = m.under_left;
-      has = λ p q. drop_right (list_any p zs) (p y) (list_any p (x ∷ xs)) (list_any p ys) (λ h. none_above p q y (x ∷ xs) h (turned o x y t, below_more o y x xs (turned o x y t) (sorted_head o x xs m.left))) ∙ m.has p q;
+      has =
+          λ p q. drop_right (list_any p zs) (p y) (list_any p (x ∷ xs)) (list_any p ys)
+          (λ h. none_above p q y (x ∷ xs) h
+          (turned o x y t, below_more o y x xs (turned o x y t) (sorted_head o x xs m.left))) ∙ m.has p q;
     }
 
     pub meeting_equal : (c : K) → cmp c x ≡ Equal → cmp x y ≡ Equal → Meeting cmp ls0 rs0 (zs ++ c ∷ []) xs ys
@@ -70,7 +78,8 @@ module _ {K : Type 0} {cmp : K → K → Ordering} (o : IsTotalOrder cmp) where
           ∙ ap (λ b. list_any p zs || ((p x || list_any p xs) && (b || list_any p ys))) (q.alike x y t) ∙ m.has p q;
     }
 
-  module _ (ls0 rs0 zs ls rs : List K) (x : K) (xs : List K) (y : K) (ys : List K) (a : ls ≡ x ∷ xs) (b : rs ≡ y ∷ ys) (m : Meeting cmp ls0 rs0 zs ls rs) where
+  module _ (ls0 rs0 zs ls rs : List K) (x : K) (xs : List K) (y : K) (ys : List K) (a : ls ≡ x ∷ xs)
+      (b : rs ≡ y ∷ ys) (m : Meeting cmp ls0 rs0 zs ls rs) where
     opened : Meeting cmp ls0 rs0 zs (x ∷ xs) (y ∷ ys)
     opened = subst (λ l. Meeting cmp ls0 rs0 zs l (y ∷ ys)) a (subst (Meeting cmp ls0 rs0 zs ls) b m)
 

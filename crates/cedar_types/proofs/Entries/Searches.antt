@@ -1,5 +1,6 @@
 -- A binary search in a list in ascending order, and an insertion where it ends at a gap.
-use Rattle.std.proofs.Common.{◌≡◌, ℕ, zero, suc, ◌<◌, ◌≤◌, Bool, true, false, ◌||◌, List, [], ◌∷◌, length, Result, Ok, Err, is_ok, insert, refl, sym, ap, subst, ◌∙◌, true≢false, arith, get_or}
+use Rattle.std.proofs.Common.{◌≡◌, ℕ, zero, suc, ◌<◌, ◌≤◌, Bool, true, false, ◌||◌, List, [], ◌∷◌, length, Result, Ok, Err, is_ok, insert}
+use Rattle.std.proofs.Common.{refl, sym, ap, subst, ◌∙◌, true≢false, arith, get_or}
 use Rattle.std.specs.List.{list_any, AllByRecursion}
 use Rattle.std.specs.List.Sorted.{IsStrictlySortedBy, IsBinarySearchResult, IsSearchInRange, IsNonDecreasingBy}
 use Rattle.std.specs.Cmp.{IsTotalOrder}
@@ -28,8 +29,11 @@ module _ {K : Type 0} {cmp : K → K → Ordering} (o : IsTotalOrder cmp) where
 
   rises : (xs : List K) (x : K) → SortedBy cmp xs → IsNonDecreasingBy (λ y. ordering_index (cmp y x)) xs
   rises xs x s i j d le lt = ⊎_elim
-      (λ l. rank_mono (get_or xs i d) (get_or xs j d) x (Less-from_sorted cmp xs i j d s l lt) (cmp (get_or xs i d) x) (cmp (get_or xs j d) x) refl refl)
-      (λ g. let e : i ≡ j = omega arith in subst (λ k. ordering_index (cmp (get_or xs i d) x) ≤ ordering_index (cmp (get_or xs k d) x)) e (omega arith))
+      (λ l. rank_mono (get_or xs i d) (get_or xs j d) x (Less-from_sorted cmp xs i j d s l lt)
+      (cmp (get_or xs i d) x) (cmp (get_or xs j d) x) refl refl)
+      (λ g. let e : i ≡ j = omega arith in
+      subst (λ k. ordering_index (cmp (get_or xs i d) x)
+      ≤ ordering_index (cmp (get_or xs k d) x)) e (omega arith))
       (cases_lt i j)
 
   any_at : (p : K → Bool) (xs : List K) (i : ℕ) → i < length xs → ((d : K) → p (get_or xs i d) ≡ true) → list_any p xs ≡ true
@@ -47,7 +51,8 @@ module _ {K : Type 0} {cmp : K → K → Ordering} (o : IsTotalOrder cmp) where
   apart_greater : (x y : K) → cmp y x ≡ Greater → is_eq (cmp x y) ≡ false
   apart_greater x y e = ap is_eq (o.antisymm x y) ∙ ap (λ r. is_eq (ordering_reverse r)) e
 
-  pub search_is : (xs : List K) (x : K) (r : Result ℕ ℕ) → SortedBy cmp xs → IsSearchInRange r (length xs) → IsBinarySearchResult (λ y. cmp y x) xs r → is_ok r ≡ list_any (λ e. is_eq (cmp x e)) xs
+  pub search_is : (xs : List K) (x : K) (r : Result ℕ ℕ) → SortedBy cmp xs → IsSearchInRange r (length xs)
+      → IsBinarySearchResult (λ y. cmp y x) xs r → is_ok r ≡ list_any (λ e. is_eq (cmp x e)) xs
   search_is xs x (Ok i) s l h = sym (any_at (λ e. is_eq (cmp x e)) xs i l (λ d. ap is_eq (tied_back o (get_or xs i d) x (h d))))
   search_is xs x (Err i) s l h =
       let parts = h (rises xs x s) in
@@ -72,9 +77,15 @@ module _ {K : Type 0} {cmp : K → K → Ordering} (o : IsTotalOrder cmp) where
   all_of P [] h = tt
   all_of P (x ∷ xs) h = (h zero x (omega arith), all_of P xs (λ k d l. h (suc k) d (omega arith)))
 
-  sorted_insert : (xs : List K) (i : ℕ) (x : K) → SortedBy cmp xs → ((k : ℕ) (d : K) → k < i → k < length xs → cmp (get_or xs k d) x ≡ Less) → ((k : ℕ) (d : K) → i ≤ k → k < length xs → cmp (get_or xs k d) x ≡ Greater) → SortedBy cmp (insert xs i x)
+  sorted_insert : (xs : List K) (i : ℕ) (x : K) → SortedBy cmp xs
+      → ((k : ℕ) (d : K) → k < i → k < length xs → cmp (get_or xs k d) x ≡ Less)
+      → ((k : ℕ) (d : K) → i ≤ k → k < length xs → cmp (get_or xs k d) x ≡ Greater) → SortedBy cmp (insert xs i x)
   unfolding IsStrictlySortedBy
-  sorted_insert xs zero x s lo hi = (all_of (λ y. cmp x y ≡ Less) xs (λ j d l. o.antisymm x (get_or xs j d) ∙ ap ordering_reverse (hi j d (omega arith) l)), s)
+  sorted_insert xs zero x s lo hi = (
+    all_of (λ y. cmp x y ≡ Less) xs
+        (λ j d l. o.antisymm x (get_or xs j d) ∙ ap ordering_reverse (hi j d (omega arith) l)),
+    s,
+  )
   sorted_insert [] (suc i) x s lo hi = (tt, tt)
   sorted_insert (k ∷ ks) (suc i) x s lo hi = (
     all_insert (λ y. cmp k y ≡ Less) ks i x s.0 (lo zero k (omega arith) (omega arith)),
@@ -82,7 +93,8 @@ module _ {K : Type 0} {cmp : K → K → Ordering} (o : IsTotalOrder cmp) where
   )
 
   -- where a search ends at a gap, the entry goes in there
-  pub inserted_sorted : (xs : List K) (i : ℕ) (x : K) → SortedBy cmp xs → IsBinarySearchResult (λ y. cmp y x) xs (Err i) → SortedBy cmp (insert xs i x)
+  pub inserted_sorted : (xs : List K) (i : ℕ) (x : K) → SortedBy cmp xs
+      → IsBinarySearchResult (λ y. cmp y x) xs (Err i) → SortedBy cmp (insert xs i x)
   inserted_sorted xs i x s h =
       let parts = h (rises xs x s) in
       sorted_insert xs i x s (λ k d a b. parts.0 k d (omega arith) a) parts.1

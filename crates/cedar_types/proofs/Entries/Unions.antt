@@ -6,7 +6,8 @@ use Rattle.std.specs.declared.cmp.Ordering.{Ordering}
 use Rattle.std.specs.declared.cmp.Ordering.TheVariants.{Equal}
 use Rattle.cedar_types.specs.Capability.Entries.{IsPoint, IsFirst, left_first, right_first, both_first, IsBelowHead, HasEither}
 use Rattle.cedar_types.proofs.Entries.Basics.{or_false, any_push, from_left, from_right, from_both}
-use Rattle.cedar_types.proofs.Entries.Ascending.{SortedBy, UnderBy, below_alike, sorted_head, sorted_tail, sorted_none, below_head, sorted_push, under_head, under_push, under_tail}
+use Rattle.cedar_types.proofs.Entries.Ascending.{SortedBy, UnderBy, below_alike, sorted_head, sorted_tail, sorted_none, below_head}
+use Rattle.cedar_types.proofs.Entries.Ascending.{sorted_push, under_head, under_push, under_tail}
 
 module _ {K : Type 0} (cmp : K → K → Ordering) where
   -- a walk over both of ls0 and rs0 has put all together, and has ls and rs before it
@@ -69,20 +70,24 @@ module _ {K : Type 0} {cmp : K → K → Ordering} (o : IsTotalOrder cmp) where
           ∙ from_right (list_any p zs) (p x) (list_any p ls) (list_any p ys) ∙ m.has p q;
     }
 
-    merging_both : (xs : List K) (y : K) (ys : List K) → cmp x y ≡ Equal → Merging cmp ls0 rs0 zs (x ∷ xs) (y ∷ ys) → Merging cmp ls0 rs0 (zs ++ c ∷ []) xs ys
+    merging_both : (xs : List K) (y : K) (ys : List K) → cmp x y ≡ Equal → Merging cmp ls0 rs0 zs (x ∷ xs) (y ∷ ys)
+        → Merging cmp ls0 rs0 (zs ++ c ∷ []) xs ys
     merging_both xs y ys t m = record {
       sorted = sorted_push o zs c m.sorted (under_head o zs c x xs e m.under_left);
       left = sorted_tail o x xs m.left;
       right = sorted_tail o y ys m.right;
       under_left = under_push o zs c xs (under_tail o zs x xs m.under_left) (below_alike o c x xs e (sorted_head o x xs m.left));
-      under_right = under_push o zs c ys (under_tail o zs y ys m.under_right) (below_alike o c x ys e (below_alike o x y ys t (sorted_head o y ys m.right)));
+      under_right =
+          under_push o zs c ys (under_tail o zs y ys m.under_right)
+          (below_alike o c x ys e (below_alike o x y ys t (sorted_head o y ys m.right)));
       has = λ p q.
           ap (λ b. b || (list_any p xs || list_any p ys)) (any_push p zs c ∙ ap (λ b. list_any p zs || b) (q.alike c x e))
           ∙ from_both (list_any p zs) (p x) (list_any p xs) (list_any p ys)
           ∙ ap (λ b. list_any p zs || ((p x || list_any p xs) || (b || list_any p ys))) (q.alike x y t) ∙ m.has p q;
     }
 
-    pub merging_step : (ls rs xs ys : List K) → IsFirst cmp ls rs x xs ys → Merging cmp ls0 rs0 zs ls rs → Merging cmp ls0 rs0 (zs ++ c ∷ []) xs ys
+    pub merging_step : (ls rs xs ys : List K) → IsFirst cmp ls rs x xs ys → Merging cmp ls0 rs0 zs ls rs
+        → Merging cmp ls0 rs0 (zs ++ c ∷ []) xs ys
     merging_step ls rs xs ys (left_first a b h) m =
         subst (Merging cmp ls0 rs0 (zs ++ c ∷ []) xs) (sym b) (merging_left xs rs h (subst (λ l. Merging cmp ls0 rs0 zs l rs) a m))
     merging_step ls rs xs ys (right_first a b h) m =

@@ -5,12 +5,16 @@ use Rattle.std.specs.declared.alloc.Global.{Global}
 use Rattle.std.specs.declared.rc.RcStr.{RcStr}
 use Rattle.cedar_types.specs.declared.base.location.Loc.{Loc}
 use Rattle.cedar_types.specs.declared.base.expressions.Expr.{Expr}
-use Rattle.cedar_types.specs.declared.base.expressions.ExprKind.{ExprKind, Row_of-Expr, end_of-Expr, more_of-Expr, items-the_row-Expr, items_shown-the_row-Expr-0, items_shown-the_row-Expr-1}
+use Rattle.cedar_types.specs.declared.base.expressions.ExprKind.{ExprKind, Row_of-Expr, end_of-Expr, more_of-Expr, items-the_row-Expr}
+use Rattle.cedar_types.specs.declared.base.expressions.ExprKind.{items_shown-the_row-Expr-0, items_shown-the_row-Expr-1}
 use Rattle.cedar_types.specs.declared.base.expressions.ExprKind.TheBlock.{shown-the_row-Expr-0, shown-the_row-Expr-1}
 use Rattle.cedar_types.specs.declared.base.expressions.ExprKind.TheVariants as K
 use Rattle.cedar_types.specs.Names.{text_of, path_of, type_of}
-use Rattle.cedar_types.specs.Expressions.Tree.{Tree, lit, var, slot, unknown, if_then_else, and, or, unary, binary, call, get_attr, has_attr, ext_has_attr, like, is_type, set_of, record_of, tree, field, map_tree, map_trees, map_fields}
-use Rattle.cedar_types.specs.Expressions.View.{Places, no_name, of_type, Written, lit_of, lit_places, chain_of, trees_of, fields_of, tree_with, shape, written}
+use Rattle.cedar_types.specs.Expressions.Tree.{Tree, lit, var, slot, unknown, if_then_else, and, or, unary, binary, call, get_attr}
+use Rattle.cedar_types.specs.Expressions.Tree.{has_attr, ext_has_attr, like, is_type, set_of, record_of, tree, field, map_tree, map_trees}
+use Rattle.cedar_types.specs.Expressions.Tree.{map_fields}
+use Rattle.cedar_types.specs.Expressions.View.{Places, no_name, of_type, Written, lit_of, lit_places, chain_of, trees_of, fields_of}
+use Rattle.cedar_types.specs.Expressions.View.{tree_with, shape, written}
 use Rattle.cedar_types.specs.Lemmas.Layers as layers
 
 module _ (T : Type 0) (D E : Type 0) (mark : T → Option Loc → Places → D) (g : D → E) where
@@ -37,7 +41,8 @@ module _ (T : Type 0) (D E : Type 0) (mark : T → Option Loc → Places → D) 
   lists_agree [] h = refl
   lists_agree (e ∷ es) h = λ i. tree (h.0 i) (lists_agree es h.1 i)
 
-  entries_agree : (es : List (RcStr Global × Expr T)) → AllAgree (values_of es) → fields_of (map (λ e. (e.0, coarse e.1)) es) ≡ map_fields g (fields_of (map (λ e. (e.0, fine e.1)) es))
+  entries_agree : (es : List (RcStr Global × Expr T)) → AllAgree (values_of es)
+      → fields_of (map (λ e. (e.0, coarse e.1)) es) ≡ map_fields g (fields_of (map (λ e. (e.0, fine e.1)) es))
   entries_agree [] h = refl
   entries_agree (e ∷ es) h = λ i. field (text_of e.0) (h.0 i) (entries_agree es h.1 i)
 
@@ -46,8 +51,12 @@ module _ (T : Type 0) (D E : Type 0) (mark : T → Option Loc → Places → D) 
       → layers.form T E coarse_mark k (λ p. g (d p)) ≡ map_tree g (layers.form T D mark k d)
   by_layers k d h = layers.is_layer T E coarse_mark k (λ p. g (d p)) ∙ h ∙ sym (ap (map_tree g) (layers.is_layer T D mark k d))
 
-  from_form : (e : Expr T) → ((d : Places → D) → layers.form T E coarse_mark e.kind (λ p. g (d p)) ≡ map_tree g (layers.form T D mark e.kind d)) → Agrees e
-  from_form e h = layers.seen_by_form T E coarse_mark e ∙ h (mark e.annotation e.loc) ∙ sym (ap (map_tree g) (layers.seen_by_form T D mark e))
+  from_form : (e : Expr T)
+      → ((d : Places → D) → layers.form T E coarse_mark e.kind (λ p. g (d p))
+      ≡ map_tree g (layers.form T D mark e.kind d)) → Agrees e
+  from_form e h =
+      layers.seen_by_form T E coarse_mark e ∙ h (mark e.annotation e.loc)
+      ∙ sym (ap (map_tree g) (layers.seen_by_form T D mark e))
 
   mutual
     forms_agree : (k : ExprKind T) (d : Places → D) → layers.form T E coarse_mark k (λ p. g (d p)) ≡ map_tree g (layers.form T D mark k d)
@@ -55,19 +64,56 @@ module _ (T : Type 0) (D E : Type 0) (mark : T → Option Loc → Places → D) 
     forms_agree (K.Var x1) d = by_layers (K.Var x1) d (λ i. var (g (d no_name)) x1)
     forms_agree (K.Slot x1) d = by_layers (K.Slot x1) d (λ i. slot (g (d no_name)) x1)
     forms_agree (K.Unknown x1) d = by_layers (K.Unknown x1) d (λ i. unknown (g (d no_name)) (path_of x1))
-    forms_agree (K.If' p1 a1 l1 k1 p2 a2 l2 k2 p3 a3 l3 k3) d = by_layers (K.If' p1 a1 l1 k1 p2 a2 l2 k2 p3 a3 l3 k3) d (λ i. if_then_else (g (d no_name)) (from_form (expr a1 l1 k1) (forms_agree k1) i) (from_form (expr a2 l2 k2) (forms_agree k2) i) (from_form (expr a3 l3 k3) (forms_agree k3) i))
-    forms_agree (K.And' p1 a1 l1 k1 p2 a2 l2 k2) d = by_layers (K.And' p1 a1 l1 k1 p2 a2 l2 k2) d (λ i. and (g (d no_name)) (from_form (expr a1 l1 k1) (forms_agree k1) i) (from_form (expr a2 l2 k2) (forms_agree k2) i))
-    forms_agree (K.Or' p1 a1 l1 k1 p2 a2 l2 k2) d = by_layers (K.Or' p1 a1 l1 k1 p2 a2 l2 k2) d (λ i. or (g (d no_name)) (from_form (expr a1 l1 k1) (forms_agree k1) i) (from_form (expr a2 l2 k2) (forms_agree k2) i))
-    forms_agree (K.UnaryApp' x1 p2 a2 l2 k2) d = by_layers (K.UnaryApp' x1 p2 a2 l2 k2) d (λ i. unary (g (d no_name)) x1 (from_form (expr a2 l2 k2) (forms_agree k2) i))
-    forms_agree (K.BinaryApp' x1 p2 a2 l2 k2 p3 a3 l3 k3) d = by_layers (K.BinaryApp' x1 p2 a2 l2 k2 p3 a3 l3 k3) d (λ i. binary (g (d no_name)) x1 (from_form (expr a2 l2 k2) (forms_agree k2) i) (from_form (expr a3 l3 k3) (forms_agree k3) i))
-    forms_agree (K.ExtensionFunctionApp' x1 h2 r2) d = by_layers (K.ExtensionFunctionApp' x1 h2 r2) d (λ i. call (g (d no_name)) (path_of x1) (lists_agree (shown-the_row-Expr-0 T h2 r2).items (subst AllAgree (sym (items_shown-the_row-Expr-0 T h2 r2)) (rows_agree r2)) i))
-    forms_agree (K.GetAttr' p1 a1 l1 k1 x2) d = by_layers (K.GetAttr' p1 a1 l1 k1 x2) d (λ i. get_attr (g (d no_name)) (from_form (expr a1 l1 k1) (forms_agree k1) i) (text_of x2))
-    forms_agree (K.HasAttr' p1 a1 l1 k1 x2) d = by_layers (K.HasAttr' p1 a1 l1 k1 x2) d (λ i. has_attr (g (d no_name)) (from_form (expr a1 l1 k1) (forms_agree k1) i) (text_of x2))
-    forms_agree (K.ExtHasAttr' p1 a1 l1 k1 x2) d = by_layers (K.ExtHasAttr' p1 a1 l1 k1 x2) d (λ i. ext_has_attr (g (d no_name)) (from_form (expr a1 l1 k1) (forms_agree k1) i) (chain_of x2).0 (chain_of x2).1)
-    forms_agree (K.Like' p1 a1 l1 k1 x2) d = by_layers (K.Like' p1 a1 l1 k1 x2) d (λ i. like (g (d no_name)) (from_form (expr a1 l1 k1) (forms_agree k1) i) x2.items)
-    forms_agree (K.Is' p1 a1 l1 k1 x2) d = by_layers (K.Is' p1 a1 l1 k1 x2) d (λ i. is_type (g (d (of_type x2.loc))) (from_form (expr a1 l1 k1) (forms_agree k1) i) (type_of x2))
-    forms_agree (K.Set' h1 r1) d = by_layers (K.Set' h1 r1) d (λ i. set_of (g (d no_name)) (lists_agree (shown-the_row-Expr-0 T h1 r1).items (subst AllAgree (sym (items_shown-the_row-Expr-0 T h1 r1)) (rows_agree r1)) i))
-    forms_agree (K.Record' h1 r1) d = by_layers (K.Record' h1 r1) d (λ i. record_of (g (d no_name)) (entries_agree (shown-the_row-Expr-1 T h1 r1).entries (subst AllAgree (sym (items_shown-the_row-Expr-1 T h1 r1)) (rows_agree r1)) i))
+    forms_agree (K.If' p1 a1 l1 k1 p2 a2 l2 k2 p3 a3 l3 k3) d =
+        by_layers (K.If' p1 a1 l1 k1 p2 a2 l2 k2 p3 a3 l3 k3) d
+        (λ i. if_then_else (g (d no_name)) (from_form (expr a1 l1 k1) (forms_agree k1) i)
+        (from_form (expr a2 l2 k2) (forms_agree k2) i) (from_form (expr a3 l3 k3) (forms_agree k3) i))
+    forms_agree (K.And' p1 a1 l1 k1 p2 a2 l2 k2) d =
+        by_layers (K.And' p1 a1 l1 k1 p2 a2 l2 k2) d
+        (λ i. and (g (d no_name)) (from_form (expr a1 l1 k1) (forms_agree k1) i)
+        (from_form (expr a2 l2 k2) (forms_agree k2) i))
+    forms_agree (K.Or' p1 a1 l1 k1 p2 a2 l2 k2) d =
+        by_layers (K.Or' p1 a1 l1 k1 p2 a2 l2 k2) d
+        (λ i. or (g (d no_name)) (from_form (expr a1 l1 k1) (forms_agree k1) i)
+        (from_form (expr a2 l2 k2) (forms_agree k2) i))
+    forms_agree (K.UnaryApp' x1 p2 a2 l2 k2) d =
+        by_layers (K.UnaryApp' x1 p2 a2 l2 k2) d
+        (λ i. unary (g (d no_name)) x1 (from_form (expr a2 l2 k2) (forms_agree k2) i))
+    forms_agree (K.BinaryApp' x1 p2 a2 l2 k2 p3 a3 l3 k3) d =
+        by_layers (K.BinaryApp' x1 p2 a2 l2 k2 p3 a3 l3 k3) d
+        (λ i. binary (g (d no_name)) x1 (from_form (expr a2 l2 k2) (forms_agree k2) i)
+        (from_form (expr a3 l3 k3) (forms_agree k3) i))
+    forms_agree (K.ExtensionFunctionApp' x1 h2 r2) d =
+        by_layers (K.ExtensionFunctionApp' x1 h2 r2) d
+        (λ i. call (g (d no_name)) (path_of x1)
+        (lists_agree (shown-the_row-Expr-0 T h2 r2).items
+        (subst AllAgree (sym (items_shown-the_row-Expr-0 T h2 r2)) (rows_agree r2)) i))
+    forms_agree (K.GetAttr' p1 a1 l1 k1 x2) d =
+        by_layers (K.GetAttr' p1 a1 l1 k1 x2) d
+        (λ i. get_attr (g (d no_name)) (from_form (expr a1 l1 k1) (forms_agree k1) i) (text_of x2))
+    forms_agree (K.HasAttr' p1 a1 l1 k1 x2) d =
+        by_layers (K.HasAttr' p1 a1 l1 k1 x2) d
+        (λ i. has_attr (g (d no_name)) (from_form (expr a1 l1 k1) (forms_agree k1) i) (text_of x2))
+    forms_agree (K.ExtHasAttr' p1 a1 l1 k1 x2) d =
+        by_layers (K.ExtHasAttr' p1 a1 l1 k1 x2) d
+        (λ i. ext_has_attr (g (d no_name)) (from_form (expr a1 l1 k1) (forms_agree k1) i)
+        (chain_of x2).0 (chain_of x2).1)
+    forms_agree (K.Like' p1 a1 l1 k1 x2) d =
+        by_layers (K.Like' p1 a1 l1 k1 x2) d
+        (λ i. like (g (d no_name)) (from_form (expr a1 l1 k1) (forms_agree k1) i) x2.items)
+    forms_agree (K.Is' p1 a1 l1 k1 x2) d =
+        by_layers (K.Is' p1 a1 l1 k1 x2) d
+        (λ i. is_type (g (d (of_type x2.loc))) (from_form (expr a1 l1 k1) (forms_agree k1) i) (type_of x2))
+    forms_agree (K.Set' h1 r1) d =
+        by_layers (K.Set' h1 r1) d
+        (λ i. set_of (g (d no_name))
+        (lists_agree (shown-the_row-Expr-0 T h1 r1).items
+        (subst AllAgree (sym (items_shown-the_row-Expr-0 T h1 r1)) (rows_agree r1)) i))
+    forms_agree (K.Record' h1 r1) d =
+        by_layers (K.Record' h1 r1) d
+        (λ i. record_of (g (d no_name))
+        (entries_agree (shown-the_row-Expr-1 T h1 r1).entries
+        (subst AllAgree (sym (items_shown-the_row-Expr-1 T h1 r1)) (rows_agree r1)) i))
 
     rows_agree : {n : _} → (r : Row_of-Expr T n) → AllAgree (items-the_row-Expr T n r)
     rows_agree end_of-Expr = tt

@@ -9,16 +9,21 @@ use Rattle.std.specs.declared.alloc.Global.{Global}
 use Rattle.std.specs.declared.rc.RcStr.{RcStr}
 use Rattle.cedar_types.specs.declared.base.expressions.Expr.{Expr}
 use Rattle.cedar_types.specs.declared.base.names.slots.SlotId.{SlotId}
-use Rattle.cedar_types.specs.Expressions.Tree.{Tree, lit, var, slot, unknown, if_then_else, and, or, unary, binary, call, get_attr, has_attr, ext_has_attr, like, is_type, set_of, record_of, Trees, no_trees, tree, Fields, no_fields, field}
+use Rattle.cedar_types.specs.Expressions.Tree.{Tree, lit, var, slot, unknown, if_then_else, and, or, unary, binary, call, get_attr}
+use Rattle.cedar_types.specs.Expressions.Tree.{has_attr, ext_has_attr, like, is_type, set_of, record_of, Trees, no_trees, tree, Fields}
+use Rattle.cedar_types.specs.Expressions.Tree.{no_fields, field}
 use Rattle.cedar_types.specs.Expressions.TreeEq.{slot_eq}
 use Rattle.cedar_types.specs.Expressions.View.{trees_of, written, fields_written}
-use Rattle.cedar_types.specs.Expressions.Parts.{subexpressions, subexpressions_of_all, subexpressions_of_fields, mentions_slot, any_mentions_slot, field_mentions_slot, is_slot, listed, field_values, parts, from_last}
+use Rattle.cedar_types.specs.Expressions.Parts.{subexpressions, subexpressions_of_all, subexpressions_of_fields, mentions_slot}
+use Rattle.cedar_types.specs.Expressions.Parts.{any_mentions_slot, field_mentions_slot, is_slot, listed, field_values, parts, from_last}
 
 module _ {D : Type 0} where
   -- what lies further back on the stack comes first
   from_last-append : (ts us : List (Tree D)) → from_last (ts ++ us) ≡ from_last us ++ from_last ts
   from_last-append [] us = sym (append-nil (from_last us))
-  from_last-append (t ∷ ts) us = ap (λ vs. vs ++ subexpressions t) (from_last-append ts us) ∙ append_assoc (from_last us) (from_last ts) (subexpressions t)
+  from_last-append (t ∷ ts) us =
+      ap (λ vs. vs ++ subexpressions t) (from_last-append ts us)
+      ∙ append_assoc (from_last us) (from_last ts) (subexpressions t)
 
   all_listed : (ts : Trees D) → subexpressions_of_all ts ≡ from_last (listed ts)
   all_listed no_trees = refl
@@ -34,7 +39,9 @@ module _ {D : Type 0} where
   by_parts (var d x) = refl
   by_parts (slot d x) = refl
   by_parts (unknown d x) = refl
-  by_parts (if_then_else d a b c) = ap (λ ts. if_then_else d a b c ∷ ts) (sym (append_assoc (subexpressions c) (subexpressions b) (subexpressions a)))
+  by_parts (if_then_else d a b c) =
+      ap (λ ts. if_then_else d a b c ∷ ts)
+      (sym (append_assoc (subexpressions c) (subexpressions b) (subexpressions a)))
   by_parts (and d a b) = refl
   by_parts (or d a b) = refl
   by_parts (unary d o a) = refl
@@ -61,7 +68,8 @@ pub listed_again : {D : Type 0} (ts : List (Tree D)) → listed (trees_of ts) �
 listed_again [] = refl
 listed_again (t ∷ ts) = ap (λ us. t ∷ us) (listed_again ts)
 
-pub field_values_again : {T : Type 0} (es : List (RcStr Global × Expr T)) → field_values (fields_written es) ≡ map (written {T = T}) (values_of es)
+pub field_values_again : {T : Type 0} (es : List (RcStr Global × Expr T))
+    → field_values (fields_written es) ≡ map (written {T = T}) (values_of es)
 field_values_again [] = refl
 field_values_again {T} (e ∷ es) = ap (λ us. written {T = T} e.1 ∷ us) (field_values_again es)
 
@@ -75,7 +83,9 @@ module _ {D : Type 0} (s : SlotId) where
   in_both : (ts us : List (Tree D)) (b c : Bool) → found ts ≡ b → found us ≡ c → found (us ++ ts) ≡ (b || c)
   in_both ts us b c h k = list_any-append (is_slot s) us ts ∙ or_comm (found us) (found ts) ∙ (λ i. h i || k i)
 
-  both_found : (a b : Tree D) → found (subexpressions a) ≡ mentions_slot s a → found (subexpressions b) ≡ mentions_slot s b → found (subexpressions b ++ subexpressions a) ≡ (mentions_slot s a || mentions_slot s b)
+  both_found : (a b : Tree D) → found (subexpressions a) ≡ mentions_slot s a
+      → found (subexpressions b) ≡ mentions_slot s b → found (subexpressions b ++ subexpressions a)
+      ≡ (mentions_slot s a || mentions_slot s b)
   both_found a b h k = in_both (subexpressions a) (subexpressions b) (mentions_slot s a) (mentions_slot s b) h k
 
   mutual
@@ -86,7 +96,8 @@ module _ {D : Type 0} (s : SlotId) where
     slot_found (slot d x) = or_comm (slot_eq x s) false
     slot_found (unknown d x) = refl
     slot_found (if_then_else d a b c) =
-        in_both (subexpressions b ++ subexpressions a) (subexpressions c) (mentions_slot s a || mentions_slot s b) (mentions_slot s c) (both_found a b (slot_found a) (slot_found b)) (slot_found c)
+        in_both (subexpressions b ++ subexpressions a) (subexpressions c) (mentions_slot s a || mentions_slot s b)
+        (mentions_slot s c) (both_found a b (slot_found a) (slot_found b)) (slot_found c)
         ∙ or_assoc (mentions_slot s a) (mentions_slot s b) (mentions_slot s c)
     slot_found (and d a b) = both_found a b (slot_found a) (slot_found b)
     slot_found (or d a b) = both_found a b (slot_found a) (slot_found b)
@@ -103,8 +114,12 @@ module _ {D : Type 0} (s : SlotId) where
 
     in_list : (ts : Trees D) → list_any (is_slot s) (subexpressions_of_all ts) ≡ any_mentions_slot s ts
     in_list no_trees = refl
-    in_list (tree t ts) = in_both (subexpressions t) (subexpressions_of_all ts) (mentions_slot s t) (any_mentions_slot s ts) (slot_found t) (in_list ts)
+    in_list (tree t ts) =
+        in_both (subexpressions t) (subexpressions_of_all ts) (mentions_slot s t) (any_mentions_slot s ts)
+        (slot_found t) (in_list ts)
 
     in_fields : (fs : Fields D) → list_any (is_slot s) (subexpressions_of_fields fs) ≡ field_mentions_slot s fs
     in_fields no_fields = refl
-    in_fields (field k t fs) = in_both (subexpressions t) (subexpressions_of_fields fs) (mentions_slot s t) (field_mentions_slot s fs) (slot_found t) (in_fields fs)
+    in_fields (field k t fs) =
+        in_both (subexpressions t) (subexpressions_of_fields fs) (mentions_slot s t) (field_mentions_slot s fs)
+        (slot_found t) (in_fields fs)

@@ -45,7 +45,8 @@ module _ (T : Type 0) where
       ∙ ap (at_place m) (sym (layers.is_layer T Written mark k (at l)))
 
   -- an expression at another place is the tree at that place
-  pub written-at : (a : T) (k : ExprKind T) (l m : Option Loc) → written (layers.expr T Written mark a m k) ≡ at_place m (written (layers.expr T Written mark a l k))
+  pub written-at : (a : T) (k : ExprKind T) (l m : Option Loc) → written (layers.expr T Written mark a m k)
+      ≡ at_place m (written (layers.expr T Written mark a l k))
   written-at a k l m =
       layers.seen_by_form T Written mark (layers.expr T Written mark a m k)
       ∙ form_at k l m

@@ -9,7 +9,8 @@ use Rattle.cedar_types.specs.Names.{Path}
 use Rattle.cedar_types.specs.Schemas.{DeclaredType, is_among}
 use Rattle.cedar_types.specs.Templates.{Scope, any, equal, within, typed, typed_within}
 
-passing_at : {A : Type 0} (p : A → Bool) (x : A) (xs : List A) (b : Bool) → p x ≡ b → length (filter p xs) ≤ length xs → length (filter p (x ∷ xs)) ≤ length (x ∷ xs)
+passing_at : {A : Type 0} (p : A → Bool) (x : A) (xs : List A) (b : Bool) → p x ≡ b
+    → length (filter p xs) ≤ length xs → length (filter p (x ∷ xs)) ≤ length (x ∷ xs)
 passing_at p x xs true e h = rw e (omega arith)
 passing_at p x xs false e h = rw e (omega arith)
 
@@ -21,7 +22,8 @@ passing p (x ∷ xs) = passing_at p x xs (p x) refl (passing p xs)
 -- the types above its own, and its own
 types_above_few : (ts : List DeclaredType) (own : Path) → length (types_above ts own ++ (own ∷ [])) ≤ length ts + 1
 types_above_few ts own =
-    let above : length (types_above ts own) ≡ length (filter (λ t. is_among t.descendants own) ts) = length-map (filter (λ t. is_among t.descendants own) ts) (λ t. t.name) in
+    let above : length (types_above ts own) ≡ length (filter (λ t. is_among t.descendants own) ts) = length-map
+    (filter (λ t. is_among t.descendants own) ts) (λ t. t.name) in
     let most = passing (λ t. is_among t.descendants own) ts in
     let all = length-append (types_above ts own) (own ∷ []) in
     omega arith

@@ -7,7 +7,9 @@ use Rattle.cedar_types.specs.declared.base.expressions.operators.Var.{Var}
 use Rattle.cedar_types.specs.Environments.Linking.{is_slot, names_slot}
 use Rattle.cedar_types.specs.Names.{PlacedUid}
 use Rattle.cedar_types.specs.Expressions.Parts.{mentions_slot, any_mentions_slot}
-use Rattle.cedar_types.specs.Templates.{Reference, to_entity, to_slot, Scope, any, equal, within, typed, typed_within, ActionScope, any_action, equal_action, within_actions, PlainTemplate, reference_at, scope_at, uid_at, action_scope_at, scope_condition}
+use Rattle.cedar_types.specs.Templates.{Reference, to_entity, to_slot, Scope, any, equal, within, typed, typed_within, ActionScope}
+use Rattle.cedar_types.specs.Templates.{any_action, equal_action, within_actions, PlainTemplate, reference_at, scope_at, uid_at}
+use Rattle.cedar_types.specs.Templates.{action_scope_at, scope_condition}
 use Rattle.cedar_types.specs.Expressions.TreeEq.{slot_eq}
 use Rattle.cedar_types.specs.Expressions.View.{trees_of}
 
@@ -17,7 +19,8 @@ own_reference Principal l to_slot = refl
 own_reference Resource l (to_entity u) = refl
 own_reference Resource l to_slot = refl
 
-other_reference : (s other : SlotId) → slot_eq other s ≡ false → (l : Option Loc) (r : Reference) → mentions_slot s (reference_at l other r) ≡ false
+other_reference : (s other : SlotId) → slot_eq other s ≡ false → (l : Option Loc) (r : Reference)
+    → mentions_slot s (reference_at l other r) ≡ false
 other_reference s other n l (to_entity u) = refl
 other_reference s other n l to_slot = n
 
@@ -28,7 +31,8 @@ own_scope s l v (within r) = own_reference s l r
 own_scope s l v (typed t) = refl
 own_scope s l v (typed_within t r) = own_reference s l r
 
-pub other_scope : (s other : SlotId) → slot_eq other s ≡ false → (l : Option Loc) (v : Var) (c : Scope) → mentions_slot s (scope_at l v other c) ≡ false
+pub other_scope : (s other : SlotId) → slot_eq other s ≡ false → (l : Option Loc) (v : Var) (c : Scope)
+    → mentions_slot s (scope_at l v other c) ≡ false
 other_scope s other n l v any = refl
 other_scope s other n l v (equal r) = other_reference s other n l r
 other_scope s other n l v (within r) = other_reference s other n l r

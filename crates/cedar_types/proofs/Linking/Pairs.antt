@@ -32,7 +32,8 @@ no_resource place ps [] i j h k = rw (no_resources place (map link_of (drop i ps
 no_resource place ps (r ∷ rs) i j h k = absurd (omega arith)
 
 -- the row of one principal link
-module _ (place : Place) (ps rs : List Link) (i j : ℕ) (p r : Link) (in_ps : i < length ps) (in_rs : j < length rs) (is_p : p ≡ get_or ps i p) (is_r : r ≡ get_or rs j r) where
+module _ (place : Place) (ps rs : List Link) (i j : ℕ) (p r : Link) (in_ps : i < length ps) (in_rs : j < length rs)
+    (is_p : p ≡ get_or ps i p) (is_r : r ≡ get_or rs j r) where
   abbrev linked : Option Path → Option Path → Env
   linked = Declared (place_env place)
 

@@ -17,10 +17,17 @@ use Rattle.cedar_types.proofs.Names.Paths.{names_cmp, path_ties}
 -- ---- equality is what the tests decide
 
 pub path_decides : (p q : Path) → Decides (path_eq p q) (p ≡ q)
-path_decides p q = Decides-like (path_eq p q) (λ h. λ i. record { path = h.0 i; basename = h.1 i }) (λ e. (ap (λ r. r.path) e, ap (λ r. r.basename) e)) (Decides-and _ _ (slice_eq-Decides {E = text_eq} bytes_eq-Decides p.path q.path _ refl) (bytes_eq-Decides p.basename q.basename))
+path_decides p q =
+    Decides-like (path_eq p q) (λ h. λ i. record { path = h.0 i; basename = h.1 i })
+    (λ e. (ap (λ r. r.path) e, ap (λ r. r.basename) e))
+    (Decides-and _ _ (slice_eq-Decides {E = text_eq} bytes_eq-Decides p.path q.path _ refl)
+    (bytes_eq-Decides p.basename q.basename))
 
 pub uid_decides : (u v : Uid) → Decides (uid_eq u v) (u ≡ v)
-uid_decides u v = Decides-like (uid_eq u v) (λ h. λ i. record { entity_type = h.0 i; eid = h.1 i }) (λ e. (ap (λ r. r.entity_type) e, ap (λ r. r.eid) e)) (Decides-and _ _ (path_decides u.entity_type v.entity_type) (bytes_eq-Decides u.eid v.eid))
+uid_decides u v =
+    Decides-like (uid_eq u v) (λ h. λ i. record { entity_type = h.0 i; eid = h.1 i })
+    (λ e. (ap (λ r. r.entity_type) e, ap (λ r. r.eid) e))
+    (Decides-and _ _ (path_decides u.entity_type v.entity_type) (bytes_eq-Decides u.eid v.eid))
 
 pub path_symm : (p q : Path) → path_eq p q ≡ path_eq q p
 path_symm p q = same_from_decides (path_eq p q) (path_eq q p) (path_decides p q) (Decides-like (path_eq q p) sym sym (path_decides q p))
@@ -41,20 +48,29 @@ uid_ties u v =
     ∙ ap (λ r. is_eq (path_cmp u.entity_type v.entity_type) && r) (texts_ties u.eid v.eid)
     ∙ tied_then (path_cmp u.entity_type v.entity_type) (text_cmp u.eid v.eid)
 
-pub uids_cmp : (u v : EntityUID) → ordering_then (ordering_then (slice_cmp (λ x y. text_cmp (text_of x) (text_of y)) u.entity_type.name.path.items v.entity_type.name.path.items) (text_cmp (text_of u.entity_type.name.basename) (text_of v.entity_type.name.basename))) (text_cmp (text_of u.eid) (text_of v.eid)) ≡ uid_cmp (uid_of u) (uid_of v)
+pub uids_cmp : (u v : EntityUID)
+    → ordering_then (ordering_then
+    (slice_cmp (λ x y. text_cmp (text_of x) (text_of y))
+    u.entity_type.name.path.items v.entity_type.name.path.items)
+    (text_cmp (text_of u.entity_type.name.basename) (text_of v.entity_type.name.basename)))
+    (text_cmp (text_of u.eid) (text_of v.eid)) ≡ uid_cmp (uid_of u) (uid_of v)
 uids_cmp u v = ap (λ r. ordering_then r (text_cmp (text_of u.eid) (text_of v.eid))) (names_cmp u.entity_type.name v.entity_type.name)
 
 -- a set of ids, whose comparison is R, is asked by id
-pub contained_id : (R : EntityUID → Ordering) (u : Uid) → ((k : EntityUID) → R k ≡ uid_cmp u (uid_of k)) → (ks : List EntityUID) → list_any (λ k. is_eq (R k)) ks ≡ list_any (uid_eq u) (map uid_of ks)
+pub contained_id : (R : EntityUID → Ordering) (u : Uid) → ((k : EntityUID) → R k ≡ uid_cmp u (uid_of k))
+    → (ks : List EntityUID) → list_any (λ k. is_eq (R k)) ks ≡ list_any (uid_eq u) (map uid_of ks)
 contained_id R u h [] = refl
 contained_id R u h (k ∷ ks) = λ i. ((ap is_eq (h k) ∙ sym (uid_ties u (uid_of k))) i) || contained_id R u h ks i
 
 -- ---- maps by name
 
 -- a map by names, whose comparison is R, is asked by name
-pub type_lookup : {X : Type 0} (R : EntityType → Ordering) (p : Path) → ((k : EntityType) → R k ≡ path_cmp p (type_of k)) → (es : List (EntityType × X)) → lookup (λ k. is_eq (R k)) es ≡ lookup (λ k. path_eq p (type_of k)) es
+pub type_lookup : {X : Type 0} (R : EntityType → Ordering) (p : Path)
+    → ((k : EntityType) → R k ≡ path_cmp p (type_of k)) → (es : List (EntityType × X))
+    → lookup (λ k. is_eq (R k)) es ≡ lookup (λ k. path_eq p (type_of k)) es
 type_lookup R p h es = ap (λ test. lookup test es) (λ i k. (ap is_eq (h k) ∙ sym (path_ties p (type_of k))) i)
 
 -- a map by ids, likewise
-pub uid_lookup : {X : Type 0} (R : EntityUID → Ordering) (u : Uid) → ((k : EntityUID) → R k ≡ uid_cmp u (uid_of k)) → (es : List (EntityUID × X)) → lookup (λ k. is_eq (R k)) es ≡ lookup (λ k. uid_eq u (uid_of k)) es
+pub uid_lookup : {X : Type 0} (R : EntityUID → Ordering) (u : Uid) → ((k : EntityUID) → R k ≡ uid_cmp u (uid_of k))
+    → (es : List (EntityUID × X)) → lookup (λ k. is_eq (R k)) es ≡ lookup (λ k. uid_eq u (uid_of k)) es
 uid_lookup R u h es = ap (λ test. lookup test es) (λ i k. (ap is_eq (h k) ∙ sym (uid_ties u (uid_of k))) i)

@@ -7,7 +7,8 @@ use Rattle.cedar_types.specs.Names.{Path, path_cmp}
 use Rattle.cedar_types.specs.Names.Ascending.{has_members}
 use Rattle.cedar_types.specs.Types.Bounds.{union, insert_path}
 
-either : {A : Type 0} (o : Ordering) (xs ys zs : List A) → has_members xs ≡ true → has_members ys ≡ true → has_members zs ≡ true → has_members (match_ordering o xs ys zs) ≡ true
+either : {A : Type 0} (o : Ordering) (xs ys zs : List A) → has_members xs ≡ true → has_members ys ≡ true
+    → has_members zs ≡ true → has_members (match_ordering o xs ys zs) ≡ true
 either Less xs ys zs f g h = f
 either Equal xs ys zs f g h = g
 either Greater xs ys zs f g h = h

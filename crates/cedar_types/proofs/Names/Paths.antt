@@ -14,11 +14,19 @@ use Rattle.cedar_types.specs.Names.{Path, text_of, path_of, type_of, placed_type
 use Rattle.cedar_types.specs.Names.Ascending.{has_members, types_ascend}
 use Rattle.cedar_types.specs.Types.Bounds.{insert_path}
 
-pub names_eq : (a b : Name) → (pointwise (λ x y. text_eq (text_of x) (text_of y)) a.path.items b.path.items && text_eq (text_of a.basename) (text_of b.basename)) ≡ path_eq (path_of a) (path_of b)
-names_eq a b = ap (λ r. r && text_eq (text_of a.basename) (text_of b.basename)) (sym (pointwise-map text_of text_eq a.path.items b.path.items))
+pub names_eq : (a b : Name)
+    → (pointwise (λ x y. text_eq (text_of x) (text_of y)) a.path.items b.path.items
+    && text_eq (text_of a.basename) (text_of b.basename)) ≡ path_eq (path_of a) (path_of b)
+names_eq a b =
+    ap (λ r. r && text_eq (text_of a.basename) (text_of b.basename))
+    (sym (pointwise-map text_of text_eq a.path.items b.path.items))
 
-pub names_cmp : (a b : Name) → ordering_then (slice_cmp (λ x y. text_cmp (text_of x) (text_of y)) a.path.items b.path.items) (text_cmp (text_of a.basename) (text_of b.basename)) ≡ path_cmp (path_of a) (path_of b)
-names_cmp a b = ap (λ r. ordering_then r (text_cmp (text_of a.basename) (text_of b.basename))) (sym (lex_map text_of text_cmp a.path.items b.path.items))
+pub names_cmp : (a b : Name)
+    → ordering_then (slice_cmp (λ x y. text_cmp (text_of x) (text_of y)) a.path.items b.path.items)
+    (text_cmp (text_of a.basename) (text_of b.basename)) ≡ path_cmp (path_of a) (path_of b)
+names_cmp a b =
+    ap (λ r. ordering_then r (text_cmp (text_of a.basename) (text_of b.basename)))
+    (sym (lex_map text_of text_cmp a.path.items b.path.items))
 
 tied_then : (o p : Ordering) → (is_eq o && is_eq p) ≡ is_eq (ordering_then o p)
 tied_then Less p = refl
@@ -33,17 +41,21 @@ path_ties p q =
     ∙ tied_then (slice_cmp text_cmp p.path q.path) (text_cmp p.basename q.basename)
 
 -- a set of entity types, whose comparison is R, is asked by name
-pub contained : (R : EntityType → Ordering) (p : Path) → ((k : EntityType) → R k ≡ path_cmp p (type_of k)) → (ks : List EntityType) → list_any (λ k. is_eq (R k)) ks ≡ list_any (path_eq p) (map type_of ks)
+pub contained : (R : EntityType → Ordering) (p : Path) → ((k : EntityType) → R k ≡ path_cmp p (type_of k))
+    → (ks : List EntityType) → list_any (λ k. is_eq (R k)) ks ≡ list_any (path_eq p) (map type_of ks)
 contained R p h [] = refl
 contained R p h (k ∷ ks) = λ i. (ap is_eq (h k) ∙ sym (path_ties p (type_of k))) i || contained R p h ks i
 
 -- the members of a set of entity types, whose order is R, ascend
-pub ascend : (R : EntityType → EntityType → Ordering) → ((a b : EntityType) → R a b ≡ path_cmp (type_of a) (type_of b)) → (ks : List EntityType) → IsStrictlySortedBy R ks → types_ascend ks ≡ true
+pub ascend : (R : EntityType → EntityType → Ordering)
+    → ((a b : EntityType) → R a b ≡ path_cmp (type_of a) (type_of b)) → (ks : List EntityType)
+    → IsStrictlySortedBy R ks → types_ascend ks ≡ true
 unfolding IsStrictlySortedBy
 ascend R h [] s = refl
 ascend R h (k ∷ ks) s = (λ i. above ks s.0 i && ascend R h ks s.1 i)
   where
-    above : (ls : List EntityType) → AllByRecursion (λ l. R k l ≡ Less) ls → list_all (λ q. is_lt (path_cmp (type_of k) q)) (map type_of ls) ≡ true
+    above : (ls : List EntityType) → AllByRecursion (λ l. R k l ≡ Less) ls
+        → list_all (λ q. is_lt (path_cmp (type_of k) q)) (map type_of ls) ≡ true
     above [] t = refl
     above (l ∷ ls) t = λ i. ap is_lt (sym (h k l) ∙ t.0) i && above ls t.1 i
 
@@ -51,21 +63,28 @@ pub has_one : {A : Type 0} (xs : List A) (n : ℕ) → n ≡ length xs → (n �
 has_one [] n e h = absurd (h e)
 has_one (x ∷ xs) n e h = refl
 
-map_match : {A B : Type 0} (f : A → B) (o : Ordering) (a b c : List A) → map f (match_ordering o a b c) ≡ match_ordering o (map f a) (map f b) (map f c)
+map_match : {A B : Type 0} (f : A → B) (o : Ordering) (a b c : List A)
+    → map f (match_ordering o a b c) ≡ match_ordering o (map f a) (map f b) (map f c)
 map_match f Less a b c = refl
 map_match f Equal a b c = refl
 map_match f Greater a b c = refl
 
 -- a type put into a set of entity types, whose order is R
-pub inserted : (R : EntityType → EntityType → Ordering) → ((a b : EntityType) → R a b ≡ path_cmp (type_of a) (type_of b)) → (ks : List EntityType) (k : EntityType) → map type_of (insert_key R ks k) ≡ insert_path (type_of k) (map type_of ks)
+pub inserted : (R : EntityType → EntityType → Ordering)
+    → ((a b : EntityType) → R a b ≡ path_cmp (type_of a) (type_of b)) → (ks : List EntityType) (k : EntityType)
+    → map type_of (insert_key R ks k) ≡ insert_path (type_of k) (map type_of ks)
 inserted R h [] k = refl
 inserted R h (x ∷ xs) k =
     map_match type_of (R k x) (k ∷ x ∷ xs) (x ∷ xs) (x ∷ insert_key R xs k)
-    ∙ ap (λ o. match_ordering o (type_of k ∷ type_of x ∷ map type_of xs) (type_of x ∷ map type_of xs) (type_of x ∷ map type_of (insert_key R xs k))) (h k x)
-    ∙ ap (λ r. match_ordering (path_cmp (type_of k) (type_of x)) (type_of k ∷ type_of x ∷ map type_of xs) (type_of x ∷ map type_of xs) (type_of x ∷ r)) (inserted R h xs k)
+    ∙ ap (λ o. match_ordering o (type_of k ∷ type_of x ∷ map type_of xs) (type_of x ∷ map type_of xs)
+    (type_of x ∷ map type_of (insert_key R xs k))) (h k x)
+    ∙ ap (λ r. match_ordering (path_cmp (type_of k) (type_of x)) (type_of k ∷ type_of x ∷ map type_of xs)
+    (type_of x ∷ map type_of xs) (type_of x ∷ r)) (inserted R h xs k)
 
 -- copies show the same; a copy of an entity type keeps its place too
-pub clones_alike : {B : Type 0} (f : EntityType → B) (xs ys : List EntityType) → ((x y : EntityType) → placed_type y ≡ placed_type x → f y ≡ f x) → AllZip (λ x y. placed_type y ≡ placed_type x) xs ys → map f ys ≡ map f xs
+pub clones_alike : {B : Type 0} (f : EntityType → B) (xs ys : List EntityType)
+    → ((x y : EntityType) → placed_type y ≡ placed_type x → f y ≡ f x)
+    → AllZip (λ x y. placed_type y ≡ placed_type x) xs ys → map f ys ≡ map f xs
 clones_alike f [] [] g h = refl
 clones_alike f [] (y ∷ ys) g h = absurd h
 clones_alike f (x ∷ xs) [] g h = absurd h

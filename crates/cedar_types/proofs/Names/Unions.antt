@@ -60,7 +60,8 @@ pub above_from : (p : Path) (qs : List Path) → list_all (λ q. is_lt (path_cmp
 above_from p [] h q e = absurd (true≢false (sym e))
 above_from p (x ∷ xs) h q e =
     elim (or_cases (path_eq q x) (has q xs) e) [
-      | inl a ↦ subst (λ r. path_cmp p r ≡ Less) (sym (path_to q x a)) (less_is (path_cmp p x) (and_left (is_lt (path_cmp p x)) (list_all (λ q. is_lt (path_cmp p q)) xs) h))
+      | inl a ↦ subst (λ r. path_cmp p r ≡ Less) (sym (path_to q x a))
+          (less_is (path_cmp p x) (and_left (is_lt (path_cmp p x)) (list_all (λ q. is_lt (path_cmp p q)) xs) h))
       | inr b ↦ above_from p xs (and_right (is_lt (path_cmp p x)) (list_all (λ q. is_lt (path_cmp p q)) xs) h) q b
     ]
 
@@ -84,7 +85,8 @@ absent : (p : Path) (ps : List Path) → Above p ps → has p ps ≡ false
 absent p ps h = not_true (has p ps) (λ e. not_below_itself p (h p e))
 
 -- ascending names are told by their members
-pub same_members : (ps qs : List Path) → paths_ascending ps ≡ true → paths_ascending qs ≡ true → ((r : Path) → has r ps ≡ has r qs) → ps ≡ qs
+pub same_members : (ps qs : List Path) → paths_ascending ps ≡ true → paths_ascending qs ≡ true
+    → ((r : Path) → has r ps ≡ has r qs) → ps ≡ qs
 same_members [] [] a b h = refl
 same_members [] (q ∷ qs) a b h = absurd (true≢false (sym (h q ∙ has_first q qs)))
 same_members (p ∷ ps) [] a b h = absurd (true≢false (sym (has_first p ps) ∙ h p))
@@ -130,7 +132,8 @@ pub has_inserted : (r p : Path) (qs : List Path) → has r (insert_path p qs) �
 has_inserted r p [] = refl
 has_inserted r p (q ∷ qs) = by (has_inserted r p qs) (path_cmp p q) refl
   where
-    by : has r (insert_path p qs) ≡ (path_eq r p || has r qs) → (o : Ordering) → path_cmp p q ≡ o → has r (match_ordering o (p ∷ q ∷ qs) (q ∷ qs) (q ∷ insert_path p qs)) ≡ (path_eq r p || has r (q ∷ qs))
+    by : has r (insert_path p qs) ≡ (path_eq r p || has r qs) → (o : Ordering) → path_cmp p q ≡ o
+        → has r (match_ordering o (p ∷ q ∷ qs) (q ∷ qs) (q ∷ insert_path p qs)) ≡ (path_eq r p || has r (q ∷ qs))
     by others Less e = refl
     by others Equal e = or_twice (path_eq r q) (has r qs) ∙ ap (λ x. path_eq r x || (path_eq r q || has r qs)) (sym (tied_paths p q e))
     by others Greater e = ap (λ b. path_eq r q || b) others ∙ or_turn (path_eq r q) (path_eq r p) (has r qs)
@@ -153,10 +156,13 @@ inserted_ascends p (q ∷ qs) a = by (inserted_ascends p qs (rest_ascends q qs a
           | inr g ↦ first_above q qs a r g
         ]
 
-    by : paths_ascending (insert_path p qs) ≡ true → (o : Ordering) → path_cmp p q ≡ o → paths_ascending (match_ordering o (p ∷ q ∷ qs) (q ∷ qs) (q ∷ insert_path p qs)) ≡ true
+    by : paths_ascending (insert_path p qs) ≡ true → (o : Ordering) → path_cmp p q ≡ o
+        → paths_ascending (match_ordering o (p ∷ q ∷ qs) (q ∷ qs) (q ∷ insert_path p qs)) ≡ true
     by others Less e = and_both (list_all (λ x. is_lt (path_cmp p x)) (q ∷ qs)) (paths_ascending (q ∷ qs)) (above_to p (q ∷ qs) (first e)) a
     by others Equal e = a
-    by others Greater e = and_both (list_all (λ x. is_lt (path_cmp q x)) (insert_path p qs)) (paths_ascending (insert_path p qs)) (above_to q (insert_path p qs) (still e)) others
+    by others Greater e =
+        and_both (list_all (λ x. is_lt (path_cmp q x)) (insert_path p qs)) (paths_ascending (insert_path p qs))
+        (above_to q (insert_path p qs) (still e)) others
 
 -- ---- unions
 or_move : (a b c : Bool) → ((a || b) || c) ≡ (b || (a || c))
@@ -186,14 +192,18 @@ or_turned false true = refl
 or_turned false false = refl
 
 pub union_symmetric : (ps qs : List Path) → paths_ascending ps ≡ true → paths_ascending qs ≡ true → union ps qs ≡ union qs ps
-union_symmetric ps qs a b = same_members (union ps qs) (union qs ps) (union_ascends ps qs a) (union_ascends qs ps b) (λ r. has_union r ps qs ∙ or_turned (has r ps) (has r qs) ∙ sym (has_union r qs ps))
+union_symmetric ps qs a b =
+    same_members (union ps qs) (union qs ps) (union_ascends ps qs a) (union_ascends qs ps b)
+    (λ r. has_union r ps qs ∙ or_turned (has r ps) (has r qs) ∙ sym (has_union r qs ps))
 
 pub union_absorbs : (ps qs : List Path) → paths_ascending ps ≡ true → union ps (union ps qs) ≡ union ps qs
 union_absorbs ps qs a = same_members (union ps (union ps qs)) (union ps qs) (union_ascends ps (union ps qs) a) (union_ascends ps qs a)
-    (λ r. has_union r ps (union ps qs) ∙ ap (λ b. has r ps || b) (has_union r ps qs) ∙ sym (or_twice (has r ps) (has r qs)) ∙ sym (has_union r ps qs))
+    (λ r. has_union r ps (union ps qs) ∙ ap (λ b. has r ps || b) (has_union r ps qs)
+    ∙ sym (or_twice (has r ps) (has r qs)) ∙ sym (has_union r ps qs))
 
 -- the union of ps with qs is qs where qs has all of ps
-pub union_of_part : (ps qs : List Path) → paths_ascending ps ≡ true → paths_ascending qs ≡ true → ((r : Path) → (has r ps || has r qs) ≡ has r qs) → union ps qs ≡ qs
+pub union_of_part : (ps qs : List Path) → paths_ascending ps ≡ true → paths_ascending qs ≡ true
+    → ((r : Path) → (has r ps || has r qs) ≡ has r qs) → union ps qs ≡ qs
 union_of_part ps qs a b h = same_members (union ps qs) qs (union_ascends ps qs a) b (λ r. has_union r ps qs ∙ h r)
 
 pub part_of_union : (ps qs : List Path) → union ps qs ≡ qs → (r : Path) → (has r ps || has r qs) ≡ has r qs
@@ -204,8 +214,11 @@ or_chain false b c h g = refl
 or_chain true true c h g = g
 or_chain true false c h g = absurd (true≢false h)
 
-pub union_chain : (ps qs rs : List Path) → paths_ascending ps ≡ true → paths_ascending rs ≡ true → union ps qs ≡ qs → union qs rs ≡ rs → union ps rs ≡ rs
-union_chain ps qs rs a b h g = union_of_part ps rs a b (λ r. or_chain (has r ps) (has r qs) (has r rs) (part_of_union ps qs h r) (part_of_union qs rs g r))
+pub union_chain : (ps qs rs : List Path) → paths_ascending ps ≡ true → paths_ascending rs ≡ true → union ps qs ≡ qs
+    → union qs rs ≡ rs → union ps rs ≡ rs
+union_chain ps qs rs a b h g =
+    union_of_part ps rs a b (λ r. or_chain (has r ps) (has r qs) (has r rs) (part_of_union ps qs h r)
+    (part_of_union qs rs g r))
 
 pub union_not_empty : (p : Path) (ps qs : List Path) → has p ps ≡ true → union ps qs ≡ [] → ⊥
 union_not_empty p ps qs h e = true≢false (sym (has_union p ps qs ∙ ap (λ b. b || has p qs) h) ∙ ap (has p) e)

@@ -1,5 +1,6 @@
 -- Sets of descendants: what is kept of each is closed in all.
-use Rattle.std.proofs.Common.{◌≡◌, refl, sym, ap, ◌∙◌, arith, ℕ, zero, suc, ◌<◌, Bool, true, false, ◌||◌, ◌&&◌, List, [], ◌∷◌, map, length, Some, cond, nat_lt, ltb-true, lt-ltb, IsTrue, ◌↔◌}
+use Rattle.std.proofs.Common.{◌≡◌, refl, sym, ap, ◌∙◌, arith, ℕ, zero, suc, ◌<◌, Bool, true, false, ◌||◌, ◌&&◌, List, [], ◌∷◌, map, length}
+use Rattle.std.proofs.Common.{Some, cond, nat_lt, ltb-true, lt-ltb, IsTrue, ◌↔◌}
 use Rattle.std.specs.declared.cmp.Ordering.{Ordering}
 use Rattle.std.specs.Ordering.{is_eq}
 use Rattle.std.specs.Bool.{Decides}
@@ -40,7 +41,9 @@ found_passes p (x ∷ xs) y h = along (p x) refl h (found_passes p xs y)
     along false e h k = k h
 
 -- what is found by a name has it, and is found by its own
-pub found_named : {X B : Type 0} (same : B → B → Bool) → ((a b : B) → Decides (same a b) (a ≡ b)) → (name : X → B) (xs : List X) (b : B) (x : X) → find (λ y. same b (name y)) xs ≡ Some x → (b ≡ name x) × (find (λ y. same (name x) (name y)) xs ≡ Some x)
+pub found_named : {X B : Type 0} (same : B → B → Bool) → ((a b : B) → Decides (same a b) (a ≡ b)) → (name : X → B)
+    (xs : List X) (b : B) (x : X) → find (λ y. same b (name y)) xs ≡ Some x
+    → (b ≡ name x) × (find (λ y. same (name x) (name y)) xs ≡ Some x)
 found_named same decides name xs b x h =
     let is : b ≡ name x = (decides b (name x)).0 (found_passes (λ y. same b (name y)) xs x h) in
     (is, ap (λ a. find (λ y. same a (name y)) xs) (sym is) ∙ h)
@@ -54,16 +57,21 @@ either true b c h k = ap (λ r. b || r) (k refl) ∙ or-true b
 either false b c h k = ap (λ r. r || c) h
 
 -- what each of some passes, one among them passes
-pub among_passes : {B : Type 0} (same : B → B → Bool) → ((a b : B) → Decides (same a b) (a ≡ b)) → (p : B → Bool) (bs : List B) (b : B) → list_all p bs ≡ true → list_any (same b) bs ≡ true → p b ≡ true
-among_passes same decides p bs b all among = let c = found (same b) bs among in ap p ((decides b c.element).0 c.passes) ∙ each p bs c.element all c.within
+pub among_passes : {B : Type 0} (same : B → B → Bool) → ((a b : B) → Decides (same a b) (a ≡ b)) → (p : B → Bool)
+    (bs : List B) (b : B) → list_all p bs ≡ true → list_any (same b) bs ≡ true → p b ≡ true
+among_passes same decides p bs b all among =
+    let c = found (same b) bs among in ap p ((decides b c.element).0 c.passes) ∙ each p bs c.element all c.within
 
 -- each of some is among them
 pub all_among : {B : Type 0} (same : B → B → Bool) → ((a b : B) → Decides (same a b) (a ≡ b)) → (bs : List B) → has_all same bs bs ≡ true
 all_among same decides bs = all_pass (λ b. list_any (same b) bs) bs (λ b w. w.passes (same b) ((decides b b).1 refl))
 
-module _ {X B : Type 0} (same : B → B → Bool) (decides : (a b : B) → Decides (same a b) (a ≡ b)) (own : X → List B) (of : B → List B) (xs : List X) where
+module _ {X B : Type 0} (same : B → B → Bool) (decides : (a b : B) → Decides (same a b) (a ≡ b)) (own : X → List B)
+    (of : B → List B) (xs : List X) where
   has_through : (ls ms ns : List B) → has_all same ls ms ≡ true → has_all same ms ns ≡ true → has_all same ls ns ≡ true
-  has_through ls ms ns h k = all_pass (λ c. list_any (same c) ls) ns (λ c w. among_passes same decides (λ b. list_any (same b) ls) ms c h (each (λ b. list_any (same b) ms) ns c k w))
+  has_through ls ms ns h k =
+      all_pass (λ c. list_any (same c) ls) ns (λ c w. among_passes same decides (λ b. list_any (same b) ls) ms c h
+      (each (λ b. list_any (same b) ms) ns c k w))
 
   -- each set has what descends from its members
   abbrev pub is_closed : List B → Bool
@@ -72,7 +80,9 @@ module _ {X B : Type 0} (same : B → B → Bool) (decides : (a b : B) → Decid
   abbrev pub is_all_kept : List B → Bool
   is_all_kept ds = list_all (is_kept same own of xs ds) ds
 
-  below_closes : (n : ℕ) → ((ds : List B) → length ds < n → is_all_kept ds ≡ true → is_closed ds ≡ true) → list_all (λ x. is_all_kept (own x)) xs ≡ true → (ds : List B) → length ds < suc n → (b : B) → list_any (is_below same own ds b) xs ≡ true → has_all same ds (of b) ≡ true
+  below_closes : (n : ℕ) → ((ds : List B) → length ds < n → is_all_kept ds ≡ true → is_closed ds ≡ true)
+      → list_all (λ x. is_all_kept (own x)) xs ≡ true → (ds : List B) → length ds < suc n → (b : B)
+      → list_any (is_below same own ds b) xs ≡ true → has_all same ds (of b) ≡ true
   below_closes n smaller kept ds below b h =
       let x = found (is_below same own ds b) xs h in
       let ls = own x.element in
@@ -80,9 +90,11 @@ module _ {X B : Type 0} (same : B → B → Bool) (decides : (a b : B) → Decid
       let fewer = ltb-true (length ls) (length ds) (and_left (nat_lt (length ls) (length ds)) (has_all same ds ls) outer) in
       let closed = smaller ls (omega (arith, fewer, below)) (each (λ x. is_all_kept (own x)) xs x.element kept x.within) in
       has_through ds ls (of b) (and_right (nat_lt (length ls) (length ds)) (has_all same ds ls) outer)
-      (among_passes same decides (λ c. has_all same ls (of c)) ls b closed (and_right (nat_lt (length ls) (length ds) && has_all same ds ls) (list_any (same b) ls) x.passes))
+      (among_passes same decides (λ c. has_all same ls (of c)) ls b closed
+      (and_right (nat_lt (length ls) (length ds) && has_all same ds ls) (list_any (same b) ls) x.passes))
 
-  closed_below : (n : ℕ) → list_all (λ x. is_all_kept (own x)) xs ≡ true → (ds : List B) → length ds < n → is_all_kept ds ≡ true → is_closed ds ≡ true
+  closed_below : (n : ℕ) → list_all (λ x. is_all_kept (own x)) xs ≡ true → (ds : List B) → length ds < n
+      → is_all_kept ds ≡ true → is_closed ds ≡ true
   closed_below zero kept ds below h = absurd (omega (arith, below))
   closed_below (suc n) kept ds below h =
       all_pass (λ b. has_all same ds (of b)) ds (λ b w.
@@ -91,32 +103,50 @@ module _ {X B : Type 0} (same : B → B → Bool) (decides : (a b : B) → Decid
 
   -- where each set is kept, each is closed
   pub kept_closed : list_all (λ x. is_all_kept (own x)) xs ≡ true → list_all (λ x. is_closed (own x)) xs ≡ true
-  kept_closed kept = all_pass (λ x. is_closed (own x)) xs (λ x w. closed_below (suc (length (own x))) kept (own x) (omega arith) (each (λ x. is_all_kept (own x)) xs x kept w))
+  kept_closed kept =
+      all_pass (λ x. is_closed (own x)) xs (λ x w. closed_below (suc (length (own x))) kept (own x) (omega arith)
+      (each (λ x. is_all_kept (own x)) xs x kept w))
 
   -- a closed set is kept
   pub closed_kept : (ds : List B) → is_closed ds ≡ true → is_all_kept ds ≡ true
-  closed_kept ds h = all_pass (is_kept same own of xs ds) ds (λ b w. ap (λ r. r || list_any (is_below same own ds b) xs) (each (λ b. has_all same ds (of b)) ds b h w))
+  closed_kept ds h =
+      all_pass (is_kept same own of xs ds) ds
+      (λ b w. ap (λ r. r || list_any (is_below same own ds b) xs) (each (λ b. has_all same ds (of b)) ds b h w))
 
   -- so is one whose members stand below x, or have their descendants in it
-  pub widest_kept : (ds : List B) (x : X) → Within x xs → length (own x) < length ds → (has_all same ds (own x) && list_all (λ b. list_any (same b) (own x) || has_all same ds (of b)) ds) ≡ true → is_all_kept ds ≡ true
+  pub widest_kept : (ds : List B) (x : X) → Within x xs → length (own x) < length ds
+      → (has_all same ds (own x) && list_all (λ b. list_any (same b) (own x) || has_all same ds (of b)) ds) ≡ true
+      → is_all_kept ds ≡ true
   widest_kept ds x w fewer h =
       let wide = and_left (has_all same ds (own x)) (list_all (λ b. list_any (same b) (own x) || has_all same ds (of b)) ds) h in
       let rest = and_right (has_all same ds (own x)) (list_all (λ b. list_any (same b) (own x) || has_all same ds (of b)) ds) h in
       all_pass (is_kept same own of xs ds) ds (λ b v.
-      either (list_any (same b) (own x)) (has_all same ds (of b)) (list_any (is_below same own ds b) xs) (each (λ b. list_any (same b) (own x) || has_all same ds (of b)) ds b rest v)
-      (λ t. w.passes (is_below same own ds b) (and_both (nat_lt (length (own x)) (length ds) && has_all same ds (own x)) (list_any (same b) (own x)) (and_both (nat_lt (length (own x)) (length ds)) (has_all same ds (own x)) (lt-ltb (length (own x)) (length ds) fewer) wide) t)))
+      either (list_any (same b) (own x)) (has_all same ds (of b)) (list_any (is_below same own ds b) xs)
+      (each (λ b. list_any (same b) (own x) || has_all same ds (of b)) ds b rest v)
+      (λ t. w.passes (is_below same own ds b)
+      (and_both (nat_lt (length (own x)) (length ds) && has_all same ds (own x)) (list_any (same b) (own x))
+      (and_both (nat_lt (length (own x)) (length ds)) (has_all same ds (own x))
+      (lt-ltb (length (own x)) (length ds) fewer) wide) t)))
 
   -- a closed set has what descends from a member of its, and what is asked besides
-  pub closed_widest : (ds : List B) (x : X) (b : B) → of b ≡ own x → list_any (same b) ds ≡ true → is_closed ds ≡ true → (has_all same ds (own x) && list_all (λ b. list_any (same b) (own x) || has_all same ds (of b)) ds) ≡ true
+  pub closed_widest : (ds : List B) (x : X) (b : B) → of b ≡ own x → list_any (same b) ds ≡ true
+      → is_closed ds ≡ true → (has_all same ds (own x)
+      && list_all (λ b. list_any (same b) (own x) || has_all same ds (of b)) ds) ≡ true
   closed_widest ds x b is among h =
       and_both (has_all same ds (own x)) (list_all (λ b. list_any (same b) (own x) || has_all same ds (of b)) ds)
       (ap (has_all same ds) (sym is) ∙ among_passes same decides (λ c. has_all same ds (of c)) ds b h among)
-      (all_pass (λ b. list_any (same b) (own x) || has_all same ds (of b)) ds (λ c w. ap (λ r. list_any (same c) (own x) || r) (each (λ c. has_all same ds (of c)) ds c h w) ∙ or-true (list_any (same c) (own x))))
+      (all_pass (λ b. list_any (same b) (own x) || has_all same ds (of b)) ds
+      (λ c w. ap (λ r. list_any (same c) (own x) || r) (each (λ c. has_all same ds (of c)) ds c h w)
+      ∙ or-true (list_any (same c) (own x))))
 
 -- ---- sets of keys
 
 -- a set that is a subset by its order, by what is seen of its keys
-pub subset_is : {K B : Type 0} (cmp : K → K → Ordering) (f : K → B) (same : B → B → Bool) → ((a b : B) → Decides (same a b) (a ≡ b)) → ((a b : K) → is_eq (cmp a b) ≡ same (f a) (f b)) → (s t : List K) (r : Bool) → (IsTrue r ↔ ((q : K) → IsTrue (list_any (λ k. is_eq (cmp q k)) s) → IsTrue (list_any (λ k. is_eq (cmp q k)) t))) → r ≡ has_all same (map f t) (map f s)
+pub subset_is : {K B : Type 0} (cmp : K → K → Ordering) (f : K → B) (same : B → B → Bool)
+    → ((a b : B) → Decides (same a b) (a ≡ b)) → ((a b : K) → is_eq (cmp a b) ≡ same (f a) (f b)) → (s t : List K)
+    (r : Bool)
+    → (IsTrue r ↔ ((q : K) → IsTrue (list_any (λ k. is_eq (cmp q k)) s)
+    → IsTrue (list_any (λ k. is_eq (cmp q k)) t))) → r ≡ has_all same (map f t) (map f s)
 subset_is {K = K} cmp f same decides ties s t r is = alike r (has_all same (map f t) (map f s)) to from
   where
     asked : (q : K) (ks : List K) → list_any (λ k. is_eq (cmp q k)) ks ≡ list_any (same (f q)) (map f ks)
@@ -126,7 +156,10 @@ subset_is {K = K} cmp f same decides ties s t r is = alike r (has_all same (map 
     own q = ties q q ∙ (decides (f q) (f q)).1 refl
 
     to : r ≡ true → has_all same (map f t) (map f s) ≡ true
-    to h = list_all-map (λ b. list_any (same b) (map f t)) f s ∙ all_pass (λ k. list_any (same (f k)) (map f t)) s (λ k w. sym (asked k t) ∙ is.0 h k (w.passes (λ j. is_eq (cmp k j)) (own k)))
+    to h =
+        list_all-map (λ b. list_any (same b) (map f t)) f s
+        ∙ all_pass (λ k. list_any (same (f k)) (map f t)) s (λ k w. sym (asked k t)
+        ∙ is.0 h k (w.passes (λ j. is_eq (cmp k j)) (own k)))
 
     from : has_all same (map f t) (map f s) ≡ true → r ≡ true
     from h = is.1 (λ q e. asked q t ∙ among_passes same decides (λ b. list_any (same b) (map f t)) (map f s) (f q) h (sym (asked q s) ∙ e))

@@ -1,6 +1,8 @@
 -- What a schema without faults keeps.
 use Rattle.std.proofs.Common.{◌≡◌, refl, Bool, true, false, ◌&&◌, not, Option, Some, if◌then◌else◌, is_some}
-use Rattle.cedar_types.specs.Schemas.{Schema, has_fault, repeats_type, repeats_action, declares_action_type, are_actions, has_empty_enum, types_are_known, action_descendants_declared, types_are_definite, types_are_closed, actions_are_closed}
+use Rattle.cedar_types.specs.Schemas.{Schema, has_fault, repeats_type, repeats_action, declares_action_type, are_actions, has_empty_enum}
+use Rattle.cedar_types.specs.Schemas.{types_are_known, action_descendants_declared, types_are_definite, types_are_closed}
+use Rattle.cedar_types.specs.Schemas.{actions_are_closed}
 use Rattle.cedar_types.specs.declared.base.schema.errors.SchemaError.{SchemaError}
 use Rattle.cedar_types.proofs.Tests.{and_left, and_right}
 
@@ -17,11 +19,13 @@ pub record Faultless (s : Schema) : Type 0 where
   pub closed_types : types_are_closed s.types ≡ true
   pub closed_actions : actions_are_closed s.actions ≡ true
 
-passed : (b : Bool) (x : SchemaError) (r : Option SchemaError) → is_some (if b then Some x else r) ≡ false → (b ≡ false) × (is_some r ≡ false)
+passed : (b : Bool) (x : SchemaError) (r : Option SchemaError) → is_some (if b then Some x else r) ≡ false
+    → (b ≡ false) × (is_some r ≡ false)
 passed true x r h = cc
 passed false x r h = (refl, h)
 
-passed_not : (b : Bool) (x : SchemaError) (r : Option SchemaError) → is_some (if not b then Some x else r) ≡ false → (b ≡ true) × (is_some r ≡ false)
+passed_not : (b : Bool) (x : SchemaError) (r : Option SchemaError) → is_some (if not b then Some x else r) ≡ false
+    → (b ≡ true) × (is_some r ≡ false)
 passed_not true x r h = (refl, h)
 passed_not false x r h = cc
 

@@ -28,16 +28,25 @@ env_eq d e = path_eq d.principal e.principal && (uid_eq d.action e.action && (pa
 env_same : Same env_eq
 env_same = record {
   to = λ d e h.
-      let rest = and_right (path_eq d.principal e.principal) (uid_eq d.action e.action && (path_eq d.resource e.resource && ty_eq d.context e.context)) h in
+      let rest = and_right (path_eq d.principal e.principal)
+      (uid_eq d.action e.action && (path_eq d.resource e.resource && ty_eq d.context e.context)) h in
       let last = and_right (uid_eq d.action e.action) (path_eq d.resource e.resource && ty_eq d.context e.context) rest in
       λ i. record {
-        principal = path_same.to d.principal e.principal (and_left (path_eq d.principal e.principal) (uid_eq d.action e.action && (path_eq d.resource e.resource && ty_eq d.context e.context)) h) i;
-        action = uid_same.to d.action e.action (and_left (uid_eq d.action e.action) (path_eq d.resource e.resource && ty_eq d.context e.context) rest) i;
+        principal =
+            path_same.to d.principal e.principal
+            (and_left (path_eq d.principal e.principal)
+            (uid_eq d.action e.action && (path_eq d.resource e.resource && ty_eq d.context e.context)) h) i;
+        action =
+            uid_same.to d.action e.action
+            (and_left (uid_eq d.action e.action) (path_eq d.resource e.resource && ty_eq d.context e.context) rest)
+            i;
         resource = path_same.to d.resource e.resource (and_left (path_eq d.resource e.resource) (ty_eq d.context e.context) last) i;
         context = ty_same.to d.context e.context (and_right (path_eq d.resource e.resource) (ty_eq d.context e.context) last) i;
       };
   itself = λ d.
-      and_both (path_eq d.principal d.principal) (uid_eq d.action d.action && (path_eq d.resource d.resource && ty_eq d.context d.context)) (path_same.itself d.principal)
+      and_both (path_eq d.principal d.principal)
+      (uid_eq d.action d.action && (path_eq d.resource d.resource && ty_eq d.context d.context))
+      (path_same.itself d.principal)
       (and_both (uid_eq d.action d.action) (path_eq d.resource d.resource && ty_eq d.context d.context) (uid_same.itself d.action)
       (and_both (path_eq d.resource d.resource) (ty_eq d.context d.context) (path_same.itself d.resource) (ty_same.itself d.context)));
 }
@@ -52,9 +61,11 @@ unlinked_each (e ∷ es) = ap (λ zs. unlinked (declared_env e) ∷ zs) (unlinke
 
 -- what is to come at first
 pub all_left : (s : ValidatorSchema) (us : List UnlinkedRequestEnv) (b c : Bool) → us ≡ s.environments.items → b ≡ c
-    → map (λ e. unlinked (declared_env e)) us ++ undeclared_envs b ≡ map unlinked (environments_of (schema_of s).actions) ++ undeclared_envs c
+    → map (λ e. unlinked (declared_env e)) us ++ undeclared_envs b
+    ≡ map unlinked (environments_of (schema_of s).actions) ++ undeclared_envs c
 all_left s us b c e f =
-    λ i. (ap (map (λ e. unlinked (declared_env e))) e ∙ unlinked_each s.environments.items ∙ ap (map unlinked) (kept s)) i ++ undeclared_envs (f i)
+    λ i. (ap (map (λ e. unlinked (declared_env e))) e ∙ unlinked_each s.environments.items
+    ∙ ap (map unlinked) (kept s)) i ++ undeclared_envs (f i)
 
 -- the mode's test
 pub tells_partial : (m : ValidationMode) → mode_test.ghosts.eq m Partial ≡ is_partial m

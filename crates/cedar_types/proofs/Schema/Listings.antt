@@ -1,5 +1,6 @@
 -- Lists of names and ids, each once.
-use Rattle.std.proofs.Common.{◌≡◌, refl, sym, ap, ◌∙◌, Bool, true, false, cond, ◌||◌, not, ℕ, ◌<◌, List, [], ◌∷◌, ◌++◌, map, length, get_or, Some, None}
+use Rattle.std.proofs.Common.{◌≡◌, refl, sym, ap, ◌∙◌, Bool, true, false, cond, ◌||◌, not, ℕ, ◌<◌, List, [], ◌∷◌, ◌++◌, map, length, get_or}
+use Rattle.std.proofs.Common.{Some, None}
 use Rattle.std.specs.declared.cmp.Ordering.{Ordering}
 use Rattle.std.specs.declared.cmp.Ordering.TheVariants.{Less, Equal, Greater}
 use Rattle.std.specs.Ordering.{is_eq, match_ordering}
@@ -32,15 +33,21 @@ members_but : (p q : Path) (ds : List Path) → (path_eq q p || is_among (others
 members_but p q [] = refl
 members_but p q (d ∷ ds) = along (path_eq p d) refl (members_but p q ds)
   where
-    along : (b : Bool) → b ≡ path_eq p d → (path_eq q p || is_among (others p ds) q) ≡ (path_eq q p || is_among ds q) → (path_eq q p || is_among (cond (not b) (d ∷ others p ds) (others p ds)) q) ≡ (path_eq q p || (path_eq q d || is_among ds q))
-    along true e h = h ∙ absorbed (path_eq q p) (is_among ds q) ∙ ap (λ r. path_eq q p || (path_eq q r || is_among ds q)) ((path_decides p d).0 (sym e))
+    along : (b : Bool) → b ≡ path_eq p d → (path_eq q p || is_among (others p ds) q)
+        ≡ (path_eq q p || is_among ds q)
+        → (path_eq q p || is_among (cond (not b) (d ∷ others p ds) (others p ds)) q)
+        ≡ (path_eq q p || (path_eq q d || is_among ds q))
+    along true e h =
+        h ∙ absorbed (path_eq q p) (is_among ds q) ∙ ap (λ r. path_eq q p || (path_eq q r || is_among ds q))
+        ((path_decides p d).0 (sym e))
     along false e h = under (path_eq q p) (path_eq q d) (is_among (others p ds) q) (is_among ds q) h
 
 not_itself : (p : Path) (ds : List Path) → list_any (path_eq p) (others p ds) ≡ false
 not_itself p [] = refl
 not_itself p (d ∷ ds) = along (path_eq p d) refl (not_itself p ds)
   where
-    along : (b : Bool) → b ≡ path_eq p d → list_any (path_eq p) (others p ds) ≡ false → list_any (path_eq p) (cond (not b) (d ∷ others p ds) (others p ds)) ≡ false
+    along : (b : Bool) → b ≡ path_eq p d → list_any (path_eq p) (others p ds) ≡ false
+        → list_any (path_eq p) (cond (not b) (d ∷ others p ds) (others p ds)) ≡ false
     along true e h = h
     along false e h = ap (λ b. b || list_any (path_eq p) (others p ds)) (sym e) ∙ h
 
@@ -60,12 +67,15 @@ none_kept p r (x ∷ xs) h = along (r x) (none_kept p r xs (or_right (p x) (list
     along true k = ap (λ b. b || list_any p (filter r xs)) (or_left (p x) (list_any p xs) h) ∙ k
     along false k = k
 
-apart_kept : {X : Type 0} (same : X → X → Bool) (r : X → Bool) (xs : List X) → has_repeat same xs ≡ false → has_repeat same (filter r xs) ≡ false
+apart_kept : {X : Type 0} (same : X → X → Bool) (r : X → Bool) (xs : List X) → has_repeat same xs ≡ false
+    → has_repeat same (filter r xs) ≡ false
 apart_kept same r [] h = refl
 apart_kept same r (x ∷ xs) h = along (r x) (apart_kept same r xs (or_right (list_any (same x) xs) (has_repeat same xs) h))
   where
     along : (b : Bool) → has_repeat same (filter r xs) ≡ false → has_repeat same (cond b (x ∷ filter r xs) (filter r xs)) ≡ false
-    along true k = ap (λ b. b || has_repeat same (filter r xs)) (none_kept (same x) r xs (or_left (list_any (same x) xs) (has_repeat same xs) h)) ∙ k
+    along true k =
+        ap (λ b. b || has_repeat same (filter r xs))
+        (none_kept (same x) r xs (or_left (list_any (same x) xs) (has_repeat same xs) h)) ∙ k
     along false k = k
 
 -- a name and the others of a set
@@ -78,7 +88,9 @@ lists_within p ds h = record {
 -- ---- sets
 
 -- what ascends has no repeats
-pub apart_sorted : {K B : Type 0} (R : K → K → Ordering) (f : K → B) (same : B → B → Bool) → ((a b : K) → R a b ≡ Less → same (f a) (f b) ≡ false) → (ks : List K) → IsStrictlySortedBy R ks → has_repeat same (map f ks) ≡ false
+pub apart_sorted : {K B : Type 0} (R : K → K → Ordering) (f : K → B) (same : B → B → Bool)
+    → ((a b : K) → R a b ≡ Less → same (f a) (f b) ≡ false) → (ks : List K) → IsStrictlySortedBy R ks
+    → has_repeat same (map f ks) ≡ false
 unfolding IsStrictlySortedBy
 apart_sorted R f same h [] s = refl
 apart_sorted {K = K} R f same h (k ∷ ks) s = ap (λ b. b || has_repeat same (map f ks)) (above ks s.0) ∙ apart_sorted R f same h ks s.1
@@ -92,7 +104,9 @@ pub less_apart : (o : Ordering) (b : Bool) → o ≡ Less → b ≡ is_eq o → 
 less_apart o b h e = e ∙ ap is_eq h
 
 -- one more key
-pub inserted : {K B : Type 0} (cmp : K → K → Ordering) (f : K → B) (same : B → B → Bool) → ((a b : K) → cmp a b ≡ Equal → f a ≡ f b) → (k : K) (q : B) (ks : List K) → list_any (same q) (map f (insert_key cmp ks k)) ≡ (same q (f k) || list_any (same q) (map f ks))
+pub inserted : {K B : Type 0} (cmp : K → K → Ordering) (f : K → B) (same : B → B → Bool)
+    → ((a b : K) → cmp a b ≡ Equal → f a ≡ f b) → (k : K) (q : B) (ks : List K)
+    → list_any (same q) (map f (insert_key cmp ks k)) ≡ (same q (f k) || list_any (same q) (map f ks))
 inserted cmp f same h k q [] = refl
 inserted cmp f same h k q (x ∷ xs) = along (cmp k x) refl (inserted cmp f same h k q xs)
   where
@@ -102,20 +116,35 @@ inserted cmp f same h k q (x ∷ xs) = along (cmp k x) refl (inserted cmp f same
     swapped false true r = refl
     swapped false false r = refl
 
-    along : (o : Ordering) → o ≡ cmp k x → list_any (same q) (map f (insert_key cmp xs k)) ≡ (same q (f k) || list_any (same q) (map f xs)) → list_any (same q) (map f (match_ordering o (k ∷ x ∷ xs) (x ∷ xs) (x ∷ insert_key cmp xs k))) ≡ (same q (f k) || (same q (f x) || list_any (same q) (map f xs)))
+    along : (o : Ordering) → o ≡ cmp k x → list_any (same q) (map f (insert_key cmp xs k))
+        ≡ (same q (f k) || list_any (same q) (map f xs))
+        → list_any (same q) (map f (match_ordering o (k ∷ x ∷ xs) (x ∷ xs) (x ∷ insert_key cmp xs k)))
+        ≡ (same q (f k) || (same q (f x) || list_any (same q) (map f xs)))
     along Less e i = refl
-    along Equal e i = absorbed (same q (f x)) (list_any (same q) (map f xs)) ∙ ap (λ y. same q y || (same q (f x) || list_any (same q) (map f xs))) (sym (h k x (sym e)))
+    along Equal e i =
+        absorbed (same q (f x)) (list_any (same q) (map f xs))
+        ∙ ap (λ y. same q y || (same q (f x) || list_any (same q) (map f xs))) (sym (h k x (sym e)))
     along Greater e i = ap (λ b. same q (f x) || b) i ∙ swapped (same q (f x)) (same q (f k)) (list_any (same q) (map f xs))
 
 -- ---- actions and their descendants
 
 -- an action and its descendants more
-pub next_within : (acts : List DeclaredAction) (us : List Uid) (x : Uid) (ds : List Uid) → descendants_of_action acts x ≡ ds → (u : Uid) (old one all : Bool) → old ≡ uid_is_among (actions_within acts us) u → one ≡ (uid_eq u x || old) → all ≡ (one || uid_is_among ds u) → all ≡ uid_is_among (actions_within acts (us ++ x ∷ [])) u
+pub next_within : (acts : List DeclaredAction) (us : List Uid) (x : Uid) (ds : List Uid)
+    → descendants_of_action acts x ≡ ds → (u : Uid) (old one all : Bool)
+    → old ≡ uid_is_among (actions_within acts us) u → one ≡ (uid_eq u x || old) → all ≡ (one || uid_is_among ds u)
+    → all ≡ uid_is_among (actions_within acts (us ++ x ∷ [])) u
 next_within acts us x ds is u old one all h k m =
     m
-    ∙ ap (λ b. b || uid_is_among ds u) (k ∙ ap (λ b. uid_eq u x || b) (h ∙ list_any-append (uid_eq u) us (flat_map (descendants_of_action acts) us)))
+    ∙ ap (λ b. b || uid_is_among ds u)
+    (k ∙ ap (λ b. uid_eq u x || b)
+    (h ∙ list_any-append (uid_eq u) us (flat_map (descendants_of_action acts) us)))
     ∙ moved (uid_eq u x) (uid_is_among us u) (uid_is_among (flat_map (descendants_of_action acts) us) u) (uid_is_among ds u)
-    ∙ (λ i. sym (list_any-append (uid_eq u) us (x ∷ [])) i || sym (ap (λ vs. uid_is_among vs u) (flat_map-append (descendants_of_action acts) us (x ∷ [])) ∙ list_any-append (uid_eq u) (flat_map (descendants_of_action acts) us) (descendants_of_action acts x ++ []) ∙ ap (λ b. uid_is_among (flat_map (descendants_of_action acts) us) u || b) (list_any-append (uid_eq u) (descendants_of_action acts x) [] ∙ ap (λ vs. uid_is_among vs u || false) is)) i)
+    ∙ (λ i. sym (list_any-append (uid_eq u) us (x ∷ [])) i
+    || sym (ap (λ vs. uid_is_among vs u) (flat_map-append (descendants_of_action acts) us (x ∷ []))
+    ∙ list_any-append (uid_eq u) (flat_map (descendants_of_action acts) us) (descendants_of_action acts x ++ [])
+    ∙ ap (λ b. uid_is_among (flat_map (descendants_of_action acts) us) u || b)
+    (list_any-append (uid_eq u) (descendants_of_action acts x) [] ∙ ap (λ vs. uid_is_among vs u || false) is))
+    i)
     ∙ sym (list_any-append (uid_eq u) (us ++ x ∷ []) (flat_map (descendants_of_action acts) (us ++ x ∷ [])))
   where
     moved : (x a f d : Bool) → ((x || (a || f)) || d) ≡ ((a || (x || false)) || (f || (d || false)))
@@ -144,5 +173,6 @@ found_none p (x ∷ xs) h = along (p x) (found_none p xs) h
     along false k h = k h
 
 -- one that fails
-pub all_fails : {X Y : Type 0} (f : X → Y) (p : Y → Bool) (xs : List X) (i : ℕ) (x : X) → i < length xs → x ≡ get_or xs i x → p (f x) ≡ false → list_all p (map f xs) ≡ false
+pub all_fails : {X Y : Type 0} (f : X → Y) (p : Y → Bool) (xs : List X) (i : ℕ) (x : X) → i < length xs
+    → x ≡ get_or xs i x → p (f x) ≡ false → list_all p (map f xs) ≡ false
 all_fails f p xs i x below is h = list_all-map p f xs ∙ list_all_at (λ x. p (f x)) xs i x below (ap (λ x. p (f x)) (sym is) ∙ h)

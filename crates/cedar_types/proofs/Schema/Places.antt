@@ -1,5 +1,6 @@
 -- Places of declarations, and what is found through them.
-use Rattle.std.proofs.Common.{◌≡◌, refl, sym, ap, ◌∙◌, ℕ, suc, Bool, true, false, cond, ◌||◌, List, [], ◌∷◌, ◌++◌, map, length, take, drop, get_or, ◌+◌, ◌<◌, Option, Some, None, is_some, option_map}
+use Rattle.std.proofs.Common.{◌≡◌, refl, sym, ap, ◌∙◌, ℕ, suc, Bool, true, false, cond, ◌||◌, List, [], ◌∷◌, ◌++◌, map, length, take, drop}
+use Rattle.std.proofs.Common.{get_or, ◌+◌, ◌<◌, Option, Some, None, is_some, option_map}
 use Rattle.std.specs.Bool.{Decides}
 use Rattle.std.specs.Option.{option_or}
 use Rattle.std.specs.List.{list_any, find, slice_get}
@@ -16,7 +17,9 @@ use Rattle.cedar_types.specs.Schemas.{has_repeat}
 -- what has a place is there
 pub any_placed : {X : Type 0} (p : X → Bool) (xs : List X) → is_some (place_in p xs) ≡ list_any p xs
 any_placed p [] = refl
-any_placed p (x ∷ xs) = elim (p x) as (λ b. is_some (cond b (Some 0) (option_map suc (place_in p xs))) ≡ (b || list_any p xs)) [ true ↦ refl | false ↦ mapped (place_in p xs) ∙ any_placed p xs ]
+any_placed p (x ∷ xs) =
+    elim (p x) as (λ b. is_some (cond b (Some 0) (option_map suc (place_in p xs)))
+    ≡ (b || list_any p xs)) [ true ↦ refl | false ↦ mapped (place_in p xs) ∙ any_placed p xs ]
   where
     mapped : (o : Option ℕ) → is_some (option_map suc o) ≡ is_some o
     mapped None = refl
@@ -27,7 +30,8 @@ pub found_at : {X : Type 0} (p : X → Bool) (xs : List X) (i : ℕ) → place_i
 found_at p [] i e = cc
 found_at p (x ∷ xs) i e = along (p x) (place_in p xs) (λ n h. found_at p xs n h) e
   where
-    along : (b : Bool) (o : Option ℕ) → ((n : ℕ) → o ≡ Some n → find p xs ≡ slice_get xs n) → cond b (Some 0) (option_map suc o) ≡ Some i → cond b (Some x) (find p xs) ≡ slice_get (x ∷ xs) i
+    along : (b : Bool) (o : Option ℕ) → ((n : ℕ) → o ≡ Some n → find p xs ≡ slice_get xs n)
+        → cond b (Some 0) (option_map suc o) ≡ Some i → cond b (Some x) (find p xs) ≡ slice_get (x ∷ xs) i
     along true o h e = let at : 0 ≡ i = cc in ap (slice_get (x ∷ xs)) at
     along false (Some n) h e = let at : suc n ≡ i = cc in h n refl ∙ ap (slice_get (x ∷ xs)) at
     along false None h e = cc
@@ -37,7 +41,8 @@ pub found_nowhere : {X : Type 0} (p : X → Bool) (xs : List X) → place_in p x
 found_nowhere p [] e = refl
 found_nowhere p (x ∷ xs) e = along (p x) (place_in p xs) (found_nowhere p xs) e
   where
-    along : (b : Bool) (o : Option ℕ) → (o ≡ None → find p xs ≡ None) → cond b (Some 0) (option_map suc o) ≡ None → cond b (Some x) (find p xs) ≡ None
+    along : (b : Bool) (o : Option ℕ) → (o ≡ None → find p xs ≡ None) → cond b (Some 0) (option_map suc o) ≡ None
+        → cond b (Some x) (find p xs) ≡ None
     along true o h e = cc
     along false (Some n) h e = cc
     along false None h e = h refl
@@ -45,24 +50,31 @@ found_nowhere p (x ∷ xs) e = along (p x) (place_in p xs) (found_nowhere p xs) 
 -- the first that passes, seen through f
 pub find_mapped : {X Y : Type 0} (f : X → Y) (p : Y → Bool) (xs : List X) → option_map f (find (λ x. p (f x)) xs) ≡ find p (map f xs)
 find_mapped f p [] = refl
-find_mapped f p (x ∷ xs) = elim (p (f x)) as (λ b. option_map f (cond b (Some x) (find (λ x. p (f x)) xs)) ≡ cond b (Some (f x)) (find p (map f xs))) [ true ↦ refl | false ↦ find_mapped f p xs ]
+find_mapped f p (x ∷ xs) =
+    elim (p (f x)) as (λ b. option_map f (cond b (Some x) (find (λ x. p (f x)) xs))
+    ≡ cond b (Some (f x)) (find p (map f xs))) [ true ↦ refl | false ↦ find_mapped f p xs ]
 
 pub any_mapped : {X Y : Type 0} (f : X → Y) (p : Y → Bool) (xs : List X) → list_any (λ x. p (f x)) xs ≡ list_any p (map f xs)
 any_mapped f p [] = refl
 any_mapped f p (x ∷ xs) = ap (λ b. p (f x) || b) (any_mapped f p xs)
 
 -- one more at the end
-pub place_push : {X : Type 0} (p : X → Bool) (xs : List X) (y : X) → place_in p (xs ++ y ∷ []) ≡ option_or (place_in p xs) (cond (p y) (Some (length xs)) None)
+pub place_push : {X : Type 0} (p : X → Bool) (xs : List X) (y : X)
+    → place_in p (xs ++ y ∷ []) ≡ option_or (place_in p xs) (cond (p y) (Some (length xs)) None)
 place_push p [] y = refl
 place_push p (x ∷ xs) y = elim (p x) as (λ b. cond b (Some 0) (option_map suc (place_in p (xs ++ y ∷ []))) ≡ option_or (cond b (Some 0) (option_map suc (place_in p xs))) (cond (p y) (Some (suc (length xs))) None)) [ true ↦ refl | false ↦ ap (option_map suc) (place_push p xs y) ∙ after (place_in p xs) (p y) ]
   where
-    after : (o : Option ℕ) (b : Bool) → option_map suc (option_or o (cond b (Some (length xs)) None)) ≡ option_or (option_map suc o) (cond b (Some (suc (length xs))) None)
+    after : (o : Option ℕ) (b : Bool) → option_map suc (option_or o (cond b (Some (length xs)) None))
+        ≡ option_or (option_map suc o) (cond b (Some (suc (length xs))) None)
     after (Some n) b = refl
     after None true = refl
     after None false = refl
 
 -- an entry for the next declaration, whose name was not among those so far, keeps the index
-pub placed_next : {X B : Type 0} (same : B → B → Bool) (name : X → B) (q k : B) (xs : List X) (x : X) (i : ℕ) (old new : Option ℕ) → ((a b : B) → Decides (same a b) (a ≡ b)) → k ≡ name x → new ≡ cond (same k q) (Some i) old → old ≡ place_in (λ x. same q (name x)) xs → (same k q ≡ true → old ≡ None) → i ≡ length xs → new ≡ place_in (λ x. same q (name x)) (xs ++ x ∷ [])
+pub placed_next : {X B : Type 0} (same : B → B → Bool) (name : X → B) (q k : B) (xs : List X) (x : X) (i : ℕ)
+    (old new : Option ℕ) → ((a b : B) → Decides (same a b) (a ≡ b)) → k ≡ name x
+    → new ≡ cond (same k q) (Some i) old → old ≡ place_in (λ x. same q (name x)) xs → (same k q ≡ true → old ≡ None)
+    → i ≡ length xs → new ≡ place_in (λ x. same q (name x)) (xs ++ x ∷ [])
 placed_next same name q k xs x i old new dec named updated placed absent at =
     updated
     ∙ settle (same k q) absent refl
@@ -70,9 +82,13 @@ placed_next same name q k xs x i old new dec named updated placed absent at =
     ∙ sym (place_push (λ x. same q (name x)) xs x)
   where
     turned : same k q ≡ same q (name x)
-    turned = same_from_decides (same k q) (same q (name x)) (Decides-like (same k q) (λ e. sym e ∙ named) (λ e. named ∙ sym e) (dec k q)) (dec q (name x))
+    turned =
+        same_from_decides (same k q) (same q (name x))
+        (Decides-like (same k q) (λ e. sym e ∙ named) (λ e. named ∙ sym e) (dec k q)) (dec q (name x))
 
-    settle : (b : Bool) → (b ≡ true → old ≡ None) → b ≡ same k q → cond b (Some i) old ≡ option_or (place_in (λ x. same q (name x)) xs) (cond (same q (name x)) (Some i) None)
+    settle : (b : Bool) → (b ≡ true → old ≡ None) → b ≡ same k q
+        → cond b (Some i) old ≡ option_or (place_in (λ x. same q (name x)) xs)
+        (cond (same q (name x)) (Some i) None)
     settle true h e = λ j. option_or ((sym (h refl) ∙ placed) j) (cond ((e ∙ turned) j) (Some i) None)
     settle false h e = missed old ∙ λ j. option_or (placed j) (cond ((e ∙ turned) j) (Some i) None)
       where
@@ -85,14 +101,18 @@ placed_next same name q k xs x i old new dec named updated placed absent at =
 -- some of the first elements repeat: some of all
 pub repeat_among : {X : Type 0} (same : X → X → Bool) (xs ys : List X) → has_repeat same xs ≡ true → has_repeat same (xs ++ ys) ≡ true
 repeat_among same [] ys h = cc
-repeat_among same (x ∷ xs) ys h = ap (λ b. b || has_repeat same (xs ++ ys)) (list_any-append (same x) xs ys) ∙ either (list_any (same x) xs) (has_repeat same xs) h (repeat_among same xs ys)
+repeat_among same (x ∷ xs) ys h =
+    ap (λ b. b || has_repeat same (xs ++ ys)) (list_any-append (same x) xs ys)
+    ∙ either (list_any (same x) xs) (has_repeat same xs) h (repeat_among same xs ys)
   where
-    either : (a b : Bool) → (a || b) ≡ true → (b ≡ true → has_repeat same (xs ++ ys) ≡ true) → ((a || list_any (same x) ys) || has_repeat same (xs ++ ys)) ≡ true
+    either : (a b : Bool) → (a || b) ≡ true → (b ≡ true → has_repeat same (xs ++ ys) ≡ true)
+        → ((a || list_any (same x) ys) || has_repeat same (xs ++ ys)) ≡ true
     either true b h k = refl
     either false b h k = ap (λ r. list_any (same x) ys || r) (k h) ∙ or-true (list_any (same x) ys)
 
 -- one more at the end repeats where those before do, or one of them is the same
-pub repeat_push : {X : Type 0} (same : X → X → Bool) → ((x y : X) → same x y ≡ same y x) → (xs : List X) (y : X) → has_repeat same (xs ++ y ∷ []) ≡ (has_repeat same xs || list_any (same y) xs)
+pub repeat_push : {X : Type 0} (same : X → X → Bool) → ((x y : X) → same x y ≡ same y x) → (xs : List X) (y : X)
+    → has_repeat same (xs ++ y ∷ []) ≡ (has_repeat same xs || list_any (same y) xs)
 repeat_push same symm [] y = refl
 repeat_push same symm (x ∷ xs) y =
     (λ i. list_any-append (same x) xs (y ∷ []) i || repeat_push same symm xs y i)
@@ -105,18 +125,28 @@ repeat_push same symm (x ∷ xs) y =
     swapped false false r b = refl
 
 -- the first elements and one more, seen through f
-pub next_mapped : {X Y : Type 0} (f : X → Y) (xs : List X) (i : ℕ) (x : X) → i < length xs → x ≡ get_or xs i x → map f (take (i + 1) xs) ≡ map f (take i xs) ++ f x ∷ []
-next_mapped f xs i x below is = ap (map f) (take_more xs i x below ∙ ap (λ y. take i xs ++ y ∷ []) (sym is)) ∙ map-append f (take i xs) (x ∷ [])
+pub next_mapped : {X Y : Type 0} (f : X → Y) (xs : List X) (i : ℕ) (x : X) → i < length xs → x ≡ get_or xs i x
+    → map f (take (i + 1) xs) ≡ map f (take i xs) ++ f x ∷ []
+next_mapped f xs i x below is =
+    ap (map f) (take_more xs i x below ∙ ap (λ y. take i xs ++ y ∷ []) (sym is)) ∙ map-append f (take i xs) (x ∷ [])
 
 -- a name is met again among the first elements
-pub repeat_found : {X Y : Type 0} (f : X → Y) (same : Y → Y → Bool) → ((x y : Y) → same x y ≡ same y x) → (xs : List X) (i : ℕ) (x : X) → i < length xs → x ≡ get_or xs i x → list_any (λ y. same (f x) (f y)) (take i xs) ≡ true → has_repeat same (map f xs) ≡ true
+pub repeat_found : {X Y : Type 0} (f : X → Y) (same : Y → Y → Bool) → ((x y : Y) → same x y ≡ same y x)
+    → (xs : List X) (i : ℕ) (x : X) → i < length xs → x ≡ get_or xs i x
+    → list_any (λ y. same (f x) (f y)) (take i xs) ≡ true → has_repeat same (map f xs) ≡ true
 repeat_found f same symm xs i x below is h =
     ap (λ ys. has_repeat same (map f ys)) (sym (take-append-drop (i + 1) xs))
     ∙ ap (has_repeat same) (map-append f (take (i + 1) xs) (drop (i + 1) xs))
-    ∙ repeat_among same (map f (take (i + 1) xs)) (map f (drop (i + 1) xs)) (ap (has_repeat same) (next_mapped f xs i x below is) ∙ repeat_push same symm (map f (take i xs)) (f x) ∙ ap (λ b. has_repeat same (map f (take i xs)) || b) (sym (any_mapped f (same (f x)) (take i xs)) ∙ h) ∙ or-true (has_repeat same (map f (take i xs))))
+    ∙ repeat_among same (map f (take (i + 1) xs)) (map f (drop (i + 1) xs))
+    (ap (has_repeat same) (next_mapped f xs i x below is) ∙ repeat_push same symm (map f (take i xs)) (f x)
+    ∙ ap (λ b. has_repeat same (map f (take i xs)) || b) (sym (any_mapped f (same (f x)) (take i xs)) ∙ h)
+    ∙ or-true (has_repeat same (map f (take i xs))))
 
 -- a new name among the first elements
-pub repeat_not_found : {X Y : Type 0} (f : X → Y) (same : Y → Y → Bool) → ((x y : Y) → same x y ≡ same y x) → (xs : List X) (i : ℕ) (x : X) → i < length xs → x ≡ get_or xs i x → list_any (λ y. same (f x) (f y)) (take i xs) ≡ false → has_repeat same (map f (take i xs)) ≡ false → has_repeat same (map f (take (i + 1) xs)) ≡ false
+pub repeat_not_found : {X Y : Type 0} (f : X → Y) (same : Y → Y → Bool) → ((x y : Y) → same x y ≡ same y x)
+    → (xs : List X) (i : ℕ) (x : X) → i < length xs → x ≡ get_or xs i x
+    → list_any (λ y. same (f x) (f y)) (take i xs) ≡ false → has_repeat same (map f (take i xs)) ≡ false
+    → has_repeat same (map f (take (i + 1) xs)) ≡ false
 repeat_not_found f same symm xs i x below is h apart =
     ap (has_repeat same) (next_mapped f xs i x below is)
     ∙ repeat_push same symm (map f (take i xs)) (f x)

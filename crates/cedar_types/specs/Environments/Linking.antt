@@ -8,7 +8,8 @@ use Rattle.cedar_types.specs.Schemas.{DeclaredType, Schema, is_among}
 use Rattle.cedar_types.specs.Environments.{DeclaredEnv}
 use Rattle.cedar_types.specs.Environments.RequestEnvs.{Env, Declared, Undeclared, unlinked_envs}
 use Rattle.cedar_types.specs.Expressions.Parts.{mentions_slot}
-use Rattle.cedar_types.specs.Templates.{Reference, to_entity, to_slot, Scope, any, equal, within, typed, typed_within, PlainTemplate, condition_of}
+use Rattle.cedar_types.specs.Templates.{Reference, to_entity, to_slot, Scope, any, equal, within, typed, typed_within, PlainTemplate}
+use Rattle.cedar_types.specs.Templates.{condition_of}
 
 abbrev pub type_names : List DeclaredType → List Path
 type_names ts = map (λ t. t.name) ts

@@ -3,7 +3,8 @@ use Rattle.std.specs.Prelude.{Bool, List, [], ◌∷◌, Option, None}
 use Rattle.std.specs.Ordering.{match_ordering}
 use Rattle.cedar_types.specs.declared.base.location.Loc.{Loc}
 use Rattle.cedar_types.specs.Names.{Text, text_cmp}
-use Rattle.cedar_types.specs.Expressions.Tree.{Tree, lit, var, slot, unknown, if_then_else, and, or, unary, binary, call, get_attr, has_attr, ext_has_attr, like, is_type, set_of, record_of}
+use Rattle.cedar_types.specs.Expressions.Tree.{Tree, lit, var, slot, unknown, if_then_else, and, or, unary, binary, call, get_attr}
+use Rattle.cedar_types.specs.Expressions.Tree.{has_attr, ext_has_attr, like, is_type, set_of, record_of}
 use Rattle.cedar_types.specs.Types.{Ty, Attrs, no_attrs, attr}
 use Rattle.cedar_types.specs.Expressions.View.{Places, no_name, Written}
 

@@ -14,7 +14,9 @@ use Rattle.cedar_types.specs.contracts.base.expressions.patterns.PatternElemPart
 use Rattle.cedar_types.specs.contracts.base.names.slots.SlotIdPartialEq.TheImpl as slot_impl
 use Rattle.cedar_types.specs.Names.Comparisons.{bool_eq}
 use Rattle.cedar_types.specs.Names.{text_eq, texts_eq, path_eq, uid_eq}
-use Rattle.cedar_types.specs.Expressions.Tree.{Lit, bool, long, string, entity, Tree, lit, var, slot, unknown, if_then_else, and, or, unary, binary, call, get_attr, has_attr, ext_has_attr, like, is_type, set_of, record_of, Trees, no_trees, tree, Fields, no_fields, field}
+use Rattle.cedar_types.specs.Expressions.Tree.{Lit, bool, long, string, entity, Tree, lit, var, slot, unknown, if_then_else, and, or, unary}
+use Rattle.cedar_types.specs.Expressions.Tree.{binary, call, get_attr, has_attr, ext_has_attr, like, is_type, set_of, record_of, Trees}
+use Rattle.cedar_types.specs.Expressions.Tree.{no_trees, tree, Fields, no_fields, field}
 
 abbrev pub lit_eq : Lit → Lit → Bool
 lit_eq (bool a) (bool b) = bool_eq a b

@@ -9,7 +9,9 @@ use Rattle.cedar_types.specs.declared.base.expressions.Expr.{Expr, fold-Expr}
 use Rattle.cedar_types.specs.declared.base.expressions.ExprKind.{ExprKind, fold-ExprKind}
 use Rattle.cedar_types.specs.declared.base.expressions.ExprKind.TheOpen.{ExprKind-F, Expr-F}
 use Rattle.cedar_types.specs.Names.{Text, text_of, path_of, type_of, uid_of}
-use Rattle.cedar_types.specs.Expressions.Tree.{Lit, bool, long, string, entity, Tree, lit, var, slot, unknown, if_then_else, and, or, unary, binary, call, get_attr, has_attr, ext_has_attr, like, is_type, set_of, record_of, Trees, no_trees, tree, Fields, no_fields, field, Shape}
+use Rattle.cedar_types.specs.Expressions.Tree.{Lit, bool, long, string, entity, Tree, lit, var, slot, unknown, if_then_else, and, or, unary}
+use Rattle.cedar_types.specs.Expressions.Tree.{binary, call, get_attr, has_attr, ext_has_attr, like, is_type, set_of, record_of, Trees}
+use Rattle.cedar_types.specs.Expressions.Tree.{no_trees, tree, Fields, no_fields, field, Shape}
 
 -- where the entity type or the entity id that a node itself names stands; an id has its own place and that of its type
 pub data Places : Type 0 where

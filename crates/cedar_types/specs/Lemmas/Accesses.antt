@@ -15,7 +15,8 @@ use Rattle.cedar_types.specs.declared.base.expressions.ExprKind.TheViews.{out-Ex
 use Rattle.cedar_types.specs.declared.types.capability.accesses.Accesses.{Accesses}
 use Rattle.cedar_types.specs.declared.types.capability.owners.Owner.{Owner}
 use Rattle.cedar_types.specs.contracts.base.expressions.ExprOrd.TheImpl.Laws as expr_ord_laws
-use Rattle.cedar_types.specs.Accesses.{got, shape_at, Spine, push, spine_of, spine, spine_at, bottom_cmp, spine_cmp, shape_on, spine_on, owner_eq, owner_cmp, texts_at}
+use Rattle.cedar_types.specs.Accesses.{got, shape_at, Spine, push, spine_of, spine, spine_at, bottom_cmp, spine_cmp, shape_on, spine_on}
+use Rattle.cedar_types.specs.Accesses.{owner_eq, owner_cmp, texts_at}
 use Rattle.cedar_types.specs.Lemmas.Layers as layers
 use Rattle.cedar_types.specs.Lemmas.Same.{expr_is}
 use Rattle.cedar_types.specs.Lemmas.TreeSame.{tree_eq-Decides}
@@ -58,7 +59,9 @@ abbrev layer : ExprKind (Unit {0}) → Shape
 layer k = layers.layer (Unit {0}) (Unit {0}) (λ _ _ _. tt) k (λ _. tt)
 
 shape_is_layer : (a : Unit {0}) (l : Option Loc) (k : ExprKind (Unit {0})) → shape (expr a l k) ≡ layer k
-shape_is_layer a l k = layers.seen_by_form (Unit {0}) (Unit {0}) (λ _ _ _. tt) (expr a l k) ∙ layers.is_layer (Unit {0}) (Unit {0}) (λ _ _ _. tt) k (λ _. tt)
+shape_is_layer a l k =
+    layers.seen_by_form (Unit {0}) (Unit {0}) (λ _ _ _. tt) (expr a l k)
+    ∙ layers.is_layer (Unit {0}) (Unit {0}) (λ _ _ _. tt) k (λ _. tt)
 
 -- what a spine ends in is no access
 ends : (a : Unit {0}) (l : Option Loc) (k : ExprKind (Unit {0})) → is_access (shape (spine_of a l k).1) ≡ false

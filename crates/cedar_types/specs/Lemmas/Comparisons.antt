@@ -10,7 +10,8 @@ use borrow.Author.Tests.{eqb-true, eq-eqb}
 use Rattle.cedar_types.specs.declared.base.names.Name.{Name}
 use Rattle.cedar_types.specs.declared.base.names.entities.EntityType.{EntityType}
 use Rattle.cedar_types.specs.declared.base.names.entities.EntityUID.{EntityUID}
-use Rattle.cedar_types.specs.Names.{Path, Uid, text_of, path_of, type_of, uid_of, text_eq, texts_eq, path_eq, uid_eq, text_cmp, path_cmp, uid_cmp}
+use Rattle.cedar_types.specs.Names.{Path, Uid, text_of, path_of, type_of, uid_of, text_eq, texts_eq, path_eq, uid_eq, text_cmp, path_cmp}
+use Rattle.cedar_types.specs.Names.{uid_cmp}
 use Rattle.cedar_types.specs.Names.Comparisons.{bool_eq, name_eq, entity_type_eq, entity_uid_eq, name_cmp, entity_type_cmp, entity_uid_cmp}
 
 pub and_left : (a b : Bool) → (a && b) ≡ true → a ≡ true
@@ -33,7 +34,9 @@ list_to : {A : Type 0} {E : A → A → Bool} → Same E → (xs ys : List A) �
 list_to s [] [] h = refl
 list_to s [] (y ∷ ys) h = absurd (true≢false (sym h))
 list_to s (x ∷ xs) [] h = absurd (true≢false (sym h))
-list_to {A} {E} s (x ∷ xs) (y ∷ ys) h = λ i. s.to x y (and_left (E x y) (pointwise E xs ys) h) i ∷ list_to s xs ys (and_right (E x y) (pointwise E xs ys) h) i
+list_to {A} {E} s (x ∷ xs) (y ∷ ys) h =
+    λ i. s.to x y (and_left (E x y) (pointwise E xs ys) h) i
+    ∷ list_to s xs ys (and_right (E x y) (pointwise E xs ys) h) i
 
 list_itself : {A : Type 0} {E : A → A → Bool} → Same E → (xs : List A) → pointwise E xs xs ≡ true
 list_itself s [] = refl
@@ -66,7 +69,9 @@ uid_same = record {
     entity_type = path_same.to x.entity_type y.entity_type (and_left (path_eq x.entity_type y.entity_type) (text_eq x.eid y.eid) h) i;
     eid = text_same.to x.eid y.eid (and_right (path_eq x.entity_type y.entity_type) (text_eq x.eid y.eid) h) i;
   };
-  itself = λ x. and_both (path_eq x.entity_type x.entity_type) (text_eq x.eid x.eid) (path_same.itself x.entity_type) (text_same.itself x.eid);
+  itself =
+      λ x. and_both (path_eq x.entity_type x.entity_type) (text_eq x.eid x.eid) (path_same.itself x.entity_type)
+      (text_same.itself x.eid);
 }
 
 bool_to : (x y : Bool) → bool_eq x y ≡ true → x ≡ y
@@ -95,7 +100,9 @@ pub uid_is : (x y : EntityUID) → entity_uid_eq x y ≡ uid_eq (uid_of x) (uid_
 uid_is x y = λ i. name_is x.entity_type.name y.entity_type.name i && text_eq (text_of x.eid) (text_of y.eid)
 
 pub name_cmp_is : (x y : Name) → name_cmp x y ≡ path_cmp (path_of x) (path_of y)
-name_cmp_is x y = λ i. ordering_then (sym (lex_map text_of text_cmp x.path.items y.path.items) i) (text_cmp (text_of x.basename) (text_of y.basename))
+name_cmp_is x y =
+    λ i. ordering_then (sym (lex_map text_of text_cmp x.path.items y.path.items) i)
+    (text_cmp (text_of x.basename) (text_of y.basename))
 
 pub entity_type_cmp_is : (x y : EntityType) → entity_type_cmp x y ≡ path_cmp (type_of x) (type_of y)
 entity_type_cmp_is x y = name_cmp_is x.name y.name

@@ -8,8 +8,10 @@ use Rattle.cedar_types.specs.declared.base.expressions.ExprKind.TheBlock.{shown-
 use Rattle.cedar_types.specs.declared.base.expressions.ExprKind.TheViews.{out-ExprKind}
 use Rattle.cedar_types.specs.declared.base.expressions.ExprKind.TheVariants as K
 use Rattle.cedar_types.specs.Names.{text_of, path_of, type_of}
-use Rattle.cedar_types.specs.Expressions.Tree.{Tree, lit, var, slot, unknown, if_then_else, and, or, unary, binary, call, get_attr, has_attr, ext_has_attr, like, is_type, set_of, record_of}
-use Rattle.cedar_types.specs.Expressions.View.{Places, no_name, of_type, lit_of, lit_places, chain_of, trees_of, fields_of, kind_step, expr_step, tree_with, kind_with}
+use Rattle.cedar_types.specs.Expressions.Tree.{Tree, lit, var, slot, unknown, if_then_else, and, or, unary, binary, call, get_attr}
+use Rattle.cedar_types.specs.Expressions.Tree.{has_attr, ext_has_attr, like, is_type, set_of, record_of}
+use Rattle.cedar_types.specs.Expressions.View.{Places, no_name, of_type, lit_of, lit_places, chain_of, trees_of, fields_of, kind_step}
+use Rattle.cedar_types.specs.Expressions.View.{expr_step, tree_with, kind_with}
 
 module _ (T : Type 0) (D : Type 0) (mark : T → Option Loc → Places → D) where
   abbrev pub expr : T → Option Loc → ExprKind T → Expr T
@@ -30,7 +32,8 @@ module _ (T : Type 0) (D : Type 0) (mark : T → Option Loc → Places → D) wh
   layer (K.Var x1) d = var (d no_name) x1
   layer (K.Slot x1) d = slot (d no_name) x1
   layer (K.Unknown x1) d = unknown (d no_name) (path_of x1)
-  layer (K.If' p1 a1 l1 k1 p2 a2 l2 k2 p3 a3 l3 k3) d = if_then_else (d no_name) (seen (expr a1 l1 k1)) (seen (expr a2 l2 k2)) (seen (expr a3 l3 k3))
+  layer (K.If' p1 a1 l1 k1 p2 a2 l2 k2 p3 a3 l3 k3) d =
+      if_then_else (d no_name) (seen (expr a1 l1 k1)) (seen (expr a2 l2 k2)) (seen (expr a3 l3 k3))
   layer (K.And' p1 a1 l1 k1 p2 a2 l2 k2) d = and (d no_name) (seen (expr a1 l1 k1)) (seen (expr a2 l2 k2))
   layer (K.Or' p1 a1 l1 k1 p2 a2 l2 k2) d = or (d no_name) (seen (expr a1 l1 k1)) (seen (expr a2 l2 k2))
   layer (K.UnaryApp' x1 p2 a2 l2 k2) d = unary (d no_name) x1 (seen (expr a2 l2 k2))
@@ -44,7 +47,9 @@ module _ (T : Type 0) (D : Type 0) (mark : T → Option Loc → Places → D) wh
   layer (K.Set' h1 r1) d = set_of (d no_name) (trees_of (map seen (shown-the_row-Expr-0 T h1 r1).items))
   layer (K.Record' h1 r1) d = record_of (d no_name) (fields_of (map (λ e. (e.0, seen e.1)) (shown-the_row-Expr-1 T h1 r1).entries))
 
-  opened : (k : ExprKind T) (d : Places → D) → form k d ≡ kind_step T D (map-ExprKind T (ExprKind T) (Expr T) ((Places → D) → Tree D) (Tree D) form seen (out-ExprKind T k)) d
+  opened : (k : ExprKind T) (d : Places → D)
+      → form k d ≡ kind_step T D (map-ExprKind T (ExprKind T) (Expr T) ((Places → D) → Tree D)
+      (Tree D) form seen (out-ExprKind T k)) d
   opened k d = λ i. fold_out-ExprKind T ((Places → D) → Tree D) (Tree D) (kind_step T D) (expr_step T D mark) k i d
 
   pub is_layer : (k : ExprKind T) (d : Places → D) → form k d ≡ layer k d

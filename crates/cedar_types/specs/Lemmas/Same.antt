@@ -10,7 +10,8 @@ use denote.Hole.Carrier.{out}
 use Rattle.cedar_types.specs.declared.base.location.Loc.{Loc}
 use Rattle.cedar_types.specs.declared.base.expressions.literals.Literal.{Literal}
 use Rattle.cedar_types.specs.declared.base.expressions.Expr.{Expr}
-use Rattle.cedar_types.specs.declared.base.expressions.ExprKind.{ExprKind, Row_of-Expr, end_of-Expr, more_of-Expr, items-the_row-Expr, items_shown-the_row-Expr-0, items_shown-the_row-Expr-1}
+use Rattle.cedar_types.specs.declared.base.expressions.ExprKind.{ExprKind, Row_of-Expr, end_of-Expr, more_of-Expr, items-the_row-Expr}
+use Rattle.cedar_types.specs.declared.base.expressions.ExprKind.{items_shown-the_row-Expr-0, items_shown-the_row-Expr-1}
 use Rattle.cedar_types.specs.declared.base.expressions.ExprKind.TheBlock.{shown-the_row-Expr-0, shown-the_row-Expr-1}
 use Rattle.cedar_types.specs.declared.base.expressions.ExprKind.TheViews.{out-ExprKind}
 use Rattle.cedar_types.specs.declared.base.expressions.ExprKind.TheVariants as K
@@ -69,7 +70,8 @@ module _ (T' : RattleType) where
   lists_agree (x ∷ xs) (y ∷ ys) h = λ i. h.0 y i && lists_agree xs ys h.1 i
 
   entries_agree : (xs ys : List (RcStr Global × Expr T)) → AllAgree (values_of xs)
-      → pointwise (λ p q. text_eq (text_of p.0) (text_of q.0) && eq p.1 q.1) xs ys ≡ fields_eq (fields_of (map (λ e. (e.0, shape e.1)) xs)) (fields_of (map (λ e. (e.0, shape e.1)) ys))
+      → pointwise (λ p q. text_eq (text_of p.0) (text_of q.0) && eq p.1 q.1) xs ys
+      ≡ fields_eq (fields_of (map (λ e. (e.0, shape e.1)) xs)) (fields_of (map (λ e. (e.0, shape e.1)) ys))
   entries_agree [] [] h = refl
   entries_agree [] (y ∷ ys) h = refl
   entries_agree (x ∷ xs) [] h = refl
@@ -88,19 +90,43 @@ module _ (T' : RattleType) where
     step_is (K.Var x1) (K.Var x1b) = λ i. var_eq x1 x1b
     step_is (K.Slot x1) (K.Slot x1b) = λ i. slot_eq x1 x1b
     step_is (K.Unknown x1) (K.Unknown x1b) = λ i. name_is x1 x1b i
-    step_is (K.If' p1 a1 l1 k1 p2 a2 l2 k2 p3 a3 l3 k3) (K.If' p1b a1b l1b k1b p2b a2b l2b k2b p3b a3b l3b k3b) = λ i. (agrees (expr a1 l1 k1) (step_is k1) (expr a1b l1b k1b) i) && ((agrees (expr a2 l2 k2) (step_is k2) (expr a2b l2b k2b) i) && (agrees (expr a3 l3 k3) (step_is k3) (expr a3b l3b k3b) i))
-    step_is (K.And' p1 a1 l1 k1 p2 a2 l2 k2) (K.And' p1b a1b l1b k1b p2b a2b l2b k2b) = λ i. (agrees (expr a1 l1 k1) (step_is k1) (expr a1b l1b k1b) i) && (agrees (expr a2 l2 k2) (step_is k2) (expr a2b l2b k2b) i)
-    step_is (K.Or' p1 a1 l1 k1 p2 a2 l2 k2) (K.Or' p1b a1b l1b k1b p2b a2b l2b k2b) = λ i. (agrees (expr a1 l1 k1) (step_is k1) (expr a1b l1b k1b) i) && (agrees (expr a2 l2 k2) (step_is k2) (expr a2b l2b k2b) i)
-    step_is (K.UnaryApp' x1 p2 a2 l2 k2) (K.UnaryApp' x1b p2b a2b l2b k2b) = λ i. (unary_eq x1 x1b) && (agrees (expr a2 l2 k2) (step_is k2) (expr a2b l2b k2b) i)
-    step_is (K.BinaryApp' x1 p2 a2 l2 k2 p3 a3 l3 k3) (K.BinaryApp' x1b p2b a2b l2b k2b p3b a3b l3b k3b) = λ i. (binary_eq x1 x1b) && ((agrees (expr a2 l2 k2) (step_is k2) (expr a2b l2b k2b) i) && (agrees (expr a3 l3 k3) (step_is k3) (expr a3b l3b k3b) i))
-    step_is (K.ExtensionFunctionApp' x1 h2 r2) (K.ExtensionFunctionApp' x1b h2b r2b) = λ i. (name_is x1 x1b i) && (lists_agree (shown-the_row-Expr-0 T h2 r2).items (shown-the_row-Expr-0 T h2b r2b).items (subst AllAgree (sym (items_shown-the_row-Expr-0 T h2 r2)) (rows_agree r2)) i)
-    step_is (K.GetAttr' p1 a1 l1 k1 x2) (K.GetAttr' p1b a1b l1b k1b x2b) = λ i. (agrees (expr a1 l1 k1) (step_is k1) (expr a1b l1b k1b) i) && (text_eq (text_of x2) (text_of x2b))
-    step_is (K.HasAttr' p1 a1 l1 k1 x2) (K.HasAttr' p1b a1b l1b k1b x2b) = λ i. (agrees (expr a1 l1 k1) (step_is k1) (expr a1b l1b k1b) i) && (text_eq (text_of x2) (text_of x2b))
-    step_is (K.ExtHasAttr' p1 a1 l1 k1 x2) (K.ExtHasAttr' p1b a1b l1b k1b x2b) = λ i. (agrees (expr a1 l1 k1) (step_is k1) (expr a1b l1b k1b) i) && ((text_eq (text_of x2.first) (text_of x2b.first)) && (sym (pointwise-map text_of text_eq x2.rest.items x2b.rest.items) i))
-    step_is (K.Like' p1 a1 l1 k1 x2) (K.Like' p1b a1b l1b k1b x2b) = λ i. (agrees (expr a1 l1 k1) (step_is k1) (expr a1b l1b k1b) i) && (pattern_eq x2.items x2b.items)
-    step_is (K.Is' p1 a1 l1 k1 x2) (K.Is' p1b a1b l1b k1b x2b) = λ i. (agrees (expr a1 l1 k1) (step_is k1) (expr a1b l1b k1b) i) && (entity_type_is x2 x2b i)
-    step_is (K.Set' h1 r1) (K.Set' h1b r1b) = λ i. lists_agree (shown-the_row-Expr-0 T h1 r1).items (shown-the_row-Expr-0 T h1b r1b).items (subst AllAgree (sym (items_shown-the_row-Expr-0 T h1 r1)) (rows_agree r1)) i
-    step_is (K.Record' h1 r1) (K.Record' h1b r1b) = λ i. entries_agree (shown-the_row-Expr-1 T h1 r1).entries (shown-the_row-Expr-1 T h1b r1b).entries (subst AllAgree (sym (items_shown-the_row-Expr-1 T h1 r1)) (rows_agree r1)) i
+    step_is (K.If' p1 a1 l1 k1 p2 a2 l2 k2 p3 a3 l3 k3) (K.If' p1b a1b l1b k1b p2b a2b l2b k2b p3b a3b l3b k3b) =
+        λ i. (agrees (expr a1 l1 k1) (step_is k1) (expr a1b l1b k1b) i)
+        && ((agrees (expr a2 l2 k2) (step_is k2) (expr a2b l2b k2b) i)
+        && (agrees (expr a3 l3 k3) (step_is k3) (expr a3b l3b k3b) i))
+    step_is (K.And' p1 a1 l1 k1 p2 a2 l2 k2) (K.And' p1b a1b l1b k1b p2b a2b l2b k2b) =
+        λ i. (agrees (expr a1 l1 k1) (step_is k1) (expr a1b l1b k1b) i)
+        && (agrees (expr a2 l2 k2) (step_is k2) (expr a2b l2b k2b) i)
+    step_is (K.Or' p1 a1 l1 k1 p2 a2 l2 k2) (K.Or' p1b a1b l1b k1b p2b a2b l2b k2b) =
+        λ i. (agrees (expr a1 l1 k1) (step_is k1) (expr a1b l1b k1b) i)
+        && (agrees (expr a2 l2 k2) (step_is k2) (expr a2b l2b k2b) i)
+    step_is (K.UnaryApp' x1 p2 a2 l2 k2) (K.UnaryApp' x1b p2b a2b l2b k2b) =
+        λ i. (unary_eq x1 x1b) && (agrees (expr a2 l2 k2) (step_is k2) (expr a2b l2b k2b) i)
+    step_is (K.BinaryApp' x1 p2 a2 l2 k2 p3 a3 l3 k3) (K.BinaryApp' x1b p2b a2b l2b k2b p3b a3b l3b k3b) =
+        λ i. (binary_eq x1 x1b) && ((agrees (expr a2 l2 k2) (step_is k2) (expr a2b l2b k2b) i)
+        && (agrees (expr a3 l3 k3) (step_is k3) (expr a3b l3b k3b) i))
+    step_is (K.ExtensionFunctionApp' x1 h2 r2) (K.ExtensionFunctionApp' x1b h2b r2b) =
+        λ i. (name_is x1 x1b i) && (lists_agree (shown-the_row-Expr-0 T h2 r2).items
+        (shown-the_row-Expr-0 T h2b r2b).items
+        (subst AllAgree (sym (items_shown-the_row-Expr-0 T h2 r2)) (rows_agree r2)) i)
+    step_is (K.GetAttr' p1 a1 l1 k1 x2) (K.GetAttr' p1b a1b l1b k1b x2b) =
+        λ i. (agrees (expr a1 l1 k1) (step_is k1) (expr a1b l1b k1b) i) && (text_eq (text_of x2) (text_of x2b))
+    step_is (K.HasAttr' p1 a1 l1 k1 x2) (K.HasAttr' p1b a1b l1b k1b x2b) =
+        λ i. (agrees (expr a1 l1 k1) (step_is k1) (expr a1b l1b k1b) i) && (text_eq (text_of x2) (text_of x2b))
+    step_is (K.ExtHasAttr' p1 a1 l1 k1 x2) (K.ExtHasAttr' p1b a1b l1b k1b x2b) =
+        λ i. (agrees (expr a1 l1 k1) (step_is k1) (expr a1b l1b k1b) i)
+        && ((text_eq (text_of x2.first) (text_of x2b.first))
+        && (sym (pointwise-map text_of text_eq x2.rest.items x2b.rest.items) i))
+    step_is (K.Like' p1 a1 l1 k1 x2) (K.Like' p1b a1b l1b k1b x2b) =
+        λ i. (agrees (expr a1 l1 k1) (step_is k1) (expr a1b l1b k1b) i) && (pattern_eq x2.items x2b.items)
+    step_is (K.Is' p1 a1 l1 k1 x2) (K.Is' p1b a1b l1b k1b x2b) =
+        λ i. (agrees (expr a1 l1 k1) (step_is k1) (expr a1b l1b k1b) i) && (entity_type_is x2 x2b i)
+    step_is (K.Set' h1 r1) (K.Set' h1b r1b) =
+        λ i. lists_agree (shown-the_row-Expr-0 T h1 r1).items (shown-the_row-Expr-0 T h1b r1b).items
+        (subst AllAgree (sym (items_shown-the_row-Expr-0 T h1 r1)) (rows_agree r1)) i
+    step_is (K.Record' h1 r1) (K.Record' h1b r1b) =
+        λ i. entries_agree (shown-the_row-Expr-1 T h1 r1).entries (shown-the_row-Expr-1 T h1b r1b).entries
+        (subst AllAgree (sym (items_shown-the_row-Expr-1 T h1 r1)) (rows_agree r1)) i
     step_is x y = refl
 
     rows_agree : {n : _} → (r : Row_of-Expr T n) → AllAgree (items-the_row-Expr T n r)

@@ -8,9 +8,12 @@ use Rattle.cedar_types.specs.declared.base.expressions.operators.BinaryOp.{Binar
 use Rattle.cedar_types.specs.declared.base.expressions.patterns.PatternElem.{PatternElem}
 use Rattle.cedar_types.specs.declared.base.names.slots.SlotId.{SlotId}
 use Rattle.cedar_types.specs.contracts.base.expressions.patterns.PatternElemPartialEq.TheImpl as pattern_impl
-use Rattle.cedar_types.specs.Lemmas.Comparisons.{Same, and_left, and_right, and_both, list_same, text_same, texts_same, path_same, uid_same, bool_same, int_same}
+use Rattle.cedar_types.specs.Lemmas.Comparisons.{Same, and_left, and_right, and_both, list_same, text_same, texts_same, path_same, uid_same}
+use Rattle.cedar_types.specs.Lemmas.Comparisons.{bool_same, int_same}
 use Rattle.cedar_types.specs.Names.{text_eq, texts_eq, path_eq}
-use Rattle.cedar_types.specs.Expressions.Tree.{Lit, bool, long, string, entity, lit, var, slot, unknown, if_then_else, and, or, unary, binary, call, get_attr, has_attr, ext_has_attr, like, is_type, set_of, record_of, Trees, no_trees, tree, Fields, no_fields, field, Shape}
+use Rattle.cedar_types.specs.Expressions.Tree.{Lit, bool, long, string, entity, lit, var, slot, unknown, if_then_else, and, or, unary}
+use Rattle.cedar_types.specs.Expressions.Tree.{binary, call, get_attr, has_attr, ext_has_attr, like, is_type, set_of, record_of, Trees}
+use Rattle.cedar_types.specs.Expressions.Tree.{no_trees, tree, Fields, no_fields, field, Shape}
 use Rattle.cedar_types.specs.Expressions.TreeEq.{lit_eq, var_eq, slot_eq, unary_eq, binary_eq, pattern_eq, tree_eq, trees_eq, fields_eq}
 
 var_to : (x y : Var) → var_eq x y ≡ true → x ≡ y
@@ -121,24 +124,57 @@ mutual
   tree_to (var d x1) (var e x2) h = λ i. var tt (var_same.to x1 x2 h i)
   tree_to (slot d x1) (slot e x2) h = λ i. slot tt (slot_same.to x1 x2 h i)
   tree_to (unknown d x1) (unknown e x2) h = λ i. unknown tt (path_same.to x1 x2 h i)
-  tree_to (if_then_else d x1 y1 z1) (if_then_else e x2 y2 z2) h = λ i. if_then_else tt (tree_to x1 x2 (and_left (tree_eq x1 x2) (tree_eq y1 y2 && tree_eq z1 z2) h) i) (tree_to y1 y2 (and_left (tree_eq y1 y2) (tree_eq z1 z2) (and_right (tree_eq x1 x2) (tree_eq y1 y2 && tree_eq z1 z2) h)) i) (tree_to z1 z2 (and_right (tree_eq y1 y2) (tree_eq z1 z2) (and_right (tree_eq x1 x2) (tree_eq y1 y2 && tree_eq z1 z2) h)) i)
-  tree_to (and d x1 y1) (and e x2 y2) h = λ i. and tt (tree_to x1 x2 (and_left (tree_eq x1 x2) (tree_eq y1 y2) h) i) (tree_to y1 y2 (and_right (tree_eq x1 x2) (tree_eq y1 y2) h) i)
-  tree_to (or d x1 y1) (or e x2 y2) h = λ i. or tt (tree_to x1 x2 (and_left (tree_eq x1 x2) (tree_eq y1 y2) h) i) (tree_to y1 y2 (and_right (tree_eq x1 x2) (tree_eq y1 y2) h) i)
-  tree_to (unary d x1 y1) (unary e x2 y2) h = λ i. unary tt (unary_same.to x1 x2 (and_left (unary_eq x1 x2) (tree_eq y1 y2) h) i) (tree_to y1 y2 (and_right (unary_eq x1 x2) (tree_eq y1 y2) h) i)
-  tree_to (binary d x1 y1 z1) (binary e x2 y2 z2) h = λ i. binary tt (binary_same.to x1 x2 (and_left (binary_eq x1 x2) (tree_eq y1 y2 && tree_eq z1 z2) h) i) (tree_to y1 y2 (and_left (tree_eq y1 y2) (tree_eq z1 z2) (and_right (binary_eq x1 x2) (tree_eq y1 y2 && tree_eq z1 z2) h)) i) (tree_to z1 z2 (and_right (tree_eq y1 y2) (tree_eq z1 z2) (and_right (binary_eq x1 x2) (tree_eq y1 y2 && tree_eq z1 z2) h)) i)
-  tree_to (call d x1 y1) (call e x2 y2) h = λ i. call tt (path_same.to x1 x2 (and_left (path_eq x1 x2) (trees_eq y1 y2) h) i) (trees_to y1 y2 (and_right (path_eq x1 x2) (trees_eq y1 y2) h) i)
-  tree_to (get_attr d x1 y1) (get_attr e x2 y2) h = λ i. get_attr tt (tree_to x1 x2 (and_left (tree_eq x1 x2) (text_eq y1 y2) h) i) (text_same.to y1 y2 (and_right (tree_eq x1 x2) (text_eq y1 y2) h) i)
-  tree_to (has_attr d x1 y1) (has_attr e x2 y2) h = λ i. has_attr tt (tree_to x1 x2 (and_left (tree_eq x1 x2) (text_eq y1 y2) h) i) (text_same.to y1 y2 (and_right (tree_eq x1 x2) (text_eq y1 y2) h) i)
-  tree_to (ext_has_attr d x1 y1 z1) (ext_has_attr e x2 y2 z2) h = λ i. ext_has_attr tt (tree_to x1 x2 (and_left (tree_eq x1 x2) (text_eq y1 y2 && texts_eq z1 z2) h) i) (text_same.to y1 y2 (and_left (text_eq y1 y2) (texts_eq z1 z2) (and_right (tree_eq x1 x2) (text_eq y1 y2 && texts_eq z1 z2) h)) i) (texts_same.to z1 z2 (and_right (text_eq y1 y2) (texts_eq z1 z2) (and_right (tree_eq x1 x2) (text_eq y1 y2 && texts_eq z1 z2) h)) i)
-  tree_to (like d x1 y1) (like e x2 y2) h = λ i. like tt (tree_to x1 x2 (and_left (tree_eq x1 x2) (pattern_eq y1 y2) h) i) (pattern_same.to y1 y2 (and_right (tree_eq x1 x2) (pattern_eq y1 y2) h) i)
-  tree_to (is_type d x1 y1) (is_type e x2 y2) h = λ i. is_type tt (tree_to x1 x2 (and_left (tree_eq x1 x2) (path_eq y1 y2) h) i) (path_same.to y1 y2 (and_right (tree_eq x1 x2) (path_eq y1 y2) h) i)
+  tree_to (if_then_else d x1 y1 z1) (if_then_else e x2 y2 z2) h =
+      λ i. if_then_else tt (tree_to x1 x2 (and_left (tree_eq x1 x2) (tree_eq y1 y2 && tree_eq z1 z2) h) i)
+      (tree_to y1 y2 (and_left (tree_eq y1 y2) (tree_eq z1 z2)
+      (and_right (tree_eq x1 x2) (tree_eq y1 y2 && tree_eq z1 z2) h)) i)
+      (tree_to z1 z2 (and_right (tree_eq y1 y2) (tree_eq z1 z2)
+      (and_right (tree_eq x1 x2) (tree_eq y1 y2 && tree_eq z1 z2) h)) i)
+  tree_to (and d x1 y1) (and e x2 y2) h =
+      λ i. and tt (tree_to x1 x2 (and_left (tree_eq x1 x2) (tree_eq y1 y2) h) i)
+      (tree_to y1 y2 (and_right (tree_eq x1 x2) (tree_eq y1 y2) h) i)
+  tree_to (or d x1 y1) (or e x2 y2) h =
+      λ i. or tt (tree_to x1 x2 (and_left (tree_eq x1 x2) (tree_eq y1 y2) h) i)
+      (tree_to y1 y2 (and_right (tree_eq x1 x2) (tree_eq y1 y2) h) i)
+  tree_to (unary d x1 y1) (unary e x2 y2) h =
+      λ i. unary tt (unary_same.to x1 x2 (and_left (unary_eq x1 x2) (tree_eq y1 y2) h) i)
+      (tree_to y1 y2 (and_right (unary_eq x1 x2) (tree_eq y1 y2) h) i)
+  tree_to (binary d x1 y1 z1) (binary e x2 y2 z2) h =
+      λ i. binary tt (binary_same.to x1 x2 (and_left (binary_eq x1 x2) (tree_eq y1 y2 && tree_eq z1 z2) h) i)
+      (tree_to y1 y2 (and_left (tree_eq y1 y2) (tree_eq z1 z2)
+      (and_right (binary_eq x1 x2) (tree_eq y1 y2 && tree_eq z1 z2) h)) i)
+      (tree_to z1 z2 (and_right (tree_eq y1 y2) (tree_eq z1 z2)
+      (and_right (binary_eq x1 x2) (tree_eq y1 y2 && tree_eq z1 z2) h)) i)
+  tree_to (call d x1 y1) (call e x2 y2) h =
+      λ i. call tt (path_same.to x1 x2 (and_left (path_eq x1 x2) (trees_eq y1 y2) h) i)
+      (trees_to y1 y2 (and_right (path_eq x1 x2) (trees_eq y1 y2) h) i)
+  tree_to (get_attr d x1 y1) (get_attr e x2 y2) h =
+      λ i. get_attr tt (tree_to x1 x2 (and_left (tree_eq x1 x2) (text_eq y1 y2) h) i)
+      (text_same.to y1 y2 (and_right (tree_eq x1 x2) (text_eq y1 y2) h) i)
+  tree_to (has_attr d x1 y1) (has_attr e x2 y2) h =
+      λ i. has_attr tt (tree_to x1 x2 (and_left (tree_eq x1 x2) (text_eq y1 y2) h) i)
+      (text_same.to y1 y2 (and_right (tree_eq x1 x2) (text_eq y1 y2) h) i)
+  tree_to (ext_has_attr d x1 y1 z1) (ext_has_attr e x2 y2 z2) h =
+      λ i. ext_has_attr tt (tree_to x1 x2 (and_left (tree_eq x1 x2) (text_eq y1 y2 && texts_eq z1 z2) h) i)
+      (text_same.to y1 y2 (and_left (text_eq y1 y2) (texts_eq z1 z2)
+      (and_right (tree_eq x1 x2) (text_eq y1 y2 && texts_eq z1 z2) h)) i)
+      (texts_same.to z1 z2 (and_right (text_eq y1 y2) (texts_eq z1 z2)
+      (and_right (tree_eq x1 x2) (text_eq y1 y2 && texts_eq z1 z2) h)) i)
+  tree_to (like d x1 y1) (like e x2 y2) h =
+      λ i. like tt (tree_to x1 x2 (and_left (tree_eq x1 x2) (pattern_eq y1 y2) h) i)
+      (pattern_same.to y1 y2 (and_right (tree_eq x1 x2) (pattern_eq y1 y2) h) i)
+  tree_to (is_type d x1 y1) (is_type e x2 y2) h =
+      λ i. is_type tt (tree_to x1 x2 (and_left (tree_eq x1 x2) (path_eq y1 y2) h) i)
+      (path_same.to y1 y2 (and_right (tree_eq x1 x2) (path_eq y1 y2) h) i)
   tree_to (set_of d x1) (set_of e x2) h = λ i. set_of tt (trees_to x1 x2 h i)
   tree_to (record_of d x1) (record_of e x2) h = λ i. record_of tt (fields_to x1 x2 h i)
   tree_to t u h = absurd (true≢false (sym h))
 
   trees_to : (t u : Trees (Unit {0})) → trees_eq t u ≡ true → t ≡ u
   trees_to no_trees no_trees h = refl
-  trees_to (tree t ts) (tree u us) h = λ i. tree (tree_to t u (and_left (tree_eq t u) (trees_eq ts us) h) i) (trees_to ts us (and_right (tree_eq t u) (trees_eq ts us) h) i)
+  trees_to (tree t ts) (tree u us) h =
+      λ i. tree (tree_to t u (and_left (tree_eq t u) (trees_eq ts us) h) i)
+      (trees_to ts us (and_right (tree_eq t u) (trees_eq ts us) h) i)
   trees_to t u h = absurd (true≢false (sym h))
 
   fields_to : (t u : Fields (Unit {0})) → fields_eq t u ≡ true → t ≡ u
@@ -155,15 +191,21 @@ mutual
   tree_itself (var d x) = var_same.itself x
   tree_itself (slot d x) = slot_same.itself x
   tree_itself (unknown d x) = path_same.itself x
-  tree_itself (if_then_else d x y z) = and_both (tree_eq x x) (tree_eq y y && tree_eq z z) (tree_itself x) (and_both (tree_eq y y) (tree_eq z z) (tree_itself y) (tree_itself z))
+  tree_itself (if_then_else d x y z) =
+      and_both (tree_eq x x) (tree_eq y y && tree_eq z z) (tree_itself x)
+      (and_both (tree_eq y y) (tree_eq z z) (tree_itself y) (tree_itself z))
   tree_itself (and d x y) = and_both (tree_eq x x) (tree_eq y y) (tree_itself x) (tree_itself y)
   tree_itself (or d x y) = and_both (tree_eq x x) (tree_eq y y) (tree_itself x) (tree_itself y)
   tree_itself (unary d x y) = and_both (unary_eq x x) (tree_eq y y) (unary_same.itself x) (tree_itself y)
-  tree_itself (binary d x y z) = and_both (binary_eq x x) (tree_eq y y && tree_eq z z) (binary_same.itself x) (and_both (tree_eq y y) (tree_eq z z) (tree_itself y) (tree_itself z))
+  tree_itself (binary d x y z) =
+      and_both (binary_eq x x) (tree_eq y y && tree_eq z z) (binary_same.itself x)
+      (and_both (tree_eq y y) (tree_eq z z) (tree_itself y) (tree_itself z))
   tree_itself (call d x y) = and_both (path_eq x x) (trees_eq y y) (path_same.itself x) (trees_itself y)
   tree_itself (get_attr d x y) = and_both (tree_eq x x) (text_eq y y) (tree_itself x) (text_same.itself y)
   tree_itself (has_attr d x y) = and_both (tree_eq x x) (text_eq y y) (tree_itself x) (text_same.itself y)
-  tree_itself (ext_has_attr d x y z) = and_both (tree_eq x x) (text_eq y y && texts_eq z z) (tree_itself x) (and_both (text_eq y y) (texts_eq z z) (text_same.itself y) (texts_same.itself z))
+  tree_itself (ext_has_attr d x y z) =
+      and_both (tree_eq x x) (text_eq y y && texts_eq z z) (tree_itself x)
+      (and_both (text_eq y y) (texts_eq z z) (text_same.itself y) (texts_same.itself z))
   tree_itself (like d x y) = and_both (tree_eq x x) (pattern_eq y y) (tree_itself x) (pattern_same.itself y)
   tree_itself (is_type d x y) = and_both (tree_eq x x) (path_eq y y) (tree_itself x) (path_same.itself y)
   tree_itself (set_of d x) = trees_itself x
@@ -175,7 +217,9 @@ mutual
 
   fields_itself : (t : Fields (Unit {0})) → fields_eq t t ≡ true
   fields_itself no_fields = refl
-  fields_itself (field k t ts) = and_both (text_eq k k && tree_eq t t) (fields_eq ts ts) (and_both (text_eq k k) (tree_eq t t) (text_same.itself k) (tree_itself t)) (fields_itself ts)
+  fields_itself (field k t ts) =
+      and_both (text_eq k k && tree_eq t t) (fields_eq ts ts)
+      (and_both (text_eq k k) (tree_eq t t) (text_same.itself k) (tree_itself t)) (fields_itself ts)
 
 pub tree_same : Same {A = Shape} tree_eq
 tree_same = record { to = tree_to; itself = tree_itself }

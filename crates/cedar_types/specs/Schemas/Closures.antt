@@ -2,7 +2,8 @@
 use Rattle.std.specs.Prelude.{◌≡◌, Bool, ◌&&◌, ◌||◌, List, length, Some, nat_lt, ◌<◌, true}
 use Rattle.std.specs.List.{list_any, list_all}
 use Rattle.cedar_types.specs.Names.{Path, Uid, path_eq, uid_eq}
-use Rattle.cedar_types.specs.Schemas.{DeclaredType, DeclaredAction, is_among, uid_is_among, type_named, action_named, descendants_of, descendants_of_action}
+use Rattle.cedar_types.specs.Schemas.{DeclaredType, DeclaredAction, is_among, uid_is_among, type_named, action_named, descendants_of}
+use Rattle.cedar_types.specs.Schemas.{descendants_of_action}
 
 -- all of the others are among these
 abbrev pub has_all : {B : Type 0} → (B → B → Bool) → List B → List B → Bool

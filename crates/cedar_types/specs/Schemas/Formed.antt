@@ -2,7 +2,8 @@
 use Rattle.std.specs.Prelude.{Bool, true, false, ◌&&◌, Option, Some, None}
 use Rattle.std.specs.List.{list_all}
 use Rattle.cedar_types.specs.Types.{TRecord, is_well_formed}
-use Rattle.cedar_types.specs.Schemas.{TypeKind, StandardKind, EnumKind, ExternalKind, DeclaredType, Application, DeclaredAction, Schema, tags_pass}
+use Rattle.cedar_types.specs.Schemas.{TypeKind, StandardKind, EnumKind, ExternalKind, DeclaredType, Application, DeclaredAction, Schema}
+use Rattle.cedar_types.specs.Schemas.{tags_pass}
 
 abbrev pub kind_is_formed : TypeKind → Bool
 kind_is_formed (StandardKind attrs tags) =

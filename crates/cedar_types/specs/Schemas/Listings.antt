@@ -2,7 +2,8 @@
 use Rattle.std.specs.Prelude.{◌≡◌, true, false, ◌||◌, List, ◌∷◌, ◌++◌, Option, Some, None}
 use Rattle.std.specs.List.{list_all, flat_map}
 use Rattle.cedar_types.specs.Names.{Path, Uid, path_eq, uid_eq}
-use Rattle.cedar_types.specs.Schemas.{has_repeat, is_among, uid_is_among, DeclaredType, DeclaredAction, descendants_of, descendants_of_action, declares_action}
+use Rattle.cedar_types.specs.Schemas.{has_repeat, is_among, uid_is_among, DeclaredType, DeclaredAction, descendants_of}
+use Rattle.cedar_types.specs.Schemas.{descendants_of_action, declares_action}
 
 -- the listed types are the wanted ones, each once
 pub record ListsTypes (wanted listed : List Path) : Type 0 where

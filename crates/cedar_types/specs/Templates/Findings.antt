@@ -7,7 +7,8 @@ use Rattle.cedar_types.specs.Errors.{Finding, Fault, unrecognized_entity_type, u
 use Rattle.cedar_types.specs.Templates.Mentions.{mentioned_uid, mentioned_type, own_mention}
 use Rattle.cedar_types.specs.Names.{Text, Path, Uid, PlacedType, PlacedUid, text_eq, is_action_path}
 use Rattle.cedar_types.specs.Expressions.Parts.{subexpressions}
-use Rattle.cedar_types.specs.Schemas.{TypeKind, StandardKind, EnumKind, ExternalKind, DeclaredType, Schema, type_named, knows_type, declares_action}
+use Rattle.cedar_types.specs.Schemas.{TypeKind, StandardKind, EnumKind, ExternalKind, DeclaredType, Schema, type_named, knows_type}
+use Rattle.cedar_types.specs.Schemas.{declares_action}
 use Rattle.cedar_types.specs.Templates.{PlainTemplate, condition_of}
 use Rattle.cedar_types.specs.Expressions.Tree.{Tree}
 use Rattle.cedar_types.specs.Expressions.View.{Written}

@@ -4,7 +4,8 @@ use Rattle.std.specs.List.{filter_map}
 use Rattle.cedar_types.specs.declared.base.location.Loc.{Loc}
 use Rattle.cedar_types.specs.Names.{PlacedType, PlacedUid}
 use Rattle.cedar_types.specs.Expressions.Parts.{subexpressions}
-use Rattle.cedar_types.specs.Templates.{Reference, to_entity, to_slot, Scope, any, equal, within, typed, typed_within, ActionScope, any_action, equal_action, within_actions, PlainTemplate, condition_of}
+use Rattle.cedar_types.specs.Templates.{Reference, to_entity, to_slot, Scope, any, equal, within, typed, typed_within, ActionScope}
+use Rattle.cedar_types.specs.Templates.{any_action, equal_action, within_actions, PlainTemplate, condition_of}
 use Rattle.cedar_types.specs.Expressions.Tree.{entity, Tree, lit, is_type}
 use Rattle.cedar_types.specs.Expressions.View.{Places, no_name, of_type, of_uid, Written}
 

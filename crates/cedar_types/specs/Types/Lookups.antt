@@ -5,7 +5,8 @@ use Rattle.cedar_types.specs.Names.{Text, Path, Uid, is_action_path}
 use Rattle.cedar_types.specs.Types.{ty_of, Ty, TNever, TBool, TLong, TString, TSet, TAnySet, TRecord, TEntity, TAnyEntity, TExtension}
 use Rattle.cedar_types.specs.Types.Bounds.{find_attr, lub}
 use Rattle.cedar_types.specs.Types.Order.{in_order}
-use Rattle.cedar_types.specs.Schemas.{TypeKind, StandardKind, EnumKind, ExternalKind, DeclaredType, Schema, type_named, declares_type, declares_action, is_open_type}
+use Rattle.cedar_types.specs.Schemas.{TypeKind, StandardKind, EnumKind, ExternalKind, DeclaredType, Schema, type_named, declares_type}
+use Rattle.cedar_types.specs.Schemas.{declares_action, is_open_type}
 use Rattle.cedar_types.specs.declared.base.types.AttributeType.{AttributeType}
 use Rattle.cedar_types.specs.declared.base.types.ValidationMode.TheVariants.{Permissive}
 

@@ -3,7 +3,8 @@ use Rattle.std.specs.Prelude.{◌≡◌, Bool, true, false, ◌&&◌, List, [], 
 use Rattle.std.specs.List.{list_any}
 use Rattle.cedar_types.specs.Names.{Path, Uid, uid_eq}
 use Rattle.cedar_types.specs.Types.{Ty, TRecord, Attrs}
-use Rattle.cedar_types.specs.Schemas.{TypeKind, StandardKind, EnumKind, ExternalKind, DeclaredType, DeclaredAction, Schema, uid_is_among, is_among, type_named, declares_type, declares_action, descendants_of, has_fault, may_be_in}
+use Rattle.cedar_types.specs.Schemas.{TypeKind, StandardKind, EnumKind, ExternalKind, DeclaredType, DeclaredAction, Schema, uid_is_among}
+use Rattle.cedar_types.specs.Schemas.{is_among, type_named, declares_type, declares_action, descendants_of, has_fault, may_be_in}
 use Rattle.cedar_types.specs.Values.{VRecord, Entries, no_entries, AllEntries, HasType}
 
 -- what is stored of an entity

@@ -6,8 +6,10 @@ use Rattle.cedar_types.specs.Types.{Ty}
 use Rattle.cedar_types.specs.Types.Order.{in_order}
 use Rattle.cedar_types.specs.Errors.{Finding, unexpected_type}
 use Rattle.cedar_typing.specs.Capabilities.{Caps, no_caps}
-use Rattle.cedar_typing.specs.Infer.Parts.{success, failure, limit, Answer, Part, part_with, part_from, as_failed_untyped, AnswerAndErrors, PartAndErrors, expect_type, expect, after, any_part}
-use Rattle.cedar_typing.specs.Judgments.{derived, recovered, accepted, refused, missing, the_part, the_cut, Derivation, Cut, Judgment, Giving, PartResult, Operand, PartOrCut}
+use Rattle.cedar_typing.specs.Infer.Parts.{success, failure, limit, Answer, Part, part_with, part_from, as_failed_untyped, AnswerAndErrors}
+use Rattle.cedar_typing.specs.Infer.Parts.{PartAndErrors, expect_type, expect, after, any_part}
+use Rattle.cedar_typing.specs.Judgments.{derived, recovered, accepted, refused, missing, the_part, the_cut, Derivation, Cut, Judgment}
+use Rattle.cedar_typing.specs.Judgments.{Giving, PartResult, Operand, PartOrCut}
 use Rattle.cedar_typing.specs.TypeEnv.{TypeEnv, finding}
 use Rattle.cedar_typing.specs.TypeTests.{accepts, annotation_passes}
 use Rattle.cedar_typing.specs.TypedExpr.{TypedTree, annotation}
@@ -37,7 +39,8 @@ pub record Agrees (j : List Finding → AnswerAndErrors) (J : Judgment) : Type 0
 
 -- what a part comes to: it is is_given on, or it is cut
 pub data PartAnswer (H : Giving) (C : Cut) : Option Part → List Finding → Type 0 where
-  is_given : {succeeded : Bool} {c : Caps} {e : TypedTree} {es : List Finding} → H succeeded c e es → PartAnswer H C (Some (part_with succeeded c e)) es
+  is_given : {succeeded : Bool} {c : Caps} {e : TypedTree} {es : List Finding} → H succeeded c e es
+      → PartAnswer H C (Some (part_with succeeded c e)) es
   is_cut : {es : List Finding} → C es → PartAnswer H C None es
 
 -- from the errors es on, what it comes to and the errors that are added
@@ -55,12 +58,27 @@ abbrev pub OperandFound : TypeEnv → List Ty → Option Loc → Judgment → Pa
 OperandFound env ts l J = PartFound (Operand env ts l J) J.cuts
 
 module _ (env : TypeEnv) (ts : List Ty) (l : Option Loc) (J : Judgment) where
-  tested : (succeeded : Bool) (c : Caps) (e : TypedTree) (es added : List Finding) (t : Ty) (b : Bool) → annotation e ≡ Some t → accepts ts t ≡ b → PartResult J succeeded c e added
-      → OperandFound env ts l J (if b then (Some (part_with succeeded c e), es ++ added) else (Some (as_failed_untyped (part_with succeeded c e)), (es ++ added) ++ finding env l (unexpected_type (in_order ts) t) ∷ [])) es
+  tested : (succeeded : Bool) (c : Caps) (e : TypedTree) (es added : List Finding) (t : Ty) (b : Bool)
+      → annotation e ≡ Some t → accepts ts t ≡ b → PartResult J succeeded c e added
+      → OperandFound env ts l J
+      (if b then (Some (part_with succeeded c e), es ++ added)
+      else (
+        Some (as_failed_untyped (part_with succeeded c e)),
+        (es ++ added) ++ finding env l (unexpected_type (in_order ts) t) ∷ [],
+      )) es
   tested succeeded c e es added t true n h p = record { operand = _; added = added; is = refl; rules = is_given (accepted t p n h) }
-  tested succeeded c e es added t false n h p = record { operand = _; added = added ++ finding env l (unexpected_type (in_order ts) t) ∷ []; is = rw append_assoc refl; rules = is_given (refused t p n h) }
+  tested succeeded c e es added t false n h p =
+      record {
+        operand = _;
+        added = added ++ finding env l (unexpected_type (in_order ts) t) ∷ [];
+        is =
+            rw append_assoc refl;
+        rules = is_given (refused t p n h);
+      }
 
-  by_annotation : (succeeded : Bool) (c : Caps) (e : TypedTree) (es added : List Finding) (x : Option Ty) → annotation e ≡ x → PartResult J succeeded c e added → OperandFound env ts l J (expect_type env ts l (part_with succeeded c e) (es ++ added) x) es
+  by_annotation : (succeeded : Bool) (c : Caps) (e : TypedTree) (es added : List Finding) (x : Option Ty)
+      → annotation e ≡ x → PartResult J succeeded c e added
+      → OperandFound env ts l J (expect_type env ts l (part_with succeeded c e) (es ++ added) x) es
   by_annotation succeeded c e es added None n p = record { operand = _; added = added; is = refl; rules = is_given (missing p n) }
   by_annotation succeeded c e es added (Some t) n p = tested succeeded c e es added t (accepts ts t) n refl p
 
@@ -82,7 +100,8 @@ module _ (env : TypeEnv) (ts : List Ty) (l : Option Loc) (J : Judgment) where
     pub passes : accepts ts ty ≡ true
     pub silent : es ≡ []
 
-  good_part : (c : Caps) (e : TypedTree) (es : List Finding) (t : Ty) → Marks J.derives → annotation e ≡ Some t → accepts ts t ≡ true → PartResult J true c e es → Good c e es
+  good_part : (c : Caps) (e : TypedTree) (es : List Finding) (t : Ty) → Marks J.derives → annotation e ≡ Some t
+      → accepts ts t ≡ true → PartResult J true c e es → Good c e es
   good_part c e es t m n h (derived {t = u} s) =
       let same : Some t ≡ Some u = sym n ∙ m u c e s in
       let q : t ≡ u = cc in
@@ -93,43 +112,53 @@ module _ (env : TypeEnv) (ts : List Ty) (l : Option Loc) (J : Judgment) where
 
 module _ (J : Judgment) where
   -- an answer reached from the errors es0, where before were added to es already
-  pub later : (o : AnswerAndErrors) (es0 es before : List Finding) → es0 ≡ es ++ before → (a : Answer) (added : List Finding) → o ≡ (a, es0 ++ added) → Answers J a (before ++ added) → Found J o es
+  pub later : (o : AnswerAndErrors) (es0 es before : List Finding) → es0 ≡ es ++ before → (a : Answer)
+      (added : List Finding) → o ≡ (a, es0 ++ added) → Answers J a (before ++ added) → Found J o es
   later o es0 es before b a added e r =
       record { answer = a; added = before ++ added; is = e ∙ rw (b, append_assoc) refl; rules = r }
 
   -- where typing goes on with a part
   after_answer : (H : Giving) (C0 : Cut) (es0 es before : List Finding) (k : Part → List Finding → AnswerAndErrors) → es0 ≡ es ++ before
       → ((added : List Finding) → C0 added → J.cuts (before ++ added))
-      → ((succeeded : Bool) (c : Caps) (e : TypedTree) (added : List Finding) → H succeeded c e added → Found J (k (part_with succeeded c e) (es0 ++ added)) es)
+      → ((succeeded : Bool) (c : Caps) (e : TypedTree) (added : List Finding) → H succeeded c e added
+      → Found J (k (part_with succeeded c e) (es0 ++ added)) es)
       → (g : Option Part) (added : List Finding) → PartAnswer H C0 g added → Found J (after (g, es0 ++ added) k) es
   after_answer H C0 es0 es before k b cut on g added (is_given {succeeded = succeeded} {c = c} {e = e} p) = on succeeded c e added p
   after_answer H C0 es0 es before k b cut on g added (is_cut h) = later _ es0 es before b limit added refl (a_cut (cut added h))
 
   pub after_part : (H : Giving) (C0 : Cut) (es0 es before : List Finding) (k : Part → List Finding → AnswerAndErrors) → es0 ≡ es ++ before
       → ((added : List Finding) → C0 added → J.cuts (before ++ added))
-      → ((succeeded : Bool) (c : Caps) (e : TypedTree) (added : List Finding) → H succeeded c e added → Found J (k (part_with succeeded c e) (es0 ++ added)) es)
+      → ((succeeded : Bool) (c : Caps) (e : TypedTree) (added : List Finding) → H succeeded c e added
+      → Found J (k (part_with succeeded c e) (es0 ++ added)) es)
       → (o : PartAndErrors) → PartFound H C0 o es0 → Found J (after o k) es
   after_part H C0 es0 es before k b cut on o f =
       let P : PartAndErrors → Type 0 = λ o. Found J (after o k) es in
       subst P (sym f.is) (after_answer H C0 es0 es before k b cut on f.operand f.added f.rules)
 
   -- where it goes on with an operand
-  pub after_operand : (env : TypeEnv) (ts : List Ty) (l : Option Loc) (J0 : Judgment) (es0 es before : List Finding) (k : Part → List Finding → AnswerAndErrors) → es0 ≡ es ++ before
+  pub after_operand : (env : TypeEnv) (ts : List Ty) (l : Option Loc) (J0 : Judgment) (es0 es before : List Finding)
+      (k : Part → List Finding → AnswerAndErrors) → es0 ≡ es ++ before
       → ((added : List Finding) → J0.cuts added → J.cuts (before ++ added))
-      → ((succeeded : Bool) (c : Caps) (e : TypedTree) (added : List Finding) → Operand env ts l J0 succeeded c e added → Found J (k (part_with succeeded c e) (es0 ++ added)) es)
+      → ((succeeded : Bool) (c : Caps) (e : TypedTree) (added : List Finding)
+      → Operand env ts l J0 succeeded c e added → Found J (k (part_with succeeded c e) (es0 ++ added)) es)
       → (o : PartAndErrors) → OperandFound env ts l J0 o es0 → Found J (after o k) es
   after_operand env ts l J0 es0 es before k b cut on o f = after_part (Operand env ts l J0) J0.cuts es0 es before k b cut on o f
 
 -- ---- whatever the rules say is answered
 
 module _ (env : TypeEnv) (ts : List Ty) (l : Option Loc) (J : Judgment) (j : List Finding → AnswerAndErrors) (base : Agrees j J) where
-  part_only : (succeeded : Bool) (c : Caps) (e : TypedTree) (added : List Finding) → PartResult J succeeded c e added → (es : List Finding) → expect env ts l (j es) ≡ expect_type env ts l (part_with succeeded c e) (es ++ added) (annotation e)
+  part_only : (succeeded : Bool) (c : Caps) (e : TypedTree) (added : List Finding)
+      → PartResult J succeeded c e added → (es : List Finding)
+      → expect env ts l (j es) ≡ expect_type env ts l (part_with succeeded c e) (es ++ added) (annotation e)
   part_only succeeded c e added (derived h) es = ap (expect env ts l) (base.only es _ _ (a_derived h))
   part_only succeeded c e added (recovered h) es = ap (expect env ts l) (base.only es _ _ (a_recovered h))
 
-  pub operand_only : (succeeded : Bool) (c : Caps) (e : TypedTree) (added : List Finding) → Operand env ts l J succeeded c e added → (es : List Finding) → expect env ts l (j es) ≡ (Some (part_with succeeded c e), es ++ added)
+  pub operand_only : (succeeded : Bool) (c : Caps) (e : TypedTree) (added : List Finding)
+      → Operand env ts l J succeeded c e added → (es : List Finding)
+      → expect env ts l (j es) ≡ (Some (part_with succeeded c e), es ++ added)
   operand_only succeeded c e added (accepted t p n h) es = part_only succeeded c e added p es ∙ rw (n, h) refl
-  operand_only succeeded c e added (refused {succeeded = g} {c = c0} {e = e0} {es = before} t p n h) es = part_only g c0 e0 before p es ∙ rw (n, h, append_assoc) refl
+  operand_only succeeded c e added (refused {succeeded = g} {c = c0} {e = e0} {es = before} t p n h) es =
+      part_only g c0 e0 before p es ∙ rw (n, h, append_assoc) refl
   operand_only succeeded c e added (missing {succeeded = g} {c = c0} p n) es = part_only g c0 e added p es ∙ rw n refl
 
   pub cut_only : (added : List Finding) → J.cuts added → (es : List Finding) → expect env ts l (j es) ≡ (None, es ++ added)
@@ -151,7 +180,14 @@ module _ (J : Judgment) where
   part_answer a es (a_cut h) = is_cut h
 
   pub part_found : (o : AnswerAndErrors) (es : List Finding) → Found J o es → PartFound (PartResult J) J.cuts (any_part o) es
-  part_found o es f = record { operand = part_from f.answer; added = f.added; is = ap any_part f.is; rules = part_answer f.answer f.added f.rules }
+  part_found o es f =
+      record {
+        operand = part_from f.answer;
+        added = f.added;
+        is = ap any_part f.is;
+        rules =
+            part_answer f.answer f.added f.rules;
+      }
 
   pub part_visited : (g : Option Part) (es : List Finding) → PartAnswer (PartResult J) J.cuts g es → PartOrCut J es
   part_visited g es (is_given p) = the_part p
@@ -162,7 +198,8 @@ module _ (J : Judgment) where
   visited_answer es (the_cut h) = (None, is_cut h)
 
   -- whatever the rules say of it is answered
-  pub any_only : (j : List Finding → AnswerAndErrors) → Agrees j J → (g : Option Part) (added : List Finding) → PartAnswer (PartResult J) J.cuts g added → (es : List Finding) → any_part (j es) ≡ (g, es ++ added)
+  pub any_only : (j : List Finding → AnswerAndErrors) → Agrees j J → (g : Option Part) (added : List Finding)
+      → PartAnswer (PartResult J) J.cuts g added → (es : List Finding) → any_part (j es) ≡ (g, es ++ added)
   any_only j base g added (is_given (derived h)) es = ap any_part (base.only es _ _ (a_derived h))
   any_only j base g added (is_given (recovered h)) es = ap any_part (base.only es _ _ (a_recovered h))
   any_only j base g added (is_cut h) es = ap any_part (base.only es _ _ (a_cut h))

@@ -1,5 +1,6 @@
 -- Sets that gain members: by the equality of their keys, and by what the keys say.
-use Rattle.std.proofs.Common.{◌≡◌, Bool, true, false, ◌||◌, cond, true≢false, List, [], ◌∷◌, ◌++◌, map, ◌⊎◌, inl, inr, refl, sym, subst, ◌∙◌}
+use Rattle.std.proofs.Common.{◌≡◌, Bool, true, false, ◌||◌, cond, true≢false, List, [], ◌∷◌, ◌++◌, map, ◌⊎◌, inl, inr, refl, sym, subst}
+use Rattle.std.proofs.Common.{◌∙◌}
 use Rattle.std.specs.Bool.{Decides}
 use Rattle.std.specs.Set.{is_member, IsUnion}
 use Rattle.cedar_typing.specs.Evaluation.Conformance.{IsOneOf}
@@ -75,7 +76,8 @@ module _ {K X : Type 0} (eq : K → K → Bool) (view : K → X) (decides : (a b
     union_adds x = (gained x, kept x)
 
   -- a key that is put in
-  pub put_adds : (k : K) (old new : List K) → ((q : K) → is_member eq new q ≡ cond (eq k q) true (is_member eq old q)) → IsUnion eq old (k ∷ []) new
+  pub put_adds : (k : K) (old new : List K)
+      → ((q : K) → is_member eq new q ≡ cond (eq k q) true (is_member eq old q)) → IsUnion eq old (k ∷ []) new
   put_adds k old new h q = h q ∙ one (eq k q) (eq q k) (is_member eq old q) (either_order k q)
     where
       one : (a b m : Bool) → a ≡ b → cond a true m ≡ (m || (b || false))
@@ -86,7 +88,8 @@ module _ {K X : Type 0} (eq : K → K → Bool) (view : K → X) (decides : (a b
       one false false true e = refl
       one false false false e = refl
 
-pub adds_nothing : {A : Type 0} (old new : List A) → ((x : A) → IsOneOf x new → IsOneOf x old) → ((x : A) → IsOneOf x old → IsOneOf x new) → Adds old [] new
+pub adds_nothing : {A : Type 0} (old new : List A) → ((x : A) → IsOneOf x new → IsOneOf x old)
+    → ((x : A) → IsOneOf x old → IsOneOf x new) → Adds old [] new
 adds_nothing {A = A} old new f g x = (λ h. in_left x old [] (f x h), λ h. back x (in_either x old [] h))
   where
     back : (x : A) → IsOneOf x old ⊎ IsOneOf x [] → IsOneOf x new

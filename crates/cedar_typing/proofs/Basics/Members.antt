@@ -70,4 +70,6 @@ module _ {A : Type 0} (p : A → Bool) where
 -- a name among names is one of them
 pub name_in : (p : Path) (ps : List Path) → is_among ps p ≡ true → IsOneOf p ps
 name_in p [] h = cc
-name_in p (q ∷ ps) h = or_cases (path_eq p q) (is_among ps p) (IsOneOf p (q ∷ ps)) (λ e. inl (path_same.to p q e)) (λ e. inr (name_in p ps e)) h
+name_in p (q ∷ ps) h =
+    or_cases (path_eq p q) (is_among ps p) (IsOneOf p (q ∷ ps)) (λ e. inl (path_same.to p q e))
+    (λ e. inr (name_in p ps e)) h

@@ -1,5 +1,6 @@
 -- What several entity types declare holds of an attribute of which one of them declares it.
-use Rattle.std.proofs.Common.{◌≡◌, Bool, true, false, ◌||◌, ◌&&◌, List, [], ◌∷◌, Option, Some, None, option_map, is_some, fold, if◌then◌else◌, refl, sym, subst}
+use Rattle.std.proofs.Common.{◌≡◌, Bool, true, false, ◌||◌, ◌&&◌, List, [], ◌∷◌, Option, Some, None, option_map, is_some, fold}
+use Rattle.std.proofs.Common.{if◌then◌else◌, refl, sym, subst}
 use Rattle.std.specs.List.{list_any}
 use Rattle.cedar_types.specs.declared.base.types.ValidationMode.TheVariants.{Permissive}
 use Rattle.cedar_types.specs.Names.{Text, Path, text_eq, path_eq}
@@ -24,7 +25,8 @@ pub found_at : (k : Text) (xs : Attrs) (es : Entries) → HasAttrs xs es → Att
 found_at k no_attrs es h = tt
 found_at k (attr l t r xs) es h = by (text_eq k l) refl (found_at k xs es h.1)
   where
-    by : (b : Bool) → text_eq k l ≡ b → AttrAt (find_attr k xs) (entry_at k es) → AttrAt (if b then Some (t, r) else find_attr k xs) (entry_at k es)
+    by : (b : Bool) → text_eq k l ≡ b → AttrAt (find_attr k xs) (entry_at k es)
+        → AttrAt (if b then Some (t, r) else find_attr k xs) (entry_at k es)
     by true e others = subst (λ j. HasAttr r (HasType t) (entry_at j es)) (sym (text_same.to k l e)) h.0
     by false e others = others
 
@@ -49,11 +51,13 @@ named_found k (attr l t r xs) h =
     (λ e. some_if (text_eq k l) (t, r) (find_attr k xs) (λ f. named_found k xs e)) h
 
 -- a key that is there is one of the names
-pub key_named : (k : Text) (ks : List Text) (es : Entries) → KeysAmong ks es → is_some (entry_at k es) ≡ true → list_any (text_eq k) ks ≡ true
+pub key_named : (k : Text) (ks : List Text) (es : Entries) → KeysAmong ks es → is_some (entry_at k es) ≡ true
+    → list_any (text_eq k) ks ≡ true
 key_named k ks no_entries h e = cc
 key_named k ks (more_entries l v es) h e = by (key_named k ks es h.1) (text_eq k l) refl e
   where
-    by : (is_some (entry_at k es) ≡ true → list_any (text_eq k) ks ≡ true) → (b : Bool) → text_eq k l ≡ b → is_some (if b then Some v else entry_at k es) ≡ true → list_any (text_eq k) ks ≡ true
+    by : (is_some (entry_at k es) ≡ true → list_any (text_eq k) ks ≡ true) → (b : Bool) → text_eq k l ≡ b
+        → is_some (if b then Some v else entry_at k es) ≡ true → list_any (text_eq k) ks ≡ true
     by others true f g = subst (λ j. list_any (text_eq j) ks ≡ true) (sym (text_same.to k l f)) h.0
     by others false f g = others g
 
@@ -77,16 +81,21 @@ is_choice t = false
 abbrev pub Joins : Schema → Ty → Type 0
 Joins s b = is_choice b ≡ true → AttributesFormed s
 
-joined_under : (a b : Ty × Bool) (o : Option Value) (u : Option Ty) → ((v : Value) → HasType a.0 v → Under u v) → HasAttr a.1 (HasType a.0) o → AttrAt (option_map (λ t. (t, a.1 && b.1)) u) o
+joined_under : (a b : Ty × Bool) (o : Option Value) (u : Option Ty) → ((v : Value) → HasType a.0 v → Under u v)
+    → HasAttr a.1 (HasType a.0) o → AttrAt (option_map (λ t. (t, a.1 && b.1)) u) o
 joined_under a b o None f h = tt
 joined_under a b o (Some t) f h = attr_under a.1 (a.1 && b.1) (HasType a.0) (HasType t) f (and_left a.1 b.1) o h
 
 joined_left : (f g : Option (Ty × Bool)) (o : Option Value) → AttrAt f o → AttrAt (joined_attribute f g) o
 joined_left None g o h = tt
 joined_left (Some a) None o h = tt
-joined_left (Some a) (Some b) o h = joined_under a b o (lub Permissive a.0 b.0) (λ v k. from_apart Permissive a.0 b.0 v k (apart_left Permissive a.0 b.0 v k)) h
+joined_left (Some a) (Some b) o h =
+    joined_under a b o (lub Permissive a.0 b.0)
+    (λ v k. from_apart Permissive a.0 b.0 v k (apart_left Permissive a.0 b.0 v k)) h
 
-under_right : (r q : Bool) (P : Value → Type 0) (o : Option Value) (u : Option Ty) → ((t : Ty) → u ≡ Some t → (v : Value) → P v → HasType t v) → HasAttr q P o → AttrAt (option_map (λ t. (t, r && q)) u) o
+under_right : (r q : Bool) (P : Value → Type 0) (o : Option Value) (u : Option Ty)
+    → ((t : Ty) → u ≡ Some t → (v : Value) → P v → HasType t v) → HasAttr q P o
+    → AttrAt (option_map (λ t. (t, r && q)) u) o
 under_right r q P o None f h = tt
 under_right true q P o (Some t) f h = attr_under q q P (HasType t) (f t refl) (λ e. e) o h
 under_right false q P o (Some t) f h = attr_under q false P (HasType t) (f t refl) (λ e. cc) o h
@@ -94,7 +103,9 @@ under_right false q P o (Some t) f h = attr_under q false P (HasType t) (f t ref
 joined_right : (f g : Option (Ty × Bool)) (o : Option Value) → Formed f → Formed g → AttrAt g o → AttrAt (joined_attribute f g) o
 joined_right None g o w x h = tt
 joined_right (Some a) None o w x h = tt
-joined_right (Some a) (Some b) o w x h = under_right a.1 b.1 (HasType b.0) o (lub Permissive a.0 b.0) (λ t e v k. lub_right Permissive a.0 b.0 t w x e v k) h
+joined_right (Some a) (Some b) o w x h =
+    under_right a.1 b.1 (HasType b.0) o (lub Permissive a.0 b.0)
+    (λ t e v k. lub_right Permissive a.0 b.0 t w x e v k) h
 
 formed_at : (r : Bool) (u : Option Ty) → ((t : Ty) → u ≡ Some t → is_well_formed t ≡ true) → Formed (option_map (λ t. (t, r)) u)
 formed_at r None h = tt
@@ -113,23 +124,31 @@ module _ (s : Schema) (x : Text) where
   abbrev declared_of : Path → Option (Ty × Bool)
   declared_of p = declared_attribute s.types x p
 
-  folded_left : (ps : List Path) (f : Option (Ty × Bool)) (o : Option Value) → AttrAt f o → AttrAt (fold (λ found q. joined_attribute found (declared_attribute s.types x q)) f ps) o
+  folded_left : (ps : List Path) (f : Option (Ty × Bool)) (o : Option Value) → AttrAt f o
+      → AttrAt (fold (λ found q. joined_attribute found (declared_attribute s.types x q)) f ps) o
   folded_left [] f o h = h
   folded_left (q ∷ qs) f o h = folded_left qs (joined_attribute f (declared_of q)) o (joined_left f (declared_of q) o h)
 
-  folded_right : AttributesFormed s → (ps : List Path) (f : Option (Ty × Bool)) (p : Path) (o : Option Value) → Formed f → is_among ps p ≡ true → AttrAt (declared_of p) o → AttrAt (fold (λ found q. joined_attribute found (declared_attribute s.types x q)) f ps) o
+  folded_right : AttributesFormed s → (ps : List Path) (f : Option (Ty × Bool)) (p : Path) (o : Option Value)
+      → Formed f → is_among ps p ≡ true → AttrAt (declared_of p) o
+      → AttrAt (fold (λ found q. joined_attribute found (declared_attribute s.types x q)) f ps) o
   folded_right w [] f p o k m h = cc
   folded_right w (q ∷ qs) f p o k m h =
       let g : Formed (declared_of q) = formed (declared_of q) (w x q) in
-      or_cases (path_eq p q) (is_among qs p) (AttrAt (fold (λ found q. joined_attribute found (declared_attribute s.types x q)) (joined_attribute f (declared_of q)) qs) o)
-      (λ e. folded_left qs (joined_attribute f (declared_of q)) o (joined_right f (declared_of q) o k g (subst (λ r. AttrAt (declared_of r) o) (path_same.to p q e) h)))
+      or_cases (path_eq p q) (is_among qs p)
+      (AttrAt (fold (λ found q. joined_attribute found (declared_attribute s.types x q))
+      (joined_attribute f (declared_of q)) qs) o)
+      (λ e. folded_left qs (joined_attribute f (declared_of q)) o
+      (joined_right f (declared_of q) o k g (subst (λ r. AttrAt (declared_of r) o) (path_same.to p q e) h)))
       (λ e. folded_right w qs (joined_attribute f (declared_of q)) p o (joined_formed f (declared_of q) k g) e h) m
 
   -- what one of the types declares is what they all declare, if they do
-  pub types_at : (ps : List Path) (p : Path) (o : Option Value) → Joins s (TEntity ps) → is_among ps p ≡ true → AttrAt (declared_of p) o → AttrAt (types_attribute s.types x ps) o
+  pub types_at : (ps : List Path) (p : Path) (o : Option Value) → Joins s (TEntity ps) → is_among ps p ≡ true
+      → AttrAt (declared_of p) o → AttrAt (types_attribute s.types x ps) o
   types_at [] p o j m h = cc
   types_at (q ∷ []) p o j m h =
-      or_cases (path_eq p q) false (AttrAt (declared_of q) o) (λ e. subst (λ r. AttrAt (declared_of r) o) (path_same.to p q e) h) (λ e. cc) m
+      or_cases (path_eq p q) false (AttrAt (declared_of q) o)
+      (λ e. subst (λ r. AttrAt (declared_of r) o) (path_same.to p q e) h) (λ e. cc) m
   types_at (q ∷ r ∷ qs) p o j m h =
       or_cases (path_eq p q) (is_among (r ∷ qs) p) (AttrAt (types_attribute s.types x (q ∷ r ∷ qs)) o)
       (λ e. folded_left (r ∷ qs) (declared_of q) o (subst (λ r. AttrAt (declared_of r) o) (path_same.to p q e) h))

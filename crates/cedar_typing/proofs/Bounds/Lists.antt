@@ -9,7 +9,8 @@ use Rattle.cedar_types.specs.declared.base.types.BoolType.{BoolType}
 use Rattle.cedar_types.specs.declared.base.types.BoolType.TheVariants.{AnyBool, True, False}
 use Rattle.cedar_types.specs.declared.base.types.ValidationMode.{ValidationMode}
 use Rattle.cedar_types.specs.Names.{Path, text_cmp, path_cmp}
-use Rattle.cedar_types.specs.Types.{Ty, TNever, TBool, TLong, TString, TSet, TAnySet, TRecord, TEntity, TAnyEntity, TExtension, Attrs, no_attrs, attr}
+use Rattle.cedar_types.specs.Types.{Ty, TNever, TBool, TLong, TString, TSet, TAnySet, TRecord, TEntity, TAnyEntity, TExtension, Attrs}
+use Rattle.cedar_types.specs.Types.{no_attrs, attr}
 use Rattle.cedar_types.specs.Types.Order.{bool_rank, open_rank, required_rank, ty_cmp, attrs_cmp, insert_ty, insert_tys, in_order}
 use Rattle.cedar_types.specs.Types.Bounds.{is_strict, lub, go_on, fold_lub, list_lub}
 use Rattle.cedar_types.specs.Values.{Value, HasType}
@@ -106,7 +107,8 @@ module _ (P : List Ty → Type 0) where
 put_in : (us : List Ty) (t : Ty) → IsOneOf t (insert_ty us t)
 put_in [] t = inl refl
 put_in (u ∷ us) t =
-    either_way (IsOneOf t) (ty_cmp t u) (t ∷ u ∷ us) (u ∷ us) (u ∷ insert_ty us t) (inl refl) (λ e. inl (types_same t u e)) (inr (put_in us t))
+    either_way (IsOneOf t) (ty_cmp t u) (t ∷ u ∷ us) (u ∷ us) (u ∷ insert_ty us t) (inl refl)
+    (λ e. inl (types_same t u e)) (inr (put_in us t))
 
 in_either : (u s : Ty) (us vs : List Ty) → (IsOneOf s us → IsOneOf s vs) → IsOneOf s (u ∷ us) → IsOneOf s (u ∷ vs)
 in_either u s us vs f (inl e) = inl e
@@ -185,9 +187,11 @@ module _ (strictly : Bool) (m : ValidationMode) (strict : is_strict m ≡ strict
   other_under t u s [] e n f i h = absurd i
   other_under t u s (r ∷ ts) e n f (inl q) h =
       let k = subst (λ z. HasType z v) q h in
-      went_on (lub m t r) u (HasType u v) (λ z. fold_lub m z ts) (λ z b g. first_under z u ts g (right_kept strictly m strict t r z n (f r (inl refl)) b v k)) e
+      went_on (lub m t r) u (HasType u v) (λ z. fold_lub m z ts)
+      (λ z b g. first_under z u ts g (right_kept strictly m strict t r z n (f r (inl refl)) b v k)) e
   other_under t u s (r ∷ ts) e n f (inr i) h =
-      went_on (lub m t r) u (HasType u v) (λ z. fold_lub m z ts) (λ z b g. other_under z u s ts g (bound_kept t r z b n (f r (inl refl))) (λ x j. f x (inr j)) i h) e
+      went_on (lub m t r) u (HasType u v) (λ z. fold_lub m z ts)
+      (λ z b g. other_under z u s ts g (bound_kept t r z b n (f r (inl refl))) (λ x j. f x (inr j)) i h) e
 
   -- a value of one of the types has their bound, where they are kept to
   pub bound_has : (ts : List Ty) (u s : Ty) → list_lub m ts ≡ Some u → AreAll Kept ts → IsOneOf s ts → HasType s v → HasType u v

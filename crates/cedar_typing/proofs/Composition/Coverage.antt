@@ -53,18 +53,21 @@ module _ {A : Type 0} (p : A → Bool) where
 abbrev AreKnown : List DeclaredType → DeclaredEnv → Type 0
 AreKnown ts d = (knows_type ts d.principal ≡ true) × (knows_type ts d.resource ≡ true)
 
-action_known : (ts : List DeclaredType) (a : DeclaredAction) (x : Option Application) → application_is_known ts x ≡ true → AreAll (AreKnown ts) (action_environments a.name x)
+action_known : (ts : List DeclaredType) (a : DeclaredAction) (x : Option Application) → application_is_known ts x ≡ true
+    → AreAll (AreKnown ts) (action_environments a.name x)
 action_known ts a None h d k = absurd k
 action_known ts a (Some x) h d k =
     let both = and_left (list_all (knows_type ts) x.principals && list_all (knows_type ts) x.resources) (names_pass (knows_type ts) x.context) h in
     let ps = all_pass (knows_type ts) x.principals (and_left (list_all (knows_type ts) x.principals) (list_all (knows_type ts) x.resources) both) in
     let rs = all_pass (knows_type ts) x.resources (and_right (list_all (knows_type ts) x.principals) (list_all (knows_type ts) x.resources) both) in
     all_flat (principal_environments a.name x.context x.resources) (AreKnown ts) x.principals
-    (λ p i. all_under (AreKnown ts) (λ r. record { principal = p; action = a.name; resource = r; context = x.context }) x.resources (λ r j. (ps p i, rs r j))) d k
+    (λ p i. all_under (AreKnown ts) (λ r. record { principal = p; action = a.name; resource = r; context = x.context }) x.resources
+    (λ r j. (ps p i, rs r j))) d k
 
 known_types : (s : Schema) → has_fault s ≡ false → AreAll (AreKnown s.types) (environments_of s.actions)
 known_types s f =
-    let known = and_right (list_all (type_is_known s.types) s.types) (list_all (λ (a : DeclaredAction). application_is_known s.types a.applies_to) s.actions) (faultless s f).known in
+    let known = and_right (list_all (type_is_known s.types) s.types)
+    (list_all (λ (a : DeclaredAction). application_is_known s.types a.applies_to) s.actions) (faultless s f).known in
     all_flat (λ (a : DeclaredAction). action_environments a.name a.applies_to) (AreKnown s.types) s.actions
     (λ a i. action_known s.types a a.applies_to (all_pass (λ (a : DeclaredAction). application_is_known s.types a.applies_to) s.actions known a i))
 
@@ -74,13 +77,16 @@ declared_type ts p h n = sym (ap (λ b. b || declares_type ts p) n) ∙ h
 
 declared_name : (ts : List DeclaredType) (p : Path) → declares_type ts p ≡ true → IsOneOf p (type_names ts)
 declared_name [] p h = cc
-declared_name (t ∷ ts) p h = or_cases (path_eq p t.name) (declares_type ts p) (IsOneOf p (type_names (t ∷ ts))) (λ e. inl (path_same.to p t.name e)) (λ e. inr (declared_name ts p e)) h
+declared_name (t ∷ ts) p h =
+    or_cases (path_eq p t.name) (declares_type ts p) (IsOneOf p (type_names (t ∷ ts))) (λ e. inl (path_same.to p t.name e))
+    (λ e. inr (declared_name ts p e)) h
 
 pub found_type : (ts : List DeclaredType) (p : Path) → declares_type ts p ≡ true → (t : DeclaredType) × (type_named ts p ≡ Some t)
 found_type [] p h = cc
 found_type (t ∷ ts) p h = go (path_eq p t.name) (found_type ts p) h
   where
-    go : (b : Bool) → (declares_type ts p ≡ true → (u : DeclaredType) × (type_named ts p ≡ Some u)) → (b || declares_type ts p) ≡ true → (u : DeclaredType) × ((if b then Some t else type_named ts p) ≡ Some u)
+    go : (b : Bool) → (declares_type ts p ≡ true → (u : DeclaredType) × (type_named ts p ≡ Some u)) → (b || declares_type ts p) ≡ true
+        → (u : DeclaredType) × ((if b then Some t else type_named ts p) ≡ Some u)
     go true f k = (t, refl)
     go false f k = f k
 
@@ -90,7 +96,8 @@ named : (xs : List DeclaredType) (q : Path) (t : DeclaredType) → type_named xs
 named [] q t e = absurd (none_is e)
 named (x ∷ xs) q t e = first (path_eq q x.name) refl (named xs q t) e
   where
-    first : (b : Bool) → path_eq q x.name ≡ b → (type_named xs q ≡ Some t → q ≡ t.name) → (if b then Some x else type_named xs q) ≡ Some t → q ≡ t.name
+    first : (b : Bool) → path_eq q x.name ≡ b → (type_named xs q ≡ Some t → q ≡ t.name)
+        → (if b then Some x else type_named xs q) ≡ Some t → q ≡ t.name
     first true k f n = path_same.to q x.name k ∙ ap (λ (y : DeclaredType). y.name) (some_is n)
     first false k f n = f n
 
@@ -106,24 +113,30 @@ above ts p q h = go (type_named ts q) refl
         let passes : is_among t.descendants p ≡ true = sym (rw e refl) ∙ h in
         let one : IsOneOf t ts = found_in (λ (t : DeclaredType). path_eq q t.name) ts t e in
         subst (λ z. IsOneOf z (types_above ts p)) (sym (named ts q t e))
-        (in_mapped (λ (t : DeclaredType). t.name) t (filter (λ (t : DeclaredType). is_among t.descendants p) ts) (in_filter (λ (t : DeclaredType). is_among t.descendants p) t ts one passes))
+        (in_mapped (λ (t : DeclaredType). t.name) t (filter (λ (t : DeclaredType). is_among t.descendants p) ts)
+        (in_filter (λ (t : DeclaredType). is_among t.descendants p) t ts one passes))
 
 module _ (s : Schema) (closed : has_external s ≡ false) (store : Store) (conforms : ConformingStore s store)
     (v : Uid) (declared : declares_type s.types v.entity_type ≡ true) where
   -- nothing external
   not_external : (t : DeclaredType) → type_named s.types v.entity_type ≡ Some t → is_external_kind t.kind ≡ false
   not_external t e =
-      none_passes (λ (t : DeclaredType). is_external_kind t.kind) s.types (neither_left (list_any (λ (t : DeclaredType). is_external_kind t.kind) s.types) _ closed) t
+      none_passes (λ (t : DeclaredType). is_external_kind t.kind) s.types
+      (neither_left (list_any (λ (t : DeclaredType). is_external_kind t.kind) s.types) _ closed) t
       (found_in (λ (t : DeclaredType). path_eq v.entity_type t.name) s.types t e)
 
-  ancestor_of_kind : (k : TypeKind) (e : Entity) (u : Uid) → is_external_kind k ≡ false → FitsKind s.types v.entity_type k e → uid_is_among e.ancestors u ≡ true → IsOneOf u.entity_type (types_above s.types v.entity_type)
+  ancestor_of_kind : (k : TypeKind) (e : Entity) (u : Uid) → is_external_kind k ≡ false → FitsKind s.types v.entity_type k e
+      → uid_is_among e.ancestors u ≡ true → IsOneOf u.entity_type (types_above s.types v.entity_type)
   ancestor_of_kind (StandardKind attrs tags) e u n fits h =
-      above s.types v.entity_type u.entity_type (and_right (declares_type s.types u.entity_type) (is_among (descendants_of s.types u.entity_type) v.entity_type) (fits.ancestors u h))
+      above s.types v.entity_type u.entity_type
+      (and_right (declares_type s.types u.entity_type) (is_among (descendants_of s.types u.entity_type) v.entity_type)
+      (fits.ancestors u h))
   ancestor_of_kind (EnumKind ids) e u n fits h = absurd (true≢false (sym h ∙ ap (λ vs. uid_is_among vs u) fits.ancestors))
   ancestor_of_kind ExternalKind e u n fits h = absurd (true≢false n)
 
   -- an ancestor's type is above that of v
-  ancestor_above : (u : Uid) (o : Option Entity) → entity_at store v ≡ o → has_ancestor o u ≡ true → IsOneOf u.entity_type (types_above s.types v.entity_type)
+  ancestor_above : (u : Uid) (o : Option Entity) → entity_at store v ≡ o → has_ancestor o u ≡ true
+      → IsOneOf u.entity_type (types_above s.types v.entity_type)
   ancestor_above u None e h = cc
   ancestor_above u (Some x) e h =
       let t = found_type s.types v.entity_type declared in
@@ -168,10 +181,16 @@ module _ (s : Schema) (closed : has_external s ≡ false) (store : Store) (confo
 
   -- the scope is true, and the slot of v is b
   module _ (world : World) (at : store ≡ world.store) where
-    equal_type : (b : Option Uid) → IsTrueOutcome (on_value (bound_outcome b) (binary_outcome world.store world.functions BinaryOp.Eq (VEntity v))) → IsOfSlotType (equal to_slot) b
-    equal_type = by_test (binary_outcome world.store world.functions BinaryOp.Eq (VEntity v)) (uid_eq v) (equal to_slot) (λ u. refl) (λ u e. inl (same_type u e))
+    equal_type : (b : Option Uid)
+        → IsTrueOutcome (on_value (bound_outcome b) (binary_outcome world.store world.functions BinaryOp.Eq (VEntity v)))
+        → IsOfSlotType (equal to_slot) b
+    equal_type =
+        by_test (binary_outcome world.store world.functions BinaryOp.Eq (VEntity v)) (uid_eq v) (equal to_slot) (λ u. refl)
+        (λ u e. inl (same_type u e))
 
-    within_type : (b : Option Uid) → IsTrueOutcome (on_value (bound_outcome b) (binary_outcome world.store world.functions BinaryOp.In (VEntity v))) → IsOfSlotType (within to_slot) b
+    within_type : (b : Option Uid)
+        → IsTrueOutcome (on_value (bound_outcome b) (binary_outcome world.store world.functions BinaryOp.In (VEntity v)))
+        → IsOfSlotType (within to_slot) b
     within_type =
         by_test (binary_outcome world.store world.functions BinaryOp.In (VEntity v)) (is_in world.store v) (within to_slot) (λ u. refl)
         (λ u e. in_above u (subst (λ x. is_in x v u ≡ true) (sym at) e))
@@ -201,9 +220,11 @@ module _ (s : Schema) (closed : has_external s ≡ false) (world : World) (confo
     principal_bound : (c : Scope) → names_slot c ≡ true → IsTrueOutcome (eval world (scope_at l Var.Principal SlotId.Principal c)) → PrincipalType c
     principal_bound any n k = cc
     principal_bound (equal (to_entity u)) n k = cc
-    principal_bound (equal to_slot) n k = equal_type s closed world.store conforms world.request.principal declared world refl (world.slots SlotId.Principal) k
+    principal_bound (equal to_slot) n k =
+        equal_type s closed world.store conforms world.request.principal declared world refl (world.slots SlotId.Principal) k
     principal_bound (within (to_entity u)) n k = cc
-    principal_bound (within to_slot) n k = within_type s closed world.store conforms world.request.principal declared world refl (world.slots SlotId.Principal) k
+    principal_bound (within to_slot) n k =
+        within_type s closed world.store conforms world.request.principal declared world refl (world.slots SlotId.Principal) k
     principal_bound (typed p) n k = cc
     principal_bound (typed_within p (to_entity u)) n k = cc
     principal_bound (typed_within p to_slot) n k =
@@ -218,9 +239,11 @@ module _ (s : Schema) (closed : has_external s ≡ false) (world : World) (confo
     resource_bound : (c : Scope) → names_slot c ≡ true → IsTrueOutcome (eval world (scope_at l Var.Resource SlotId.Resource c)) → ResourceType c
     resource_bound any n k = cc
     resource_bound (equal (to_entity u)) n k = cc
-    resource_bound (equal to_slot) n k = equal_type s closed world.store conforms world.request.resource declared world refl (world.slots SlotId.Resource) k
+    resource_bound (equal to_slot) n k =
+        equal_type s closed world.store conforms world.request.resource declared world refl (world.slots SlotId.Resource) k
     resource_bound (within (to_entity u)) n k = cc
-    resource_bound (within to_slot) n k = within_type s closed world.store conforms world.request.resource declared world refl (world.slots SlotId.Resource) k
+    resource_bound (within to_slot) n k =
+        within_type s closed world.store conforms world.request.resource declared world refl (world.slots SlotId.Resource) k
     resource_bound (typed p) n k = cc
     resource_bound (typed_within p (to_entity u)) n k = cc
     resource_bound (typed_within p to_slot) n k =
@@ -239,10 +262,13 @@ coverage s m t world faults closed alone d one fits not_principal not_resource c
     subst (λ p. declares_type s.types p ≡ true) (sym fits.principal) (declared_type s.types d.principal known.0 not_principal) in
     let declared_r : declares_type s.types world.request.resource.entity_type ≡ true =
     subst (λ p. declares_type s.types p ≡ true) (sym fits.resource) (declared_type s.types d.resource known.1 not_resource) in
-    let p = link_of s closed world.store conforms world.request.principal declared_p (has_slot SlotId.Principal t) t.principal (world.slots SlotId.Principal)
+    let p = link_of s closed world.store conforms world.request.principal declared_p (has_slot SlotId.Principal t) t.principal
+    (world.slots SlotId.Principal)
     (λ e. principal_bound s closed world conforms l declared_p t.principal (sym (has_principal t alone) ∙ e) (left_true scope_p scope_a left)) in
-    let r = link_of s closed world.store conforms world.request.resource declared_r (has_slot SlotId.Resource t) t.resource (world.slots SlotId.Resource)
-    (λ e. resource_bound s closed world conforms l declared_r t.resource (sym (has_resource t alone) ∙ e) (right_true (of_test (and_test (test_of scope_p) (test_of scope_a))) scope_r h)) in
+    let r = link_of s closed world.store conforms world.request.resource declared_r (has_slot SlotId.Resource t) t.resource
+    (world.slots SlotId.Resource)
+    (λ e. resource_bound s closed world conforms l declared_r t.resource (sym (has_resource t alone) ∙ e)
+    (right_true (of_test (and_test (test_of scope_p) (test_of scope_a))) scope_r h)) in
     let in_p : IsOneOf p.0 (slot_links (has_slot SlotId.Principal t) s.types t.principal d.principal) =
     subst (λ q. IsOneOf p.0 (slot_links (has_slot SlotId.Principal t) s.types t.principal q)) fits.principal p.1 in
     let in_r : IsOneOf r.0 (slot_links (has_slot SlotId.Resource t) s.types t.resource d.resource) =
@@ -263,5 +289,7 @@ pub own_env_is_checked_of_types : OwnEnvIsCheckedOfTypes
 own_env_is_checked_of_types s m t faults d one not_principal not_resource =
     let known = known_types s faults d one in
     is_checked s m t d (own_link (has_slot SlotId.Principal t) d.principal) (own_link (has_slot SlotId.Resource t) d.resource) one
-    (own_linked (has_slot SlotId.Principal t) s.types t.principal d.principal (λ e. own_of_declared s.types t.principal d.principal (declared_type s.types d.principal known.0 not_principal)))
-    (own_linked (has_slot SlotId.Resource t) s.types t.resource d.resource (λ e. own_of_declared s.types t.resource d.resource (declared_type s.types d.resource known.1 not_resource)))
+    (own_linked (has_slot SlotId.Principal t) s.types t.principal d.principal
+    (λ e. own_of_declared s.types t.principal d.principal (declared_type s.types d.principal known.0 not_principal)))
+    (own_linked (has_slot SlotId.Resource t) s.types t.resource d.resource
+    (λ e. own_of_declared s.types t.resource d.resource (declared_type s.types d.resource known.1 not_resource)))

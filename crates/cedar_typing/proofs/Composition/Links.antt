@@ -9,7 +9,9 @@ use Rattle.cedar_types.specs.Expressions.View.{trees_of}
 use Rattle.cedar_types.specs.Schemas.{DeclaredType, Schema}
 use Rattle.cedar_types.specs.Environments.{DeclaredEnv, environments_of}
 use Rattle.cedar_types.specs.Environments.RequestEnvs.{Declared, unlinked, unlinked_envs, undeclared_envs, is_partial}
-use Rattle.cedar_types.specs.Templates.{Reference, to_entity, to_slot, Scope, any, equal, within, typed, typed_within, ActionScope, any_action, equal_action, within_actions, PlainTemplate, uid_at, scope_at, action_scope_at, scope_condition, with_rest}
+use Rattle.cedar_types.specs.Templates.{Reference, to_entity, to_slot, Scope, any, equal, within, typed, typed_within, ActionScope}
+use Rattle.cedar_types.specs.Templates.{any_action, equal_action, within_actions, PlainTemplate, uid_at, scope_at, action_scope_at}
+use Rattle.cedar_types.specs.Templates.{scope_condition, with_rest}
 use Rattle.cedar_types.specs.Expressions.Parts.{mentions_slot, any_mentions_slot}
 use Rattle.cedar_types.specs.Environments.Linking.{types_above, slot_types, slot_links, has_slot, linked_envs, checked_envs}
 use Rattle.cedar_typing.specs.Composition.{NoSlotIn, SlotsInScopeAlone, own_link, OwnEnvIsChecked}
@@ -109,7 +111,8 @@ has_resource t h =
 -- ---- the environments that are checked
 
 -- an environment of the schema with one of the links of each slot
-pub is_checked : (s : Schema) (m : ValidationMode) (t : PlainTemplate) (d : DeclaredEnv) (p r : Option Path) → IsOneOf d (environments_of s.actions)
+pub is_checked : (s : Schema) (m : ValidationMode) (t : PlainTemplate) (d : DeclaredEnv) (p r : Option Path)
+    → IsOneOf d (environments_of s.actions)
     → IsOneOf p (slot_links (has_slot SlotId.Principal t) s.types t.principal d.principal)
     → IsOneOf r (slot_links (has_slot SlotId.Resource t) s.types t.resource d.resource)
     → IsOneOf (Declared d p r) (checked_envs s m t)
@@ -117,7 +120,8 @@ is_checked s m t d p r h i j =
     let ps = slot_links (has_slot SlotId.Principal t) s.types t.principal d.principal in
     let rs = slot_links (has_slot SlotId.Resource t) s.types t.resource d.resource in
     in_flat (linked_envs s t) (Declared d p r) (unlinked d) (unlinked_envs s m)
-    (in_left (unlinked d) (map unlinked (environments_of s.actions)) (undeclared_envs (is_partial m)) (in_mapped unlinked d (environments_of s.actions) h))
+    (in_left (unlinked d) (map unlinked (environments_of s.actions)) (undeclared_envs (is_partial m))
+    (in_mapped unlinked d (environments_of s.actions) h))
     (in_flat (λ p. map (λ r. Declared d p r) rs) (Declared d p r) p ps i (in_mapped (λ r. Declared d p r) r rs j))
 
 -- ---- the own environment
@@ -130,12 +134,15 @@ own_type ts (within r) own n = in_right own (types_above ts own) (own ∷ []) (i
 own_type ts (typed p) own n = cc
 own_type ts (typed_within p r) own n = in_right own (types_above ts own) (own ∷ []) (inl refl)
 
-pub own_linked : (b : Bool) (ts : List DeclaredType) (c : Scope) (own : Path) → (b ≡ true → IsOneOf own (slot_types ts c own)) → IsOneOf (own_link b own) (slot_links b ts c own)
+pub own_linked : (b : Bool) (ts : List DeclaredType) (c : Scope) (own : Path)
+    → (b ≡ true → IsOneOf own (slot_types ts c own)) → IsOneOf (own_link b own) (slot_links b ts c own)
 own_linked true ts c own h = in_mapped (λ p. Some p) own (slot_types ts c own) (h refl)
 own_linked false ts c own h = inl refl
 
 pub own_env_is_checked : OwnEnvIsChecked
 own_env_is_checked s m t h d k =
     is_checked s m t d (own_link (has_slot SlotId.Principal t) d.principal) (own_link (has_slot SlotId.Resource t) d.resource) k
-    (own_linked (has_slot SlotId.Principal t) s.types t.principal d.principal (λ e. own_type s.types t.principal d.principal (sym (has_principal t h) ∙ e)))
-    (own_linked (has_slot SlotId.Resource t) s.types t.resource d.resource (λ e. own_type s.types t.resource d.resource (sym (has_resource t h) ∙ e)))
+    (own_linked (has_slot SlotId.Principal t) s.types t.principal d.principal
+    (λ e. own_type s.types t.principal d.principal (sym (has_principal t h) ∙ e)))
+    (own_linked (has_slot SlotId.Resource t) s.types t.resource d.resource
+    (λ e. own_type s.types t.resource d.resource (sym (has_resource t h) ∙ e)))

@@ -14,8 +14,10 @@ use Rattle.cedar_types.specs.Templates.{PlainTemplate, condition_of}
 use Rattle.cedar_types.specs.Values.{VBool}
 use Rattle.cedar_types.specs.Values.Stores.{ConformingStore}
 use Rattle.cedar_types.specs.Environments.Linking.{has_slot}
-use Rattle.cedar_typing.specs.Composition.{in_env, SlotsInScopeAlone, own_link, own_env, IsFaultless, IsIrrelevant, IsIrrelevantInAll, NeverTrue, OwnSuccessIsKept}
-use Rattle.cedar_typing.specs.Evaluation.Conformance.{IsOneOf, FitsRequest, ConformingRequest, FitsSlot, has_external, KeepsTable, SlotsBound}
+use Rattle.cedar_typing.specs.Composition.{in_env, SlotsInScopeAlone, own_link, own_env, IsFaultless, IsIrrelevant, IsIrrelevantInAll}
+use Rattle.cedar_typing.specs.Composition.{NeverTrue, OwnSuccessIsKept}
+use Rattle.cedar_typing.specs.Evaluation.Conformance.{IsOneOf, FitsRequest, ConformingRequest, FitsSlot, has_external, KeepsTable}
+use Rattle.cedar_typing.specs.Evaluation.Conformance.{SlotsBound}
 use Rattle.cedar_typing.specs.Evaluation.Eval.{eval}
 use Rattle.cedar_typing.specs.Evaluation.World.{World, Outcome, Gives, Fails}
 use Rattle.cedar_typing.specs.PolicyCheck.{Verdict, succeeds, irrelevant, fails, PolicyChecks, policy_check}
@@ -29,7 +31,8 @@ use Rattle.cedar_typing.proofs.Soundness.Parts.{Sounds}
 use Rattle.cedar_typing.proofs.Soundness.PolicyCheck.{promised}
 use Rattle.cedar_typing.proofs.Composition.Links.{own_env_is_checked}
 use Rattle.cedar_typing.proofs.Composition.Slots.{slots_bound}
-use Rattle.cedar_typing.proofs.Composition.OwnBinding.{own_slots, both_bound, own_world, IsAtMost, itself, is_false, unlinked, condition_most}
+use Rattle.cedar_typing.proofs.Composition.OwnBinding.{own_slots, both_bound, own_world, IsAtMost, itself, is_false, unlinked}
+use Rattle.cedar_typing.proofs.Composition.OwnBinding.{condition_most}
 
 -- ---- outcomes
 
@@ -79,12 +82,17 @@ sure_in_strict s f = record {
   closed = f.closed;
 }
 
-module _ (strictly : Bool) (s : Setting) (t : PlainTemplate) (f : Sure strictly s) (d : DeclaredEnv) (one : IsOneOf d (environments_of s.env.schema.actions))
-    (world : World) (fits : FitsRequest d world.request) (store : ConformingStore s.env.schema world.store) (keeps : KeepsTable (table s) world.functions) where
+module _ (strictly : Bool) (s : Setting) (t : PlainTemplate) (f : Sure strictly s) (d : DeclaredEnv)
+    (one : IsOneOf d (environments_of s.env.schema.actions))
+    (world : World) (fits : FitsRequest d world.request) (store : ConformingStore s.env.schema world.store)
+    (keeps : KeepsTable (table s) world.functions) where
   pub own_is_world : IsWorldOf (in_env s (own_env t d)) (own_world world)
   own_is_world = record {
-    environment =
-        (fits, own_fits (has_slot SlotId.Principal t) d.principal world.request.principal fits.principal, own_fits (has_slot SlotId.Resource t) d.resource world.request.resource fits.resource);
+    environment = (
+      fits,
+      own_fits (has_slot SlotId.Principal t) d.principal world.request.principal fits.principal,
+      own_fits (has_slot SlotId.Resource t) d.resource world.request.resource fits.resource,
+    );
     store = store;
     functions = keeps;
   }
@@ -93,34 +101,43 @@ module _ (strictly : Bool) (s : Setting) (t : PlainTemplate) (f : Sure strictly 
   own_bound = slots_bound (own_slots world.request) (both_bound world.request) (condition_of t)
 
   -- typing there can be relied on
-  pub own_sounds : Sounds (own_world world) (eval (own_world world) (condition_of t)) (rules (in_env s (own_env t d)) (condition_of t) no_caps 1)
+  pub own_sounds : Sounds (own_world world) (eval (own_world world) (condition_of t))
+      (rules (in_env s (own_env t d)) (condition_of t) no_caps 1)
   own_sounds =
-      sounds strictly (in_env s (own_env t d)) (own_world world) f.strict f.total f.formed f.schema f.functions f.closed one own_is_world.environment store keeps (condition_of t) own_bound no_caps 1 (hold_none (own_world world))
+      sounds strictly (in_env s (own_env t d)) (own_world world) f.strict f.total f.formed f.schema f.functions
+      f.closed one own_is_world.environment store keeps (condition_of t) own_bound no_caps 1
+      (hold_none (own_world world))
 
   -- what the check promises there
-  own_promise : (v : Verdict) → PolicyChecks (in_env s (own_env t d)) (condition_of t) v → Promises v (eval (own_world world) (condition_of t))
+  own_promise : (v : Verdict) → PolicyChecks (in_env s (own_env t d)) (condition_of t) v
+      → Promises v (eval (own_world world) (condition_of t))
   own_promise v c = promised (in_env s (own_env t d)) (condition_of t) (own_world world) own_sounds v c
 
   -- irrelevant there is never true
-  own_never : SlotsInScopeAlone t → (v : Verdict) → IsIrrelevant v → PolicyChecks (in_env s (own_env t d)) (condition_of t) v → IsTrueOutcome (eval world (condition_of t)) → ⊥
+  own_never : SlotsInScopeAlone t → (v : Verdict) → IsIrrelevant v
+      → PolicyChecks (in_env s (own_env t d)) (condition_of t) v → IsTrueOutcome (eval world (condition_of t)) → ⊥
   own_never h v i c k =
       let U : Type 0 = Unit {0} in
       not_true v (eval (own_world world) (condition_of t)) i (own_promise v c)
       (true_most U (eval world (condition_of t)) (eval (own_world world) (condition_of t)) (condition_most U world t h (λ n. tt)) k)
 
   -- a boolean or an allowed failure there is one in the given world, where the slots are bound
-  pub own_kept : SlotsInScopeAlone t → SlotsBound world.slots (condition_of t) → IsBooleanOrAllowed (eval (own_world world) (condition_of t)) → IsBooleanOrAllowed (eval world (condition_of t))
+  pub own_kept : SlotsInScopeAlone t → SlotsBound world.slots (condition_of t)
+      → IsBooleanOrAllowed (eval (own_world world) (condition_of t))
+      → IsBooleanOrAllowed (eval world (condition_of t))
   own_kept h b =
       kept_most (eval world (condition_of t)) (eval (own_world world) (condition_of t)) (condition_most ⊥ world t h (λ n. n b))
 
 pub never_true_in : (strictly : Bool) (s : Setting) (t : PlainTemplate) → Sure strictly s → SlotsInScopeAlone t → IsIrrelevantInAll s t
-    → (world : World) → ConformingRequest s.env.schema world.request → ConformingStore s.env.schema world.store → KeepsTable (table s) world.functions
+    → (world : World) → ConformingRequest s.env.schema world.request → ConformingStore s.env.schema world.store
+    → KeepsTable (table s) world.functions
     → IsTrueOutcome (eval world (condition_of t)) → ⊥
 never_true_in strictly s t f h all world (d, one, fits) store keeps k =
     let own : Setting = in_env s (own_env t d) in
     let c : PolicyChecks own (condition_of t) (policy_check own (condition_of t)) = checked own (condition_of t) in
     let v : Verdict = policy_check own (condition_of t) in
-    own_never strictly s t f d one world fits store keeps h v (all (own_env t d) (own_env_is_checked s.env.schema s.env.mode t h d one) v c) c k
+    own_never strictly s t f d one world fits store keeps h v
+    (all (own_env t d) (own_env_is_checked s.env.schema s.env.mode t h d one) v c) c k
 
 pub never_true : NeverTrue
 never_true s t f h all world r store keeps k = never_true_in true s t (sure_in_strict s f) h all world r store keeps k

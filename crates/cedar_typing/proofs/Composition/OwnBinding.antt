@@ -7,7 +7,8 @@ use Rattle.cedar_types.specs.declared.base.expressions.operators.BinaryOp.{Binar
 use Rattle.cedar_types.specs.declared.base.expressions.operators.Var.{Var}
 use Rattle.cedar_types.specs.Lemmas.Comparisons.{uid_same}
 use Rattle.cedar_types.specs.Names.{Uid, uid_eq}
-use Rattle.cedar_types.specs.Templates.{to_entity, to_slot, Scope, any, equal, within, typed, typed_within, PlainTemplate, typed_at, scope_at, action_scope_at, scope_condition, with_rest, condition_of}
+use Rattle.cedar_types.specs.Templates.{to_entity, to_slot, Scope, any, equal, within, typed, typed_within, PlainTemplate, typed_at}
+use Rattle.cedar_types.specs.Templates.{scope_at, action_scope_at, scope_condition, with_rest, condition_of}
 use Rattle.cedar_types.specs.Values.{Value, VBool, VEntity}
 use Rattle.cedar_typing.specs.Composition.{MentionsNoSlot, NoSlotIn, SlotsInScopeAlone}
 use Rattle.cedar_typing.specs.Evaluation.Conformance.{IsBound, SlotsBound}
@@ -48,14 +49,16 @@ module _ (U : Type 0) where
   same o o' e = subst (IsAtMost o) e itself
 
   -- `&&` keeps it
-  pub right_most : (s : Test) (p p' : Outcome) → IsAtMost p p' → IsAtMost (of_test (and_test s (test_of p))) (of_test (and_test s (test_of p')))
+  pub right_most : (s : Test) (p p' : Outcome) → IsAtMost p p'
+      → IsAtMost (of_test (and_test s (test_of p))) (of_test (and_test s (test_of p')))
   right_most (Says true) p p' itself = itself
   right_most (Says true) p p' is_false = is_false
   right_most (Says true) p p' (unlinked u) = unlinked u
   right_most (Says false) p p' h = itself
   right_most (Stops f) p p' h = itself
 
-  pub and_most : (o o' p p' : Outcome) → IsAtMost o o' → IsAtMost p p' → IsAtMost (of_test (and_test (test_of o) (test_of p))) (of_test (and_test (test_of o') (test_of p')))
+  pub and_most : (o o' p p' : Outcome) → IsAtMost o o' → IsAtMost p p'
+      → IsAtMost (of_test (and_test (test_of o) (test_of p))) (of_test (and_test (test_of o') (test_of p')))
   and_most o o' p p' itself h = right_most (test_of o) p p' h
   and_most o o' p p' is_false h = is_false
   and_most o o' p p' (unlinked u) h = unlinked u
@@ -75,12 +78,16 @@ module _ (U : Type 0) where
 
     -- `==` and `in` with an own slot
     pub equal_most : (v : Uid) (b : Option Uid) → ((IsBound b → ⊥) → U)
-        → IsAtMost (on_value (bound_outcome b) (binary_outcome world.store world.functions BinaryOp.Eq (VEntity v))) (binary_outcome world.store world.functions BinaryOp.Eq (VEntity v) (VEntity v))
+        → IsAtMost (on_value (bound_outcome b) (binary_outcome world.store world.functions BinaryOp.Eq (VEntity v)))
+        (binary_outcome world.store world.functions BinaryOp.Eq (VEntity v) (VEntity v))
     equal_most v = against (binary_outcome world.store world.functions BinaryOp.Eq (VEntity v)) (uid_eq v) (λ w. refl) v (uid_same.itself v)
 
     pub within_most : (v : Uid) (b : Option Uid) → ((IsBound b → ⊥) → U)
-        → IsAtMost (on_value (bound_outcome b) (binary_outcome world.store world.functions BinaryOp.In (VEntity v))) (binary_outcome world.store world.functions BinaryOp.In (VEntity v) (VEntity v))
-    within_most v = against (binary_outcome world.store world.functions BinaryOp.In (VEntity v)) (is_in world.store v) (λ w. refl) v (itself_in v)
+        → IsAtMost (on_value (bound_outcome b) (binary_outcome world.store world.functions BinaryOp.In (VEntity v)))
+        (binary_outcome world.store world.functions BinaryOp.In (VEntity v) (VEntity v))
+    within_most v =
+        against (binary_outcome world.store world.functions BinaryOp.In (VEntity v)) (is_in world.store v)
+        (λ w. refl) v (itself_in v)
 
     -- what is said of an expression: where a slot of it is not bound, U holds
     abbrev UnboundIs : Source → Type 0
@@ -90,7 +97,8 @@ module _ (U : Type 0) where
     EvalAtMost e = IsAtMost (eval world e) (eval (own_world world) e)
 
     module _ (l : Option Loc) where
-      principal_most : (c : Scope) → UnboundIs (scope_at l Var.Principal SlotId.Principal c) → EvalAtMost (scope_at l Var.Principal SlotId.Principal c)
+      principal_most : (c : Scope) → UnboundIs (scope_at l Var.Principal SlotId.Principal c)
+          → EvalAtMost (scope_at l Var.Principal SlotId.Principal c)
       principal_most any u = itself
       principal_most (equal (to_entity w)) u = itself
       principal_most (equal to_slot) u = equal_most world.request.principal (world.slots SlotId.Principal) (λ n. u (λ b. n b.1))
@@ -102,7 +110,8 @@ module _ (U : Type 0) where
           and_most (eval world (typed_at l Var.Principal p)) (eval (own_world world) (typed_at l Var.Principal p)) _ _ itself
           (within_most world.request.principal (world.slots SlotId.Principal) (λ n. u (λ b. n b.1.1)))
 
-      resource_most : (c : Scope) → UnboundIs (scope_at l Var.Resource SlotId.Resource c) → EvalAtMost (scope_at l Var.Resource SlotId.Resource c)
+      resource_most : (c : Scope) → UnboundIs (scope_at l Var.Resource SlotId.Resource c)
+          → EvalAtMost (scope_at l Var.Resource SlotId.Resource c)
       resource_most any u = itself
       resource_most (equal (to_entity w)) u = itself
       resource_most (equal to_slot) u = equal_most world.request.resource (world.slots SlotId.Resource) (λ n. u (λ b. n b.1))
@@ -116,15 +125,19 @@ module _ (U : Type 0) where
 
     -- what mentions no slot is the same
     pub unmentioned : (e : Source) → MentionsNoSlot e → EvalAtMost e
-    unmentioned e h = same (eval world e) (eval (own_world world) e) (eval_alike world world.slots (own_slots world.request) e (λ x m. absurd (true≢false (sym m ∙ h x))))
+    unmentioned e h =
+        same (eval world e) (eval (own_world world) e)
+        (eval_alike world world.slots (own_slots world.request) e (λ x m. absurd (true≢false (sym m ∙ h x))))
 
     scope_most : (t : PlainTemplate) → UnboundIs (scope_condition t) → EvalAtMost (scope_condition t)
     scope_most t u =
         and_most _ _ _ _
-        (and_most _ _ _ _ (principal_most t.place t.principal (λ n. u (λ b. n b.0.0))) (unmentioned (action_scope_at t.place t.action) (λ x. no_action t.place x t.action)))
+        (and_most _ _ _ _ (principal_most t.place t.principal (λ n. u (λ b. n b.0.0)))
+        (unmentioned (action_scope_at t.place t.action) (λ x. no_action t.place x t.action)))
         (resource_most t.place t.resource (λ n. u (λ b. n b.1)))
 
-    with_rest_most : (l : Option Loc) (e : Source) (rest : Option Source) → NoSlotIn rest → (UnboundIs e → EvalAtMost e) → UnboundIs (with_rest l e rest) → EvalAtMost (with_rest l e rest)
+    with_rest_most : (l : Option Loc) (e : Source) (rest : Option Source) → NoSlotIn rest
+        → (UnboundIs e → EvalAtMost e) → UnboundIs (with_rest l e rest) → EvalAtMost (with_rest l e rest)
     with_rest_most l e None h k u = k u
     with_rest_most l e (Some f) h k u = and_most _ _ _ _ (k (λ n. u (λ b. n b.0))) (unmentioned f h)
 

@@ -73,7 +73,8 @@ module _ (s : Setting) (d : DeclaredEnv) (p r p' r' : Option Path) where
   operand_same None l o = refl
   operand_same (Some ts) l o = expect_same ts l o
 
-  pub more_same : (goes_on : Bool) (q : Expectation) (l : Option Loc) (o : List Finding → AnswerAndErrors) (rest : List Finding → OperandsAndErrors) → infer_one_more e1 goes_on q l o rest ≡ infer_one_more e2 goes_on q l o rest
+  pub more_same : (goes_on : Bool) (q : Expectation) (l : Option Loc) (o : List Finding → AnswerAndErrors)
+      (rest : List Finding → OperandsAndErrors) → infer_one_more e1 goes_on q l o rest ≡ infer_one_more e2 goes_on q l o rest
   more_same goes_on q l o rest = λ i es. infer_rest goes_on (operand_same q l (o es) i).0 (operand_same q l (o es) i).1 rest
 
   pub one_same : (f : Form) (l : Option Loc) (o : List Finding → AnswerAndErrors) → infer_one_operand e1 f l o ≡ infer_one_operand e2 f l o
@@ -247,7 +248,9 @@ module _ (s : Setting) (d : DeclaredEnv) (p r p' r' : Option Path) where
     at = m;
     expects = [];
     goes_on = true;
-    decides = λ ts. equal_decided m.place (equality_type (literal_same d p r p' r' a i) (literal_same d p r p' r' b i) (first_type ts) (second_type ts)) (first_type ts) (second_type ts) i;
+    decides =
+        λ ts. equal_decided m.place (equality_type (literal_same d p r p' r' a i) (literal_same d p r p' r' b i) (first_type ts)
+        (second_type ts)) (first_type ts) (second_type ts) i;
     type_if_failed = λ t. t;
     at_limit = λ ts. [];
     node = λ k xs. binary k BinaryOp.Eq (first_tree xs) (second_tree xs);

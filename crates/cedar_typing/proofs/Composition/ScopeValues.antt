@@ -5,7 +5,8 @@ use Rattle.cedar_types.specs.declared.base.names.slots.SlotId.{SlotId}
 use Rattle.cedar_types.specs.declared.base.expressions.operators.Var.{Var}
 use Rattle.cedar_types.specs.Names.{PlacedUid, Uid}
 use Rattle.cedar_types.specs.Expressions.View.{trees_of}
-use Rattle.cedar_types.specs.Templates.{to_entity, to_slot, Scope, any, equal, within, typed, typed_within, ActionScope, any_action, equal_action, within_actions, typed_at, uid_at, scope_at, action_scope_at}
+use Rattle.cedar_types.specs.Templates.{to_entity, to_slot, Scope, any, equal, within, typed, typed_within, ActionScope, any_action}
+use Rattle.cedar_types.specs.Templates.{equal_action, within_actions, typed_at, uid_at, scope_at, action_scope_at}
 use Rattle.cedar_types.specs.Values.{Value, Values, VBool, VEntity, VSet, no_values, more_values}
 use Rattle.cedar_typing.specs.Composition.{ScopeIsBoolean}
 use Rattle.cedar_typing.specs.Evaluation.Conformance.{IsBound, SlotsBound}
@@ -25,13 +26,15 @@ and_bool : (o p : Outcome) → IsBool o → IsBool p → IsBool (of_test (and_te
 and_bool o p (b, e) (c, f) = (b && c, (λ i. of_test (and_test (test_of (e i)) (test_of (f i)))) ∙ both_say b c)
 
 -- a test of what a slot is bound to
-bound_bool : (b : Option Uid) (f : Value → Outcome) → IsBound b → ((u : Uid) → IsBool (f (VEntity u))) → IsBool (on_value (bound_outcome b) f)
+bound_bool : (b : Option Uid) (f : Value → Outcome) → IsBound b → ((u : Uid) → IsBool (f (VEntity u)))
+    → IsBool (on_value (bound_outcome b) f)
 bound_bool None f h g = absurd h
 bound_bool (Some u) f h g = g u
 
 module _ (world : World) (l : Option Loc) where
   -- entities that are listed
-  listed : (us : List PlacedUid) → (vs : Values) × (eval_all world (trees_of (map (uid_at l) us)) ≡ GiveAll vs) × (all_values is_some_entity vs ≡ true)
+  listed : (us : List PlacedUid) → (vs : Values) × (eval_all world (trees_of (map (uid_at l) us)) ≡ GiveAll vs)
+      × (all_values is_some_entity vs ≡ true)
   listed [] = (no_values, refl, refl)
   listed (u ∷ us) =
       let r = listed us in
@@ -48,7 +51,8 @@ module _ (world : World) (l : Option Loc) where
             ∙ ap (λ c. if c then Gives (VBool b) else Fails TypeFailure) r.2,
       )
 
-  principal_bool : (c : Scope) → SlotsBound world.slots (scope_at l Var.Principal SlotId.Principal c) → IsBool (eval world (scope_at l Var.Principal SlotId.Principal c))
+  principal_bool : (c : Scope) → SlotsBound world.slots (scope_at l Var.Principal SlotId.Principal c)
+      → IsBool (eval world (scope_at l Var.Principal SlotId.Principal c))
   principal_bool any b = (true, refl)
   principal_bool (equal (to_entity u)) b = (_, refl)
   principal_bool (equal to_slot) b = bound_bool (world.slots SlotId.Principal) _ b.1 (λ u. (_, refl))
@@ -57,9 +61,12 @@ module _ (world : World) (l : Option Loc) where
   principal_bool (typed p) b = (_, refl)
   principal_bool (typed_within p (to_entity u)) b = and_bool (eval world (typed_at l Var.Principal p)) (Gives (VBool _)) (_, refl) (_, refl)
   principal_bool (typed_within p to_slot) b =
-      and_bool (eval world (typed_at l Var.Principal p)) _ (_, refl) (bound_bool (world.slots SlotId.Principal) (value_in world.store (VEntity world.request.principal)) b.1.1 (λ u. (_, refl)))
+      and_bool (eval world (typed_at l Var.Principal p)) _ (_, refl)
+      (bound_bool (world.slots SlotId.Principal) (value_in world.store (VEntity world.request.principal))
+      b.1.1 (λ u. (_, refl)))
 
-  resource_bool : (c : Scope) → SlotsBound world.slots (scope_at l Var.Resource SlotId.Resource c) → IsBool (eval world (scope_at l Var.Resource SlotId.Resource c))
+  resource_bool : (c : Scope) → SlotsBound world.slots (scope_at l Var.Resource SlotId.Resource c)
+      → IsBool (eval world (scope_at l Var.Resource SlotId.Resource c))
   resource_bool any b = (true, refl)
   resource_bool (equal (to_entity u)) b = (_, refl)
   resource_bool (equal to_slot) b = bound_bool (world.slots SlotId.Resource) _ b.1 (λ u. (_, refl))
@@ -68,8 +75,11 @@ module _ (world : World) (l : Option Loc) where
   resource_bool (typed p) b = (_, refl)
   resource_bool (typed_within p (to_entity u)) b = and_bool (eval world (typed_at l Var.Resource p)) (Gives (VBool _)) (_, refl) (_, refl)
   resource_bool (typed_within p to_slot) b =
-      and_bool (eval world (typed_at l Var.Resource p)) _ (_, refl) (bound_bool (world.slots SlotId.Resource) (value_in world.store (VEntity world.request.resource)) b.1.1 (λ u. (_, refl)))
+      and_bool (eval world (typed_at l Var.Resource p)) _ (_, refl)
+      (bound_bool (world.slots SlotId.Resource) (value_in world.store (VEntity world.request.resource))
+      b.1.1 (λ u. (_, refl)))
 
 pub scope_is_boolean : ScopeIsBoolean
 scope_is_boolean t world b =
-    and_bool _ _ (and_bool _ _ (principal_bool world t.place t.principal b.0.0) (action_bool world t.place t.action)) (resource_bool world t.place t.resource b.1)
+    and_bool _ _ (and_bool _ _ (principal_bool world t.place t.principal b.0.0)
+    (action_bool world t.place t.action)) (resource_bool world t.place t.resource b.1)

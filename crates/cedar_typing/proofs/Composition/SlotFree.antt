@@ -5,7 +5,9 @@ use Rattle.cedar_types.specs.declared.base.names.slots.SlotId.{SlotId}
 use Rattle.cedar_types.specs.Lemmas.TreeSame.{slot_same}
 use Rattle.cedar_types.specs.Names.{Path}
 use Rattle.cedar_types.specs.Types.{Ty}
-use Rattle.cedar_types.specs.Expressions.Tree.{Lit, bool, long, string, entity, lit, var, slot, unknown, if_then_else, and, or, unary, binary, call, get_attr, has_attr, ext_has_attr, like, is_type, set_of, record_of, Trees, no_trees, tree, Fields, no_fields, field}
+use Rattle.cedar_types.specs.Expressions.Tree.{Lit, bool, long, string, entity, lit, var, slot, unknown, if_then_else, and, or, unary}
+use Rattle.cedar_types.specs.Expressions.Tree.{binary, call, get_attr, has_attr, ext_has_attr, like, is_type, set_of, record_of, Trees}
+use Rattle.cedar_types.specs.Expressions.Tree.{no_trees, tree, Fields, no_fields, field}
 use Rattle.cedar_types.specs.Expressions.View.{Written}
 use Rattle.cedar_types.specs.Environments.{DeclaredEnv}
 use Rattle.cedar_types.specs.Errors.{Finding}
@@ -30,7 +32,9 @@ use Rattle.cedar_typing.specs.TypedExpr.{Source, TypedTree, place_of}
 use Rattle.cedar_typing.proofs.Agreement.Induction.{agrees}
 use Rattle.cedar_typing.proofs.Agreement.Parts.{Answers, a_derived, a_recovered, a_cut}
 use Rattle.cedar_typing.proofs.Basics.{some_is, neither_left, neither_right}
-use Rattle.cedar_typing.proofs.Composition.SameForms.{one, other, expect_same, more_same, one_same, two_same, right_same, branches_same, has_form_same, get_form_same, chain_form_same, call_form_same, set_form_same, record_form_same, binary_form_same}
+use Rattle.cedar_typing.proofs.Composition.SameForms.{one, other, expect_same, more_same, one_same, two_same, right_same, branches_same}
+use Rattle.cedar_typing.proofs.Composition.SameForms.{has_form_same, get_form_same, chain_form_same, call_form_same, set_form_same}
+use Rattle.cedar_typing.proofs.Composition.SameForms.{record_form_same, binary_form_same}
 
 -- ---- inference
 
@@ -73,33 +77,45 @@ module _ (s : Setting) (d : DeclaredEnv) (p r p' r' : Option Path) where
         let ha = first_of (λ x. mentions_slot x a) (λ x. mentions_slot x b || mentions_slot x c) h in
         let hb = first_of (λ x. mentions_slot x b) (λ x. mentions_slot x c) g in
         let hc = rest_of (λ x. mentions_slot x b) (λ x. mentions_slot x c) g in
-        λ i es. after (expect_same s d p r p' r' bool_types (place_of a) (unless_too_deep (k + 1) es (same_within a ha prior (k + 1) i es)) i)
-        (λ q es'. branches_same s d p r p' r' m prior q es' (λ known es''. unless_too_deep (k + 1) es'' (same_within b hb known (k + 1) i es'')) (λ es''. unless_too_deep (k + 1) es'' (same_within c hc prior (k + 1) i es'')) i)
+        λ i es. after (expect_same s d p r p' r' bool_types (place_of a)
+        (unless_too_deep (k + 1) es (same_within a ha prior (k + 1) i es)) i)
+        (λ q es'. branches_same s d p r p' r' m prior q es'
+        (λ known es''. unless_too_deep (k + 1) es'' (same_within b hb known (k + 1) i es''))
+        (λ es''. unless_too_deep (k + 1) es'' (same_within c hc prior (k + 1) i es'')) i)
     same_within (and m a b) h prior k =
         let ha = first_of (λ x. mentions_slot x a) (λ x. mentions_slot x b) h in
         let hb = rest_of (λ x. mentions_slot x a) (λ x. mentions_slot x b) h in
-        λ i es. after (expect_same s d p r p' r' bool_types (place_of a) (unless_too_deep (k + 1) es (same_within a ha prior (k + 1) i es)) i)
-        (λ q es'. right_same s d p r p' r' conjunction m (place_of b) prior q es' (λ known es''. unless_too_deep (k + 1) es'' (same_within b hb known (k + 1) i es'')) i)
+        λ i es. after (expect_same s d p r p' r' bool_types (place_of a)
+        (unless_too_deep (k + 1) es (same_within a ha prior (k + 1) i es)) i)
+        (λ q es'. right_same s d p r p' r' conjunction m (place_of b) prior q es'
+        (λ known es''. unless_too_deep (k + 1) es'' (same_within b hb known (k + 1) i es'')) i)
     same_within (or m a b) h prior k =
         let ha = first_of (λ x. mentions_slot x a) (λ x. mentions_slot x b) h in
         let hb = rest_of (λ x. mentions_slot x a) (λ x. mentions_slot x b) h in
-        λ i es. after (expect_same s d p r p' r' bool_types (place_of a) (unless_too_deep (k + 1) es (same_within a ha prior (k + 1) i es)) i)
-        (λ q es'. right_same s d p r p' r' disjunction m (place_of b) prior q es' (λ known es''. unless_too_deep (k + 1) es'' (same_within b hb known (k + 1) i es'')) i)
+        λ i es. after (expect_same s d p r p' r' bool_types (place_of a)
+        (unless_too_deep (k + 1) es (same_within a ha prior (k + 1) i es)) i)
+        (λ q es'. right_same s d p r p' r' disjunction m (place_of b) prior q es'
+        (λ known es''. unless_too_deep (k + 1) es'' (same_within b hb known (k + 1) i es'')) i)
     same_within (unary m o a) h prior k =
         λ i. one_same s d p r p' r' (unary_form m o) (place_of a) (λ es. unless_too_deep (k + 1) es (same_within a h prior (k + 1) i es)) i
     same_within (binary m o a b) h prior k =
         let ha = first_of (λ x. mentions_slot x a) (λ x. mentions_slot x b) h in
         let hb = rest_of (λ x. mentions_slot x a) (λ x. mentions_slot x b) h in
-        λ i. two_same s d p r p' r' (binary_form_same s d p r p' r' m prior a b o i) (place_of a) (place_of b) (λ es. unless_too_deep (k + 1) es (same_within a ha prior (k + 1) i es)) (λ es. unless_too_deep (k + 1) es (same_within b hb prior (k + 1) i es)) i
+        λ i. two_same s d p r p' r' (binary_form_same s d p r p' r' m prior a b o i) (place_of a) (place_of b)
+        (λ es. unless_too_deep (k + 1) es (same_within a ha prior (k + 1) i es))
+        (λ es. unless_too_deep (k + 1) es (same_within b hb prior (k + 1) i es)) i
     same_within (call m n ts) h prior k =
         let f = call_form_same s d p r p' r' m n (arguments ts) in
         λ i. infer_eager (f i) (same_all (f i).goes_on (f i).expects ts h prior (k + 1) i)
     same_within (get_attr m a x) h prior k =
-        λ i. one_same s d p r p' r' (get_form_same s d p r p' r' m prior a x i) (place_of a) (λ es. unless_too_deep (k + 1) es (same_within a h prior (k + 1) i es)) i
+        λ i. one_same s d p r p' r' (get_form_same s d p r p' r' m prior a x i) (place_of a)
+        (λ es. unless_too_deep (k + 1) es (same_within a h prior (k + 1) i es)) i
     same_within (has_attr m a x) h prior k =
-        λ i. one_same s d p r p' r' (has_form_same s d p r p' r' m prior a x i) (place_of a) (λ es. unless_too_deep (k + 1) es (same_within a h prior (k + 1) i es)) i
+        λ i. one_same s d p r p' r' (has_form_same s d p r p' r' m prior a x i) (place_of a)
+        (λ es. unless_too_deep (k + 1) es (same_within a h prior (k + 1) i es)) i
     same_within (ext_has_attr m a x xs) h prior k =
-        λ i. one_same s d p r p' r' (chain_form_same s d p r p' r' m prior a x xs i) (place_of a) (λ es. unless_too_deep (k + 1) es (same_within a h prior (k + 1) i es)) i
+        λ i. one_same s d p r p' r' (chain_form_same s d p r p' r' m prior a x xs i) (place_of a)
+        (λ es. unless_too_deep (k + 1) es (same_within a h prior (k + 1) i es)) i
     same_within (like m a q) h prior k =
         λ i. one_same s d p r p' r' (like_form m q) (place_of a) (λ es. unless_too_deep (k + 1) es (same_within a h prior (k + 1) i es)) i
     same_within (is_type m a n) h prior k =
@@ -107,21 +123,27 @@ module _ (s : Setting) (d : DeclaredEnv) (p r p' r' : Option Path) where
     same_within (set_of m ts) h prior k =
         let f = set_form_same s d p r p' r' m in
         λ i. infer_eager (f i) (same_all (f i).goes_on (f i).expects ts h prior (k + 1) i)
-    same_within (record_of m fs) h prior k = λ i. infer_eager (record_form_same s d p r p' r' m (field_keys fs) i) (same_fields fs h prior (k + 1) i)
+    same_within (record_of m fs) h prior k =
+        λ i. infer_eager (record_form_same s d p r p' r' m (field_keys fs) i) (same_fields fs h prior (k + 1) i)
 
-    same_all : (goes_on : Bool) (qs : List Expectation) (ts : Trees Written) → NotIn (λ x. any_mentions_slot x ts) → (prior : Caps) (k : ℕ) → infer_all s1 goes_on qs ts prior k ≡ infer_all s2 goes_on qs ts prior k
+    same_all : (goes_on : Bool) (qs : List Expectation) (ts : Trees Written) → NotIn (λ x. any_mentions_slot x ts)
+        → (prior : Caps) (k : ℕ) → infer_all s1 goes_on qs ts prior k ≡ infer_all s2 goes_on qs ts prior k
     same_all goes_on qs no_trees h prior k = refl
     same_all goes_on qs (tree e ts) h prior k =
         let he = first_of (λ x. mentions_slot x e) (λ x. any_mentions_slot x ts) h in
         let hs = rest_of (λ x. mentions_slot x e) (λ x. any_mentions_slot x ts) h in
-        λ i. more_same s d p r p' r' goes_on (first_expectation qs) (place_of e) (λ es. unless_too_deep k es (same_within e he prior k i es)) (same_all goes_on (later_expectations qs) ts hs prior k i) i
+        λ i. more_same s d p r p' r' goes_on (first_expectation qs) (place_of e)
+        (λ es. unless_too_deep k es (same_within e he prior k i es))
+        (same_all goes_on (later_expectations qs) ts hs prior k i) i
 
-    same_fields : (fs : Fields Written) → NotIn (λ x. field_mentions_slot x fs) → (prior : Caps) (k : ℕ) → infer_fields s1 fs prior k ≡ infer_fields s2 fs prior k
+    same_fields : (fs : Fields Written) → NotIn (λ x. field_mentions_slot x fs) → (prior : Caps) (k : ℕ)
+        → infer_fields s1 fs prior k ≡ infer_fields s2 fs prior k
     same_fields no_fields h prior k = refl
     same_fields (field n e fs) h prior k =
         let he = first_of (λ x. mentions_slot x e) (λ x. field_mentions_slot x fs) h in
         let hs = rest_of (λ x. mentions_slot x e) (λ x. field_mentions_slot x fs) h in
-        λ i. more_same s d p r p' r' false None (place_of e) (λ es. unless_too_deep k es (same_within e he prior k i es)) (same_fields fs hs prior k i) i
+        λ i. more_same s d p r p' r' false None (place_of e)
+        (λ es. unless_too_deep k es (same_within e he prior k i es)) (same_fields fs hs prior k i) i
 
   pub same_inference : (e : Source) → MentionsNoSlot e → (prior : Caps) (k : ℕ) → infer s1 e prior k ≡ infer s2 e prior k
   same_inference e h prior k = λ i es. unless_too_deep k es (same_within e h prior k i es)

@@ -65,16 +65,44 @@ module _ (s : Setting) (d : DeclaredEnv) (link : Option Path) (m n o : Written) 
   OwnResource = in_env s (Declared d link (Some d.resource))
 
   principal_equal : IsTypedBool OwnPrincipal (binary m BinaryOp.Eq (var n Var.Principal) (slot o SlotId.Principal))
-  principal_equal prior k h = (_, (shallower k h, eager_typed (also_derived (h, leaf refl) refl (also_derived (h, leaf refl) refl none_derived)) (equal_decides OwnPrincipal.env d.principal m.place)))
+  principal_equal prior k h = (
+    _,
+    (
+      shallower k h,
+      eager_typed (also_derived (h, leaf refl) refl (also_derived (h, leaf refl) refl none_derived))
+          (equal_decides OwnPrincipal.env d.principal m.place),
+    ),
+  )
 
   principal_in : IsTypedBool OwnPrincipal (binary m BinaryOp.In (var n Var.Principal) (slot o SlotId.Principal))
-  principal_in prior k h = (_, (shallower k h, eager_typed (also_derived (h, leaf refl) refl (also_derived (h, leaf refl) refl none_derived)) (in_decides OwnPrincipal.env d.principal)))
+  principal_in prior k h = (
+    _,
+    (
+      shallower k h,
+      eager_typed (also_derived (h, leaf refl) refl (also_derived (h, leaf refl) refl none_derived))
+          (in_decides OwnPrincipal.env d.principal),
+    ),
+  )
 
   resource_equal : IsTypedBool OwnResource (binary m BinaryOp.Eq (var n Var.Resource) (slot o SlotId.Resource))
-  resource_equal prior k h = (_, (shallower k h, eager_typed (also_derived (h, leaf refl) refl (also_derived (h, leaf refl) refl none_derived)) (equal_decides OwnResource.env d.resource m.place)))
+  resource_equal prior k h = (
+    _,
+    (
+      shallower k h,
+      eager_typed (also_derived (h, leaf refl) refl (also_derived (h, leaf refl) refl none_derived))
+          (equal_decides OwnResource.env d.resource m.place),
+    ),
+  )
 
   resource_in : IsTypedBool OwnResource (binary m BinaryOp.In (var n Var.Resource) (slot o SlotId.Resource))
-  resource_in prior k h = (_, (shallower k h, eager_typed (also_derived (h, leaf refl) refl (also_derived (h, leaf refl) refl none_derived)) (in_decides OwnResource.env d.resource)))
+  resource_in prior k h = (
+    _,
+    (
+      shallower k h,
+      eager_typed (also_derived (h, leaf refl) refl (also_derived (h, leaf refl) refl none_derived))
+          (in_decides OwnResource.env d.resource),
+    ),
+  )
 
 pub own_tests_are_bool : OwnTestsAreBool
 own_tests_are_bool s d link = (

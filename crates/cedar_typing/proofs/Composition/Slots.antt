@@ -2,13 +2,17 @@
 use Rattle.std.proofs.Common.{◌≡◌, Bool, true, ◌||◌, refl, ap}
 use Rattle.cedar_types.specs.declared.base.names.slots.SlotId.{SlotId}
 use Rattle.cedar_types.specs.Lemmas.TreeSame.{slot_same}
-use Rattle.cedar_types.specs.Expressions.Tree.{lit, var, slot, unknown, if_then_else, and, or, unary, binary, call, get_attr, has_attr, ext_has_attr, like, is_type, set_of, record_of, Trees, no_trees, tree, Fields, no_fields, field}
+use Rattle.cedar_types.specs.Expressions.Tree.{lit, var, slot, unknown, if_then_else, and, or, unary, binary, call, get_attr, has_attr}
+use Rattle.cedar_types.specs.Expressions.Tree.{ext_has_attr, like, is_type, set_of, record_of, Trees, no_trees, tree, Fields, no_fields}
+use Rattle.cedar_types.specs.Expressions.Tree.{field}
 use Rattle.cedar_types.specs.Expressions.View.{Written}
 use Rattle.cedar_types.specs.Values.{VSet}
 use Rattle.cedar_types.specs.Expressions.Parts.{mentions_slot, any_mentions_slot, field_mentions_slot}
 use Rattle.cedar_typing.specs.Evaluation.Conformance.{IsBound, SlotsBound, AllSlotsBound, FieldSlotsBound}
-use Rattle.cedar_typing.specs.Evaluation.Eval.{bound_outcome, unary_outcome, binary_outcome, get, has_test, path_test, like_outcome, is_of, called, eval, eval_all, eval_fields}
-use Rattle.cedar_typing.specs.Evaluation.Outcomes.{test_of, of_test, and_test, or_test, choose, on_value, then_test, more_outcomes, on_values, more_entry_outcomes, record_outcome}
+use Rattle.cedar_typing.specs.Evaluation.Eval.{bound_outcome, unary_outcome, binary_outcome, get, has_test, path_test, like_outcome, is_of}
+use Rattle.cedar_typing.specs.Evaluation.Eval.{called, eval, eval_all, eval_fields}
+use Rattle.cedar_typing.specs.Evaluation.Outcomes.{test_of, of_test, and_test, or_test, choose, on_value, then_test, more_outcomes}
+use Rattle.cedar_typing.specs.Evaluation.Outcomes.{on_values, more_entry_outcomes, record_outcome}
 use Rattle.cedar_typing.specs.Evaluation.World.{Slots, World, call_value, Gives}
 use Rattle.cedar_typing.specs.TypedExpr.{Source}
 use Rattle.cedar_typing.proofs.Basics.{or_left, or_right}
@@ -44,11 +48,14 @@ module _ (world : World) (b b' : Slots) where
     eval_alike (if_then_else m x y z) h =
         let k = other (λ q. mentions_slot q x) (λ q. mentions_slot q y || mentions_slot q z) h in
         λ i. choose (test_of (eval_alike x (one (λ q. mentions_slot q x) (λ q. mentions_slot q y || mentions_slot q z) h) i))
-        (eval_alike y (one (λ q. mentions_slot q y) (λ q. mentions_slot q z) k) i) (eval_alike z (other (λ q. mentions_slot q y) (λ q. mentions_slot q z) k) i)
+        (eval_alike y (one (λ q. mentions_slot q y) (λ q. mentions_slot q z) k) i)
+        (eval_alike z (other (λ q. mentions_slot q y) (λ q. mentions_slot q z) k) i)
     eval_alike (and m x y) h =
-        λ i. of_test (and_test (test_of (eval_alike x (one (λ q. mentions_slot q x) (λ q. mentions_slot q y) h) i)) (test_of (eval_alike y (other (λ q. mentions_slot q x) (λ q. mentions_slot q y) h) i)))
+        λ i. of_test (and_test (test_of (eval_alike x (one (λ q. mentions_slot q x) (λ q. mentions_slot q y) h) i))
+        (test_of (eval_alike y (other (λ q. mentions_slot q x) (λ q. mentions_slot q y) h) i)))
     eval_alike (or m x y) h =
-        λ i. of_test (or_test (test_of (eval_alike x (one (λ q. mentions_slot q x) (λ q. mentions_slot q y) h) i)) (test_of (eval_alike y (other (λ q. mentions_slot q x) (λ q. mentions_slot q y) h) i)))
+        λ i. of_test (or_test (test_of (eval_alike x (one (λ q. mentions_slot q x) (λ q. mentions_slot q y) h) i))
+        (test_of (eval_alike y (other (λ q. mentions_slot q x) (λ q. mentions_slot q y) h) i)))
     eval_alike (unary m o x) h = λ i. unary_outcome o (eval_alike x h i)
     eval_alike (binary m o x y) h =
         let p = eval_alike x (one (λ q. mentions_slot q x) (λ q. mentions_slot q y) h) in
@@ -66,12 +73,14 @@ module _ (world : World) (b b' : Slots) where
     all_alike : (ts : Trees Written) → Alike (λ x. any_mentions_slot x ts) → eval_all left_world ts ≡ eval_all right_world ts
     all_alike no_trees h = refl
     all_alike (tree t ts) h =
-        λ i. more_outcomes (eval_alike t (one (λ q. mentions_slot q t) (λ q. any_mentions_slot q ts) h) i) (all_alike ts (other (λ q. mentions_slot q t) (λ q. any_mentions_slot q ts) h) i)
+        λ i. more_outcomes (eval_alike t (one (λ q. mentions_slot q t) (λ q. any_mentions_slot q ts) h) i)
+        (all_alike ts (other (λ q. mentions_slot q t) (λ q. any_mentions_slot q ts) h) i)
 
     fields_alike : (fs : Fields Written) → Alike (λ x. field_mentions_slot x fs) → eval_fields left_world fs ≡ eval_fields right_world fs
     fields_alike no_fields h = refl
     fields_alike (field k t fs) h =
-        λ i. more_entry_outcomes k (eval_alike t (one (λ q. mentions_slot q t) (λ q. field_mentions_slot q fs) h) i) (fields_alike fs (other (λ q. mentions_slot q t) (λ q. field_mentions_slot q fs) h) i)
+        λ i. more_entry_outcomes k (eval_alike t (one (λ q. mentions_slot q t) (λ q. field_mentions_slot q fs) h) i)
+        (fields_alike fs (other (λ q. mentions_slot q t) (λ q. field_mentions_slot q fs) h) i)
 
 -- ---- where both slots are bound, those of any expression are
 

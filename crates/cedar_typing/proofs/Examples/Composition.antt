@@ -8,7 +8,8 @@ use Rattle.cedar_types.specs.Templates.{any, PlainTemplate, condition_of}
 use Rattle.cedar_types.specs.Environments.Linking.{checked_envs}
 use Rattle.cedar_typing.specs.Evaluation.Conformance.{IsOneOf}
 use Rattle.cedar_typing.specs.Composition.{in_env, own_env, IsIrrelevant, IsIrrelevantInAll}
-use Rattle.cedar_typing.specs.Examples.Composition.{template, slot_is_robot, acting_schema, acting_env, greets, robots_template, EnvironmentsAre, SlotsInTheRestAreNot, OwnEnvMayBeMissing}
+use Rattle.cedar_typing.specs.Examples.Composition.{template, slot_is_robot, acting_schema, acting_env, greets, robots_template}
+use Rattle.cedar_typing.specs.Examples.Composition.{EnvironmentsAre, SlotsInTheRestAreNot, OwnEnvMayBeMissing}
 use Rattle.cedar_typing.specs.Examples.World.{user, sample}
 use Rattle.cedar_typing.specs.PolicyCheck.{Verdict, PolicyChecks, policy_check, SameVerdict, same_success, same_irrelevant, same_failure}
 use Rattle.cedar_typing.specs.Setting.{Setting}
@@ -44,7 +45,9 @@ abbrev AreAllIrrelevant : Env → Type 0
 AreAllIrrelevant e = (v : Verdict) → PolicyChecks (in_env (sample Strict) e) (condition_of robots_template) v → IsIrrelevant v
 
 robots_irrelevant : IsIrrelevantInAll (sample Strict) robots_template
-robots_irrelevant e (inl q) = subst AreAllIrrelevant (sym q) (by_function (in_env (sample Strict) (greets (Some user) (Some user))) (condition_of robots_template) tt)
+robots_irrelevant e (inl q) =
+    subst AreAllIrrelevant (sym q) (by_function (in_env (sample Strict) (greets (Some user) (Some user)))
+    (condition_of robots_template) tt)
 robots_irrelevant e (inr h) = absurd h
 
 pub slots_in_the_rest : SlotsInTheRestAreNot

@@ -10,7 +10,8 @@ use Rattle.cedar_types.specs.Schemas.{is_among, uid_is_among, type_named, declar
 use Rattle.cedar_types.specs.Values.Stores.{Entity, entity_at, declares_ancestor, FitsDeclaration, ConformingStore}
 use Rattle.cedar_types.specs.Templates.{condition_of}
 use Rattle.cedar_typing.specs.Evaluation.Conformance.{IsBound, ConformingRequest}
-use Rattle.cedar_typing.specs.Examples.Conforming.{document, attic, review, edit, review_schema, review_basis, review_store, reviewing, reviewed_policy, linked_policy, ConformityAllowsIn, ConformityAllows}
+use Rattle.cedar_typing.specs.Examples.Conforming.{document, attic, review, edit, review_schema, review_basis, review_store, reviewing}
+use Rattle.cedar_typing.specs.Examples.Conforming.{reviewed_policy, linked_policy, ConformityAllowsIn, ConformityAllows}
 use Rattle.cedar_typing.specs.Examples.PolicySoundness.{Passes}
 use Rattle.cedar_typing.proofs.Composition.Slots.{slots_bound}
 use Rattle.cedar_typing.proofs.Examples.PolicySoundness.{passing, meeting_conforms}

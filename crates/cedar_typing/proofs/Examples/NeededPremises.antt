@@ -13,7 +13,12 @@ use Rattle.cedar_typing.specs.Evaluation.Conformance.{IsBound}
 use Rattle.cedar_typing.specs.Evaluation.World.{Slots}
 use Rattle.cedar_typing.specs.Examples.Composition.{robots_template, robot_slots}
 use Rattle.cedar_typing.specs.Examples.Greeting.{greeting}
-use Rattle.cedar_typing.specs.Examples.NeededPremises.{IsAsAskedIn, of_unknown_type, of_unknown_action, of_unknown, slot_in_rest, equal_to_slot, robots_only, young, decimals_in_order, guest_basis, guest_greeting, guest_has_role, guest_goes_wrong, attribute_of_one, NamesMustBeKnownIn, UnknownsGoWrongIn, SlotsInTheRestGoWrongIn, UnboundSlotsGoWrongIn, RequestsMustConformIn, StoresMustConformIn, FunctionsMustKeepTheTableIn, ExternalTypesGoWrongIn, PartialGoesWrong, PremisesAreNeededIn, PremisesAreNeeded}
+use Rattle.cedar_typing.specs.Examples.NeededPremises.{IsAsAskedIn, of_unknown_type, of_unknown_action, of_unknown, slot_in_rest}
+use Rattle.cedar_typing.specs.Examples.NeededPremises.{equal_to_slot, robots_only, young, decimals_in_order, guest_basis, guest_greeting}
+use Rattle.cedar_typing.specs.Examples.NeededPremises.{guest_has_role, guest_goes_wrong, attribute_of_one, NamesMustBeKnownIn}
+use Rattle.cedar_typing.specs.Examples.NeededPremises.{UnknownsGoWrongIn, SlotsInTheRestGoWrongIn, UnboundSlotsGoWrongIn}
+use Rattle.cedar_typing.specs.Examples.NeededPremises.{RequestsMustConformIn, StoresMustConformIn, FunctionsMustKeepTheTableIn}
+use Rattle.cedar_typing.specs.Examples.NeededPremises.{ExternalTypesGoWrongIn, PartialGoesWrong, PremisesAreNeededIn, PremisesAreNeeded}
 use Rattle.cedar_typing.specs.Examples.PolicySoundness.{sample_basis, Passes, PassesWarned, policy_when, meeting_slots, meeting}
 use Rattle.cedar_typing.specs.Examples.World.{greet}
 use Rattle.cedar_typing.specs.Soundness.Policies.{IsClosedIn, IsConforming}

@@ -6,7 +6,8 @@ use Rattle.cedar_types.specs.Names.{Uid, uid_eq}
 use Rattle.cedar_types.specs.Schemas.{Schema, type_named, declares_action}
 use Rattle.cedar_types.specs.Values.Stores.{Entity, Store, entity_at, FitsDeclaration, ConformingStore}
 use Rattle.cedar_types.specs.Templates.{condition_of}
-use Rattle.cedar_typing.specs.Examples.Permissive.{join, team_schema, team_store, owners, twice_schema, twice_greeting, has_b_goes_wrong, PermissivePremisesAreMet, WrongBoundIsRefuted, FormIsNeeded}
+use Rattle.cedar_typing.specs.Examples.Permissive.{join, team_schema, team_store, owners, twice_schema, twice_greeting, has_b_goes_wrong}
+use Rattle.cedar_typing.specs.Examples.Permissive.{PermissivePremisesAreMet, WrongBoundIsRefuted, FormIsNeeded}
 use Rattle.cedar_typing.specs.Examples.PolicySoundness.{meeting_slots}
 use Rattle.cedar_typing.specs.Examples.World.{greet}
 use Rattle.cedar_typing.proofs.Composition.Slots.{slots_bound}

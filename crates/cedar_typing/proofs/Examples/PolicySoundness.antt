@@ -31,7 +31,9 @@ module _ (b : Basis) (t : PlainTemplate) where
   all_checked (e ∷ es) = (checked (setting_on b t.id e) (condition_of t), all_checked es)
 
   -- the check passes and has no errors, and gives these warnings
-  pub passing : (ws : List Caution) → all_pass (map verdict_in (checked_envs b.schema b.mode t)) ≡ true → all_errors (map verdict_in (checked_envs b.schema b.mode t)) ≡ [] → warnings_of t (map verdict_in (checked_envs b.schema b.mode t)) ≡ ws → CheckedOn b t true [] [] [] ws
+  pub passing : (ws : List Caution) → all_pass (map verdict_in (checked_envs b.schema b.mode t)) ≡ true
+      → all_errors (map verdict_in (checked_envs b.schema b.mode t)) ≡ []
+      → warnings_of t (map verdict_in (checked_envs b.schema b.mode t)) ≡ ws → CheckedOn b t true [] [] [] ws
   passing ws p e w = record {
     listed = checked_envs b.schema b.mode t;
     verdicts = map verdict_in (checked_envs b.schema b.mode t);

@@ -65,7 +65,8 @@ module _ (s : Setting) (e : Source) (p : Caps) (d : ℕ) where
   pub cuts : (es : List Finding) → infer s e p d [] ≡ (limit, es) → Cuts s e p d es
   cuts es h = of_limit es (by_judge limit es h)
 
-pub types_as : {s : Setting} {p : Caps} {e : Shape} {t : Ty} {c : Caps} {x : TypedTree} → annotation x ≡ Some t → infer s (numbered e) p 1 [] ≡ (success x c, []) → TypesAsIn s p e t c x
+pub types_as : {s : Setting} {p : Caps} {e : Shape} {t : Ty} {c : Caps} {x : TypedTree} → annotation x ≡ Some t
+    → infer s (numbered e) p 1 [] ≡ (success x c, []) → TypesAsIn s p e t c x
 types_as {s} {p} {e} {t} {c} {x} m h = record { has = has s (numbered e) p 1 t c x m h }
 
 pub fails_with : {s : Setting} {e : Shape} {x : TypedTree} {es : List Finding} → infer s (numbered e) no_caps 1 [] ≡ (failure x, es) → FailsWithIn s e x es
@@ -83,17 +84,20 @@ copy_of limit = typed_false 1
 abbrev copy_in : Setting → Shape → TypedTree
 copy_in s e = copy_of (infer s (numbered e) no_caps 1 []).0
 
-pub is_typed : {s : Setting} {e : Shape} {t : Ty} → annotation (copy_in s e) ≡ Some t → infer s (numbered e) no_caps 1 [] ≡ (success (copy_in s e) no_caps, []) → IsTypedIn s e t
+pub is_typed : {s : Setting} {e : Shape} {t : Ty} → annotation (copy_in s e) ≡ Some t → infer s (numbered e) no_caps 1 []
+    ≡ (success (copy_in s e) no_caps, []) → IsTypedIn s e t
 is_typed {s} {e} {t} m h = record { copy = copy_in s e; has = has s (numbered e) no_caps 1 t no_caps (copy_in s e) m h }
 
-pub is_refused : {s : Setting} {e : Shape} {t : Option Ty} {es : List Finding} → annotation (copy_in s e) ≡ t → infer s (numbered e) no_caps 1 [] ≡ (failure (copy_in s e), es) → IsRefusedIn s e t es
+pub is_refused : {s : Setting} {e : Shape} {t : Option Ty} {es : List Finding} → annotation (copy_in s e) ≡ t
+    → infer s (numbered e) no_caps 1 [] ≡ (failure (copy_in s e), es) → IsRefusedIn s e t es
 is_refused {s} {e} {t} {es} m h = record { copy = copy_in s e; stays = m; recovers = recovers s (numbered e) no_caps 1 (copy_in s e) es h }
 
 -- the same of a failure, where p is known
 abbrev copy_knowing : Setting → Caps → Shape → TypedTree
 copy_knowing s p e = copy_of (infer s (numbered e) p 1 []).0
 
-pub refused_knowing : {s : Setting} {p : Caps} {e : Shape} {t : Option Ty} {es : List Finding} → annotation (copy_knowing s p e) ≡ t → infer s (numbered e) p 1 [] ≡ (failure (copy_knowing s p e), es) → IsRefusedKnowingIn s p e t es
+pub refused_knowing : {s : Setting} {p : Caps} {e : Shape} {t : Option Ty} {es : List Finding} → annotation (copy_knowing s p e) ≡ t
+    → infer s (numbered e) p 1 [] ≡ (failure (copy_knowing s p e), es) → IsRefusedKnowingIn s p e t es
 refused_knowing {s} {p} {e} {t} {es} m h = record { copy = copy_knowing s p e; stays = m; recovers = recovers s (numbered e) p 1 (copy_knowing s p e) es h }
 
 pub checks_as : {e : Shape} {v : Verdict} → policy_check (sample Strict) (numbered e) ≡ v → ChecksAs e v
@@ -108,7 +112,8 @@ handed limit = no_caps
 abbrev answer : Shape → Answer
 answer e = (infer (sample Strict) (numbered e) no_caps 1 []).0
 
-neither : (e : Shape) → annotation (copy_of (answer e)) ≡ Some (TBool AnyBool) → infer (sample Strict) (numbered e) no_caps 1 [] ≡ (success (copy_of (answer e)) (handed (answer e)), [])
+neither : (e : Shape) → annotation (copy_of (answer e)) ≡ Some (TBool AnyBool) → infer (sample Strict) (numbered e) no_caps 1 []
+    ≡ (success (copy_of (answer e)) (handed (answer e)), [])
     → handed (answer e) (attribute principal (codes "vip")) ≡ false → handed (answer e) (attribute principal (codes "age")) ≡ false → HandsOnNeither e
 neither e m h p q = record {
   caps = handed (answer e);

@@ -1,5 +1,6 @@
 -- The world of the examples conforms.
-use Rattle.std.proofs.Common.{◌≡◌, inl, Bool, true, false, ◌&&◌, ◌||◌, if◌then◌else◌, List, [], ◌∷◌, Option, Some, None, true≢false, refl, sym, subst}
+use Rattle.std.proofs.Common.{◌≡◌, inl, Bool, true, false, ◌&&◌, ◌||◌, if◌then◌else◌, List, [], ◌∷◌, Option, Some, None, true≢false, refl}
+use Rattle.std.proofs.Common.{sym, subst}
 use Rattle.std.specs.Prelude.{IsTrue}
 use Rattle.cedar_types.specs.declared.base.types.ValidationMode.TheVariants.{Strict}
 use Rattle.cedar_types.specs.Names.{Path, Uid, uid_eq, path_eq}
@@ -25,7 +26,8 @@ module _ (P : Uid → Entity → Type 0) where
   AllEntities [] = Unit {0}
   AllEntities (x ∷ xs) = P x.0 x.1 × AllEntities xs
 
-  at_first : (b : Bool) (u v : Uid) (x e : Entity) (rest : Option Entity) → uid_eq u v ≡ b → P v x → (rest ≡ Some e → P u e) → (if b then Some x else rest) ≡ Some e → P u e
+  at_first : (b : Bool) (u v : Uid) (x e : Entity) (rest : Option Entity) → uid_eq u v ≡ b → P v x
+      → (rest ≡ Some e → P u e) → (if b then Some x else rest) ≡ Some e → P u e
   at_first true u v x e rest q h f n = subst (λ z. P z e) (sym (uid_same.to u v q)) (subst (P v) (some_is n) h)
   at_first false u v x e rest q h f n = f n
 
@@ -45,9 +47,12 @@ only_one true n = refl
 only_one false n = n
 
 -- bob, who is a user, may be an ancestor of users
-bobs_type : (v : Uid) → (uid_eq v bob || false) ≡ true → IsTrue (declares_type sample_schema.types v.entity_type && is_among (descendants_of sample_schema.types v.entity_type) user)
+bobs_type : (v : Uid) → (uid_eq v bob || false) ≡ true
+    → IsTrue (declares_type sample_schema.types v.entity_type
+    && is_among (descendants_of sample_schema.types v.entity_type) user)
 bobs_type v h =
-    let P : Uid → Type 0 = λ z. IsTrue (declares_type sample_schema.types z.entity_type && is_among (descendants_of sample_schema.types z.entity_type) user) in
+    let P : Uid → Type 0 = λ z. IsTrue (declares_type sample_schema.types z.entity_type
+    && is_among (descendants_of sample_schema.types z.entity_type) user) in
     subst P (sym (uid_same.to v bob (only_one (uid_eq v bob) h))) refl
 
 -- the actions have the ancestors that the schema declares
@@ -94,7 +99,11 @@ ancestors_of_act v = go (uid_eq v greet) (uid_eq v meet) (uid_eq v act)
 -- alice, bob and the actions
 fitting : AllEntities Fitting sample_store
 fitting = (
-  record { attributes = ((tt, (refl, (((tt, tt), (refl, tt)), (tt, tt)))), (refl, (refl, (refl, (refl, tt))))); tagged = (tt, tt); ancestors = λ v h. bobs_type v h },
+  record {
+    attributes = ((tt, (refl, (((tt, tt), (refl, tt)), (tt, tt)))), (refl, (refl, (refl, (refl, tt)))));
+    tagged = (tt, tt);
+    ancestors = λ v h. bobs_type v h;
+  },
   (
     record { attributes = ((tt, (refl, (refl, (refl, tt)))), (refl, tt)); tagged = tt; ancestors = λ v h. none_among h },
     (
@@ -136,14 +145,17 @@ module _ (P : Path → Value → Type 0) where
   AllCalls [] = Unit {0}
   AllCalls (c ∷ cs) = P c.function c.value × AllCalls cs
 
-  first_call : (a b : Bool) (n m : Path) (v w : Value) (rest : Option Value) → path_eq n m ≡ a → P m w → (rest ≡ Some v → P n v) → (if a && b then Some w else rest) ≡ Some v → P n v
+  first_call : (a b : Bool) (n m : Path) (v w : Value) (rest : Option Value) → path_eq n m ≡ a → P m w
+      → (rest ≡ Some v → P n v) → (if a && b then Some w else rest) ≡ Some v → P n v
   first_call true true n m v w rest q h f e = subst (λ z. P z v) (sym (path_same.to n m q)) (subst (P m) (some_is e) h)
   first_call true false n m v w rest q h f e = f e
   first_call false b n m v w rest q h f e = f e
 
   all_calls : (cs : List Call) → AllCalls cs → (n : Path) (vs : Values) (v : Value) → call_value cs n vs ≡ Some v → P n v
   all_calls [] h n vs v e = absurd (none_is e)
-  all_calls (c ∷ cs) h n vs v e = first_call (path_eq n c.function) (same_values vs c.arguments) n c.function v c.value (call_value cs n vs) refl h.0 (all_calls cs h.1 n vs v) e
+  all_calls (c ∷ cs) h n vs v e =
+      first_call (path_eq n c.function) (same_values vs c.arguments) n c.function v c.value (call_value cs n vs)
+      refl h.0 (all_calls cs h.1 n vs v) e
 
 -- a value is of the function's return type, if there is one
 abbrev HasReturnType : Option ExtensionFunction → Value → Type 0
@@ -156,7 +168,8 @@ IsReturned n v = HasReturnType (function_named n extension_functions) v
 calls_fit : AllCalls IsReturned sample_functions.calls
 calls_fit = (refl, (refl, (refl, (refl, (tt, (tt, (refl, tt)))))))
 
-pub values_fit : (n : Path) (f : ExtensionFunction) → function_named n extension_functions ≡ Some f → (vs : Values) (v : Value) → call_value sample_functions.calls n vs ≡ Some v → HasType f.return_type v
+pub values_fit : (n : Path) (f : ExtensionFunction) → function_named n extension_functions ≡ Some f → (vs : Values)
+    (v : Value) → call_value sample_functions.calls n vs ≡ Some v → HasType f.return_type v
 values_fit n f h vs v e = subst (λ o. HasReturnType o v) h (all_calls IsReturned sample_functions.calls calls_fit n vs v e)
 
 table_kept : KeepsTable (table (sample Strict)) sample_functions

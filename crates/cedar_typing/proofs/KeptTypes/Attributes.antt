@@ -4,10 +4,13 @@ use Rattle.std.specs.List.{list_all}
 use Rattle.cedar_types.specs.declared.base.types.ValidationMode.TheVariants.{Permissive}
 use Rattle.cedar_types.specs.Names.{Text, Path, path_eq}
 use Rattle.cedar_types.specs.Lemmas.Comparisons.{and_left}
-use Rattle.cedar_types.specs.Types.{Ty, TNever, TBool, TLong, TString, TSet, TAnySet, TRecord, TEntity, TAnyEntity, TExtension, is_well_formed}
+use Rattle.cedar_types.specs.Types.{Ty, TNever, TBool, TLong, TString, TSet, TAnySet, TRecord, TEntity, TAnyEntity, TExtension}
+use Rattle.cedar_types.specs.Types.{is_well_formed}
 use Rattle.cedar_types.specs.Types.Bounds.{is_strict, lub}
-use Rattle.cedar_types.specs.Schemas.{Schema, DeclaredType, DeclaredAction, TypeKind, StandardKind, EnumKind, ExternalKind, has_fault, type_named, are_vague, is_vague, kind_is_definite, tags_pass}
-use Rattle.cedar_types.specs.Types.Lookups.{declared_kind_attribute, kind_attribute, declared_attribute, joined_attribute, types_attribute, attribute_type}
+use Rattle.cedar_types.specs.Schemas.{Schema, DeclaredType, DeclaredAction, TypeKind, StandardKind, EnumKind, ExternalKind, has_fault}
+use Rattle.cedar_types.specs.Schemas.{type_named, are_vague, is_vague, kind_is_definite, tags_pass}
+use Rattle.cedar_types.specs.Types.Lookups.{declared_kind_attribute, kind_attribute, declared_attribute, joined_attribute, types_attribute}
+use Rattle.cedar_types.specs.Types.Lookups.{attribute_type}
 use Rattle.cedar_types.specs.Schemas.Formed.{kind_is_formed, application_is_formed, has_formed_types}
 use Rattle.cedar_types.proofs.Schema.Faultless.{faultless}
 use Rattle.cedar_typing.specs.Evaluation.Conformance.{IsOneOf}
@@ -34,7 +37,8 @@ module _ (k : Keeping) where
   bound_kept r None h = tt
   bound_kept r (Some t) h = h
 
-  joined_kept : (k ≡ one_type → is_strict Permissive ≡ true) → (x y : Option (Ty × Bool)) → FoundKept x → FoundKept y → FoundKept (joined_attribute x y)
+  joined_kept : (k ≡ one_type → is_strict Permissive ≡ true) → (x y : Option (Ty × Bool)) → FoundKept x
+      → FoundKept y → FoundKept (joined_attribute x y)
   joined_kept f None y h n = tt
   joined_kept f (Some a) None h n = tt
   joined_kept f (Some a) (Some b) h n = bound_kept (a.1 && b.1) (lub Permissive a.0 b.0) (kept_lub k Permissive f a.0 b.0 h n)
@@ -43,7 +47,8 @@ module _ (k : Keeping) where
   if_found None f = tt
   if_found (Some a) f = f a.0 a.1 refl
 
-  kind_kept : (kind : TypeKind) (x : Text) → kind_is_definite kind ≡ true → (k ≡ ascending → kind_is_formed kind ≡ true) → FoundKept (kind_attribute x kind)
+  kind_kept : (kind : TypeKind) (x : Text) → kind_is_definite kind ≡ true
+      → (k ≡ ascending → kind_is_formed kind ≡ true) → FoundKept (kind_attribute x kind)
   kind_kept (StandardKind attrs tags) x d w =
       let definite = not_true (are_vague attrs) (and_left (not (are_vague attrs)) (tags_pass (λ t. not (is_vague t)) tags) d) in
       let record_type = TRecord attrs false in
@@ -54,7 +59,8 @@ module _ (k : Keeping) where
 
   module _ (s : Schema) (f : has_fault s ≡ false) (w : k ≡ ascending → has_formed_types s ≡ true) where
     -- the kind of each declared type says enough, and in Permissive it is formed
-    pub kind_says_enough : (d : DeclaredType) → IsOneOf d s.types → (kind_is_definite d.kind ≡ true) × (k ≡ ascending → kind_is_formed d.kind ≡ true)
+    pub kind_says_enough : (d : DeclaredType) → IsOneOf d s.types → (kind_is_definite d.kind ≡ true)
+        × (k ≡ ascending → kind_is_formed d.kind ≡ true)
     kind_says_enough d i =
         let definite = and_left (list_all (λ (d : DeclaredType). kind_is_definite d.kind) s.types) _ (faultless s f).definite in
         let types_formed = list_all (λ (d : DeclaredType). kind_is_formed d.kind) s.types in
@@ -73,7 +79,8 @@ module _ (k : Keeping) where
       pub declared_kept : (p : Path) → FoundKept (declared_attribute s.types x p)
       declared_kept p = type_kept p (type_named s.types p) refl
 
-      folded_kept : (k ≡ one_type → is_strict Permissive ≡ true) → (ps : List Path) (o : Option (Ty × Bool)) → FoundKept o → FoundKept (fold (λ found q. joined_attribute found (declared_attribute s.types x q)) o ps)
+      folded_kept : (k ≡ one_type → is_strict Permissive ≡ true) → (ps : List Path) (o : Option (Ty × Bool))
+          → FoundKept o → FoundKept (fold (λ found q. joined_attribute found (declared_attribute s.types x q)) o ps)
       folded_kept c [] o h = h
       folded_kept c (p ∷ ps) o h = folded_kept c ps _ (joined_kept c o (declared_attribute s.types x p) h (declared_kept p))
 
@@ -82,7 +89,8 @@ module _ (k : Keeping) where
       types_kept (p ∷ []) n = declared_kept p
       types_kept (p ∷ q ∷ ps) n = folded_kept (no_choice k p q ps n) (q ∷ ps) (declared_attribute s.types x p) (declared_kept p)
 
-    pub attribute_kept : (b : Ty) (x : Text) (t : Ty) (r : Bool) → IsKept k b → ◌≡◌ {A = Option (Ty × Bool)} (attribute_type s b x) (Some (t, r)) → IsKept k t
+    pub attribute_kept : (b : Ty) (x : Text) (t : Ty) (r : Bool) → IsKept k b
+        → ◌≡◌ {A = Option (Ty × Bool)} (attribute_type s b x) (Some (t, r)) → IsKept k t
     attribute_kept TNever x t r n e = cc
     attribute_kept (TBool j) x t r n e = cc
     attribute_kept TLong x t r n e = cc

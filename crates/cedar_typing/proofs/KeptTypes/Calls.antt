@@ -7,7 +7,8 @@ use Rattle.cedar_types.specs.Names.{Path, path_eq}
 use Rattle.cedar_types.specs.Types.{Ty, TNever, TBool, TLong, TString, TSet, TAnySet, TRecord, TEntity, TAnyEntity, TExtension}
 use Rattle.cedar_types.specs.Expressions.View.{Written}
 use Rattle.cedar_types.specs.Errors.{Finding}
-use Rattle.cedar_types.specs.Extensions.Functions.{ExtensionFunction, function_named, is_plain_type, may_be_returned, has_bad_return, table_fault}
+use Rattle.cedar_types.specs.Extensions.Functions.{ExtensionFunction, function_named, is_plain_type, may_be_returned, has_bad_return}
+use Rattle.cedar_types.specs.Extensions.Functions.{table_fault}
 use Rattle.cedar_typing.specs.Rules.Calls.{return_type, call_decides, call_errors, call_form}
 use Rattle.cedar_typing.specs.TypeEnv.{TypeEnv}
 use Rattle.cedar_typing.specs.TypedExpr.{Source}
@@ -24,19 +25,27 @@ not_bad f h = settle (may_be_returned f.return_type) h
     settle true h = refl
     settle false h = cc
 
-named_returns : (n : Path) (fs : List ExtensionFunction) (f : ExtensionFunction) → list_any has_bad_return fs ≡ false → function_named n fs ≡ Some f → may_be_returned f.return_type ≡ true
+named_returns : (n : Path) (fs : List ExtensionFunction) (f : ExtensionFunction)
+    → list_any has_bad_return fs ≡ false → function_named n fs ≡ Some f → may_be_returned f.return_type ≡ true
 named_returns n [] f h e = cc
-named_returns n (g ∷ gs) f h e = by_name (path_eq n g.name) e (named_returns n gs f (neither_right (has_bad_return g) (list_any has_bad_return gs) h))
+named_returns n (g ∷ gs) f h e =
+    by_name (path_eq n g.name) e
+    (named_returns n gs f (neither_right (has_bad_return g) (list_any has_bad_return gs) h))
   where
-    by_name : (b : Bool) → (if b then Some g else function_named n gs) ≡ Some f → (function_named n gs ≡ Some f → may_be_returned f.return_type ≡ true) → may_be_returned f.return_type ≡ true
-    by_name true e k = subst (λ z. may_be_returned z.return_type ≡ true) (some_is e) (not_bad g (neither_left (has_bad_return g) (list_any has_bad_return gs) h))
+    by_name : (b : Bool) → (if b then Some g else function_named n gs) ≡ Some f
+        → (function_named n gs ≡ Some f → may_be_returned f.return_type ≡ true)
+        → may_be_returned f.return_type ≡ true
+    by_name true e k =
+        subst (λ z. may_be_returned z.return_type ≡ true) (some_is e)
+        (not_bad g (neither_left (has_bad_return g) (list_any has_bad_return gs) h))
     by_name false e k = k e
 
 no_fault : (b : Bool) (x : ExtensionTableError) (r : Option ExtensionTableError) → (if b then Some x else r) ≡ None → b ≡ false
 no_fault true x r h = cc
 no_fault false x r h = refl
 
-pub function_returns : (n : Path) (fs : List ExtensionFunction) (f : ExtensionFunction) → function_named n fs ≡ Some f → table_fault fs ≡ None → may_be_returned f.return_type ≡ true
+pub function_returns : (n : Path) (fs : List ExtensionFunction) (f : ExtensionFunction)
+    → function_named n fs ≡ Some f → table_fault fs ≡ None → may_be_returned f.return_type ≡ true
 function_returns n fs f e h = named_returns n fs f (no_fault (list_any has_bad_return fs) _ _ h) e
 
 -- ---- calls

@@ -12,7 +12,8 @@ use Rattle.cedar_types.specs.Errors.{Finding}
 use Rattle.cedar_typing.specs.Capabilities.{no_caps}
 use Rattle.cedar_typing.specs.Eager.{gives, gives_unless, first_type, second_type}
 use Rattle.cedar_typing.specs.TypeTests.Joins.{strict_errors}
-use Rattle.cedar_typing.specs.Rules.Equality.{literal_of, compared_literals, are_apart, equality_type, equality_decides, equality_form, member_type, contains_form, contains_several_form}
+use Rattle.cedar_typing.specs.Rules.Equality.{literal_of, compared_literals, are_apart, equality_type, equality_decides, equality_form}
+use Rattle.cedar_typing.specs.Rules.Equality.{member_type, contains_form, contains_several_form}
 use Rattle.cedar_typing.specs.TypeEnv.{TypeEnv}
 use Rattle.cedar_typing.specs.TypeTests.{is_any_bool}
 use Rattle.cedar_typing.specs.TypedExpr.{Source}

@@ -1,11 +1,14 @@
 -- Each type that is found is kept to: all expressions.
-use Rattle.std.proofs.Common.{◌≡◌, ℕ, ◌+◌, Bool, true, false, List, [], ◌∷◌, Option, Some, None, ◌&&◌, ◌||◌, if◌then◌else◌, refl, sym, subst}
+use Rattle.std.proofs.Common.{◌≡◌, ℕ, ◌+◌, Bool, true, false, List, [], ◌∷◌, Option, Some, None, ◌&&◌, ◌||◌, if◌then◌else◌, refl, sym}
+use Rattle.std.proofs.Common.{subst}
 use Rattle.cedar_types.specs.declared.base.expressions.operators.Var.{Var}
 use Rattle.cedar_types.specs.declared.base.types.BoolType.TheVariants.{AnyBool, True, False}
 use Rattle.cedar_types.specs.declared.base.types.ValidationMode.{ValidationMode}
 use Rattle.cedar_types.specs.Names.{Text, Path, Uid}
 use Rattle.cedar_types.specs.Types.{Ty, TNever, TBool, TEntity}
-use Rattle.cedar_types.specs.Expressions.Tree.{Lit, bool, long, string, entity, lit, var, slot, unknown, if_then_else, and, or, unary, binary, call, get_attr, has_attr, ext_has_attr, like, is_type, set_of, record_of, Trees, no_trees, tree, Fields, no_fields, field}
+use Rattle.cedar_types.specs.Expressions.Tree.{Lit, bool, long, string, entity, lit, var, slot, unknown, if_then_else, and, or, unary}
+use Rattle.cedar_types.specs.Expressions.Tree.{binary, call, get_attr, has_attr, ext_has_attr, like, is_type, set_of, record_of, Trees}
+use Rattle.cedar_types.specs.Expressions.Tree.{no_trees, tree, Fields, no_fields, field}
 use Rattle.cedar_types.specs.Expressions.View.{Written}
 use Rattle.cedar_types.specs.Types.Lookups.{declares_entity, literal_type, attribute_type, may_have}
 use Rattle.cedar_types.specs.Environments.{DeclaredEnv, environments_of}
@@ -23,7 +26,8 @@ use Rattle.cedar_typing.specs.Rules.Calls.{arguments, call_form}
 use Rattle.cedar_typing.specs.Rules.Chains.{chain_form}
 use Rattle.cedar_typing.specs.Rules.Records.{field_keys, record_form}
 use Rattle.cedar_typing.specs.Rules.Sets.{set_form}
-use Rattle.cedar_typing.specs.Rules.Leaves.{leaf_rules, unknown_rules, leaf_missing, unknown_fails, variable_type, type_of_literal, known_entity_type, unknown_entity_type, LeafRule, leaf, LeafRecovery, UnknownRecovery}
+use Rattle.cedar_typing.specs.Rules.Leaves.{leaf_rules, unknown_rules, leaf_missing, unknown_fails, variable_type, type_of_literal}
+use Rattle.cedar_typing.specs.Rules.Leaves.{known_entity_type, unknown_entity_type, LeafRule, leaf, LeafRecovery, UnknownRecovery}
 use Rattle.cedar_typing.specs.Rules.ShortCircuit.{conjunction, disjunction}
 use Rattle.cedar_typing.specs.Rules.Unary.{unary_form, like_form, is_form}
 use Rattle.cedar_typing.specs.Setting.{Setting}
@@ -37,7 +41,8 @@ use Rattle.cedar_typing.proofs.KeptTypes.Calls.{call_kept}
 use Rattle.cedar_typing.proofs.KeptTypes.Chains.{chain_kept}
 use Rattle.cedar_typing.proofs.KeptTypes.Records.{record_kept}
 use Rattle.cedar_typing.proofs.KeptTypes.Sets.{set_kept}
-use Rattle.cedar_typing.proofs.KeptTypes.Eager.{KeptForm, KeepsAll, none_kept, more_kept, form_kept, decided_type, one_operand_kept, two_operands_kept}
+use Rattle.cedar_typing.proofs.KeptTypes.Eager.{KeptForm, KeepsAll, none_kept, more_kept, form_kept, decided_type, one_operand_kept}
+use Rattle.cedar_typing.proofs.KeptTypes.Eager.{two_operands_kept}
 use Rattle.cedar_typing.proofs.KeptTypes.Keeping.{HasKept, IsKeeping, pick, truth_value_kept}
 use Rattle.cedar_typing.proofs.KeptTypes.Operators.{unary_kept, unary_failed_kept, binary_kept, binary_failed_kept, like_kept, is_kept}
 use Rattle.cedar_typing.proofs.KeptTypes.Rules.{KeepsTypes, short_circuit_kept, if_kept}
@@ -65,20 +70,32 @@ module _ (Kept : Ty → Type 0) (env : TypeEnv) (keeps : IsKeeping Kept env) whe
   literal_kept (bool b) = truth_value_kept Kept env keeps b
   literal_kept (long n) = keeps.longs
   literal_kept (string t) = keeps.strings
-  literal_kept (entity u) = known_kept (literal_type env.schema u) (unknown_entity_type env.mode u) (entity_kept u) (unknown_type_kept env.mode u)
+  literal_kept (entity u) =
+      known_kept (literal_type env.schema u) (unknown_entity_type env.mode u) (entity_kept u)
+      (unknown_type_kept env.mode u)
 
   -- the same, of an environment
   abbrev in_environment : Env → TypeEnv
-  in_environment r = record { schema = env.schema; mode = env.mode; request_env = r; overloaded_types = env.overloaded_types; policy = env.policy }
+  in_environment r =
+      record {
+        schema = env.schema;
+        mode = env.mode;
+        request_env = r;
+        overloaded_types =
+            env.overloaded_types;
+        policy = env.policy;
+      }
 
-  declared_kept : (d : DeclaredEnv) (ps rs : Option Path) → IsOneOf d (environments_of env.schema.actions) → (x : Var) → HasKept Kept (variable_type (in_environment (Declared d ps rs)) x)
+  declared_kept : (d : DeclaredEnv) (ps rs : Option Path) → IsOneOf d (environments_of env.schema.actions)
+      → (x : Var) → HasKept Kept (variable_type (in_environment (Declared d ps rs)) x)
   declared_kept d ps rs i Var.Principal = keeps.entities d.principal
   declared_kept d ps rs i Var.Action = entity_kept d.action
   declared_kept d ps rs i Var.Resource = keeps.entities d.resource
   declared_kept d ps rs i Var.Context = keeps.contexts d i
 
   variable_kept : (r : Env) → env.request_env ≡ r → IsEnvironmentOf env.schema r → (x : Var) → HasKept Kept (variable_type env x)
-  variable_kept (Declared d ps rs) e i x = subst (λ r. HasKept Kept (variable_type (in_environment r) x)) (sym e) (declared_kept d ps rs i x)
+  variable_kept (Declared d ps rs) e i x =
+      subst (λ r. HasKept Kept (variable_type (in_environment r) x)) (sym e) (declared_kept d ps rs i x)
   variable_kept Undeclared e i x = absurd i
 
   module _ (m : Written) (node : Mark → TypedTree) (at : (k : Mark) → annotation (node k) ≡ k.ty) (found : Option Ty) where
@@ -91,7 +108,8 @@ module _ (Kept : Ty → Type 0) (env : TypeEnv) (keeps : IsKeeping Kept env) whe
     leaf_kept : HasKept Kept found → Marks (leaf_rules found m node).derives → KeepsTypes Kept (leaf_rules found m node)
     leaf_kept n h = record { derivations = leaf_derived n; recoveries = leaf_recovered; marks = h }
 
-  unknown_recovery_kept : (n : Path) (m : Written) (x : TypedTree) (es : List Finding) → UnknownRecovery n m x es → HasKept Kept (annotation x)
+  unknown_recovery_kept : (n : Path) (m : Written) (x : TypedTree) (es : List Finding) → UnknownRecovery n m x es
+      → HasKept Kept (annotation x)
   unknown_recovery_kept n m x es unknown_fails = tt
 
   unknown_kept : (n : Path) (m : Written) → KeepsTypes Kept (unknown_rules n m)
@@ -100,8 +118,11 @@ module _ (Kept : Ty → Type 0) (env : TypeEnv) (keeps : IsKeeping Kept env) whe
   -- ---- `has` and `.`
 
   module _ (m : Written) (prior : Caps) (e : Source) (x : Text) where
-    has_decided : (s : Ty) (a : Option (Ty × Bool)) → HasKept Kept (decided_type (has_decides env x (attribute_of e x) (prior (attribute_of e x)) s a))
-    has_decided s (Some a) = pick Kept (prior (attribute_of e x) || (a.1 && is_record_type s)) (TBool True) _ (keeps.booleans True) (keeps.booleans AnyBool)
+    has_decided : (s : Ty) (a : Option (Ty × Bool))
+        → HasKept Kept (decided_type (has_decides env x (attribute_of e x) (prior (attribute_of e x)) s a))
+    has_decided s (Some a) =
+        pick Kept (prior (attribute_of e x) || (a.1 && is_record_type s)) (TBool True) _ (keeps.booleans True)
+        (keeps.booleans AnyBool)
     has_decided s None = pick Kept (may_have env.schema s x) (TBool AnyBool) _ (keeps.booleans AnyBool) (keeps.booleans False)
 
     has_kept : KeptForm Kept (has_form env m prior e x)
@@ -109,16 +130,19 @@ module _ (Kept : Ty → Type 0) (env : TypeEnv) (keeps : IsKeeping Kept env) whe
     has_kept (None ∷ ts) h = keeps.booleans AnyBool
     has_kept (Some s ∷ ts) h = has_decided s (attribute_type env.schema s x)
 
-    guarded : (b : Bool) (t : Ty) (fs : List Finding) → Kept t → HasKept Kept (decided_type (if b then gives t no_caps else refuses (Some t) fs))
+    guarded : (b : Bool) (t : Ty) (fs : List Finding) → Kept t
+        → HasKept Kept (decided_type (if b then gives t no_caps else refuses (Some t) fs))
     guarded true t fs h = h
     guarded false t fs h = h
 
-    hidden : (partial may : Bool) (fs : List Finding) → is_partial env.mode ≡ partial → HasKept Kept (decided_type (if partial && may then gives TNever no_caps else refuses None fs))
+    hidden : (partial may : Bool) (fs : List Finding) → is_partial env.mode ≡ partial
+        → HasKept Kept (decided_type (if partial && may then gives TNever no_caps else refuses None fs))
     hidden true true fs n = keeps.hidden n
     hidden true false fs n = tt
     hidden false may fs n = tt
 
-    get_decided : (s : Ty) (a : Option (Ty × Bool)) → Kept s → attribute_type env.schema s x ≡ a → HasKept Kept (decided_type (get_decides env m.place x (prior (attribute_of e x)) s a))
+    get_decided : (s : Ty) (a : Option (Ty × Bool)) → Kept s → attribute_type env.schema s x ≡ a
+        → HasKept Kept (decided_type (get_decides env m.place x (prior (attribute_of e x)) s a))
     get_decided s (Some a) h q = guarded (a.1 || prior (attribute_of e x)) a.0 _ (keeps.attributes s x a.0 a.1 h q)
     get_decided s None h q = hidden (is_partial env.mode) (may_have env.schema s x) _ refl
 
@@ -136,7 +160,9 @@ within_kept Kept d J s = record {
   marks = λ t c x h. s.marks t c x h.1;
 }
 
-module _ (Kept : Ty → Type 0) (s : Setting) (keeps : IsKeeping Kept s.env) (table_faults : table_fault s.functions ≡ None) (environment : IsEnvironmentOf s.env.schema s.env.request_env) where
+module _ (Kept : Ty → Type 0) (s : Setting) (keeps : IsKeeping Kept s.env)
+    (table_faults : table_fault s.functions ≡ None)
+    (environment : IsEnvironmentOf s.env.schema s.env.request_env) where
   deeper : {J : Judgment} (d : ℕ) → KeepsTypes Kept J → KeepsTypes Kept (within (d + 1) J)
   deeper d = within_kept Kept (d + 1) _
 
@@ -148,7 +174,8 @@ module _ (Kept : Ty → Type 0) (s : Setting) (keeps : IsKeeping Kept s.env) (ta
     kept_within (lit m x) prior d =
         leaf_kept Kept s.env keeps m (λ k. lit k x) (λ k. refl) _ (literal_kept Kept s.env keeps x) (marks_of (lit m x) prior d)
     kept_within (var m x) prior d =
-        leaf_kept Kept s.env keeps m (λ k. var k x) (λ k. refl) _ (variable_kept Kept s.env keeps s.env.request_env refl environment x) (marks_of (var m x) prior d)
+        leaf_kept Kept s.env keeps m (λ k. var k x) (λ k. refl)
+        _ (variable_kept Kept s.env keeps s.env.request_env refl environment x) (marks_of (var m x) prior d)
     kept_within (slot m x) prior d =
         leaf_kept Kept s.env keeps m (λ k. slot k x) (λ k. refl) _ (keeps.slots x) (marks_of (slot m x) prior d)
     kept_within (unknown m n) prior d = unknown_kept Kept s.env keeps n m
@@ -198,10 +225,13 @@ module _ (Kept : Ty → Type 0) (s : Setting) (keeps : IsKeeping Kept s.env) (ta
         (λ t h. h) _ (fields_are_kept fs prior (d + 1)) (marks_of (record_of m fs) prior d)
 
     -- expressions one after another
-    pub all_are_kept : (goes_on : Bool) (qs : List Expectation) (ts : Trees Written) (prior : Caps) (d : ℕ) → KeepsAll Kept (rules_all s goes_on qs ts prior d)
+    pub all_are_kept : (goes_on : Bool) (qs : List Expectation) (ts : Trees Written) (prior : Caps) (d : ℕ)
+        → KeepsAll Kept (rules_all s goes_on qs ts prior d)
     all_are_kept goes_on qs no_trees prior d = none_kept Kept
     all_are_kept goes_on qs (tree e ts) prior d =
-        more_kept Kept s.env goes_on (first_expectation qs) (place_of e) _ (within_kept Kept d _ (kept_within e prior d)) _ (all_are_kept goes_on (later_expectations qs) ts prior d)
+        more_kept Kept s.env goes_on (first_expectation qs) (place_of e)
+        _ (within_kept Kept d _ (kept_within e prior d))
+        _ (all_are_kept goes_on (later_expectations qs) ts prior d)
 
     -- the values of fields
     pub fields_are_kept : (fs : Fields Written) (prior : Caps) (d : ℕ) → KeepsAll Kept (rules_fields s fs prior d)

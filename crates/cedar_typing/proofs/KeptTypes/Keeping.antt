@@ -49,7 +49,8 @@ pub record IsKeeping (Kept : Ty → Type 0) (env : TypeEnv) : Type 0 where
   pub empty_sets : is_strict env.mode ≡ false → Kept (TSet TNever)
   pub records : (ks : List Text) (ts : List Ty) → texts_ascending ks ≡ true → AreKept Kept ts → Kept (TRecord (required_attrs ks ts) false)
   pub bounds : (s t : Ty) → Kept s → Kept t → HasKept Kept (lub env.mode s t)
-  pub attributes : (b : Ty) (x : Text) (t : Ty) (r : Bool) → Kept b → ◌≡◌ {A = Option (Ty × Bool)} (attribute_type env.schema b x) (Some (t, r)) → Kept t
+  pub attributes : (b : Ty) (x : Text) (t : Ty) (r : Bool) → Kept b
+      → ◌≡◌ {A = Option (Ty × Bool)} (attribute_type env.schema b x) (Some (t, r)) → Kept t
   -- an attribute that a schema in part may have left out
   pub hidden : is_partial env.mode ≡ true → Kept TNever
   pub tags : (b : Ty) → AreAll Kept (tag_types env.schema b)

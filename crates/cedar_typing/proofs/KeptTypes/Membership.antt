@@ -10,7 +10,8 @@ use Rattle.cedar_types.specs.Environments.RequestEnvs.{is_partial}
 use Rattle.cedar_typing.specs.Capabilities.{no_caps}
 use Rattle.cedar_typing.specs.Eager.{Decision, gives, refuses, first_type, second_type}
 use Rattle.cedar_typing.specs.Rules.Leaves.{bool_ty}
-use Rattle.cedar_typing.specs.Rules.Membership.{entity_of, ancestors_of, is_action, is_action_in, only_actions, action_decides, types_of_entity, types_of_ancestors, may_be_among, entity_decides, in_decides, in_form}
+use Rattle.cedar_typing.specs.Rules.Membership.{entity_of, ancestors_of, is_action, is_action_in, only_actions, action_decides}
+use Rattle.cedar_typing.specs.Rules.Membership.{types_of_entity, types_of_ancestors, may_be_among, entity_decides, in_decides, in_form}
 use Rattle.cedar_typing.specs.TypeEnv.{TypeEnv}
 use Rattle.cedar_typing.specs.TypedExpr.{Source}
 use Rattle.cedar_typing.proofs.KeptTypes.Eager.{decided_type, KeptForm, KeptIfFailed}
@@ -25,7 +26,8 @@ module _ (Kept : Ty → Type 0) (env : TypeEnv) (keeps : IsKeeping Kept env) (m 
   either_kept false d e h k = k
 
   action_kept : (declared partial is_in : Bool)
-      → DecidesKept (if declared then gives (bool_ty is_in) no_caps else if partial then gives (TBool AnyBool) no_caps else refuses (Some (TBool AnyBool)) [])
+      → DecidesKept (if declared then gives (bool_ty is_in) no_caps else if partial
+      then gives (TBool AnyBool) no_caps else refuses (Some (TBool AnyBool)) [])
   action_kept true partial is_in = truth_value_kept Kept env keeps is_in
   action_kept false true is_in = keeps.booleans AnyBool
   action_kept false false is_in = keeps.booleans AnyBool

@@ -24,7 +24,8 @@ use Rattle.cedar_typing.proofs.KeptTypes.Induction.{types_are_kept}
 use Rattle.cedar_typing.proofs.KeptTypes.Keeping.{IsKeeping}
 use Rattle.cedar_typing.proofs.KeptTypes.RecordTypes.{record_kept}
 use Rattle.cedar_typing.proofs.KeptTypes.Rules.{KeepsTypes}
-use Rattle.cedar_typing.proofs.KeptTypes.Types.{Keeping, one_type, ascending, no_any_entity, allowed, is_made_of, IsKept, keeping, KeptIn, one_kept}
+use Rattle.cedar_typing.proofs.KeptTypes.Types.{Keeping, one_type, ascending, no_any_entity, allowed, is_made_of, IsKept, keeping, KeptIn}
+use Rattle.cedar_typing.proofs.KeptTypes.Types.{one_kept}
 
 -- where typing keeps to it, by a schema without faults
 abbrev pub Applies : Keeping → TypeEnv → Type 0
@@ -104,16 +105,20 @@ keeps k env f w = record {
 }
 
 -- in Strict, and in Permissive where the types of the schema are formed
-in_mode : (strictly : Bool) (env : TypeEnv) → is_strict env.mode ≡ strictly → is_partial env.mode ≡ false → (strictly || has_formed_types env.schema) ≡ true
+in_mode : (strictly : Bool) (env : TypeEnv) → is_strict env.mode ≡ strictly → is_partial env.mode ≡ false
+    → (strictly || has_formed_types env.schema) ≡ true
     → Applies (keeping strictly) env
 in_mode true env strict total formed = strict
 in_mode false env strict total formed = (total, formed)
 
-pub keeps_in_mode : (strictly : Bool) (env : TypeEnv) → is_strict env.mode ≡ strictly → is_partial env.mode ≡ false → has_fault env.schema ≡ false → (strictly || has_formed_types env.schema) ≡ true
+pub keeps_in_mode : (strictly : Bool) (env : TypeEnv) → is_strict env.mode ≡ strictly → is_partial env.mode ≡ false
+    → has_fault env.schema ≡ false → (strictly || has_formed_types env.schema) ≡ true
     → IsKeeping (KeptIn strictly) env
 keeps_in_mode strictly env strict total faults formed = keeps (keeping strictly) env faults (in_mode strictly env strict total formed)
 
 -- no type that is found says any entity, where both slots are linked
-pub no_any_entity_types : (s : Setting) → has_fault s.env.schema ≡ false → table_fault s.functions ≡ None → IsEnvironmentOf s.env.schema s.env.request_env
+pub no_any_entity_types : (s : Setting) → has_fault s.env.schema ≡ false → table_fault s.functions ≡ None
+    → IsEnvironmentOf s.env.schema s.env.request_env
     → LinksBothSlots s.env.request_env → (e : Source) (prior : Caps) (d : ℕ) → KeepsTypes (IsKept no_any_entity) (rules s e prior d)
-no_any_entity_types s faults table_faults environment links = types_are_kept (IsKept no_any_entity) s (keeps no_any_entity s.env faults links) table_faults environment
+no_any_entity_types s faults table_faults environment links =
+    types_are_kept (IsKept no_any_entity) s (keeps no_any_entity s.env faults links) table_faults environment

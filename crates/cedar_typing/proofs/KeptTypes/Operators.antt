@@ -32,7 +32,8 @@ unless_is : (es : List Finding) → decided_type (gives_unless es (TBool AnyBool
 unless_is [] = refl
 unless_is (e ∷ es) = refl
 
-if_is : (b : Bool) (d d' : Decision) → decided_type d ≡ Some (TBool AnyBool) → decided_type d' ≡ Some (TBool AnyBool) → decided_type (if b then d else d') ≡ Some (TBool AnyBool)
+if_is : (b : Bool) (d d' : Decision) → decided_type d ≡ Some (TBool AnyBool)
+    → decided_type d' ≡ Some (TBool AnyBool) → decided_type (if b then d else d') ≡ Some (TBool AnyBool)
 if_is true d d' h k = h
 if_is false d d' h k = k
 
@@ -54,7 +55,9 @@ module _ (Kept : Ty → Type 0) (env : TypeEnv) (keeps : IsKeeping Kept env) (m 
   pub unary_kept : (o : UnaryOp) → KeptForm Kept (unary_form m o)
   unary_kept UnaryOp.Not [] h = keeps.booleans AnyBool
   unary_kept UnaryOp.Not (None ∷ ts) h = keeps.booleans AnyBool
-  unary_kept UnaryOp.Not (Some s ∷ ts) h = pick Kept (is_true s) _ _ (keeps.booleans False) (pick Kept (is_false s) (TBool True) _ (keeps.booleans True) (keeps.booleans AnyBool))
+  unary_kept UnaryOp.Not (Some s ∷ ts) h =
+      pick Kept (is_true s) _ _ (keeps.booleans False)
+      (pick Kept (is_false s) (TBool True) _ (keeps.booleans True) (keeps.booleans AnyBool))
   unary_kept UnaryOp.Neg ts h = keeps.longs
   unary_kept UnaryOp.IsEmpty ts h = keeps.booleans AnyBool
 
@@ -62,7 +65,9 @@ module _ (Kept : Ty → Type 0) (env : TypeEnv) (keeps : IsKeeping Kept env) (m 
   like_kept p ts h = keeps.booleans AnyBool
 
   is_type_kept : (n : Path) (ps : List Path) → Kept (is_type_of n ps)
-  is_type_kept n ps = pick Kept (not (is_among ps n)) (TBool False) _ (keeps.booleans False) (pick Kept (is_some (sole ps)) (TBool True) _ (keeps.booleans True) (keeps.booleans AnyBool))
+  is_type_kept n ps =
+      pick Kept (not (is_among ps n)) (TBool False) _ (keeps.booleans False)
+      (pick Kept (is_some (sole ps)) (TBool True) _ (keeps.booleans True) (keeps.booleans AnyBool))
 
   is_decided : (n : Path) (s : Ty) → HasKept Kept (decided_type (is_decides n (Some s)))
   is_decided n (TEntity ps) = is_type_kept n ps

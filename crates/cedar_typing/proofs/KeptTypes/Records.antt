@@ -22,7 +22,9 @@ module _ (Kept : Ty → Type 0) (env : TypeEnv) (keeps : IsKeeping Kept env) (m 
     fields_kept ts (Some us) h e = by_keys (texts_ascending ks) refl
       where
         by_keys : (b : Bool) → texts_ascending ks ≡ b
-            → HasKept Kept (decided_type (if b then gives (TRecord (required_attrs ks us) false) no_caps else refuses None (finding env m.place internal_invariant_violation ∷ [])))
+            → HasKept Kept
+            (decided_type (if b then gives (TRecord (required_attrs ks us) false) no_caps
+            else refuses None (finding env m.place internal_invariant_violation ∷ [])))
         by_keys true a = keeps.records ks us a (found_kept Kept ts us h e)
         by_keys false a = tt
 

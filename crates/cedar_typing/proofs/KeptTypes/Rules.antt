@@ -8,8 +8,11 @@ use Rattle.cedar_types.specs.Errors.{Finding}
 use Rattle.cedar_typing.specs.Capabilities.{Caps, union}
 use Rattle.cedar_typing.specs.TypeTests.Joins.{joined}
 use Rattle.cedar_typing.specs.Judgments.{derived, recovered, accepted, refused, missing, Judgment, PartResult, Operand}
-use Rattle.cedar_typing.specs.Rules.Conditional.{if_true_recovered, if_false_recovered, if_open_recovered, if_true, if_false, if_open, if_rules}
-use Rattle.cedar_typing.specs.Rules.ShortCircuit.{Side, right_ends, left_alone, right_alone, neither, Connective, side_of, type_of_side, sides_type, sides_annotation, short_circuit_rules, left_ends, both_sides, left_ends_failed, side_failed}
+use Rattle.cedar_typing.specs.Rules.Conditional.{if_true_recovered, if_false_recovered, if_open_recovered, if_true, if_false, if_open}
+use Rattle.cedar_typing.specs.Rules.Conditional.{if_rules}
+use Rattle.cedar_typing.specs.Rules.ShortCircuit.{Side, right_ends, left_alone, right_alone, neither, Connective, side_of, type_of_side}
+use Rattle.cedar_typing.specs.Rules.ShortCircuit.{sides_type, sides_annotation, short_circuit_rules, left_ends, both_sides}
+use Rattle.cedar_typing.specs.Rules.ShortCircuit.{left_ends_failed, side_failed}
 use Rattle.cedar_typing.specs.TypeEnv.{TypeEnv}
 use Rattle.cedar_typing.specs.TypeTests.{bool_types}
 use Rattle.cedar_typing.specs.TypedExpr.{TypedTree, Mark, mark_of, annotation}
@@ -26,7 +29,8 @@ pub record KeepsTypes (Kept : Ty → Type 0) (J : Judgment) : Type 0 where
 -- ---- parts and operands
 
 module _ (Kept : Ty → Type 0) (J : Judgment) (n : KeepsTypes Kept J) where
-  pub part_kept : (succeeded : Bool) (c : Caps) (x : TypedTree) (es : List Finding) → PartResult J succeeded c x es → HasKept Kept (annotation x)
+  pub part_kept : (succeeded : Bool) (c : Caps) (x : TypedTree) (es : List Finding) → PartResult J succeeded c x es
+      → HasKept Kept (annotation x)
   part_kept succeeded c x es (derived {t = t} h) = subst (HasKept Kept) (sym (n.marks t c x h)) (n.derivations t c x h)
   part_kept succeeded c x es (recovered h) = n.recoveries x es h
 
@@ -60,19 +64,24 @@ module _ (Kept : Ty → Type 0) (env : TypeEnv) (keeps : IsKeeping Kept env) whe
 
   -- ---- the rules
 
-  module _ (m : Written) (l : Option Loc) (A : Judgment) (B : Caps → Judgment) (prior : Caps) (a : KeepsTypes Kept A) (b : (p : Caps) → KeepsTypes Kept (B p)) where
+  module _ (m : Written) (l : Option Loc) (A : Judgment) (B : Caps → Judgment) (prior : Caps)
+      (a : KeepsTypes Kept A) (b : (p : Caps) → KeepsTypes Kept (B p)) where
     module _ (f : Connective) (node_mark : (k : Mark) (x y : TypedTree) → mark_of (f.node k x y) ≡ k) (l' : Option Loc) where
       abbrev Sides : Judgment
       Sides = short_circuit_rules env f m l l' A B prior
 
       sides_derived : (t : Ty) (c : Caps) (x : TypedTree) → Sides.derives t c x → Kept t
       sides_derived t c x (left_ends d p n) = a.derivations _ _ _ d
-      sides_derived t c x (both_sides {s = s} {t = u} {c = k} d p n d' q) = sides_kept f s u (a.derivations _ _ _ d) ((b (f.right_prior prior k)).derivations _ _ _ d')
+      sides_derived t c x (both_sides {s = s} {t = u} {c = k} d p n d' q) =
+          sides_kept f s u (a.derivations _ _ _ d) ((b (f.right_prior prior k)).derivations _ _ _ d')
 
       sides_recovered : (x : TypedTree) (es : List Finding) → Sides.recovers x es → HasKept Kept (annotation x)
-      sides_recovered x es (left_ends_failed {a = y} p n) = subst (HasKept Kept) (sym (annotation-at_place m.place y)) (operand_kept Kept A a env bool_types l _ _ _ _ p)
+      sides_recovered x es (left_ends_failed {a = y} p n) =
+          subst (HasKept Kept) (sym (annotation-at_place m.place y))
+          (operand_kept Kept A a env bool_types l _ _ _ _ p)
       sides_recovered x es (side_failed {c = k} {a = y} {b = z} p n p' q) =
-          let h = annotation_kept f _ _ (operand_kept Kept A a env bool_types l _ _ _ _ p) (operand_kept Kept _ (b (f.right_prior prior k)) env bool_types l' _ _ _ _ p') in
+          let h = annotation_kept f _ _ (operand_kept Kept A a env bool_types l _ _ _ _ p)
+          (operand_kept Kept _ (b (f.right_prior prior k)) env bool_types l' _ _ _ _ p') in
           subst (HasKept Kept) (sym (ap (λ (i : Mark). i.ty) (node_mark _ y z))) h
 
       pub short_circuit_kept : Marks Sides.derives → KeepsTypes Kept Sides
@@ -85,12 +94,15 @@ module _ (Kept : Ty → Type 0) (env : TypeEnv) (keeps : IsKeeping Kept env) whe
       if_derived : (t : Ty) (c : Caps) (x : TypedTree) → Choice.derives t c x → Kept t
       if_derived t c x (if_true {c = k} d d') = (b (union prior k)).derivations _ _ _ d'
       if_derived t c x (if_false d d') = e.derivations _ _ _ d'
-      if_derived t c x (if_open {t = s} {u = u} {c = k} d p n n' d' d'' h) = subst (HasKept Kept) h (joined_kept (Some s) (Some u) ((b (union prior k)).derivations _ _ _ d') (e.derivations _ _ _ d''))
+      if_derived t c x (if_open {t = s} {u = u} {c = k} d p n n' d' d'' h) =
+          subst (HasKept Kept) h (joined_kept (Some s) (Some u) ((b (union prior k)).derivations _ _ _ d')
+          (e.derivations _ _ _ d''))
 
       if_recovered : (x : TypedTree) (es : List Finding) → Choice.recovers x es → HasKept Kept (annotation x)
       if_recovered x es (if_true_recovered {c = k} p n q g) = part_kept Kept _ (b (union prior k)) _ _ _ _ q
       if_recovered x es (if_false_recovered p n q g) = part_kept Kept E e _ _ _ _ q
-      if_recovered x es (if_open_recovered {c = k} p n n' q q' g) = joined_kept _ _ (part_kept Kept _ (b (union prior k)) _ _ _ _ q) (part_kept Kept E e _ _ _ _ q')
+      if_recovered x es (if_open_recovered {c = k} p n n' q q' g) =
+          joined_kept _ _ (part_kept Kept _ (b (union prior k)) _ _ _ _ q) (part_kept Kept E e _ _ _ _ q')
 
       pub if_kept : Marks Choice.derives → KeepsTypes Kept Choice
       if_kept h = record { derivations = if_derived; recoveries = if_recovered; marks = h }

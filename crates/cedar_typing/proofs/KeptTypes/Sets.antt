@@ -35,7 +35,8 @@ some_types (Some t) (Some ts) e = cc
 module _ (Kept : Ty → Type 0) (env : TypeEnv) (keeps : IsKeeping Kept env) (m : Written) where
   -- ---- the bound of several types
 
-  gone_on_kept : (bound : Option Ty) (next : Ty → Option Ty) → HasKept Kept bound → ((z : Ty) → Kept z → HasKept Kept (next z)) → HasKept Kept (go_on bound next)
+  gone_on_kept : (bound : Option Ty) (next : Ty → Option Ty) → HasKept Kept bound
+      → ((z : Ty) → Kept z → HasKept Kept (next z)) → HasKept Kept (go_on bound next)
   gone_on_kept None next h f = tt
   gone_on_kept (Some z) next h f = f z h
 
@@ -56,7 +57,10 @@ module _ (Kept : Ty → Type 0) (env : TypeEnv) (keeps : IsKeeping Kept env) (m 
       let all = found_kept Kept (t ∷ ts) (u ∷ us) h e in
       by_bound_kept (u ∷ us) (list_lub env.mode (u ∷ us)) (fold_kept u us all.0 all.1)
 
-  empty_kept : (b : Bool) → is_strict env.mode ≡ b → HasKept Kept (decided_type (if b then refuses None (finding env m.place empty_set_forbidden ∷ []) else set_of_types env m.place (Some [])))
+  empty_kept : (b : Bool) → is_strict env.mode ≡ b
+      → HasKept Kept (decided_type
+      (if b then refuses None (finding env m.place empty_set_forbidden ∷ [])
+      else set_of_types env m.place (Some [])))
   empty_kept true e = tt
   empty_kept false e = keeps.empty_sets e
 

@@ -8,7 +8,8 @@ use Rattle.cedar_types.specs.Types.Lookups.{tag_types}
 use Rattle.cedar_types.specs.Errors.{Finding}
 use Rattle.cedar_typing.specs.Capabilities.{Caps}
 use Rattle.cedar_typing.specs.Eager.{refuses}
-use Rattle.cedar_typing.specs.Rules.Tags.{tag_of, has_tag_type, has_tag_table, has_tag_form, tag_by_bound, get_known_tag, get_tag_table, get_tag_form}
+use Rattle.cedar_typing.specs.Rules.Tags.{tag_of, has_tag_type, has_tag_table, has_tag_form, tag_by_bound, get_known_tag, get_tag_table}
+use Rattle.cedar_typing.specs.Rules.Tags.{get_tag_form}
 use Rattle.cedar_typing.specs.TypeEnv.{TypeEnv}
 use Rattle.cedar_typing.specs.TypedExpr.{Source}
 use Rattle.cedar_typing.proofs.Bounds.Lists.{bound_keeps}

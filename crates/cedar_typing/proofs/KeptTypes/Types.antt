@@ -5,7 +5,8 @@ use Rattle.std.proofs.lemmas.Grind.{common_steps}
 use Rattle.cedar_types.specs.declared.base.types.ValidationMode.{ValidationMode}
 use Rattle.cedar_types.specs.Names.{Text, Path}
 use Rattle.cedar_types.specs.Lemmas.Comparisons.{and_left, and_right, and_both}
-use Rattle.cedar_types.specs.Types.{Ty, TNever, TBool, TLong, TString, TSet, TAnySet, TRecord, TEntity, TAnyEntity, TExtension, Attrs, no_attrs, attr, attr_names, is_well_formed, are_well_formed}
+use Rattle.cedar_types.specs.Types.{Ty, TNever, TBool, TLong, TString, TSet, TAnySet, TRecord, TEntity, TAnyEntity, TExtension, Attrs}
+use Rattle.cedar_types.specs.Types.{no_attrs, attr, attr_names, is_well_formed, are_well_formed}
 use Rattle.cedar_types.specs.Names.Ascending.{texts_ascending}
 use Rattle.cedar_types.specs.Schemas.{is_vague, are_vague}
 use Rattle.cedar_types.specs.Types.Bounds.{is_strict, find_attr}
@@ -89,9 +90,13 @@ one_kept k p = (or_right (allowed k).choice true refl, λ e. refl)
 
 pub all_made : (a : Allowed) (xs : Attrs) → are_made_of a xs ≡ true → AllTypes (λ t. is_made_of a t ≡ true) xs
 all_made a no_attrs h = tt
-all_made a (attr k t r xs) h = (and_left (is_made_of a t) (are_made_of a xs) h, all_made a xs (and_right (is_made_of a t) (are_made_of a xs) h))
+all_made a (attr k t r xs) h = (
+  and_left (is_made_of a t) (are_made_of a xs) h,
+  all_made a xs (and_right (is_made_of a t) (are_made_of a xs) h),
+)
 
-all_kept : (k : Keeping) (xs : Attrs) → are_made_of (allowed k) xs ≡ true → (k ≡ ascending → are_well_formed xs ≡ true) → AllTypes (IsKept k) xs
+all_kept : (k : Keeping) (xs : Attrs) → are_made_of (allowed k) xs ≡ true
+    → (k ≡ ascending → are_well_formed xs ≡ true) → AllTypes (IsKept k) xs
 all_kept k no_attrs h w = tt
 all_kept k (attr l t r xs) h w =
     let made = is_made_of (allowed k) t in
@@ -100,7 +105,8 @@ all_kept k (attr l t r xs) h w =
       all_kept k xs (and_right made others h) (λ e. and_right (is_well_formed t) (are_well_formed xs) (w e)),
     )
 
-pub field_kept : (k : Keeping) (x : Text) (xs : Attrs) (o : Bool) (t : Ty) (r : Bool) → IsKept k (TRecord xs o) → find_attr x xs ≡ Some (t, r) → IsKept k t
+pub field_kept : (k : Keeping) (x : Text) (xs : Attrs) (o : Bool) (t : Ty) (r : Bool) → IsKept k (TRecord xs o)
+    → find_attr x xs ≡ Some (t, r) → IsKept k t
 field_kept k x xs o t r n e =
     let formed = λ (a : k ≡ ascending). and_right (texts_ascending (attr_names xs)) (are_well_formed xs) (n.1 a) in
     found_type (IsKept k) x xs (all_kept k xs n.0 formed) (t, r) e
@@ -132,7 +138,8 @@ module _ (a : Allowed) where
     definite_attrs : (xs : Attrs) → are_vague xs ≡ false → are_made_of a xs ≡ true
     definite_attrs no_attrs h = refl
     definite_attrs (attr k t r xs) h =
-        and_both (is_made_of a t) (are_made_of a xs) (definite_made t (neither_left (is_vague t) (are_vague xs) h)) (definite_attrs xs (neither_right (is_vague t) (are_vague xs) h))
+        and_both (is_made_of a t) (are_made_of a xs) (definite_made t (neither_left (is_vague t) (are_vague xs) h))
+        (definite_attrs xs (neither_right (is_vague t) (are_vague xs) h))
 
 -- a type that says enough is kept to, where it is well-formed in Permissive
 pub definite_kept : (k : Keeping) (t : Ty) → is_vague t ≡ false → (k ≡ ascending → is_well_formed t ≡ true) → IsKept k t

@@ -9,7 +9,8 @@ use Rattle.cedar_typing.specs.Capabilities.{Caps, no_caps}
 use Rattle.cedar_typing.specs.Infer.{infer}
 use Rattle.cedar_typing.specs.Infer.Parts.{Part, PartAndErrors}
 use Rattle.cedar_typing.specs.Judgments.{Operand}
-use Rattle.cedar_typing.specs.PolicyCheck.{irrelevant, PolicyChecks, verdict_if, part_verdict, out_verdict, policy_check, check_true, check_false, check_refused_false, check_refused, check_cut}
+use Rattle.cedar_typing.specs.PolicyCheck.{irrelevant, PolicyChecks, verdict_if, part_verdict, out_verdict, policy_check, check_true}
+use Rattle.cedar_typing.specs.PolicyCheck.{check_false, check_refused_false, check_refused, check_cut}
 use Rattle.cedar_typing.specs.Rules.{rules, Derives}
 use Rattle.cedar_typing.specs.Setting.{Setting}
 use Rattle.cedar_typing.specs.TypeTests.{bool_types, is_false, annotation_passes}
@@ -25,7 +26,8 @@ module _ (s : Setting) (e : Source) where
   same : (es : List Finding) → IsPermutation es es
   same es = IsPermutation-refl es
 
-  false_checked : (succeeded : Bool) (c : Caps) (e' : TypedTree) (es : List Finding) → Condition succeeded c e' es → annotation_passes is_false (annotation e') ≡ true → PolicyChecks s e (irrelevant es e')
+  false_checked : (succeeded : Bool) (c : Caps) (e' : TypedTree) (es : List Finding) → Condition succeeded c e' es
+      → annotation_passes is_false (annotation e') ≡ true → PolicyChecks s e (irrelevant es e')
   false_checked false c e' es o n = check_refused_false (c, o) n (same es)
   false_checked true c e' es o n =
       let g = good_operand s.env bool_types (place_of e) (rules s e no_caps 1) c e' es (agrees s e no_caps 1).marks o in
@@ -34,22 +36,29 @@ module _ (s : Setting) (e : Source) where
       let P : List Finding → Type 0 = λ l. PolicyChecks s e (irrelevant l e') in
       subst P (sym g.silent) (check_false c (subst Q q g.derived))
 
-  true_checked : (succeeded : Bool) (c : Caps) (e' : TypedTree) (es : List Finding) → Condition succeeded c e' es → annotation_passes is_false (annotation e') ≡ false → PolicyChecks s e (verdict_if succeeded e' es)
+  true_checked : (succeeded : Bool) (c : Caps) (e' : TypedTree) (es : List Finding) → Condition succeeded c e' es
+      → annotation_passes is_false (annotation e') ≡ false → PolicyChecks s e (verdict_if succeeded e' es)
   true_checked false c e' es o n = check_refused (c, o) n (same es)
   true_checked true c e' es o n =
       let g = good_operand s.env bool_types (place_of e) (rules s e no_caps 1) c e' es (agrees s e no_caps 1).marks o in
       check_true g.ty c g.derived g.passes (says_at is_false _ _ _ g.mark n)
 
-  by_mark : (succeeded : Bool) (c : Caps) (e' : TypedTree) (es : List Finding) (b : Bool) → Condition succeeded c e' es → annotation_passes is_false (annotation e') ≡ b → PolicyChecks s e (if b then irrelevant es e' else verdict_if succeeded e' es)
+  by_mark : (succeeded : Bool) (c : Caps) (e' : TypedTree) (es : List Finding) (b : Bool)
+      → Condition succeeded c e' es → annotation_passes is_false (annotation e') ≡ b
+      → PolicyChecks s e (if b then irrelevant es e' else verdict_if succeeded e' es)
   by_mark succeeded c e' es true o n = false_checked succeeded c e' es o n
   by_mark succeeded c e' es false o n = true_checked succeeded c e' es o n
 
-  by_answer : (g : Option Part) (es : List Finding) → OperandAnswer s.env bool_types (place_of e) (rules s e no_caps 1) g es → PolicyChecks s e (part_verdict g es)
+  by_answer : (g : Option Part) (es : List Finding)
+      → OperandAnswer s.env bool_types (place_of e) (rules s e no_caps 1) g es
+      → PolicyChecks s e (part_verdict g es)
   by_answer g es (is_cut h) = check_cut h (same es)
-  by_answer g es (is_given {succeeded = succeeded} {c = c} {e = e'} o) = by_mark succeeded c e' es (annotation_passes is_false (annotation e')) o refl
+  by_answer g es (is_given {succeeded = succeeded} {c = c} {e = e'} o) =
+      by_mark succeeded c e' es (annotation_passes is_false (annotation e')) o refl
 
   pub checked : PolicyChecks s e (policy_check s e)
   checked =
-      let f = operand_found s.env bool_types (place_of e) (rules s e no_caps 1) (infer s e no_caps 1 []) [] ((agrees s e no_caps 1).found []) in
+      let f = operand_found s.env bool_types (place_of e) (rules s e no_caps 1) (infer s e no_caps 1 []) []
+      ((agrees s e no_caps 1).found []) in
       let P : PartAndErrors → Type 0 = λ o. PolicyChecks s e (out_verdict o) in
       subst P (sym f.is) (by_answer f.operand f.added f.rules)

@@ -17,20 +17,26 @@ use Rattle.cedar_typing.specs.Views.EnvironmentChecks.{checker_of, template_in, 
 use Rattle.cedar_typing.specs.PolicyCheck.{Verdict, PolicyChecks}
 
 -- the first that was left is done
-pub one_more_done : (done left left' all : List Env) (e : Env) → left ≡ e ∷ left' → IsPermutation (done ++ left) all → IsPermutation (e ∷ (done ++ left')) all
+pub one_more_done : (done left left' all : List Env) (e : Env) → left ≡ e ∷ left' → IsPermutation (done ++ left) all
+    → IsPermutation (e ∷ (done ++ left')) all
 one_more_done done left left' all e is p =
     let there : IsPermutation (done ++ e ∷ left') all = subst (λ xs. IsPermutation (done ++ xs) all) is p in
     IsPermutation-trans _ (done ++ e ∷ left') _ (IsPermutation-sym _ _ (IsPermutation-middle done e left')) there
 
 module _ {C : Type 0} (meaning : C → Refusals) where
   -- what an item says
-  pub of_item : {E : Type 0} (s t : RequestEnvChecks C) (r : Result (RequestEnv × PolicyCheck) E) (p : RequestEnv × PolicyCheck) → r ≡ Ok p → GivesChecks {E = E} meaning s (Some r) t → GivesChecks {E = E} meaning s (Some (Ok p)) t
+  pub of_item : {E : Type 0} (s t : RequestEnvChecks C) (r : Result (RequestEnv × PolicyCheck) E)
+      (p : RequestEnv × PolicyCheck) → r ≡ Ok p → GivesChecks {E = E} meaning s (Some r) t
+      → GivesChecks {E = E} meaning s (Some (Ok p)) t
   of_item {E} s t r p e h =
       let M : Result (RequestEnv × PolicyCheck) E → Type 0 = λ x. GivesChecks {E = E} meaning s (Some x) t in
       subst M e h
 
   -- the same by the checker and the template that the checks are of
-  pub of_input : (s : RequestEnvChecks C) (c : Typechecker C) (t : Template) → checker_of s ≡ c → template_in s ≡ t → condition_in s ≡ condition_of (template_of t) → (e : Env) (v : Verdict) → PolicyChecks (setting_within meaning (checker_of s) (template_in s) e) (condition_in s) v → ChecksIn meaning c t e v
+  pub of_input : (s : RequestEnvChecks C) (c : Typechecker C) (t : Template) → checker_of s ≡ c → template_in s ≡ t
+      → condition_in s ≡ condition_of (template_of t) → (e : Env) (v : Verdict)
+      → PolicyChecks (setting_within meaning (checker_of s) (template_in s) e) (condition_in s) v
+      → ChecksIn meaning c t e v
   of_input s c t hc ht he e v h =
       let P : Typechecker C → Type 0 = λ k. PolicyChecks (setting_within meaning k (template_in s) e) (condition_in s) v in
       let Q : Template → Type 0 = λ k. PolicyChecks (setting_within meaning c k e) (condition_in s) v in

@@ -27,8 +27,11 @@ module _ (Checks : Env → Verdict → Type 0) (p : Verdict → Bool) where
   listed_pass (e ∷ es) (v ∷ vs) c h =
       ((v, c.0, and_left (p v) (list_all p vs) h), listed_pass es vs c.1 (and_right (p v) (list_all p vs) h))
 
-  pub each_has_passing : (listed envs : List Env) (vs : List Verdict) → IsPermutation listed envs → VerdictsOf Checks listed vs → list_all p vs ≡ true
+  pub each_has_passing : (listed envs : List Env) (vs : List Verdict) → IsPermutation listed envs
+      → VerdictsOf Checks listed vs → list_all p vs ≡ true
       → (e : Env) → IsOneOf e envs → HasPassing e
   each_has_passing listed envs vs m c h =
       one_of_them HasPassing envs
-      (recursion_from_All HasPassing envs (All-permutation HasPassing listed envs m (All-from_recursion HasPassing listed (listed_pass listed vs c h))))
+      (recursion_from_All HasPassing envs
+      (All-permutation HasPassing listed envs m
+      (All-from_recursion HasPassing listed (listed_pass listed vs c h))))

@@ -1,5 +1,6 @@
 -- What the checks of a policy have found, one verdict after another.
-use Rattle.std.proofs.Common.{◌≡◌, ◌↔◌, ℕ, Bool, true, false, ◌&&◌, cond, ne_eqb, List, [], ◌∷◌, ◌++◌, map, length, ◌⊎◌, inl, inr, refl, sym, ap, subst, ◌∙◌, arith}
+use Rattle.std.proofs.Common.{◌≡◌, ◌↔◌, ℕ, Bool, true, false, ◌&&◌, cond, ne_eqb, List, [], ◌∷◌, ◌++◌, map, length, ◌⊎◌, inl, inr, refl}
+use Rattle.std.proofs.Common.{sym, ap, subst, ◌∙◌, arith}
 use Rattle.std.specs.Bool.{Decides, ◌==◌}
 use Rattle.std.specs.Ordering.{eq_by_cmp}
 use Rattle.cedar_types.specs.declared.base.errors.validation_errors.ValidationError.{ValidationError}
@@ -44,8 +45,13 @@ warning_decides x y =
 abbrev pub SameMembers : {A : Type 0} → List A → List A → Type 0
 SameMembers {A} xs ys = (x : A) → IsOneOf x xs ↔ IsOneOf x ys
 
-pub one_more : (v : Verdict) (vs : List Verdict) (before after : List Finding) → Adds before (errors_in v) after → SameMembers before (all_errors vs) → SameMembers after (all_errors (v ∷ vs))
-one_more v vs before after a h f = (λ k. to (in_either f before (errors_in v) ((a f).0 k)), λ k. from (in_either f (errors_in v) (all_errors vs) k))
+pub one_more : (v : Verdict) (vs : List Verdict) (before after : List Finding) → Adds before (errors_in v) after
+    → SameMembers before (all_errors vs) → SameMembers after (all_errors (v ∷ vs))
+one_more v vs before after a h f = (
+  λ k. to (in_either f before (errors_in v) ((a f).0 k)),
+  λ k. from
+      (in_either f (errors_in v) (all_errors vs) k),
+)
   where
     to : IsOneOf f before ⊎ IsOneOf f (errors_in v) → IsOneOf f (all_errors (v ∷ vs))
     to (inl m) = in_right f (errors_in v) (all_errors vs) ((h f).0 m)
@@ -82,11 +88,13 @@ adds_same old these those new a h x = (λ k. to (in_either x old these ((a x).0 
     from (inl m) = in_left x old these m
     from (inr m) = in_right x old these ((h x).1 m)
 
-pub warned : (t : PlainTemplate) (vs : List Verdict) (old new : List Caution) (w : Caution) → all_irrelevant vs ≡ true → w ≡ impossible t → Adds old (w ∷ []) new → Adds old (warnings_of t vs) new
+pub warned : (t : PlainTemplate) (vs : List Verdict) (old new : List Caution) (w : Caution)
+    → all_irrelevant vs ≡ true → w ≡ impossible t → Adds old (w ∷ []) new → Adds old (warnings_of t vs) new
 warned t vs old new w i e a =
     subst (λ b. Adds old (cond b (impossible t ∷ []) []) new) (sym i) (subst (λ x. Adds old (x ∷ []) new) e a)
 
-pub not_warned : (t : PlainTemplate) (vs : List Verdict) (old new : List Caution) → all_irrelevant vs ≡ false → new ≡ old → Adds old (warnings_of t vs) new
+pub not_warned : (t : PlainTemplate) (vs : List Verdict) (old new : List Caution) → all_irrelevant vs ≡ false
+    → new ≡ old → Adds old (warnings_of t vs) new
 not_warned t vs old new i e =
     subst (λ b. Adds old (cond b (impossible t ∷ []) []) new) (sym i)
     (adds_nothing old new (λ x h. subst (λ xs. IsOneOf x xs) e h) (λ x h. subst (λ xs. IsOneOf x xs) (sym e) h))

@@ -10,7 +10,9 @@ use Rattle.cedar_typing.specs.Capabilities.{Caps, no_caps}
 use Rattle.cedar_typing.specs.Infer.{infer}
 use Rattle.cedar_typing.specs.Infer.Parts.{part_with}
 use Rattle.cedar_typing.specs.Judgments.{derived, accepted, Operand}
-use Rattle.cedar_typing.specs.PolicyCheck.{Verdict, succeeds, irrelevant, fails, PolicyChecks, SameVerdict, part_verdict, out_verdict, policy_check, check_true, check_false, check_refused_false, check_refused, check_cut, same_success, same_irrelevant, same_failure}
+use Rattle.cedar_typing.specs.PolicyCheck.{Verdict, succeeds, irrelevant, fails, PolicyChecks, SameVerdict, part_verdict, out_verdict}
+use Rattle.cedar_typing.specs.PolicyCheck.{policy_check, check_true, check_false, check_refused_false, check_refused, check_cut}
+use Rattle.cedar_typing.specs.PolicyCheck.{same_success, same_irrelevant, same_failure}
 use Rattle.cedar_typing.specs.Rules.Laws.{OneVerdictAtMost, OneVerdictAtLeast, ErrorsInAnyOrder}
 use Rattle.cedar_typing.specs.Rules.{rules, Cuts}
 use Rattle.cedar_typing.specs.Setting.{Setting}
@@ -38,9 +40,11 @@ module _ (s : Setting) (e : Source) where
   abbrev Condition : Bool → Caps → TypedTree → List Finding → Type 0
   Condition = Operand s.env bool_types (place_of e) (rules s e no_caps 1)
 
-  of_operand : (succeeded : Bool) (c : Caps) (x : TypedTree) (es : List Finding) → Condition succeeded c x es → policy_check s e ≡ part_verdict (Some (part_with succeeded c x)) es
+  of_operand : (succeeded : Bool) (c : Caps) (x : TypedTree) (es : List Finding) → Condition succeeded c x es
+      → policy_check s e ≡ part_verdict (Some (part_with succeeded c x)) es
   of_operand succeeded c x es o =
-      ap out_verdict (operand_only s.env bool_types (place_of e) (rules s e no_caps 1) (infer s e no_caps 1) (agrees s e no_caps 1) succeeded c x es o [])
+      ap out_verdict (operand_only s.env bool_types (place_of e) (rules s e no_caps 1) (infer s e no_caps 1)
+      (agrees s e no_caps 1) succeeded c x es o [])
 
   of_cut : (es : List Finding) → Cuts s e no_caps 1 es → policy_check s e ≡ fails es
   of_cut es h =
@@ -55,8 +59,10 @@ module _ (s : Setting) (e : Source) where
       only (succeeds x) v (of_operand true c x [] (accepted t (derived h) m a) ∙ rw (m, n) refl) same_success
   by_function v (check_false c {e' = x} h) =
       let m : annotation x ≡ Some (TBool False) = (agrees s e no_caps 1).marks (TBool False) c x h in
-      only (irrelevant [] x) v (of_operand true c x [] (accepted (TBool False) (derived h) m refl) ∙ rw m refl) (same_irrelevant (IsPermutation-refl []))
-  by_function v (check_refused_false {e' = x} {es = es} (c, o) n p) = only (irrelevant es x) v (of_operand false c x es o ∙ rw n refl) (same_irrelevant p)
+      only (irrelevant [] x) v (of_operand true c x [] (accepted (TBool False) (derived h) m refl) ∙ rw m refl)
+      (same_irrelevant (IsPermutation-refl []))
+  by_function v (check_refused_false {e' = x} {es = es} (c, o) n p) =
+      only (irrelevant es x) v (of_operand false c x es o ∙ rw n refl) (same_irrelevant p)
   by_function v (check_refused {e' = x} {es = es} (c, o) n p) = only (fails es) v (of_operand false c x es o ∙ rw n refl) (same_failure p)
   by_function v (check_cut {es = es} h p) = only (fails es) v (of_cut es h) (same_failure p)
 
@@ -75,7 +81,8 @@ none (x ∷ es) p = let e : length (x ∷ es) ≡ 0 = length_permutation [] (x �
 
 pub any_order : ErrorsInAnyOrder
 any_order s e u v (check_true t c h a n) same_success = check_true t c h a n
-any_order s e u v (check_false c {e' = x} h) (same_irrelevant {es' = es} p) = subst (λ l. PolicyChecks s e (irrelevant l x)) (sym (none es p)) (check_false c h)
+any_order s e u v (check_false c {e' = x} h) (same_irrelevant {es' = es} p) =
+    subst (λ l. PolicyChecks s e (irrelevant l x)) (sym (none es p)) (check_false c h)
 any_order s e u v (check_refused_false o n p) (same_irrelevant q) = check_refused_false o n (IsPermutation-trans _ _ _ p q)
 any_order s e u v (check_refused o n p) (same_failure q) = check_refused o n (IsPermutation-trans _ _ _ p q)
 any_order s e u v (check_cut h p) (same_failure q) = check_cut h (IsPermutation-trans _ _ _ p q)

@@ -27,9 +27,11 @@ abbrev by_number : Bool → ℕ → ℕ → List Fault
 by_number b m n = if b then [] else wrong_number_arguments m n ∷ []
 
 -- where the function takes so many, no error is added, and else one
-pub number_added : {C : Type 0} (env : TypeEnv) (l : Option Loc) (meaning : C → Refusals) (f : ExtensionFunctionType C) (xs : List Source) (n : ℕ) (b : Bool)
+pub number_added : {C : Type 0} (env : TypeEnv) (l : Option Loc) (meaning : C → Refusals)
+    (f : ExtensionFunctionType C) (xs : List Source) (n : ℕ) (b : Bool)
     → length xs ≡ n → b ≡ takes (function_of meaning f) n
     → number_faults (function_of meaning f) xs ≡ by_number b (length f.argument_types.items) n
 number_added env l meaning f xs n b count taken =
-    (λ i. if takes (function_of meaning f) (count i) then [] else wrong_number_arguments (length-map f.argument_types.items ty_of i) (count i) ∷ [])
+    (λ i. if takes (function_of meaning f) (count i) then []
+    else wrong_number_arguments (length-map f.argument_types.items ty_of i) (count i) ∷ [])
     ∙ ap (λ c. by_number c (length f.argument_types.items) n) (sym taken)

@@ -25,10 +25,14 @@ use Rattle.cedar_typing.specs.declared.typecheck.rules.calls.Call.{Call}
 written_by_kind : (e : Expr (Unit {0})) → written e ≡ kind_written e.loc e.kind
 written_by_kind e = search (rules, the_lemmas)
 
-kind_call : (n : Name) (xs : Vec (Expr (Unit {0})) Global) (e : Expr (Unit {0})) → kind_written e.loc (K.ExtensionFunctionApp n xs) ≡ call (at e.loc) (path_of n) (trees_of (map written xs.items))
+kind_call : (n : Name) (xs : Vec (Expr (Unit {0})) Global) (e : Expr (Unit {0}))
+    → kind_written e.loc (K.ExtensionFunctionApp n xs)
+    ≡ call (at e.loc) (path_of n) (trees_of (map written xs.items))
 kind_call n xs e = search (rules, the_lemmas)
 
-pub written_call : (e : Expr (Unit {0})) (n : Name) (xs : Vec (Expr (Unit {0})) Global) → e.kind ≡ K.ExtensionFunctionApp n xs → written e ≡ call (at e.loc) (path_of n) (trees_of (map written xs.items))
+pub written_call : (e : Expr (Unit {0})) (n : Name) (xs : Vec (Expr (Unit {0})) Global)
+    → e.kind ≡ K.ExtensionFunctionApp n xs
+    → written e ≡ call (at e.loc) (path_of n) (trees_of (map written xs.items))
 written_call e n xs h = written_by_kind e ∙ ap (kind_written e.loc) h ∙ kind_call n xs e
 
 kind_set : (xs : Vec (Expr (Unit {0})) Global) (e : Expr (Unit {0}))
@@ -46,12 +50,19 @@ arguments_are [] = refl
 arguments_are (x ∷ xs) = ap (λ ys. x ∷ ys) (arguments_are xs)
 
 -- a call of which all is known before its arguments are typed, by what these result in
-pub call_inferred : (s : Setting) (m : Written) (n : Path) (xs : List Source) (prior : Caps) (d : ℕ) (es es' : List Finding) (c : Call) (o : Operands)
+pub call_inferred : (s : Setting) (m : Written) (n : Path) (xs : List Source) (prior : Caps) (d : ℕ)
+    (es es' : List Finding) (c : Call) (o : Operands)
     → IsCallOf s m.place n xs c
-    → ◌≡◌ {A = OperandsAndErrors} (infer_all s false (expected_arguments (map ty_of c.argument_types.now) xs) (trees_of xs) prior (d + 1) es) (o, es')
-    → infer_within s (call m n (trees_of xs)) prior d es ≡ infer_form (shape_of m n (expected_arguments (map ty_of c.argument_types.now) xs) c) o es'
+    → ◌≡◌ {A = OperandsAndErrors}
+    (infer_all s false (expected_arguments (map ty_of c.argument_types.now) xs) (trees_of xs) prior (d + 1) es)
+    (o, es')
+    → infer_within s (call m n (trees_of xs)) prior d es
+    ≡ infer_form (shape_of m n (expected_arguments (map ty_of c.argument_types.now) xs) c) o es'
 call_inferred s m n xs prior d es es' c o known typed =
-    let by : List Source → AnswerAndErrors = λ ys. infer_operand_list (call_form s.env s.functions m n ys) (λ goes_on qs. infer_all s goes_on qs (trees_of xs) prior (d + 1)) es in
+    let by : List Source → AnswerAndErrors = λ ys. infer_operand_list (call_form s.env s.functions m n ys)
+    (λ goes_on qs. infer_all s goes_on qs (trees_of xs) prior (d + 1)) es in
     ap by (arguments_are xs)
-    ∙ (λ i. infer_operand_list (form_of_call m n (sym known.returns i) (expected_arguments (sym known.wanted i) xs) (sym known.errors i)) (λ goes_on qs. infer_all s goes_on qs (trees_of xs) prior (d + 1)) es)
+    ∙ (λ i. infer_operand_list
+    (form_of_call m n (sym known.returns i) (expected_arguments (sym known.wanted i) xs) (sym known.errors i))
+    (λ goes_on qs. infer_all s goes_on qs (trees_of xs) prior (d + 1)) es)
     ∙ ap (λ (r : OperandsAndErrors). infer_form (shape_of m n (expected_arguments (map ty_of c.argument_types.now) xs) c) r.0 r.1) typed

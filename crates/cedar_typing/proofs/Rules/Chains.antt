@@ -1,5 +1,6 @@
 -- What a step of a chain earns, in the program and by the rule.
-use Rattle.std.proofs.Common.{◌≡◌, Bool, true, false, true≢false, ◌&&◌, ◌||◌, not, Option, Some, None, option_map, if◌then◌else◌, refl, sym, ◌∙◌, ap, subst}
+use Rattle.std.proofs.Common.{◌≡◌, Bool, true, false, true≢false, ◌&&◌, ◌||◌, not, Option, Some, None, option_map, if◌then◌else◌, refl, sym}
+use Rattle.std.proofs.Common.{◌∙◌, ap, subst}
 use Rattle.std.specs.Prelude.{is_some}
 use Rattle.cedar_types.specs.declared.base.location.Loc.{Loc}
 use Rattle.cedar_types.specs.declared.base.types.BoolType.TheVariants.{False}
@@ -39,16 +40,19 @@ is_new true true h = absurd (true≢false (sym h))
 is_new false t h = absurd (true≢false (sym h))
 
 -- of a declared attribute, where the step is not True
-pub earned : (f h : Caps) (u : Ty) (c : Cap) (a : Option (Ty × Bool)) → is_some a ≡ true → is_true u ≡ false → AddsJust c f h → h ≡ union f (step_earns u c a)
+pub earned : (f h : Caps) (u : Ty) (c : Cap) (a : Option (Ty × Bool)) → is_some a ≡ true → is_true u ≡ false
+    → AddsJust c f h → h ≡ union f (step_earns u c a)
 earned f h u c (Some a) s n k = subst (λ b. h ≡ union f (if b then no_caps else single c)) (sym n) (just_added f h c k)
 earned f h u c None s n k = absurd (true≢false (sym s))
 
 -- else nothing
-pub not_earned : (f : Caps) (u : Ty) (c : Cap) (a : Option (Ty × Bool)) → (is_some a && not (is_true u)) ≡ false → f ≡ union f (step_earns u c a)
+pub not_earned : (f : Caps) (u : Ty) (c : Cap) (a : Option (Ty × Bool)) → (is_some a && not (is_true u)) ≡ false
+    → f ≡ union f (step_earns u c a)
 not_earned f u c (Some a) n = by_type f c (is_true u) n
 not_earned f u c None n = nothing_added f
 
-pub with_step_is : (p : Progress) (f : Caps) (b : Bool) (u : Ty) (c : Caps) → f ≡ union p.earned c → b ≡ is_true u → ◌≡◌ {A = Progress} (record { earned = f; all_true = p.all_true && b }) (with_step p u c)
+pub with_step_is : (p : Progress) (f : Caps) (b : Bool) (u : Ty) (c : Caps) → f ≡ union p.earned c → b ≡ is_true u
+    → ◌≡◌ {A = Progress} (record { earned = f; all_true = p.all_true && b }) (with_step p u c)
 with_step_is p f b u c e t = λ i. record { earned = e i; all_true = p.all_true && t i }
 
 -- after it the attribute is known where it was, or where the step earns it
@@ -80,8 +84,11 @@ module _ (env : TypeEnv) (l : Option Loc) (s : Ty) (x : Text) where
   some_declared (Some a) = refl
   some_declared None = refl
 
-  passes : (there : Cap) (known : Bool) (p : Progress) (next : Progress → Decision) → is_object s ≡ true → is_false (step_type env s x known declared) ≡ false
-      → step env l there known s x p next ≡ next (with_step p (step_type env s x known declared) (step_earns (step_type env s x known declared) there declared))
+  passes : (there : Cap) (known : Bool) (p : Progress) (next : Progress → Decision) → is_object s ≡ true
+      → is_false (step_type env s x known declared) ≡ false
+      → step env l there known s x p next
+      ≡ next (with_step p (step_type env s x known declared)
+      (step_earns (step_type env s x known declared) there declared))
   passes there known p next o f = rw (o, f) refl
 
   pub goes_on : (prior : Caps) (p : Progress) (next : Progress → Decision) (there q : Cap) (known : Bool) (t : Ty) (p' : Progress)
@@ -94,7 +101,8 @@ module _ (env : TypeEnv) (l : Option Loc) (s : Ty) (x : Text) where
       ∙ (λ i. next (with_step p (type_is i) (step_earns (type_is i) (same i) declared)))
       ∙ sym (passes there (union prior p.earned there) p next o (ap is_false (sym type_is) ∙ f))
 
-  stops : (there : Cap) (known : Bool) (p : Progress) (next : Progress → Decision) → is_object s ≡ true → is_false (step_type env s x known declared) ≡ true
+  stops : (there : Cap) (known : Bool) (p : Progress) (next : Progress → Decision) → is_object s ≡ true
+      → is_false (step_type env s x known declared) ≡ true
       → step env l there known s x p next ≡ gives (TBool False) no_caps
   stops there known p next o f = rw (o, f) refl
 

@@ -39,15 +39,18 @@ after_none (cut_after ys) = refl
 pub starts : (o : OperandsAndErrors) → finish true [] o ≡ o
 starts o = ap (λ z. (z, o.1)) (after_none o.0)
 
-after_one : (s : Bool) (xs : List TypedTree) (p : Part) (o : Operands) → after_others s xs (with_operand p o) ≡ after_others (p.succeeded && s) (xs ++ p.tree ∷ []) o
+after_one : (s : Bool) (xs : List TypedTree) (p : Part) (o : Operands) → after_others s xs (with_operand p o)
+    ≡ after_others (p.succeeded && s) (xs ++ p.tree ∷ []) o
 after_one s xs p (all_typed later ys) = λ i. all_typed (and_assoc later p.succeeded s i) (sym (append_assoc xs (p.tree ∷ []) ys) i)
 after_one s xs p (cut_after ys) = ap cut_after (sym (append_assoc xs (p.tree ∷ []) ys))
 
 module _ (setting : Setting) (prior : Caps) (d : ℕ) where
   -- a field whose value is typed
-  pub goes_on : (k : Text) (e : Source) (fs : Fields Written) (s : Bool) (xs : List TypedTree) (es es' : List Finding) (a : Answer) (p : Part)
+  pub goes_on : (k : Text) (e : Source) (fs : Fields Written) (s : Bool) (xs : List TypedTree)
+      (es es' : List Finding) (a : Answer) (p : Part)
       → infer setting e prior d es ≡ (a, es') → part_from a ≡ Some p
-      → finish s xs (infer_fields setting (field k e fs) prior d es) ≡ finish (p.succeeded && s) (xs ++ p.tree ∷ []) (infer_fields setting fs prior d es')
+      → finish s xs (infer_fields setting (field k e fs) prior d es)
+      ≡ finish (p.succeeded && s) (xs ++ p.tree ∷ []) (infer_fields setting fs prior d es')
   goes_on k e fs s xs es es' a p h g =
       let rest : List Finding → OperandsAndErrors = infer_fields setting fs prior d in
       ap (λ o. finish s xs (infer_rest false (part_from o.0) o.1 rest)) h
@@ -55,11 +58,15 @@ module _ (setting : Setting) (prior : Caps) (d : ℕ) where
       ∙ ap (λ z. (z, (rest es').1)) (after_one s xs p (rest es').0)
 
 -- of a record that is cut the keys do not count
-by_keys : (env : TypeEnv) (m : Written) (ks ls : List Text) (s : Bool) (xs : List TypedTree) (es : List Finding) (b : Bool) → (b ≡ false → ls ≡ ks)
-    → infer_form (record_form env m ks) (if b then cut_after xs else all_typed s xs) es ≡ infer_form (record_form env m ls) (if b then cut_after xs else all_typed s xs) es
+by_keys : (env : TypeEnv) (m : Written) (ks ls : List Text) (s : Bool) (xs : List TypedTree) (es : List Finding)
+    (b : Bool) → (b ≡ false → ls ≡ ks)
+    → infer_form (record_form env m ks) (if b then cut_after xs else all_typed s xs) es
+    ≡ infer_form (record_form env m ls) (if b then cut_after xs else all_typed s xs) es
 by_keys env m ks ls s xs es true h = refl
 by_keys env m ks ls s xs es false h = ap (λ ks. infer_form (record_form env m ks) (all_typed s xs) es) (sym (h refl))
 
-pub by_keys_typed : (env : TypeEnv) (m : Written) (ks : List Text) (v : FieldValues) (es : List Finding) → (v.is_cut ≡ false → keys_in v.typed.entries ≡ ks)
-    → infer_form (record_form env m ks) (field_operands v) es ≡ infer_form (record_form env m (keys_in v.typed.entries)) (field_operands v) es
+pub by_keys_typed : (env : TypeEnv) (m : Written) (ks : List Text) (v : FieldValues) (es : List Finding)
+    → (v.is_cut ≡ false → keys_in v.typed.entries ≡ ks)
+    → infer_form (record_form env m ks) (field_operands v) es
+    ≡ infer_form (record_form env m (keys_in v.typed.entries)) (field_operands v) es
 by_keys_typed env m ks v es h = by_keys env m ks (keys_in v.typed.entries) v.succeeded (trees_in v.typed.entries) es v.is_cut h

@@ -4,7 +4,8 @@ use Rattle.cedar_types.specs.Types.{Ty}
 use Rattle.cedar_types.specs.Errors.{Finding}
 use Rattle.cedar_typing.specs.Capabilities.{Caps}
 use Rattle.cedar_typing.specs.Infer.Parts.{success, failure, limit, Answer, AnswerAndErrors}
-use Rattle.cedar_typing.specs.Rules.Laws.{TypingIsAFunction, RecoveryIsAFunction, CutIsAFunction, IsDerived, IsRecovered, IsCut, OneOfThreeAtMost, OneOfThreeAtLeast}
+use Rattle.cedar_typing.specs.Rules.Laws.{TypingIsAFunction, RecoveryIsAFunction, CutIsAFunction, IsDerived, IsRecovered, IsCut}
+use Rattle.cedar_typing.specs.Rules.Laws.{OneOfThreeAtMost, OneOfThreeAtLeast}
 use Rattle.cedar_typing.specs.Rules.{rules, Derives, Recovers}
 use Rattle.cedar_typing.specs.Setting.{Setting}
 use Rattle.cedar_typing.specs.TypedExpr.{Source, TypedTree, annotation}
@@ -36,19 +37,24 @@ module _ (s : Setting) (e : Source) (prior : Caps) (d : ℕ) where
   same_errors : (a b : Answer) (es fs : List Finding) → Rules a es → Rules b fs → es ≡ fs
   same_errors a b es fs h k = ap (λ (o : AnswerAndErrors). o.1) (one_answer a b es fs h k)
 
-  one_derivation : (t u : Ty) (c c' : Caps) (x y : TypedTree) → Derives s e prior d t c x → Derives s e prior d u c' y → (t ≡ u) × (c ≡ c') × (x ≡ y)
+  one_derivation : (t u : Ty) (c c' : Caps) (x y : TypedTree) → Derives s e prior d t c x
+      → Derives s e prior d u c' y → (t ≡ u) × (c ≡ c') × (x ≡ y)
   one_derivation t u c c' x y h k =
       let q = same_answer (success x c) (success y c') [] [] (a_derived h) (a_derived k) in
       let r = success_tree q in
       (some_is (sym ((agrees s e prior d).marks t c x h) ∙ ap annotation r ∙ (agrees s e prior d).marks u c' y k), success_caps q, r)
 
   one_recovery : (x y : TypedTree) (es fs : List Finding) → Recovers s e prior d x es → Recovers s e prior d y fs → (x ≡ y) × (es ≡ fs)
-  one_recovery x y es fs h k = (failure_tree (same_answer (failure x) (failure y) es fs (a_recovered h) (a_recovered k)), same_errors (failure x) (failure y) es fs (a_recovered h) (a_recovered k))
+  one_recovery x y es fs h k = (
+    failure_tree (same_answer (failure x) (failure y) es fs (a_recovered h) (a_recovered k)),
+    same_errors (failure x) (failure y) es fs (a_recovered h) (a_recovered k),
+  )
 
   apart : (a b : Answer) (es fs : List Finding) → (a ≡ b → ⊥) → Rules a es → Rules b fs → ⊥
   apart a b es fs n h k = n (same_answer a b es fs h k)
 
-  at_most : (IsDerived s e prior d × IsRecovered s e prior d → ⊥) × (IsDerived s e prior d × IsCut s e prior d → ⊥) × (IsRecovered s e prior d × IsCut s e prior d → ⊥)
+  at_most : (IsDerived s e prior d × IsRecovered s e prior d → ⊥) × (IsDerived s e prior d × IsCut s e prior d → ⊥)
+      × (IsRecovered s e prior d × IsCut s e prior d → ⊥)
   at_most = (
     λ p. apart (success p.0.2 p.0.1) (failure p.1.0) [] p.1.1 (λ q. cc) (a_derived p.0.3) (a_recovered p.1.2),
     λ p. apart (success p.0.2 p.0.1) limit [] p.1.0 (λ q. cc) (a_derived p.0.3) (a_cut p.1.1),

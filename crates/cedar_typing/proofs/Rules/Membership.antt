@@ -20,7 +20,8 @@ joined : (us : List Uid) (u : Uid) (o : Option (List Uid)) → after (us ++ u �
 joined us u None = refl
 joined us u (Some vs) = ap Some (append_assoc us (u ∷ []) vs)
 
-module _ (r : Env) (us : List Uid) (x : Source') (xs : List Source') (o : Option EntityUID) (found : option_map uid_of o ≡ entity_of r (written x)) where
+module _ (r : Env) (us : List Uid) (x : Source') (xs : List Source') (o : Option EntityUID)
+    (found : option_map uid_of o ≡ entity_of r (written x)) where
   -- one more
   pub one_entity : (u : EntityUID) → o ≡ Some u → after (us ++ uid_of u ∷ []) (entities_in r xs) ≡ after us (entities_in r (x ∷ xs))
   one_entity u h =

@@ -10,7 +10,8 @@ use Rattle.cedar_types.proofs.Names.Paths.{path_ties}
 use Rattle.cedar_typing.specs.Views.{extension_named}
 
 -- a name is found in a set of names by the order of names
-pub overloaded : (R : Name → Ordering) (p : Path) → ((k : Name) → R k ≡ path_cmp p (path_of k)) → (ks : List Name) → list_any (λ k. is_eq (R k)) ks ≡ list_any (path_eq p) (map path_of ks)
+pub overloaded : (R : Name → Ordering) (p : Path) → ((k : Name) → R k ≡ path_cmp p (path_of k)) → (ks : List Name)
+    → list_any (λ k. is_eq (R k)) ks ≡ list_any (path_eq p) (map path_of ks)
 overloaded R p h [] = refl
 overloaded R p h (k ∷ ks) = λ i. (ap is_eq (h k) ∙ sym (path_ties p (path_of k))) i || overloaded R p h ks i
 
@@ -32,10 +33,12 @@ abbrev by_name : List Path → Ty → Option Path → Bool
 by_name ps t (Some p) = list_any (path_eq p) ps
 by_name ps t None = ty_eq t TLong
 
-unnamed : (ps : List Path) (t : Ty) → ((p : Path) → ty_eq t (TExtension p) ≡ false) → ty_eq t TLong ≡ (ty_eq t TLong || list_any (ty_eq t) (map TExtension ps))
+unnamed : (ps : List Path) (t : Ty) → ((p : Path) → ty_eq t (TExtension p) ≡ false)
+    → ty_eq t TLong ≡ (ty_eq t TLong || list_any (ty_eq t) (map TExtension ps))
 unnamed ps t h = or_false (ty_eq t TLong) ∙ ap (λ b. ty_eq t TLong || b) (sym (none_among t h ps))
 
-pub comparable_by_name : (ps : List Path) (t : Ty) → by_name ps t (extension_named t) ≡ (ty_eq t TLong || list_any (ty_eq t) (map TExtension ps))
+pub comparable_by_name : (ps : List Path) (t : Ty) → by_name ps t (extension_named t)
+    ≡ (ty_eq t TLong || list_any (ty_eq t) (map TExtension ps))
 comparable_by_name ps TNever = unnamed ps TNever (λ p. refl)
 comparable_by_name ps (TBool k) = unnamed ps (TBool k) (λ p. refl)
 comparable_by_name ps TLong = refl
@@ -47,5 +50,6 @@ comparable_by_name ps (TEntity qs) = unnamed ps (TEntity qs) (λ p. refl)
 comparable_by_name ps TAnyEntity = unnamed ps TAnyEntity (λ p. refl)
 comparable_by_name ps (TExtension p) = among_extensions p ps
 
-pub comparable_if : (ps : List Path) (t : Ty) (n : Option Path) → n ≡ extension_named t → by_name ps t n ≡ (ty_eq t TLong || list_any (ty_eq t) (map TExtension ps))
+pub comparable_if : (ps : List Path) (t : Ty) (n : Option Path) → n ≡ extension_named t
+    → by_name ps t n ≡ (ty_eq t TLong || list_any (ty_eq t) (map TExtension ps))
 comparable_if ps t n h = ap (by_name ps t) h ∙ comparable_by_name ps t

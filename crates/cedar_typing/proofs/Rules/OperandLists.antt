@@ -1,5 +1,6 @@
 -- Operands one after another: those that are typed so far, and those that are left.
-use Rattle.std.proofs.Common.{◌≡◌, ℕ, not, true≢false, Bool, true, false, ◌&&◌, List, [], ◌∷◌, ◌++◌, map, Option, Some, None, is_some, option_map, refl, sym, ◌∙◌, ap, append_assoc, append-nil}
+use Rattle.std.proofs.Common.{◌≡◌, ℕ, not, true≢false, Bool, true, false, ◌&&◌, List, [], ◌∷◌, ◌++◌, map, Option, Some, None, is_some}
+use Rattle.std.proofs.Common.{option_map, refl, sym, ◌∙◌, ap, append_assoc, append-nil}
 use Rattle.std.proofs.lemmas.Bool.{false≢true}
 use Rattle.cedar_types.specs.declared.base.expressions.Expr.{Expr}
 use Rattle.cedar_types.specs.Types.{Ty}
@@ -47,12 +48,16 @@ pub resumed_last : (r : Operands) (es : List Finding) → ◌≡◌ {A = Operand
 resumed_last (all_typed succeeded xs) es = ap (λ ys. (all_typed succeeded ys, es)) (append-nil xs)
 resumed_last (cut_after xs) es = refl
 
-one_typed : (succeeded : Bool) (xs : List TypedTree) (p : Part) (r : Operands) → prepended (p.succeeded && succeeded) (xs ++ p.tree ∷ []) r ≡ prepended succeeded xs (with_operand p r)
-one_typed succeeded xs p (all_typed later ys) = λ i. all_typed (and_joins later p.succeeded succeeded i) (append_assoc xs (p.tree ∷ []) ys i)
+one_typed : (succeeded : Bool) (xs : List TypedTree) (p : Part) (r : Operands)
+    → prepended (p.succeeded && succeeded) (xs ++ p.tree ∷ []) r ≡ prepended succeeded xs (with_operand p r)
+one_typed succeeded xs p (all_typed later ys) =
+    λ i. all_typed (and_joins later p.succeeded succeeded i) (append_assoc xs (p.tree ∷ []) ys i)
 one_typed succeeded xs p (cut_after ys) = ap cut_after (append_assoc xs (p.tree ∷ []) ys)
 
 -- one more, where typing goes on
-resumed_next : (b : Bool) (r : Operands) (g : Option Part) (es : List Finding) (rest : List Finding → OperandsAndErrors) → (not (is_some g) && not b) ≡ false → resumed (with_element r g) (rest es) ≡ resumed r (infer_rest b g es rest)
+resumed_next : (b : Bool) (r : Operands) (g : Option Part) (es : List Finding)
+    (rest : List Finding → OperandsAndErrors) → (not (is_some g) && not b) ≡ false
+    → resumed (with_element r g) (rest es) ≡ resumed r (infer_rest b g es rest)
 resumed_next b (all_typed succeeded xs) (Some p) es rest on = ap (λ z. (z, (rest es).1)) (one_typed succeeded xs p (rest es).0)
 resumed_next true (all_typed succeeded xs) None es rest on = ap (λ ys. (cut_after ys, (rest es).1)) (sym (append-nil xs))
 resumed_next b (cut_after xs) (Some p) es rest on = refl
@@ -60,7 +65,9 @@ resumed_next true (cut_after xs) None es rest on = refl
 resumed_next false r None es rest on = absurd (true≢false on)
 
 -- and where it ends
-resumed_end : (b : Bool) (r : Operands) (g : Option Part) (es : List Finding) (rest : List Finding → OperandsAndErrors) → (not (is_some g) && not b) ≡ true → ◌≡◌ {A = OperandsAndErrors} (with_element r g, es) (resumed r (infer_rest b g es rest))
+resumed_end : (b : Bool) (r : Operands) (g : Option Part) (es : List Finding)
+    (rest : List Finding → OperandsAndErrors) → (not (is_some g) && not b) ≡ true
+    → ◌≡◌ {A = OperandsAndErrors} (with_element r g, es) (resumed r (infer_rest b g es rest))
 resumed_end b r (Some p) es rest off = absurd (false≢true off)
 resumed_end true r None es rest off = absurd (false≢true off)
 resumed_end false (all_typed succeeded xs) None es rest off = ap (λ ys. (cut_after ys, es)) (sym (append-nil xs))
@@ -73,7 +80,8 @@ first_is [] a bs = refl
 first_is (t ∷ []) a bs = refl
 first_is (t ∷ u ∷ ts) a bs = refl
 
-later_are : (ts : List Ty) (a : Source) (bs : List Source) → later_expectations (expected_arguments ts (a ∷ bs)) ≡ expected_arguments (later_types ts) bs
+later_are : (ts : List Ty) (a : Source) (bs : List Source) → later_expectations (expected_arguments ts (a ∷ bs))
+    ≡ expected_arguments (later_types ts) bs
 later_are [] a bs = refl
 later_are (t ∷ []) a bs = refl
 later_are (t ∷ u ∷ ts) a bs = refl
@@ -94,16 +102,21 @@ by_first s b x prior d es q rest =
     (expect_operand s.env q (place_of (written x)) (infer s (written x) prior d es)).1 rest
 
 -- all of them, by the first
-by_the_first : (s : Setting) (b : Bool) (ts : List Ty) (prior : Caps) (d : ℕ) (x : Untyped) (xs : List Untyped) (es es' : List Finding) (g : Option Part)
+by_the_first : (s : Setting) (b : Bool) (ts : List Ty) (prior : Caps) (d : ℕ) (x : Untyped) (xs : List Untyped)
+    (es es' : List Finding) (g : Option Part)
     → ◌≡◌ {A = PartAndErrors} (expect_operand s.env (first_wanted ts) (place_of (written x)) (infer s (written x) prior d es)) (g, es')
     → all_inferred s b ts prior d (x ∷ xs) es ≡ infer_rest b g es' (all_inferred s b (later_types ts) prior d xs)
 by_the_first s b ts prior d x xs es es' g typed =
-    ap (λ q. by_first s b x prior d es q (infer_all s b (later_expectations (expected_arguments ts (written x ∷ map written xs))) (trees_of (map written xs)) prior d)) (first_is ts (written x) (map written xs))
-    ∙ ap (λ qs. by_first s b x prior d es (first_wanted ts) (infer_all s b qs (trees_of (map written xs)) prior d)) (later_are ts (written x) (map written xs))
+    ap (λ q. by_first s b x prior d es q
+    (infer_all s b (later_expectations (expected_arguments ts (written x ∷ map written xs)))
+    (trees_of (map written xs)) prior d)) (first_is ts (written x) (map written xs))
+    ∙ ap (λ qs. by_first s b x prior d es (first_wanted ts) (infer_all s b qs (trees_of (map written xs)) prior d))
+    (later_are ts (written x) (map written xs))
     ∙ ap (λ (o : PartAndErrors). infer_rest b o.0 o.1 (all_inferred s b (later_types ts) prior d xs)) typed
 
 -- one more operand is typed
-pub one_operand : (s : Setting) (b : Bool) (ts us : List Ty) (prior : Caps) (d : ℕ) (r r' : Operands) (x : Untyped) (xs : List Untyped) (es es' : List Finding) (g : Option Part)
+pub one_operand : (s : Setting) (b : Bool) (ts us : List Ty) (prior : Caps) (d : ℕ) (r r' : Operands) (x : Untyped)
+    (xs : List Untyped) (es es' : List Finding) (g : Option Part)
     → ◌≡◌ {A = PartAndErrors} (expect_operand s.env (first_wanted ts) (place_of (written x)) (infer s (written x) prior d es)) (g, es')
     → (not (is_some g) && not b) ≡ false → r' ≡ with_element r g → us ≡ later_types ts
     → resumed r' (all_inferred s b us prior d xs es') ≡ resumed r (all_inferred s b ts prior d (x ∷ xs) es)
@@ -113,7 +126,8 @@ one_operand s b ts us prior d r r' x xs es es' g typed on more left =
     ∙ ap (resumed r) (sym (by_the_first s b ts prior d x xs es es' g typed))
 
 -- none is typed after one that is too deep
-pub last_operand : (s : Setting) (b : Bool) (ts : List Ty) (prior : Caps) (d : ℕ) (r r' : Operands) (x : Untyped) (xs : List Untyped) (es es' : List Finding) (g : Option Part)
+pub last_operand : (s : Setting) (b : Bool) (ts : List Ty) (prior : Caps) (d : ℕ) (r r' : Operands) (x : Untyped)
+    (xs : List Untyped) (es es' : List Finding) (g : Option Part)
     → ◌≡◌ {A = PartAndErrors} (expect_operand s.env (first_wanted ts) (place_of (written x)) (infer s (written x) prior d es)) (g, es')
     → (not (is_some g) && not b) ≡ true → r' ≡ with_element r g
     → resumed r (all_inferred s b ts prior d (x ∷ xs) es) ≡ (r', es')
@@ -123,12 +137,14 @@ last_operand s b ts prior d r r' x xs es es' g typed off more =
     ∙ ap (λ z. (z, es')) (sym more)
 
 -- whether typing goes on, in the program
-pub goes_further : (none b : Bool) (o : Option TypedPart) → is_some o ≡ not none → (none && not b) ≡ false → (not (is_some (option_map part_of o)) && not b) ≡ false
+pub goes_further : (none b : Bool) (o : Option TypedPart) → is_some o ≡ not none → (none && not b) ≡ false
+    → (not (is_some (option_map part_of o)) && not b) ≡ false
 goes_further none b (Some p) e h = refl
 goes_further true b None e h = h
 goes_further false b None e h = cc
 
-pub goes_no_further : (none b : Bool) (o : Option TypedPart) → is_some o ≡ not none → (none && not b) ≡ true → (not (is_some (option_map part_of o)) && not b) ≡ true
+pub goes_no_further : (none b : Bool) (o : Option TypedPart) → is_some o ≡ not none → (none && not b) ≡ true
+    → (not (is_some (option_map part_of o)) && not b) ≡ true
 goes_no_further true b (Some p) e h = cc
 goes_no_further false b (Some p) e h = cc
 goes_no_further true b None e h = h

@@ -6,7 +6,8 @@ use Rattle.cedar_types.specs.declared.base.types.CedarType.TheOpen as layer
 use Rattle.cedar_types.specs.declared.base.types.CedarType.TheVariants.{Record, rolls-Record}
 use Rattle.cedar_types.specs.declared.base.types.Attributes.{Attributes}
 use Rattle.cedar_types.specs.declared.base.types.OpenTag.{OpenTag}
-use Rattle.cedar_types.specs.Types.{Ty, TRecord, Attrs, no_attrs, attr, is_open_tag, ty_step, attribute_step, attributes_step, ty_of, attributes_of}
+use Rattle.cedar_types.specs.Types.{Ty, TRecord, Attrs, no_attrs, attr, is_open_tag, ty_step, attribute_step, attributes_step, ty_of}
+use Rattle.cedar_types.specs.Types.{attributes_of}
 use Rattle.cedar_types.specs.Types.Bounds.{common_attrs}
 use Rattle.cedar_typing.specs.TypeTests.{accepts, object_types}
 
@@ -21,8 +22,12 @@ record_accepted (attr k t r xs) true = rw (none_common xs) refl
 record_accepted (attr k t r xs) false = rw (none_common xs) refl
 
 record_is : (a : Attributes) (o : OpenTag) → ty_of (Record a o) ≡ TRecord (attributes_of a) (is_open_tag o)
-record_is a o = ap ty_of (sym (rolls-Record a o)) ∙ fold-roll-CedarType Ty (Ty × Bool) Attrs ty_step attribute_step attributes_step (layer.Record a o)
+record_is a o =
+    ap ty_of (sym (rolls-Record a o))
+    ∙ fold-roll-CedarType Ty (Ty × Bool) Attrs ty_step attribute_step attributes_step (layer.Record a o)
 
 -- also one of the program
 pub record_is_object : (t : CedarType) (a : Attributes) (o : OpenTag) → t ≡ Record a o → true ≡ accepts object_types (ty_of t)
-record_is_object t a o h = sym (ap (λ t. accepts object_types (ty_of t)) h ∙ ap (accepts object_types) (record_is a o) ∙ record_accepted (attributes_of a) (is_open_tag o))
+record_is_object t a o h =
+    sym (ap (λ t. accepts object_types (ty_of t)) h ∙ ap (accepts object_types) (record_is a o)
+    ∙ record_accepted (attributes_of a) (is_open_tag o))

@@ -1,5 +1,6 @@
 -- The fields of a record: their keys ascend, and what their typed values make of the whole.
-use Rattle.std.proofs.Common.{◌≡◌, refl, sym, ap, ◌∙◌, ◌&&◌, true, false, List, [], ◌∷◌, ◌++◌, map, Option, Some, None, option_map, Global, subst}
+use Rattle.std.proofs.Common.{◌≡◌, refl, sym, ap, ◌∙◌, ◌&&◌, true, false, List, [], ◌∷◌, ◌++◌, map, Option, Some, None, option_map, Global}
+use Rattle.std.proofs.Common.{subst}
 use Rattle.std.specs.Prelude.{if◌then◌else◌}
 use Rattle.std.specs.List.{AllByRecursion, list_all}
 use Rattle.std.specs.List.Sorted.{IsStrictlySortedBy}
@@ -39,7 +40,8 @@ pub keys_ascend : {A : Type 0} (es : List (RcStr Global × A)) → IsStrictlySor
 keys_ascend [] h = tt
 keys_ascend {A} (e ∷ es) h = (at_head es (sorted_head key_cmp e.0 (keys_of es) h), keys_ascend es (sorted_tail key_cmp e.0 (keys_of es) h))
   where
-    at_head : (fs : List (RcStr Global × A)) → AllByRecursion (λ l. key_cmp e.0 l ≡ Less) (keys_of fs) → AllByRecursion (λ l. text_cmp (text_of e.0) l ≡ Less) (keys_in fs)
+    at_head : (fs : List (RcStr Global × A)) → AllByRecursion (λ l. key_cmp e.0 l ≡ Less) (keys_of fs)
+        → AllByRecursion (λ l. text_cmp (text_of e.0) l ≡ Less) (keys_in fs)
     at_head [] h = tt
     at_head (f ∷ fs) h = (h.0, at_head fs h.1)
 
@@ -57,22 +59,29 @@ keys_append [] fs = refl
 keys_append (e ∷ es) fs = ap (λ ks. text_of e.0 ∷ ks) (keys_append es fs)
 
 -- a key that is above those before it goes last
-pub goes_last : {A : Type 0} (es : List (RcStr Global × A)) (k : RcStr Global) (v : A) → AllByRecursion (λ l. text_cmp l (text_of k) ≡ Less) (keys_in es) → insert_entry key_cmp es k v ≡ es ++ (k, v) ∷ []
+pub goes_last : {A : Type 0} (es : List (RcStr Global × A)) (k : RcStr Global) (v : A)
+    → AllByRecursion (λ l. text_cmp l (text_of k) ≡ Less) (keys_in es)
+    → insert_entry key_cmp es k v ≡ es ++ (k, v) ∷ []
 goes_last [] k v h = refl
 goes_last (e ∷ es) k v h =
-    ap (λ o. match_ordering o ((k, v) ∷ e ∷ es) ((e.0, v) ∷ es) (e ∷ insert_entry key_cmp es k v)) (nat_list_cmp_total.antisymm (text_of k) (text_of e.0) ∙ ap ordering_reverse h.0)
+    ap (λ o. match_ordering o ((k, v) ∷ e ∷ es) ((e.0, v) ∷ es) (e ∷ insert_entry key_cmp es k v))
+    (nat_list_cmp_total.antisymm (text_of k) (text_of e.0) ∙ ap ordering_reverse h.0)
     ∙ ap (λ r. e ∷ r) (goes_last es k v h.1)
 
 -- the key that comes next is above those before it
-pub key_is_last : {A B : Type 0} (news : List (RcStr Global × A)) (done : List (RcStr Global × B)) (e : RcStr Global × B) (left : List (RcStr Global × B)) (k : RcStr Global)
+pub key_is_last : {A B : Type 0} (news : List (RcStr Global × A)) (done : List (RcStr Global × B))
+    (e : RcStr Global × B) (left : List (RcStr Global × B)) (k : RcStr Global)
     → keys_in news ≡ keys_in done → text_of k ≡ text_of e.0 → IsStrictlySortedBy key_cmp (keys_of (done ++ e ∷ left))
     → AllByRecursion (λ l. text_cmp l (text_of k) ≡ Less) (keys_in news)
 key_is_last news done e left k same named h =
-    let ordered : Ascends (keys_in done ++ text_of e.0 ∷ keys_in left) = subst Ascends (keys_append done (e ∷ left)) (keys_ascend (done ++ e ∷ left) h) in
+    let ordered : Ascends (keys_in done ++ text_of e.0 ∷ keys_in left) = subst Ascends (keys_append done (e ∷ left))
+    (keys_ascend (done ++ e ∷ left) h) in
     let below = below_next (keys_in done) (text_of e.0) (keys_in left) ordered in
-    subst (λ ks. AllByRecursion (λ l. text_cmp l (text_of k) ≡ Less) ks) (sym same) (subst (λ t. AllByRecursion (λ l. text_cmp l t ≡ Less) (keys_in done)) (sym named) below)
+    subst (λ ks. AllByRecursion (λ l. text_cmp l (text_of k) ≡ Less) ks) (sym same)
+    (subst (λ t. AllByRecursion (λ l. text_cmp l t ≡ Less) (keys_in done)) (sym named) below)
 
-pub keys_with_last : {A B : Type 0} (news : List (RcStr Global × A)) (done : List (RcStr Global × B)) (e : RcStr Global × B) (k : RcStr Global) (v : A)
+pub keys_with_last : {A B : Type 0} (news : List (RcStr Global × A)) (done : List (RcStr Global × B))
+    (e : RcStr Global × B) (k : RcStr Global) (v : A)
     → keys_in news ≡ keys_in done → text_of k ≡ text_of e.0
     → keys_in (news ++ (k, v) ∷ []) ≡ keys_in (done ++ e ∷ [])
 keys_with_last news done e k v same named =
@@ -103,7 +112,8 @@ abbrev pub attrs_typed : List TypedField → Option Attrs
 attrs_typed [] = Some no_attrs
 attrs_typed (e ∷ es) = with_attr (text_of e.0) (annotation (typed_tree e.1)) (attrs_typed es)
 
-with_required : (k : Text) (ks : List Text) (t : Option Ty) (ts : Option (List Ty)) → with_attr k t (option_map (required_attrs ks) ts) ≡ option_map (required_attrs (k ∷ ks)) (with_type t ts)
+with_required : (k : Text) (ks : List Text) (t : Option Ty) (ts : Option (List Ty))
+    → with_attr k t (option_map (required_attrs ks) ts) ≡ option_map (required_attrs (k ∷ ks)) (with_type t ts)
 with_required k ks None ts = refl
 with_required k ks (Some t) None = refl
 with_required k ks (Some t) (Some ts) = refl
@@ -115,12 +125,16 @@ required_by (e ∷ es) =
     ∙ with_required (text_of e.0) (keys_in es) (annotation (typed_tree e.1)) (all_types (types_found (trees_in es)))
 
 -- one more field, with a type
-with_last : (k : Text) (t : Option Ty) (ys : Attrs) (xs : Option Attrs) → with_attr k t (option_map (λ zs. join_attrs zs ys) xs) ≡ option_map (λ zs. join_attrs zs ys) (with_attr k t xs)
+with_last : (k : Text) (t : Option Ty) (ys : Attrs) (xs : Option Attrs)
+    → with_attr k t (option_map (λ zs. join_attrs zs ys) xs)
+    ≡ option_map (λ zs. join_attrs zs ys) (with_attr k t xs)
 with_last k None ys xs = refl
 with_last k (Some t) ys None = refl
 with_last k (Some t) ys (Some xs) = refl
 
-pub one_more_attr : (es : List TypedField) (e : TypedField) (t : Ty) → annotation (typed_tree e.1) ≡ Some t → attrs_typed (es ++ e ∷ []) ≡ option_map (λ xs. join_attrs xs (attr (text_of e.0) t true no_attrs)) (attrs_typed es)
+pub one_more_attr : (es : List TypedField) (e : TypedField) (t : Ty) → annotation (typed_tree e.1) ≡ Some t
+    → attrs_typed (es ++ e ∷ [])
+    ≡ option_map (λ xs. join_attrs xs (attr (text_of e.0) t true no_attrs)) (attrs_typed es)
 one_more_attr [] e t h = ap (λ o. with_attr (text_of e.0) o (Some no_attrs)) h
 one_more_attr (f ∷ es) e t h =
     ap (with_attr (text_of f.0) (annotation (typed_tree f.1))) (one_more_attr es e t h)
@@ -131,20 +145,24 @@ without_type k None = refl
 without_type k (Some t) = refl
 
 -- a field without a type
-lacks_type : (es : List TypedField) (e : TypedField) (more : List TypedField) → annotation (typed_tree e.1) ≡ None → attrs_typed (es ++ e ∷ more) ≡ None
+lacks_type : (es : List TypedField) (e : TypedField) (more : List TypedField) → annotation (typed_tree e.1) ≡ None
+    → attrs_typed (es ++ e ∷ more) ≡ None
 lacks_type [] e more h = ap (λ o. with_attr (text_of e.0) o (attrs_typed more)) h
 lacks_type (f ∷ es) e more h =
     ap (with_attr (text_of f.0) (annotation (typed_tree f.1))) (lacks_type es e more h)
     ∙ without_type (text_of f.0) (annotation (typed_tree f.1))
 
 module _ (env : TypeEnv) (l : Option Loc) where
-  decides_typed : (ks : List Text) (ts : Option (List Ty)) (xs : Attrs) → texts_ascending ks ≡ true → option_map (required_attrs ks) ts ≡ Some xs → record_of_types env l ks ts ≡ gives (TRecord xs false) no_caps
+  decides_typed : (ks : List Text) (ts : Option (List Ty)) (xs : Attrs) → texts_ascending ks ≡ true
+      → option_map (required_attrs ks) ts ≡ Some xs → record_of_types env l ks ts ≡ gives (TRecord xs false) no_caps
   decides_typed ks None xs h g = absurd (none_is g)
   decides_typed ks (Some ts) xs h g =
-      ap (λ b. if b then gives (TRecord (required_attrs ks ts) false) no_caps else refuses None (finding env l internal_invariant_violation ∷ [])) h
+      ap (λ b. if b then gives (TRecord (required_attrs ks ts) false) no_caps
+      else refuses None (finding env l internal_invariant_violation ∷ [])) h
       ∙ ap (λ zs. gives (TRecord zs false) no_caps) (some_is g)
 
-  decides_untyped : (ks : List Text) (ts : Option (List Ty)) → option_map (required_attrs ks) ts ≡ None → record_of_types env l ks ts ≡ refuses None []
+  decides_untyped : (ks : List Text) (ts : Option (List Ty)) → option_map (required_attrs ks) ts ≡ None
+      → record_of_types env l ks ts ≡ refuses None []
   decides_untyped ks None g = refl
   decides_untyped ks (Some ts) g = absurd (none_is (sym g))
 
@@ -153,5 +171,7 @@ module _ (env : TypeEnv) (l : Option Loc) where
   typed_fields_decide es xs s h = decides_typed (keys_in es) _ xs (is_ascending (keys_in es) (keys_ascend es s)) (sym (required_by es) ∙ h)
 
   pub untyped_field_decides : (es : List TypedField) (e : TypedField) (more : List TypedField) → annotation (typed_tree e.1) ≡ None
-      → record_of_types env l (keys_in (es ++ e ∷ more)) (all_types (types_found (trees_in (es ++ e ∷ more)))) ≡ decision_without_errors None
-  untyped_field_decides es e more h = decides_untyped (keys_in (es ++ e ∷ more)) _ (sym (required_by (es ++ e ∷ more)) ∙ lacks_type es e more h)
+      → record_of_types env l (keys_in (es ++ e ∷ more)) (all_types (types_found (trees_in (es ++ e ∷ more))))
+      ≡ decision_without_errors None
+  untyped_field_decides es e more h =
+      decides_untyped (keys_in (es ++ e ∷ more)) _ (sym (required_by (es ++ e ∷ more)) ∙ lacks_type es e more h)

@@ -24,7 +24,12 @@ one_more (TypecheckSuccess e c) p h =
     record { hands_on = tt; handed = (ap (λ z. (z.typed, z.capabilities)) q, tt); succeeded = sym (ap (λ z. z.succeeded) q) }
 one_more (TypecheckFail e) p h =
     let q = some_is h.2 in
-    record { hands_on = tt; handed = ((ap (λ z. z.typed) q, subst (λ c. HasNone (caps c)) (sym (ap (λ z. z.capabilities) q)) h.1), tt); succeeded = sym (ap (λ z. z.succeeded) q) }
+    record {
+      hands_on = tt;
+      handed =
+          ((ap (λ z. z.typed) q, subst (λ c. HasNone (caps c)) (sym (ap (λ z. z.capabilities) q)) h.1), tt);
+      succeeded = sym (ap (λ z. z.succeeded) q);
+    }
 one_more RecursionLimit p h = cc
 
 pub is_limit : (a : TypecheckAnswer) → HandsOn a None → a ≡ RecursionLimit
@@ -39,7 +44,8 @@ all_more (Ok (TypecheckFail e) ∷ xs) ys h k = all_more xs ys h k
 all_more (Ok RecursionLimit ∷ xs) ys h k = absurd h
 all_more (Err e ∷ xs) ys h k = absurd h
 
-pub handed_more : (xs ys : List Answered) (hs ks : List (TypedExpr × CapabilitySet)) → AreHanded xs hs → AreHanded ys ks → AreHanded (xs ++ ys) (hs ++ ks)
+pub handed_more : (xs ys : List Answered) (hs ks : List (TypedExpr × CapabilitySet)) → AreHanded xs hs
+    → AreHanded ys ks → AreHanded (xs ++ ys) (hs ++ ks)
 handed_more [] ys [] ks h k = k
 handed_more [] ys (x ∷ hs) ks h k = absurd h
 handed_more (Ok (TypecheckSuccess e c) ∷ xs) ys [] ks h k = absurd h
@@ -62,7 +68,9 @@ none_more (Err e ∷ xs) ys = none_more xs ys
 
 module _ {S : Type 0} (steps : S → Option Answered → S → Type 0) where
   -- all items are taken
-  pub drained : (s t u : S) (xs : List Answered) (g : Gathered) → Yields steps s xs t → steps t None u → AllHandOn xs → AreHanded xs g.handed.items → g.is_limit ≡ false → g.succeeded ≡ none_failed xs → Gathers steps s g
+  pub drained : (s t u : S) (xs : List Answered) (g : Gathered) → Yields steps s xs t → steps t None u
+      → AllHandOn xs → AreHanded xs g.handed.items → g.is_limit ≡ false
+      → g.succeeded ≡ none_failed xs → Gathers steps s g
   drained s t u xs g y n h i l k = record {
     taken = record { before = xs; last = None; rest = u; yields = (t, y, n); hand_on = h; ends = tt };
     in_order = i;
@@ -71,7 +79,9 @@ module _ {S : Type 0} (steps : S → Option Answered → S → Type 0) where
   }
 
   -- a limit came
-  pub cut : (s t u : S) (xs : List Answered) (x : Answered) (g : Gathered) → Yields steps s xs t → steps t (Some x) u → x ≡ Ok RecursionLimit → AllHandOn xs → AreHanded xs g.handed.items → g.is_limit ≡ true → g.succeeded ≡ none_failed xs → Gathers steps s g
+  pub cut : (s t u : S) (xs : List Answered) (x : Answered) (g : Gathered) → Yields steps s xs t
+      → steps t (Some x) u → x ≡ Ok RecursionLimit → AllHandOn xs → AreHanded xs g.handed.items → g.is_limit ≡ true
+      → g.succeeded ≡ none_failed xs → Gathers steps s g
   cut s t u xs x g y n q h i l k = record {
     taken = record { before = xs; last = Some x; rest = u; yields = (t, y, n); hand_on = h; ends = q };
     in_order = i;

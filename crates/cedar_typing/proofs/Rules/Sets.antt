@@ -1,5 +1,6 @@
 -- The types of the elements of a set: those found so far, and those that are left.
-use Rattle.std.proofs.Common.{◌≡◌, ℕ, suc, ◌+◌, ◌<◌, length, get_or, drop, add-one, drop-cons, List, [], ◌∷◌, ◌++◌, map, Option, Some, None, option_map, refl, sym, ◌∙◌, ap, append_assoc}
+use Rattle.std.proofs.Common.{◌≡◌, ℕ, suc, ◌+◌, ◌<◌, length, get_or, drop, add-one, drop-cons, List, [], ◌∷◌, ◌++◌, map, Option, Some, None}
+use Rattle.std.proofs.Common.{option_map, refl, sym, ◌∙◌, ap, append_assoc}
 use Rattle.cedar_types.specs.declared.base.expressions.Expr.{Expr}
 use Rattle.cedar_types.specs.declared.base.types.CedarType.{CedarType}
 use Rattle.cedar_types.specs.Types.{Ty, ty_of}
@@ -24,7 +25,8 @@ joined : (ts : List Ty) (t : Ty) (o : Option (List Ty)) → after (ts ++ t ∷ [
 joined ts t None = refl
 joined ts t (Some us) = ap Some (append_assoc ts (t ∷ []) us)
 
-pub one_type : (ts : List Ty) (x : Typed) (xs : List Typed) (t : CedarType) → x.annotation ≡ Some t → after (ts ++ ty_of t ∷ []) (types_in xs) ≡ after ts (types_in (x ∷ xs))
+pub one_type : (ts : List Ty) (x : Typed) (xs : List Typed) (t : CedarType) → x.annotation ≡ Some t
+    → after (ts ++ ty_of t ∷ []) (types_in xs) ≡ after ts (types_in (x ∷ xs))
 one_type ts x xs t h =
     joined ts (ty_of t) (types_in xs)
     ∙ ap (λ z. after ts (with_type z (types_in xs))) (sym (annotation_is x ∙ ap (option_map ty_of) h))

@@ -11,7 +11,8 @@ use Rattle.cedar_types.specs.Expressions.View.{Written}
 use Rattle.cedar_typing.specs.Capabilities.{Caps, union}
 use Rattle.cedar_typing.specs.Eager.{Decision, gives, refuses}
 use Rattle.cedar_typing.specs.Rules.Attributes.{attribute_of, has_decides, has_form, get_decides, get_form}
-use Rattle.cedar_typing.specs.Rules.Chains.{Progress, no_steps, is_object, step_type, step, end_of_chain, after_access, made_up, link, chain, chain_form}
+use Rattle.cedar_typing.specs.Rules.Chains.{Progress, no_steps, is_object, step_type, step, end_of_chain, after_access, made_up, link}
+use Rattle.cedar_typing.specs.Rules.Chains.{chain, chain_form}
 use Rattle.cedar_typing.specs.Rules.Tags.{tag_of, has_tag_form, tag_by_bound, get_known_tag, get_tag_form}
 use Rattle.cedar_typing.specs.TypeEnv.{TypeEnv}
 use Rattle.cedar_typing.specs.TypeTests.{is_false}
@@ -23,11 +24,13 @@ use Rattle.cedar_typing.proofs.KeptTypes.Chains.{after_step}
 -- ---- `has` and `.`
 
 module _ (env : TypeEnv) where
-  has_decided : (x : Text) (there : Cap) (known : Bool) (s : Ty) (a : Option (Ty × Bool)) → IsLoudDecision (has_decides env x there known s a)
+  has_decided : (x : Text) (there : Cap) (known : Bool) (s : Ty) (a : Option (Ty × Bool))
+      → IsLoudDecision (has_decides env x there known s a)
   has_decided x there known s (Some a) = tt
   has_decided x there known s None = tt
 
-  get_decided : (l : Option Loc) (x : Text) (known : Bool) (s : Ty) (a : Option (Ty × Bool)) → IsLoudDecision (get_decides env l x known s a)
+  get_decided : (l : Option Loc) (x : Text) (known : Bool) (s : Ty) (a : Option (Ty × Bool))
+      → IsLoudDecision (get_decides env l x known s a)
   get_decided l x known s (Some a) = loud_if (a.1 || known) _ _ tt refl
   get_decided l x known s None = loud_if (is_partial env.mode && may_have env.schema s x) _ _ tt refl
 
@@ -43,25 +46,31 @@ module _ (env : TypeEnv) where
 
   -- ---- extended `has`
 
-  step_loud : (l : Option Loc) (there : Cap) (known : Bool) (s : Ty) (x : Text) (p : Progress) (next : Progress → Decision) → ((q : Progress) → IsLoudDecision (next q))
+  step_loud : (l : Option Loc) (there : Cap) (known : Bool) (s : Ty) (x : Text) (p : Progress)
+      (next : Progress → Decision) → ((q : Progress) → IsLoudDecision (next q))
       → IsLoudDecision (step env l there known s x p next)
   step_loud l there known s x p next h =
       loud_if (is_object s) _ _ (loud_if (is_false (step_type env s x known (attribute_type env.schema s x))) _ _ tt (h _)) refl
 
-  after_loud : (d : Decision) (next : Ty → Decision) → IsLoudDecision d → ((t : Ty) → IsLoudDecision (next t)) → IsLoudDecision (after_access d next)
+  after_loud : (d : Decision) (next : Ty → Decision) → IsLoudDecision d → ((t : Ty) → IsLoudDecision (next t))
+      → IsLoudDecision (after_access d next)
   after_loud (gives t c) next h k = k t
   after_loud (refuses t es) next h k = h
 
-  link_loud : (l : Option Loc) (prior : Caps) (e : Source) (s : Ty) (x : Text) (p : Progress) (next : Ty → Progress → Decision) → ((t : Ty) (q : Progress) → IsLoudDecision (next t q))
+  link_loud : (l : Option Loc) (prior : Caps) (e : Source) (s : Ty) (x : Text) (p : Progress)
+      (next : Ty → Progress → Decision) → ((t : Ty) (q : Progress) → IsLoudDecision (next t q))
       → IsLoudDecision (link env l prior e s x p next)
   link_loud l prior e s x p next h =
       step_loud l (attribute_of e x) (union prior p.earned (attribute_of e x)) s x p (after_step env l prior e s x next)
       (λ q. after_loud (get_decides env l x (union prior q.earned (attribute_of e x)) s (attribute_type env.schema s x)) (λ t. next t q)
       (get_decided l x (union prior q.earned (attribute_of e x)) s (attribute_type env.schema s x)) (λ t. h t q))
 
-  steps_loud : (l l' : Option Loc) (prior : Caps) (xs : List Text) (e : Source) (s : Ty) (x : Text) (p : Progress) → IsLoudDecision (chain env l l' prior xs e s x p)
+  steps_loud : (l l' : Option Loc) (prior : Caps) (xs : List Text) (e : Source) (s : Ty) (x : Text) (p : Progress)
+      → IsLoudDecision (chain env l l' prior xs e s x p)
   steps_loud l l' prior [] e s x p = step_loud l (attribute_of e x) (union prior p.earned (attribute_of e x)) s x p end_of_chain (λ q. tt)
-  steps_loud l l' prior (y ∷ ys) e s x p = link_loud l prior e s x p (λ t q. chain env l' l' prior ys (made_up e x) t y q) (λ t q. steps_loud l' l' prior ys (made_up e x) t y q)
+  steps_loud l l' prior (y ∷ ys) e s x p =
+      link_loud l prior e s x p (λ t q. chain env l' l' prior ys (made_up e x) t y q)
+      (λ t q. steps_loud l' l' prior ys (made_up e x) t y q)
 
   pub chain_loud : (m : Written) (prior : Caps) (e : Source) (x : Text) (xs : List Text) → LoudForm 1 (chain_form env m prior e x xs)
   chain_loud m prior e x xs [] h = absurd h

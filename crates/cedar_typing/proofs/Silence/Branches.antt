@@ -15,7 +15,8 @@ use Rattle.cedar_typing.specs.Rules.ShortCircuit.{Connective, short_circuit_rule
 use Rattle.cedar_typing.specs.TypeEnv.{TypeEnv}
 use Rattle.cedar_typing.specs.TypeTests.{bool_types}
 use Rattle.cedar_typing.specs.TypedExpr.{TypedTree, annotation}
-use Rattle.cedar_typing.proofs.Silence.Parts.{IsLoud, loud_before, loud_after, loud_of_two, IsKnown, Knows, Loud, part_loud, part_known, operand_loud}
+use Rattle.cedar_typing.proofs.Silence.Parts.{IsLoud, loud_before, loud_after, loud_of_two, IsKnown, Knows, Loud, part_loud, part_known}
+use Rattle.cedar_typing.proofs.Silence.Parts.{operand_loud}
 
 -- ---- types without a bound
 
@@ -39,7 +40,8 @@ loud_of_all true true true j es fs gs hs f g h k e = loud_after (es ++ fs ++ gs)
 
 -- ---- the rules
 
-module _ (env : TypeEnv) (m : Written) (l : Option Loc) (A : Judgment) (B : Caps → Judgment) (prior : Caps) (a : Loud A) (b : (p : Caps) → Loud (B p)) where
+module _ (env : TypeEnv) (m : Written) (l : Option Loc) (A : Judgment) (B : Caps → Judgment) (prior : Caps)
+    (a : Loud A) (b : (p : Caps) → Loud (B p)) where
   module _ (f : Connective) (l' : Option Loc) where
     abbrev Sides : Judgment
     Sides = short_circuit_rules env f m l l' A B prior
@@ -47,7 +49,8 @@ module _ (env : TypeEnv) (m : Written) (l : Option Loc) (A : Judgment) (B : Caps
     sides_failures : (x : TypedTree) (es : List Finding) → Sides.recovers x es → IsLoud es
     sides_failures x es (left_ends_failed p n) = operand_loud A a env bool_types l _ _ _ _ p refl
     sides_failures x es (side_failed {succeeded = s} {succeeded' = s'} {c = c} {es = before} {es' = after} p n q h) =
-        loud_of_two s s' before after (operand_loud A a env bool_types l _ _ _ _ p) (operand_loud _ (b (f.right_prior prior c)) env bool_types l' _ _ _ _ q) h
+        loud_of_two s s' before after (operand_loud A a env bool_types l _ _ _ _ p)
+        (operand_loud _ (b (f.right_prior prior c)) env bool_types l' _ _ _ _ q) h
 
     pub short_circuit_loud : Knows Sides → Loud Sides
     short_circuit_loud s = record { failures = sides_failures; single = s }
@@ -61,10 +64,13 @@ module _ (env : TypeEnv) (m : Written) (l : Option Loc) (A : Judgment) (B : Caps
         loud_of_two s s' before after (operand_loud A a env bool_types l _ _ _ _ p) (part_loud _ (b (union prior c)) _ _ _ _ q) h
     if_failures x es (if_false_recovered {succeeded = s} {succeeded' = s'} {es = before} {es' = after} p n q h) =
         loud_of_two s s' before after (operand_loud A a env bool_types l _ _ _ _ p) (part_loud E e _ _ _ _ q) h
-    if_failures x es (if_open_recovered {succeeded = s} {succeeded' = s'} {succeeded'' = s''} {c = c} {b = y} {e = z} {es = fs} {es' = gs} {es'' = hs} p n n' q q' h) =
+    if_failures x es
+        (if_open_recovered {succeeded = s} {succeeded' = s'} {succeeded'' = s''} {c = c} {b = y} {e = z} {es = fs} {es' = gs} {es'' = hs}
+        p n n' q q' h) =
         loud_of_all s s' s'' (is_some (joined env.mode (annotation y) (annotation z))) fs gs hs _
         (operand_loud A a env bool_types l _ _ _ _ p) (part_loud _ (b (union prior c)) _ _ _ _ q) (part_loud E e _ _ _ _ q')
-        (λ i j. join_loud env m.place Conditional (annotation y) (annotation z) (part_known _ (b (union prior c)) _ _ _ _ q i) (part_known E e _ _ _ _ q' j)) h
+        (λ i j. join_loud env m.place Conditional (annotation y) (annotation z)
+        (part_known _ (b (union prior c)) _ _ _ _ q i) (part_known E e _ _ _ _ q' j)) h
 
     pub if_loud : Knows Choice → Loud Choice
     if_loud s = record { failures = if_failures; single = s }

@@ -4,7 +4,8 @@ use Rattle.std.specs.Prelude.{IsPermutation}
 use Rattle.std.proofs.lemmas.List.Sorted.{IsPermutation-sym}
 use Rattle.cedar_types.specs.Errors.{Finding}
 use Rattle.cedar_typing.specs.Capabilities.{no_caps}
-use Rattle.cedar_typing.specs.PolicyCheck.{Verdict, fails, RefusedCondition, PolicyChecks, check_true, check_false, check_refused_false, check_refused, check_cut}
+use Rattle.cedar_typing.specs.PolicyCheck.{Verdict, fails, RefusedCondition, PolicyChecks, check_true, check_false, check_refused_false}
+use Rattle.cedar_typing.specs.PolicyCheck.{check_refused, check_cut}
 use Rattle.cedar_typing.specs.PolicyCheck.Outcome.{is_silent, passes}
 use Rattle.cedar_typing.specs.Rules.Laws.{IsCut}
 use Rattle.cedar_typing.specs.Rules.{rules}
@@ -27,7 +28,8 @@ module _ (strictly : Bool) (s : Setting) (ok : Settled strictly s) (e : Source) 
   -- a refused condition has an error
   refused_loud : (x : TypedTree) (es fs : List Finding) → RefusedCondition s e x es → IsPermutation es fs → is_silent fs ≡ true → ⊥
   refused_loud x es fs (c, o) p q =
-      let h = operand_loud (rules s e no_caps 1) (loud strictly s ok e (clean s.env.schema e named) no_caps 1) s.env bool_types (place_of e) false c x es o refl in
+      let h = operand_loud (rules s e no_caps 1) (loud strictly s ok e (clean s.env.schema e named) no_caps 1)
+      s.env bool_types (place_of e) false c x es o refl in
       true≢false (sym q ∙ reordered_loud es fs p h)
 
   pub silent_cut : (fs : List Finding) → PolicyChecks s e (fails fs) → is_silent fs ≡ true → IsCut s e no_caps 1

@@ -1,10 +1,12 @@
 -- What an expression is where nothing in it is unknown: its literals and actions are declared.
-use Rattle.std.proofs.Common.{◌≡◌, inl, inr, Bool, true, false, not, ◌&&◌, ◌||◌, List, [], ◌∷◌, ◌++◌, map, filter, Option, Some, None, if◌then◌else◌, refl, sym, ◌∙◌, subst}
+use Rattle.std.proofs.Common.{◌≡◌, inl, inr, Bool, true, false, not, ◌&&◌, ◌||◌, List, [], ◌∷◌, ◌++◌, map, filter, Option, Some, None}
+use Rattle.std.proofs.Common.{if◌then◌else◌, refl, sym, ◌∙◌, subst}
 use Rattle.std.specs.List.{list_any, flat_map}
 use Rattle.std.proofs.lemmas.List.Folds.{list_any-append}
 use Rattle.cedar_types.specs.Environments.{DeclaredEnv, principal_environments, action_environments, environments_of}
 use Rattle.cedar_types.specs.Errors.{unrecognized_entity_type, unrecognized_action_id}
-use Rattle.cedar_types.specs.Templates.Findings.{uids_named, types_named, template_uids, template_types, is_unknown_type, is_unknown_action, finding_at}
+use Rattle.cedar_types.specs.Templates.Findings.{uids_named, types_named, template_uids, template_types, is_unknown_type, is_unknown_action}
+use Rattle.cedar_types.specs.Templates.Findings.{finding_at}
 use Rattle.cedar_types.specs.Lemmas.Comparisons.{uid_same}
 use Rattle.cedar_types.specs.Types.Lookups.{declares_entity}
 use Rattle.cedar_types.specs.Names.{Uid, PlacedType, PlacedUid, uid_eq, is_action_path}
@@ -75,15 +77,20 @@ none_filtered : {A B : Type 0} (f : A → B) (p : A → Bool) (xs : List A) → 
 none_filtered f p [] h = refl
 none_filtered f p (x ∷ xs) h = by_test (p x) (none_filtered f p xs) h
   where
-    by_test : (b : Bool) → (map f (filter p xs) ≡ [] → list_any p xs ≡ false) → map f (if b then x ∷ filter p xs else filter p xs) ≡ [] → (b || list_any p xs) ≡ false
+    by_test : (b : Bool) → (map f (filter p xs) ≡ [] → list_any p xs ≡ false)
+        → map f (if b then x ∷ filter p xs else filter p xs) ≡ [] → (b || list_any p xs) ≡ false
     by_test true k e = cc
     by_test false k e = k e
 
 pub condition_is_well_named : ConditionIsWellNamed
 condition_is_well_named s t h = record {
   unknowns = h.unknowns;
-  types = none_filtered (λ (n : PlacedType). finding_at t n.place (unrecognized_entity_type n.name)) (λ n. is_unknown_type s n.name) (template_types t) h.types;
-  actions = none_filtered (λ (n : PlacedUid). finding_at t n.place (unrecognized_action_id n.uid)) (λ n. is_unknown_action s n.uid) (template_uids t) h.actions;
+  types =
+      none_filtered (λ (n : PlacedType). finding_at t n.place (unrecognized_entity_type n.name))
+      (λ n. is_unknown_type s n.name) (template_types t) h.types;
+  actions =
+      none_filtered (λ (n : PlacedUid). finding_at t n.place (unrecognized_action_id n.uid))
+      (λ n. is_unknown_action s n.uid) (template_uids t) h.actions;
 }
 
 -- ---- literals
@@ -106,7 +113,8 @@ module _ (s : Schema) where
   action_is_declared true false h k = cc
   action_is_declared false declared h k = cc
 
-  pub action_declared : (m : Written) (u : Uid) → IsClean s (lit m (entity u)) → is_action_path u.entity_type ≡ true → declares_action s.actions u ≡ true
+  pub action_declared : (m : Written) (u : Uid) → IsClean s (lit m (entity u)) → is_action_path u.entity_type ≡ true
+      → declares_action s.actions u ≡ true
   action_declared m u h =
       action_is_declared (is_action_path u.entity_type) (declares_action s.actions u) (neither_left (is_unknown_action s u) false h.actions)
 
@@ -122,7 +130,8 @@ module _ (s : Schema) (faults : has_fault s ≡ false) where
   abbrev IsGood : DeclaredEnv → Type 0
   IsGood d = (is_action_path d.action.entity_type ≡ true) × (declares_action s.actions d.action ≡ true)
 
-  mapped_good : (u : Uid) (context : Ty) (p : _) (rs : List _) → (is_action_path u.entity_type ≡ true) × (declares_action s.actions u ≡ true)
+  mapped_good : (u : Uid) (context : Ty) (p : _) (rs : List _) → (is_action_path u.entity_type ≡ true)
+      × (declares_action s.actions u ≡ true)
       → (d : DeclaredEnv) → IsOneOf d (principal_environments u context rs p) → IsGood d
   mapped_good u context p [] g d h = absurd h
   mapped_good u context p (r ∷ rs) g d (inl e) = subst IsGood (sym e) g
@@ -154,5 +163,6 @@ module _ (s : Schema) (faults : has_fault s ≡ false) where
   pub action_typed : (r : Env) → IsEnvironmentOf s r → action_ty s r ≡ None → ⊥
   action_typed (Declared d ps rs) h e =
       let g = env_action d h in
-      typed_if (declares_entity s d.action) d.action (entity_if (is_action_path d.action.entity_type) _ (declares_type s.types d.action.entity_type) g.0 g.1) e
+      typed_if (declares_entity s d.action) d.action
+      (entity_if (is_action_path d.action.entity_type) _ (declares_type s.types d.action.entity_type) g.0 g.1) e
   action_typed Undeclared h e = h

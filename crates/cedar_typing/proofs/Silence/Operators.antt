@@ -16,7 +16,8 @@ use Rattle.cedar_typing.specs.Eager.{Decision, first_type, second_type}
 use Rattle.cedar_typing.specs.Evaluation.Conformance.{IsEnvironmentOf}
 use Rattle.cedar_typing.specs.Rules.Binary.{binary_form}
 use Rattle.cedar_typing.specs.Rules.Equality.{literal_of, equality_type, equality_form}
-use Rattle.cedar_typing.specs.Rules.Membership.{entity_of, with_entity, entities_of, ancestors_of, is_action, only_actions, action_decides, in_decides, in_form}
+use Rattle.cedar_typing.specs.Rules.Membership.{entity_of, with_entity, entities_of, ancestors_of, is_action, only_actions, action_decides}
+use Rattle.cedar_typing.specs.Rules.Membership.{in_decides, in_form}
 use Rattle.cedar_typing.specs.TypeEnv.{TypeEnv}
 use Rattle.cedar_typing.specs.TypeTests.{is_any_bool}
 use Rattle.cedar_typing.specs.TypedExpr.{Source, place_of}
@@ -36,8 +37,10 @@ module _ (env : TypeEnv) (faults : has_fault env.schema ≡ false) (of_schema : 
   abbrev IsDeclared : Uid → Type 0
   IsDeclared u = is_action u ≡ true → declares_action env.schema.actions u ≡ true
 
-  variable_declared : (r : Env) → IsEnvironmentOf env.schema r → (m : Written) (x : Var) (u : Uid) → entity_of r (var m x) ≡ Some u → IsDeclared u
-  variable_declared (Declared d ps rs) h m Var.Action u e k = subst (λ v. declares_action env.schema.actions v ≡ true) (some_is e) (env_action env.schema faults d h).1
+  variable_declared : (r : Env) → IsEnvironmentOf env.schema r → (m : Written) (x : Var) (u : Uid)
+      → entity_of r (var m x) ≡ Some u → IsDeclared u
+  variable_declared (Declared d ps rs) h m Var.Action u e k =
+      subst (λ v. declares_action env.schema.actions v ≡ true) (some_is e) (env_action env.schema faults d h).1
   variable_declared Undeclared h m Var.Action u e k = absurd h
   variable_declared r h m Var.Principal u e k = cc
   variable_declared r h m Var.Resource u e k = cc
@@ -53,28 +56,35 @@ module _ (env : TypeEnv) (faults : has_fault env.schema ≡ false) (of_schema : 
 
   one_more_declared : (b : Bool) (u : Uid) (us : List Uid) → (b ≡ true → declares_action env.schema.actions u ≡ true) → AreDeclared us
       → list_all (declares_action env.schema.actions) (if b then u ∷ only_actions us else only_actions us) ≡ true
-  one_more_declared true u us f h = and_both (declares_action env.schema.actions u) (list_all (declares_action env.schema.actions) (only_actions us)) (f refl) h
+  one_more_declared true u us f h =
+      and_both (declares_action env.schema.actions u)
+      (list_all (declares_action env.schema.actions) (only_actions us)) (f refl) h
   one_more_declared false u us f h = h
 
-  with_declared : (o : Option Uid) (os : Option (List Uid)) (vs : List Uid) → ((u : Uid) → o ≡ Some u → IsDeclared u) → ((us : List Uid) → os ≡ Some us → AreDeclared us)
+  with_declared : (o : Option Uid) (os : Option (List Uid)) (vs : List Uid)
+      → ((u : Uid) → o ≡ Some u → IsDeclared u) → ((us : List Uid) → os ≡ Some us → AreDeclared us)
       → with_entity o os ≡ Some vs → AreDeclared vs
   with_declared None None vs f g e = cc
   with_declared None (Some us) vs f g e = cc
   with_declared (Some u) None vs f g e = cc
   with_declared (Some u) (Some us) vs f g e = subst AreDeclared (some_is e) (one_more_declared (is_action u) u us (f u refl) (g us refl))
 
-  listed_declared : (ts : Trees Written) → AreClean env.schema (subexpressions_of_all ts) → (vs : List Uid) → entities_of env.request_env ts ≡ Some vs → AreDeclared vs
+  listed_declared : (ts : Trees Written) → AreClean env.schema (subexpressions_of_all ts) → (vs : List Uid)
+      → entities_of env.request_env ts ≡ Some vs → AreDeclared vs
   listed_declared no_trees h vs e = subst AreDeclared (some_is e) refl
   listed_declared (tree x ts) h vs e =
       let xs = subexpressions_of_all ts in
       with_declared (entity_of env.request_env x) (entities_of env.request_env ts) vs
-      (entity_declared x (clean_right env.schema xs (subexpressions x) h)) (listed_declared ts (clean_left env.schema xs (subexpressions x) h)) e
+      (entity_declared x (clean_right env.schema xs (subexpressions x) h))
+      (listed_declared ts (clean_left env.schema xs (subexpressions x) h)) e
 
-  alone_declared : (o : Option Uid) (vs : List Uid) → ((u : Uid) → o ≡ Some u → IsDeclared u) → option_map (λ u. u ∷ []) o ≡ Some vs → AreDeclared vs
+  alone_declared : (o : Option Uid) (vs : List Uid) → ((u : Uid) → o ≡ Some u → IsDeclared u)
+      → option_map (λ u. u ∷ []) o ≡ Some vs → AreDeclared vs
   alone_declared None vs f e = cc
   alone_declared (Some u) vs f e = subst AreDeclared (some_is e) (one_more_declared (is_action u) u [] (f u refl) refl)
 
-  ancestors_declared : (e : Source) → AreClean env.schema (subexpressions e) → (vs : List Uid) → ancestors_of env.request_env e ≡ Some vs → AreDeclared vs
+  ancestors_declared : (e : Source) → AreClean env.schema (subexpressions e) → (vs : List Uid)
+      → ancestors_of env.request_env e ≡ Some vs → AreDeclared vs
   ancestors_declared (set_of m ts) h vs q = listed_declared ts h.1 vs q
   ancestors_declared e h vs q = alone_declared (entity_of env.request_env e) vs (entity_declared e h) q
 
@@ -87,13 +97,16 @@ module _ (env : TypeEnv) (faults : has_fault env.schema ≡ false) (of_schema : 
   action_loud : (u : Uid) (vs : List Uid) → AreDeclared vs → IsLoudDecision (action_decides env u (only_actions vs))
   action_loud u vs h = declared_loud (list_all (declares_action env.schema.actions) (only_actions vs)) _ _ h tt
 
-  entities_loud : (u : Option Uid) (vs : Option (List Uid)) (s t : Option Ty) → ((us : List Uid) → vs ≡ Some us → AreDeclared us) → IsLoudDecision (in_decides env u vs s t)
+  entities_loud : (u : Option Uid) (vs : Option (List Uid)) (s t : Option Ty)
+      → ((us : List Uid) → vs ≡ Some us → AreDeclared us) → IsLoudDecision (in_decides env u vs s t)
   entities_loud (Some u) (Some vs) s t f = loud_if (is_action u) _ _ (action_loud u vs (f vs refl)) tt
   entities_loud None vs s t f = tt
   entities_loud (Some u) None s t f = tt
 
   in_loud : (m : Written) (a b : Source) → AreClean env.schema (subexpressions b) → LoudForm 2 (in_form env m a b)
-  in_loud m a b h ts k = entities_loud (entity_of env.request_env a) (ancestors_of env.request_env b) (first_type ts) (second_type ts) (ancestors_declared b h)
+  in_loud m a b h ts k =
+      entities_loud (entity_of env.request_env a) (ancestors_of env.request_env b) (first_type ts) (second_type ts)
+      (ancestors_declared b h)
 
   -- ---- all operators
 
@@ -103,7 +116,8 @@ module _ (env : TypeEnv) (faults : has_fault env.schema ≡ false) (of_schema : 
       let y = literal_of env.request_env b in
       loud_if (is_any_bool (equality_type x y (first_type ts) (second_type ts))) _ _ (loud_unless _ _) tt
 
-  pub binary_loud : (m : Written) (prior : Caps) (a b : Source) (o : BinaryOp) → AreClean env.schema (subexpressions b) → LoudForm 2 (binary_form env m prior a b o)
+  pub binary_loud : (m : Written) (prior : Caps) (a b : Source) (o : BinaryOp)
+      → AreClean env.schema (subexpressions b) → LoudForm 2 (binary_form env m prior a b o)
   binary_loud m prior a b BinaryOp.Eq h = equality_loud m a b
   binary_loud m prior a b BinaryOp.Less h = comparison_loud env m (place_of a) (place_of b) BinaryOp.Less
   binary_loud m prior a b BinaryOp.LessEq h = comparison_loud env m (place_of a) (place_of b) BinaryOp.LessEq

@@ -85,7 +85,8 @@ module _ (J : Judgment) (loud : Loud J) where
     operand_loud b c x es (refused {es = fs} t p n a) h = loud_after fs _ refl
     operand_loud b c x es (missing {succeeded = s} {c = k} p n) h = missing_loud s k x es p n
 
-    pub operand_known : (b : Bool) (c : Caps) (x : TypedTree) (es : List Finding) → Operand env ts l J b c x es → b ≡ true → IsKnown (annotation x)
+    pub operand_known : (b : Bool) (c : Caps) (x : TypedTree) (es : List Finding) → Operand env ts l J b c x es
+        → b ≡ true → IsKnown (annotation x)
     operand_known b c x es (accepted t p n a) h = part_known b c x es p h
     operand_known b c x es (refused t p n a) h = absurd (true≢false (sym h))
     operand_known b c x es (missing p n) h = absurd (true≢false (sym h))

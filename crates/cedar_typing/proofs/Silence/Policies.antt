@@ -54,15 +54,18 @@ module _ (s : Schema) where
   unlinked_of_schema ValidationMode.Permissive h u i = of_schema (environments_of s.actions) (λ d k. k) u i
   unlinked_of_schema ValidationMode.Partial h u i = cc
 
-  pub checked_of_schema : (m : ValidationMode) → is_partial m ≡ false → (t : PlainTemplate) (e : Env) → IsOneOf e (checked_envs s m t) → IsEnvironmentOf s e
+  pub checked_of_schema : (m : ValidationMode) → is_partial m ≡ false → (t : PlainTemplate) (e : Env)
+      → IsOneOf e (checked_envs s m t) → IsEnvironmentOf s e
   checked_of_schema m h t =
       all_flat (linked_envs s t) (IsEnvironmentOf s) (unlinked_envs s m)
       (λ u i. linked_of_schema t u (unlinked_of_schema m h u i))
 
 -- ---- the verdicts
 
-module _ (strictly : Bool) (s : Setting) (t : PlainTemplate) (strict : is_strict s.env.mode ≡ strictly) (total : is_partial s.env.mode ≡ false)
-    (formed : (strictly || has_formed_types s.env.schema) ≡ true) (schema : has_fault s.env.schema ≡ false) (functions : table_fault s.functions ≡ None) where
+module _ (strictly : Bool) (s : Setting) (t : PlainTemplate) (strict : is_strict s.env.mode ≡ strictly)
+    (total : is_partial s.env.mode ≡ false)
+    (formed : (strictly || has_formed_types s.env.schema) ≡ true) (schema : has_fault s.env.schema ≡ false)
+    (functions : table_fault s.functions ≡ None) where
   pub passing_derived_in : IsWellNamedTemplate s.env.schema t → (errors errors' : List Finding) (warnings warnings' : List Caution)
       → PolicyOutcome (ChecksOf s t) (checked_envs s.env.schema s.env.mode t) t true errors errors' warnings warnings'
       → (env : Env) → IsOneOf env (checked_envs s.env.schema s.env.mode t) → IsDerivedIn s t env
@@ -85,4 +88,5 @@ module _ (strictly : Bool) (s : Setting) (t : PlainTemplate) (strict : is_strict
 
 pub passing_policy_is_derived : PassingPolicyIsDerived
 passing_policy_is_derived s t ok named errors errors' warnings warnings' o e i =
-    passing_derived_in true s t (ap is_strict ok.mode) (ap is_partial ok.mode) refl ok.schema ok.functions named errors errors' warnings warnings' o e i
+    passing_derived_in true s t (ap is_strict ok.mode) (ap is_partial ok.mode) refl ok.schema ok.functions named
+    errors errors' warnings warnings' o e i

@@ -61,7 +61,8 @@ pub arithmetic_loud : (m : Written) (o : BinaryOp) → LoudForm 2 (arithmetic_fo
 arithmetic_loud m o ts h = tt
 
 -- two types, the first of which is not Never
-apart_loud : (b b' same : Bool) (d d' e : Decision) (es : List Finding) (t : Ty) → b ≡ false → IsLoudDecision d' → IsLoudDecision e → IsLoud es
+apart_loud : (b b' same : Bool) (d d' e : Decision) (es : List Finding) (t : Ty) → b ≡ false → IsLoudDecision d'
+    → IsLoudDecision e → IsLoud es
     → IsLoudDecision (if b && b' then refuses (Some t) [] else if b then d else if b' then d' else if same then e else refuses (Some t) es)
 apart_loud true b' same d d' e es t n h k l = cc
 apart_loud false true same d d' e es t n h k l = h
@@ -124,7 +125,8 @@ module _ (env : TypeEnv) (m : Written) where
 
   -- ---- calls
 
-  function_loud : (f : Option ExtensionFunction) (n : Path) (xs : List Source) → IsLoudDecision (call_decides (return_type f) (call_errors env m.place f n xs))
+  function_loud : (f : Option ExtensionFunction) (n : Path) (xs : List Source)
+      → IsLoudDecision (call_decides (return_type f) (call_errors env m.place f n xs))
   function_loud None n xs = refl
   function_loud (Some f) n xs = loud_unless (call_errors env m.place (Some f) n xs) f.return_type
 

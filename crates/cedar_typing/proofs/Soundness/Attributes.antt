@@ -72,7 +72,8 @@ module _ (env : TypeEnv) (world : World) (conforms : ConformingStore env.schema 
   true_has (Gives v) h = true_test (has_test world.store x v) h
   true_has (Fails f) h = tt
 
-  false_has : (s : Ty) (o : Outcome) → HasFound (Some s) o → accepts object_types s ≡ true → may_have env.schema s x ≡ false → HasFound (Some (TBool False)) (whole_has o)
+  false_has : (s : Ty) (o : Outcome) → HasFound (Some s) o → accepts object_types s ≡ true
+      → may_have env.schema s x ≡ false → HasFound (Some (TBool False)) (whole_has o)
   false_has s (Gives v) h a n = false_test (has_test world.store x v) (has_not env.schema x world.store conforms s v a h n)
   false_has s (Fails f) h a n = tt
 
@@ -86,36 +87,46 @@ module _ (env : TypeEnv) (world : World) (conforms : ConformingStore env.schema 
       subst (λ t. IsSafe (of_test t)) (sym c.1) tt
   has_safe s (Fails f) h a g = g
 
-  required_there : (s t : Ty) (r : Bool) (o : Outcome) → HasFound (Some s) o → attribute_type env.schema s x ≡ Some (t, r) → r ≡ true → is_record s ≡ true → HasAttribute world.store x o
+  required_there : (s t : Ty) (r : Bool) (o : Outcome) → HasFound (Some s) o
+      → attribute_type env.schema s x ≡ Some (t, r) → r ≡ true → is_record s ≡ true → HasAttribute world.store x o
   required_there s t r (Gives v) h e f i =
       let P : Bool → Type 0 = λ q. attribute_type env.schema s x ≡ Some (t, q) in
       required_has env.schema x world.store conforms s t v i h (subst P f e)
   required_there s t r (Fails f) h e g i = tt
 
   -- where `has` is True, the attribute is there
-  sure_there : (s t : Ty) (r known : Bool) (o : Outcome) → (known ≡ true → HasAttribute world.store x o) → HasFound (Some s) o → attribute_type env.schema s x ≡ Some (t, r) → (known || (r && is_record s)) ≡ true → HasAttribute world.store x o
+  sure_there : (s t : Ty) (r known : Bool) (o : Outcome) → (known ≡ true → HasAttribute world.store x o)
+      → HasFound (Some s) o → attribute_type env.schema s x ≡ Some (t, r) → (known || (r && is_record s)) ≡ true
+      → HasAttribute world.store x o
   sure_there s t r known o k h e =
-      or_cases known (r && is_record s) (HasAttribute world.store x o) k (both_cases r (is_record s) (HasAttribute world.store x o) (required_there s t r o h e))
+      or_cases known (r && is_record s) (HasAttribute world.store x o) k
+      (both_cases r (is_record s) (HasAttribute world.store x o) (required_there s t r o h e))
 
-  declared_typed : (b : Bool) (o : Outcome) → (b ≡ true → HasAttribute world.store x o) → HasFound (Some (if b then TBool True else TBool AnyBool)) (whole_has o)
+  declared_typed : (b : Bool) (o : Outcome) → (b ≡ true → HasAttribute world.store x o)
+      → HasFound (Some (if b then TBool True else TBool AnyBool)) (whole_has o)
   declared_typed true o h = true_has o (h refl)
   declared_typed false o h = any_has o
 
-  undeclared_typed : (s : Ty) (b : Bool) (o : Outcome) → HasFound (Some s) o → accepts object_types s ≡ true → may_have env.schema s x ≡ b → HasFound (Some (if b then TBool AnyBool else TBool False)) (whole_has o)
+  undeclared_typed : (s : Ty) (b : Bool) (o : Outcome) → HasFound (Some s) o → accepts object_types s ≡ true
+      → may_have env.schema s x ≡ b → HasFound (Some (if b then TBool AnyBool else TBool False)) (whole_has o)
   undeclared_typed s true o h a e = any_has o
   undeclared_typed s false o h a e = false_has s o h a e
 
-  got_typed : (s t : Ty) (r : Bool) (o : Outcome) → Joins env.schema s → HasFound (Some s) o → attribute_type env.schema s x ≡ Some (t, r) → HasFound (Some t) (whole_get o)
+  got_typed : (s t : Ty) (r : Bool) (o : Outcome) → Joins env.schema s → HasFound (Some s) o
+      → attribute_type env.schema s x ≡ Some (t, r) → HasFound (Some t) (whole_get o)
   got_typed s t r (Gives v) j h e = get_typed env.schema x world.store conforms s t r v j h e
   got_typed s t r (Fails f) j h e = tt
 
-  got_safe : (s t : Ty) (r known : Bool) (o : Outcome) → (known ≡ true → HasAttribute world.store x o) → Joins env.schema s → HasFound (Some s) o → attribute_type env.schema s x ≡ Some (t, r) → (r || known) ≡ true → IsSafe o → IsSafe (whole_get o)
+  got_safe : (s t : Ty) (r known : Bool) (o : Outcome) → (known ≡ true → HasAttribute world.store x o)
+      → Joins env.schema s → HasFound (Some s) o → attribute_type env.schema s x ≡ Some (t, r) → (r || known) ≡ true
+      → IsSafe o → IsSafe (whole_get o)
   got_safe s t r known (Gives v) k j h e g f = get_safe env.schema x world.store conforms s t r known v j h e k g
   got_safe s t r known (Fails z) k j h e g f = f
 
 -- ---- `has` and `.`
 
-module _ (env : TypeEnv) (world : World) (conforms : ConformingStore env.schema world.store) (m : Written) (prior : Caps) (hold : AllHold world prior) (e : Source) (x : Text) where
+module _ (env : TypeEnv) (world : World) (conforms : ConformingStore env.schema world.store) (m : Written)
+    (prior : Caps) (hold : AllHold world prior) (e : Source) (x : Text) where
   abbrev base : Outcome
   base = eval world e
 
@@ -131,15 +142,22 @@ module _ (env : TypeEnv) (world : World) (conforms : ConformingStore env.schema 
   there_holds h = hold_just world (attribute_of e x) (subst (HasAttribute world.store x) (sym (eval_form world e)) h)
 
   module _ (s : Ty) (h : HasFound (Some s) base) (accepted : accepts object_types s ≡ true) where
-    has_decided : (a : Option (Ty × Bool)) → attribute_type env.schema s x ≡ a → HasFound (decided_type (has_decides env x (attribute_of e x) known s a)) (eval world (has_attr m e x))
-    has_decided (Some a) q = declared_typed env world conforms x (known || (a.1 && is_record s)) base (sure_there env world conforms x s a.0 a.1 known base known_there h q)
+    has_decided : (a : Option (Ty × Bool)) → attribute_type env.schema s x ≡ a
+        → HasFound (decided_type (has_decides env x (attribute_of e x) known s a)) (eval world (has_attr m e x))
+    has_decided (Some a) q =
+        declared_typed env world conforms x (known || (a.1 && is_record s)) base
+        (sure_there env world conforms x s a.0 a.1 known base known_there h q)
     has_decided None q = undeclared_typed env world conforms x s (may_have env.schema s x) base h accepted refl
 
-    has_gift : (a : Option (Ty × Bool)) → attribute_type env.schema s x ≡ a → GiftIsSound world (base ∷ []) (eval world (has_attr m e x)) (has_decides env x (attribute_of e x) known s a)
+    has_gift : (a : Option (Ty × Bool)) → attribute_type env.schema s x ≡ a
+        → GiftIsSound world (base ∷ []) (eval world (has_attr m e x))
+        (has_decides env x (attribute_of e x) known s a)
     has_gift (Some a) q = record {
       safe = λ g. has_safe env world conforms x s base h accepted g.0;
       caps_hold_if_true = λ g. there_holds (has_told env world conforms x base g);
-      caps_hold_at_true = λ g. there_holds (sure_there env world conforms x s a.0 a.1 known base known_there h q (if_sure (known || (a.1 && is_record s)) g));
+      caps_hold_at_true =
+          λ g. there_holds (sure_there env world conforms x s a.0 a.1 known base known_there h q
+          (if_sure (known || (a.1 && is_record s)) g));
     }
     has_gift None q = record {
       safe = λ g. has_safe env world conforms x s base h accepted g.0;
@@ -150,26 +168,33 @@ module _ (env : TypeEnv) (world : World) (conforms : ConformingStore env.schema 
   pub has_sound : SoundForm world (has_form env m prior e x) (base ∷ []) (eval world (has_attr m e x))
   has_sound = record { typed = typed; succeeds = succeeds; failed = λ t h. h }
     where
-      typed : (ts : List (Option Ty)) → AreTypes (has_form env m prior e x) (base ∷ []) ts → HasFound (decided_type ((has_form env m prior e x).decides ts)) (eval world (has_attr m e x))
+      typed : (ts : List (Option Ty)) → AreTypes (has_form env m prior e x) (base ∷ []) ts
+          → HasFound (decided_type ((has_form env m prior e x).decides ts)) (eval world (has_attr m e x))
       typed [] a = absurd a.have
       typed (None ∷ ts) a = any_has env world conforms x base
       typed (Some s ∷ ts) a = has_decided s a.have.0 a.meet.0 (attribute_type env.schema s x) refl
 
-      succeeds : (ts : List (Option Ty)) → AreTypes (has_form env m prior e x) (base ∷ []) ts → AllFound ts → GiftIsSound world (base ∷ []) (eval world (has_attr m e x)) ((has_form env m prior e x).decides ts)
+      succeeds : (ts : List (Option Ty)) → AreTypes (has_form env m prior e x) (base ∷ []) ts → AllFound ts
+          → GiftIsSound world (base ∷ []) (eval world (has_attr m e x)) ((has_form env m prior e x).decides ts)
       succeeds [] a f = absurd a.have
       succeeds (None ∷ ts) a f = absurd f.0
       succeeds (Some s ∷ ts) a f = has_gift s a.have.0 a.meet.0 (attribute_type env.schema s x) refl
 
   module _ (total : is_partial env.mode ≡ false) (s : Ty) (h : HasFound (Some s) base) (joins : Joins env.schema s) where
-    guarded_typed : (b : Bool) (t : Ty) (fs : List Finding) → HasFound (Some t) (eval world (get_attr m e x)) → HasFound (decided_type (if b then gives t no_caps else refuses (Some t) fs)) (eval world (get_attr m e x))
+    guarded_typed : (b : Bool) (t : Ty) (fs : List Finding) → HasFound (Some t) (eval world (get_attr m e x))
+        → HasFound (decided_type (if b then gives t no_caps else refuses (Some t) fs)) (eval world (get_attr m e x))
     guarded_typed true t fs k = k
     guarded_typed false t fs k = k
 
-    get_decided : (a : Option (Ty × Bool)) → attribute_type env.schema s x ≡ a → HasFound (decided_type (get_decides env m.place x known s a)) (eval world (get_attr m e x))
+    get_decided : (a : Option (Ty × Bool)) → attribute_type env.schema s x ≡ a
+        → HasFound (decided_type (get_decides env m.place x known s a)) (eval world (get_attr m e x))
     get_decided (Some a) q = guarded_typed (a.1 || known) a.0 _ (got_typed env world conforms x s a.0 a.1 base joins h q)
     get_decided None q = rw total tt
 
-    guarded_gift : (b : Bool) (a : Ty × Bool) (fs : List Finding) → (a.1 || known) ≡ b → attribute_type env.schema s x ≡ Some a → GiftIsSound world (base ∷ []) (eval world (get_attr m e x)) (if b then gives a.0 no_caps else refuses (Some a.0) fs)
+    guarded_gift : (b : Bool) (a : Ty × Bool) (fs : List Finding) → (a.1 || known) ≡ b
+        → attribute_type env.schema s x ≡ Some a
+        → GiftIsSound world (base ∷ []) (eval world (get_attr m e x)) (if b then gives a.0 no_caps
+        else refuses (Some a.0) fs)
     guarded_gift true a fs g q = record {
       safe = λ f. got_safe env world conforms x s a.0 a.1 known base known_there joins h q g f.0;
       caps_hold_if_true = λ f. hold_none world;
@@ -177,19 +202,26 @@ module _ (env : TypeEnv) (world : World) (conforms : ConformingStore env.schema 
     }
     guarded_gift false a fs g q = tt
 
-    get_gift : (a : Option (Ty × Bool)) → attribute_type env.schema s x ≡ a → GiftIsSound world (base ∷ []) (eval world (get_attr m e x)) (get_decides env m.place x known s a)
+    get_gift : (a : Option (Ty × Bool)) → attribute_type env.schema s x ≡ a
+        → GiftIsSound world (base ∷ []) (eval world (get_attr m e x)) (get_decides env m.place x known s a)
     get_gift (Some a) q = guarded_gift (a.1 || known) a _ refl q
     get_gift None q = rw total tt
 
-  pub get_sound : (strictly : Bool) → is_partial env.mode ≡ false → ((s : Ty) → KeptIn strictly s → Joins env.schema s) → SoundKeptForm strictly world (get_form env m prior e x) (base ∷ []) (eval world (get_attr m e x))
+  pub get_sound : (strictly : Bool) → is_partial env.mode ≡ false
+      → ((s : Ty) → KeptIn strictly s → Joins env.schema s)
+      → SoundKeptForm strictly world (get_form env m prior e x) (base ∷ []) (eval world (get_attr m e x))
   get_sound strictly total joins = record { typed = typed; succeeds = succeeds; failed = λ t h. h }
     where
-      typed : (ts : List (Option Ty)) → AreTypes (get_form env m prior e x) (base ∷ []) ts → AllKept (KeptIn strictly) ts → HasFound (decided_type ((get_form env m prior e x).decides ts)) (eval world (get_attr m e x))
+      typed : (ts : List (Option Ty)) → AreTypes (get_form env m prior e x) (base ∷ []) ts
+          → AllKept (KeptIn strictly) ts → HasFound (decided_type ((get_form env m prior e x).decides ts))
+          (eval world (get_attr m e x))
       typed [] a n = absurd a.have
       typed (None ∷ ts) a n = tt
       typed (Some s ∷ ts) a n = get_decided total s a.have.0 (joins s n.0) (attribute_type env.schema s x) refl
 
-      succeeds : (ts : List (Option Ty)) → AreTypes (get_form env m prior e x) (base ∷ []) ts → AllKept (KeptIn strictly) ts → AllFound ts → GiftIsSound world (base ∷ []) (eval world (get_attr m e x)) ((get_form env m prior e x).decides ts)
+      succeeds : (ts : List (Option Ty)) → AreTypes (get_form env m prior e x) (base ∷ []) ts
+          → AllKept (KeptIn strictly) ts → AllFound ts → GiftIsSound world (base ∷ []) (eval world (get_attr m e x))
+          ((get_form env m prior e x).decides ts)
       succeeds [] a n f = absurd a.have
       succeeds (None ∷ ts) a n f = absurd f.0
       succeeds (Some s ∷ ts) a n f = get_gift total s a.have.0 (joins s n.0) (attribute_type env.schema s x) refl

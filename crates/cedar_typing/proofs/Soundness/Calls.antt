@@ -38,7 +38,9 @@ module _ (s : Setting) (world : World) (keeps : KeepsTable (table s) world.funct
   abbrev call_from : Outcomes → Outcome
   call_from os = on_values os (λ vs. called (call_value world.functions.calls n vs))
 
-  from_has : (t : Ty) (os : Outcomes) → ((vs : Values) (v : Value) → call_value world.functions.calls n vs ≡ Some v → HasType t v) → HasFound (Some t) (call_from os)
+  from_has : (t : Ty) (os : Outcomes)
+      → ((vs : Values) (v : Value) → call_value world.functions.calls n vs ≡ Some v → HasType t v)
+      → HasFound (Some t) (call_from os)
   from_has t (GiveAll vs) h = value_has t (call_value world.functions.calls n vs) (h vs)
   from_has t (FailAt f) h = tt
 
@@ -61,7 +63,8 @@ module _ (s : Setting) (world : World) (keeps : KeepsTable (table s) world.funct
     call_gift (Some t) [] = silent_gift world os whole t (λ h. from_safe (together os) (together_safe os h))
     call_gift (Some t) (e ∷ es) = tt
 
-    call_sound : (t : Option Ty) (qs : List Expectation) (es : List Finding) → HasFound t whole → SoundForm world (form_of_call m n t qs es) os whole
+    call_sound : (t : Option Ty) (qs : List Expectation) (es : List Finding) → HasFound t whole
+        → SoundForm world (form_of_call m n t qs es) os whole
     call_sound t qs es h = record {
       typed = λ ts a. subst (λ z. HasFound z whole) (sym (call_type t es)) h;
       succeeds = λ ts a k. call_gift t es;
@@ -70,11 +73,13 @@ module _ (s : Setting) (world : World) (keeps : KeepsTable (table s) world.funct
 
   -- ---- evaluation
 
-  pub call_sounds : (strictly : Bool) (m : Written) (ts : Trees Written) (Js : Judgments) → SoundsAll strictly world (call_form s.env s.functions m n (arguments ts)).expects (outcomes world ts) Js
+  pub call_sounds : (strictly : Bool) (m : Written) (ts : Trees Written) (Js : Judgments)
+      → SoundsAll strictly world (call_form s.env s.functions m n (arguments ts)).expects (outcomes world ts) Js
       → Sounds world (eval world (call m n ts)) (eager_rules (call_form s.env s.functions m n (arguments ts)) Js)
   call_sounds strictly m ts Js operands =
       let f = call_form s.env s.functions m n (arguments ts) in
       let os = outcomes world ts in
       let h = returned (function_named n s.functions) refl (together os) in
       subst (λ z. Sounds world (call_from z) (eager_rules f Js)) (evaluated_together world ts)
-      (form_sounds strictly world f (λ k xs. refl) os (call_from (together os)) (of_any strictly world f os (call_from (together os)) (call_sound m os _ _ _ h)) Js operands)
+      (form_sounds strictly world f (λ k xs. refl) os (call_from (together os))
+      (of_any strictly world f os (call_from (together os)) (call_sound m os _ _ _ h)) Js operands)

@@ -1,14 +1,18 @@
 -- Capabilities that hold: of sets put together, and of an expression seen by its form.
 use Rattle.std.proofs.Common.{◌≡◌, refl, sym, ap, subst}
 use Rattle.cedar_types.specs.Lemmas.Comparisons.{and_left, and_right}
-use Rattle.cedar_types.specs.Expressions.Tree.{Tree, lit, var, slot, unknown, if_then_else, and, or, unary, binary, call, get_attr, has_attr, ext_has_attr, like, is_type, set_of, record_of, Trees, no_trees, tree, Fields, no_fields, field, map_tree, map_trees, map_fields}
+use Rattle.cedar_types.specs.Expressions.Tree.{Tree, lit, var, slot, unknown, if_then_else, and, or, unary, binary, call, get_attr}
+use Rattle.cedar_types.specs.Expressions.Tree.{has_attr, ext_has_attr, like, is_type, set_of, record_of, Trees, no_trees, tree, Fields}
+use Rattle.cedar_types.specs.Expressions.Tree.{no_fields, field, map_tree, map_trees, map_fields}
 use Rattle.cedar_types.specs.Capability.{Cap}
 use Rattle.cedar_types.proofs.Caps.{cap_to}
 use Rattle.cedar_types.specs.Values.{VSet}
 use Rattle.cedar_typing.specs.Capabilities.{Caps, no_caps, single, union, intersection}
 use Rattle.cedar_typing.specs.Evaluation.Conformance.{Holds, AllHold}
-use Rattle.cedar_typing.specs.Evaluation.Eval.{has_test, get, path_test, like_outcome, is_of, called, unary_outcome, binary_outcome, eval, eval_all, eval_fields}
-use Rattle.cedar_typing.specs.Evaluation.Outcomes.{test_of, of_test, and_test, or_test, choose, on_value, then_test, on_values, more_outcomes, record_outcome, more_entry_outcomes}
+use Rattle.cedar_typing.specs.Evaluation.Eval.{has_test, get, path_test, like_outcome, is_of, called, unary_outcome, binary_outcome, eval}
+use Rattle.cedar_typing.specs.Evaluation.Eval.{eval_all, eval_fields}
+use Rattle.cedar_typing.specs.Evaluation.Outcomes.{test_of, of_test, and_test, or_test, choose, on_value, then_test, on_values}
+use Rattle.cedar_typing.specs.Evaluation.Outcomes.{more_outcomes, record_outcome, more_entry_outcomes}
 use Rattle.cedar_typing.specs.Evaluation.World.{World, Gives, call_value}
 use Rattle.cedar_typing.specs.TypedExpr.{Source, form_of}
 use Rattle.cedar_typing.proofs.Basics.{or_cases}
@@ -26,7 +30,9 @@ module _ (world : World) {D E : Type 0} (g : D → E) where
     eval_mapped (and m a b) = λ i. of_test (and_test (test_of (eval_mapped a i)) (test_of (eval_mapped b i)))
     eval_mapped (or m a b) = λ i. of_test (or_test (test_of (eval_mapped a i)) (test_of (eval_mapped b i)))
     eval_mapped (unary m o a) = ap (unary_outcome o) (eval_mapped a)
-    eval_mapped (binary m o a b) = λ i. on_value (eval_mapped a i) (λ x. on_value (eval_mapped b i) (binary_outcome world.store world.functions o x))
+    eval_mapped (binary m o a b) =
+        λ i. on_value (eval_mapped a i)
+        (λ x. on_value (eval_mapped b i) (binary_outcome world.store world.functions o x))
     eval_mapped (call m f ts) = ap (λ os. on_values os (λ vs. called (call_value world.functions.calls f vs))) (eval_all_mapped ts)
     eval_mapped (get_attr m a x) = ap (λ o. on_value o (get world.store x)) (eval_mapped a)
     eval_mapped (has_attr m a x) = ap (λ o. of_test (then_test o (has_test world.store x))) (eval_mapped a)

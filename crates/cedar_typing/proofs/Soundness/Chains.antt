@@ -31,10 +31,14 @@ use Rattle.cedar_typing.proofs.KeptTypes.Types.{keeping, KeptIn, formed_if}
 use Rattle.cedar_typing.proofs.Soundness.Capabilities.{hold_none}
 use Rattle.cedar_typing.proofs.Soundness.Eager.{AreTypes, GiftIsSound, AllFound, SoundKeptForm}
 use Rattle.cedar_typing.proofs.Values.Attributes.{get_typed, get_safe}
-use Rattle.cedar_typing.proofs.Soundness.Chains.Steps.{RestIsSound, SoundRest, HoldsIfSure, any_test, refused_rest, end_rest, last_step, first_step, known, known_there, step_rest}
+use Rattle.cedar_typing.proofs.Soundness.Chains.Steps.{RestIsSound, SoundRest, HoldsIfSure, any_test, refused_rest, end_rest, last_step}
+use Rattle.cedar_typing.proofs.Soundness.Chains.Steps.{first_step, known, known_there, step_rest}
 pub mod Steps
 
-module _ (strictly : Bool) (env : TypeEnv) (world : World) (conforms : ConformingStore env.schema world.store) (prior : Caps) (hold : AllHold world prior) (faults : has_fault env.schema ≡ false) (formed : (strictly || has_formed_types env.schema) ≡ true) (total : is_partial env.mode ≡ false) (joins : (s : Ty) → KeptIn strictly s → Joins env.schema s) where
+module _ (strictly : Bool) (env : TypeEnv) (world : World) (conforms : ConformingStore env.schema world.store)
+    (prior : Caps) (hold : AllHold world prior) (faults : has_fault env.schema ≡ false)
+    (formed : (strictly || has_formed_types env.schema) ≡ true) (total : is_partial env.mode ≡ false)
+    (joins : (s : Ty) → KeptIn strictly s → Joins env.schema s) where
   -- ---- the access between two steps
 
   module _ (e : Source) (s : Ty) (h : HasFound (Some s) (eval world e)) (n : KeptIn strictly s) (x : Text) (p : Progress) where
@@ -45,17 +49,22 @@ module _ (strictly : Bool) (env : TypeEnv) (world : World) (conforms : Conformin
     abbrev known_now : Bool
     known_now = known prior e x p
 
-    got_typed : (u : Ty) (r : Bool) (o : Outcome) → HasFound (Some s) o → attribute_type env.schema s x ≡ Some (u, r) → HasFound (Some u) (got o)
+    got_typed : (u : Ty) (r : Bool) (o : Outcome) → HasFound (Some s) o
+        → attribute_type env.schema s x ≡ Some (u, r) → HasFound (Some u) (got o)
     got_typed u r (Gives v) k f = get_typed env.schema x world.store conforms s u r v (joins s n) k f
     got_typed u r (Fails z) k f = tt
 
-    got_safe : (u : Ty) (r : Bool) (o : Outcome) → (known_now ≡ true → HasAttribute world.store x o) → HasFound (Some s) o → attribute_type env.schema s x ≡ Some (u, r) → (r || known_now) ≡ true
+    got_safe : (u : Ty) (r : Bool) (o : Outcome) → (known_now ≡ true → HasAttribute world.store x o)
+        → HasFound (Some s) o → attribute_type env.schema s x ≡ Some (u, r) → (r || known_now) ≡ true
         → IsSafe o → IsSafe (got o)
     got_safe u r (Gives v) i k f c g = get_safe env.schema x world.store conforms s u r known_now v (joins s n) k f i c
     got_safe u r (Fails z) i k f c g = g
 
-    module _ (t : Test) (next : Ty → Decision) (rest : (u : Ty) → HasFound (Some u) (got (eval world e)) → KeptIn strictly u → SoundRest world (got (eval world e)) p t (next u)) where
-      got_gift : (u : Ty) (r : Bool) → attribute_type env.schema s x ≡ Some (u, r) → (r || known_now) ≡ true → (d : Decision) → RestIsSound world (got (eval world e)) p t d → RestIsSound world (eval world e) p t d
+    module _ (t : Test) (next : Ty → Decision)
+        (rest : (u : Ty) → HasFound (Some u) (got (eval world e)) → KeptIn strictly u
+        → SoundRest world (got (eval world e)) p t (next u)) where
+      got_gift : (u : Ty) (r : Bool) → attribute_type env.schema s x ≡ Some (u, r) → (r || known_now) ≡ true
+          → (d : Decision) → RestIsSound world (got (eval world e)) p t d → RestIsSound world (eval world e) p t d
       got_gift u r f c (gives w cs) k = record {
         safe = λ i g. k.safe i (got_safe u r (eval world e) (known_there world prior hold e x p i) h f c g);
         caps_hold_if_true = k.caps_hold_if_true;
@@ -66,17 +75,21 @@ module _ (strictly : Bool) (env : TypeEnv) (world : World) (conforms : Conformin
       declared_rest : (u : Ty) (r b : Bool) (fs : List Finding) → attribute_type env.schema s x ≡ Some (u, r) → (r || known_now) ≡ b
           → SoundRest world (eval world e) p t (after_access (if b then gives u no_caps else refuses (Some u) fs) next)
       declared_rest u r true fs f c =
-          let k = rest u (got_typed u r (eval world e) h f) (attribute_kept (keeping strictly) env.schema faults (formed_if strictly (has_formed_types env.schema) formed) s x u r n f) in
+          let k = rest u (got_typed u r (eval world e) h f)
+          (attribute_kept (keeping strictly) env.schema faults
+          (formed_if strictly (has_formed_types env.schema) formed) s x u r n f) in
           record { typed = k.typed; boolean = k.boolean; sure = k.sure; succeeds = got_gift u r f c (next u) k.succeeds }
       declared_rest u r false fs f c = refused_rest world (eval world e) p t fs
 
-      access_rest : (l : Option Loc) (a : Option (Ty × Bool)) → attribute_type env.schema s x ≡ a → SoundRest world (eval world e) p t (after_access (get_decides env l x known_now s a) next)
+      access_rest : (l : Option Loc) (a : Option (Ty × Bool)) → attribute_type env.schema s x ≡ a
+          → SoundRest world (eval world e) p t (after_access (get_decides env l x known_now s a) next)
       access_rest l (Some a) f = declared_rest a.0 a.1 (a.1 || known_now) _ f refl
       access_rest l None f = rw total (refused_rest world (eval world e) p t _)
 
   -- ---- from step to step
 
-  chain_rest : (l l' : Option Loc) (xs : List Text) (e : Source) (s : Ty) (x : Text) (p : Progress) → HasFound (Some s) (eval world e) → KeptIn strictly s → HoldsIfSure world p
+  chain_rest : (l l' : Option Loc) (xs : List Text) (e : Source) (s : Ty) (x : Text) (p : Progress)
+      → HasFound (Some s) (eval world e) → KeptIn strictly s → HoldsIfSure world p
       → SoundRest world (eval world e) p (then_test (eval world e) (path_test world.store x xs)) (chain env l l' prior xs e s x p)
   chain_rest l l' [] e s x p h n holds =
       subst (λ t. SoundRest world (eval world e) p t (chain env l l' prior [] e s x p)) (sym (last_step world x (eval world e)))
@@ -86,11 +99,13 @@ module _ (strictly : Bool) (env : TypeEnv) (world : World) (conforms : Conformin
       let next : Ty → Progress → Decision = λ u q. chain env l' l' prior ys (made_up e x) u y q in
       subst (λ t. SoundRest world (eval world e) p t (chain env l l' prior (y ∷ ys) e s x p)) (sym (first_step world x y ys (eval world e)))
       (step_rest env world conforms prior hold e s h x p holds l (after_step env l prior e s x next) later
-      (λ q k. access_rest e s h n x q later (λ u. next u q) (λ u i m. chain_rest l' l' ys (made_up e x) u y q i m k) l (attribute_type env.schema s x) refl))
+      (λ q k. access_rest e s h n x q later (λ u. next u q) (λ u i m. chain_rest l' l' ys (made_up e x) u y q i m k)
+      l (attribute_type env.schema s x) refl))
 
 -- ---- the form
 
-module _ (env : TypeEnv) (world : World) (conforms : ConformingStore env.schema world.store) (m : Written) (prior : Caps) (hold : AllHold world prior) (e : Source) (x : Text) (xs : List Text) where
+module _ (env : TypeEnv) (world : World) (conforms : ConformingStore env.schema world.store) (m : Written)
+    (prior : Caps) (hold : AllHold world prior) (e : Source) (x : Text) (xs : List Text) where
   abbrev base : Outcome
   base = eval world e
 
@@ -108,18 +123,28 @@ module _ (env : TypeEnv) (world : World) (conforms : ConformingStore env.schema 
   }
   gift_of_rest (refuses u fs) r = tt
 
-  pub chain_sound : (strictly : Bool) → has_fault env.schema ≡ false → (strictly || has_formed_types env.schema) ≡ true → is_partial env.mode ≡ false → ((s : Ty) → KeptIn strictly s → Joins env.schema s) → SoundKeptForm strictly world (chain_form env m prior e x xs) (base ∷ []) whole
+  pub chain_sound : (strictly : Bool) → has_fault env.schema ≡ false → (strictly || has_formed_types env.schema)
+      ≡ true → is_partial env.mode ≡ false → ((s : Ty) → KeptIn strictly s → Joins env.schema s)
+      → SoundKeptForm strictly world (chain_form env m prior e x xs) (base ∷ []) whole
   chain_sound strictly faults formed total joins = record { typed = typed; succeeds = succeeds; failed = λ t h. h }
     where
-      from_base : (s : Ty) → HasFound (Some s) base → KeptIn strictly s → SoundRest world base no_steps test (chain env (place_of e) m.place prior xs e s x no_steps)
-      from_base s h n = chain_rest strictly env world conforms prior hold faults formed total joins (place_of e) m.place xs e s x no_steps h n (λ k. hold_none world)
+      from_base : (s : Ty) → HasFound (Some s) base → KeptIn strictly s
+          → SoundRest world base no_steps test (chain env (place_of e) m.place prior xs e s x no_steps)
+      from_base s h n =
+          chain_rest strictly env world conforms prior hold faults formed total joins (place_of e)
+          m.place xs e s x no_steps h n (λ k. hold_none world)
 
-      typed : (ts : List (Option Ty)) → AreTypes (chain_form env m prior e x xs) (base ∷ []) ts → AllKept (KeptIn strictly) ts → HasFound (decided_type ((chain_form env m prior e x xs).decides ts)) whole
+      typed : (ts : List (Option Ty)) → AreTypes (chain_form env m prior e x xs) (base ∷ []) ts
+          → AllKept (KeptIn strictly) ts
+          → HasFound (decided_type ((chain_form env m prior e x xs).decides ts)) whole
       typed [] a n = absurd a.have
       typed (None ∷ ts) a n = any_test test
       typed (Some s ∷ ts) a n = (from_base s a.have.0 n.0).typed
 
-      succeeds : (ts : List (Option Ty)) → AreTypes (chain_form env m prior e x xs) (base ∷ []) ts → AllKept (KeptIn strictly) ts → AllFound ts → GiftIsSound world (base ∷ []) whole ((chain_form env m prior e x xs).decides ts)
+      succeeds : (ts : List (Option Ty)) → AreTypes (chain_form env m prior e x xs) (base ∷ []) ts
+          → AllKept (KeptIn strictly) ts → AllFound ts
+          → GiftIsSound world (base ∷ []) whole ((chain_form env m prior e x xs).decides ts)
       succeeds [] a n f = absurd a.have
       succeeds (None ∷ ts) a n f = absurd f.0
-      succeeds (Some s ∷ ts) a n f = gift_of_rest (chain env (place_of e) m.place prior xs e s x no_steps) (from_base s a.have.0 n.0).succeeds
+      succeeds (Some s ∷ ts) a n f =
+          gift_of_rest (chain env (place_of e) m.place prior xs e s x no_steps) (from_base s a.have.0 n.0).succeeds

@@ -6,7 +6,8 @@ use Rattle.cedar_types.specs.Names.{Path}
 use Rattle.cedar_types.proofs.Comparisons.SameTypes.{ty_to}
 use Rattle.cedar_types.specs.Types.{Attrs, Ty, TNever, TBool, TLong, TString, TSet, TAnySet, TRecord, TEntity, TAnyEntity, TExtension}
 use Rattle.cedar_types.specs.Expressions.View.{Written}
-use Rattle.cedar_types.specs.Types.Bounds.{is_strict, is_never, ty_eq, union as union_of_types, closed_lub, wide_lub, lub, apart_lub, bool_lub, set_lub, any_set_lub, entity_lub, any_entity_lub, record_lub, both_attrs, common_attrs}
+use Rattle.cedar_types.specs.Types.Bounds.{is_strict, is_never, ty_eq, union as union_of_types, closed_lub, wide_lub, lub, apart_lub}
+use Rattle.cedar_types.specs.Types.Bounds.{bool_lub, set_lub, any_set_lub, entity_lub, any_entity_lub, record_lub, both_attrs, common_attrs}
 use Rattle.cedar_types.specs.Errors.{Finding}
 use Rattle.cedar_typing.specs.Capabilities.{Caps, no_caps, union, intersection}
 use Rattle.cedar_typing.specs.Evaluation.Conformance.{AllHold, SaysTrue}
@@ -14,7 +15,8 @@ use Rattle.cedar_typing.specs.Evaluation.Outcomes.{Test, Says, Stops, test_of, c
 use Rattle.cedar_typing.specs.Evaluation.World.{World, Failure, Outcome, Gives, Fails}
 use Rattle.cedar_typing.specs.TypeTests.Joins.{joined}
 use Rattle.cedar_typing.specs.Judgments.{Judgment}
-use Rattle.cedar_typing.specs.Rules.Conditional.{if_true_recovered, if_false_recovered, if_open_recovered, if_true, if_false, if_open, if_rules}
+use Rattle.cedar_typing.specs.Rules.Conditional.{if_true_recovered, if_false_recovered, if_open_recovered, if_true, if_false, if_open}
+use Rattle.cedar_typing.specs.Rules.Conditional.{if_rules}
 use Rattle.cedar_typing.specs.Soundness.{HasFound, IsSafe, IsTrueOutcome}
 use Rattle.cedar_typing.specs.TypeEnv.{TypeEnv}
 use Rattle.cedar_typing.specs.TypedExpr.{TypedTree, annotation}
@@ -78,7 +80,8 @@ false_taken (Says true) o p n h = cc
 false_taken (Says false) o p n h = h
 false_taken (Stops e) o p n h = absurd h
 
-open_taken : (s : Test) (o p : Outcome) (P : Type 0) → (SaysTrue s → IsTrueOutcome o → P) → (IsTrueOutcome p → P) → IsTrueOutcome (choose s o p) → P
+open_taken : (s : Test) (o p : Outcome) (P : Type 0) → (SaysTrue s → IsTrueOutcome o → P) → (IsTrueOutcome p → P)
+    → IsTrueOutcome (choose s o p) → P
 open_taken (Says true) o p P f g h = f refl h
 open_taken (Says false) o p P f g h = g h
 open_taken (Stops e) o p P f g h = absurd h
@@ -96,7 +99,9 @@ left_has m (Some t) (Some u) o h = go (lub m t u) refl o h
     go (Some v) e (Gives x) h = lub_left m t u v e x h
     go (Some v) e (Fails f) h = tt
 
-right_has : (strictly : Bool) (m : ValidationMode) → is_strict m ≡ strictly → (x y : Option Ty) → HasKept (KeptIn strictly) x → HasKept (KeptIn strictly) y → (o : Outcome) → HasFound y o → HasFound (joined m x y) o
+right_has : (strictly : Bool) (m : ValidationMode) → is_strict m ≡ strictly → (x y : Option Ty)
+    → HasKept (KeptIn strictly) x → HasKept (KeptIn strictly) y → (o : Outcome) → HasFound y o
+    → HasFound (joined m x y) o
 right_has strictly m strict None y n k o h = tt
 right_has strictly m strict (Some t) None n k o h = tt
 right_has strictly m strict (Some t) (Some u) n k o h = go (lub m t u) refl o h
@@ -144,7 +149,9 @@ right_none true x y u f g = f
 right_none false x y u f g = g
 
 right_entity : (m : ValidationMode) (ps : List Path) (u : Ty) → FromRight u (entity_lub m ps u)
-right_entity m ps (TEntity qs) = right_none (is_strict m) None (Some (TEntity (union_of_types ps qs))) (TEntity qs) (λ h. absurd h) (λ h. absurd h)
+right_entity m ps (TEntity qs) =
+    right_none (is_strict m) None (Some (TEntity (union_of_types ps qs))) (TEntity qs)
+    (λ h. absurd h) (λ h. absurd h)
 right_entity m ps TAnyEntity = λ h. absurd h
 right_entity m ps u = λ h. absurd h
 
@@ -157,9 +164,11 @@ right_closed true zs u h = absurd h
 right_closed false None u h = absurd h
 right_closed false (Some zs) u h = absurd h
 
-right_record : (m : ValidationMode) (xs : Attrs) (o : Bool) (f : Attrs → Option Attrs) (g : Attrs → Attrs) (u : Ty) → FromRight u (record_lub m xs o f g u)
+right_record : (m : ValidationMode) (xs : Attrs) (o : Bool) (f : Attrs → Option Attrs) (g : Attrs → Attrs) (u : Ty)
+    → FromRight u (record_lub m xs o f g u)
 right_record m xs o f g (TRecord ys p) =
-    right_none (is_strict m) (closed_lub o p (f ys)) (Some (wide_lub xs o ys p (g ys))) (TRecord ys p) (right_closed (o || p) (f ys) (TRecord ys p)) (λ h. absurd h)
+    right_none (is_strict m) (closed_lub o p (f ys)) (Some (wide_lub xs o ys p (g ys))) (TRecord ys p)
+    (right_closed (o || p) (f ys) (TRecord ys p)) (λ h. absurd h)
 right_record m xs o f g u = λ h. absurd h
 
 right_apart : (m : ValidationMode) (t u : Ty) → FromRight u (apart_lub m t u)
@@ -179,7 +188,9 @@ never_sure TNever h = tt
 never_sure u h = cc
 
 right_lub : (m : ValidationMode) (t u : Ty) → FromRight u (lub m t u)
-right_lub m t u = right_if u (ty_eq t u) (Some t) _ (λ e h. subst IsSureType (ty_to t u e) h) (right_if u (is_never u) (Some t) (apart_lub m t u) (λ e h. never_sure u e) (right_apart m t u))
+right_lub m t u =
+    right_if u (ty_eq t u) (Some t) _ (λ e h. subst IsSureType (ty_to t u e) h)
+    (right_if u (is_never u) (Some t) (apart_lub m t u) (λ e h. never_sure u e) (right_apart m t u))
 
 right_joined : (m : ValidationMode) (x y : Option Ty) → IsSure (joined m x y) → IsSure y
 right_joined m None y h = absurd h
@@ -188,8 +199,10 @@ right_joined m (Some t) (Some u) h = right_lub m t u h
 
 -- ---- the rules
 
-module _ (strictly : Bool) (world : World) (env : TypeEnv) (strict : is_strict env.mode ≡ strictly) (m : Written) (l : Option Loc) (o p q : Outcome) (A : Judgment) (B : Caps → Judgment) (E : Judgment) (prior : Caps)
-    (held : AllHold world prior) (test : Sounds world o A) (branch : (p' : Caps) → AllHold world p' → Sounds world p (B p')) (otherwise : Sounds world q E)
+module _ (strictly : Bool) (world : World) (env : TypeEnv) (strict : is_strict env.mode ≡ strictly) (m : Written)
+    (l : Option Loc) (o p q : Outcome) (A : Judgment) (B : Caps → Judgment) (E : Judgment) (prior : Caps)
+    (held : AllHold world prior) (test : Sounds world o A)
+    (branch : (p' : Caps) → AllHold world p' → Sounds world p (B p')) (otherwise : Sounds world q E)
     (branch_kept : (p' : Caps) → KeepsTypes (KeptIn strictly) (B p')) (otherwise_kept : KeepsTypes (KeptIn strictly) E) where
   abbrev choice : Outcome
   choice = choose (test_of o) p q
@@ -204,7 +217,9 @@ module _ (strictly : Bool) (world : World) (env : TypeEnv) (strict : is_strict e
       record {
         typed = true_has (Some t) (test_of o) p q h.typed (λ n. s.typed);
         safe = λ n. true_safe (test_of o) p q h.typed (h.safe refl) (λ e. s.safe refl);
-        caps_hold_if_true = λ n. hold_either world k k' (h.caps_hold_at_true tt) (s.caps_hold_if_true (true_taken (test_of o) p q h.typed n));
+        caps_hold_if_true =
+            λ n. hold_either world k k' (h.caps_hold_at_true tt)
+            (s.caps_hold_if_true (true_taken (test_of o) p q h.typed n));
         caps_hold_at_true = λ n. hold_either world k k' (h.caps_hold_at_true tt) (s.caps_hold_at_true n);
       }
   if_derived t c x (if_false {c = k} d d') =
@@ -225,32 +240,51 @@ module _ (strictly : Bool) (world : World) (env : TypeEnv) (strict : is_strict e
       let P : Option Ty → Type 0 = λ v. HasFound v choice in
       let Q : Option Ty → Type 0 = λ v. IsSure v → AllHold world (intersection k'' (union k k')) in
       record {
-        typed = subst P e (open_has (joined env.mode (Some t') (Some u)) (test_of o) p q (λ i. left_has env.mode (Some t') (Some u) p (b i).typed) (right_has strictly env.mode strict (Some t') (Some u) bk ek q z.typed));
+        typed =
+            subst P e (open_has (joined env.mode (Some t') (Some u)) (test_of o) p q
+            (λ i. left_has env.mode (Some t') (Some u) p (b i).typed)
+            (right_has strictly env.mode strict (Some t') (Some u) bk ek q z.typed));
         safe = λ i. chosen_safe (test_of o) p q (h.safe refl) (λ j. (b j).safe refl) (z.safe refl);
-        caps_hold_if_true = λ i. open_taken (test_of o) p q _ (λ j v. hold_right world k'' (union k k') (hold_either world k k' (h.caps_hold_if_true j) ((b j).caps_hold_if_true v))) (λ v. hold_left world k'' (union k k') (z.caps_hold_if_true v)) i;
-        caps_hold_at_true = subst Q e (λ i. hold_left world k'' (union k k') (z.caps_hold_at_true (right_joined env.mode (Some t') (Some u) i)));
+        caps_hold_if_true =
+            λ i. open_taken (test_of o)
+            p q _ (λ j v. hold_right world k'' (union k k')
+            (hold_either world k k' (h.caps_hold_if_true j) ((b j).caps_hold_if_true v)))
+            (λ v. hold_left world k'' (union k k') (z.caps_hold_if_true v)) i;
+        caps_hold_at_true =
+            subst Q e (λ i. hold_left world k'' (union k k')
+            (z.caps_hold_at_true (right_joined env.mode (Some t') (Some u) i)));
       }
 
-  if_recovery : (x : TypedTree) (es : List Finding) → (if_rules env m l A B E prior).recovers x es → Sound world choice false (annotation x) no_caps
-  if_recovery x es (if_true_recovered {succeeded = succeeded} {succeeded' = succeeded'} {c = k} {c' = k'} {a = a} {b = b} {es = fs} {es' = fs'} a' n b' g) =
+  if_recovery : (x : TypedTree) (es : List Finding) → (if_rules env m l A B E prior).recovers x es
+      → Sound world choice false (annotation x) no_caps
+  if_recovery x es
+      (if_true_recovered {succeeded = succeeded} {succeeded' = succeeded'} {c = k} {c' = k'} {a = a} {b = b} {es = fs} {es' = fs'}
+      a' n b' g) =
       let e = true_sort (annotation a) (operand_sort world o env l A succeeded k a fs a') n in
       let P : Option Sort → Type 0 = λ s. SoundTest world (test_of o) succeeded s k in
       let h = subst P e (tested_operand world o env l A test succeeded k a fs a') in
       let s = part_sound world p (B (union prior k)) (branch (union prior k) (known k (h.caps_hold_at_true tt))) succeeded' k' b fs' b' in
       refused_sound world choice _ (true_has (annotation b) (test_of o) p q h.typed (λ i. s.typed))
-  if_recovery x es (if_false_recovered {succeeded = succeeded} {succeeded' = succeeded'} {c = k} {c' = k'} {a = a} {e = b} {es = fs} {es' = fs'} a' n b' g) =
+  if_recovery x es
+      (if_false_recovered {succeeded = succeeded} {succeeded' = succeeded'} {c = k} {c' = k'} {a = a} {e = b} {es = fs} {es' = fs'}
+      a' n b' g) =
       let e = false_sort (annotation a) (operand_sort world o env l A succeeded k a fs a') n in
       let P : Option Sort → Type 0 = λ s. SoundTest world (test_of o) succeeded s k in
       let h = subst P e (tested_operand world o env l A test succeeded k a fs a') in
       let s = part_sound world q E otherwise succeeded' k' b fs' b' in
       refused_sound world choice _ (false_has (annotation b) (test_of o) p q h.typed s.typed)
-  if_recovery x es (if_open_recovered {succeeded = succeeded} {succeeded' = succeeded'} {succeeded'' = succeeded''} {c = k} {c' = k'} {c'' = k''} {a = a} {b = b} {e = z} {es = fs} {es' = fs'} {es'' = fs''} a' n n' b' z' g) =
+  if_recovery x es
+      (if_open_recovered {succeeded = succeeded} {succeeded' = succeeded'} {succeeded'' = succeeded''} {c = k} {c' = k'} {c'' = k''} {a = a} {b = b} {e = z} {es = fs} {es' = fs'} {es'' = fs''}
+      a' n n' b' z' g) =
       let h = tested_operand world o env l A test succeeded k a fs a' in
-      let s = λ (f : SaysTrue (test_of o)). part_sound world p (B (union prior k)) (branch (union prior k) (known k (h.caps_hold_if_true f))) succeeded' k' b fs' b' in
+      let s = λ (f : SaysTrue (test_of o)). part_sound world p (B (union prior k))
+      (branch (union prior k) (known k (h.caps_hold_if_true f))) succeeded' k' b fs' b' in
       let i = part_sound world q E otherwise succeeded'' k'' z fs'' z' in
       let m' = part_kept (KeptIn strictly) (B (union prior k)) (branch_kept (union prior k)) succeeded' k' b fs' b' in
       let m'' = part_kept (KeptIn strictly) E otherwise_kept succeeded'' k'' z fs'' z' in
-      refused_sound world choice _ (open_has (joined env.mode (annotation b) (annotation z)) (test_of o) p q (λ f. left_has env.mode (annotation b) (annotation z) p (s f).typed) (right_has strictly env.mode strict (annotation b) (annotation z) m' m'' q i.typed))
+      refused_sound world choice _ (open_has (joined env.mode (annotation b) (annotation z)) (test_of o) p q
+      (λ f. left_has env.mode (annotation b) (annotation z) p (s f).typed)
+      (right_has strictly env.mode strict (annotation b) (annotation z) m' m'' q i.typed))
 
   if_marks : (t : Ty) (c : Caps) (x : TypedTree) → (if_rules env m l A B E prior).derives t c x → annotation x ≡ Some t
   if_marks t c x (if_true d d') = refl

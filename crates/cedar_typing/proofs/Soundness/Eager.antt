@@ -8,7 +8,9 @@ use Rattle.cedar_typing.specs.Eager.{Expectation, meets, Decision, gives, refuse
 use Rattle.cedar_typing.specs.Evaluation.Conformance.{AllHold}
 use Rattle.cedar_typing.specs.Evaluation.World.{World, Outcome}
 use Rattle.cedar_typing.specs.Judgments.{Judgment}
-use Rattle.cedar_typing.specs.Rules.Eager.{Judgments, NoneDerived, none_derived, NoneGiven, none_given, no_operands, ExpectedOperand, also_derived, also_given, one_more, eager_typed, operand_failed, table_refused, eager_rules, one_operand_rules, two_operand_rules}
+use Rattle.cedar_typing.specs.Rules.Eager.{Judgments, NoneDerived, none_derived, NoneGiven, none_given, no_operands, ExpectedOperand}
+use Rattle.cedar_typing.specs.Rules.Eager.{also_derived, also_given, one_more, eager_typed, operand_failed, table_refused, eager_rules}
+use Rattle.cedar_typing.specs.Rules.Eager.{one_operand_rules, two_operand_rules}
 use Rattle.cedar_typing.specs.Soundness.{HasFound, IsSafe, IsTrueOutcome}
 use Rattle.cedar_typing.specs.TypeEnv.{TypeEnv}
 use Rattle.cedar_typing.specs.TypedExpr.{TypedTree, Mark, mark_of, typed, typed_as, annotation}
@@ -16,7 +18,8 @@ use Rattle.cedar_typing.proofs.KeptTypes.Eager.{decided_type, expected_kept}
 use Rattle.cedar_typing.proofs.KeptTypes.Keeping.{HasKept, AllKept}
 use Rattle.cedar_typing.proofs.KeptTypes.Rules.{KeepsTypes}
 use Rattle.cedar_typing.proofs.KeptTypes.Types.{KeptIn}
-use Rattle.cedar_typing.proofs.Soundness.Parts.{IsSure, Sound, Sounds, IsAccepted, refused_sound, part_sound, operand_sound, operand_accepted}
+use Rattle.cedar_typing.proofs.Soundness.Parts.{IsSure, Sound, Sounds, IsAccepted, refused_sound, part_sound, operand_sound}
+use Rattle.cedar_typing.proofs.Soundness.Parts.{operand_accepted}
 
 -- ---- what is known of operands
 
@@ -75,10 +78,12 @@ pub record SoundForm (world : World) (f : Form) (os : List Outcome) (o : Outcome
 -- the same, where typing keeps to the types of the operands
 pub record SoundKeptForm (strictly : Bool) (world : World) (f : Form) (os : List Outcome) (o : Outcome) : Type 0 where
   pub typed : (ts : List (Option Ty)) → AreTypes f os ts → AllKept (KeptIn strictly) ts → HasFound (decided_type (f.decides ts)) o
-  pub succeeds : (ts : List (Option Ty)) → AreTypes f os ts → AllKept (KeptIn strictly) ts → AllFound ts → GiftIsSound world os o (f.decides ts)
+  pub succeeds : (ts : List (Option Ty)) → AreTypes f os ts → AllKept (KeptIn strictly) ts → AllFound ts
+      → GiftIsSound world os o (f.decides ts)
   pub failed : (t : Ty) → HasFound (Some t) o → HasFound (Some (f.type_if_failed t)) o
 
-pub of_any : (strictly : Bool) (world : World) (f : Form) (os : List Outcome) (o : Outcome) → SoundForm world f os o → SoundKeptForm strictly world f os o
+pub of_any : (strictly : Bool) (world : World) (f : Form) (os : List Outcome) (o : Outcome) → SoundForm world f os o
+    → SoundKeptForm strictly world f os o
 of_any strictly world f os o s = record { typed = λ ts a n. s.typed ts a; succeeds = λ ts a n. s.succeeds ts a; failed = s.failed }
 
 -- ---- an operand that has to be of certain types, or may be anything
@@ -92,11 +97,14 @@ meets_some ts None h = tt
 meets_some ts (Some t) h = h
 
 module _ (J : Judgment) (env : TypeEnv) where
-  expected_sound : (world : World) (o : Outcome) → Sounds world o J → (q : Expectation) (l : Option Loc) (succeeded : Bool) (c : Caps) (x : TypedTree) (es : List Finding) → ExpectedOperand env q l J succeeded c x es → Sound world o succeeded (annotation x) c
+  expected_sound : (world : World) (o : Outcome) → Sounds world o J → (q : Expectation) (l : Option Loc)
+      (succeeded : Bool) (c : Caps) (x : TypedTree) (es : List Finding) → ExpectedOperand env q l J succeeded c x es
+      → Sound world o succeeded (annotation x) c
   expected_sound world o s None l succeeded c x es p = part_sound world o J s succeeded c x es p
   expected_sound world o s (Some ts) l succeeded c x es p = operand_sound world o J s env ts l succeeded c x es p
 
-  expected_meets : (q : Expectation) (l : Option Loc) (succeeded : Bool) (c : Caps) (x : TypedTree) (es : List Finding) → ExpectedOperand env q l J succeeded c x es → Meets q (annotation x)
+  expected_meets : (q : Expectation) (l : Option Loc) (succeeded : Bool) (c : Caps) (x : TypedTree)
+      (es : List Finding) → ExpectedOperand env q l J succeeded c x es → Meets q (annotation x)
   expected_meets None l succeeded c x es p = meets_none (annotation x)
   expected_meets (Some ts) l succeeded c x es p = meets_some ts (annotation x) (operand_accepted J env ts l succeeded c x es p)
 
@@ -111,20 +119,25 @@ pub record SoundsAll (strictly : Bool) (world : World) (qs : List Expectation) (
   pub derivations : (xs : List TypedTree) → Js.derive xs → AreSound strictly qs os (types_found xs) × AllFound (types_found xs) × AllSafe os
   pub givings : (b : Bool) (xs : List TypedTree) (es : List Finding) → Js.give b xs es → AreSound strictly qs os (types_found xs)
 
-no_derivations : (strictly : Bool) (qs : List Expectation) (xs : List TypedTree) → NoneDerived xs → AreSound strictly qs [] (types_found xs) × AllFound (types_found xs) × AllSafe []
+no_derivations : (strictly : Bool) (qs : List Expectation) (xs : List TypedTree) → NoneDerived xs
+    → AreSound strictly qs [] (types_found xs) × AllFound (types_found xs) × AllSafe []
 no_derivations strictly qs xs none_derived = (record { have = tt; meet = tt; single = tt }, tt, tt)
 
-no_givings : (strictly : Bool) (qs : List Expectation) (b : Bool) (xs : List TypedTree) (es : List Finding) → NoneGiven b xs es → AreSound strictly qs [] (types_found xs)
+no_givings : (strictly : Bool) (qs : List Expectation) (b : Bool) (xs : List TypedTree) (es : List Finding)
+    → NoneGiven b xs es → AreSound strictly qs [] (types_found xs)
 no_givings strictly qs b xs es none_given = record { have = tt; meet = tt; single = tt }
 
 pub none_sounds : (strictly : Bool) (world : World) (qs : List Expectation) → SoundsAll strictly world qs [] no_operands
 none_sounds strictly world qs = record { derivations = no_derivations strictly qs; givings = no_givings strictly qs }
 
-module _ (strictly : Bool) (world : World) (env : TypeEnv) (goes_on : Bool) (qs : List Expectation) (l : Option Loc) (o : Outcome) (J : Judgment) (operand : Sounds world o J) (single : KeepsTypes (KeptIn strictly) J) (os : List Outcome) (Js : Judgments) (others : SoundsAll strictly world (later_expectations qs) os Js) where
+module _ (strictly : Bool) (world : World) (env : TypeEnv) (goes_on : Bool) (qs : List Expectation) (l : Option Loc)
+    (o : Outcome) (J : Judgment) (operand : Sounds world o J) (single : KeepsTypes (KeptIn strictly) J)
+    (os : List Outcome) (Js : Judgments) (others : SoundsAll strictly world (later_expectations qs) os Js) where
   abbrev More : Judgments
   More = one_more env goes_on (first_expectation qs) l J Js
 
-  more_derivations : (xs : List TypedTree) → More.derive xs → AreSound strictly qs (o ∷ os) (types_found xs) × AllFound (types_found xs) × AllSafe (o ∷ os)
+  more_derivations : (xs : List TypedTree) → More.derive xs → AreSound strictly qs (o ∷ os) (types_found xs)
+      × AllFound (types_found xs) × AllSafe (o ∷ os)
   more_derivations xs (also_derived {t = t} {c = c} {x = x} {xs = ys} d h ds) =
       let s = operand.derivations t c x d in
       let e = sym (operand.marks t c x d) in
@@ -152,7 +165,10 @@ module _ (strictly : Bool) (world : World) (env : TypeEnv) (goes_on : Bool) (qs 
 
 -- ---- a form
 
-module _ (strictly : Bool) (world : World) (f : Form) (node_mark : (k : Mark) (xs : List TypedTree) → mark_of (f.node k xs) ≡ k) (os : List Outcome) (o : Outcome) (form : SoundKeptForm strictly world f os o) (Js : Judgments) (operands : SoundsAll strictly world f.expects os Js) where
+module _ (strictly : Bool) (world : World) (f : Form)
+    (node_mark : (k : Mark) (xs : List TypedTree) → mark_of (f.node k xs) ≡ k) (os : List Outcome) (o : Outcome)
+    (form : SoundKeptForm strictly world f os o) (Js : Judgments)
+    (operands : SoundsAll strictly world f.expects os Js) where
   abbrev Whole : Judgment
   Whole = eager_rules f Js
 
@@ -175,24 +191,33 @@ module _ (strictly : Bool) (world : World) (f : Form) (node_mark : (k : Mark) (x
       }
 
   -- what stays where the table gives a type and an operand failed
-  failed_stays : (xs : List TypedTree) (es : List Finding) (t : Ty) (c : Caps) → Js.give false xs es → f.decides (types_found xs) ≡ gives t c → Sound world o false (annotation (f.node (typed (f.type_if_failed t) f.at) xs)) no_caps
+  failed_stays : (xs : List TypedTree) (es : List Finding) (t : Ty) (c : Caps) → Js.give false xs es
+      → f.decides (types_found xs) ≡ gives t c
+      → Sound world o false (annotation (f.node (typed (f.type_if_failed t) f.at) xs)) no_caps
   failed_stays xs es t c h e =
       let g = operands.givings false xs es h in
       let a = types_of (types_found xs) g in
       let P : Option Ty → Type 0 = λ y. Sound world o false y no_caps in
-      subst P (sym (at_root (typed (f.type_if_failed t) f.at) xs)) (refused_sound world o (Some (f.type_if_failed t)) (form.failed t (subst (λ y. HasFound (decided_type y) o) e (form.typed (types_found xs) a g.single))))
+      subst P (sym (at_root (typed (f.type_if_failed t) f.at) xs))
+      (refused_sound world o (Some (f.type_if_failed t))
+      (form.failed t (subst (λ y. HasFound (decided_type y) o) e (form.typed (types_found xs) a g.single))))
 
   -- what stays where the table refuses
-  stays : (b : Bool) (xs : List TypedTree) (es : List Finding) (z : Decision) (k : Mark) → Js.give b xs es → f.decides (types_found xs) ≡ z → k.ty ≡ decided_type z → Sound world o false (annotation (f.node k xs)) no_caps
+  stays : (b : Bool) (xs : List TypedTree) (es : List Finding) (z : Decision) (k : Mark) → Js.give b xs es
+      → f.decides (types_found xs) ≡ z → k.ty ≡ decided_type z
+      → Sound world o false (annotation (f.node k xs)) no_caps
   stays b xs es z k h e m =
       let g = operands.givings b xs es h in
       let a = types_of (types_found xs) g in
       let P : Option Ty → Type 0 = λ y. Sound world o false y no_caps in
-      subst P (sym (at_root k xs)) (subst P (sym m) (refused_sound world o (decided_type z) (subst (λ y. HasFound (decided_type y) o) e (form.typed (types_found xs) a g.single))))
+      subst P (sym (at_root k xs))
+      (subst P (sym m) (refused_sound world o (decided_type z)
+      (subst (λ y. HasFound (decided_type y) o) e (form.typed (types_found xs) a g.single))))
 
   form_recovery : (x : TypedTree) (es : List Finding) → Whole.recovers x es → Sound world o false (annotation x) no_caps
   form_recovery x es (operand_failed {t = t} {c = c} {xs = xs} h e) = failed_stays xs es t c h e
-  form_recovery x es (table_refused {succeeded = s} {t = t} {fs = fs} {xs = xs} {es = before} h e) = stays s xs before (refuses t fs) (typed_as t f.at) h e refl
+  form_recovery x es (table_refused {succeeded = s} {t = t} {fs = fs} {xs = xs} {es = before} h e) =
+      stays s xs before (refuses t fs) (typed_as t f.at) h e refl
 
   form_marks : (t : Ty) (c : Caps) (x : TypedTree) → Whole.derives t c x → annotation x ≡ Some t
   form_marks t c x (eager_typed {xs = xs} ds e) = at_root (typed t f.at) xs
@@ -201,15 +226,24 @@ module _ (strictly : Bool) (world : World) (f : Form) (node_mark : (k : Mark) (x
   form_sounds = record { derivations = form_derived; recoveries = form_recovery; marks = form_marks }
 
 -- a form with one operand
-pub one_operand_sounds : (strictly : Bool) (world : World) (env : TypeEnv) (f : Form) → ((k : Mark) (xs : List TypedTree) → mark_of (f.node k xs) ≡ k) → (l : Option Loc) (o o' : Outcome) (J : Judgment) → SoundKeptForm strictly world f (o ∷ []) o' → Sounds world o J → KeepsTypes (KeptIn strictly) J
+pub one_operand_sounds : (strictly : Bool) (world : World) (env : TypeEnv) (f : Form)
+    → ((k : Mark) (xs : List TypedTree) → mark_of (f.node k xs) ≡ k) → (l : Option Loc) (o o' : Outcome)
+    (J : Judgment) → SoundKeptForm strictly world f (o ∷ []) o' → Sounds world o J → KeepsTypes (KeptIn strictly) J
     → Sounds world o' (one_operand_rules env f l J)
 one_operand_sounds strictly world env f node_mark l o o' J form s n =
-    form_sounds strictly world f node_mark (o ∷ []) o' form _ (more_sounds strictly world env f.goes_on f.expects l o J s n [] no_operands (none_sounds strictly world (later_expectations f.expects)))
+    form_sounds strictly world f node_mark
+    (o ∷ []) o' form _ (more_sounds strictly world env f.goes_on f.expects l o J s n [] no_operands
+    (none_sounds strictly world (later_expectations f.expects)))
 
 -- a form with two operands
-pub two_operands_sound : (strictly : Bool) (world : World) (env : TypeEnv) (f : Form) → ((k : Mark) (xs : List TypedTree) → mark_of (f.node k xs) ≡ k) → (l l' : Option Loc) (o o' o'' : Outcome) (J J' : Judgment) → SoundKeptForm strictly world f (o ∷ o' ∷ []) o''
-    → Sounds world o J → KeepsTypes (KeptIn strictly) J → Sounds world o' J' → KeepsTypes (KeptIn strictly) J' → Sounds world o'' (two_operand_rules env f l l' J J')
+pub two_operands_sound : (strictly : Bool) (world : World) (env : TypeEnv) (f : Form)
+    → ((k : Mark) (xs : List TypedTree) → mark_of (f.node k xs) ≡ k) → (l l' : Option Loc) (o o' o'' : Outcome)
+    (J J' : Judgment) → SoundKeptForm strictly world f (o ∷ o' ∷ []) o''
+    → Sounds world o J → KeepsTypes (KeptIn strictly) J → Sounds world o' J' → KeepsTypes (KeptIn strictly) J'
+    → Sounds world o'' (two_operand_rules env f l l' J J')
 two_operands_sound strictly world env f node_mark l l' o o' o'' J J' form s n s' n' =
     let later = later_expectations f.expects in
-    let right = more_sounds strictly world env f.goes_on later l' o' J' s' n' [] no_operands (none_sounds strictly world (later_expectations later)) in
-    form_sounds strictly world f node_mark (o ∷ o' ∷ []) o'' form _ (more_sounds strictly world env f.goes_on f.expects l o J s n (o' ∷ []) _ right)
+    let right = more_sounds strictly world env f.goes_on later l' o' J' s' n' [] no_operands
+    (none_sounds strictly world (later_expectations later)) in
+    form_sounds strictly world f node_mark (o ∷ o' ∷ [])
+    o'' form _ (more_sounds strictly world env f.goes_on f.expects l o J s n (o' ∷ []) _ right)

@@ -55,7 +55,8 @@ module _ (ts us : List Ty) (t : Ty) (f : Value → Value → Outcome) (typed : (
   values_typed (Gives v) (Fails g) = tt
   values_typed (Fails g) o' = tt
 
-  values_safe : (r s : Ty) (o o' : Outcome) → accepts ts r ≡ true → accepts us s ≡ true → HasFound (Some r) o → HasFound (Some s) o' → IsSafe o → IsSafe o' → IsSafe (both o o')
+  values_safe : (r s : Ty) (o o' : Outcome) → accepts ts r ≡ true → accepts us s ≡ true → HasFound (Some r) o
+      → HasFound (Some s) o' → IsSafe o → IsSafe o' → IsSafe (both o o')
   values_safe r s (Gives v) (Gives w) a b h k p q = safe r s v w a b h k
   values_safe r s (Gives v) (Fails g) a b h k p q = q
   values_safe r s (Fails g) o' a b h k p q = p
@@ -64,7 +65,8 @@ module _ (ts us : List Ty) (t : Ty) (f : Value → Value → Outcome) (typed : (
     abbrev two_form : Form
     two_form = on_two m (Some ts) (Some us) (λ r s. gives t no_caps) node
 
-    two_succeed : (xs : List (Option Ty)) → AreTypes two_form (o ∷ o' ∷ []) xs → AllFound xs → SoundGift world (o ∷ o' ∷ []) (both o o') t no_caps
+    two_succeed : (xs : List (Option Ty)) → AreTypes two_form (o ∷ o' ∷ []) xs → AllFound xs
+        → SoundGift world (o ∷ o' ∷ []) (both o o') t no_caps
     two_succeed [] a k = absurd a.have
     two_succeed (None ∷ xs) a k = absurd k.0
     two_succeed (Some r ∷ []) a k = absurd a.have.1

@@ -6,7 +6,9 @@ use Rattle.cedar_types.specs.declared.base.expressions.operators.UnaryOp.{UnaryO
 use Rattle.cedar_types.specs.declared.base.types.BoolType.TheVariants.{True}
 use Rattle.cedar_types.specs.Names.{Path}
 use Rattle.cedar_types.specs.Types.{Ty, TEntity, TBool, TNever, TLong, TString, TSet, TAnySet, TRecord, TAnyEntity, TExtension}
-use Rattle.cedar_types.specs.Expressions.Tree.{lit, var, slot, unknown, if_then_else, and, or, unary, binary, call, get_attr, has_attr, ext_has_attr, like, is_type, set_of, record_of, Trees, no_trees, tree, Fields, no_fields, field}
+use Rattle.cedar_types.specs.Expressions.Tree.{lit, var, slot, unknown, if_then_else, and, or, unary, binary, call, get_attr, has_attr}
+use Rattle.cedar_types.specs.Expressions.Tree.{ext_has_attr, like, is_type, set_of, record_of, Trees, no_trees, tree, Fields, no_fields}
+use Rattle.cedar_types.specs.Expressions.Tree.{field}
 use Rattle.cedar_types.specs.Expressions.View.{Written}
 use Rattle.cedar_types.specs.Types.Bounds.{is_strict}
 use Rattle.cedar_types.specs.Schemas.{Schema, has_fault}
@@ -17,7 +19,8 @@ use Rattle.cedar_types.specs.Values.Stores.{ConformingStore}
 use Rattle.cedar_typing.specs.Capabilities.{Caps, no_caps}
 use Rattle.cedar_types.specs.Schemas.Formed.{has_formed_types}
 use Rattle.cedar_typing.specs.Eager.{Expectation, later_expectations}
-use Rattle.cedar_typing.specs.Evaluation.Conformance.{Fits, IsEnvironmentOf, SlotsBound, AllSlotsBound, FieldSlotsBound, has_external, KeepsTable, AllHold}
+use Rattle.cedar_typing.specs.Evaluation.Conformance.{Fits, IsEnvironmentOf, SlotsBound, AllSlotsBound, FieldSlotsBound, has_external}
+use Rattle.cedar_typing.specs.Evaluation.Conformance.{KeepsTable, AllHold}
 use Rattle.cedar_typing.specs.Evaluation.Eval.{unary_outcome, eval}
 use Rattle.cedar_typing.specs.Evaluation.World.{World, Outcome}
 use Rattle.cedar_typing.specs.Judgments.{Judgment, within}
@@ -45,7 +48,8 @@ use Rattle.cedar_typing.proofs.Soundness.Comparison.{comparison_sound}
 use Rattle.cedar_typing.proofs.Soundness.Conditional.{if_sounds}
 use Rattle.cedar_typing.proofs.Soundness.ShortCircuit.Conjunction.{and_sounds}
 use Rattle.cedar_typing.proofs.Soundness.ShortCircuit.Disjunction.{or_sounds}
-use Rattle.cedar_typing.proofs.Soundness.Eager.{SoundForm, SoundKeptForm, SoundsAll, of_any, none_sounds, more_sounds, one_operand_sounds, two_operands_sound}
+use Rattle.cedar_typing.proofs.Soundness.Eager.{SoundForm, SoundKeptForm, SoundsAll, of_any, none_sounds, more_sounds, one_operand_sounds}
+use Rattle.cedar_typing.proofs.Soundness.Eager.{two_operands_sound}
 use Rattle.cedar_typing.proofs.Soundness.Equality.{literal_outcome, equality_sound, contains_sound, contains_all_sound, contains_any_sound}
 use Rattle.cedar_typing.proofs.Soundness.Kinds.{is_empty_sound, like_sound, is_sound}
 use Rattle.cedar_typing.proofs.Soundness.Leaves.{literal_has, variable_has, slot_sound, leaf_sounds, always_sounds}
@@ -60,7 +64,8 @@ use Rattle.cedar_typing.proofs.Soundness.Unary.{not_sound}
 -- ---- unknowns, and the limit
 
 module _ (world : World) (o : Outcome) where
-  unknown_recovered : (n : Path) (m : Written) (x : TypedTree) (es : List Finding) → UnknownRecovery n m x es → Sound world o false (annotation x) no_caps
+  unknown_recovered : (n : Path) (m : Written) (x : TypedTree) (es : List Finding) → UnknownRecovery n m x es
+      → Sound world o false (annotation x) no_caps
   unknown_recovered n m x es unknown_fails = nothing_sound world o
 
   unknown_sounds : (n : Path) (m : Written) → Sounds world o (unknown_rules n m)
@@ -74,7 +79,8 @@ module _ (world : World) (o : Outcome) where
   }
 
 -- what a type declares can be joined: in Strict there is no choice, in Permissive all of it is formed
-choice_joins : (strictly : Bool) (s : Schema) → has_fault s ≡ false → (strictly || has_formed_types s) ≡ true → (p q : Path) (ps : List Path) → KeptIn strictly (TEntity (p ∷ q ∷ ps)) → AttributesFormed s
+choice_joins : (strictly : Bool) (s : Schema) → has_fault s ≡ false → (strictly || has_formed_types s) ≡ true
+    → (p q : Path) (ps : List Path) → KeptIn strictly (TEntity (p ∷ q ∷ ps)) → AttributesFormed s
 choice_joins true s f w p q ps n = absurd (true≢false (sym n.0))
 choice_joins false s f w p q ps n = declared_formed s f w
 
@@ -100,7 +106,12 @@ unary_sound world o m UnaryOp.Not = not_sound world o m
 unary_sound world o m UnaryOp.Neg = negation_sound world m o
 unary_sound world o m UnaryOp.IsEmpty = is_empty_sound world m o
 
-module _ (strictly : Bool) (s : Setting) (world : World) (strict : is_strict s.env.mode ≡ strictly) (partial : is_partial s.env.mode ≡ false) (formed : (strictly || has_formed_types s.env.schema) ≡ true) (faults : has_fault s.env.schema ≡ false) (table_faults : table_fault s.functions ≡ None) (closed : has_external s.env.schema ≡ false) (environment : IsEnvironmentOf s.env.schema s.env.request_env) (fits : Fits s.env.request_env world.request world.slots) (store : ConformingStore s.env.schema world.store) (keeps : KeepsTable (table s) world.functions) where
+module _ (strictly : Bool) (s : Setting) (world : World) (strict : is_strict s.env.mode ≡ strictly)
+    (partial : is_partial s.env.mode ≡ false) (formed : (strictly || has_formed_types s.env.schema) ≡ true)
+    (faults : has_fault s.env.schema ≡ false) (table_faults : table_fault s.functions ≡ None)
+    (closed : has_external s.env.schema ≡ false) (environment : IsEnvironmentOf s.env.schema s.env.request_env)
+    (fits : Fits s.env.request_env world.request world.slots) (store : ConformingStore s.env.schema world.store)
+    (keeps : KeepsTable (table s) world.functions) where
   kept_at : (e : Source) (prior : Caps) (d : ℕ) → KeepsTypes (KeptIn strictly) (rules s e prior d)
   kept_at = types_are_kept (KeptIn strictly) s (keeps_in_mode strictly s.env strict partial faults formed) table_faults environment
 
@@ -109,72 +120,137 @@ module _ (strictly : Bool) (s : Setting) (world : World) (strict : is_strict s.e
 
   -- what an operator on two operands promises
   abbrev OperatorIsSound : Written → Caps → Source → Source → BinaryOp → Type 0
-  OperatorIsSound m prior x y o = SoundKeptForm strictly world (binary_form s.env m prior x y o) (eval world x ∷ eval world y ∷ []) (eval world (binary m o x y))
+  OperatorIsSound m prior x y o =
+      SoundKeptForm strictly world (binary_form s.env m prior x y o) (eval world x ∷ eval world y ∷ [])
+      (eval world (binary m o x y))
 
-  any_operator : (m : Written) (prior : Caps) (x y : Source) (o : BinaryOp) → SoundForm world (binary_form s.env m prior x y o) (eval world x ∷ eval world y ∷ []) (eval world (binary m o x y)) → OperatorIsSound m prior x y o
-  any_operator m prior x y o f = of_any strictly world (binary_form s.env m prior x y o) (eval world x ∷ eval world y ∷ []) (eval world (binary m o x y)) f
+  any_operator : (m : Written) (prior : Caps) (x y : Source) (o : BinaryOp)
+      → SoundForm world (binary_form s.env m prior x y o) (eval world x ∷ eval world y ∷ [])
+      (eval world (binary m o x y)) → OperatorIsSound m prior x y o
+  any_operator m prior x y o f =
+      of_any strictly world (binary_form s.env m prior x y o) (eval world x ∷ eval world y ∷ [])
+      (eval world (binary m o x y)) f
 
   binary_sound : (m : Written) (prior : Caps) (x y : Source) (o : BinaryOp) → AllHold world prior → OperatorIsSound m prior x y o
-  binary_sound m prior x y BinaryOp.Eq h = any_operator m prior x y BinaryOp.Eq (equality_sound world s.env m x y (eval world x) (eval world y) (literal_outcome world s.env.request_env fits x) (literal_outcome world s.env.request_env fits y))
-  binary_sound m prior x y BinaryOp.Less h = any_operator m prior x y BinaryOp.Less (comparison_sound world world.functions.overloaded_types int_lt world.functions.less (eval world x) (eval world y) s.env keeps.overloaded_types (place_of x) (place_of y) m BinaryOp.Less)
-  binary_sound m prior x y BinaryOp.LessEq h = any_operator m prior x y BinaryOp.LessEq (comparison_sound world world.functions.overloaded_types int_le world.functions.less_or_equal (eval world x) (eval world y) s.env keeps.overloaded_types (place_of x) (place_of y) m BinaryOp.LessEq)
-  binary_sound m prior x y BinaryOp.Add h = any_operator m prior x y BinaryOp.Add (operator_sound (λ a b. a +ℤ b) world m BinaryOp.Add (eval world x) (eval world y))
-  binary_sound m prior x y BinaryOp.Sub h = any_operator m prior x y BinaryOp.Sub (operator_sound (λ a b. a -ℤ b) world m BinaryOp.Sub (eval world x) (eval world y))
-  binary_sound m prior x y BinaryOp.Mul h = any_operator m prior x y BinaryOp.Mul (operator_sound (λ a b. a *ℤ b) world m BinaryOp.Mul (eval world x) (eval world y))
+  binary_sound m prior x y BinaryOp.Eq h =
+      any_operator m prior x y BinaryOp.Eq
+      (equality_sound world s.env m x y (eval world x) (eval world y)
+      (literal_outcome world s.env.request_env fits x) (literal_outcome world s.env.request_env fits y))
+  binary_sound m prior x y BinaryOp.Less h =
+      any_operator m prior x y BinaryOp.Less
+      (comparison_sound world world.functions.overloaded_types int_lt world.functions.less (eval world x)
+      (eval world y) s.env keeps.overloaded_types (place_of x) (place_of y) m BinaryOp.Less)
+  binary_sound m prior x y BinaryOp.LessEq h =
+      any_operator m prior x y BinaryOp.LessEq
+      (comparison_sound world world.functions.overloaded_types int_le world.functions.less_or_equal (eval world x)
+      (eval world y) s.env keeps.overloaded_types (place_of x) (place_of y) m BinaryOp.LessEq)
+  binary_sound m prior x y BinaryOp.Add h =
+      any_operator m prior x y BinaryOp.Add
+      (operator_sound (λ a b. a +ℤ b) world m BinaryOp.Add (eval world x) (eval world y))
+  binary_sound m prior x y BinaryOp.Sub h =
+      any_operator m prior x y BinaryOp.Sub
+      (operator_sound (λ a b. a -ℤ b) world m BinaryOp.Sub (eval world x) (eval world y))
+  binary_sound m prior x y BinaryOp.Mul h =
+      any_operator m prior x y BinaryOp.Mul
+      (operator_sound (λ a b. a *ℤ b) world m BinaryOp.Mul (eval world x) (eval world y))
   binary_sound m prior x y BinaryOp.In h = any_operator m prior x y BinaryOp.In (in_sound s.env world faults fits store m x y)
-  binary_sound m prior x y BinaryOp.Contains h = any_operator m prior x y BinaryOp.Contains (contains_sound world s.env m (eval world x) (eval world y))
-  binary_sound m prior x y BinaryOp.ContainsAll h = any_operator m prior x y BinaryOp.ContainsAll (contains_all_sound world s.env m (eval world x) (eval world y))
-  binary_sound m prior x y BinaryOp.ContainsAny h = any_operator m prior x y BinaryOp.ContainsAny (contains_any_sound world s.env m (eval world x) (eval world y))
-  binary_sound m prior x y BinaryOp.GetTag h = any_operator m prior x y BinaryOp.GetTag (get_tag_sound strictly s.env world strict faults formed closed store m prior h x y)
-  binary_sound m prior x y BinaryOp.HasTag h = any_operator m prior x y BinaryOp.HasTag (has_tag_sound s.env world closed store m prior h x y)
+  binary_sound m prior x y BinaryOp.Contains h =
+      any_operator m prior x y BinaryOp.Contains (contains_sound world s.env m (eval world x) (eval world y))
+  binary_sound m prior x y BinaryOp.ContainsAll h =
+      any_operator m prior x y BinaryOp.ContainsAll (contains_all_sound world s.env m (eval world x) (eval world y))
+  binary_sound m prior x y BinaryOp.ContainsAny h =
+      any_operator m prior x y BinaryOp.ContainsAny (contains_any_sound world s.env m (eval world x) (eval world y))
+  binary_sound m prior x y BinaryOp.GetTag h =
+      any_operator m prior x y BinaryOp.GetTag
+      (get_tag_sound strictly s.env world strict faults formed closed store m prior h x y)
+  binary_sound m prior x y BinaryOp.HasTag h =
+      any_operator m prior x y BinaryOp.HasTag (has_tag_sound s.env world closed store m prior h x y)
 
   mutual
-    sounds_within : (e : Source) → SlotsBound world.slots e → (prior : Caps) (d : ℕ) → AllHold world prior → Sounds world (eval world e) (rules_within s e prior d)
+    sounds_within : (e : Source) → SlotsBound world.slots e → (prior : Caps) (d : ℕ) → AllHold world prior
+        → Sounds world (eval world e) (rules_within s e prior d)
     sounds_within (lit m x) b prior d h = leaf_sounds world m (λ k. lit k x) (λ k. refl) _ _ (literal_has s.env x)
-    sounds_within (var m x) b prior d h = leaf_sounds world m (λ k. var k x) (λ k. refl) _ _ (variable_has s.env.schema s.env.mode s.env.request_env s.env.overloaded_types s.env.policy world.request world.slots fits x)
-    sounds_within (slot m x) b prior d h = always_sounds world m (λ k. slot k x) (λ k. refl) _ _ (slot_sound world s.env.request_env world.request world.slots fits x b)
+    sounds_within (var m x) b prior d h =
+        leaf_sounds world m (λ k. var k x) (λ k. refl)
+        _ _ (variable_has s.env.schema s.env.mode s.env.request_env s.env.overloaded_types s.env.policy
+        world.request world.slots fits x)
+    sounds_within (slot m x) b prior d h =
+        always_sounds world m (λ k. slot k x) (λ k. refl)
+        _ _ (slot_sound world s.env.request_env world.request world.slots fits x b)
     sounds_within (unknown m n) b prior d h = unknown_sounds world _ n m
     sounds_within (if_then_else m x y z) b prior d h =
-        if_sounds strictly world s.env strict m (place_of x) _ _ _ _ _ _ prior h (within_sounds world _ (d + 1) _ (sounds_within x b.0 prior (d + 1) h)) (λ p k. within_sounds world _ (d + 1) _ (sounds_within y b.1 p (d + 1) k)) (within_sounds world _ (d + 1) _ (sounds_within z b.2 prior (d + 1) h)) (λ p. kept_at y p (d + 1)) (kept_at z prior (d + 1))
+        if_sounds strictly world s.env strict m (place_of x) _ _ _ _ _ _ prior h
+        (within_sounds world _ (d + 1) _ (sounds_within x b.0 prior (d + 1) h))
+        (λ p k. within_sounds world _ (d + 1) _ (sounds_within y b.1 p (d + 1) k))
+        (within_sounds world _ (d + 1) _ (sounds_within z b.2 prior (d + 1) h)) (λ p. kept_at y p (d + 1))
+        (kept_at z prior (d + 1))
     sounds_within (and m x y) b prior d h =
-        and_sounds world s.env m (place_of x) (place_of y) _ _ _ _ prior h (within_sounds world _ (d + 1) _ (sounds_within x b.0 prior (d + 1) h)) (λ p k. within_sounds world _ (d + 1) _ (sounds_within y b.1 p (d + 1) k))
+        and_sounds world s.env m (place_of x) (place_of y) _ _ _ _ prior h
+        (within_sounds world _ (d + 1) _ (sounds_within x b.0 prior (d + 1) h))
+        (λ p k. within_sounds world _ (d + 1) _ (sounds_within y b.1 p (d + 1) k))
     sounds_within (or m x y) b prior d h =
-        or_sounds world s.env m (place_of x) (place_of y) _ _ _ _ prior (within_sounds world _ (d + 1) _ (sounds_within x b.0 prior (d + 1) h)) (within_sounds world _ (d + 1) _ (sounds_within y b.1 prior (d + 1) h))
+        or_sounds world s.env m (place_of x) (place_of y) _ _ _ _ prior
+        (within_sounds world _ (d + 1) _ (sounds_within x b.0 prior (d + 1) h))
+        (within_sounds world _ (d + 1) _ (sounds_within y b.1 prior (d + 1) h))
     sounds_within (unary m o x) b prior d h =
-        one_operand_sounds strictly world s.env (unary_form m o) (unary_marked m o) (place_of x) (eval world x) _ _ (of_any strictly world (unary_form m o) (eval world x ∷ []) _ (unary_sound world (eval world x) m o)) (within_sounds world _ (d + 1) _ (sounds_within x b prior (d + 1) h)) (kept_at x prior (d + 1))
+        one_operand_sounds strictly world s.env (unary_form m o) (unary_marked m o) (place_of x) (eval world x)
+        _ _ (of_any strictly world (unary_form m o) (eval world x ∷ [])
+        _ (unary_sound world (eval world x) m o))
+        (within_sounds world _ (d + 1) _ (sounds_within x b prior (d + 1) h)) (kept_at x prior (d + 1))
     sounds_within (binary m o x y) b prior d h =
-        two_operands_sound strictly world s.env (binary_form s.env m prior x y o) (binary_marked s.env m prior x y o) (place_of x) (place_of y) (eval world x) (eval world y) _ _ _ (binary_sound m prior x y o h)
+        two_operands_sound strictly world s.env (binary_form s.env m prior x y o)
+        (binary_marked s.env m prior x y o) (place_of x) (place_of y) (eval world x) (eval world y)
+        _ _ _ (binary_sound m prior x y o h)
         (within_sounds world _ (d + 1) _ (sounds_within x b.0 prior (d + 1) h)) (kept_at x prior (d + 1))
         (within_sounds world _ (d + 1) _ (sounds_within y b.1 prior (d + 1) h)) (kept_at y prior (d + 1))
     sounds_within (call m n ts) b prior d h =
         let f = call_form s.env s.functions m n (arguments ts) in
         call_sounds s world keeps n strictly m ts _ (all_sound f.goes_on f.expects ts b prior (d + 1) h)
     sounds_within (get_attr m x a) b prior d h =
-        one_operand_sounds strictly world s.env (get_form s.env m prior x a) (λ k xs. refl) (place_of x) (eval world x) _ _ (get_sound s.env world store m prior h x a strictly partial joins) (within_sounds world _ (d + 1) _ (sounds_within x b prior (d + 1) h)) (kept_at x prior (d + 1))
+        one_operand_sounds strictly world s.env (get_form s.env m prior x a) (λ k xs. refl) (place_of x)
+        (eval world x) _ _ (get_sound s.env world store m prior h x a strictly partial joins)
+        (within_sounds world _ (d + 1) _ (sounds_within x b prior (d + 1) h)) (kept_at x prior (d + 1))
     sounds_within (has_attr m x a) b prior d h =
-        one_operand_sounds strictly world s.env (has_form s.env m prior x a) (λ k xs. refl) (place_of x) (eval world x) _ _ (of_any strictly world (has_form s.env m prior x a) (eval world x ∷ []) _ (has_sound s.env world store m prior h x a)) (within_sounds world _ (d + 1) _ (sounds_within x b prior (d + 1) h)) (kept_at x prior (d + 1))
+        one_operand_sounds strictly world s.env (has_form s.env m prior x a) (λ k xs. refl) (place_of x)
+        (eval world x) _ _ (of_any strictly world (has_form s.env m prior x a) (eval world x ∷ [])
+        _ (has_sound s.env world store m prior h x a))
+        (within_sounds world _ (d + 1) _ (sounds_within x b prior (d + 1) h)) (kept_at x prior (d + 1))
     sounds_within (ext_has_attr m x a xs) b prior d h =
-        one_operand_sounds strictly world s.env (chain_form s.env m prior x a xs) (λ k ys. refl) (place_of x) (eval world x) _ _ (chain_sound s.env world store m prior h x a xs strictly faults formed partial joins) (within_sounds world _ (d + 1) _ (sounds_within x b prior (d + 1) h)) (kept_at x prior (d + 1))
+        one_operand_sounds strictly world s.env (chain_form s.env m prior x a xs) (λ k ys. refl) (place_of x)
+        (eval world x) _ _ (chain_sound s.env world store m prior h x a xs strictly faults formed partial joins)
+        (within_sounds world _ (d + 1) _ (sounds_within x b prior (d + 1) h)) (kept_at x prior (d + 1))
     sounds_within (like m x p) b prior d h =
-        one_operand_sounds strictly world s.env (like_form m p) (λ k xs. refl) (place_of x) (eval world x) _ _ (of_any strictly world (like_form m p) (eval world x ∷ []) _ (like_sound world m p (eval world x))) (within_sounds world _ (d + 1) _ (sounds_within x b prior (d + 1) h)) (kept_at x prior (d + 1))
+        one_operand_sounds strictly world s.env (like_form m p) (λ k xs. refl) (place_of x) (eval world x)
+        _ _ (of_any strictly world (like_form m p) (eval world x ∷ []) _ (like_sound world m p (eval world x)))
+        (within_sounds world _ (d + 1) _ (sounds_within x b prior (d + 1) h)) (kept_at x prior (d + 1))
     sounds_within (is_type m x n) b prior d h =
-        one_operand_sounds strictly world s.env (is_form m n) (λ k xs. refl) (place_of x) (eval world x) _ _ (of_any strictly world (is_form m n) (eval world x ∷ []) _ (is_sound world m n (eval world x))) (within_sounds world _ (d + 1) _ (sounds_within x b prior (d + 1) h)) (kept_at x prior (d + 1))
+        one_operand_sounds strictly world s.env (is_form m n) (λ k xs. refl) (place_of x) (eval world x)
+        _ _ (of_any strictly world (is_form m n) (eval world x ∷ []) _ (is_sound world m n (eval world x)))
+        (within_sounds world _ (d + 1) _ (sounds_within x b prior (d + 1) h)) (kept_at x prior (d + 1))
     sounds_within (set_of m ts) b prior d h = set_sounds strictly world s.env strict m ts _ (all_sound true [] ts b prior (d + 1) h)
     sounds_within (record_of m fs) b prior d h = record_sounds strictly world s.env m fs _ (fields_sound fs b prior (d + 1) h)
 
     -- expressions one after another
-    all_sound : (goes_on : Bool) (qs : List Expectation) (ts : Trees Written) → AllSlotsBound world.slots ts → (prior : Caps) (d : ℕ) → AllHold world prior → SoundsAll strictly world qs (outcomes world ts) (rules_all s goes_on qs ts prior d)
+    all_sound : (goes_on : Bool) (qs : List Expectation) (ts : Trees Written) → AllSlotsBound world.slots ts
+        → (prior : Caps) (d : ℕ) → AllHold world prior
+        → SoundsAll strictly world qs (outcomes world ts) (rules_all s goes_on qs ts prior d)
     all_sound goes_on qs no_trees b prior d h = none_sounds strictly world qs
     all_sound goes_on qs (tree e ts) b prior d h =
-        more_sounds strictly world s.env goes_on qs (place_of e) (eval world e) _ (within_sounds world _ d _ (sounds_within e b.0 prior d h)) (kept_at e prior d) (outcomes world ts) _ (all_sound goes_on (later_expectations qs) ts b.1 prior d h)
+        more_sounds strictly world s.env goes_on qs (place_of e) (eval world e)
+        _ (within_sounds world _ d _ (sounds_within e b.0 prior d h)) (kept_at e prior d) (outcomes world ts)
+        _ (all_sound goes_on (later_expectations qs) ts b.1 prior d h)
 
     -- the values of fields
-    fields_sound : (fs : Fields Written) → FieldSlotsBound world.slots fs → (prior : Caps) (d : ℕ) → AllHold world prior → SoundsAll strictly world [] (field_outcomes world fs) (rules_fields s fs prior d)
+    fields_sound : (fs : Fields Written) → FieldSlotsBound world.slots fs → (prior : Caps) (d : ℕ)
+        → AllHold world prior → SoundsAll strictly world [] (field_outcomes world fs) (rules_fields s fs prior d)
     fields_sound no_fields b prior d h = none_sounds strictly world []
     fields_sound (field k e fs) b prior d h =
-        more_sounds strictly world s.env false [] (place_of e) (eval world e) _ (within_sounds world _ d _ (sounds_within e b.0 prior d h)) (kept_at e prior d) (field_outcomes world fs) _ (fields_sound fs b.1 prior d h)
+        more_sounds strictly world s.env false [] (place_of e) (eval world e)
+        _ (within_sounds world _ d _ (sounds_within e b.0 prior d h)) (kept_at e prior d)
+        (field_outcomes world fs) _ (fields_sound fs b.1 prior d h)
 
-  pub sounds : (e : Source) → SlotsBound world.slots e → (prior : Caps) (d : ℕ) → AllHold world prior → Sounds world (eval world e) (rules s e prior d)
+  pub sounds : (e : Source) → SlotsBound world.slots e → (prior : Caps) (d : ℕ) → AllHold world prior
+      → Sounds world (eval world e) (rules s e prior d)
   sounds e b prior d h = within_sounds world _ d _ (sounds_within e b prior d h)
 
   -- type soundness in Strict and in Permissive
@@ -191,8 +267,10 @@ module _ (strictly : Bool) (s : Setting) (world : World) (strict : is_strict s.e
 
 pub type_soundness : TypeSoundness
 type_soundness s world f t r i e b prior d h =
-    sound_at true s world (ap is_strict r.mode) (ap is_partial r.mode) refl f t r.closed r.environment i.environment i.store i.functions e b prior d h
+    sound_at true s world (ap is_strict r.mode) (ap is_partial r.mode) refl f t r.closed r.environment i.environment
+    i.store i.functions e b prior d h
 
 pub type_soundness_in_permissive : TypeSoundnessInPermissive
 type_soundness_in_permissive s world f w t r i e b prior d h =
-    sound_at false s world (ap is_strict r.mode) (ap is_partial r.mode) w f t r.closed r.environment i.environment i.store i.functions e b prior d h
+    sound_at false s world (ap is_strict r.mode) (ap is_partial r.mode) w f t r.closed r.environment i.environment
+    i.store i.functions e b prior d h

@@ -1,5 +1,6 @@
 -- `isEmpty`, `like` and `is` do not go wrong.
-use Rattle.std.proofs.Common.{◌≡◌, Bool, true, false, true≢false, ◌||◌, not, List, [], ◌∷◌, Option, Some, None, if◌then◌else◌, refl, sym, ◌∙◌, ap, subst}
+use Rattle.std.proofs.Common.{◌≡◌, Bool, true, false, true≢false, ◌||◌, not, List, [], ◌∷◌, Option, Some, None, if◌then◌else◌, refl, sym}
+use Rattle.std.proofs.Common.{◌∙◌, ap, subst}
 use Rattle.std.specs.Prelude.{is_some}
 use Rattle.cedar_types.specs.declared.base.expressions.operators.UnaryOp.{UnaryOp}
 use Rattle.cedar_types.specs.declared.base.types.BoolType.TheVariants.{AnyBool, True, False}
@@ -56,7 +57,8 @@ empty_safe v h = absurd h
 
 pub is_empty_sound : (world : World) (m : Written) (o : Outcome) → SoundForm world (is_empty_form m) (o ∷ []) (on_value o is_empty)
 is_empty_sound world m o =
-    one_value_sound set_types (TBool AnyBool) is_empty empty_typed (λ s v a h. empty_safe v (set_value s v a h)) world m (λ k x. unary k UnaryOp.IsEmpty x) o
+    one_value_sound set_types (TBool AnyBool) is_empty empty_typed (λ s v a h. empty_safe v (set_value s v a h))
+    world m (λ k x. unary k UnaryOp.IsEmpty x) o
 
 -- ---- `like`
 
@@ -68,9 +70,11 @@ like_safe : (p : List PatternElem) (v : Value) → IsString v → IsSafe (like_o
 like_safe p (VString t) h = tt
 like_safe p v h = absurd h
 
-pub like_sound : (world : World) (m : Written) (p : List PatternElem) (o : Outcome) → SoundForm world (like_form m p) (o ∷ []) (on_value o (like_outcome p))
+pub like_sound : (world : World) (m : Written) (p : List PatternElem) (o : Outcome)
+    → SoundForm world (like_form m p) (o ∷ []) (on_value o (like_outcome p))
 like_sound world m p o =
-    one_value_sound string_types (TBool AnyBool) (like_outcome p) (like_typed p) (λ s v a h. like_safe p v (string_value s v a h)) world m (λ k x. like k x p) o
+    one_value_sound string_types (TBool AnyBool) (like_outcome p) (like_typed p)
+    (λ s v a h. like_safe p v (string_value s v a h)) world m (λ k x. like k x p) o
 
 -- ---- `is`
 
@@ -88,7 +92,8 @@ alone false h = h
 
 module _ (n x : Path) where
   -- an entity of the type x, which is one of ps: of the type n, if that is the only one
-  among_it : (ps : List Path) → is_among ps x ≡ true → is_among ps n ≡ true → HasType (if is_some (sole ps) then TBool True else TBool AnyBool) (VBool (path_eq x n))
+  among_it : (ps : List Path) → is_among ps x ≡ true → is_among ps n ≡ true
+      → HasType (if is_some (sole ps) then TBool True else TBool AnyBool) (VBool (path_eq x n))
   among_it [] h k = absurd (true≢false (sym h))
   among_it (p ∷ []) h k =
       let x_is = path_same.to x p (alone (path_eq x p) h) in
@@ -101,7 +106,9 @@ module _ (n x : Path) where
   among_others ps true e h k = absurd (true≢false (sym (subst (λ z. is_among ps z ≡ true) (path_same.to x n e) h) ∙ k))
   among_others ps false e h k = e
 
-  by_membership : (ps : List Path) (b : Bool) → is_among ps n ≡ b → is_among ps x ≡ true → HasType (if not b then TBool False else if is_some (sole ps) then TBool True else TBool AnyBool) (VBool (path_eq x n))
+  by_membership : (ps : List Path) (b : Bool) → is_among ps n ≡ b → is_among ps x ≡ true
+      → HasType (if not b then TBool False else if is_some (sole ps) then TBool True
+      else TBool AnyBool) (VBool (path_eq x n))
   by_membership ps true k h = among_it ps h k
   by_membership ps false k h = ap not (among_others ps (path_eq x n) refl h k)
 
@@ -117,7 +124,8 @@ module _ (world : World) (m : Written) (n : Path) (o : Outcome) where
   any_found (Gives v) = any_typed n v
   any_found (Fails f) = tt
 
-  entities_found : (ps : List Path) (z : Outcome) → HasFound (Some (TEntity ps)) z → HasFound (Some (is_type_of n ps)) (on_value z (is_of n))
+  entities_found : (ps : List Path) (z : Outcome) → HasFound (Some (TEntity ps)) z
+      → HasFound (Some (is_type_of n ps)) (on_value z (is_of n))
   entities_found ps (Gives v) h = entities_typed n ps v h
   entities_found ps (Fails f) h = tt
 
@@ -136,12 +144,14 @@ module _ (world : World) (m : Written) (n : Path) (o : Outcome) where
   pub is_sound : SoundForm world (is_form m n) (o ∷ []) (on_value o (is_of n))
   is_sound = record { typed = typed; succeeds = succeeds; failed = λ t h. h }
     where
-      typed : (ts : List (Option Ty)) → AreTypes (is_form m n) (o ∷ []) ts → HasFound (decided_type ((is_form m n).decides ts)) (on_value o (is_of n))
+      typed : (ts : List (Option Ty)) → AreTypes (is_form m n) (o ∷ []) ts
+          → HasFound (decided_type ((is_form m n).decides ts)) (on_value o (is_of n))
       typed [] a = absurd a.have
       typed (None ∷ ts) a = any_found o
       typed (Some s ∷ ts) a = found s a.have.0
 
-      succeeds : (ts : List (Option Ty)) → AreTypes (is_form m n) (o ∷ []) ts → AllFound ts → GiftIsSound world (o ∷ []) (on_value o (is_of n)) ((is_form m n).decides ts)
+      succeeds : (ts : List (Option Ty)) → AreTypes (is_form m n) (o ∷ []) ts → AllFound ts
+          → GiftIsSound world (o ∷ []) (on_value o (is_of n)) ((is_form m n).decides ts)
       succeeds [] a k = absurd a.have
       succeeds (None ∷ ts) a k = absurd k.0
       succeeds (Some s ∷ ts) a k = gift s (outcome_safe s o a.meet.0 a.have.0)

@@ -1,5 +1,6 @@
 -- `in` does not go wrong.
-use Rattle.std.proofs.Common.{◌≡◌, Bool, true, false, ◌||◌, List, [], ◌∷◌, Option, Some, None, option_map, if◌then◌else◌, refl, sym, ◌∙◌, ap, subst}
+use Rattle.std.proofs.Common.{◌≡◌, Bool, true, false, ◌||◌, List, [], ◌∷◌, Option, Some, None, option_map, if◌then◌else◌, refl, sym, ◌∙◌}
+use Rattle.std.proofs.Common.{ap, subst}
 use Rattle.std.specs.List.{list_any, list_all}
 use Rattle.std.proofs.Math.Bool.{or-false}
 use Rattle.cedar_types.specs.declared.base.expressions.operators.BinaryOp.{BinaryOp}
@@ -21,7 +22,8 @@ use Rattle.cedar_typing.specs.Evaluation.Outcomes.{on_value, Outcomes, GiveAll, 
 use Rattle.cedar_typing.specs.Evaluation.World.{World, TypeFailure, Outcome, Gives, Fails}
 use Rattle.cedar_typing.specs.Rules.Equality.{literal_of}
 use Rattle.cedar_typing.specs.Rules.Leaves.{bool_ty}
-use Rattle.cedar_typing.specs.Rules.Membership.{literal_entity, entity_of, with_entity, entities_of, ancestors_of, is_action, is_action_in, only_actions, action_decides, entity_decides, in_decides, in_form}
+use Rattle.cedar_typing.specs.Rules.Membership.{literal_entity, entity_of, with_entity, entities_of, ancestors_of, is_action, is_action_in}
+use Rattle.cedar_typing.specs.Rules.Membership.{only_actions, action_decides, entity_decides, in_decides, in_form}
 use Rattle.cedar_typing.specs.Soundness.{HasFound, IsSafe}
 use Rattle.cedar_typing.specs.TypeEnv.{TypeEnv}
 use Rattle.cedar_typing.specs.TypeTests.{accepts, entity_types, ancestor_types}

@@ -51,7 +51,8 @@ long_negated v h = absurd h
 
 pub negation_sound : (world : World) (m : Written) (o : Outcome) → SoundForm world (negation_form m) (o ∷ []) (on_value o negation)
 negation_sound world m o =
-    one_value_sound long_types TLong negation negation_typed (λ s v a h. long_negated v (long_value s v a h)) world m (λ k x. unary k UnaryOp.Neg x) o
+    one_value_sound long_types TLong negation negation_typed (λ s v a h. long_negated v (long_value s v a h))
+    world m (λ k x. unary k UnaryOp.Neg x) o
 
 -- ---- `+`, `-` and `*`
 

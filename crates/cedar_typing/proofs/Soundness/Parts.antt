@@ -58,13 +58,16 @@ module _ (world : World) where
   refused_sound o t h = record { typed = h; safe = λ n. cc; caps_hold_if_true = λ n q m. cc; caps_hold_at_true = λ n q m. cc }
 
   module _ (o : Outcome) (J : Judgment) (sounds : Sounds world o J) where
-    pub part_sound : (succeeded : Bool) (c : Caps) (x : TypedTree) (es : List Finding) → PartResult J succeeded c x es → Sound world o succeeded (annotation x) c
+    pub part_sound : (succeeded : Bool) (c : Caps) (x : TypedTree) (es : List Finding)
+        → PartResult J succeeded c x es → Sound world o succeeded (annotation x) c
     part_sound succeeded c x es (derived {t = t} h) =
         let P : Option Ty → Type 0 = λ a. Sound world o true a c in
         subst P (sym (sounds.marks t c x h)) (sounds.derivations t c x h)
     part_sound succeeded c x es (recovered h) = sounds.recoveries x es h
 
-    pub operand_sound : (env : TypeEnv) (ts : List Ty) (l : Option Loc) (succeeded : Bool) (c : Caps) (x : TypedTree) (es : List Finding) → Operand env ts l J succeeded c x es → Sound world o succeeded (annotation x) c
+    pub operand_sound : (env : TypeEnv) (ts : List Ty) (l : Option Loc) (succeeded : Bool) (c : Caps)
+        (x : TypedTree) (es : List Finding) → Operand env ts l J succeeded c x es
+        → Sound world o succeeded (annotation x) c
     operand_sound env ts l succeeded c x es (accepted t p n h) = part_sound succeeded c x es p
     operand_sound env ts l succeeded c x es (refused {e = e} t p n h) =
         let P : Option Ty → Type 0 = λ a. Sound world o false a no_caps in
@@ -79,7 +82,8 @@ IsAccepted ts None = Unit {0}
 IsAccepted ts (Some t) = accepts ts t ≡ true
 
 module _ (J : Judgment) where
-  pub operand_accepted : (env : TypeEnv) (ts : List Ty) (l : Option Loc) (succeeded : Bool) (c : Caps) (x : TypedTree) (es : List Finding) → Operand env ts l J succeeded c x es → IsAccepted ts (annotation x)
+  pub operand_accepted : (env : TypeEnv) (ts : List Ty) (l : Option Loc) (succeeded : Bool) (c : Caps)
+      (x : TypedTree) (es : List Finding) → Operand env ts l J succeeded c x es → IsAccepted ts (annotation x)
   operand_accepted env ts l succeeded c x es (accepted t p n h) = subst (IsAccepted ts) (sym n) h
   operand_accepted env ts l succeeded c x es (refused {e = e} t p n h) = subst (IsAccepted ts) (sym (annotation-without_type e)) tt
   operand_accepted env ts l succeeded c x es (missing p n) = subst (IsAccepted ts) (sym n) tt

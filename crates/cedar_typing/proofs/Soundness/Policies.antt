@@ -17,9 +17,11 @@ use Rattle.cedar_types.specs.Schemas.Formed.{has_formed_types}
 use Rattle.cedar_typing.specs.Evaluation.Conformance.{IsOneOf, ConformingRequest, has_external}
 use Rattle.cedar_typing.specs.Evaluation.Eval.{eval}
 use Rattle.cedar_typing.specs.Evaluation.World.{World}
-use Rattle.cedar_typing.specs.PolicyCheck.{Verdict, succeeds, irrelevant, fails, PolicyChecks, SameVerdict, same_success, same_irrelevant, same_failure}
+use Rattle.cedar_typing.specs.PolicyCheck.{Verdict, succeeds, irrelevant, fails, PolicyChecks, SameVerdict, same_success, same_irrelevant}
+use Rattle.cedar_typing.specs.PolicyCheck.{same_failure}
 use Rattle.cedar_typing.specs.PolicyCheck.Outcome.{Adds, VerdictsOf, is_irrelevant, all_irrelevant, impossible, warnings_of, PolicyOutcome}
-use Rattle.cedar_typing.specs.Soundness.Policies.{Basis, IsNamedBySchema, IsWellFormed, IsConforming, setting_on, CheckedOn, PromisesAreKept, PromisesAreKeptInPermissive}
+use Rattle.cedar_typing.specs.Soundness.Policies.{Basis, IsNamedBySchema, IsWellFormed, IsConforming, setting_on, CheckedOn}
+use Rattle.cedar_typing.specs.Soundness.Policies.{PromisesAreKept, PromisesAreKeptInPermissive}
 use Rattle.cedar_typing.specs.Rules.{rules, Derives}
 use Rattle.cedar_typing.specs.Setting.{Setting}
 use Rattle.cedar_typing.specs.Silence.{IsWellNamedTemplate, IsDerivedAs, IsDerivedIn}
@@ -40,7 +42,8 @@ use Rattle.cedar_typing.proofs.Policies.Verdicts.{verdict_at_most}
 -- ---- what is derived is a boolean or fails in an allowed way
 
 module _ (s : Setting) (e : Source) (world : World) (sound : Sounds world (eval world e) (rules s e no_caps 1)) where
-  typed_outcome : (t : Ty) (c : Caps) (x : TypedTree) → Derives s e no_caps 1 t c x → accepts bool_types t ≡ true → IsBooleanOrAllowed (eval world e)
+  typed_outcome : (t : Ty) (c : Caps) (x : TypedTree) → Derives s e no_caps 1 t c x → accepts bool_types t ≡ true
+      → IsBooleanOrAllowed (eval world e)
   typed_outcome t c x d a =
       let q = sound.derivations t c x d in
       (q.safe refl, boolean t a (eval world e) q.typed)
@@ -57,7 +60,8 @@ nothing_new t true h = refl
 nothing_new t false h = absurd h
 
 -- where it is new it is due
-due : (t : PlainTemplate) (vs : List Verdict) (old new : List Caution) → Adds old (warnings_of t vs) new → (IsOneOf (impossible t) old → ⊥) → IsOneOf (impossible t) new → all_irrelevant vs ≡ true
+due : (t : PlainTemplate) (vs : List Verdict) (old new : List Caution) → Adds old (warnings_of t vs) new
+    → (IsOneOf (impossible t) old → ⊥) → IsOneOf (impossible t) new → all_irrelevant vs ≡ true
 due t vs old new a absent there = from (in_either (impossible t) old (warnings_of t vs) ((a (impossible t)).0 there))
   where
     from : IsOneOf (impossible t) old ⊎ IsOneOf (impossible t) (warnings_of t vs) → all_irrelevant vs ≡ true
@@ -65,7 +69,8 @@ due t vs old new a absent there = from (in_either (impossible t) old (warnings_o
     from (inr h) = nothing_new t (all_irrelevant vs) h
 
 -- what is warned where there was no warning is that: of use to a caller, who sees that there is some warning
-pub warned_impossible : {Checks : Env → Verdict → Type 0} {envs : List Env} {passes : Bool} {errors errors' : List Finding} (t : PlainTemplate) (old new : List Caution)
+pub warned_impossible : {Checks : Env → Verdict → Type 0} {envs : List Env} {passes : Bool}
+    {errors errors' : List Finding} (t : PlainTemplate) (old new : List Caution)
     → PolicyOutcome Checks envs t passes errors errors' old new → old ≡ [] → (w : Caution) → IsOneOf w new → IsOneOf (impossible t) new
 warned_impossible t old new o none w there =
     let Added : List Caution → Type 0 = λ xs. Adds xs (warnings_of t o.verdicts) new in
@@ -83,7 +88,8 @@ irrelevant_too u v (same_failure p) h = cc
 
 -- ---- the promises
 
-module _ (strictly : Bool) (b : Basis) (t : PlainTemplate) (schema : has_fault b.schema ≡ false) (formed : (strictly || has_formed_types b.schema) ≡ true) (functions : table_fault b.table.functions ≡ None)
+module _ (strictly : Bool) (b : Basis) (t : PlainTemplate) (schema : has_fault b.schema ≡ false)
+    (formed : (strictly || has_formed_types b.schema) ≡ true) (functions : table_fault b.table.functions ≡ None)
     (strict : is_strict b.mode ≡ strictly) (total : is_partial b.mode ≡ false) (closed : has_external b.schema ≡ false) where
   -- the setting, whose environment does not matter
   abbrev s : Setting
@@ -106,21 +112,28 @@ module _ (strictly : Bool) (b : Basis) (t : PlainTemplate) (schema : has_fault b
           let own : Setting = in_env s (own_env t d) in
           let known = derived (own_env t d) (own_env_is_checked b.schema b.mode t w.slots_in_scope d one) in
           own_kept strictly s t sure d one world fits i.store i.functions w.slots_in_scope w.bound
-          (derived_outcome own (condition_of t) (own_world world) (own_sounds strictly s t sure d one world fits i.store i.functions) known.0 known.2)
+          (derived_outcome own (condition_of t) (own_world world)
+          (own_sounds strictly s t sure d one world fits i.store i.functions) known.0 known.2)
 
-  irrelevant_in_all : (listed : List Env) (vs : List Verdict) → IsPermutation listed (checked_envs b.schema b.mode t) → VerdictsOf Checks listed vs → all_irrelevant vs ≡ true → IsIrrelevantInAll s t
+  irrelevant_in_all : (listed : List Env) (vs : List Verdict)
+      → IsPermutation listed (checked_envs b.schema b.mode t) → VerdictsOf Checks listed vs
+      → all_irrelevant vs ≡ true → IsIrrelevantInAll s t
   irrelevant_in_all listed vs p c h env one v k =
       let u = each_has_passing Checks is_irrelevant listed (checked_envs b.schema b.mode t) vs p c h env one in
       irrelevant_too u.0 v (verdict_at_most (in_env s env) (condition_of t) u.0 v u.1 k) u.2
 
   module _ (passes : Bool) (errors errors' : List Finding) (old new : List Caution) (o : CheckedOn b t passes errors errors' old new) where
-    safe_in : passes ≡ true → IsNamedBySchema b.schema t → (world : World) → IsWellFormed t world.slots → IsConforming b world → IsBooleanOrAllowed (eval world (condition_of t))
+    safe_in : passes ≡ true → IsNamedBySchema b.schema t → (world : World) → IsWellFormed t world.slots
+        → IsConforming b world → IsBooleanOrAllowed (eval world (condition_of t))
     safe_in h n world w i =
         let P : Bool → Type 0 = λ x. CheckedOn b t x errors errors' old new in
         let names : IsWellNamedTemplate b.schema t = record { unknowns = w.no_unknowns; types = n.types; actions = n.actions } in
-        safe_if_derived world w i (passing_derived_in strictly s t strict total formed schema functions names errors errors' old new (subst P h o))
+        safe_if_derived world w i
+        (passing_derived_in strictly s t strict total formed schema functions names errors
+        errors' old new (subst P h o))
 
-    never_in : (IsOneOf (impossible t) old → ⊥) → IsOneOf (impossible t) new → SlotsInScopeAlone t → (world : World) → IsConforming b world → IsTrueOutcome (eval world (condition_of t)) → ⊥
+    never_in : (IsOneOf (impossible t) old → ⊥) → IsOneOf (impossible t) new → SlotsInScopeAlone t → (world : World)
+        → IsConforming b world → IsTrueOutcome (eval world (condition_of t)) → ⊥
     never_in absent there alone world i =
         never_true_in strictly s t sure alone
         (irrelevant_in_all o.listed o.verdicts o.in_some_order o.checked (due t o.verdicts old new o.warnings_added absent there))
@@ -128,12 +141,20 @@ module _ (strictly : Bool) (b : Basis) (t : PlainTemplate) (schema : has_fault b
 
 pub promises_are_kept : PromisesAreKept
 promises_are_kept b t schema functions passes errors errors' old new o = record {
-  safe = λ h k. safe_in true b t schema refl functions (ap is_strict k.mode) (ap is_partial k.mode) k.closed passes errors errors' old new o h;
-  never_true = λ absent there k. never_in true b t schema refl functions (ap is_strict k.mode) (ap is_partial k.mode) k.closed passes errors errors' old new o absent there;
+  safe =
+      λ h k. safe_in true b t schema refl functions (ap is_strict k.mode) (ap is_partial k.mode)
+      k.closed passes errors errors' old new o h;
+  never_true =
+      λ absent there k. never_in true b t schema refl functions (ap is_strict k.mode) (ap is_partial k.mode)
+      k.closed passes errors errors' old new o absent there;
 }
 
 pub promises_are_kept_in_permissive : PromisesAreKeptInPermissive
 promises_are_kept_in_permissive b t schema formed functions passes errors errors' old new o = record {
-  safe = λ h k. safe_in false b t schema formed functions (ap is_strict k.mode) (ap is_partial k.mode) k.closed passes errors errors' old new o h;
-  never_true = λ absent there k. never_in false b t schema formed functions (ap is_strict k.mode) (ap is_partial k.mode) k.closed passes errors errors' old new o absent there;
+  safe =
+      λ h k. safe_in false b t schema formed functions (ap is_strict k.mode) (ap is_partial k.mode)
+      k.closed passes errors errors' old new o h;
+  never_true =
+      λ absent there k. never_in false b t schema formed functions (ap is_strict k.mode) (ap is_partial k.mode)
+      k.closed passes errors errors' old new o absent there;
 }

@@ -64,15 +64,22 @@ module _ (s : Setting) (e : Source) (world : World) (sound : Sounds world (eval 
       let r = sound.derivations t c _ d in
       (r.safe refl, boolean t a (eval world e) r.typed)
   promised v (check_false c d) = false_value (eval world e) (sound.derivations _ c _ d).typed
-  promised v (check_refused_false {e' = x} {es = es} (c, o) n p) = false_found (annotation x) (eval world e) n (operand_sound world (eval world e) _ sound s.env bool_types (place_of e) false c x es o).typed
+  promised v (check_refused_false {e' = x} {es = es} (c, o) n p) =
+      false_found (annotation x) (eval world e) n
+      (operand_sound world (eval world e) _ sound s.env bool_types (place_of e) false c x es o).typed
   promised v (check_refused o n p) = tt
   promised v (check_cut c p) = tt
 
-pub check_sound : (s : Setting) (e : Source) (v : Verdict) → has_fault s.env.schema ≡ false → table_fault s.functions ≡ None → PolicyChecks s e v → IsSoundPolicyCheck s e v
+pub check_sound : (s : Setting) (e : Source) (v : Verdict) → has_fault s.env.schema ≡ false
+    → table_fault s.functions ≡ None → PolicyChecks s e v → IsSoundPolicyCheck s e v
 check_sound s e v f t c r world i b =
-    promised s e world (sounds true s world (ap is_strict r.mode) (ap is_partial r.mode) refl f t r.closed r.environment i.environment i.store i.functions e b no_caps 1 (hold_none world)) v c
+    promised s e world (sounds true s world (ap is_strict r.mode) (ap is_partial r.mode)
+    refl f t r.closed r.environment i.environment i.store i.functions e b no_caps 1 (hold_none world)) v c
 
 -- the same in Permissive, where the types of the schema are formed
-pub check_sound_in_permissive : (s : Setting) (e : Source) (v : Verdict) → has_fault s.env.schema ≡ false → has_formed_types s.env.schema ≡ true → table_fault s.functions ≡ None → PolicyChecks s e v → IsSoundPolicyCheckIn Permissive s e v
+pub check_sound_in_permissive : (s : Setting) (e : Source) (v : Verdict) → has_fault s.env.schema ≡ false
+    → has_formed_types s.env.schema ≡ true → table_fault s.functions ≡ None → PolicyChecks s e v
+    → IsSoundPolicyCheckIn Permissive s e v
 check_sound_in_permissive s e v f w t c r world i b =
-    promised s e world (sounds false s world (ap is_strict r.mode) (ap is_partial r.mode) w f t r.closed r.environment i.environment i.store i.functions e b no_caps 1 (hold_none world)) v c
+    promised s e world (sounds false s world (ap is_strict r.mode) (ap is_partial r.mode)
+    w f t r.closed r.environment i.environment i.store i.functions e b no_caps 1 (hold_none world)) v c

@@ -1,5 +1,6 @@
 -- Records do not go wrong.
-use Rattle.std.proofs.Common.{◌≡◌, Bool, true, false, true≢false, List, [], ◌∷◌, Option, Some, None, if◌then◌else◌, refl, sym, ap, subst, ◌∙◌}
+use Rattle.std.proofs.Common.{◌≡◌, Bool, true, false, true≢false, List, [], ◌∷◌, Option, Some, None, if◌then◌else◌, refl, sym, ap, subst}
+use Rattle.std.proofs.Common.{◌∙◌}
 use Rattle.std.specs.Prelude.{IsTrue}
 use Rattle.std.specs.List.{list_any, list_all}
 use Rattle.std.specs.Ordering.{is_lt, is_eq}
@@ -86,7 +87,8 @@ abbrev entries_together : List Text → List Outcome → EntryOutcomes
 entries_together (k ∷ ks) (o ∷ os) = more_entry_outcomes k o (entries_together ks os)
 entries_together ks os = GiveEntries no_entries
 
-evaluated_together : (world : World) (fs : Fields Written) → entries_together (field_keys fs) (field_outcomes world fs) ≡ eval_fields world fs
+evaluated_together : (world : World) (fs : Fields Written)
+    → entries_together (field_keys fs) (field_outcomes world fs) ≡ eval_fields world fs
 evaluated_together world no_fields = refl
 evaluated_together world (field k e fs) = ap (more_entry_outcomes k (eval world e)) (evaluated_together world fs)
 
@@ -144,7 +146,9 @@ module _ (world : World) (env : TypeEnv) (m : Written) (ks : List Text) (os : Li
   whole = record_outcome (entries_together ks os)
 
   abbrev decided_by : Bool → List Ty → Decision
-  decided_by ascending us = if ascending then gives (TRecord (required_attrs ks us) false) no_caps else refuses None (finding env m.place internal_invariant_violation ∷ [])
+  decided_by ascending us =
+      if ascending then gives (TRecord (required_attrs ks us) false) no_caps
+      else refuses None (finding env m.place internal_invariant_violation ∷ [])
 
   keys_typed : (b : Bool) (us : List Ty) → texts_ascending ks ≡ b → AllTyped us os → HasFound (decided_type (decided_by b us)) whole
   keys_typed true us e h = record_has ks us (entries_together ks os) (entries_have ks us os e h)
@@ -164,14 +168,23 @@ module _ (world : World) (env : TypeEnv) (m : Written) (ks : List Text) (os : Li
   types_gift (Some us) = keys_gift (texts_ascending ks) us
 
   record_sound : SoundForm world (record_form env m ks) os whole
-  record_sound = record { typed = λ ts a. types_typed ts (all_types ts) a.have refl; succeeds = λ ts a f. types_gift (all_types ts); failed = λ t h. h }
+  record_sound =
+      record {
+        typed = λ ts a. types_typed ts (all_types ts) a.have refl;
+        succeeds =
+            λ ts a f. types_gift (all_types ts);
+        failed = λ t h. h;
+      }
 
 -- ---- evaluation
 
 pub record_sounds : (strictly : Bool) (world : World) (env : TypeEnv) (m : Written) (fs : Fields Written) (Js : Judgments)
-    → SoundsAll strictly world [] (field_outcomes world fs) Js → Sounds world (eval world (record_of m fs)) (eager_rules (record_form env m (field_keys fs)) Js)
+    → SoundsAll strictly world [] (field_outcomes world fs) Js
+    → Sounds world (eval world (record_of m fs)) (eager_rules (record_form env m (field_keys fs)) Js)
 record_sounds strictly world env m fs Js operands =
     let ks = field_keys fs in
     let os = field_outcomes world fs in
     subst (λ z. Sounds world (record_outcome z) (eager_rules (record_form env m ks) Js)) (evaluated_together world fs)
-    (form_sounds strictly world (record_form env m ks) (λ k xs. refl) os (record_outcome (entries_together ks os)) (of_any strictly world (record_form env m ks) os (record_outcome (entries_together ks os)) (record_sound world env m ks os)) Js operands)
+    (form_sounds strictly world (record_form env m ks) (λ k xs. refl) os (record_outcome (entries_together ks os))
+    (of_any strictly world (record_form env m ks) os (record_outcome (entries_together ks os))
+    (record_sound world env m ks os)) Js operands)

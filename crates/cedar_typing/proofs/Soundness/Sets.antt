@@ -60,7 +60,8 @@ has_also : (s u : Ty) → ((v : Value) → HasType s v → HasType u v) → (o :
 has_also s u f (Gives v) h = f v h
 has_also s u f (Fails g) h = tt
 
-each_has : (u : Ty) (ts : List Ty) → ((s : Ty) → IsOneOf s ts → (v : Value) → HasType s v → HasType u v) → (os : List Outcome) → AllTyped ts os → AllOf u os
+each_has : (u : Ty) (ts : List Ty) → ((s : Ty) → IsOneOf s ts → (v : Value) → HasType s v → HasType u v)
+    → (os : List Outcome) → AllTyped ts os → AllOf u os
 each_has u [] f [] h = tt
 each_has u [] f (o ∷ os) h = absurd h
 each_has u (t ∷ ts) f [] h = absurd h
@@ -71,7 +72,8 @@ each_kept strictly [] n s i = absurd i
 each_kept strictly (t ∷ ts) n s (inl e) = subst (KeptIn strictly) (sym e) n.0
 each_kept strictly (t ∷ ts) n s (inr i) = each_kept strictly ts n.1 s i
 
-all_have : (strictly : Bool) (m : ValidationMode) → is_strict m ≡ strictly → (u : Ty) (ts : List Ty) → list_lub m ts ≡ Some u → AreKept (KeptIn strictly) ts → (os : List Outcome) → AllTyped ts os → AllOf u os
+all_have : (strictly : Bool) (m : ValidationMode) → is_strict m ≡ strictly → (u : Ty) (ts : List Ty)
+    → list_lub m ts ≡ Some u → AreKept (KeptIn strictly) ts → (os : List Outcome) → AllTyped ts os → AllOf u os
 all_have strictly m strict u ts e n os h = each_has u ts (λ s i v. bound_has strictly m strict v ts u s e (each_kept strictly ts n) i) os h
 
 -- ---- what the elements come to
@@ -148,13 +150,15 @@ module _ (strictly : Bool) (world : World) (env : TypeEnv) (strict : is_strict e
   types_typed : (ts : List (Option Ty)) (found : Option (List Ty)) → AllHave ts os → AllKept (KeptIn strictly) ts → all_types ts ≡ found
       → HasFound (decided_type (set_of_types env m.place found)) whole
   types_typed ts None h n e = tt
-  types_typed ts (Some us) h n e = bound_typed us (list_lub env.mode us) (found_typed ts us os h e) (found_kept (KeptIn strictly) ts us n e) refl
+  types_typed ts (Some us) h n e =
+      bound_typed us (list_lub env.mode us) (found_typed ts us os h e) (found_kept (KeptIn strictly) ts us n e) refl
 
   empty_typed : (b : Bool) → AllHave [] os → HasFound (decided_type (without_elements b)) whole
   empty_typed true h = tt
   empty_typed false h = types_typed [] (Some []) h tt refl
 
-  decided_typed : (ts : List (Option Ty)) → AllHave ts os → AllKept (KeptIn strictly) ts → HasFound (decided_type (set_decides env m.place ts)) whole
+  decided_typed : (ts : List (Option Ty)) → AllHave ts os → AllKept (KeptIn strictly) ts
+      → HasFound (decided_type (set_decides env m.place ts)) whole
   decided_typed [] h n = empty_typed (is_strict env.mode) h
   decided_typed (t ∷ ts) h n = types_typed (t ∷ ts) (all_types (t ∷ ts)) h n refl
 
@@ -183,9 +187,11 @@ module _ (strictly : Bool) (world : World) (env : TypeEnv) (strict : is_strict e
 
 -- ---- evaluation
 
-pub set_sounds : (strictly : Bool) (world : World) (env : TypeEnv) → is_strict env.mode ≡ strictly → (m : Written) (ts : Trees Written) (Js : Judgments)
+pub set_sounds : (strictly : Bool) (world : World) (env : TypeEnv) → is_strict env.mode ≡ strictly → (m : Written)
+    (ts : Trees Written) (Js : Judgments)
     → SoundsAll strictly world [] (outcomes world ts) Js → Sounds world (eval world (set_of m ts)) (eager_rules (set_form env m) Js)
 set_sounds strictly world env strict m ts Js operands =
     let os = outcomes world ts in
     subst (λ z. Sounds world (set_from z) (eager_rules (set_form env m) Js)) (evaluated_together world ts)
-    (form_sounds strictly world (set_form env m) (λ k xs. refl) os (set_from (together os)) (set_sound strictly world env strict m os) Js operands)
+    (form_sounds strictly world (set_form env m) (λ k xs. refl) os (set_from (together os))
+    (set_sound strictly world env strict m os) Js operands)

@@ -19,7 +19,8 @@ use Rattle.cedar_typing.specs.Evaluation.Conformance.{has_external, HasTagOf, Ha
 use Rattle.cedar_typing.specs.Evaluation.Eval.{entity_has_tag, has_tag, tag_value, entity_tag, get_tag, eval}
 use Rattle.cedar_typing.specs.Evaluation.Outcomes.{of_test, on_value}
 use Rattle.cedar_typing.specs.Evaluation.World.{World, Outcome, Gives, Fails}
-use Rattle.cedar_typing.specs.Rules.Tags.{tag_of, has_tag_type, has_tag_table, has_tag_form, tag_by_bound, get_known_tag, get_tag_table, get_tag_form}
+use Rattle.cedar_typing.specs.Rules.Tags.{tag_of, has_tag_type, has_tag_table, has_tag_form, tag_by_bound, get_known_tag, get_tag_table}
+use Rattle.cedar_typing.specs.Rules.Tags.{get_tag_form}
 use Rattle.cedar_typing.specs.Soundness.{OnValue, HasFound, IsSafe, IsTrueOutcome}
 use Rattle.cedar_typing.specs.TypeEnv.{TypeEnv}
 use Rattle.cedar_typing.specs.TypeTests.{accepts, entity_types, string_types}
@@ -76,7 +77,8 @@ module _ (store : Store) where
 
 -- ---- of two outcomes
 
-module _ (env : TypeEnv) (world : World) (closed : has_external env.schema ≡ false) (conforms : ConformingStore env.schema world.store) where
+module _ (env : TypeEnv) (world : World) (closed : has_external env.schema ≡ false)
+    (conforms : ConformingStore env.schema world.store) where
   -- the tag is there, if both are values
   abbrev IsThere : Outcome → Outcome → Type 0
   IsThere o o' = HasTag world.store o o'
@@ -208,7 +210,9 @@ module _ (env : TypeEnv) (world : World) (closed : has_external env.schema ≡ f
 
 -- ---- `getTag`
 
-module _ (strictly : Bool) (env : TypeEnv) (world : World) (strict : is_strict env.mode ≡ strictly) (faults : has_fault env.schema ≡ false) (formed : (strictly || has_formed_types env.schema) ≡ true) (closed : has_external env.schema ≡ false)
+module _ (strictly : Bool) (env : TypeEnv) (world : World) (strict : is_strict env.mode ≡ strictly)
+    (faults : has_fault env.schema ≡ false) (formed : (strictly || has_formed_types env.schema) ≡ true)
+    (closed : has_external env.schema ≡ false)
     (conforms : ConformingStore env.schema world.store) (m : Written) (prior : Caps) (hold : AllHold world prior) (a b : Source) where
   abbrev both : List Outcome
   both = eval world a ∷ eval world b ∷ []
@@ -226,7 +230,10 @@ module _ (strictly : Bool) (env : TypeEnv) (world : World) (strict : is_strict e
   bound_typed : (s : Ty) (bound : Option Ty) → HasFound (Some s) (eval world a) → list_lub env.mode (tag_types env.schema s) ≡ bound
       → HasFound (decided_type (tag_by_bound env m.place (tag_types env.schema s) bound)) got
   bound_typed s None h e = tt
-  bound_typed s (Some u) h e = got_typed env world closed conforms strictly strict s u (tags_kept (keeping strictly) env.schema faults (formed_if strictly (has_formed_types env.schema) formed) s) e (eval world a) (eval world b) h
+  bound_typed s (Some u) h e =
+      got_typed env world closed conforms strictly strict s u
+      (tags_kept (keeping strictly) env.schema faults (formed_if strictly (has_formed_types env.schema) formed) s) e
+      (eval world a) (eval world b) h
 
   types_typed : (s : Ty) (ts : List Ty) → HasFound (Some s) (eval world a) → tag_types env.schema s ≡ ts
       → HasFound (decided_type (get_known_tag env m.place s ts)) got
@@ -235,16 +242,19 @@ module _ (strictly : Bool) (env : TypeEnv) (world : World) (strict : is_strict e
       subst (λ z. HasFound (decided_type (tag_by_bound env m.place z (list_lub env.mode z))) got) e
       (bound_typed s (list_lub env.mode (tag_types env.schema s)) h refl)
 
-  known_typed : (s : Ty) (known : Bool) (fs : List Finding) → HasFound (Some s) (eval world a) → HasFound (decided_type (guarded known s fs)) got
+  known_typed : (s : Ty) (known : Bool) (fs : List Finding) → HasFound (Some s) (eval world a)
+      → HasFound (decided_type (guarded known s fs)) got
   known_typed s true fs h = types_typed s (tag_types env.schema s) h refl
   known_typed s false fs h = tt
 
-  tag_typed : (s : Ty) → HasFound (Some s) (eval world a) → HasFound (decided_type (get_tag_table env m.place (prior (tag_of a b)) (Some s))) got
+  tag_typed : (s : Ty) → HasFound (Some s) (eval world a)
+      → HasFound (decided_type (get_tag_table env m.place (prior (tag_of a b)) (Some s))) got
   tag_typed TNever h = tt
   tag_typed s h = known_typed s (prior (tag_of a b)) _ h
 
   module _ (t : Ty) (text : accepts string_types t ≡ true) (k : HasFound (Some t) (eval world b)) where
-    bound_gift : (us : List Ty) (bound : Option Ty) → prior (tag_of a b) ≡ true → GiftIsSound world both got (tag_by_bound env m.place us bound)
+    bound_gift : (us : List Ty) (bound : Option Ty) → prior (tag_of a b) ≡ true
+        → GiftIsSound world both got (tag_by_bound env m.place us bound)
     bound_gift us None e = tt
     bound_gift us (Some u) e =
         let there = known_there world prior hold a b e in

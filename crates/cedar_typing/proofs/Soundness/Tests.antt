@@ -105,7 +105,8 @@ sort_back (Some t) h =
     subst P (sym k.1) (ap (option_map sort_ty) (sym (sort_is k.0)))
 
 module _ (world : World) (o : Outcome) where
-  pub sorted : (succeeded : Bool) (k : Sort) (c : Caps) → Sound world o succeeded (Some (sort_ty k)) c → SoundTest world (test_of o) succeeded (Some k) c
+  pub sorted : (succeeded : Bool) (k : Sort) (c : Caps) → Sound world o succeeded (Some (sort_ty k)) c
+      → SoundTest world (test_of o) succeeded (Some k) c
   sorted succeeded k c s = record {
     typed = test_typed k o s.typed;
     safe = λ h. test_safe k o s.typed (s.safe h);
@@ -114,17 +115,26 @@ module _ (world : World) (o : Outcome) where
   }
 
   missing_test : SoundTest world (test_of o) false None no_caps
-  missing_test = record { typed = none_typed (test_of o); safe = λ h. cc; caps_hold_if_true = λ h q n. cc; caps_hold_at_true = λ h. absurd h }
+  missing_test =
+      record {
+        typed = none_typed (test_of o);
+        safe = λ h. cc;
+        caps_hold_if_true = λ h q n. cc;
+        caps_hold_at_true = λ h. absurd h;
+      }
     where
       none_typed : (s : Test) → TestHas s None
       none_typed (Says b) = tt
       none_typed (Stops f) = tt
 
   module _ (env : TypeEnv) (l : Option Loc) (J : Judgment) where
-    pub operand_sort : (succeeded : Bool) (c : Caps) (x : TypedTree) (es : List Finding) → Operand env bool_types l J succeeded c x es → annotation x ≡ option_map sort_ty (sort_of (annotation x))
+    pub operand_sort : (succeeded : Bool) (c : Caps) (x : TypedTree) (es : List Finding)
+        → Operand env bool_types l J succeeded c x es → annotation x ≡ option_map sort_ty (sort_of (annotation x))
     operand_sort succeeded c x es o = sort_back (annotation x) (operand_accepted J env bool_types l succeeded c x es o)
 
-    typed_operand : (succeeded : Bool) (c : Caps) (x : TypedTree) (t : Ty) → annotation x ≡ Some t → accepts bool_types t ≡ true → Sound world o succeeded (annotation x) c → SoundTest world (test_of o) succeeded (sort_of (annotation x)) c
+    typed_operand : (succeeded : Bool) (c : Caps) (x : TypedTree) (t : Ty) → annotation x ≡ Some t
+        → accepts bool_types t ≡ true → Sound world o succeeded (annotation x) c
+        → SoundTest world (test_of o) succeeded (sort_of (annotation x)) c
     typed_operand succeeded c x t n h s =
         let k = accepted_sort t h in
         let q : annotation x ≡ Some (sort_ty k.0) = n ∙ ap Some k.1 in
@@ -137,7 +147,11 @@ module _ (world : World) (o : Outcome) where
         let Q : Option Ty → Type 0 = λ x. SoundTest world (test_of o) false (sort_of x) no_caps in
         subst Q (sym n) missing_test
 
-    pub tested_operand : Sounds world o J → (succeeded : Bool) (c : Caps) (x : TypedTree) (es : List Finding) → Operand env bool_types l J succeeded c x es → SoundTest world (test_of o) succeeded (sort_of (annotation x)) c
-    tested_operand sounds succeeded c x es (accepted t p n h) = typed_operand succeeded c x t n h (operand_sound world o J sounds env bool_types l succeeded c x es (accepted t p n h))
+    pub tested_operand : Sounds world o J → (succeeded : Bool) (c : Caps) (x : TypedTree) (es : List Finding)
+        → Operand env bool_types l J succeeded c x es
+        → SoundTest world (test_of o) succeeded (sort_of (annotation x)) c
+    tested_operand sounds succeeded c x es (accepted t p n h) =
+        typed_operand succeeded c x t n h
+        (operand_sound world o J sounds env bool_types l succeeded c x es (accepted t p n h))
     tested_operand sounds succeeded c x es (refused {e = e} t p n h) = none_operand _ (annotation-without_type e)
     tested_operand sounds succeeded c x es (missing p n) = none_operand _ n

@@ -48,7 +48,13 @@ module _ (world : World) (o : Outcome) where
       typed (None ∷ ts) a = any_has (test_of o)
       typed (Some s ∷ ts) a = not_typed s a.meet.0 a.have.0
 
-      succeeds : (ts : List (Option Ty)) → AreTypes (not_form m) (o ∷ []) ts → AllFound ts → GiftIsSound world (o ∷ []) opposite ((not_form m).decides ts)
+      succeeds : (ts : List (Option Ty)) → AreTypes (not_form m) (o ∷ []) ts → AllFound ts
+          → GiftIsSound world (o ∷ []) opposite ((not_form m).decides ts)
       succeeds [] a f = absurd a.have
       succeeds (None ∷ ts) a f = absurd f.0
-      succeeds (Some s ∷ ts) a f = record { safe = λ h. not_is_safe s a.meet.0 a.have.0 h.0; caps_hold_if_true = λ n. hold_none world; caps_hold_at_true = λ n. hold_none world }
+      succeeds (Some s ∷ ts) a f =
+          record {
+            safe = λ h. not_is_safe s a.meet.0 a.have.0 h.0;
+            caps_hold_if_true = λ n. hold_none world;
+            caps_hold_at_true = λ n. hold_none world;
+          }

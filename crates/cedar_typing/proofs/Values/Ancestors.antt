@@ -60,7 +60,8 @@ module _ (store : Store) where
   entity_safe u TAnyEntity w a h = absurd h
   entity_safe u t w a h = absurd (true≢false (sym a))
 
-  of_entity_safe : (t : Ty) (v w : Value) → OnEntity (λ u. Unit {0}) v → accepts ancestor_types t ≡ true → HasType t w → IsSafe (value_in store v w)
+  of_entity_safe : (t : Ty) (v w : Value) → OnEntity (λ u. Unit {0}) v → accepts ancestor_types t ≡ true
+      → HasType t w → IsSafe (value_in store v w)
   of_entity_safe t (VEntity u) w e a h = entity_safe u t w a h
   of_entity_safe t v w e a h = absurd e
 
@@ -129,7 +130,9 @@ module _ (s : Schema) (faults : has_fault s ≡ false) (store : Store) (conforms
   by_types false ps qs e v w h k = denied ps qs e v w h k
 
   pub in_typed : (o p : Option Ty) (v w : Value) → HasFound o (Gives v) → HasFound p (Gives w)
-      → HasFound (Some (if may_be_among s (types_of_entity o) (types_of_ancestors p) then TBool AnyBool else TBool False)) (value_in store v w)
+      → HasFound
+      (Some (if may_be_among s (types_of_entity o) (types_of_ancestors p) then TBool AnyBool else TBool False))
+      (value_in store v w)
   in_typed o p v w h k =
       let ps = types_of_entity o in
       let qs = types_of_ancestors p in

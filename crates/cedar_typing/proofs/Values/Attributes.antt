@@ -4,11 +4,14 @@ use Rattle.std.specs.Prelude.{IsTrue}
 use Rattle.std.specs.List.{list_any}
 use Rattle.cedar_types.specs.Names.{Text, Path, Uid, path_eq}
 use Rattle.cedar_types.specs.Lemmas.Comparisons.{path_same}
-use Rattle.cedar_types.specs.Types.{Ty, TNever, TBool, TLong, TString, TSet, TAnySet, TRecord, TEntity, TAnyEntity, TExtension, Attrs, attr_names}
+use Rattle.cedar_types.specs.Types.{Ty, TNever, TBool, TLong, TString, TSet, TAnySet, TRecord, TEntity, TAnyEntity, TExtension, Attrs}
+use Rattle.cedar_types.specs.Types.{attr_names}
 use Rattle.cedar_types.specs.Types.Bounds.{find_attr}
-use Rattle.cedar_types.specs.Schemas.{TypeKind, StandardKind, EnumKind, ExternalKind, DeclaredType, Schema, is_among, is_external, knows_type, type_named}
+use Rattle.cedar_types.specs.Schemas.{TypeKind, StandardKind, EnumKind, ExternalKind, DeclaredType, Schema, is_among, is_external}
+use Rattle.cedar_types.specs.Schemas.{knows_type, type_named}
 use Rattle.cedar_types.specs.Types.Lookups.{kind_attribute, declared_kind_attribute, types_attribute, attribute_type, may_declare, may_have}
-use Rattle.cedar_types.specs.Values.{Value, VBool, VLong, VString, VEntity, VSet, VRecord, VExtension, Entries, no_entries, entry_at, HasType}
+use Rattle.cedar_types.specs.Values.{Value, VBool, VLong, VString, VEntity, VSet, VRecord, VExtension, Entries, no_entries, entry_at}
+use Rattle.cedar_types.specs.Values.{HasType}
 use Rattle.cedar_types.specs.Values.Stores.{Entity, Store, entity_at, FitsKind, FitsDeclaration, ConformingStore}
 use Rattle.cedar_typing.specs.Evaluation.Conformance.{SaysTrue}
 use Rattle.cedar_typing.specs.Evaluation.Eval.{entity_has, has_test, attribute_value, entity_get, get}
@@ -69,7 +72,8 @@ module _ (s : Schema) (x : Text) where
   kind_at (EnumKind ids) p e h = tt
   kind_at ExternalKind p e h = tt
 
-  declaration_at : (d : Option DeclaredType) (u : Uid) (e : Entity) → FitsDeclaration s u d e → AttrAt (declared_kind_attribute x d) (entry_at x e.attributes)
+  declaration_at : (d : Option DeclaredType) (u : Uid) (e : Entity) → FitsDeclaration s u d e
+      → AttrAt (declared_kind_attribute x d) (entry_at x e.attributes)
   declaration_at None u e h = tt
   declaration_at (Some t) u e h = kind_at t.kind u.entity_type e h
 
@@ -79,12 +83,19 @@ module _ (s : Schema) (x : Text) where
       cc
 
   -- what an entity has, its type may have
-  kind_may : (k : TypeKind) (b c : Bool) (p : Path) (e : Entity) → FitsKind s.types p k e → is_some (entry_at x e.attributes) ≡ true → is_external (Some (record { name = p; descendants = []; kind = k })) ≡ c → ((b || c) || is_some (kind_attribute x k)) ≡ true
-  kind_may (StandardKind attrs tags) b c p e h g f = or_second (b || c) (is_some (find_attr x attrs)) (named_found x attrs (key_named x (attr_names attrs) e.attributes h.attributes.1 g))
+  kind_may : (k : TypeKind) (b c : Bool) (p : Path) (e : Entity) → FitsKind s.types p k e
+      → is_some (entry_at x e.attributes) ≡ true
+      → is_external (Some (record { name = p; descendants = []; kind = k })) ≡ c
+      → ((b || c) || is_some (kind_attribute x k)) ≡ true
+  kind_may (StandardKind attrs tags) b c p e h g f =
+      or_second (b || c) (is_some (find_attr x attrs))
+      (named_found x attrs (key_named x (attr_names attrs) e.attributes h.attributes.1 g))
   kind_may (EnumKind ids) b c p e h g f = absurd (none_there e.attributes h.attributes g)
   kind_may ExternalKind b c p e h g f = or_first (b || c) false (or_second b c (sym f))
 
-  declaration_may : (d : Option DeclaredType) (b : Bool) (u : Uid) (e : Entity) → FitsDeclaration s u d e → is_some (entry_at x e.attributes) ≡ true → ((b || is_external d) || is_some (declared_kind_attribute x d)) ≡ true
+  declaration_may : (d : Option DeclaredType) (b : Bool) (u : Uid) (e : Entity) → FitsDeclaration s u d e
+      → is_some (entry_at x e.attributes) ≡ true
+      → ((b || is_external d) || is_some (declared_kind_attribute x d)) ≡ true
   declaration_may None b u e h g = absurd (none_there e.attributes h.1.attributes g)
   declaration_may (Some t) b u e h g = kind_may t.kind b (is_external (Some t)) u.entity_type e h g refl
 
@@ -92,14 +103,18 @@ module _ (s : Schema) (x : Text) where
   one_may [] p m h = cc
   one_may (q ∷ qs) p m h =
       or_cases (path_eq p q) (is_among qs p) (list_any (may_declare s.types x) (q ∷ qs) ≡ true)
-      (λ e. or_first (may_declare s.types x q) (list_any (may_declare s.types x) qs) (subst (λ r. may_declare s.types x r ≡ true) (path_same.to p q e) h))
+      (λ e. or_first (may_declare s.types x q) (list_any (may_declare s.types x) qs)
+      (subst (λ r. may_declare s.types x r ≡ true) (path_same.to p q e) h))
       (λ e. or_second (may_declare s.types x q) (list_any (may_declare s.types x) qs) (one_may qs p e h)) m
 
   module _ (store : Store) (conforms : ConformingStore s store) where
-    entity_got : (ps : List Path) (u : Uid) (q : Option Entity) → entity_at store u ≡ q → Joins s (TEntity ps) → is_among ps u.entity_type ≡ true → GetFits (types_attribute s.types x ps) (entity_get q x)
+    entity_got : (ps : List Path) (u : Uid) (q : Option Entity) → entity_at store u ≡ q → Joins s (TEntity ps)
+        → is_among ps u.entity_type ≡ true → GetFits (types_attribute s.types x ps) (entity_get q x)
     entity_got ps u None e j m = missing_fits (types_attribute s.types x ps)
     entity_got ps u (Some y) e j m =
-        value_fits (types_attribute s.types x ps) (entry_at x y.attributes) (types_at s x ps u.entity_type (entry_at x y.attributes) j m (declaration_at (type_named s.types u.entity_type) u y (conforms.entities u y e)))
+        value_fits (types_attribute s.types x ps) (entry_at x y.attributes)
+        (types_at s x ps u.entity_type (entry_at x y.attributes) j m
+        (declaration_at (type_named s.types u.entity_type) u y (conforms.entities u y e)))
 
     -- the attribute has its type, and a required one is there; an entity may be missing
     pub got : (b : Ty) (v : Value) → Joins s b → HasType b v → GetFits (attribute_type s b x) (get store x v)
@@ -116,7 +131,8 @@ module _ (s : Schema) (x : Text) where
     got TAnyEntity v j h = tt
     got (TExtension n) v j h = tt
 
-    pub get_typed : (b t : Ty) (r : Bool) (v : Value) → Joins s b → HasType b v → attribute_type s b x ≡ Some (t, r) → OnValue (HasType t) (get store x v)
+    pub get_typed : (b t : Ty) (r : Bool) (v : Value) → Joins s b → HasType b v → attribute_type s b x ≡ Some (t, r)
+        → OnValue (HasType t) (get store x v)
     get_typed b t r v j h e = (subst (λ f. GetFits f (get store x v)) e (got b v j h)).0
 
     -- an attribute that is there is got
@@ -133,8 +149,12 @@ module _ (s : Schema) (x : Text) where
     held_safe (VEntity u) h = entity_safe (entity_at store u) h
     held_safe v h = absurd h
 
-    pub get_safe : (b t : Ty) (r k : Bool) (v : Value) → Joins s b → HasType b v → attribute_type s b x ≡ Some (t, r) → (k ≡ true → SaysTrue (has_test store x v)) → (r || k) ≡ true → IsSafe (get store x v)
-    get_safe b t r k v j h e f g = or_cases r k (IsSafe (get store x v)) (subst (λ f. GetFits f (get store x v)) e (got b v j h)).1 (λ n. held_safe v (f n)) g
+    pub get_safe : (b t : Ty) (r k : Bool) (v : Value) → Joins s b → HasType b v
+        → attribute_type s b x ≡ Some (t, r) → (k ≡ true → SaysTrue (has_test store x v)) → (r || k) ≡ true
+        → IsSafe (get store x v)
+    get_safe b t r k v j h e f g =
+        or_cases r k (IsSafe (get store x v)) (subst (λ f. GetFits f (get store x v)) e (got b v j h)).1
+        (λ n. held_safe v (f n)) g
 
     required_there : (f : Option (Ty × Bool)) (t : Ty) (o : Option Value) → AttrAt f o → f ≡ Some (t, true) → is_some o ≡ true
     required_there f t (Some v) h e = refl
@@ -143,7 +163,8 @@ module _ (s : Schema) (x : Text) where
         cc
 
     -- a required attribute of a record is there
-    pub required_has : (b t : Ty) (v : Value) → is_record b ≡ true → HasType b v → attribute_type s b x ≡ Some (t, true) → SaysTrue (has_test store x v)
+    pub required_has : (b t : Ty) (v : Value) → is_record b ≡ true → HasType b v
+        → attribute_type s b x ≡ Some (t, true) → SaysTrue (has_test store x v)
     required_has (TRecord xs o) t (VRecord es) i h e = required_there (find_attr x xs) t (entry_at x es) (found_at x xs es h.0) e
     required_has (TRecord xs o) t v i h e = absurd h
     required_has b t v i h e = cc
@@ -174,12 +195,16 @@ module _ (s : Schema) (x : Text) where
     pub get_not_wrong : (b : Ty) (v : Value) → accepts object_types b ≡ true → HasType b v → get store x v ≡ Fails TypeFailure → ⊥
     get_not_wrong b v a h e = object_not_wrong v (object_of b v a h) e
 
-    entity_may : (ps : List Path) (u : Uid) (q : Option Entity) → entity_at store u ≡ q → is_among ps u.entity_type ≡ true → entity_has q x ≡ true → list_any (may_declare s.types x) ps ≡ true
+    entity_may : (ps : List Path) (u : Uid) (q : Option Entity) → entity_at store u ≡ q
+        → is_among ps u.entity_type ≡ true → entity_has q x ≡ true → list_any (may_declare s.types x) ps ≡ true
     entity_may ps u None e m h = cc
     entity_may ps u (Some y) e m h =
-        one_may ps u.entity_type m (declaration_may (type_named s.types u.entity_type) (not (knows_type s.types u.entity_type)) u y (conforms.entities u y e) h)
+        one_may ps u.entity_type m
+        (declaration_may (type_named s.types u.entity_type) (not (knows_type s.types u.entity_type)) u y
+        (conforms.entities u y e) h)
 
-    record_may : (xs : Attrs) (o : Bool) (es : Entries) → HasType (TRecord xs o) (VRecord es) → is_some (entry_at x es) ≡ true → (is_some (find_attr x xs) || o) ≡ true
+    record_may : (xs : Attrs) (o : Bool) (es : Entries) → HasType (TRecord xs o) (VRecord es)
+        → is_some (entry_at x es) ≡ true → (is_some (find_attr x xs) || o) ≡ true
     record_may xs true es h e = or_second (is_some (find_attr x xs)) true refl
     record_may xs false es h e = or_first (is_some (find_attr x xs)) false (named_found x xs (key_named x (attr_names xs) es h.1 e))
 
@@ -193,7 +218,8 @@ module _ (s : Schema) (x : Text) where
     has_may b (VEntity u) h e = absurd h
     has_may b v h e = absurd e
 
-    pub has_not : (b : Ty) (v : Value) → accepts object_types b ≡ true → HasType b v → may_have s b x ≡ false → has_test store x v ≡ Says false
+    pub has_not : (b : Ty) (v : Value) → accepts object_types b ≡ true → HasType b v → may_have s b x ≡ false
+        → has_test store x v ≡ Says false
     has_not b v a h n = by (has_says b v a h)
       where
         by : (c : Bool) × (has_test store x v ≡ Says c) → has_test store x v ≡ Says false

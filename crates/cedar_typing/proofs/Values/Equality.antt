@@ -1,11 +1,14 @@
 -- What it is for two sets and for two records to be equal.
-use Rattle.std.proofs.Common.{◌≡◌, refl, sym, ap, ◌∙◌, subst, ◌⊎◌, inl, inr, Bool, true, false, ◌&&◌, ◌||◌, List, [], ◌∷◌, map, Option, Some, None, true≢false}
+use Rattle.std.proofs.Common.{◌≡◌, refl, sym, ap, ◌∙◌, subst, ◌⊎◌, inl, inr, Bool, true, false, ◌&&◌, ◌||◌, List, [], ◌∷◌, map, Option}
+use Rattle.std.proofs.Common.{Some, None, true≢false}
 use Rattle.std.specs.Prelude.{if◌then◌else◌}
 use Rattle.std.specs.List.{list_all}
 use Rattle.cedar_types.specs.Names.{Text, text_eq}
 use Rattle.cedar_types.specs.Lemmas.Comparisons.{and_left, and_right, and_both, text_same}
-use Rattle.cedar_types.specs.Values.{Value, VSet, VRecord, Values, no_values, more_values, Entries, no_entries, more_entries, entry_at, entry_keys, AllValues, AllEntries}
-use Rattle.cedar_typing.specs.Evaluation.Equality.{all_values, any_value, passes_any, test_at, agree, agree_at, same_value, members_tests, entries_tests}
+use Rattle.cedar_types.specs.Values.{Value, VSet, VRecord, Values, no_values, more_values, Entries, no_entries, more_entries, entry_at}
+use Rattle.cedar_types.specs.Values.{entry_keys, AllValues, AllEntries}
+use Rattle.cedar_typing.specs.Evaluation.Equality.{all_values, any_value, passes_any, test_at, agree, agree_at, same_value, members_tests}
+use Rattle.cedar_typing.specs.Evaluation.Equality.{entries_tests}
 use Rattle.cedar_typing.proofs.Basics.{or_right}
 
 -- ---- truth values
@@ -31,7 +34,8 @@ pub record Passing (p : Value → Bool) (ws : Values) : Type 0 where
   pub among : Member it ws
   pub passes : p it ≡ true
 
-any_cases : (p : Value → Bool) (w : Value) (ws : Values) → (any_value p ws ≡ true → Passing p ws) → (p w ≡ true) ⊎ (any_value p ws ≡ true) → Passing p (more_values w ws)
+any_cases : (p : Value → Bool) (w : Value) (ws : Values) → (any_value p ws ≡ true → Passing p ws)
+    → (p w ≡ true) ⊎ (any_value p ws ≡ true) → Passing p (more_values w ws)
 any_cases p w ws f (inl h) = record { it = w; among = inl refl; passes = h }
 any_cases p w ws f (inr h) = record { it = (f h).it; among = inr (f h).among; passes = (f h).passes }
 
@@ -73,15 +77,22 @@ sets_to vs ws h =
     let each = list_all (λ p. any_value p ws) (members_tests vs) in
     let all = all_values (passes_any (members_tests vs)) ws in
     record {
-      there = λ v m. any_to (same_value v) ws (all_to (λ x. any_value (same_value x) ws) vs (sym (each_is ws vs) ∙ and_left each all h) v m);
-      back = λ w m. any_to (λ v. same_value v w) vs (sym (passes_is vs w) ∙ all_to (passes_any (members_tests vs)) ws (and_right each all h) w m);
+      there =
+          λ v m. any_to (same_value v) ws
+          (all_to (λ x. any_value (same_value x) ws) vs (sym (each_is ws vs) ∙ and_left each all h) v m);
+      back =
+          λ w m. any_to (λ v. same_value v w) vs
+          (sym (passes_is vs w) ∙ all_to (passes_any (members_tests vs)) ws (and_right each all h) w m);
     }
 
 pub sets_from : (vs ws : Values) → SameSets vs ws → same_value (VSet vs) (VSet ws) ≡ true
 sets_from vs ws s =
     and_both (list_all (λ p. any_value p ws) (members_tests vs)) (all_values (passes_any (members_tests vs)) ws)
-    (each_is ws vs ∙ all_from (λ v. any_value (same_value v) ws) vs (λ v m. any_from (same_value v) (s.there v m).it ws (s.there v m).among (s.there v m).passes))
-    (all_from (passes_any (members_tests vs)) ws (λ w m. passes_is vs w ∙ any_from (λ v. same_value v w) (s.back w m).it vs (s.back w m).among (s.back w m).passes))
+    (each_is ws vs ∙ all_from (λ v. any_value (same_value v) ws) vs
+    (λ v m. any_from (same_value v) (s.there v m).it ws (s.there v m).among (s.there v m).passes))
+    (all_from (passes_any (members_tests vs)) ws
+    (λ w m. passes_is vs w ∙ any_from (λ v. same_value v w) (s.back w m).it vs
+    (s.back w m).among (s.back w m).passes))
 
 -- ---- records
 
@@ -100,7 +111,8 @@ agree_none : (o : Option Value) → agree None o ≡ agree_values None o
 agree_none None = refl
 agree_none (Some w) = refl
 
-agree_if : (b : Bool) (v : Value) (ts : List (Text × (Value → Bool))) (k : Text) (es : Entries) (o : Option Value) → agree (test_at k ts) o ≡ agree_values (entry_at k es) o
+agree_if : (b : Bool) (v : Value) (ts : List (Text × (Value → Bool))) (k : Text) (es : Entries) (o : Option Value)
+    → agree (test_at k ts) o ≡ agree_values (entry_at k es) o
     → agree (if b then Some (same_value v) else test_at k ts) o ≡ agree_values (if b then Some v else entry_at k es) o
 agree_if true v ts k es o h = agree_some v o
 agree_if false v ts k es o h = h
@@ -114,14 +126,16 @@ tests_keys no_entries = refl
 tests_keys (more_entries k v es) = ap (λ ks. k ∷ ks) (tests_keys es)
 
 -- what all keys pass, a key passes at which there is a value
-at_key_if : (P : Text → Bool) (k l : Text) (v : Value) (o : Option Value) (b : Bool) → text_eq k l ≡ b → P l ≡ true → (o ≡ None) ⊎ (P k ≡ true) → ((if b then Some v else o) ≡ None) ⊎ (P k ≡ true)
+at_key_if : (P : Text → Bool) (k l : Text) (v : Value) (o : Option Value) (b : Bool) → text_eq k l ≡ b → P l ≡ true
+    → (o ≡ None) ⊎ (P k ≡ true) → ((if b then Some v else o) ≡ None) ⊎ (P k ≡ true)
 at_key_if P k l v o true e h r = inr (subst (λ x. P x ≡ true) (sym (text_same.to k l e)) h)
 at_key_if P k l v o false e h r = r
 
 at_key : (P : Text → Bool) (k : Text) (es : Entries) → list_all P (entry_keys es) ≡ true → (entry_at k es ≡ None) ⊎ (P k ≡ true)
 at_key P k no_entries h = inl refl
 at_key P k (more_entries l v es) h =
-    at_key_if P k l v (entry_at k es) (text_eq k l) refl (and_left (P l) (list_all P (entry_keys es)) h) (at_key P k es (and_right (P l) (list_all P (entry_keys es)) h))
+    at_key_if P k l v (entry_at k es) (text_eq k l) refl (and_left (P l) (list_all P (entry_keys es)) h)
+    (at_key P k es (and_right (P l) (list_all P (entry_keys es)) h))
 
 all_pass : (P : Text → Bool) (ks : List Text) → ((k : Text) → P k ≡ true) → list_all P ks ≡ true
 all_pass P [] f = refl
@@ -131,7 +145,8 @@ all_pass P (k ∷ ks) f = and_both (P k) (list_all P ks) (f k) (all_pass P ks f)
 pub record SameRecords (es fs : Entries) : Type 0 where
   pub at_each : (k : Text) → agree_values (entry_at k es) (entry_at k fs) ≡ true
 
-key_cases : (es fs : Entries) (k : Text) (P : Text → Bool) → P k ≡ agree_values (entry_at k es) (entry_at k fs) → (entry_at k es ≡ None) ⊎ (P k ≡ true) → (entry_at k fs ≡ None) ⊎ (P k ≡ true)
+key_cases : (es fs : Entries) (k : Text) (P : Text → Bool) → P k ≡ agree_values (entry_at k es) (entry_at k fs)
+    → (entry_at k es ≡ None) ⊎ (P k ≡ true) → (entry_at k fs ≡ None) ⊎ (P k ≡ true)
     → agree_values (entry_at k es) (entry_at k fs) ≡ true
 key_cases es fs k P q (inl e) (inl f) = λ i. agree_values (e i) (f i)
 key_cases es fs k P q (inl e) (inr h) = sym q ∙ h

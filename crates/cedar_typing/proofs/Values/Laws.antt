@@ -3,8 +3,10 @@ use Rattle.std.proofs.Common.{◌≡◌, refl, sym, ap, subst, Bool, true, false
 use Rattle.std.specs.Prelude.{ℤ}
 use Rattle.cedar_types.specs.Names.{Text, Path, Uid, text_eq, path_eq}
 use Rattle.cedar_types.specs.Lemmas.Comparisons.{and_left, and_right, and_both, text_same, path_same, uid_same, int_same, bool_same}
-use Rattle.cedar_types.specs.Values.{Value, VBool, VLong, VString, VEntity, VSet, VRecord, VExtension, Values, no_values, more_values, Entries, no_entries, more_entries, entry_at, AllValues, AllEntries}
-use Rattle.cedar_typing.specs.Evaluation.Equality.{is_bool, is_long, is_string, is_entity, is_extension, same_value, EqualityIsAnEquivalence, EqualityHasNoOrder}
+use Rattle.cedar_types.specs.Values.{Value, VBool, VLong, VString, VEntity, VSet, VRecord, VExtension, Values, no_values, more_values}
+use Rattle.cedar_types.specs.Values.{Entries, no_entries, more_entries, entry_at, AllValues, AllEntries}
+use Rattle.cedar_typing.specs.Evaluation.Equality.{is_bool, is_long, is_string, is_entity, is_extension, same_value}
+use Rattle.cedar_typing.specs.Evaluation.Equality.{EqualityIsAnEquivalence, EqualityHasNoOrder}
 use Rattle.cedar_typing.proofs.Values.Equality.{member_has, sets_to, sets_from, agree_values, records_to, records_from, OnSome, entry_has}
 
 -- ---- reflexivity
@@ -24,8 +26,15 @@ mutual
   itself (VEntity u) = uid_same.itself u
   itself (VSet vs) =
       let f = member_has Reflexive vs (all_itself vs) in
-      sets_from vs vs (record { there = λ v m. record { it = v; among = m; passes = f v m }; back = λ v m. record { it = v; among = m; passes = f v m } })
-  itself (VRecord es) = records_from es es (record { at_each = λ k. agree_itself (entry_at k es) (entry_has Reflexive k es (entries_itself es)) })
+      sets_from vs vs
+      (record {
+        there = λ v m. record { it = v; among = m; passes = f v m };
+        back =
+            λ v m. record { it = v; among = m; passes = f v m };
+      })
+  itself (VRecord es) =
+      records_from es es
+      (record { at_each = λ k. agree_itself (entry_at k es) (entry_has Reflexive k es (entries_itself es)) })
   itself (VExtension n t) = and_both (path_eq n n) (text_eq t t) (path_same.itself n) (text_same.itself t)
 
   all_itself : (vs : Values) → AllValues Reflexive vs
@@ -56,7 +65,8 @@ entity_is a w h = absurd (true≢false (sym h))
 
 extension_is : (n : Path) (a : Text) (w : Value) → is_extension n a w ≡ true → VExtension n a ≡ w
 extension_is n a (VExtension m b) h =
-    λ i. VExtension (path_same.to n m (and_left (path_eq n m) (text_eq a b) h) i) (text_same.to a b (and_right (path_eq n m) (text_eq a b) h) i)
+    λ i. VExtension (path_same.to n m (and_left (path_eq n m) (text_eq a b) h) i)
+    (text_same.to a b (and_right (path_eq n m) (text_eq a b) h) i)
 extension_is n a w h = absurd (true≢false (sym h))
 
 record SetOf (w : Value) : Type 0 where
@@ -108,7 +118,11 @@ record_turned es f w h =
     let P : Value → Type 0 = λ y. same_value (VRecord es) y ≡ true in
     let Q : Value → Type 0 = λ y. same_value y (VRecord es) ≡ true in
     let s = records_to es x.entries (subst P x.is h) in
-    subst Q (sym x.is) (records_from x.entries es (record { at_each = λ k. agree_turned (entry_at k es) (entry_at k x.entries) (entry_has Symmetric k es f) (s.at_each k) }))
+    subst Q (sym x.is) (records_from x.entries es
+    (record {
+      at_each = λ k. agree_turned (entry_at k es) (entry_at k x.entries)
+          (entry_has Symmetric k es f) (s.at_each k);
+    }))
 
 mutual
   turned : (v : Value) → Symmetric v
@@ -155,8 +169,12 @@ set_along us f v w h h' =
     let t = sets_to x.members y.members (subst R y.is e) in
     let g = member_has Transitive us f in
     subst P (sym y.is) (sets_from us y.members (record {
-      there = λ u m. let p = s.there u m in let q = t.there p.it p.among in record { it = q.it; among = q.among; passes = g u m p.it q.it p.passes q.passes };
-      back = λ z m. let q = t.back z m in let p = s.back q.it q.among in record { it = p.it; among = p.among; passes = g p.it p.among q.it z p.passes q.passes };
+      there =
+          λ u m. let p = s.there u m in let q = t.there p.it p.among in
+          record { it = q.it; among = q.among; passes = g u m p.it q.it p.passes q.passes };
+      back =
+          λ z m. let q = t.back z m in let p = s.back q.it q.among in
+          record { it = p.it; among = p.among; passes = g p.it p.among q.it z p.passes q.passes };
     }))
 
 record_along : (es : Entries) → AllEntries Transitive es → Transitive (VRecord es)
@@ -170,7 +188,9 @@ record_along es f v w h h' =
     let s = records_to es x.entries (subst P x.is h) in
     let t = records_to x.entries y.entries (subst R y.is e) in
     subst P (sym y.is) (records_from es y.entries (record {
-      at_each = λ k. agree_along (entry_at k es) (entry_at k x.entries) (entry_at k y.entries) (entry_has Transitive k es f) (s.at_each k) (t.at_each k);
+      at_each =
+          λ k. agree_along (entry_at k es) (entry_at k x.entries) (entry_at k y.entries)
+          (entry_has Transitive k es f) (s.at_each k) (t.at_each k);
     }))
 
 mutual

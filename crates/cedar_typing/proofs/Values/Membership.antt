@@ -1,10 +1,13 @@
 -- What is in what, in a store that conforms to a schema without faults.
-use Rattle.std.proofs.Common.{◌≡◌, Bool, true, false, ◌&&◌, ◌||◌, List, [], ◌∷◌, Option, Some, None, if◌then◌else◌, refl, sym, ◌∙◌, ap, subst}
+use Rattle.std.proofs.Common.{◌≡◌, Bool, true, false, ◌&&◌, ◌||◌, List, [], ◌∷◌, Option, Some, None, if◌then◌else◌, refl, sym, ◌∙◌, ap}
+use Rattle.std.proofs.Common.{subst}
 use Rattle.std.specs.List.{list_any, list_all}
 use Rattle.std.proofs.Math.Bool.{or-false}
 use Rattle.cedar_types.specs.Names.{Path, Uid, is_action_path, path_eq, uid_eq}
 use Rattle.cedar_types.specs.Lemmas.Comparisons.{and_left, and_right, path_same, uid_same}
-use Rattle.cedar_types.specs.Schemas.{DeclaredType, DeclaredAction, Schema, uid_is_among, is_among, type_named, action_named, declares_action, action_descendants, descendants_of, descendants_of_action, declares_action_type, repeats_action, action_is_below, is_open_type, may_be_in, any_may_be_in, has_fault}
+use Rattle.cedar_types.specs.Schemas.{DeclaredType, DeclaredAction, Schema, uid_is_among, is_among, type_named, action_named}
+use Rattle.cedar_types.specs.Schemas.{declares_action, action_descendants, descendants_of, descendants_of_action, declares_action_type}
+use Rattle.cedar_types.specs.Schemas.{repeats_action, action_is_below, is_open_type, may_be_in, any_may_be_in, has_fault}
 use Rattle.cedar_types.specs.Values.Stores.{Entity, Store, entity_at, declares_ancestor, FitsDeclaration, ConformingStore}
 use Rattle.cedar_types.proofs.Schema.Faultless.{faultless}
 use Rattle.cedar_types.proofs.Schema.Memberships.{memberships_allowed}
@@ -69,15 +72,18 @@ module _ (s : Schema) (faults : has_fault s ≡ false) where
       let a = found (λ a. uid_eq v a.name && uid_is_among a.descendants u) s.actions k in
       let ds = a.element.descendants in
       let d = found (uid_eq u) ds (and_right (uid_eq v a.element.name) (uid_is_among ds u) a.passes) in
-      let all = each (λ a. list_all (declares_action s.actions) a.descendants) s.actions a.element (faultless s faults).descendants a.within in
-      subst (λ w. declares_action s.actions w ≡ true) (sym (uid_same.to u d.element d.passes)) (each (declares_action s.actions) ds d.element all d.within)
+      let all = each (λ a. list_all (declares_action s.actions) a.descendants) s.actions a.element
+      (faultless s faults).descendants a.within in
+      subst (λ w. declares_action s.actions w ≡ true) (sym (uid_same.to u d.element d.passes))
+      (each (declares_action s.actions) ds d.element all d.within)
 
   -- a declared ancestor is an action
   ancestor_acts : (u v : Uid) → declares_ancestor s.actions u v ≡ true → is_action v ≡ true
   ancestor_acts u v k =
       let a = found (λ a. uid_eq v a.name && uid_is_among a.descendants u) s.actions k in
       let same = uid_same.to v a.element.name (and_left (uid_eq v a.element.name) (uid_is_among a.element.descendants u) a.passes) in
-      subst (λ w. is_action w ≡ true) (sym same) (each (λ a. is_action_path a.name.entity_type) s.actions a.element (faultless s faults).actions a.within)
+      subst (λ w. is_action w ≡ true) (sym same)
+      (each (λ a. is_action_path a.name.entity_type) s.actions a.element (faultless s faults).actions a.within)
 
   module _ (store : Store) (conforms : ConformingStore s store) where
     -- what is not in the store has no declared ancestor
@@ -120,18 +126,21 @@ module _ (s : Schema) (faults : has_fault s ≡ false) where
             (λ e. other (ancestor_acts u v (sym (stored u v a) ∙ e))) k
 
     -- so an action is in some entities where the declarations say so of the actions among them
-    pub in_actions : (u : Uid) → is_action u ≡ true → (vs : List Uid) → list_any (is_in store u) vs ≡ is_action_in s.actions u (only_actions vs)
+    pub in_actions : (u : Uid) → is_action u ≡ true → (vs : List Uid)
+        → list_any (is_in store u) vs ≡ is_action_in s.actions u (only_actions vs)
     in_actions u a [] = refl
     in_actions u a (v ∷ vs) = go (is_action v) refl (in_actions u a vs)
       where
         go : (b : Bool) → is_action v ≡ b → list_any (is_in store u) vs ≡ is_action_in s.actions u (only_actions vs)
-            → (is_in store u v || list_any (is_in store u) vs) ≡ is_action_in s.actions u (if b then v ∷ only_actions vs else only_actions vs)
+            → (is_in store u v || list_any (is_in store u) vs)
+            ≡ is_action_in s.actions u (if b then v ∷ only_actions vs else only_actions vs)
         go true e k = λ i. in_action u v a i || k i
         go false e k = ap (λ b. b || list_any (is_in store u) vs) (not_in_others u v a e) ∙ k
 
     -- ---- any entity
 
-    allowed : (u v : Uid) (o : Option Entity) → entity_at store u ≡ o → has_ancestor o v ≡ true → may_be_in s u.entity_type v.entity_type ≡ true
+    allowed : (u v : Uid) (o : Option Entity) → entity_at store u ≡ o → has_ancestor o v ≡ true
+        → may_be_in s u.entity_type v.entity_type ≡ true
     allowed u v None e h = cc
     allowed u v (Some x) e h = memberships_allowed s faults store conforms u v (x, e, h)
 
@@ -142,7 +151,8 @@ module _ (s : Schema) (faults : has_fault s ≡ false) where
         let r = v.entity_type in
         or_cases (uid_eq u v) (has_ancestor (entity_at store u) v) (may_be_in s l r ≡ true)
         (λ e.
-        first (path_eq l r) (is_open_type s.types l) (is_open_type s.types r) (is_among (descendants_of s.types r) l) (action_is_below s.actions l r)
+        first (path_eq l r) (is_open_type s.types l) (is_open_type s.types r)
+        (is_among (descendants_of s.types r) l) (action_is_below s.actions l r)
         (subst (λ (w : Uid). path_eq l w.entity_type ≡ true) (uid_same.to u v e) (path_same.itself l)))
         (allowed u v (entity_at store u) refl) h
 

@@ -4,7 +4,8 @@ use Rattle.std.specs.List.{list_any}
 use Rattle.cedar_types.specs.declared.base.types.BoolType.TheVariants.{False}
 use Rattle.cedar_types.specs.Names.{Text, Path, Uid, path_eq}
 use Rattle.cedar_types.specs.Types.{Ty, TBool, TEntity, TAnyEntity}
-use Rattle.cedar_types.specs.Schemas.{TypeKind, StandardKind, EnumKind, ExternalKind, DeclaredType, Schema, type_named, is_external_kind, is_external}
+use Rattle.cedar_types.specs.Schemas.{TypeKind, StandardKind, EnumKind, ExternalKind, DeclaredType, Schema, type_named, is_external_kind}
+use Rattle.cedar_types.specs.Schemas.{is_external}
 use Rattle.cedar_types.specs.Types.Lookups.{kind_tags, declared_tags, tags_of_types, tags_of_any, tag_types}
 use Rattle.cedar_types.specs.Values.{Value, VString, VEntity, Entries, no_entries, entry_at, HasType}
 use Rattle.cedar_types.specs.Values.Stores.{Entity, Store, entity_at, FitsKind, FitsDeclaration, ConformingStore}
@@ -45,7 +46,8 @@ module _ (s : Schema) (x : Text) (v : Value) where
   kind_tag (EnumKind ids) p e n h f = absurd (none_there e.tags h.tags f)
   kind_tag ExternalKind p e n h f = cc
 
-  declared_tag : (d : Option DeclaredType) (u : Uid) (e : Entity) → is_external d ≡ false → FitsDeclaration s u d e → entry_at x e.tags ≡ Some v
+  declared_tag : (d : Option DeclaredType) (u : Uid) (e : Entity) → is_external d ≡ false → FitsDeclaration s u d e
+      → entry_at x e.tags ≡ Some v
       → HasOneOf (declared_tags d) v
   declared_tag None u e n h f = absurd (none_there e.tags h.1.tags f)
   declared_tag (Some d) u e n h f = kind_tag d.kind u.entity_type e n h f
@@ -53,13 +55,17 @@ module _ (s : Schema) (x : Text) (v : Value) where
 -- ---- what a type may have
 
 module _ (s : Schema) (t : Ty) where
-  named_tag : (p : Path) (o : Option DeclaredType) → type_named s.types p ≡ o → IsOneOf t (declared_tags o) → IsOneOf t (tag_types s TAnyEntity)
+  named_tag : (p : Path) (o : Option DeclaredType) → type_named s.types p ≡ o → IsOneOf t (declared_tags o)
+      → IsOneOf t (tag_types s TAnyEntity)
   named_tag p None e h = absurd h
   named_tag p (Some d) e h =
-      in_order_has (tags_of_any s.types) t (in_flat (λ (d : DeclaredType). kind_tags d.kind) t d s.types (found_in (λ d. path_eq p d.name) s.types d e) h)
+      in_order_has (tags_of_any s.types) t
+      (in_flat (λ (d : DeclaredType). kind_tags d.kind) t d s.types
+      (found_in (λ d. path_eq p d.name) s.types d e) h)
 
   -- what the type of an entity declares, a type of that entity may have
-  tag_in : (b : Ty) (u : Uid) → HasType b (VEntity u) → IsOneOf t (declared_tags (type_named s.types u.entity_type)) → IsOneOf t (tag_types s b)
+  tag_in : (b : Ty) (u : Uid) → HasType b (VEntity u) → IsOneOf t (declared_tags (type_named s.types u.entity_type))
+      → IsOneOf t (tag_types s b)
   tag_in (TEntity ps) u h k =
       in_order_has (tags_of_types s.types ps) t
       (in_flat (λ p. declared_tags (type_named s.types p)) t u.entity_type ps (name_in u.entity_type ps h) k)
@@ -69,7 +75,8 @@ module _ (s : Schema) (t : Ty) where
 -- ---- what is stored
 
 module _ (s : Schema) (closed : has_external s ≡ false) (store : Store) (conforms : ConformingStore s store) (b : Ty) where
-  stored_tag : (u : Uid) (e : Entity) (x : Text) (v : Value) → HasType b (VEntity u) → entity_at store u ≡ Some e → entry_at x e.tags ≡ Some v
+  stored_tag : (u : Uid) (e : Entity) (x : Text) (v : Value) → HasType b (VEntity u) → entity_at store u ≡ Some e
+      → entry_at x e.tags ≡ Some v
       → HasOneOf (tag_types s b) v
   stored_tag u e x v h q f =
       let declaration = type_named s.types u.entity_type in
@@ -80,7 +87,8 @@ module _ (s : Schema) (closed : has_external s ≡ false) (store : Store) (confo
   pub tag_got : (v w : Value) → HasType b v → OnValue (HasOneOf (tag_types s b)) (get_tag store v w)
   tag_got (VEntity u) (VString x) h = of_entity (entity_at store u) refl
     where
-      of_entry : (e : Entity) (o : Option Value) → entity_at store u ≡ Some e → entry_at x e.tags ≡ o → OnValue (HasOneOf (tag_types s b)) (tag_value o)
+      of_entry : (e : Entity) (o : Option Value) → entity_at store u ≡ Some e → entry_at x e.tags ≡ o
+          → OnValue (HasOneOf (tag_types s b)) (tag_value o)
       of_entry e None q f = tt
       of_entry e (Some v) q f = stored_tag u e x v h q f
 

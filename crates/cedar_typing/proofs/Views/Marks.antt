@@ -1,7 +1,8 @@
 -- The mark at a root.
 use Rattle.std.proofs.Common.{◌≡◌, refl, ap, Option, None}
 use Rattle.cedar_types.specs.declared.base.location.Loc.{Loc}
-use Rattle.cedar_types.specs.Expressions.Tree.{Tree, lit, var, slot, unknown, if_then_else, and, or, unary, binary, call, get_attr, has_attr, ext_has_attr, like, is_type, set_of, record_of}
+use Rattle.cedar_types.specs.Expressions.Tree.{Tree, lit, var, slot, unknown, if_then_else, and, or, unary, binary, call, get_attr}
+use Rattle.cedar_types.specs.Expressions.Tree.{has_attr, ext_has_attr, like, is_type, set_of, record_of}
 use Rattle.cedar_typing.specs.TypedExpr.{TypedTree, Mark, mark_of, with_mark, annotation, without_type, at_place}
 
 pub mark_of-with_mark : {D : Type 0} (d : D) (e : Tree D) → mark_of (with_mark d e) ≡ d

@@ -20,7 +20,8 @@ mark t l p = record { ty = option_map ty_of t; at = record { place = l; names = 
 pub by_layer : (e : Expr Type') → typed_tree e ≡ layers.layer Type' Mark mark e.kind (mark e.annotation e.loc)
 by_layer e = layers.seen_by_form Type' Mark mark e ∙ layers.is_layer Type' Mark mark e.kind (mark e.annotation e.loc)
 
-layer_marked : (t : Option Ty) (k : ExprKind Type') (d : Places → Mark) → ((p : Places) → (d p).ty ≡ t) → annotation (layers.layer Type' Mark mark k d) ≡ t
+layer_marked : (t : Option Ty) (k : ExprKind Type') (d : Places → Mark) → ((p : Places) → (d p).ty ≡ t)
+    → annotation (layers.layer Type' Mark mark k d) ≡ t
 layer_marked t (K.Lit x1) d h = h _
 layer_marked t (K.Var x1) d h = h _
 layer_marked t (K.Slot x1) d h = h _
@@ -48,7 +49,8 @@ annotation_is e = ap annotation (by_layer e) ∙ layer_marked (option_map ty_of 
 abbrev node : Unit {0} → Option Loc → Places → Written
 node a l p = record { place = l; names = p }
 
-layer_placed : (l : Option Loc) (k : ExprKind (Unit {0})) (d : Places → Written) → ((p : Places) → (d p).place ≡ l) → place_of (layers.layer (Unit {0}) Written node k d) ≡ l
+layer_placed : (l : Option Loc) (k : ExprKind (Unit {0})) (d : Places → Written) → ((p : Places) → (d p).place ≡ l)
+    → place_of (layers.layer (Unit {0}) Written node k d) ≡ l
 layer_placed l (K.Lit x1) d h = h _
 layer_placed l (K.Var x1) d h = h _
 layer_placed l (K.Slot x1) d h = h _
@@ -71,7 +73,8 @@ layer_placed l (K.Record' h1 r1) d h = h _
 pub written_by_layer : (e : Expr (Unit {0})) → written e ≡ layers.layer (Unit {0}) Written node e.kind (node tt e.loc)
 written_by_layer e = layers.seen_by_form (Unit {0}) Written node e ∙ layers.is_layer (Unit {0}) Written node e.kind (node tt e.loc)
 
-pub written_as : (e : Expr (Unit {0})) (k : ExprKind (Unit {0})) → e.kind ≡ k → written e ≡ layers.layer (Unit {0}) Written node k (node tt e.loc)
+pub written_as : (e : Expr (Unit {0})) (k : ExprKind (Unit {0})) → e.kind ≡ k
+    → written e ≡ layers.layer (Unit {0}) Written node k (node tt e.loc)
 written_as e k h = written_by_layer e ∙ ap (λ k. layers.layer (Unit {0}) Written node k (node tt e.loc)) h
 
 -- the place at the root of the tree is that of the expression

@@ -3,7 +3,9 @@ use Rattle.std.specs.Prelude.{◌≡◌, Bool, not, ◌||◌, List, [], ◌∷�
 use Rattle.std.specs.List.{list_any}
 use Rattle.cedar_types.specs.declared.base.names.slots.SlotId.{SlotId}
 use Rattle.cedar_types.specs.Names.{Text, Path, Uid, path_eq}
-use Rattle.cedar_types.specs.Expressions.Tree.{Tree, lit, var, slot, unknown, if_then_else, and, or, unary, binary, call, get_attr, has_attr, ext_has_attr, like, is_type, set_of, record_of, Trees, no_trees, tree, Fields, no_fields, field}
+use Rattle.cedar_types.specs.Expressions.Tree.{Tree, lit, var, slot, unknown, if_then_else, and, or, unary, binary, call, get_attr}
+use Rattle.cedar_types.specs.Expressions.Tree.{has_attr, ext_has_attr, like, is_type, set_of, record_of, Trees, no_trees, tree, Fields}
+use Rattle.cedar_types.specs.Expressions.Tree.{no_fields, field}
 use Rattle.cedar_types.specs.Capability.{Cap, attribute, tag}
 use Rattle.cedar_types.specs.Schemas.{DeclaredType, DeclaredAction, Schema, is_external_kind}
 use Rattle.cedar_types.specs.Environments.{DeclaredEnv, environments_of}

@@ -4,7 +4,8 @@ use Rattle.std.specs.List.{list_all}
 use Rattle.std.specs.Ordering.{int_eq}
 use Rattle.cedar_types.specs.Names.{Text, Path, Uid, text_eq, path_eq, uid_eq}
 use Rattle.cedar_types.specs.Names.Comparisons.{bool_eq}
-use Rattle.cedar_types.specs.Values.{Value, VBool, VLong, VString, VEntity, VSet, VRecord, VExtension, Values, no_values, more_values, Entries, no_entries, more_entries, entry_at, entry_keys}
+use Rattle.cedar_types.specs.Values.{Value, VBool, VLong, VString, VEntity, VSet, VRecord, VExtension, Values, no_values, more_values}
+use Rattle.cedar_types.specs.Values.{Entries, no_entries, more_entries, entry_at, entry_keys}
 
 -- each member passes
 abbrev pub all_values : (Value → Bool) → Values → Bool

@@ -1,18 +1,26 @@
 -- Evaluation of expressions. It knows nothing of types, of typing, and of how deep an expression is nested.
-use Rattle.std.specs.Prelude.{Bool, true, false, ◌&&◌, ◌||◌, List, [], ◌∷◌, Option, Some, None, is_some, ℤ, pos, neg_ℤ, ◌+ℤ◌, ◌-ℤ◌, ◌*ℤ◌, int_lt, int_le, ◌^◌, nat_eq, encode_utf8, if◌then◌else◌}
+use Rattle.std.specs.Prelude.{Bool, true, false, ◌&&◌, ◌||◌, List, [], ◌∷◌, Option, Some, None, is_some, ℤ, pos, neg_ℤ, ◌+ℤ◌, ◌-ℤ◌, ◌*ℤ◌}
+use Rattle.std.specs.Prelude.{int_lt, int_le, ◌^◌, nat_eq, encode_utf8, if◌then◌else◌}
 use Rattle.std.specs.List.{list_any}
 use Rattle.cedar_types.specs.declared.base.expressions.operators.Var.{Var}
 use Rattle.cedar_types.specs.declared.base.expressions.operators.UnaryOp.{UnaryOp}
 use Rattle.cedar_types.specs.declared.base.expressions.operators.BinaryOp.{BinaryOp}
 use Rattle.cedar_types.specs.declared.base.expressions.patterns.PatternElem.{PatternElem}
 use Rattle.cedar_types.specs.Names.{Text, Path, Uid, path_eq, uid_eq}
-use Rattle.cedar_types.specs.Expressions.Tree.{Lit, bool, long, string, entity, Tree, lit, var, slot, unknown, if_then_else, and, or, unary, binary, call, get_attr, has_attr, ext_has_attr, like, is_type, set_of, record_of, Trees, no_trees, tree, Fields, no_fields, field}
+use Rattle.cedar_types.specs.Expressions.Tree.{Lit, bool, long, string, entity, Tree, lit, var, slot, unknown, if_then_else, and, or, unary}
+use Rattle.cedar_types.specs.Expressions.Tree.{binary, call, get_attr, has_attr, ext_has_attr, like, is_type, set_of, record_of, Trees}
+use Rattle.cedar_types.specs.Expressions.Tree.{no_trees, tree, Fields, no_fields, field}
 use Rattle.cedar_types.specs.Schemas.{uid_is_among}
-use Rattle.cedar_types.specs.Values.{Value, VBool, VLong, VString, VEntity, VSet, VRecord, VExtension, Values, no_values, more_values, no_entries, entry_at}
+use Rattle.cedar_types.specs.Values.{Value, VBool, VLong, VString, VEntity, VSet, VRecord, VExtension, Values, no_values, more_values}
+use Rattle.cedar_types.specs.Values.{no_entries, entry_at}
 use Rattle.cedar_types.specs.Values.Stores.{Entity, Store, entity_at}
 use Rattle.cedar_typing.specs.Evaluation.Equality.{same_value, all_values, any_value}
-use Rattle.cedar_typing.specs.Evaluation.Outcomes.{Test, Says, Stops, test_of, of_test, and_test, or_test, not_test, choose, on_value, then_test, Outcomes, GiveAll, more_outcomes, on_values, EntryOutcomes, GiveEntries, more_entry_outcomes, record_outcome}
-use Rattle.cedar_typing.specs.Evaluation.World.{Request, Interpretation, call_value, has_pair, World, TypeFailure, AbsentAttribute, AbsentTag, MissingEntity, Overflow, ExtensionFailure, UnlinkedSlot, UnknownValue, Outcome, Gives, Fails}
+use Rattle.cedar_typing.specs.Evaluation.Outcomes.{Test, Says, Stops, test_of, of_test, and_test, or_test, not_test, choose, on_value}
+use Rattle.cedar_typing.specs.Evaluation.Outcomes.{then_test, Outcomes, GiveAll, more_outcomes, on_values, EntryOutcomes, GiveEntries}
+use Rattle.cedar_typing.specs.Evaluation.Outcomes.{more_entry_outcomes, record_outcome}
+use Rattle.cedar_typing.specs.Evaluation.World.{Request, Interpretation, call_value, has_pair, World, TypeFailure, AbsentAttribute}
+use Rattle.cedar_typing.specs.Evaluation.World.{AbsentTag, MissingEntity, Overflow, ExtensionFailure, UnlinkedSlot, UnknownValue, Outcome}
+use Rattle.cedar_typing.specs.Evaluation.World.{Gives, Fails}
 
 -- ---- leaves
 

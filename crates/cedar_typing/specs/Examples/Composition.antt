@@ -5,7 +5,8 @@ use Rattle.cedar_types.specs.declared.base.names.slots.SlotId.{SlotId}
 use Rattle.cedar_types.specs.declared.base.types.ValidationMode.TheVariants.{Strict, Partial}
 use Rattle.cedar_types.specs.Names.{Path, Uid, PlacedType, PlacedUid}
 use Rattle.cedar_types.specs.Expressions.Tree.{Shape, slot, is_type, or}
-use Rattle.cedar_types.specs.Templates.{to_entity, to_slot, Scope, any, equal, within, typed, typed_within, any_action, PlainTemplate, condition_of}
+use Rattle.cedar_types.specs.Templates.{to_entity, to_slot, Scope, any, equal, within, typed, typed_within, any_action, PlainTemplate}
+use Rattle.cedar_types.specs.Templates.{condition_of}
 use Rattle.cedar_types.specs.Schemas.{Schema, has_fault}
 use Rattle.cedar_types.specs.Values.Stores.{ConformingStore}
 use Rattle.cedar_types.specs.Environments.{DeclaredEnv, environments_of}

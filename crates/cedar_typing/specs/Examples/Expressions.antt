@@ -6,7 +6,9 @@ use Rattle.cedar_types.specs.declared.base.expressions.operators.Var.{Var}
 use Rattle.cedar_types.specs.declared.base.expressions.operators.BinaryOp.{BinaryOp}
 use Rattle.cedar_types.specs.declared.base.expressions.patterns.PatternElem.{PatternElem}
 use Rattle.cedar_types.specs.Names.{Text, Path, Uid}
-use Rattle.cedar_types.specs.Expressions.Tree.{bool, long, string, entity, Shape, lit, var, slot, unknown, if_then_else, and, or, unary, binary, call, get_attr, has_attr, ext_has_attr, like, is_type, set_of, record_of, Trees, no_trees, tree, Fields, no_fields, field}
+use Rattle.cedar_types.specs.Expressions.Tree.{bool, long, string, entity, Shape, lit, var, slot, unknown, if_then_else, and, or, unary}
+use Rattle.cedar_types.specs.Expressions.Tree.{binary, call, get_attr, has_attr, ext_has_attr, like, is_type, set_of, record_of, Trees}
+use Rattle.cedar_types.specs.Expressions.Tree.{no_trees, tree, Fields, no_fields, field}
 use Rattle.cedar_types.specs.Expressions.View.{Written, no_name}
 use Rattle.cedar_typing.specs.Examples.World.{decimal, duration, gone}
 use Rattle.cedar_typing.specs.TypedExpr.{Source}

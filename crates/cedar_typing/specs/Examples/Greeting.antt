@@ -2,7 +2,8 @@
 use Rattle.std.specs.Prelude.{ℤ, pos, true, List, [], ◌∷◌, Some, None, codes}
 use Rattle.cedar_types.specs.declared.base.names.slots.SlotId.{SlotId}
 use Rattle.cedar_types.specs.Names.{Text, Uid}
-use Rattle.cedar_types.specs.Values.{Value, VBool, VLong, VString, VEntity, VSet, VRecord, VExtension, Values, no_values, more_values, no_entries, more_entries}
+use Rattle.cedar_types.specs.Values.{Value, VBool, VLong, VString, VEntity, VSet, VRecord, VExtension, Values, no_values, more_values}
+use Rattle.cedar_types.specs.Values.{no_entries, more_entries}
 use Rattle.cedar_types.specs.Values.Stores.{Entity, Store}
 use Rattle.cedar_typing.specs.Evaluation.World.{Call, Interpretation, Slots, World}
 use Rattle.cedar_typing.specs.Examples.World.{decimal, duration, ip_address, less_than, sum, alice, bob, gone, greet, meet, act}

@@ -19,10 +19,13 @@ use Rattle.cedar_typing.specs.Evaluation.Conformance.{ConformingRequest, SlotsBo
 use Rattle.cedar_typing.specs.Evaluation.Eval.{eval}
 use Rattle.cedar_typing.specs.Evaluation.World.{World, TypeFailure, AbsentAttribute, UnlinkedSlot, UnknownValue, Fails}
 use Rattle.cedar_typing.specs.Examples.Composition.{template, the_entity, slot_is_robot, robots_template, robot_greeting}
-use Rattle.cedar_typing.specs.Examples.Expressions.{true_lit, false_lit, one, two, the, principal, text, dot, has, has_tag, less, record1, decimal_one, decimal_two, mistyped}
-use Rattle.cedar_typing.specs.Examples.Greeting.{number, words, one_value, sample_functions, stored_alice, stored_action, sample_store, greeting}
+use Rattle.cedar_typing.specs.Examples.Expressions.{true_lit, false_lit, one, two, the, principal, text, dot, has, has_tag, less, record1}
+use Rattle.cedar_typing.specs.Examples.Expressions.{decimal_one, decimal_two, mistyped}
+use Rattle.cedar_typing.specs.Examples.Greeting.{number, words, one_value, sample_functions, stored_alice, stored_action, sample_store}
+use Rattle.cedar_typing.specs.Examples.Greeting.{greeting}
 use Rattle.cedar_typing.specs.Examples.PolicySoundness.{sample_basis, Passes, PassesWarned, policy_when, meeting}
-use Rattle.cedar_typing.specs.Examples.World.{named, robot, group, decimal, alice, bob, greet, wave, declared_user, declared_greet, sample_schema}
+use Rattle.cedar_typing.specs.Examples.World.{named, robot, group, decimal, alice, bob, greet, wave, declared_user, declared_greet}
+use Rattle.cedar_typing.specs.Examples.World.{sample_schema}
 use Rattle.cedar_typing.specs.Soundness.Policies.{Basis, IsClosedIn, IsNamedBySchema, IsWellFormed, IsConforming}
 use Rattle.cedar_typing.specs.Silence.{HasNoUnknowns}
 use Rattle.cedar_typing.specs.Soundness.PolicyCheck.{IsBooleanOrAllowed}

@@ -19,7 +19,8 @@ use Rattle.cedar_types.specs.Values.{VBool, VEntity, VRecord, no_entries, more_e
 use Rattle.cedar_typing.specs.Evaluation.Conformance.{SlotsBound}
 use Rattle.cedar_typing.specs.Evaluation.Eval.{eval}
 use Rattle.cedar_typing.specs.Evaluation.World.{World, TypeFailure, Gives, Fails}
-use Rattle.cedar_typing.specs.Examples.Expressions.{true_lit, one, two, principal, context, text, dot, has, record1, record2, equal, has_tag, get_tag, mistyped}
+use Rattle.cedar_typing.specs.Examples.Expressions.{true_lit, one, two, principal, context, text, dot, has, record1, record2, equal}
+use Rattle.cedar_typing.specs.Examples.Expressions.{has_tag, get_tag, mistyped}
 use Rattle.cedar_typing.specs.Examples.Greeting.{number, words, stored_action}
 use Rattle.cedar_typing.specs.Examples.NeededPremises.{BreaksPromise}
 use Rattle.cedar_typing.specs.Examples.PolicySoundness.{sample_basis, Passes, PassesWarned, policy_when, meeting}

@@ -15,10 +15,12 @@ use Rattle.cedar_types.specs.Values.{VBool}
 use Rattle.cedar_typing.specs.Evaluation.Conformance.{ConformingRequest, FitsSlot, SlotsBound, KeepsTable, Holds, AllHold}
 use Rattle.cedar_typing.specs.Evaluation.Eval.{eval}
 use Rattle.cedar_typing.specs.Evaluation.World.{Interpretation, Gives, MissingEntity, Fails}
-use Rattle.cedar_typing.specs.Examples.Expressions.{false_lit, context, dot, has, has_vip, get_vip, call2, decimal_one, decimal_two, node, numbered}
+use Rattle.cedar_typing.specs.Examples.Expressions.{false_lit, context, dot, has, has_vip, get_vip, call2, decimal_one, decimal_two, node}
+use Rattle.cedar_typing.specs.Examples.Expressions.{numbered}
 use Rattle.cedar_typing.specs.Examples.Greeting.{number, words, one_value, sample_slots, sample_functions, greeting}
 use Rattle.cedar_typing.specs.Examples.Rules.{marked_principal}
-use Rattle.cedar_typing.specs.Examples.World.{decimal, duration, ip_address, less_than, greet, sample_schema, decimal_function, extension_functions, sample}
+use Rattle.cedar_typing.specs.Examples.World.{decimal, duration, ip_address, less_than, greet, sample_schema, decimal_function}
+use Rattle.cedar_typing.specs.Examples.World.{extension_functions, sample}
 use Rattle.cedar_typing.specs.PolicyCheck.{PolicyChecks, succeeds}
 use Rattle.cedar_typing.specs.Setting.{table}
 use Rattle.cedar_typing.specs.Soundness.{IsReliable, IsWorldOf}

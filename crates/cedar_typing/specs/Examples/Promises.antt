@@ -7,7 +7,8 @@ use Rattle.cedar_types.specs.Errors.{Finding}
 use Rattle.cedar_types.specs.Templates.{PlainTemplate}
 use Rattle.cedar_types.specs.Types.{TLong}
 use Rattle.cedar_types.specs.Values.{Value, VBool, VLong, VString, VEntity, VSet, VRecord, VExtension, no_values, no_entries}
-use Rattle.cedar_typing.specs.Evaluation.World.{Failure, TypeFailure, AbsentAttribute, AbsentTag, MissingEntity, Overflow, ExtensionFailure, UnlinkedSlot, UnknownValue, Gives, Fails}
+use Rattle.cedar_typing.specs.Evaluation.World.{Failure, TypeFailure, AbsentAttribute, AbsentTag, MissingEntity, Overflow, ExtensionFailure}
+use Rattle.cedar_typing.specs.Evaluation.World.{UnlinkedSlot, UnknownValue, Gives, Fails}
 use Rattle.cedar_typing.specs.Examples.Expressions.{true_lit, mistyped, numbered}
 use Rattle.cedar_typing.specs.Examples.PolicySoundness.{sample_basis, policy_when}
 use Rattle.cedar_typing.specs.Examples.World.{decimal, alice, sample}

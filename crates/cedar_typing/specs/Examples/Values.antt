@@ -2,7 +2,8 @@
 use Rattle.std.specs.Prelude.{pos, true, false, [], ◌∷◌, codes}
 use Rattle.cedar_types.specs.declared.base.types.BoolType.TheVariants.{AnyBool, True, False}
 use Rattle.cedar_types.specs.Names.{Text}
-use Rattle.cedar_types.specs.Types.{Ty, TNever, TBool, TLong, TString, TSet, TAnySet, TRecord, TEntity, TAnyEntity, TExtension, Attrs, no_attrs, attr}
+use Rattle.cedar_types.specs.Types.{Ty, TNever, TBool, TLong, TString, TSet, TAnySet, TRecord, TEntity, TAnyEntity, TExtension, Attrs}
+use Rattle.cedar_types.specs.Types.{no_attrs, attr}
 use Rattle.cedar_types.specs.Values.{Value, VBool, VEntity, VSet, VRecord, VExtension, no_values, no_entries, more_entries, HasType}
 use Rattle.cedar_typing.specs.Examples.Greeting.{number, words, one_value, two_values, a_decimal}
 use Rattle.cedar_typing.specs.Examples.World.{user, group, robot, decimal, duration, alice}

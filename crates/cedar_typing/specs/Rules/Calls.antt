@@ -1,5 +1,6 @@
 -- Calls of extension functions.
-use Rattle.std.specs.Prelude.{ℕ, Bool, true, false, not, ◌&&◌, nat_eq, nat_lt, length, List, [], ◌∷◌, ◌++◌, map, Option, Some, None, is_some, if◌then◌else◌}
+use Rattle.std.specs.Prelude.{ℕ, Bool, true, false, not, ◌&&◌, nat_eq, nat_lt, length, List, [], ◌∷◌, ◌++◌, map, Option, Some, None}
+use Rattle.std.specs.Prelude.{is_some, if◌then◌else◌}
 use Rattle.std.specs.List.{list_all}
 use Rattle.cedar_types.specs.declared.base.types.ValidationMode.{ValidationMode}
 use Rattle.cedar_types.specs.declared.base.location.Loc.{Loc}
@@ -8,7 +9,8 @@ use Rattle.cedar_types.specs.Types.{Ty}
 use Rattle.cedar_types.specs.Expressions.Tree.{lit, call, Trees, no_trees, tree}
 use Rattle.cedar_types.specs.Expressions.View.{Written, trees_of}
 use Rattle.cedar_types.specs.Types.Bounds.{is_strict}
-use Rattle.cedar_types.specs.Errors.{Fault, Finding, undefined_function, wrong_number_arguments, function_argument_validation, non_lit_ext_constructor}
+use Rattle.cedar_types.specs.Errors.{Fault, Finding, undefined_function, wrong_number_arguments, function_argument_validation}
+use Rattle.cedar_types.specs.Errors.{non_lit_ext_constructor}
 use Rattle.cedar_types.specs.Extensions.Functions.{Refusals, ExtensionFunction, function_named}
 use Rattle.cedar_typing.specs.Eager.{Expectation, Decision, refuses, gives_unless, Form}
 use Rattle.cedar_typing.specs.TypeEnv.{TypeEnv, finding}

@@ -5,7 +5,8 @@ use Rattle.cedar_types.specs.declared.base.expressions.operators.UnaryOp.{UnaryO
 use Rattle.cedar_types.specs.declared.base.expressions.patterns.PatternElem.{PatternElem}
 use Rattle.cedar_types.specs.Names.{Text, Path}
 use Rattle.cedar_types.specs.Types.{Ty}
-use Rattle.cedar_types.specs.Expressions.Tree.{if_then_else, and, or, unary, binary, call, has_attr, get_attr, ext_has_attr, like, is_type, set_of, record_of, Trees, tree, Fields, field}
+use Rattle.cedar_types.specs.Expressions.Tree.{if_then_else, and, or, unary, binary, call, has_attr, get_attr, ext_has_attr, like, is_type}
+use Rattle.cedar_types.specs.Expressions.Tree.{set_of, record_of, Trees, tree, Fields, field}
 use Rattle.cedar_types.specs.Expressions.View.{Written}
 use Rattle.cedar_types.specs.Errors.{Finding}
 use Rattle.cedar_typing.specs.Capabilities.{Caps, union}

@@ -9,7 +9,8 @@ use Rattle.cedar_types.specs.Types.{Ty, TBool, TLong, TString, TEntity, TAnyEnti
 use Rattle.cedar_types.specs.Expressions.Tree.{Lit, bool, long, string, entity, unknown}
 use Rattle.cedar_types.specs.Expressions.View.{Written}
 use Rattle.cedar_types.specs.Types.Lookups.{literal_type}
-use Rattle.cedar_types.specs.Environments.RequestEnvs.{Env, Declared, Undeclared, principal_ty, resource_ty, action_ty, context_ty, is_partial}
+use Rattle.cedar_types.specs.Environments.RequestEnvs.{Env, Declared, Undeclared, principal_ty, resource_ty, action_ty, context_ty}
+use Rattle.cedar_types.specs.Environments.RequestEnvs.{is_partial}
 use Rattle.cedar_types.specs.Errors.{Finding}
 use Rattle.cedar_typing.specs.Capabilities.{Caps, no_caps}
 use Rattle.cedar_typing.specs.Judgments.{Judgment, NoDerivation, NoCut}

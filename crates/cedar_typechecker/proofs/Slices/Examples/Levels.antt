@@ -7,7 +7,8 @@ use Rattle.cedar_types.specs.Environments.Linking.{checked_envs}
 use Rattle.cedar_types.specs.Environments.RequestEnvs.{Env}
 use Rattle.cedar_types.specs.Templates.{PlainTemplate, condition_of}
 use Rattle.cedar_typing.specs.Evaluation.Conformance.{IsOneOf}
-use Rattle.cedar_typing.specs.PolicyCheck.{Verdict, succeeds, irrelevant, fails, SameVerdict, same_success, same_irrelevant, same_failure, policy_check}
+use Rattle.cedar_typing.specs.PolicyCheck.{Verdict, succeeds, irrelevant, fails, SameVerdict, same_success, same_irrelevant, same_failure}
+use Rattle.cedar_typing.specs.PolicyCheck.{policy_check}
 use Rattle.cedar_typing.specs.Soundness.Policies.{Basis, setting_on}
 use Rattle.cedar_typing.proofs.Basics.Gains.{in_either}
 use Rattle.cedar_typing.proofs.Basics.Members.{in_flat}

@@ -12,7 +12,9 @@ use Rattle.cedar_typechecker.specs.Levels.Errors.{exceeds}
 use Rattle.cedar_typechecker.specs.Slices.Examples.{guided_page}
 use Rattle.cedar_typechecker.specs.Slices.Examples.World.{wiki_schema, wiki_basis, reading, slice_of}
 use Rattle.cedar_typechecker.specs.Slices.NeededPremises.Differing.{OnlyFaultIs}
-use Rattle.cedar_typechecker.specs.Slices.NeededPremises.Levels.{dan_is_active, never_active, SuccessesAreWithinLevel, OneLevelLessGoesWrongIn, LiteralTargetsGoWrongIn, IrrelevantEnvironmentsCountIn, LevelsAreNeededIn}
+use Rattle.cedar_typechecker.specs.Slices.NeededPremises.Levels.{dan_is_active, never_active, SuccessesAreWithinLevel}
+use Rattle.cedar_typechecker.specs.Slices.NeededPremises.Levels.{OneLevelLessGoesWrongIn, LiteralTargetsGoWrongIn}
+use Rattle.cedar_typechecker.specs.Slices.NeededPremises.Levels.{IrrelevantEnvironmentsCountIn, LevelsAreNeededIn}
 use Rattle.cedar_typechecker.proofs.Slices.Examples.Levels.{IsSuccess, verdict_in, no_success, only}
 use Rattle.cedar_typechecker.proofs.Slices.Examples.World.{reading_asked, formed, fails_or_gives, differs, held}
 

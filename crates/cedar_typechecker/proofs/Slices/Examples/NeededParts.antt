@@ -7,10 +7,13 @@ use Rattle.cedar_typing.specs.Examples.World.{gone}
 use Rattle.cedar_typing.proofs.Examples.PolicySoundness.{passing}
 use Rattle.cedar_typechecker.specs.Slices.Examples.{guided_page}
 use Rattle.cedar_typechecker.specs.Slices.Examples.World.{carol, read_context, page, wiki_basis, plain_user, reading, slice_of}
-use Rattle.cedar_typechecker.specs.Slices.NeededPremises.Parts.{IsGuidedPageIn, without, idle_carol, asker_is_active, gone_asks, MissingEntriesGoWrongIn, ChangedEntriesGoWrongIn, AddedEntriesGoWrongIn, PartsAreNeededIn}
+use Rattle.cedar_typechecker.specs.Slices.NeededPremises.Parts.{IsGuidedPageIn, without, idle_carol, asker_is_active, gone_asks}
+use Rattle.cedar_typechecker.specs.Slices.NeededPremises.Parts.{MissingEntriesGoWrongIn, ChangedEntriesGoWrongIn, AddedEntriesGoWrongIn}
+use Rattle.cedar_typechecker.specs.Slices.NeededPremises.Parts.{PartsAreNeededIn}
 use Rattle.cedar_typechecker.specs.Slices.Policies.{PolicyIsWithinLevel}
 use Rattle.cedar_typechecker.proofs.Slices.Examples.Levels.{within}
-use Rattle.cedar_typechecker.proofs.Slices.Examples.World.{wiki_conforms, sample_kept, reads, wiki_checker, reading_asked, formed, listed, without_at, with_other, fails_or_gives, gives_or_fails, false_or_true, differs}
+use Rattle.cedar_typechecker.proofs.Slices.Examples.World.{wiki_conforms, sample_kept, reads, wiki_checker, reading_asked, formed, listed}
+use Rattle.cedar_typechecker.proofs.Slices.Examples.World.{without_at, with_other, fails_or_gives, gives_or_fails, false_or_true, differs}
 
 module _ (m : ValidationMode) where
   guided : Passes (wiki_basis m) guided_page → PolicyIsWithinLevel (wiki_basis m) guided_page 3

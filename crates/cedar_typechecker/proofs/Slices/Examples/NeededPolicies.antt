@@ -12,10 +12,14 @@ use Rattle.cedar_typing.proofs.Composition.Slots.{slots_bound}
 use Rattle.cedar_typing.proofs.Examples.PolicySoundness.{passing}
 use Rattle.cedar_typing.proofs.Policies.Check.{checked}
 use Rattle.cedar_typechecker.specs.Slices.Examples.World.{wiki_schema, wiki_basis, staff_slots, reading, slice_of}
-use Rattle.cedar_typechecker.specs.Slices.NeededPremises.Policies.{IsReadingIn, unguarded, unguarded_access, of_unknown_type, of_unknown_action, of_unknown, slot_in_rest, RefusedPoliciesGoWrongIn, NamesMustBeKnownIn, UnknownsGoWrongIn, SlotsInTheRestGoWrongIn, PoliciesAreNeededIn}
+use Rattle.cedar_typechecker.specs.Slices.NeededPremises.Policies.{IsReadingIn, unguarded, unguarded_access, of_unknown_type}
+use Rattle.cedar_typechecker.specs.Slices.NeededPremises.Policies.{of_unknown_action, of_unknown, slot_in_rest, RefusedPoliciesGoWrongIn}
+use Rattle.cedar_typechecker.specs.Slices.NeededPremises.Policies.{NamesMustBeKnownIn, UnknownsGoWrongIn, SlotsInTheRestGoWrongIn}
+use Rattle.cedar_typechecker.specs.Slices.NeededPremises.Policies.{PoliciesAreNeededIn}
 use Rattle.cedar_typechecker.specs.Slices.Policies.{PolicyIsWithinLevel}
 use Rattle.cedar_typechecker.proofs.Slices.Examples.Levels.{verdict_in, within}
-use Rattle.cedar_typechecker.proofs.Slices.Examples.World.{reading_asked, staff_bound, formed, fails_or_gives, gives_or_fails, differs, held}
+use Rattle.cedar_typechecker.proofs.Slices.Examples.World.{reading_asked, staff_bound, formed, fails_or_gives, gives_or_fails, differs}
+use Rattle.cedar_typechecker.proofs.Slices.Examples.World.{held}
 
 module _ (m : ValidationMode) where
   others : IsReadingIn m

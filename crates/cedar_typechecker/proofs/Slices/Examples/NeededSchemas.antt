@@ -19,10 +19,15 @@ use Rattle.cedar_typing.proofs.Basics.{some_is, none_is}
 use Rattle.cedar_typing.proofs.Examples.PolicySoundness.{passing}
 use Rattle.cedar_typing.proofs.Examples.World.{all_found, none_among}
 use Rattle.cedar_typechecker.specs.Slices.Examples.World.{page, read, read_context, declared_read, wiki_types, slice_of}
-use Rattle.cedar_typechecker.specs.Slices.NeededPremises.Schemas.{by_schema, twice_declared, read_is_meeting, meeting_to_read, owner, owner_function, alice_owns, owned_basis, owner_has_profile, owned, guests, guided_guest, reading_a_guest, unformed, active_with_b, reading_with_b, FaultsGoWrongIn, TableFaultsGoWrongIn, ExternalTypesGoWrongIn, SchemasAreNeededIn, FormIsNeeded}
+use Rattle.cedar_typechecker.specs.Slices.NeededPremises.Schemas.{by_schema, twice_declared, read_is_meeting, meeting_to_read, owner}
+use Rattle.cedar_typechecker.specs.Slices.NeededPremises.Schemas.{owner_function, alice_owns, owned_basis, owner_has_profile, owned, guests}
+use Rattle.cedar_typechecker.specs.Slices.NeededPremises.Schemas.{guided_guest, reading_a_guest, unformed, active_with_b, reading_with_b}
+use Rattle.cedar_typechecker.specs.Slices.NeededPremises.Schemas.{FaultsGoWrongIn, TableFaultsGoWrongIn, ExternalTypesGoWrongIn}
+use Rattle.cedar_typechecker.specs.Slices.NeededPremises.Schemas.{SchemasAreNeededIn, FormIsNeeded}
 use Rattle.cedar_typechecker.specs.Slices.Policies.{PolicyIsWithinLevel}
 use Rattle.cedar_typechecker.proofs.Slices.Examples.Levels.{within}
-use Rattle.cedar_typechecker.proofs.Slices.Examples.World.{Fitting, IsStored, wiki_fits, guests_fit, read_fits, conforms, wiki_conforms, sample_kept, reads, formed, fails_or_gives, false_or_true, differs, held}
+use Rattle.cedar_typechecker.proofs.Slices.Examples.World.{Fitting, IsStored, wiki_fits, guests_fit, read_fits, conforms, wiki_conforms}
+use Rattle.cedar_typechecker.proofs.Slices.Examples.World.{sample_kept, reads, formed, fails_or_gives, false_or_true, differs, held}
 
 -- ---- an action that is declared twice
 

@@ -8,11 +8,13 @@ use Rattle.cedar_typing.specs.Eager.{no_tree}
 use Rattle.cedar_typing.proofs.Examples.PolicySoundness.{passing}
 use Rattle.cedar_typing.proofs.Policies.Check.{checked}
 use Rattle.cedar_typechecker.specs.Slices.Examples.World.{page, read_context, wiki_basis, reading, slice_of}
-use Rattle.cedar_typechecker.specs.Slices.NeededPremises.Settings.{is_no_user, unlinked, slot_has_profile, alice_bound, PartialGoesWrong, UnlinkedSlotsGoWrongIn}
+use Rattle.cedar_typechecker.specs.Slices.NeededPremises.Settings.{is_no_user, unlinked, slot_has_profile, alice_bound, PartialGoesWrong}
+use Rattle.cedar_typechecker.specs.Slices.NeededPremises.Settings.{UnlinkedSlotsGoWrongIn}
 use Rattle.cedar_typechecker.specs.Slices.Soundness.{levels_in}
 use Rattle.cedar_typechecker.proofs.Levels.Walk.{silent_walk_is_within}
 use Rattle.cedar_typechecker.proofs.Slices.Examples.Levels.{within}
-use Rattle.cedar_typechecker.proofs.Slices.Examples.World.{wiki_conforms, sample_kept, reads, reading_asked, formed, false_or_true, differs, held}
+use Rattle.cedar_typechecker.proofs.Slices.Examples.World.{wiki_conforms, sample_kept, reads, reading_asked, formed, false_or_true, differs}
+use Rattle.cedar_typechecker.proofs.Slices.Examples.World.{held}
 
 pub partial_wrong : PartialGoesWrong
 partial_wrong = record {

@@ -5,10 +5,12 @@ use Rattle.cedar_types.specs.declared.base.types.ValidationMode.TheVariants.{Str
 use Rattle.cedar_typing.specs.Examples.PolicySoundness.{PassesWarned}
 use Rattle.cedar_typing.proofs.Examples.PolicySoundness.{passing}
 use Rattle.cedar_typechecker.specs.Slices.Examples.World.{page, read_context, wiki_basis, slice_of}
-use Rattle.cedar_typechecker.specs.Slices.NeededPremises.Worlds.{teams_read, staff_reads, teams_guide, staff_guides, RequestsMustConformIn, StoresMustConformIn, WorldsAreNeededIn}
+use Rattle.cedar_typechecker.specs.Slices.NeededPremises.Worlds.{teams_read, staff_reads, teams_guide, staff_guides, RequestsMustConformIn}
+use Rattle.cedar_typechecker.specs.Slices.NeededPremises.Worlds.{StoresMustConformIn, WorldsAreNeededIn}
 use Rattle.cedar_typechecker.specs.Slices.Policies.{PolicyIsWithinLevel}
 use Rattle.cedar_typechecker.proofs.Slices.Examples.Levels.{within}
-use Rattle.cedar_typechecker.proofs.Slices.Examples.World.{wiki_conforms, sample_kept, reads, wiki_checker, formed, fails_or_gives, differs, held}
+use Rattle.cedar_typechecker.proofs.Slices.Examples.World.{wiki_conforms, sample_kept, reads, wiki_checker, formed, fails_or_gives, differs}
+use Rattle.cedar_typechecker.proofs.Slices.Examples.World.{held}
 
 module _ (m : ValidationMode) where
   requests : PassesWarned (wiki_basis m) teams_read

@@ -5,7 +5,8 @@ use Rattle.cedar_types.specs.declared.base.types.ValidationMode.TheVariants.{Str
 use Rattle.cedar_typing.specs.Examples.PolicySoundness.{Passes}
 use Rattle.cedar_typing.proofs.Examples.PolicySoundness.{passing}
 use Rattle.cedar_typechecker.specs.Levels.Errors.{exceeds}
-use Rattle.cedar_typechecker.specs.Slices.Examples.{HasLevelError, guided_page, guided_either, AllPremisesHold, SlicePremisesAreMet, SlicesAreAsSaid}
+use Rattle.cedar_typechecker.specs.Slices.Examples.{HasLevelError, guided_page, guided_either, AllPremisesHold, SlicePremisesAreMet}
+use Rattle.cedar_typechecker.specs.Slices.Examples.{SlicesAreAsSaid}
 use Rattle.cedar_typechecker.specs.Slices.Examples.World.{wiki_basis, reading}
 use Rattle.cedar_typechecker.specs.Slices.Policies.{PolicyIsWithinLevel}
 use Rattle.cedar_typechecker.proofs.Slices.Examples.Levels.{within, has_error}

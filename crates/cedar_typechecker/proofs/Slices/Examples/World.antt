@@ -1,12 +1,14 @@
 -- The worlds of the examples conform, and what their parts have.
-use Rattle.std.proofs.Common.{◌≡◌, ℕ, inl, Bool, true, false, ◌&&◌, ◌||◌, not, cond, if◌then◌else◌, [], ◌∷◌, Some, None, refl, sym, ◌∙◌, subst}
+use Rattle.std.proofs.Common.{◌≡◌, ℕ, inl, Bool, true, false, ◌&&◌, ◌||◌, not, cond, if◌then◌else◌, [], ◌∷◌, Some, None, refl, sym, ◌∙◌}
+use Rattle.std.proofs.Common.{subst}
 use Rattle.std.specs.Prelude.{IsTrue, List}
 use Rattle.cedar_types.specs.declared.base.names.slots.SlotId.{SlotId}
 use Rattle.cedar_types.specs.declared.base.types.ValidationMode.{ValidationMode}
 use Rattle.cedar_types.specs.Lemmas.Comparisons.{uid_same}
 use Rattle.cedar_types.specs.Names.{Path, Uid, uid_eq}
 use Rattle.cedar_types.specs.Schemas.{DeclaredType, DeclaredAction, Schema, is_among, type_named, declares_type, descendants_of}
-use Rattle.cedar_types.specs.Values.Stores.{Entity, Store, entity_at, AncestorsFit, FitsStandard, FitsAction, FitsDeclaration, ConformingStore}
+use Rattle.cedar_types.specs.Values.Stores.{Entity, Store, entity_at, AncestorsFit, FitsStandard, FitsAction, FitsDeclaration}
+use Rattle.cedar_types.specs.Values.Stores.{ConformingStore}
 use Rattle.cedar_types.specs.Templates.{PlainTemplate, condition_of}
 use Rattle.cedar_types.specs.Types.{Ty, no_attrs}
 use Rattle.cedar_typing.specs.Composition.{SlotsInScopeAlone}
@@ -22,7 +24,10 @@ use Rattle.cedar_typing.specs.Soundness.Policies.{IsWellFormed, IsConforming}
 use Rattle.cedar_typing.specs.Silence.{HasNoUnknowns}
 use Rattle.cedar_typing.proofs.Composition.Slots.{slots_bound}
 use Rattle.cedar_typing.proofs.Examples.World.{AllEntities, all_found, none_among, only_one, greeting_conforms}
-use Rattle.cedar_typechecker.specs.Slices.Examples.World.{page, read, user_attributes, team_attributes, wiki_types, read_context, declared_read, wiki_basis, stored_alice, stored_bob, stored_carol, plain_user, stored_staff, page_guided_by, guided_wiki, wiki_store, staff_slots, reading, slice_of}
+use Rattle.cedar_typechecker.specs.Slices.Examples.World.{page, read, user_attributes, team_attributes, wiki_types, read_context}
+use Rattle.cedar_typechecker.specs.Slices.Examples.World.{declared_read, wiki_basis, stored_alice, stored_bob, stored_carol, plain_user}
+use Rattle.cedar_typechecker.specs.Slices.Examples.World.{stored_staff, page_guided_by, guided_wiki, wiki_store, staff_slots, reading}
+use Rattle.cedar_typechecker.specs.Slices.Examples.World.{slice_of}
 use Rattle.cedar_typechecker.specs.Slices.NeededPremises.Differing.{IsAskedCheckerIn, IsAskedIn, DiffersIn}
 use Rattle.cedar_typechecker.specs.Slices.NeededPremises.Parts.{without}
 use Rattle.cedar_typechecker.specs.Slices.Reach.{IsPartOf, HoldsSlice}

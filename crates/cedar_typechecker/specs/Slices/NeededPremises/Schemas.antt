@@ -23,7 +23,8 @@ use Rattle.cedar_typing.specs.Examples.PolicySoundness.{Passes, PassesWarned, po
 use Rattle.cedar_typing.specs.Examples.World.{named, alice, bob, meet, declared_group}
 use Rattle.cedar_typing.specs.Soundness.Policies.{Basis, IsClosedIn, IsConforming}
 use Rattle.cedar_typechecker.specs.Slices.Examples.{active_of, has_guide, guide_of, resource}
-use Rattle.cedar_typechecker.specs.Slices.Examples.World.{page, read, wiki_types, read_context, declared_read, wiki_schema, wiki_basis, page_guided_by, guided_wiki, wiki_store, reading, slice_of}
+use Rattle.cedar_typechecker.specs.Slices.Examples.World.{page, read, wiki_types, read_context, declared_read, wiki_schema, wiki_basis}
+use Rattle.cedar_typechecker.specs.Slices.Examples.World.{page_guided_by, guided_wiki, wiki_store, reading, slice_of}
 use Rattle.cedar_typechecker.specs.Slices.NeededPremises.Differing.{IsAskedPolicy, DiffersIn}
 use Rattle.cedar_typechecker.specs.Slices.Policies.{PolicyIsWithinLevel}
 use Rattle.cedar_typechecker.specs.Slices.Reach.{HoldsSlice}

@@ -149,7 +149,8 @@ pub last_step : (world : World) (x : Text) (o : Outcome) → then_test o (path_t
 last_step world x (Gives v) = and_true (has_test world.store x v)
 last_step world x (Fails f) = refl
 
-pub first_step : (world : World) (x y : Text) (ys : List Text) (o : Outcome) → then_test o (path_test world.store x (y ∷ ys)) ≡ from_step world x (then_test (on_value o (get world.store x)) (path_test world.store y ys)) o
+pub first_step : (world : World) (x y : Text) (ys : List Text) (o : Outcome) → then_test o (path_test world.store x (y ∷ ys))
+    ≡ from_step world x (then_test (on_value o (get world.store x)) (path_test world.store y ys)) o
 first_step world x y ys (Gives v) = refl
 first_step world x y ys (Fails f) = refl
 
@@ -162,7 +163,8 @@ module _ (env : TypeEnv) (world : World) (conforms : ConformingStore env.schema 
   step_told (Gives v) h = and_told (has_test world.store x v) t h
   step_told (Fails f) h = absurd h
 
-  step_safe : (s : Ty) (o : Outcome) → accepts object_types s ≡ true → HasFound (Some s) o → (HasAttribute world.store x o → IsSafe (of_test t)) → IsSafe o → IsSafe (of_test (from_step world x t o))
+  step_safe : (s : Ty) (o : Outcome) → accepts object_types s ≡ true → HasFound (Some s) o
+      → (HasAttribute world.store x o → IsSafe (of_test t)) → IsSafe o → IsSafe (of_test (from_step world x t o))
   step_safe s (Gives v) a h k g =
       let c = has_says env.schema x world.store conforms s v a h in
       subst (λ z. IsSafe (of_test (and_test z t))) (sym c.1) (and_safe c.0 t (λ n. k (subst SaysTrue (sym c.1) n)))
@@ -182,12 +184,14 @@ module _ (env : TypeEnv) (world : World) (conforms : ConformingStore env.schema 
 abbrev pub known : Caps → Source → Text → Progress → Bool
 known prior e x p = union prior p.earned (attribute_of e x)
 
-pub known_there : (world : World) (prior : Caps) → AllHold world prior → (e : Source) (x : Text) (p : Progress) → AllHold world p.earned → known prior e x p ≡ true → HasAttribute world.store x (eval world e)
+pub known_there : (world : World) (prior : Caps) → AllHold world prior → (e : Source) (x : Text) (p : Progress) → AllHold world p.earned
+    → known prior e x p ≡ true → HasAttribute world.store x (eval world e)
 known_there world prior hold e x p k n = subst (HasAttribute world.store x) (eval_form world e) (hold_either world prior p.earned hold k (attribute_of e x) n)
 
 -- ---- one step
 
-module _ (env : TypeEnv) (world : World) (conforms : ConformingStore env.schema world.store) (prior : Caps) (hold : AllHold world prior) (e : Source) (s : Ty) (h : HasFound (Some s) (eval world e)) (x : Text) (p : Progress) (holds : HoldsIfSure world p) where
+module _ (env : TypeEnv) (world : World) (conforms : ConformingStore env.schema world.store) (prior : Caps) (hold : AllHold world prior)
+    (e : Source) (s : Ty) (h : HasFound (Some s) (eval world e)) (x : Text) (p : Progress) (holds : HoldsIfSure world p) where
   abbrev base : Outcome
   base = eval world e
 
@@ -212,7 +216,8 @@ module _ (env : TypeEnv) (world : World) (conforms : ConformingStore env.schema 
   -- where a step is True, the attribute is there
   true_there : AllHold world p.earned → (a : Option (Ty × Bool)) → found ≡ a → is_true (type_at a) ≡ true → HasAttribute world.store x base
   true_there k (Some a) f n =
-      or_cases known_now (a.1 && is_record s) (HasAttribute world.store x base) (known_there world prior hold e x p k) (required_there a.0 a.1 base h f) (true_if (known_now || (a.1 && is_record s)) n)
+      or_cases known_now (a.1 && is_record s) (HasAttribute world.store x base) (known_there world prior hold e x p k)
+      (required_there a.0 a.1 base h f) (true_if (known_now || (a.1 && is_record s)) n)
   true_there k None f n = absurd (undeclared_not_true (may_have env.schema s x) n)
 
   -- where it is False, no value of the type has it

@@ -7,7 +7,8 @@ use Rattle.cedar_types.specs.Names.{Text}
 use Rattle.cedar_types.specs.Expressions.Tree.{unary, binary}
 use Rattle.cedar_typing.specs.Evaluation.World.{TypeFailure, MissingEntity, Overflow, ExtensionFailure}
 use Rattle.cedar_typing.specs.Examples.Evaluation.{Yields, YieldsTrue, YieldsFalse, FailsAs}
-use Rattle.cedar_typing.specs.Examples.Expressions.{one, two, three, text, set3, call0, call1, call2, call3, to_decimal, decimal_one, decimal_two, matching, missing, mistyped, too_great}
+use Rattle.cedar_typing.specs.Examples.Expressions.{one, two, three, text, set3, call0, call1, call2, call3, to_decimal, decimal_one}
+use Rattle.cedar_typing.specs.Examples.Expressions.{decimal_two, matching, missing, mistyped, too_great}
 use Rattle.cedar_typing.specs.Examples.Greeting.{number, a_decimal}
 use Rattle.cedar_typing.specs.Examples.World.{named, decimal, social_decimal, less_than, sum}
 

@@ -5,7 +5,8 @@ use Rattle.cedar_types.specs.Expressions.Tree.{binary, ext_has_attr}
 use Rattle.cedar_types.specs.Values.{VEntity}
 use Rattle.cedar_typing.specs.Evaluation.World.{TypeFailure, AbsentAttribute, AbsentTag, MissingEntity}
 use Rattle.cedar_typing.specs.Examples.Evaluation.{Yields, YieldsTrue, YieldsFalse, FailsAs}
-use Rattle.cedar_typing.specs.Examples.Expressions.{one, text, the, principal, context, dot, has, has2, set0, set2, record1, is, missing, mistyped}
+use Rattle.cedar_typing.specs.Examples.Expressions.{one, text, the, principal, context, dot, has, has2, set0, set2, record1, is, missing}
+use Rattle.cedar_typing.specs.Examples.Expressions.{mistyped}
 use Rattle.cedar_typing.specs.Examples.Greeting.{number, words}
 use Rattle.cedar_typing.specs.Examples.World.{user, group, alice, bob, gone}
 

@@ -7,7 +7,8 @@ use Rattle.cedar_types.specs.Expressions.Tree.{var, slot, unknown, if_then_else,
 use Rattle.cedar_types.specs.Values.{VBool, VEntity, VSet, VRecord, VExtension, no_values, no_entries, more_entries}
 use Rattle.cedar_typing.specs.Evaluation.World.{TypeFailure, MissingEntity, UnlinkedSlot, UnknownValue}
 use Rattle.cedar_typing.specs.Examples.Evaluation.{Yields, YieldsTrue, YieldsFalse, FailsAs}
-use Rattle.cedar_typing.specs.Examples.Expressions.{true_lit, false_lit, one, two, text, the, principal, context, set0, set2, set3, record2, missing, mistyped}
+use Rattle.cedar_typing.specs.Examples.Expressions.{true_lit, false_lit, one, two, text, the, principal, context, set0, set2, set3, record2}
+use Rattle.cedar_typing.specs.Examples.Expressions.{missing, mistyped}
 use Rattle.cedar_typing.specs.Examples.Greeting.{number, words, two_values}
 use Rattle.cedar_typing.specs.Examples.World.{named, ip_address, alice, bob, gone, greet}
 

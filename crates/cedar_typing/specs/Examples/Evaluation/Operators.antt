@@ -5,7 +5,9 @@ use Rattle.cedar_types.specs.declared.base.expressions.operators.BinaryOp.{Binar
 use Rattle.cedar_types.specs.Expressions.Tree.{unary, binary, record_of, no_fields}
 use Rattle.cedar_typing.specs.Evaluation.World.{TypeFailure, MissingEntity, Overflow}
 use Rattle.cedar_typing.specs.Examples.Evaluation.{Yields, YieldsTrue, YieldsFalse, FailsAs}
-use Rattle.cedar_typing.specs.Examples.Expressions.{true_lit, false_lit, num, one, two, three, least, greatest, text, the, principal, context, dot, set0, set1, set2, set3, record1, record2, decimal_one, decimal_two, a_duration, missing, too_great}
+use Rattle.cedar_typing.specs.Examples.Expressions.{true_lit, false_lit, num, one, two, three, least, greatest, text, the, principal}
+use Rattle.cedar_typing.specs.Examples.Expressions.{context, dot, set0, set1, set2, set3, record1, record2, decimal_one, decimal_two}
+use Rattle.cedar_typing.specs.Examples.Expressions.{a_duration, missing, too_great}
 use Rattle.cedar_typing.specs.Examples.Greeting.{number}
 use Rattle.cedar_typing.specs.Examples.World.{group, alice, bob}
 

@@ -6,8 +6,12 @@ use Rattle.cedar_types.specs.declared.base.types.ValidationMode.TheVariants.{Str
 use Rattle.cedar_types.specs.Types.{TNever, TBool, TLong, TAnyEntity}
 use Rattle.cedar_types.specs.Expressions.Tree.{Shape, var, if_then_else, get_attr, has_attr}
 use Rattle.cedar_typing.specs.Capabilities.{no_caps}
-use Rattle.cedar_typing.specs.Examples.Expressions.{one, principal, dot, has, has_vip, has_age, get_vip, get_boss, get_rank, has_friend, node}
-use Rattle.cedar_typing.specs.Examples.Rules.{TypesAs, TypesAsIn, FailsWith, FailsWithIn, marked_principal, aged_principal, with_friend, bool_at, true_at, false_at, long_at, no_type_at, refused_one, typed_principal, typed_has_vip, typed_has_age, typed_get_vip, typed_get_boss, untyped_get_rank, typed_has_friend, not_a_bool, not_an_object, unguarded_vip, unguarded_boss, unknown_rank}
+use Rattle.cedar_typing.specs.Examples.Expressions.{one, principal, dot, has, has_vip, has_age, get_vip, get_boss, get_rank, has_friend}
+use Rattle.cedar_typing.specs.Examples.Expressions.{node}
+use Rattle.cedar_typing.specs.Examples.Rules.{TypesAs, TypesAsIn, FailsWith, FailsWithIn, marked_principal, aged_principal, with_friend}
+use Rattle.cedar_typing.specs.Examples.Rules.{bool_at, true_at, false_at, long_at, no_type_at, refused_one, typed_principal, typed_has_vip}
+use Rattle.cedar_typing.specs.Examples.Rules.{typed_has_age, typed_get_vip, typed_get_boss, untyped_get_rank, typed_has_friend, not_a_bool}
+use Rattle.cedar_typing.specs.Examples.Rules.{not_an_object, unguarded_vip, unguarded_boss, unknown_rank}
 use Rattle.cedar_typing.specs.Examples.World.{sample, hidden}
 use Rattle.cedar_typing.specs.TypedExpr.{TypedTree, Mark, typed}
 

@@ -5,12 +5,18 @@ use Rattle.cedar_types.specs.declared.base.types.ValidationMode.TheVariants.{Per
 use Rattle.cedar_types.specs.Names.{Path}
 use Rattle.cedar_types.specs.Types.{TBool, TLong, TString}
 use Rattle.cedar_types.specs.Expressions.Tree.{string, Shape, lit, if_then_else, call, no_trees, tree}
-use Rattle.cedar_types.specs.Errors.{Finding, unexpected_type, undefined_function, wrong_number_arguments, function_argument_validation, non_lit_ext_constructor}
+use Rattle.cedar_types.specs.Errors.{Finding, unexpected_type, undefined_function, wrong_number_arguments, function_argument_validation}
+use Rattle.cedar_types.specs.Errors.{non_lit_ext_constructor}
 use Rattle.cedar_typing.specs.Capabilities.{no_caps}
-use Rattle.cedar_typing.specs.Examples.Expressions.{true_lit, one, two, three, text, the, principal, dot, has, has_vip, get_vip, get_boss, get_rank, has_friend, call0, call1, call2, call3, to_decimal, decimal_one, decimal_two, node}
-use Rattle.cedar_typing.specs.Examples.Rules.{TypesAs, FailsWith, IsTyped, IsTypedIn, IsRefused, IsRefusedIn, bool_type, bool_at, no_type_at, typed_one, refused_one, typed_has_vip, typed_get_vip, typed_get_boss, error_at, not_a_long, unguarded_vip, unguarded_boss, unknown_rank}
+use Rattle.cedar_typing.specs.Examples.Expressions.{true_lit, one, two, three, text, the, principal, dot, has, has_vip, get_vip, get_boss}
+use Rattle.cedar_typing.specs.Examples.Expressions.{get_rank, has_friend, call0, call1, call2, call3, to_decimal, decimal_one, decimal_two}
+use Rattle.cedar_typing.specs.Examples.Expressions.{node}
+use Rattle.cedar_typing.specs.Examples.Rules.{TypesAs, FailsWith, IsTyped, IsTypedIn, IsRefused, IsRefusedIn, bool_type, bool_at}
+use Rattle.cedar_typing.specs.Examples.Rules.{no_type_at, typed_one, refused_one, typed_has_vip, typed_get_vip, typed_get_boss, error_at}
+use Rattle.cedar_typing.specs.Examples.Rules.{not_a_long, unguarded_vip, unguarded_boss, unknown_rank}
 use Rattle.cedar_typing.specs.Examples.Rules.Numbers.{nope}
-use Rattle.cedar_typing.specs.Examples.World.{named, decimal, social_decimal, duration, less_than, sum, alice, a_user, decimal_type, duration_type, sample, hidden}
+use Rattle.cedar_typing.specs.Examples.World.{named, decimal, social_decimal, duration, less_than, sum, alice, a_user, decimal_type}
+use Rattle.cedar_typing.specs.Examples.World.{duration_type, sample, hidden}
 use Rattle.cedar_typing.specs.TypedExpr.{TypedTree, typed}
 
 -- `find`, a name without a function

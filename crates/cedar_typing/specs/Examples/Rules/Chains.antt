@@ -11,7 +11,8 @@ use Rattle.cedar_types.specs.Errors.{Fault, unexpected_type, unsafe_attribute_ac
 use Rattle.cedar_types.specs.Environments.RequestEnvs.{Declared}
 use Rattle.cedar_typing.specs.Capabilities.{Caps, no_caps, single, union}
 use Rattle.cedar_typing.specs.Examples.Expressions.{one, principal, context, dot, has2, record1, get_boss, get_rank, node}
-use Rattle.cedar_typing.specs.Examples.Rules.{TypesAs, TypesAsIn, IsTyped, IsTypedIn, IsRefused, IsRefusedIn, bool_type, bool_at, true_at, typed_principal, typed_get_boss, error_at, not_an_object, unguarded_boss, unknown_rank}
+use Rattle.cedar_typing.specs.Examples.Rules.{TypesAs, TypesAsIn, IsTyped, IsTypedIn, IsRefused, IsRefusedIn, bool_type, bool_at, true_at}
+use Rattle.cedar_typing.specs.Examples.Rules.{typed_principal, typed_get_boss, error_at, not_an_object, unguarded_boss, unknown_rank}
 use Rattle.cedar_typing.specs.Examples.Rules.Equality.{friend}
 use Rattle.cedar_typing.specs.Examples.Rules.Numbers.{nope}
 use Rattle.cedar_typing.specs.Examples.Rules.Tags.{anyone}

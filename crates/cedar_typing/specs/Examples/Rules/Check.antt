@@ -3,7 +3,8 @@ use Rattle.std.specs.Prelude.{ℕ, zero, suc, [], ◌∷◌, codes}
 use Rattle.cedar_types.specs.declared.base.expressions.operators.UnaryOp.{UnaryOp}
 use Rattle.cedar_types.specs.Expressions.Tree.{Shape, unknown, unary, has_attr}
 use Rattle.cedar_typing.specs.Examples.Expressions.{false_lit, one, dot, has, has_vip, get_boss}
-use Rattle.cedar_typing.specs.Examples.Rules.{ChecksAs, false_at, typed_false, typed_has_vip, typed_get_boss, not_a_bool, unguarded_vip, unguarded_boss, unknown_rank}
+use Rattle.cedar_typing.specs.Examples.Rules.{ChecksAs, false_at, typed_false, typed_has_vip, typed_get_boss, not_a_bool, unguarded_vip}
+use Rattle.cedar_typing.specs.Examples.Rules.{unguarded_boss, unknown_rank}
 use Rattle.cedar_typing.specs.Examples.World.{named}
 use Rattle.cedar_typing.specs.PolicyCheck.{succeeds, irrelevant, fails}
 

@@ -6,8 +6,12 @@ use Rattle.cedar_types.specs.Types.{TBool, TLong, TString}
 use Rattle.cedar_types.specs.Expressions.Tree.{string, lit, if_then_else, or}
 use Rattle.cedar_types.specs.Errors.{incompatible_types}
 use Rattle.cedar_typing.specs.Capabilities.{no_caps, union, intersection}
-use Rattle.cedar_typing.specs.Examples.Expressions.{true_lit, false_lit, one, text, has_vip, has_age, get_vip, get_rank, has_friend, false_with_friend, node}
-use Rattle.cedar_typing.specs.Examples.Rules.{TypesAs, FailsWith, HandsOnNeither, marked_principal, with_friend, bool_at, no_type_at, typed_true, typed_false, typed_one, refused_one, typed_has_vip, typed_get_vip, untyped_get_rank, typed_has_friend, typed_false_with_friend, error_at, not_a_bool, unguarded_vip, unknown_rank}
+use Rattle.cedar_typing.specs.Examples.Expressions.{true_lit, false_lit, one, text, has_vip, has_age, get_vip, get_rank, has_friend}
+use Rattle.cedar_typing.specs.Examples.Expressions.{false_with_friend, node}
+use Rattle.cedar_typing.specs.Examples.Rules.{TypesAs, FailsWith, HandsOnNeither, marked_principal, with_friend, bool_at, no_type_at}
+use Rattle.cedar_typing.specs.Examples.Rules.{typed_true, typed_false, typed_one, refused_one, typed_has_vip, typed_get_vip}
+use Rattle.cedar_typing.specs.Examples.Rules.{untyped_get_rank, typed_has_friend, typed_false_with_friend, error_at, not_a_bool}
+use Rattle.cedar_typing.specs.Examples.Rules.{unguarded_vip, unknown_rank}
 use Rattle.cedar_typing.specs.TypedExpr.{TypedTree, typed}
 
 -- `"a"` at the place 5

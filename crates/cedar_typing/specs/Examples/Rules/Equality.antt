@@ -7,7 +7,8 @@ use Rattle.cedar_types.specs.declared.base.types.ValidationMode.TheVariants.{Per
 use Rattle.cedar_types.specs.Types.{TBool, TLong, TString, TSet, TAnySet}
 use Rattle.cedar_types.specs.Expressions.Tree.{Shape, var}
 use Rattle.cedar_types.specs.Errors.{incompatible_types, unexpected_type}
-use Rattle.cedar_typing.specs.Examples.Expressions.{one, two, text, the, principal, context, dot, equal, contains, contains_all, contains_any, set1, get_rank}
+use Rattle.cedar_typing.specs.Examples.Expressions.{one, two, text, the, principal, context, dot, equal, contains, contains_all}
+use Rattle.cedar_typing.specs.Examples.Expressions.{contains_any, set1, get_rank}
 use Rattle.cedar_typing.specs.Examples.Rules.{IsTyped, IsTypedIn, IsRefused, IsRefusedIn, bool_type, error_at, unknown_rank}
 use Rattle.cedar_typing.specs.Examples.World.{sample, unknown_action, greet, wave}
 

@@ -10,7 +10,8 @@ use Rattle.cedar_types.specs.Expressions.Tree.{string, entity, lit, var, slot, u
 use Rattle.cedar_types.specs.Expressions.View.{no_name}
 use Rattle.cedar_typing.specs.Capabilities.{no_caps}
 use Rattle.cedar_typing.specs.Examples.Expressions.{false_lit, one, text, the, principal, node}
-use Rattle.cedar_typing.specs.Examples.Rules.{TypesAs, TypesAsIn, FailsWith, FailsWithIn, user_at, no_type_at, typed_false, typed_one, typed_principal}
+use Rattle.cedar_typing.specs.Examples.Rules.{TypesAs, TypesAsIn, FailsWith, FailsWithIn, user_at, no_type_at, typed_false, typed_one}
+use Rattle.cedar_typing.specs.Examples.Rules.{typed_principal}
 use Rattle.cedar_typing.specs.Examples.World.{named, group, alice, a_user, an_action, sample, unknown_action, hidden}
 use Rattle.cedar_typing.specs.TypedExpr.{typed, untyped}
 

@@ -9,8 +9,10 @@ use Rattle.cedar_types.specs.Expressions.Tree.{Shape, if_then_else, and, or, una
 use Rattle.cedar_types.specs.Capability.{attribute}
 use Rattle.cedar_types.specs.Errors.{incompatible_types, undefined_function}
 use Rattle.cedar_typing.specs.Capabilities.{Caps, no_caps, single, union}
-use Rattle.cedar_typing.specs.Examples.Expressions.{true_lit, false_lit, one, text, principal, dot, has, has2, has_vip, get_boss, equal, less, plus, is_in, has_tag, get_tag, set3, record2, call1, call2, call3, numbered}
-use Rattle.cedar_typing.specs.Examples.Rules.{CutsAt, typed_false, bool_at, typed_principal, error_at, not_a_bool, not_a_long, unguarded_boss}
+use Rattle.cedar_typing.specs.Examples.Expressions.{true_lit, false_lit, one, text, principal, dot, has, has2, has_vip, get_boss, equal}
+use Rattle.cedar_typing.specs.Examples.Expressions.{less, plus, is_in, has_tag, get_tag, set3, record2, call1, call2, call3, numbered}
+use Rattle.cedar_typing.specs.Examples.Rules.{CutsAt, typed_false, bool_at, typed_principal, error_at, not_a_bool, not_a_long}
+use Rattle.cedar_typing.specs.Examples.Rules.{unguarded_boss}
 use Rattle.cedar_typing.specs.Examples.Rules.Calls.{find, wrong_number, refused_by_check, no_literal}
 use Rattle.cedar_typing.specs.Examples.Rules.Chains.{has3}
 use Rattle.cedar_typing.specs.Examples.World.{decimal, sum, sample}

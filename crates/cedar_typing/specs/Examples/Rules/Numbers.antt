@@ -10,9 +10,11 @@ use Rattle.cedar_types.specs.Types.{Ty, TBool, TLong, TString, TAnySet, TAnyEnti
 use Rattle.cedar_types.specs.Expressions.Tree.{Shape, var, slot, if_then_else, unary, binary}
 use Rattle.cedar_types.specs.declared.base.names.slots.SlotId.{SlotId}
 use Rattle.cedar_types.specs.Errors.{Finding, unexpected_type, function_argument_validation}
-use Rattle.cedar_typing.specs.Examples.Expressions.{true_lit, one, two, text, set1, principal, context, dot, is, matching, less, at_most, plus, has_vip, get_rank, to_decimal, decimal_one, decimal_two, a_duration}
+use Rattle.cedar_typing.specs.Examples.Expressions.{true_lit, one, two, text, set1, principal, context, dot, is, matching, less, at_most}
+use Rattle.cedar_typing.specs.Examples.Expressions.{plus, has_vip, get_rank, to_decimal, decimal_one, decimal_two, a_duration}
 use Rattle.cedar_typing.specs.Examples.Rules.{IsTyped, IsTypedIn, IsRefused, IsRefusedIn, bool_type, error_at, not_a_long, unknown_rank}
-use Rattle.cedar_typing.specs.Examples.World.{sample_env, sample, hidden, user, group, decimal, duration, ip_address, decimal_type, duration_type}
+use Rattle.cedar_typing.specs.Examples.World.{sample_env, sample, hidden, user, group, decimal, duration, ip_address, decimal_type}
+use Rattle.cedar_typing.specs.Examples.World.{duration_type}
 use Rattle.cedar_typing.specs.Setting.{Setting}
 
 -- `if principal has vip then principal else action`, of two entity types in Permissive

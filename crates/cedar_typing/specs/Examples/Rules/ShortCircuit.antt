@@ -4,8 +4,12 @@ use Rattle.cedar_types.specs.declared.base.types.BoolType.TheVariants.{AnyBool, 
 use Rattle.cedar_types.specs.Types.{TBool}
 use Rattle.cedar_types.specs.Expressions.Tree.{and, or}
 use Rattle.cedar_typing.specs.Capabilities.{no_caps, union, intersection}
-use Rattle.cedar_typing.specs.Examples.Expressions.{true_lit, false_lit, one, has_vip, has_age, get_vip, get_rank, has_friend, false_with_friend}
-use Rattle.cedar_typing.specs.Examples.Rules.{TypesAs, FailsWith, HandsOnNeither, marked_principal, aged_principal, with_friend, bool_at, true_at, false_at, typed_true, typed_false, refused_one, typed_has_vip, typed_has_age, typed_get_vip, untyped_get_rank, typed_has_friend, typed_false_with_friend, not_a_bool, unguarded_vip, unknown_rank}
+use Rattle.cedar_typing.specs.Examples.Expressions.{true_lit, false_lit, one, has_vip, has_age, get_vip, get_rank, has_friend}
+use Rattle.cedar_typing.specs.Examples.Expressions.{false_with_friend}
+use Rattle.cedar_typing.specs.Examples.Rules.{TypesAs, FailsWith, HandsOnNeither, marked_principal, aged_principal, with_friend, bool_at}
+use Rattle.cedar_typing.specs.Examples.Rules.{true_at, false_at, typed_true, typed_false, refused_one, typed_has_vip, typed_has_age}
+use Rattle.cedar_typing.specs.Examples.Rules.{typed_get_vip, untyped_get_rank, typed_has_friend, typed_false_with_friend, not_a_bool}
+use Rattle.cedar_typing.specs.Examples.Rules.{unguarded_vip, unknown_rank}
 
 pub record AndTyping : Type 0 where
   -- `false && 1`: the left side alone, at the place of the whole

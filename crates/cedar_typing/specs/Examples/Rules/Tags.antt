@@ -12,7 +12,9 @@ use Rattle.cedar_types.specs.Capability.{tag}
 use Rattle.cedar_types.specs.Errors.{unexpected_type, incompatible_types, unsafe_tag_access, no_tags_allowed, internal_invariant_violation}
 use Rattle.cedar_typing.specs.Capabilities.{Caps, no_caps, single, union}
 use Rattle.cedar_typing.specs.Examples.Expressions.{one, text, principal, equal, has_tag, get_tag, get_boss, get_rank, node}
-use Rattle.cedar_typing.specs.Examples.Rules.{TypesAs, TypesAsIn, IsRefused, IsRefusedIn, IsRefusedKnowing, IsRefusedKnowingIn, bool_type, bool_at, true_at, false_at, typed_principal, typed_has_vip, error_at, unguarded_boss, unknown_rank}
+use Rattle.cedar_typing.specs.Examples.Rules.{TypesAs, TypesAsIn, IsRefused, IsRefusedIn, IsRefusedKnowing, IsRefusedKnowingIn, bool_type}
+use Rattle.cedar_typing.specs.Examples.Rules.{bool_at, true_at, false_at, typed_principal, typed_has_vip, error_at, unguarded_boss}
+use Rattle.cedar_typing.specs.Examples.Rules.{unknown_rank}
 use Rattle.cedar_typing.specs.Examples.Rules.Equality.{action}
 use Rattle.cedar_typing.specs.Examples.Rules.Numbers.{user_or_action, nope}
 use Rattle.cedar_typing.specs.Examples.World.{sample_schema, sample_env, sample, hidden, user, greet, an_action}

@@ -6,7 +6,8 @@ use Rattle.cedar_types.specs.Types.{TBool}
 use Rattle.cedar_types.specs.Expressions.Tree.{and, unary}
 use Rattle.cedar_typing.specs.Capabilities.{no_caps}
 use Rattle.cedar_typing.specs.Examples.Expressions.{true_lit, false_lit, one, has_vip, get_vip, get_rank}
-use Rattle.cedar_typing.specs.Examples.Rules.{TypesAs, FailsWith, bool_at, true_at, false_at, typed_true, typed_false, refused_one, typed_has_vip, typed_get_vip, untyped_get_rank, not_a_bool, unguarded_vip, unknown_rank}
+use Rattle.cedar_typing.specs.Examples.Rules.{TypesAs, FailsWith, bool_at, true_at, false_at, typed_true, typed_false, refused_one}
+use Rattle.cedar_typing.specs.Examples.Rules.{typed_has_vip, typed_get_vip, untyped_get_rank, not_a_bool, unguarded_vip, unknown_rank}
 
 pub record UnaryTyping : Type 0 where
   -- `!true`, `!false`: True and False change places; `!(principal has vip)`: Bool; nothing is

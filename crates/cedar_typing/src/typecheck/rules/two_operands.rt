@@ -120,7 +120,8 @@ impl TwoOperands {
 
     /// The operator.
     fn op(self) -> BinaryOp
-        ensures { (env : _) → (m : _) → (prior : _) → (a : _) → (b : _) → (k : _) → (x : _) → (y : _)
+        ensures { (env : _) → (m : _) → (prior : _) → (a : _) → (b : _)
+            → (k : _) → (x : _) → (y : _)
             → (form_of_two env m prior a b self).node k (x ∷ y ∷ []) ≡ binary k result x y }
     {
         match self {

@@ -18,7 +18,9 @@ returns-in-None c = λ p.
     let acts : List DeclaredAction = (schema_of c.args.schema.now).actions in
     let us : List Uid = map uid_of c.args.uids.now in
     let ids : List Uid = map (λ u. u.uid) (map placed_uid c.args.uids.now) in
-    let unknown : list_all (declares_action acts) us ≡ false = subst (λ o. ListsActions acts us (option_map (λ v. map (λ u. uid_of u.now) v.items) o)) c.in-None.is c.in_ok-ids.ensures in
+    let unknown : list_all (declares_action acts) us
+    ≡ false = subst (λ o. ListsActions acts us (option_map (λ v. map (λ u. uid_of u.now) v.items) o))
+    c.in-None.is c.in_ok-ids.ensures in
     ap (λ xs. list_any p (map (λ a. declared_action a.now) xs)) c.new.ensures.items
     ∙ sym (ap (λ b. list_any p (admitted acts b ids)) (ap (list_all (declares_action acts)) (ids_of c.args.uids.now) ∙ unknown))
 
@@ -27,7 +29,9 @@ returns-in_ok-actions-in-Some c = λ p.
     let acts : List DeclaredAction = (schema_of c.args.schema.now).actions in
     let us : List Uid = map uid_of c.args.uids.now in
     let ids : List Uid = map (λ u. u.uid) (map placed_uid c.args.uids.now) in
-    let listed : ListsActions acts us (Some (map (λ u. uid_of u.now) c.in-Some.ids.items)) = subst (λ o. ListsActions acts us (option_map (λ v. map (λ u. uid_of u.now) v.items) o)) c.in-Some.is c.in_ok-ids.ensures in
+    let listed : ListsActions acts us (Some (map (λ u. uid_of u.now) c.in-Some.ids.items)) = subst
+    (λ o. ListsActions acts us (option_map (λ v. map (λ u. uid_of u.now) v.items) o))
+    c.in-Some.is c.in_ok-ids.ensures in
     ap (list_any p) c.in_ok-actions-in-Some.ensures
     ∙ ap (λ xs. list_any p (declarations acts (map (λ u. uid_of u.now) xs))) c.as_slice.ensures.value
     ∙ same_declarations acts (map (λ u. uid_of u.now) c.in-Some.ids.items) (actions_within acts us) listed.1.members p

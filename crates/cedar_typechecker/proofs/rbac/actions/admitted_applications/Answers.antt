@@ -11,4 +11,6 @@ pub returns : goal.returns
 returns c = λ p.
     ap (list_any p) c.in_ok-applications.ensures
     ∙ ap (λ xs. list_any p (applications (map (λ a. declared_action a.now) xs))) c.as_slice.ensures.value
-    ∙ same_applications (map (λ a. declared_action a.now) c.in_ok-actions.actions.items) (admitted_actions (schema_of c.args.schema.now).actions (action_scope_of c.args.constraint.now)) c.in_ok-actions.ensures p
+    ∙ same_applications (map (λ a. declared_action a.now) c.in_ok-actions.actions.items)
+    (admitted_actions (schema_of c.args.schema.now).actions (action_scope_of c.args.constraint.now))
+    c.in_ok-actions.ensures p

@@ -8,5 +8,6 @@ use Rattle.cedar_typechecker.proofs.rbac.actions.declarations.Given as goal
 -- what is there, and the declarations of those that are left
 abbrev pub invariant-loop-uid : goal.invariant-loop-uid
 invariant-loop-uid l =
-    map (λ a. declared_action a.now) l.declared.items ++ declarations (schema_of l.schema).actions (map (λ u. uid_of u.now) (drop l.uid-index l.uids))
+    map (λ a. declared_action a.now) l.declared.items
+    ++ declarations (schema_of l.schema).actions (map (λ u. uid_of u.now) (drop l.uid-index l.uids))
     ≡ declarations (schema_of l.fn.schema).actions (map (λ u. uid_of u.now) l.fn.uids)

@@ -15,20 +15,32 @@ pub returns-then-has_fitting : goal.returns-then-has_fitting
 returns-then-has_fitting c =
     let s = schema_of c.args.schema.now in
     let t = record (template_of c.args.t.now) { principal = scope_of c.args.principal.now; resource = scope_of c.args.resource.now } in
-    let apps = subst (λ xs. SameMembers (map (λ a. application a.now) xs) (admitted_applications s t.action)) (sym c.as_slice-applications.ensures.value) c.in_ok-listed.ensures in
-    let principals = subst (λ xs. ListsTypes (admitted_types s t.principal) (map (λ p. type_of p.now) xs)) (sym c.as_slice.ensures.value) c.in_ok-principals.ensures in
-    let resources = subst (λ xs. ListsTypes (admitted_types s t.resource) (map (λ p. type_of p.now) xs)) (sym c.as_slice-2.ensures.value) c.in_ok-resources.ensures in
+    let apps = subst (λ xs. SameMembers (map (λ a. application a.now) xs) (admitted_applications s t.action))
+    (sym c.as_slice-applications.ensures.value) c.in_ok-listed.ensures in
+    let principals = subst (λ xs. ListsTypes (admitted_types s t.principal) (map (λ p. type_of p.now) xs))
+    (sym c.as_slice.ensures.value) c.in_ok-principals.ensures in
+    let resources = subst (λ xs. ListsTypes (admitted_types s t.resource) (map (λ p. type_of p.now) xs))
+    (sym c.as_slice-2.ensures.value) c.in_ok-resources.ensures in
     sym (fits_listed s t _ _ _ principals resources apps) ∙ sym c.has_fitting.ensures ∙ c.if-has_fitting.true
 
 pub returns : goal.returns
 returns c =
     let s = schema_of c.args.schema.now in
     let t = record (template_of c.args.t.now) { principal = scope_of c.args.principal.now; resource = scope_of c.args.resource.now } in
-    let apps = subst (λ xs. SameMembers (map (λ a. application a.now) xs) (admitted_applications s t.action)) (sym c.as_slice-applications.ensures.value) c.in_ok-listed.ensures in
-    let principals = subst (λ xs. ListsTypes (admitted_types s t.principal) (map (λ p. type_of p.now) xs)) (sym c.as_slice.ensures.value) c.in_ok-principals.ensures in
-    let resources = subst (λ xs. ListsTypes (admitted_types s t.resource) (map (λ p. type_of p.now) xs)) (sym c.as_slice-2.ensures.value) c.in_ok-resources.ensures in
+    let apps = subst (λ xs. SameMembers (map (λ a. application a.now) xs) (admitted_applications s t.action))
+    (sym c.as_slice-applications.ensures.value) c.in_ok-listed.ensures in
+    let principals = subst (λ xs. ListsTypes (admitted_types s t.principal) (map (λ p. type_of p.now) xs))
+    (sym c.as_slice.ensures.value) c.in_ok-principals.ensures in
+    let resources = subst (λ xs. ListsTypes (admitted_types s t.resource) (map (λ p. type_of p.now) xs))
+    (sym c.as_slice-2.ensures.value) c.in_ok-resources.ensures in
     let for_principal = c.in_might_help-would_in_fix_principal.ensures ∙ flag_listed s Side.Principal t.principal _ _ apps in
     let for_resource = c.in_might_help-would_in_fix_resource.ensures ∙ flag_listed s Side.Resource t.resource _ _ apps in (
       sym (fits_listed s t _ _ _ principals resources apps) ∙ sym c.has_fitting.ensures ∙ c.if-has_fitting.false,
-      c.in_ok-warning.ensures ∙ (λ i. record { place = t.place; policy = t.id; slip = invalid_action_application (for_principal i) (for_resource i) }),
+      c.in_ok-warning.ensures
+          ∙ (λ i. record {
+            place = t.place;
+            policy = t.id;
+            slip =
+                invalid_action_application (for_principal i) (for_resource i);
+          }),
     )

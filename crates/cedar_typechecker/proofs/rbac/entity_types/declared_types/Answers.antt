@@ -6,4 +6,6 @@ use Rattle.cedar_typechecker.proofs.rbac.entity_types.declared_types.Goals as go
 
 pub returns : goal.returns
 unfolding schema_of
-returns c = declared_types (schema_of c.args.schema.now) c.args.schema.now.faultless (map (λ t. type_of t.now) c.in_ok-names.names.items) c.in_ok-names.ensures
+returns c =
+    declared_types (schema_of c.args.schema.now) c.args.schema.now.faultless
+    (map (λ t. type_of t.now) c.in_ok-names.names.items) c.in_ok-names.ensures

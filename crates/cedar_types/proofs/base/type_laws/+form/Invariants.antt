@@ -4,4 +4,5 @@ use Rattle.cedar_types.proofs.base.type_laws.+form.Given as goal
 
 -- what is left is well-formed exactly where all is
 abbrev pub invariant-attributes_are_well_formed-loop-attribute : goal.invariant-attributes_are_well_formed-loop-attribute
-invariant-attributes_are_well_formed-loop-attribute l = are_well_formed (attributes_of l.fn.attributes) ≡ are_well_formed (entries_of l.attribute-iterator)
+invariant-attributes_are_well_formed-loop-attribute l =
+    are_well_formed (attributes_of l.fn.attributes) ≡ are_well_formed (entries_of l.attribute-iterator)

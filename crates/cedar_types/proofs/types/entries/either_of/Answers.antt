@@ -9,12 +9,15 @@ loop-entry-init g c =
 
 pub loop-entry-smaller : goal.loop-entry-smaller
 loop-entry-smaller g c =
-    first_smaller g.T.Ord.cmp c.loop-entry.xs.now c.loop-entry.ys.now c.in-Some.entry.now c.in-Some.more_xs.now c.in-Some.more_ys.now c.in-Some.ensures
+    first_smaller g.T.Ord.cmp c.loop-entry.xs.now c.loop-entry.ys.now c.in-Some.entry.now c.in-Some.more_xs.now
+    c.in-Some.more_ys.now c.in-Some.ensures
 
 pub loop-entry-preserved : goal.loop-entry-preserved
 loop-entry-preserved g c =
-    subst (λ zs. Merging g.T.Ord.cmp c.args.left.now c.args.right.now zs c.in-Some.more_xs.now c.in-Some.more_ys.now) (sym c.in_ok-push.ensures.items)
-    (merging_step g.met.T.Ord.total c.args.left.now c.args.right.now c.loop-entry.all.items c.in_ok-copy.field-0 c.in-Some.entry.now c.in_ok-copy.ensures
+    subst (λ zs. Merging g.T.Ord.cmp c.args.left.now c.args.right.now zs c.in-Some.more_xs.now
+    c.in-Some.more_ys.now) (sym c.in_ok-push.ensures.items)
+    (merging_step g.met.T.Ord.total c.args.left.now c.args.right.now c.loop-entry.all.items c.in_ok-copy.field-0
+    c.in-Some.entry.now c.in_ok-copy.ensures
     c.loop-entry.xs.now c.loop-entry.ys.now c.in-Some.more_xs.now c.in-Some.more_ys.now c.in-Some.ensures c.loop-entry.invariant)
 
 pub returns-clause-ascending : goal.returns-clause-ascending
@@ -24,4 +27,5 @@ pub returns-clause-has : goal.returns-clause-has
 returns-clause-has g c =
     merging_ends g.met.T.Ord.total c.args.left.now c.args.right.now c.loop-entry.all.items
     (subst (λ l. Merging g.T.Ord.cmp c.args.left.now c.args.right.now c.loop-entry.all.items l []) c.in_default.ensures.0
-    (subst (Merging g.T.Ord.cmp c.args.left.now c.args.right.now c.loop-entry.all.items c.loop-entry.xs.now) c.in_default.ensures.1 c.loop-entry.invariant))
+    (subst (Merging g.T.Ord.cmp c.args.left.now c.args.right.now c.loop-entry.all.items c.loop-entry.xs.now)
+    c.in_default.ensures.1 c.loop-entry.invariant))

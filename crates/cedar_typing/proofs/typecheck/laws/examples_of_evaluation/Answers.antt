@@ -1,4 +1,6 @@
-use Rattle.cedar_typing.proofs.Examples.Evaluation.{leaf_examples, test_examples, number_examples, equality_examples, set_examples, membership_examples, ancestor_examples, attribute_examples, tag_examples, pattern_examples, call_examples, order_examples}
+use Rattle.cedar_typing.proofs.Examples.Evaluation.{leaf_examples, test_examples, number_examples, equality_examples, set_examples}
+use Rattle.cedar_typing.proofs.Examples.Evaluation.{membership_examples, ancestor_examples, attribute_examples, tag_examples}
+use Rattle.cedar_typing.proofs.Examples.Evaluation.{pattern_examples, call_examples, order_examples}
 use Rattle.cedar_typing.proofs.typecheck.laws.examples_of_evaluation.Goals as goal
 
 pub returns : goal.returns

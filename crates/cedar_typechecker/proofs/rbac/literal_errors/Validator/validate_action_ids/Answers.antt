@@ -5,4 +5,6 @@ use Rattle.cedar_typechecker.proofs.Passes.{actions_left}
 use Rattle.cedar_typechecker.proofs.rbac.literal_errors.Validator.validate_action_ids.Goals as goal
 
 pub returns-clause-left : goal.returns-clause-left
-returns-clause-left c = actions_left (schema_of c.args.schema.now) (template_of c.args.template.now) (errors_left c.literal_errors.result) c.literal_errors.ensures.left
+returns-clause-left c =
+    actions_left (schema_of c.args.schema.now) (template_of c.args.template.now)
+    (errors_left c.literal_errors.result) c.literal_errors.ensures.left

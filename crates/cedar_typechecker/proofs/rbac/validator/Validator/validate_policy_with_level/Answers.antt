@@ -74,7 +74,8 @@ returns-clause-silent_in_permissive g c =
     let b = basis_in g.C.ArgumentCheck.refusal c.args.self.now c.args.mode in
     let extensions = c.args.self.now.extensions.now in
     let table = no_fault g.C.ArgumentCheck.refusal extensions.functions.items extensions.faultless in
-    (outcomes_are_kept_in_permissive b (template_of c.args.p.now) c.args.self.now.schema.faultless c.args.self.now.schema.formed table _ _ _ o).silent
+    (outcomes_are_kept_in_permissive b (template_of c.args.p.now) c.args.self.now.schema.faultless
+    c.args.self.now.schema.formed table _ _ _ o).silent
 
 pub returns-clause-never_true_in_permissive : goal.returns-clause-never_true_in_permissive
 unfolding schema_of functions_of schema_in extensions_in
@@ -83,4 +84,5 @@ returns-clause-never_true_in_permissive g c =
     let b = basis_in g.C.ArgumentCheck.refusal c.args.self.now c.args.mode in
     let extensions = c.args.self.now.extensions.now in
     let table = no_fault g.C.ArgumentCheck.refusal extensions.functions.items extensions.faultless in
-    (outcomes_are_kept_in_permissive b (template_of c.args.p.now) c.args.self.now.schema.faultless c.args.self.now.schema.formed table _ _ _ o).never_true
+    (outcomes_are_kept_in_permissive b (template_of c.args.p.now) c.args.self.now.schema.faultless
+    c.args.self.now.schema.formed table _ _ _ o).never_true

@@ -8,5 +8,7 @@ use Rattle.cedar_types.proofs.base.expressions.Expr.mentions_slot.Goals as goal
 pub loop-item-init : goal.loop-item-init
 loop-item-init g c =
     let whole = written c.args.self.now in
-    let left : expressions_left c.into_iter-item-iterator.result ≡ subexpressions whole = ap expressions_left c.into_iter-item-iterator.ensures.into_iter_gives ∙ c.in_ok-item-items.ensures.left in
+    let left : expressions_left c.into_iter-item-iterator.result
+    ≡ subexpressions whole = ap expressions_left c.into_iter-item-iterator.ensures.into_iter_gives
+    ∙ c.in_ok-item-items.ensures.left in
     ap (list_any (is_slot c.args.slot)) left ∙ slot_found c.args.slot whole

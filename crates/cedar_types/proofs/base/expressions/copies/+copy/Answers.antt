@@ -17,5 +17,7 @@ copy_fields-loop-key-preserved t c =
     let named : text_of c.in_ok-key.key ≡ text_of e.0 = c.in_ok-key.ensures.cases in (
       done ++ e ∷ [],
       all ∙ sym (append_assoc done (e ∷ []) left),
-      ap fields_written c.in_ok-insert.ensures.entries ∙ fields_insert l.copies.entries c.in_ok-key.key c.in_ok-copy_expr.field-0 ∙ rw (named, c.in_ok-copy_expr.ensures, l.invariant.2) last,
+      ap fields_written c.in_ok-insert.ensures.entries
+          ∙ fields_insert l.copies.entries c.in_ok-key.key c.in_ok-copy_expr.field-0
+          ∙ rw (named, c.in_ok-copy_expr.ensures, l.invariant.2) last,
     )

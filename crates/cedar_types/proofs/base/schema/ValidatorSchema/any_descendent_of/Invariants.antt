@@ -7,4 +7,6 @@ use Rattle.cedar_types.proofs.base.schema.ValidatorSchema.any_descendent_of.Give
 
 -- what is left decides
 abbrev pub invariant-loop-left : goal.invariant-loop-left
-invariant-loop-left l = any_may_be_in (schema_of l.self) (map type_of l.left-iterator) (lub_of l.rights) ≡ any_may_be_in (schema_of l.fn.self) (lub_of l.fn.lefts) (lub_of l.fn.rights)
+invariant-loop-left l =
+    any_may_be_in (schema_of l.self) (map type_of l.left-iterator) (lub_of l.rights)
+    ≡ any_may_be_in (schema_of l.fn.self) (lub_of l.fn.lefts) (lub_of l.fn.rights)

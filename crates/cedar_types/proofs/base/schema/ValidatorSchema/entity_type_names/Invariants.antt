@@ -5,4 +5,6 @@ use Rattle.cedar_types.proofs.base.schema.ValidatorSchema.entity_type_names.Give
 
 -- those so far
 abbrev pub invariant-loop-entity_type : goal.invariant-loop-entity_type
-invariant-loop-entity_type l = map (λ t. type_of t.now) l.listed.items ≡ map (λ t. t.name) (map declared_type (take l.entity_type-index l.entity_type-items))
+invariant-loop-entity_type l =
+    map (λ t. type_of t.now) l.listed.items
+    ≡ map (λ t. t.name) (map declared_type (take l.entity_type-index l.entity_type-items))

@@ -4,4 +4,5 @@ use Rattle.cedar_types.proofs.base.schema.ValidatorSchema.entity_types.Given as 
 
 -- those so far
 abbrev pub invariant-loop-entity_type : goal.invariant-loop-entity_type
-invariant-loop-entity_type l = map (λ t. declared_type t.now) l.listed.items ≡ map declared_type (take l.entity_type-index l.entity_type-items)
+invariant-loop-entity_type l =
+    map (λ t. declared_type t.now) l.listed.items ≡ map declared_type (take l.entity_type-index l.entity_type-items)

@@ -10,5 +10,6 @@ use Rattle.cedar_types.proofs.base.schema.ValidatorSchema.get_actions_in_set.Giv
 abbrev pub invariant-loop-action : goal.invariant-loop-action
 invariant-loop-action l = record {
   known : list_all (declares_action (schema_of l.self).actions) (map uid_of (take l.action-index l.actions)) ≡ true;
-  members : (u : Uid) → uid_is_among (map (λ k. uid_of k.now) l.within.keys) u ≡ uid_is_among (actions_within (schema_of l.self).actions (map uid_of (take l.action-index l.actions))) u;
+  members : (u : Uid) → uid_is_among (map (λ k. uid_of k.now) l.within.keys) u
+      ≡ uid_is_among (actions_within (schema_of l.self).actions (map uid_of (take l.action-index l.actions))) u;
 }

@@ -5,4 +5,6 @@ use Rattle.cedar_types.proofs.base.schema.ValidatorSchema.get_entity_types_in.Gi
 
 -- what is there, and then what is left
 abbrev pub invariant-loop-descendant : goal.invariant-loop-descendant
-invariant-loop-descendant l = map (λ t. type_of t.now) l.within.items ++ others (type_of l.entity_type) (map type_of l.descendant-iterator) ≡ type_of l.fn.entity_type ∷ others (type_of l.fn.entity_type) (map type_of l.initial.descendant-iterator)
+invariant-loop-descendant l =
+    map (λ t. type_of t.now) l.within.items ++ others (type_of l.entity_type) (map type_of l.descendant-iterator)
+    ≡ type_of l.fn.entity_type ∷ others (type_of l.fn.entity_type) (map type_of l.initial.descendant-iterator)

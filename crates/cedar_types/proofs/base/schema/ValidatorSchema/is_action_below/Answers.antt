@@ -12,13 +12,18 @@ pub returns-then-are_action_types : goal.returns-then-are_action_types
 unfolding schema_of
 returns-then-are_action_types c =
     c.has_action_below.ensures
-    ∙ any_mapped declared_action (λ a. path_eq (type_of c.args.right.now) a.name.entity_type && list_any (λ d. path_eq (type_of c.args.left.now) d.entity_type) a.descendants) c.args.self.now.actions.declared.items
-    ∙ ap (λ b. b && below_seen (actions_in c.args.self.now.actions) (type_of c.args.left.now) (type_of c.args.right.now)) (sym c.if-are_action_types.true ∙ c.are_action_types.ensures)
+    ∙ any_mapped declared_action
+    (λ a. path_eq (type_of c.args.right.now) a.name.entity_type
+    && list_any (λ d. path_eq (type_of c.args.left.now) d.entity_type) a.descendants)
+    c.args.self.now.actions.declared.items
+    ∙ ap (λ b. b && below_seen (actions_in c.args.self.now.actions) (type_of c.args.left.now)
+    (type_of c.args.right.now)) (sym c.if-are_action_types.true ∙ c.are_action_types.ensures)
     ∙ below_is (schema_of c.args.self.now) c.args.self.now.faultless (type_of c.args.left.now) (type_of c.args.right.now)
 
 pub returns-else-are_action_types : goal.returns-else-are_action_types
 unfolding schema_of
 returns-else-are_action_types c =
     c.if-are_action_types.false
-    ∙ ap (λ b. b && below_seen (actions_in c.args.self.now.actions) (type_of c.args.left.now) (type_of c.args.right.now)) (sym c.if-are_action_types.false ∙ c.are_action_types.ensures)
+    ∙ ap (λ b. b && below_seen (actions_in c.args.self.now.actions) (type_of c.args.left.now)
+    (type_of c.args.right.now)) (sym c.if-are_action_types.false ∙ c.are_action_types.ensures)
     ∙ below_is (schema_of c.args.self.now) c.args.self.now.faultless (type_of c.args.left.now) (type_of c.args.right.now)

@@ -8,4 +8,6 @@ use Rattle.cedar_types.proofs.base.schema.ValidatorSchema.may_be_in_any.Given as
 
 -- what is left decides
 abbrev pub invariant-loop-right : goal.invariant-loop-right
-invariant-loop-right l = list_any (may_be_in (schema_of l.self) (type_of l.left)) (map type_of l.right-iterator) ≡ list_any (may_be_in (schema_of l.fn.self) (type_of l.fn.left)) (lub_of l.fn.rights)
+invariant-loop-right l =
+    list_any (may_be_in (schema_of l.self) (type_of l.left)) (map type_of l.right-iterator)
+    ≡ list_any (may_be_in (schema_of l.fn.self) (type_of l.fn.left)) (lub_of l.fn.rights)

@@ -14,32 +14,50 @@ returns-then-is_some c =
     let key = uid_of c.in_ok-name.name in
     let named : key ≡ uid_of c.index-declared-place.result.name = ap (λ u. u.uid) c.in_ok-name.ensures.cases in
     let is_old : is_some c.in_ok-insert.field-0 ≡ true = sym c.is_some.ensures ∙ c.if-is_some.true in
-    let among : list_any (λ t. uid_eq (uid_of c.index-declared-place.result.name) (uid_of t.name)) (take c.loop-place.place c.args.declared.now) ≡ true =
+    let among : list_any (λ t. uid_eq (uid_of c.index-declared-place.result.name) (uid_of t.name))
+    (take c.loop-place.place c.args.declared.now) ≡ true =
     ap (λ k. list_any (λ t. uid_eq k (uid_of t.name)) (take c.loop-place.place c.args.declared.now)) (sym named)
     ∙ sym (any_placed (λ t. uid_eq key (uid_of t.name)) (take c.loop-place.place c.args.declared.now))
-    ∙ ap is_some (sym (c.in_ok-insert.ensures.old ∙ uid_lookup _ key (λ k. uids_cmp c.in_ok-name.name k) c.loop-place.places.entries ∙ c.loop-place.invariant.placed c.in_ok-name.name))
+    ∙ ap is_some
+    (sym (c.in_ok-insert.ensures.old
+    ∙ uid_lookup _ key (λ k. uids_cmp c.in_ok-name.name k) c.loop-place.places.entries
+    ∙ c.loop-place.invariant.placed c.in_ok-name.name))
     ∙ is_old in
-    repeat_found declared_action (λ t u. uid_eq t.name u.name) (λ t u. uid_symm t.name u.name) c.args.declared.now c.loop-place.place c.index-declared-place.result c.loop-place-test.true c.index-declared-place.is among
+    repeat_found declared_action (λ t u. uid_eq t.name u.name) (λ t u. uid_symm t.name u.name)
+    c.args.declared.now c.loop-place.place c.index-declared-place.result c.loop-place-test.true
+    c.index-declared-place.is among
 
 pub loop-place-preserved : goal.loop-place-preserved
 loop-place-preserved c =
     let key = uid_of c.in_ok-name.name in
     let named : key ≡ uid_of c.index-declared-place.result.name = ap (λ u. u.uid) c.in_ok-name.ensures.cases in
     let before = take c.loop-place.place c.args.declared.now in
-    let old : action_place c.loop-place.places.entries key ≡ None = sym (c.in_ok-insert.ensures.old ∙ uid_lookup _ key (λ k. uids_cmp c.in_ok-name.name k) c.loop-place.places.entries) ∙ is_none c.in_ok-insert.field-0 (sym c.is_some.ensures ∙ c.if-is_some.false) in
+    let old : action_place c.loop-place.places.entries key ≡ None = sym (c.in_ok-insert.ensures.old
+    ∙ uid_lookup _ key (λ k. uids_cmp c.in_ok-name.name k) c.loop-place.places.entries)
+    ∙ is_none c.in_ok-insert.field-0 (sym c.is_some.ensures ∙ c.if-is_some.false) in
     let not_among : list_any (λ t. uid_eq (uid_of c.index-declared-place.result.name) (uid_of t.name)) before ≡ false =
     ap (λ k. list_any (λ t. uid_eq k (uid_of t.name)) before) (sym named)
     ∙ sym (any_placed (λ t. uid_eq key (uid_of t.name)) before)
     ∙ ap is_some (sym (c.loop-place.invariant.placed c.in_ok-name.name) ∙ old) in
     record {
       placed = λ q.
-          placed_next uid_eq (λ t. uid_of t.name) (uid_of q) key before c.index-declared-place.result c.loop-place.place (action_place c.loop-place.places.entries (uid_of q)) (action_place c.insert.new.self.entries (uid_of q)) uid_decides named
+          placed_next uid_eq (λ t. uid_of t.name) (uid_of q) key before c.index-declared-place.result
+          c.loop-place.place (action_place c.loop-place.places.entries (uid_of q))
+          (action_place c.insert.new.self.entries (uid_of q)) uid_decides named
           (sym (uid_lookup _ (uid_of q) (λ k. uids_cmp q k) c.insert.new.self.entries)
           ∙ c.in_ok-insert.ensures.updates.0 q
-          ∙ (λ j. cond ((ap is_eq (uids_cmp c.in_ok-name.name q) ∙ sym (uid_ties key (uid_of q))) j) (Some c.loop-place.place) (uid_lookup _ (uid_of q) (λ k. uids_cmp q k) c.loop-place.places.entries j)))
+          ∙ (λ j. cond ((ap is_eq (uids_cmp c.in_ok-name.name q) ∙ sym (uid_ties key (uid_of q))) j)
+          (Some c.loop-place.place)
+          (uid_lookup _ (uid_of q) (λ k. uids_cmp q k) c.loop-place.places.entries j)))
           (c.loop-place.invariant.placed q)
           (λ h. ap (action_place c.loop-place.places.entries) (sym ((uid_decides key (uid_of q)).0 h)) ∙ old)
           (sym (length-take-le c.loop-place.place c.args.declared.now (omega arith)))
-          ∙ ap (place_in (λ t. uid_eq (uid_of q) (uid_of t.name))) (ap (λ t. before ++ t ∷ []) c.index-declared-place.is ∙ sym (take_more c.args.declared.now c.loop-place.place c.index-declared-place.result c.loop-place-test.true));
-      apart = repeat_not_found declared_action (λ t u. uid_eq t.name u.name) (λ t u. uid_symm t.name u.name) c.args.declared.now c.loop-place.place c.index-declared-place.result c.loop-place-test.true c.index-declared-place.is not_among c.loop-place.invariant.apart;
+          ∙ ap (place_in (λ t. uid_eq (uid_of q) (uid_of t.name)))
+          (ap (λ t. before ++ t ∷ []) c.index-declared-place.is
+          ∙ sym (take_more c.args.declared.now c.loop-place.place c.index-declared-place.result
+          c.loop-place-test.true));
+      apart =
+          repeat_not_found declared_action (λ t u. uid_eq t.name u.name) (λ t u. uid_symm t.name u.name)
+          c.args.declared.now c.loop-place.place c.index-declared-place.result c.loop-place-test.true
+          c.index-declared-place.is not_among c.loop-place.invariant.apart;
     }

@@ -16,6 +16,12 @@ returns c =
     let items = c.args.actions.now.declared.items in
     let seen = c.deref-action-items.result.now in
     let kept : list_all (λ x. actions_are_kept declared (uids_of x.descendants)) items ≡ true =
-    ap (list_all (λ x. actions_are_kept declared (uids_of x.descendants))) (sym (take_all c.loop-action.action-index seen (omega arith) ∙ c.deref-action-items.ensures.value)) ∙ c.loop-action.invariant in
-    sym (sym (list_all-map (λ x. list_all (λ d. list_all (uid_is_among x.descendants) (descendants_of_action declared d)) x.descendants) declared_action items)
-    ∙ kept_closed uid_eq uid_decides (λ x. x.descendants) (descendants_of_action declared) declared (list_all-map (λ x. actions_are_kept declared x.descendants) declared_action items ∙ kept))
+    ap (list_all (λ x. actions_are_kept declared (uids_of x.descendants)))
+    (sym (take_all c.loop-action.action-index seen (omega arith) ∙ c.deref-action-items.ensures.value))
+    ∙ c.loop-action.invariant in
+    sym
+    (sym
+    (list_all-map (λ x. list_all (λ d. list_all (uid_is_among x.descendants) (descendants_of_action declared d))
+    x.descendants) declared_action items)
+    ∙ kept_closed uid_eq uid_decides (λ x. x.descendants) (descendants_of_action declared) declared
+    (list_all-map (λ x. actions_are_kept declared x.descendants) declared_action items ∙ kept))

@@ -7,4 +7,6 @@ use Rattle.cedar_types.proofs.base.schema.closures.are_actions_closed.Given as g
 
 -- those so far are kept
 abbrev pub invariant-loop-action : goal.invariant-loop-action
-invariant-loop-action l = list_all (λ x. actions_are_kept (actions_in l.actions) (uids_of x.descendants)) (take l.action-index l.action-items) ≡ true
+invariant-loop-action l =
+    list_all (λ x. actions_are_kept (actions_in l.actions) (uids_of x.descendants))
+    (take l.action-index l.action-items) ≡ true

@@ -8,4 +8,10 @@ use Rattle.cedar_types.proofs.base.schema.closures.are_other_types_closed.Given 
 
 -- what is left decides
 abbrev pub invariant-loop-descendant : goal.invariant-loop-descendant
-invariant-loop-descendant l = list_all (λ d. is_among (types_of l.closed) d || list_all (is_among (types_of l.descendants)) (descendants_of (types_in l.types) d)) (map type_of l.descendant-iterator) ≡ list_all (λ d. is_among (types_of l.fn.closed) d || list_all (is_among (types_of l.fn.descendants)) (descendants_of (types_in l.fn.types) d)) (types_of l.fn.descendants)
+invariant-loop-descendant l =
+    list_all (λ d. is_among (types_of l.closed) d
+    || list_all (is_among (types_of l.descendants)) (descendants_of (types_in l.types) d))
+    (map type_of l.descendant-iterator)
+    ≡ list_all (λ d. is_among (types_of l.fn.closed) d
+    || list_all (is_among (types_of l.fn.descendants)) (descendants_of (types_in l.fn.types) d))
+    (types_of l.fn.descendants)

@@ -17,6 +17,12 @@ returns c =
     let items = c.args.types.now.declared.items in
     let seen = c.deref-entity_type-items.result.now in
     let kept : list_all (λ x. types_are_kept declared (types_of x.descendants)) items ≡ true =
-    ap (list_all (λ x. types_are_kept declared (types_of x.descendants))) (sym (take_all c.loop-entity_type.entity_type-index seen (omega arith) ∙ c.deref-entity_type-items.ensures.value)) ∙ c.loop-entity_type.invariant in
-    sym (sym (list_all-map (λ x. list_all (λ d. list_all (is_among x.descendants) (descendants_of declared d)) x.descendants) declared_type items)
-    ∙ kept_closed path_eq path_decides (λ x. x.descendants) (descendants_of declared) declared (list_all-map (λ x. types_are_kept declared x.descendants) declared_type items ∙ kept))
+    ap (list_all (λ x. types_are_kept declared (types_of x.descendants)))
+    (sym (take_all c.loop-entity_type.entity_type-index seen (omega arith)
+    ∙ c.deref-entity_type-items.ensures.value)) ∙ c.loop-entity_type.invariant in
+    sym
+    (sym
+    (list_all-map (λ x. list_all (λ d. list_all (is_among x.descendants) (descendants_of declared d))
+    x.descendants) declared_type items)
+    ∙ kept_closed path_eq path_decides (λ x. x.descendants) (descendants_of declared) declared
+    (list_all-map (λ x. types_are_kept declared x.descendants) declared_type items ∙ kept))

@@ -7,4 +7,6 @@ use Rattle.cedar_types.proofs.base.schema.closures.are_types_closed.Given as goa
 
 -- those so far are kept
 abbrev pub invariant-loop-entity_type : goal.invariant-loop-entity_type
-invariant-loop-entity_type l = list_all (λ x. types_are_kept (types_in l.types) (types_of x.descendants)) (take l.entity_type-index l.entity_type-items) ≡ true
+invariant-loop-entity_type l =
+    list_all (λ x. types_are_kept (types_in l.types) (types_of x.descendants))
+    (take l.entity_type-index l.entity_type-items) ≡ true

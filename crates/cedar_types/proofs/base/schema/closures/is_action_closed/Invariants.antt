@@ -8,4 +8,8 @@ use Rattle.cedar_types.proofs.base.schema.closures.is_action_closed.Given as goa
 
 -- what is left decides
 abbrev pub invariant-loop-descendant : goal.invariant-loop-descendant
-invariant-loop-descendant l = list_all (λ d. list_all (uid_is_among (uids_of l.descendants)) (descendants_of_action (actions_in l.actions) d)) (map uid_of l.descendant-iterator) ≡ list_all (λ d. list_all (uid_is_among (uids_of l.fn.descendants)) (descendants_of_action (actions_in l.fn.actions) d)) (uids_of l.fn.descendants)
+invariant-loop-descendant l =
+    list_all (λ d. list_all (uid_is_among (uids_of l.descendants)) (descendants_of_action (actions_in l.actions) d))
+    (map uid_of l.descendant-iterator)
+    ≡ list_all (λ d. list_all (uid_is_among (uids_of l.fn.descendants))
+    (descendants_of_action (actions_in l.fn.actions) d)) (uids_of l.fn.descendants)

@@ -24,8 +24,12 @@ returns-then-has_all_actions-clause-closed c = λ h.
     let widest = declared_action c.in-Some.widest.now in
     let all = uids_of c.args.descendants.now in
     c.are_other_actions_closed.ensures
-    ∙ and_right (list_all (uid_is_among all) widest.descendants) (list_all (λ d. uid_is_among widest.descendants d || list_all (uid_is_among all) (descendants_of_action declared d)) all)
-    (closed_widest uid_eq uid_decides (λ x. x.descendants) (descendants_of_action declared) declared all widest widest.name (ap action_descendants c.in-Some.ensures.declared) c.in-Some.ensures.among h)
+    ∙ and_right (list_all (uid_is_among all) widest.descendants)
+    (list_all (λ d. uid_is_among widest.descendants d
+    || list_all (uid_is_among all) (descendants_of_action declared d)) all)
+    (closed_widest uid_eq uid_decides (λ x. x.descendants) (descendants_of_action declared)
+    declared all widest widest.name (ap action_descendants c.in-Some.ensures.declared)
+    c.in-Some.ensures.among h)
 
 pub returns-else-has_all_actions-clause-closed : goal.returns-else-has_all_actions-clause-closed
 returns-else-has_all_actions-clause-closed c = λ h.
@@ -33,10 +37,15 @@ returns-else-has_all_actions-clause-closed c = λ h.
     let widest = declared_action c.in-Some.widest.now in
     let all = uids_of c.args.descendants.now in
     c.has_all_actions.ensures
-    ∙ and_left (list_all (uid_is_among all) widest.descendants) (list_all (λ d. uid_is_among widest.descendants d || list_all (uid_is_among all) (descendants_of_action declared d)) all)
-    (closed_widest uid_eq uid_decides (λ x. x.descendants) (descendants_of_action declared) declared all widest widest.name (ap action_descendants c.in-Some.ensures.declared) c.in-Some.ensures.among h)
+    ∙ and_left (list_all (uid_is_among all) widest.descendants)
+    (list_all (λ d. uid_is_among widest.descendants d
+    || list_all (uid_is_among all) (descendants_of_action declared d)) all)
+    (closed_widest uid_eq uid_decides (λ x. x.descendants) (descendants_of_action declared)
+    declared all widest widest.name (ap action_descendants c.in-Some.ensures.declared)
+    c.in-Some.ensures.among h)
 
 pub returns-in-None-clause-kept : goal.returns-in-None-clause-kept
 returns-in-None-clause-kept c = λ h.
     let declared = actions_in c.args.actions.now in
-    closed_kept uid_eq uid_decides (λ x. x.descendants) (descendants_of_action declared) declared (uids_of c.args.descendants.now) (sym c.is_action_closed.ensures ∙ h)
+    closed_kept uid_eq uid_decides (λ x. x.descendants) (descendants_of_action declared) declared
+    (uids_of c.args.descendants.now) (sym c.is_action_closed.ensures ∙ h)

@@ -25,8 +25,10 @@ returns-then-has_all_types-clause-closed c = λ h.
     let widest = declared_type c.in-Some.widest.now in
     let all = types_of c.args.descendants.now in
     c.are_other_types_closed.ensures
-    ∙ and_right (list_all (is_among all) widest.descendants) (list_all (λ d. is_among widest.descendants d || list_all (is_among all) (descendants_of declared d)) all)
-    (closed_widest path_eq path_decides (λ x. x.descendants) (descendants_of declared) declared all widest widest.name (ap type_descendants c.in-Some.ensures.declared) c.in-Some.ensures.among h)
+    ∙ and_right (list_all (is_among all) widest.descendants)
+    (list_all (λ d. is_among widest.descendants d || list_all (is_among all) (descendants_of declared d)) all)
+    (closed_widest path_eq path_decides (λ x. x.descendants) (descendants_of declared)
+    declared all widest widest.name (ap type_descendants c.in-Some.ensures.declared) c.in-Some.ensures.among h)
 
 pub returns-else-has_all_types-clause-closed : goal.returns-else-has_all_types-clause-closed
 returns-else-has_all_types-clause-closed c = λ h.
@@ -34,10 +36,13 @@ returns-else-has_all_types-clause-closed c = λ h.
     let widest = declared_type c.in-Some.widest.now in
     let all = types_of c.args.descendants.now in
     c.has_all_types.ensures
-    ∙ and_left (list_all (is_among all) widest.descendants) (list_all (λ d. is_among widest.descendants d || list_all (is_among all) (descendants_of declared d)) all)
-    (closed_widest path_eq path_decides (λ x. x.descendants) (descendants_of declared) declared all widest widest.name (ap type_descendants c.in-Some.ensures.declared) c.in-Some.ensures.among h)
+    ∙ and_left (list_all (is_among all) widest.descendants)
+    (list_all (λ d. is_among widest.descendants d || list_all (is_among all) (descendants_of declared d)) all)
+    (closed_widest path_eq path_decides (λ x. x.descendants) (descendants_of declared)
+    declared all widest widest.name (ap type_descendants c.in-Some.ensures.declared) c.in-Some.ensures.among h)
 
 pub returns-in-None-clause-kept : goal.returns-in-None-clause-kept
 returns-in-None-clause-kept c = λ h.
     let declared = types_in c.args.types.now in
-    closed_kept path_eq path_decides (λ x. x.descendants) (descendants_of declared) declared (types_of c.args.descendants.now) (sym c.is_type_closed.ensures ∙ h)
+    closed_kept path_eq path_decides (λ x. x.descendants) (descendants_of declared) declared
+    (types_of c.args.descendants.now) (sym c.is_type_closed.ensures ∙ h)

@@ -8,4 +8,8 @@ use Rattle.cedar_types.proofs.base.schema.environments.add_action.Given as goal
 
 -- what is there, and then those of the principal types that are left
 abbrev pub invariant-loop-principal : goal.invariant-loop-principal
-invariant-loop-principal l = map declared_env l.environments.items ++ flat_map (principal_environments (uid_of l.action) (ty_of l.applies_to.context.value) (types_of l.applies_to.resource_apply_spec)) (map type_of l.principal-iterator) ≡ map declared_env l.fn.environments.items ++ action_environments (uid_of l.fn.action) (Some (application l.fn.applies_to))
+invariant-loop-principal l =
+    map declared_env l.environments.items ++ flat_map (principal_environments (uid_of l.action)
+    (ty_of l.applies_to.context.value) (types_of l.applies_to.resource_apply_spec))
+    (map type_of l.principal-iterator) ≡ map declared_env l.fn.environments.items
+    ++ action_environments (uid_of l.fn.action) (Some (application l.fn.applies_to))

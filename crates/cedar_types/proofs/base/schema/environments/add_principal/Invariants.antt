@@ -6,4 +6,9 @@ use Rattle.cedar_types.proofs.base.schema.environments.add_principal.Given as go
 
 -- what is there, and then those of the resource types that are left
 abbrev pub invariant-loop-resource : goal.invariant-loop-resource
-invariant-loop-resource l = map declared_env l.environments.items ++ principal_environments (uid_of l.action) (ty_of l.applies_to.context.value) (map type_of l.resource-iterator) (type_of l.principal) ≡ map declared_env l.fn.environments.items ++ principal_environments (uid_of l.fn.action) (ty_of l.fn.applies_to.context.value) (types_of l.fn.applies_to.resource_apply_spec) (type_of l.fn.principal)
+invariant-loop-resource l =
+    map declared_env l.environments.items
+    ++ principal_environments (uid_of l.action) (ty_of l.applies_to.context.value) (map type_of l.resource-iterator)
+    (type_of l.principal) ≡ map declared_env l.fn.environments.items
+    ++ principal_environments (uid_of l.fn.action) (ty_of l.fn.applies_to.context.value)
+    (types_of l.fn.applies_to.resource_apply_spec) (type_of l.fn.principal)

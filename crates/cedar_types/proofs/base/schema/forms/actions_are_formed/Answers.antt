@@ -11,7 +11,9 @@ loop-action-preserved c =
     let i = c.loop-action.action-index in
     let x = c.action-item.result in
     let here : i < length c.args.actions.now = omega arith in
-    let left = list_all (λ (a : DeclaredAction). application_is_formed a.applies_to) (map declared_action (drop (i + 1) c.args.actions.now)) in
+    let left = list_all (λ (a : DeclaredAction). application_is_formed a.applies_to)
+    (map declared_action (drop (i + 1) c.args.actions.now)) in
     ap (λ b. b && left) (sym c.applications_are_formed.ensures)
-    ∙ ap (λ ts. list_all (λ (a : DeclaredAction). application_is_formed a.applies_to) (map declared_action ts)) (sym (next_item c.args.actions.now i x here c.action-item.is))
+    ∙ ap (λ ts. list_all (λ (a : DeclaredAction). application_is_formed a.applies_to) (map declared_action ts))
+    (sym (next_item c.args.actions.now i x here c.action-item.is))
     ∙ c.loop-action.invariant

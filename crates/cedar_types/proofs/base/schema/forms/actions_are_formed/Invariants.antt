@@ -8,4 +8,6 @@ use Rattle.cedar_types.proofs.base.schema.forms.actions_are_formed.Given as goal
 -- what is left decides
 abbrev pub invariant-loop-action : goal.invariant-loop-action
 invariant-loop-action l =
-    list_all (λ (a : DeclaredAction). application_is_formed a.applies_to) (map declared_action (drop l.action-index l.actions)) ≡ list_all (λ (a : DeclaredAction). application_is_formed a.applies_to) (map declared_action l.fn.actions)
+    list_all (λ (a : DeclaredAction). application_is_formed a.applies_to)
+    (map declared_action (drop l.action-index l.actions))
+    ≡ list_all (λ (a : DeclaredAction). application_is_formed a.applies_to) (map declared_action l.fn.actions)

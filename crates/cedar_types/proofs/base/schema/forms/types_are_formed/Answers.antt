@@ -13,5 +13,6 @@ loop-entity_type-preserved c =
     let here : i < length c.args.types.now = omega arith in
     let left = list_all (λ (t : DeclaredType). kind_is_formed t.kind) (map declared_type (drop (i + 1) c.args.types.now)) in
     ap (λ b. b && left) (sym c.kinds_are_formed.ensures)
-    ∙ ap (λ ts. list_all (λ (t : DeclaredType). kind_is_formed t.kind) (map declared_type ts)) (sym (next_item c.args.types.now i x here c.entity_type-item.is))
+    ∙ ap (λ ts. list_all (λ (t : DeclaredType). kind_is_formed t.kind) (map declared_type ts))
+    (sym (next_item c.args.types.now i x here c.entity_type-item.is))
     ∙ c.loop-entity_type.invariant

@@ -8,4 +8,5 @@ use Rattle.cedar_types.proofs.base.schema.forms.types_are_formed.Given as goal
 -- what is left decides
 abbrev pub invariant-loop-entity_type : goal.invariant-loop-entity_type
 invariant-loop-entity_type l =
-    list_all (λ (t : DeclaredType). kind_is_formed t.kind) (map declared_type (drop l.entity_type-index l.types)) ≡ list_all (λ (t : DeclaredType). kind_is_formed t.kind) (map declared_type l.fn.types)
+    list_all (λ (t : DeclaredType). kind_is_formed t.kind) (map declared_type (drop l.entity_type-index l.types))
+    ≡ list_all (λ (t : DeclaredType). kind_is_formed t.kind) (map declared_type l.fn.types)

@@ -7,4 +7,7 @@ use Rattle.cedar_types.proofs.base.schema.lookups.types_lookup.Given as goal
 
 -- what was found, joined with what the types that are left declare
 abbrev pub invariant-loop-entity_type : goal.invariant-loop-entity_type
-invariant-loop-entity_type l = fold (λ found q. joined_attribute found (declared_attribute (schema_of l.schema).types (text_of l.attr) q)) (option_map attribute_view l.found) (map type_of l.entity_type-iterator) ≡ types_attribute (schema_of l.fn.schema).types (text_of l.fn.attr) (lub_of l.fn.lub)
+invariant-loop-entity_type l =
+    fold (λ found q. joined_attribute found (declared_attribute (schema_of l.schema).types (text_of l.attr) q))
+    (option_map attribute_view l.found) (map type_of l.entity_type-iterator)
+    ≡ types_attribute (schema_of l.fn.schema).types (text_of l.fn.attr) (lub_of l.fn.lub)

@@ -8,4 +8,6 @@ use Rattle.cedar_types.proofs.base.schema.lookups.types_may_have.Given as goal
 
 -- what is left decides
 abbrev pub invariant-loop-entity_type : goal.invariant-loop-entity_type
-invariant-loop-entity_type l = list_any (may_declare (schema_of l.schema).types (text_of l.attr)) (map type_of l.entity_type-iterator) ≡ list_any (may_declare (schema_of l.fn.schema).types (text_of l.fn.attr)) (lub_of l.fn.lub)
+invariant-loop-entity_type l =
+    list_any (may_declare (schema_of l.schema).types (text_of l.attr)) (map type_of l.entity_type-iterator)
+    ≡ list_any (may_declare (schema_of l.fn.schema).types (text_of l.fn.attr)) (lub_of l.fn.lub)

@@ -6,4 +6,6 @@ use Rattle.cedar_types.proofs.base.schema.memberships.has_action_of.Given as goa
 
 -- what is left decides
 abbrev pub invariant-loop-action : goal.invariant-loop-action
-invariant-loop-action l = list_any (λ d. path_eq (type_of l.name) d.entity_type) (map uid_of l.action-iterator) ≡ list_any (λ d. path_eq (type_of l.fn.name) d.entity_type) (uids_of l.fn.actions)
+invariant-loop-action l =
+    list_any (λ d. path_eq (type_of l.name) d.entity_type) (map uid_of l.action-iterator)
+    ≡ list_any (λ d. path_eq (type_of l.fn.name) d.entity_type) (uids_of l.fn.actions)

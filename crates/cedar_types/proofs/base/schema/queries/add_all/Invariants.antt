@@ -6,4 +6,7 @@ use Rattle.cedar_types.proofs.base.schema.queries.add_all.Given as goal
 
 -- what is there, with what is left, is all
 abbrev pub invariant-loop-other : goal.invariant-loop-other
-invariant-loop-other l = (u : Uid) → (uid_is_among (map (λ k. uid_of k.now) l.actions.keys) u || uid_is_among (map uid_of l.other-iterator) u) ≡ (uid_is_among (map (λ k. uid_of k.now) l.fn.actions.keys) u || uid_is_among (uids_of l.fn.others) u)
+invariant-loop-other l =
+    (u : Uid) → (uid_is_among (map (λ k. uid_of k.now) l.actions.keys) u
+    || uid_is_among (map uid_of l.other-iterator) u) ≡ (uid_is_among (map (λ k. uid_of k.now) l.fn.actions.keys) u
+    || uid_is_among (uids_of l.fn.others) u)

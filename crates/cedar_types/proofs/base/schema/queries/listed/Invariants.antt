@@ -4,4 +4,6 @@ use Rattle.cedar_types.proofs.base.schema.queries.listed.Given as goal
 
 -- what is listed, and then what is left
 abbrev pub invariant-loop-action : goal.invariant-loop-action
-invariant-loop-action l = map (λ k. uid_of k.now) l.all.items ++ map (λ k. uid_of k.now) l.action-iterator ≡ map (λ k. uid_of k.now) l.fn.actions.keys
+invariant-loop-action l =
+    map (λ k. uid_of k.now) l.all.items ++ map (λ k. uid_of k.now) l.action-iterator
+    ≡ map (λ k. uid_of k.now) l.fn.actions.keys

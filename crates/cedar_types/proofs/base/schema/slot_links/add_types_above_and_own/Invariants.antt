@@ -8,5 +8,8 @@ use Rattle.cedar_types.proofs.base.schema.slot_links.add_types_above_and_own.Giv
 -- what was added, and those above among the types that are left
 abbrev pub invariant-loop-declared : goal.invariant-loop-declared
 invariant-loop-declared l =
-    map link_of l.links.items ++ map (λ p. Some p) (types_above (map declared_type (drop l.declared-index l.declared-items)) (type_of l.own))
-    ≡ map link_of l.initial.links.items ++ map (λ p. Some p) (types_above (map declared_type l.initial.schema.types.declared.items) (type_of l.own))
+    map link_of l.links.items
+    ++ map (λ p. Some p) (types_above (map declared_type (drop l.declared-index l.declared-items))
+    (type_of l.own))
+    ≡ map link_of l.initial.links.items
+    ++ map (λ p. Some p) (types_above (map declared_type l.initial.schema.types.declared.items) (type_of l.own))

@@ -6,4 +6,6 @@ use Rattle.cedar_types.proofs.base.schema.type_faults.+names.Given as goal
 
 -- what is left decides
 abbrev pub invariant-attribute_names_known-loop-name : goal.invariant-attribute_names_known-loop-name
-invariant-attribute_names_known-loop-name l = attr_names_pass (knows_type (types_in l.types)) (entries_of l._name-iterator) ≡ attr_names_pass (knows_type (types_in l.fn.types)) (attributes_of l.fn.attributes)
+invariant-attribute_names_known-loop-name l =
+    attr_names_pass (knows_type (types_in l.types)) (entries_of l._name-iterator)
+    ≡ attr_names_pass (knows_type (types_in l.fn.types)) (attributes_of l.fn.attributes)

@@ -6,7 +6,9 @@ use Rattle.cedar_types.specs.Types.{Ty, ty_of}
 use Rattle.cedar_types.proofs.Attributes.Records.{found_in}
 use Rattle.cedar_types.proofs.base.types.Attributes.get_attr.Goals as goal
 
-shown : (r : Option (Bor AttributeType)) → option_map {U = Ty × Bool} (λ a. (ty_of a.now.attr_type, a.now.is_required)) r ≡ option_map {U = Ty × Bool} (λ a. (ty_of a.attr_type, a.is_required)) (option_copied r)
+shown : (r : Option (Bor AttributeType))
+    → option_map {U = Ty × Bool} (λ a. (ty_of a.now.attr_type, a.now.is_required)) r
+    ≡ option_map {U = Ty × Bool} (λ a. (ty_of a.attr_type, a.is_required)) (option_copied r)
 shown None = refl
 shown (Some a) = refl
 

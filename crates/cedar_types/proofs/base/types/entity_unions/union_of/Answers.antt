@@ -7,8 +7,11 @@ use Rattle.cedar_types.proofs.base.types.entity_unions.union_of.Goals as goal
 
 pub loop-y-init : goal.loop-y-init
 loop-y-init c =
-    ap (λ ks. union ks (map type_of c.into_iter-y-iterator.result)) (clones_alike type_of c.args.xs.now.keys c.in_ok-all.all.keys (λ x y e. ap (λ p. p.name) e) c.in_ok-all.ensures.cases)
-    ∙ ap (λ ks. union (types_of c.args.xs.now) (map type_of ks)) (c.into_iter-y-iterator.ensures.into_iter_gives ∙ c.iter-y-items.ensures.rest)
+    ap (λ ks. union ks (map type_of c.into_iter-y-iterator.result))
+    (clones_alike type_of c.args.xs.now.keys c.in_ok-all.all.keys (λ x y e. ap (λ p. p.name) e)
+    c.in_ok-all.ensures.cases)
+    ∙ ap (λ ks. union (types_of c.args.xs.now) (map type_of ks))
+    (c.into_iter-y-iterator.ensures.into_iter_gives ∙ c.iter-y-items.ensures.rest)
 
 pub loop-y-preserved : goal.loop-y-preserved
 loop-y-preserved c =

@@ -20,5 +20,6 @@ loop-shown-preserved c =
 
 pub returns : goal.returns
 returns c =
-    let none_left = nil_from_length c.loop-shown.shown-iterator.rest.items (sym c.loop-shown.shown-iterator.rest.ok.0 ∙ c.in-None.ensures.steps.0) in
+    let none_left = nil_from_length c.loop-shown.shown-iterator.rest.items
+    (sym c.loop-shown.shown-iterator.rest.ok.0 ∙ c.in-None.ensures.steps.0) in
     ap (λ ts. insert_tys (map ty_of c.loop-shown.all.keys) (map ty_of ts)) (sym none_left) ∙ c.loop-shown.invariant

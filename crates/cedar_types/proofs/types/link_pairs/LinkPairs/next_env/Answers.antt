@@ -20,7 +20,9 @@ returns-clause-next c =
     let s = c.args.self.now in
     elim c.if-self-len.branch [
       | then-self-len w ↦ rw w.self-is (rw c.in_ok-principal_slot.ensures (rw c.in_ok-resource_slot.ensures
-          (step_in_row s.place s.principals.items s.resources.items s.principal_at s.resource_at c.index.result.now c.index-2.result.now (search rules) (search rules) (search rules) (search rules) (search rules))))
+          (step_in_row s.place s.principals.items s.resources.items s.principal_at s.resource_at c.index.result.now
+          c.index-2.result.now (search rules) (search rules) (search rules) (search rules) (search rules))))
       | else-self-len w ↦ rw w.self-is (rw c.in_ok-principal_slot.ensures (rw c.in_ok-resource_slot.ensures
-          (step_row_end s.place s.principals.items s.resources.items s.principal_at s.resource_at c.index.result.now c.index-2.result.now (search rules) (search rules) (search rules) (search rules) (search rules))))
+          (step_row_end s.place s.principals.items s.resources.items s.principal_at s.resource_at c.index.result.now
+          c.index-2.result.now (search rules) (search rules) (search rules) (search rules) (search rules))))
     ]

@@ -11,5 +11,7 @@ returns-in_err-f-in-TypecheckSuccess g c =
 
 pub returns-in_ok-f-in-TypecheckSuccess : goal.returns-in_ok-f-in-TypecheckSuccess
 returns-in_ok-f-in-TypecheckSuccess g c =
-    subst (λ a. MapsCapability a ((calls.words g.row.F g.F.FnOnce).post c.args.f) (Ok (TypecheckSuccess c.in-TypecheckSuccess.expr_type c.in_ok-f-in-TypecheckSuccess.field-0))) (sym c.in-TypecheckSuccess.is)
+    subst (λ a. MapsCapability a ((calls.words g.row.F g.F.FnOnce).post c.args.f)
+    (Ok (TypecheckSuccess c.in-TypecheckSuccess.expr_type c.in_ok-f-in-TypecheckSuccess.field-0)))
+    (sym c.in-TypecheckSuccess.is)
     (c.f.result, c.f.ensures, search rules)

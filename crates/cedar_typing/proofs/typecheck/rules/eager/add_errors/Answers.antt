@@ -16,5 +16,7 @@ loop-error-preserved c =
 
 pub returns : goal.returns
 returns c =
-    let none_left = nil_from_length c.loop-error.error-iterator.rest.items (sym c.loop-error.error-iterator.rest.ok.0 ∙ c.in-None.ensures.steps.0) in
-    sym (append-nil (findings c.loop-error.errors.items)) ∙ ap (λ es. findings c.loop-error.errors.items ++ findings es) (sym none_left) ∙ c.loop-error.invariant
+    let none_left = nil_from_length c.loop-error.error-iterator.rest.items
+    (sym c.loop-error.error-iterator.rest.ok.0 ∙ c.in-None.ensures.steps.0) in
+    sym (append-nil (findings c.loop-error.errors.items))
+    ∙ ap (λ es. findings c.loop-error.errors.items ++ findings es) (sym none_left) ∙ c.loop-error.invariant

@@ -8,4 +8,6 @@ use Rattle.cedar_typing.proofs.Rules.Records.{fields_are}
 use Rattle.cedar_typing.proofs.typecheck.rules.records.record_node.Goals as goal
 
 pub returns : goal.returns
-returns c = search (rules, the_lemmas) ∙ ap (record_of (typed_as (option_map ty_of c.args.ty) (at c.args.loc))) (fields_are c.args.fields.entries)
+returns c =
+    search (rules, the_lemmas) ∙ ap (record_of (typed_as (option_map ty_of c.args.ty) (at c.args.loc)))
+    (fields_are c.args.fields.entries)

@@ -11,7 +11,8 @@ use Rattle.cedar_typing.specs.Eager.{gives, types_found}
 use Rattle.cedar_typing.specs.Rules.Records.{record_of_types}
 use Rattle.cedar_typing.specs.Rules.Sets.{all_types}
 use Rattle.cedar_typing.specs.Views.{keys_in, trees_in}
-use Rattle.cedar_typing.proofs.Rules.Records.{TypedField, attrs_typed, goes_last, key_is_last, keys_with_last, one_more_attr, typed_fields_decide, untyped_field_decides}
+use Rattle.cedar_typing.proofs.Rules.Records.{TypedField, attrs_typed, goes_last, key_is_last, keys_with_last, one_more_attr}
+use Rattle.cedar_typing.proofs.Rules.Records.{typed_fields_decide, untyped_field_decides}
 use Rattle.cedar_typing.proofs.Views.Typed.{annotation_is}
 use Rattle.cedar_typing.proofs.typecheck.rules.records.record_type.Goals as goal
 
@@ -33,12 +34,14 @@ loop-key-preserved c =
     let all : c.args.fields.now.entries ≡ done ++ e ∷ left = l.invariant.1 ∙ ap (λ es. done ++ es) c.in-Some.ensures.steps in
     let named : text_of c.in_ok-clone-2.field-0 ≡ text_of e.0 = c.in_ok-clone-2.ensures.cases in
     let above : AllByRecursion (λ k. text_cmp k (text_of c.in_ok-clone-2.field-0) ≡ Less) (keys_in l.attrs.entries) =
-    key_is_last l.attrs.entries done e left c.in_ok-clone-2.field-0 l.invariant.2 named (subst (λ es. IsStrictlySortedBy key_cmp (keys_of es)) all c.iter-key-items.ensures.ordered) in
+    key_is_last l.attrs.entries done e left c.in_ok-clone-2.field-0 l.invariant.2 named
+    (subst (λ es. IsStrictlySortedBy key_cmp (keys_of es)) all c.iter-key-items.ensures.ordered) in
     let cloned = c.in_ok-clone.ensures.cases in
     let inserted = c.in_ok-insert.ensures.entries in (
       done ++ e ∷ [],
       all ∙ sym (append_assoc done (e ∷ []) left),
-      ap keys_in (inserted ∙ goes_last l.attrs.entries c.in_ok-clone-2.field-0 _ above) ∙ keys_with_last l.attrs.entries done e c.in_ok-clone-2.field-0 _ l.invariant.2 named,
+      ap keys_in (inserted ∙ goes_last l.attrs.entries c.in_ok-clone-2.field-0 _ above)
+          ∙ keys_with_last l.attrs.entries done e c.in_ok-clone-2.field-0 _ l.invariant.2 named,
       one_more_attr done e (ty_of c.in-Some-annotation.ty) (annotation_is e.1 ∙ ap (option_map ty_of) c.in-Some-annotation.is)
           ∙ ap (option_map (λ xs. join_attrs xs (attr (text_of e.0) (ty_of c.in-Some-annotation.ty) true no_attrs))) l.invariant.3
           ∙ (λ i. Some (join_attrs (entries_of l.attrs.entries) (attr (sym named i) (sym cloned i) true no_attrs)))
@@ -50,5 +53,6 @@ returns c env place =
     let l = c.loop-key in
     let done = l.invariant.0 in
     let all : c.args.fields.now.entries ≡ done = l.invariant.1 ∙ ap (λ es. done ++ es) c.in-None.ensures.steps.0 ∙ append-nil done in
-    typed_fields_decide env place c.args.fields.now.entries (entries_of l.attrs.entries) c.iter-key-items.ensures.ordered (ap attrs_typed all ∙ l.invariant.3)
+    typed_fields_decide env place c.args.fields.now.entries (entries_of l.attrs.entries)
+    c.iter-key-items.ensures.ordered (ap attrs_typed all ∙ l.invariant.3)
     ∙ ap (λ t. gives t no_caps) (sym (c.record_with_attributes-ty.ensures ∙ ap (λ xs. TRecord xs false) c.in_ok-attributes.ensures))

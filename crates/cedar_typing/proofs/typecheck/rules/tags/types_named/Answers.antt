@@ -1,5 +1,6 @@
 use Rattle.std.proofs.Common.{◌≡◌, refl, ap, sym, ◌∙◌, Some, option_map}
-use Rattle.cedar_types.specs.Types.{Ty, TNever, TBool, TLong, TString, TSet, TAnySet, TRecord, TEntity, TAnyEntity, TExtension, types_of, lub_of, ty_of}
+use Rattle.cedar_types.specs.Types.{Ty, TNever, TBool, TLong, TString, TSet, TAnySet, TRecord, TEntity, TAnyEntity, TExtension, types_of}
+use Rattle.cedar_types.specs.Types.{lub_of, ty_of}
 use Rattle.cedar_typing.specs.Rules.Membership.{types_of_entity}
 use Rattle.cedar_typing.specs.Rules.Tags.{types_named}
 use Rattle.cedar_typing.proofs.typecheck.rules.tags.types_named.Goals as goal

@@ -42,7 +42,8 @@ typecheck-returns-in-And g t c =
     let tree : written c.args.e.now ≡ and m (written c.deref.result.now) (written c.deref-in-And.result.now) =
     written_as c.args.e.now (K.And c.in-And.left c.in-And.right) c.in-And.is ∙ (λ i. and m (written (sym c.deref.ensures i)) (written (sym c.deref-in-And.ensures i))) in
     let P : AnswerAndErrors → Type 0 = λ z. IfOk c.type_short_circuit.result (λ r. z ≡ (answer_of r, findings c.type_short_circuit.new.errors.items)) in
-    infer_as P (setting_at g.C.ArgumentCheck.refusal c.args.self.now) (known_in c.args.prior.now) c.args.depth (findings c.args.errors.now.items) c.if-depth-gt-MAX_NESTING.false tree c.type_short_circuit.ensures
+    infer_as P (setting_at g.C.ArgumentCheck.refusal c.args.self.now) (known_in c.args.prior.now) c.args.depth
+    (findings c.args.errors.now.items) c.if-depth-gt-MAX_NESTING.false tree c.type_short_circuit.ensures
 
 pub typecheck-returns-in-Or : goal.typecheck-returns-in-Or
 typecheck-returns-in-Or g t c =
@@ -50,7 +51,8 @@ typecheck-returns-in-Or g t c =
     let tree : written c.args.e.now ≡ or m (written c.deref-in-Or.result.now) (written c.deref-in-Or-2.result.now) =
     written_as c.args.e.now (K.Or c.in-Or.left c.in-Or.right) c.in-Or.is ∙ (λ i. or m (written (sym c.deref-in-Or.ensures i)) (written (sym c.deref-in-Or-2.ensures i))) in
     let P : AnswerAndErrors → Type 0 = λ z. IfOk c.type_short_circuit-in-Or.result (λ r. z ≡ (answer_of r, findings c.type_short_circuit-in-Or.new.errors.items)) in
-    infer_as P (setting_at g.C.ArgumentCheck.refusal c.args.self.now) (known_in c.args.prior.now) c.args.depth (findings c.args.errors.now.items) c.if-depth-gt-MAX_NESTING.false tree c.type_short_circuit-in-Or.ensures
+    infer_as P (setting_at g.C.ArgumentCheck.refusal c.args.self.now) (known_in c.args.prior.now) c.args.depth
+    (findings c.args.errors.now.items) c.if-depth-gt-MAX_NESTING.false tree c.type_short_circuit-in-Or.ensures
 
 pub typecheck-returns-in-HasAttr : goal.typecheck-returns-in-HasAttr
 typecheck-returns-in-HasAttr g t c =
@@ -58,7 +60,8 @@ typecheck-returns-in-HasAttr g t c =
     let tree : written c.args.e.now ≡ has_attr m (written c.deref-in-HasAttr.result.now) (text_of c.in-HasAttr.attr) =
     written_as c.args.e.now (K.HasAttr c.in-HasAttr.base c.in-HasAttr.attr) c.in-HasAttr.is ∙ (λ i. has_attr m (written (sym c.deref-in-HasAttr.ensures i)) (text_of c.in-HasAttr.attr)) in
     let P : AnswerAndErrors → Type 0 = λ z. IfOk c.type_one_operand-in-HasAttr.result (λ r. z ≡ (answer_of r, findings c.type_one_operand-in-HasAttr.new.errors.items)) in
-    infer_as P (setting_at g.C.ArgumentCheck.refusal c.args.self.now) (known_in c.args.prior.now) c.args.depth (findings c.args.errors.now.items) c.if-depth-gt-MAX_NESTING.false tree c.type_one_operand-in-HasAttr.ensures
+    infer_as P (setting_at g.C.ArgumentCheck.refusal c.args.self.now) (known_in c.args.prior.now) c.args.depth
+    (findings c.args.errors.now.items) c.if-depth-gt-MAX_NESTING.false tree c.type_one_operand-in-HasAttr.ensures
 
 pub typecheck-returns-in-GetAttr : goal.typecheck-returns-in-GetAttr
 typecheck-returns-in-GetAttr g t c =
@@ -66,7 +69,8 @@ typecheck-returns-in-GetAttr g t c =
     let tree : written c.args.e.now ≡ get_attr m (written c.deref-in-GetAttr.result.now) (text_of c.in-GetAttr.attr) =
     written_as c.args.e.now (K.GetAttr c.in-GetAttr.base c.in-GetAttr.attr) c.in-GetAttr.is ∙ (λ i. get_attr m (written (sym c.deref-in-GetAttr.ensures i)) (text_of c.in-GetAttr.attr)) in
     let P : AnswerAndErrors → Type 0 = λ z. IfOk c.type_one_operand-in-GetAttr.result (λ r. z ≡ (answer_of r, findings c.type_one_operand-in-GetAttr.new.errors.items)) in
-    infer_as P (setting_at g.C.ArgumentCheck.refusal c.args.self.now) (known_in c.args.prior.now) c.args.depth (findings c.args.errors.now.items) c.if-depth-gt-MAX_NESTING.false tree c.type_one_operand-in-GetAttr.ensures
+    infer_as P (setting_at g.C.ArgumentCheck.refusal c.args.self.now) (known_in c.args.prior.now) c.args.depth
+    (findings c.args.errors.now.items) c.if-depth-gt-MAX_NESTING.false tree c.type_one_operand-in-GetAttr.ensures
 
 pub typecheck-returns-in-UnaryApp : goal.typecheck-returns-in-UnaryApp
 typecheck-returns-in-UnaryApp g t c =
@@ -82,7 +86,8 @@ typecheck-returns-in-Like g t c =
     let tree : written c.args.e.now ≡ like m (written c.deref-in-Like.result.now) c.in-Like.pattern.items =
     written_as c.args.e.now (K.Like c.in-Like.operand c.in-Like.pattern) c.in-Like.is ∙ (λ i. like m (written (sym c.deref-in-Like.ensures i)) c.in-Like.pattern.items) in
     let P : AnswerAndErrors → Type 0 = λ z. IfOk c.type_one_operand-in-Like.result (λ r. z ≡ (answer_of r, findings c.type_one_operand-in-Like.new.errors.items)) in
-    infer_as P (setting_at g.C.ArgumentCheck.refusal c.args.self.now) (known_in c.args.prior.now) c.args.depth (findings c.args.errors.now.items) c.if-depth-gt-MAX_NESTING.false tree c.type_one_operand-in-Like.ensures
+    infer_as P (setting_at g.C.ArgumentCheck.refusal c.args.self.now) (known_in c.args.prior.now) c.args.depth
+    (findings c.args.errors.now.items) c.if-depth-gt-MAX_NESTING.false tree c.type_one_operand-in-Like.ensures
 
 pub typecheck-returns-in-Is : goal.typecheck-returns-in-Is
 typecheck-returns-in-Is g t c =
@@ -90,7 +95,8 @@ typecheck-returns-in-Is g t c =
     let tree : written c.args.e.now ≡ is_type m (written c.deref-in-Is.result.now) (type_of c.in-Is.named) =
     written_as c.args.e.now (K.Is c.in-Is.operand c.in-Is.named) c.in-Is.is ∙ (λ i. is_type m (written (sym c.deref-in-Is.ensures i)) (type_of c.in-Is.named)) in
     let P : AnswerAndErrors → Type 0 = λ z. IfOk c.type_one_operand-in-Is.result (λ r. z ≡ (answer_of r, findings c.type_one_operand-in-Is.new.errors.items)) in
-    infer_as P (setting_at g.C.ArgumentCheck.refusal c.args.self.now) (known_in c.args.prior.now) c.args.depth (findings c.args.errors.now.items) c.if-depth-gt-MAX_NESTING.false tree c.type_one_operand-in-Is.ensures
+    infer_as P (setting_at g.C.ArgumentCheck.refusal c.args.self.now) (known_in c.args.prior.now) c.args.depth
+    (findings c.args.errors.now.items) c.if-depth-gt-MAX_NESTING.false tree c.type_one_operand-in-Is.ensures
 
 pub typecheck-returns-in-BinaryApp : goal.typecheck-returns-in-BinaryApp
 typecheck-returns-in-BinaryApp g t c =
@@ -103,7 +109,8 @@ typecheck-returns-in-BinaryApp g t c =
     let a = written c.deref-in-BinaryApp.result.now in
     let b = written c.deref-in-BinaryApp-2.result.now in
     let tree : written c.args.e.now ≡ binary m o a b =
-    written_as c.args.e.now (K.BinaryApp o c.in-BinaryApp.left c.in-BinaryApp.right) c.in-BinaryApp.is ∙ (λ i. binary m o (written (sym c.deref-in-BinaryApp.ensures i)) (written (sym c.deref-in-BinaryApp-2.ensures i))) in
+    written_as c.args.e.now (K.BinaryApp o c.in-BinaryApp.left c.in-BinaryApp.right) c.in-BinaryApp.is
+    ∙ (λ i. binary m o (written (sym c.deref-in-BinaryApp.ensures i)) (written (sym c.deref-in-BinaryApp-2.ensures i))) in
     let P : AnswerAndErrors → Type 0 = λ z. IfOk c.type_two_operands.result (λ r. z ≡ (answer_of r, findings c.type_two_operands.new.errors.items)) in
     let Q : Source → Type 0 = λ e. P (infer_within s e prior d es) in
     let R : Form → Type 0 = λ f. P (infer_two_operands s.env f (place_of a) (place_of b) (infer s a prior (d + 1)) (infer s b prior (d + 1)) es) in
@@ -116,7 +123,8 @@ typecheck-returns-in-ExtHasAttr g t c =
     let tree : written c.args.e.now ≡ ext_has_attr m (written c.deref-in-ExtHasAttr.result.now) (chain_of chain).0 (chain_of chain).1 =
     written_as c.args.e.now (K.ExtHasAttr c.in-ExtHasAttr.base chain) c.in-ExtHasAttr.is ∙ (λ i. ext_has_attr m (written (sym c.deref-in-ExtHasAttr.ensures i)) (chain_of chain).0 (chain_of chain).1) in
     let P : AnswerAndErrors → Type 0 = λ z. IfOk c.type_one_operand-in-ExtHasAttr.result (λ r. z ≡ (answer_of r, findings c.type_one_operand-in-ExtHasAttr.new.errors.items)) in
-    infer_as P (setting_at g.C.ArgumentCheck.refusal c.args.self.now) (known_in c.args.prior.now) c.args.depth (findings c.args.errors.now.items) c.if-depth-gt-MAX_NESTING.false tree c.type_one_operand-in-ExtHasAttr.ensures
+    infer_as P (setting_at g.C.ArgumentCheck.refusal c.args.self.now) (known_in c.args.prior.now) c.args.depth
+    (findings c.args.errors.now.items) c.if-depth-gt-MAX_NESTING.false tree c.type_one_operand-in-ExtHasAttr.ensures
 
 pub type_two_operands-returns-then-is_none-goes_on : goal.type_two_operands-returns-then-is_none-goes_on
 type_two_operands-returns-then-is_none-goes_on g t c =
@@ -260,8 +268,10 @@ type_fields-loop-key-preserved g t c =
       done ++ e ∷ [],
       all ∙ sym (append_assoc done (e ∷ []) left),
       ap keys_in entries ∙ keys_with_last l.typed.entries done e key _ l.invariant.2 named,
-      ap (λ zs. finish (p.succeeded && l.succeeded) zs (infer_fields s (fields_written left) prior d es')) (ap trees_in entries ∙ trees_append l.typed.entries ((key, x) ∷ []) ∙ ap (λ ts. trees_in l.typed.entries ++ ts) inner)
-          ∙ sym (goes_on s prior d (text_of e.0) (written e.1) (fields_written left) l.succeeded (trees_in l.typed.entries) es es' _ (part_of p) c.in_ok-answer.ensures (sym c.into_part.ensures.seen ∙ ap (option_map part_of) c.in-Some-into_part.is))
+      ap (λ zs. finish (p.succeeded && l.succeeded) zs (infer_fields s (fields_written left) prior d es'))
+          (ap trees_in entries ∙ trees_append l.typed.entries ((key, x) ∷ []) ∙ ap (λ ts. trees_in l.typed.entries ++ ts) inner)
+          ∙ sym (goes_on s prior d (text_of e.0) (written e.1) (fields_written left) l.succeeded (trees_in l.typed.entries)
+          es es' _ (part_of p) c.in_ok-answer.ensures (sym c.into_part.ensures.seen ∙ ap (option_map part_of) c.in-Some-into_part.is))
           ∙ ap (λ rest. finish l.succeeded (trees_in l.typed.entries) (infer_fields s (fields_written rest) prior d es)) (sym c.in-Some.ensures.steps)
           ∙ l.invariant.3,
     )

@@ -40,8 +40,11 @@ decreases-type_set g l = 3 * (401 - l.depth) + 2
 abbrev pub invariant-type_operands-loop-operand : goal.invariant-type_operands-loop-operand
 invariant-type_operands-loop-operand g l =
     let s = setting_at g.C.ArgumentCheck.refusal l.self in
-    resumed (operands_of l.all) (all_inferred s l.goes_on (map ty_of l.left) (known_in l.prior) (l.depth + 1) (drop l.operand-index l.operand-items) (findings l.errors.items))
-    ≡ all_inferred s l.goes_on (map ty_of l.fn.types) (known_in l.fn.prior) (l.fn.depth + 1) l.fn.operands.items (findings l.fn.errors.items)
+    resumed (operands_of l.all)
+    (all_inferred s l.goes_on (map ty_of l.left) (known_in l.prior) (l.depth + 1)
+    (drop l.operand-index l.operand-items) (findings l.errors.items))
+    ≡ all_inferred s l.goes_on (map ty_of l.fn.types) (known_in l.fn.prior) (l.fn.depth + 1) l.fn.operands.items
+    (findings l.fn.errors.items)
 
 abbrev pub decreases-type_record : goal.decreases-type_record
 decreases-type_record g l = 3 * (401 - l.depth) + 2

@@ -18,8 +18,10 @@ returns g c =
     let l = c.args.loc in
     let a = written c.args.scope.now in
     let b = written c.in-Some.rest in
-    let typed : infer s (and (at l) a b) no_caps 1 [] ≡ (answer_of c.in_ok-answer-in-Some.answer, findings c.type_short_circuit.new.errors.items) =
-    (λ i. infer s (and (at l) a b) (sym (c.of-known.ensures ∙ c.no_capabilities-nothing.ensures) i) 1 (findings (sym c.new-errors.ensures.items i))) ∙ c.in_ok-answer-in-Some.ensures in
+    let typed : infer s (and (at l) a b) no_caps 1 []
+    ≡ (answer_of c.in_ok-answer-in-Some.answer, findings c.type_short_circuit.new.errors.items) =
+    (λ i. infer s (and (at l) a b) (sym (c.of-known.ensures ∙ c.no_capabilities-nothing.ensures) i) 1
+    (findings (sym c.new-errors.ensures.items i))) ∙ c.in_ok-answer-in-Some.ensures in
     c.verdict-in-Some.ensures
     ∙ ap out_verdict (sym (ap (expect s.env bool_types l) typed ∙ c.in_ok-part-in-Some.ensures))
     ∙ ap (λ r. policy_check s (with_rest l a r)) (sym (ap (option_map {U = Source} written) c.in-Some.is))

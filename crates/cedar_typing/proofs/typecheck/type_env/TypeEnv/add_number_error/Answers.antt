@@ -25,5 +25,6 @@ returns g c meaning xs count =
     ap findings c.in_ok-push.ensures.items
     ∙ map-append finding_of es (e ∷ [])
     ∙ ap (λ f. findings es ++ f ∷ []) c.in_ok-number_error.ensures
-    ∙ ap (λ n. findings es ++ finding env l (wrong_number_arguments n c.args.count) ∷ []) (c.len.ensures ∙ c.args.function.now.argument_types.ok.0)
+    ∙ ap (λ n. findings es ++ finding env l (wrong_number_arguments n c.args.count) ∷ [])
+    (c.len.ensures ∙ c.args.function.now.argument_types.ok.0)
     ∙ ap (λ fs. findings es ++ added_at env l fs) (sym one)

@@ -9,4 +9,6 @@ pub returns : goal.returns
 returns c =
     c.without_capabilities.ensures
     ∙ ap (λ e. answer_if c.is_some-succeeded.result (typed_tree e) no_caps) c.in_ok-typed.ensures
-    ∙ literal_answer c.in_ok-annotation.annotation c.args.loc c.args.literal.now c.in_ok-clone.field-0 c.is_some-succeeded.result _ c.is_some-succeeded.ensures c.in_ok-clone.ensures.cases.0 c.in_ok-clone.ensures.cases.1 c.in_ok-annotation.ensures
+    ∙ literal_answer c.in_ok-annotation.annotation c.args.loc c.args.literal.now c.in_ok-clone.field-0
+    c.is_some-succeeded.result _ c.is_some-succeeded.ensures c.in_ok-clone.ensures.cases.0
+    c.in_ok-clone.ensures.cases.1 c.in_ok-annotation.ensures

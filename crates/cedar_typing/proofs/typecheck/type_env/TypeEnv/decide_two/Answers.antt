@@ -19,7 +19,10 @@ returns-in-Comparison c =
     let b = c.args.operands.right.now in
     let s = option_map ty_of c.args.found.now in
     let t = option_map ty_of c.args.other.now in
-    let ByForm : TwoOperands → Type 0 = λ f. IfOk c.decide_comparison.result (λ d. decision_of d ≡ (form_of_two env (at c.args.loc) prior (written a) (written b) f).decides (s ∷ t ∷ [])) in
-    let ByPlaces : Option Loc → Option Loc → Type 0 = λ l l'. IfOk c.decide_comparison.result (λ d. decision_of d ≡ compare_decides env l l' s t) in
+    let ByForm : TwoOperands → Type 0 = λ f. IfOk c.decide_comparison.result (λ d. decision_of d
+    ≡ (form_of_two env (at c.args.loc) prior (written a) (written b) f).decides (s ∷ t ∷ [])) in
+    let ByPlaces : Option Loc → Option Loc → Type 0 = λ l l'. IfOk c.decide_comparison.result (λ d. decision_of d
+    ≡ compare_decides env l l' s t) in
     subst ByForm (sym c.in-Comparison.is)
-    (subst (λ l. ByPlaces l (place_of (written b))) (sym (place_is a)) (subst (ByPlaces a.loc) (sym (place_is b)) c.decide_comparison.ensures))
+    (subst (λ l. ByPlaces l (place_of (written b))) (sym (place_is a))
+    (subst (ByPlaces a.loc) (sym (place_is b)) c.decide_comparison.ensures))

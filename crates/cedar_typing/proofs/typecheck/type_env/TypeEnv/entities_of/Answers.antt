@@ -10,8 +10,11 @@ returns-in_default c =
     let r = (env_at c.args.self.now).request_env in
     let us = map uid_of c.loop-element.all.items in
     let here : c.loop-element.element-index < length c.args.elements.now = omega arith in
-    no_entity r us c.element-item.result (drop (c.loop-element.element-index + 1) c.args.elements.now) _ c.in_ok-entity.ensures c.in_default.is
-    ∙ ap (λ es. after us (entities_in r es)) (sym (next_item c.args.elements.now c.loop-element.element-index c.element-item.result here c.element-item.is))
+    no_entity r us c.element-item.result (drop (c.loop-element.element-index + 1) c.args.elements.now)
+    _ c.in_ok-entity.ensures c.in_default.is
+    ∙ ap (λ es. after us (entities_in r es))
+    (sym (next_item c.args.elements.now c.loop-element.element-index c.element-item.result
+    here c.element-item.is))
     ∙ c.loop-element.invariant
 
 pub loop-element-preserved : goal.loop-element-preserved
@@ -23,5 +26,7 @@ loop-element-preserved c =
     ap (λ vs. after (map uid_of vs) (entities_in r left)) c.in_ok-push.ensures.items
     ∙ ap (λ us. after us (entities_in r left)) (map_end uid_of c.loop-element.all.items _)
     ∙ one_entity r us c.element-item.result left _ c.in_ok-entity.ensures c.in-Some.entity c.in-Some.is
-    ∙ ap (λ es. after us (entities_in r es)) (sym (next_item c.args.elements.now c.loop-element.element-index c.element-item.result here c.element-item.is))
+    ∙ ap (λ es. after us (entities_in r es))
+    (sym (next_item c.args.elements.now c.loop-element.element-index c.element-item.result
+    here c.element-item.is))
     ∙ c.loop-element.invariant

@@ -38,7 +38,8 @@ returns c =
     let es = findings c.args.errors.now.items in
     let d : f.decides (annotation x ∷ []) ≡ refuses (option_map ty_of c.in-Refuses.ty) (findings c.in-Refuses.found.items) =
     ap (λ a. f.decides (a ∷ [])) (annotation_is c.args.part.typed.value)
-    ∙ (λ i. f.decides (option_map ty_of (sym c.deref.ensures i).annotation ∷ [])) ∙ sym c.in_ok-ty.ensures ∙ ap decision_of c.in-Refuses.is in
+    ∙ (λ i. f.decides (option_map ty_of (sym c.deref.ensures i).annotation ∷ [])) ∙ sym c.in_ok-ty.ensures
+    ∙ ap decision_of c.in-Refuses.is in
     ap (infer_decided f c.args.part.succeeded (x ∷ []) es) d
     ∙ (λ i. (failure (sym (c.in_ok-typed-in-Refuses.ensures env prior e) i), sym c.in_ok-add_errors-in-Refuses.ensures i))
     ∙ ap (λ a. (answer_of a, findings c.add_errors.new.errors.items)) (sym c.fail.ensures)

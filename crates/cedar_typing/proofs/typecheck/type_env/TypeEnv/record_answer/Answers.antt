@@ -9,5 +9,6 @@ pub returns : goal.returns
 returns c es =
     let values = c.args.values in
     let xs = trees_in values.typed.entries in
-    ap (λ b. infer_form (record_form (env_at c.args.self.now) (at c.args.loc) (keys_in values.typed.entries)) (if b then cut_after xs else all_typed values.succeeded xs) es) c.if-values.false
+    ap (λ b. infer_form (record_form (env_at c.args.self.now) (at c.args.loc) (keys_in values.typed.entries))
+    (if b then cut_after xs else all_typed values.succeeded xs) es) c.if-values.false
     ∙ c.in_ok-answer.ensures (env_at c.args.self.now) es

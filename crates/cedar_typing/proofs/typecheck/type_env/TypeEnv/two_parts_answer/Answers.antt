@@ -28,10 +28,15 @@ returns-in-Gives c =
     let t = ty_of c.in-Gives.ty in
     let d : f.decides (annotation x ∷ annotation y ∷ []) ≡ gives t (caps c.in-Gives.capabilities) =
     (λ i. f.decides (annotation_is c.args.one.typed.value i ∷ annotation_is c.args.other.typed.value i ∷ []))
-    ∙ (λ i. f.decides (option_map ty_of (sym c.deref.ensures i).annotation ∷ option_map ty_of (sym c.deref-2.ensures i).annotation ∷ [])) ∙ sym c.in_ok-ty.ensures ∙ ap decision_of c.in-Gives.is in
+    ∙ (λ i. f.decides (option_map ty_of (sym c.deref.ensures i).annotation
+    ∷ option_map ty_of (sym c.deref-2.ensures i).annotation ∷ [])) ∙ sym c.in_ok-ty.ensures
+    ∙ ap decision_of c.in-Gives.is in
     let u = type_given f succeeded t in
     let node : f.node (typed_as (Some u) f.at) (x ∷ y ∷ []) ≡ typed_tree c.in_ok-typed-in-Gives.typed.value =
-    c.op.ensures env m prior a b (typed_as (Some u) f.at) x y ∙ ap (λ z. binary (typed_as (Some z) f.at) c.op.result x y) (sym (c.type_given-ty.ensures env m prior a b)) ∙ ap (λ p. binary (typed_as (Some (ty_of c.type_given-ty.result)) p) c.op.result x y) (form_at env m prior a b c.args.form) ∙ sym c.in_ok-typed-in-Gives.ensures in
+    c.op.ensures env m prior a b (typed_as (Some u) f.at) x y
+    ∙ ap (λ z. binary (typed_as (Some z) f.at) c.op.result x y) (sym (c.type_given-ty.ensures env m prior a b))
+    ∙ ap (λ p. binary (typed_as (Some (ty_of c.type_given-ty.result)) p) c.op.result x y)
+    (form_at env m prior a b c.args.form) ∙ sym c.in_ok-typed-in-Gives.ensures in
     ap (infer_decided f succeeded (x ∷ y ∷ []) es) d
     ∙ (λ i. (answer_if succeeded (node i) (caps c.in-Gives.capabilities), es))
     ∙ ap (λ z. (z, es)) (sym c.with_capabilities.ensures)
@@ -51,9 +56,13 @@ returns c =
     let t = option_map ty_of c.in-Refuses.ty in
     let d : f.decides (annotation x ∷ annotation y ∷ []) ≡ refuses t (findings c.in-Refuses.found.items) =
     (λ i. f.decides (annotation_is c.args.one.typed.value i ∷ annotation_is c.args.other.typed.value i ∷ []))
-    ∙ (λ i. f.decides (option_map ty_of (sym c.deref.ensures i).annotation ∷ option_map ty_of (sym c.deref-2.ensures i).annotation ∷ [])) ∙ sym c.in_ok-ty.ensures ∙ ap decision_of c.in-Refuses.is in
+    ∙ (λ i. f.decides (option_map ty_of (sym c.deref.ensures i).annotation
+    ∷ option_map ty_of (sym c.deref-2.ensures i).annotation ∷ [])) ∙ sym c.in_ok-ty.ensures
+    ∙ ap decision_of c.in-Refuses.is in
     let node : f.node (typed_as t f.at) (x ∷ y ∷ []) ≡ typed_tree c.in_ok-typed-in-Refuses.typed.value =
-    c.op-in-Refuses.ensures env m prior a b (typed_as t f.at) x y ∙ ap (λ p. binary (typed_as t p) c.op-in-Refuses.result x y) (form_at env m prior a b c.args.form) ∙ sym c.in_ok-typed-in-Refuses.ensures in
+    c.op-in-Refuses.ensures env m prior a b (typed_as t f.at) x y
+    ∙ ap (λ p. binary (typed_as t p) c.op-in-Refuses.result x y) (form_at env m prior a b c.args.form)
+    ∙ sym c.in_ok-typed-in-Refuses.ensures in
     ap (infer_decided f succeeded (x ∷ y ∷ []) es) d
     ∙ (λ i. (failure (node i), sym c.in_ok-add_errors-in-Refuses.ensures i))
     ∙ ap (λ z. (answer_of z, findings c.add_errors.new.errors.items)) (sym c.fail.ensures)

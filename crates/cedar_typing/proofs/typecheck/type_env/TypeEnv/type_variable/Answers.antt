@@ -9,4 +9,5 @@ pub returns : goal.returns
 returns c =
     c.without_capabilities.ensures
     ∙ ap (λ e. answer_if c.is_some-succeeded.result (typed_tree e) no_caps) c.in_ok-typed.ensures
-    ∙ variable_answer c.in_ok-annotation.annotation c.args.loc c.args.variable c.is_some-succeeded.result _ c.is_some-succeeded.ensures c.in_ok-annotation.ensures
+    ∙ variable_answer c.in_ok-annotation.annotation c.args.loc c.args.variable c.is_some-succeeded.result
+    _ c.is_some-succeeded.ensures c.in_ok-annotation.ensures

@@ -23,7 +23,8 @@ returns g c =
     let checks = subst Q c.in_ok-scope.ensures (subst P (sym c.in_ok-check.ensures) (checked x e)) in
     let v = verdict_of c.in_ok-check.check in
     let schema = c.args.self.now.schema.now in
-    let table = no_fault g.C.ArgumentCheck.refusal c.args.self.now.extensions.now.functions.items c.args.self.now.extensions.now.faultless in
+    let table = no_fault g.C.ArgumentCheck.refusal c.args.self.now.extensions.now.functions.items
+    c.args.self.now.extensions.now.faultless in
     record {
       exact = checks;
       sound = check_sound x (condition_of t) v schema.faultless table checks;

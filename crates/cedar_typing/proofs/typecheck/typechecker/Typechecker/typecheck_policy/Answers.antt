@@ -25,14 +25,20 @@ returns-clause-exact g c =
     let gained = union_adds eq finding_of error_decides old tally.errors.keys new
     (λ q. c.put_all.ensures q ∙ ap (λ b. b || is_member eq tally.errors.keys q) (c.in_ok-reserve.ensures.keys.2 q)) in
     let irrelevant = found.tallied.irrelevant in
-    let warnings : Adds (map caution_of c.args.warnings.now.keys) (warnings_of (template_of c.args.t.now) found.verdicts) (map caution_of c.if-tally.warnings.keys) = elim c.if-tally.branch [
+    let warnings : Adds (map caution_of c.args.warnings.now.keys)
+    (warnings_of (template_of c.args.t.now) found.verdicts)
+    (map caution_of c.if-tally.warnings.keys) = elim c.if-tally.branch [
       | then-tally+in_ok-warning+in_ok-insert w ↦ rw w.warnings-is
-          (warned (template_of c.args.t.now) found.verdicts (map caution_of c.args.warnings.now.keys) (map caution_of w.insert.new.self.keys) (caution_of w.in_ok-warning.warning)
+          (warned (template_of c.args.t.now) found.verdicts (map caution_of c.args.warnings.now.keys)
+          (map caution_of w.insert.new.self.keys) (caution_of w.in_ok-warning.warning)
           (sym irrelevant ∙ w.if-tally.true) w.in_ok-warning.ensures
-          (union_adds warning_impl.ghosts.eq caution_of warning_decides c.args.warnings.now.keys (w.in_ok-warning.warning ∷ []) w.insert.new.self.keys
-          (put_adds warning_impl.ghosts.eq caution_of warning_decides w.in_ok-warning.warning c.args.warnings.now.keys w.insert.new.self.keys (w.in_ok-insert.ensures.updates.0))))
+          (union_adds warning_impl.ghosts.eq caution_of warning_decides c.args.warnings.now.keys
+          (w.in_ok-warning.warning ∷ []) w.insert.new.self.keys
+          (put_adds warning_impl.ghosts.eq caution_of warning_decides w.in_ok-warning.warning
+          c.args.warnings.now.keys w.insert.new.self.keys (w.in_ok-insert.ensures.updates.0))))
       | else-tally w ↦ rw w.warnings-is
-          (not_warned (template_of c.args.t.now) found.verdicts (map caution_of c.args.warnings.now.keys) _ (sym irrelevant ∙ w.if-tally.false) refl)
+          (not_warned (template_of c.args.t.now) found.verdicts (map caution_of c.args.warnings.now.keys)
+          _ (sym irrelevant ∙ w.if-tally.false) refl)
     ] in
     record {
       listed = found.listed;
@@ -40,7 +46,9 @@ returns-clause-exact g c =
       in_some_order = found.in_some_order;
       checked = found.checked;
       answered = found.tallied.passes;
-      errors_added = adds_same (map finding_of old) (map finding_of tally.errors.keys) (all_errors found.verdicts) (map finding_of new) gained found.tallied.errors;
+      errors_added =
+          adds_same (map finding_of old) (map finding_of tally.errors.keys) (all_errors found.verdicts)
+          (map finding_of new) gained found.tallied.errors;
       warnings_added = warnings;
     }
 
@@ -49,7 +57,8 @@ unfolding schema_of functions_of schema_by extensions_by
 returns-clause-safe g c =
     let o = returns-clause-exact g c in
     let b = basis_of g.C.ArgumentCheck.refusal c.args.self.now in
-    let table = no_fault g.C.ArgumentCheck.refusal c.args.self.now.extensions.now.functions.items c.args.self.now.extensions.now.faultless in
+    let table = no_fault g.C.ArgumentCheck.refusal c.args.self.now.extensions.now.functions.items
+    c.args.self.now.extensions.now.faultless in
     (promises_are_kept b (template_of c.args.t.now) c.args.self.now.schema.now.faultless table _ _ _ _ _ o).safe
 
 pub returns-clause-never_true : goal.returns-clause-never_true
@@ -57,7 +66,8 @@ unfolding schema_of functions_of schema_by extensions_by
 returns-clause-never_true g c =
     let o = returns-clause-exact g c in
     let b = basis_of g.C.ArgumentCheck.refusal c.args.self.now in
-    let table = no_fault g.C.ArgumentCheck.refusal c.args.self.now.extensions.now.functions.items c.args.self.now.extensions.now.faultless in
+    let table = no_fault g.C.ArgumentCheck.refusal c.args.self.now.extensions.now.functions.items
+    c.args.self.now.extensions.now.faultless in
     (promises_are_kept b (template_of c.args.t.now) c.args.self.now.schema.now.faultless table _ _ _ _ _ o).never_true
 
 pub returns-clause-safe_in_permissive : goal.returns-clause-safe_in_permissive
@@ -65,13 +75,17 @@ unfolding schema_of functions_of schema_by extensions_by
 returns-clause-safe_in_permissive g c =
     let o = returns-clause-exact g c in
     let b = basis_of g.C.ArgumentCheck.refusal c.args.self.now in
-    let table = no_fault g.C.ArgumentCheck.refusal c.args.self.now.extensions.now.functions.items c.args.self.now.extensions.now.faultless in
-    (promises_are_kept_in_permissive b (template_of c.args.t.now) c.args.self.now.schema.now.faultless c.args.self.now.schema.now.formed table _ _ _ _ _ o).safe
+    let table = no_fault g.C.ArgumentCheck.refusal c.args.self.now.extensions.now.functions.items
+    c.args.self.now.extensions.now.faultless in
+    (promises_are_kept_in_permissive b (template_of c.args.t.now) c.args.self.now.schema.now.faultless
+    c.args.self.now.schema.now.formed table _ _ _ _ _ o).safe
 
 pub returns-clause-never_true_in_permissive : goal.returns-clause-never_true_in_permissive
 unfolding schema_of functions_of schema_by extensions_by
 returns-clause-never_true_in_permissive g c =
     let o = returns-clause-exact g c in
     let b = basis_of g.C.ArgumentCheck.refusal c.args.self.now in
-    let table = no_fault g.C.ArgumentCheck.refusal c.args.self.now.extensions.now.functions.items c.args.self.now.extensions.now.faultless in
-    (promises_are_kept_in_permissive b (template_of c.args.t.now) c.args.self.now.schema.now.faultless c.args.self.now.schema.now.formed table _ _ _ _ _ o).never_true
+    let table = no_fault g.C.ArgumentCheck.refusal c.args.self.now.extensions.now.functions.items
+    c.args.self.now.extensions.now.faultless in
+    (promises_are_kept_in_permissive b (template_of c.args.t.now) c.args.self.now.schema.now.faultless
+    c.args.self.now.schema.now.formed table _ _ _ _ _ o).never_true

@@ -40,7 +40,8 @@ returns-in-Equal g c = λ meaning.
     let n = path_of c.args.name.now in
     let middle = c.loop-low.low + (c.loop-low.high - c.loop-low.low) / 2 in
     let here : path_cmp (path_of f.name) n ≡ Equal = sym (name_cmp_is f.name c.args.name.now) ∙ sym c.cmp.ensures ∙ c.in-Equal.is in
-    sym (found meaning table.functions.items n (apart_in_table meaning table.functions.items table.faultless) middle f (omega arith) c.index-function.ensures here)
+    sym (found meaning table.functions.items n (apart_in_table meaning table.functions.items table.faultless)
+    middle f (omega arith) c.index-function.ensures here)
 
 pub returns : goal.returns
 unfolding functions_of

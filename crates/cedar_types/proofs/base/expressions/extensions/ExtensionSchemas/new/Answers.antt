@@ -15,7 +15,8 @@ pub returns-then-has_bad_return-clause-refused : goal.returns-then-has_bad_retur
 returns-then-has_bad_return-clause-refused g c = λ meaning.
     let fs = map (function_of meaning) c.args.functions.items in
     fault_of fs true (list_any lacks_arguments fs) (has_two_alike fs)
-    (sym (c.has_bad_return.ensures meaning ∙ ap (λ xs. list_any has_bad_return (map (function_of meaning) xs)) c.deref.ensures.value) ∙ c.if-has_bad_return.true)
+    (sym (c.has_bad_return.ensures meaning ∙ ap (λ xs. list_any has_bad_return (map (function_of meaning) xs))
+    c.deref.ensures.value) ∙ c.if-has_bad_return.true)
     refl
     refl
 
@@ -24,8 +25,11 @@ pub returns-then-has_variadic_without_arguments-clause-refused :
 returns-then-has_variadic_without_arguments-clause-refused g c = λ meaning.
     let fs = map (function_of meaning) c.args.functions.items in
     fault_of fs false true (has_two_alike fs)
-    (sym (c.has_bad_return.ensures meaning ∙ ap (λ xs. list_any has_bad_return (map (function_of meaning) xs)) c.deref.ensures.value) ∙ c.if-has_bad_return.false)
-    (sym (c.has_variadic_without_arguments.ensures meaning ∙ ap (λ xs. list_any lacks_arguments (map (function_of meaning) xs)) c.deref-2.ensures.value) ∙ c.if-has_variadic_without_arguments.true)
+    (sym (c.has_bad_return.ensures meaning ∙ ap (λ xs. list_any has_bad_return (map (function_of meaning) xs))
+    c.deref.ensures.value) ∙ c.if-has_bad_return.false)
+    (sym (c.has_variadic_without_arguments.ensures meaning
+    ∙ ap (λ xs. list_any lacks_arguments (map (function_of meaning) xs)) c.deref-2.ensures.value)
+    ∙ c.if-has_variadic_without_arguments.true)
     refl
 
 pub returns-then-not-neighbours_differ-clause-refused :
@@ -35,8 +39,11 @@ returns-then-not-neighbours_differ-clause-refused g c = λ meaning.
     let new = c.sort_unstable_by.new.self.items in
     let pair = c.if-not-neighbours_differ.ensures in
     fault_of (map (function_of meaning) old) false false true
-    (sym (c.has_bad_return.ensures meaning ∙ ap (λ xs. list_any has_bad_return (map (function_of meaning) xs)) c.deref.ensures.value) ∙ c.if-has_bad_return.false)
-    (sym (c.has_variadic_without_arguments.ensures meaning ∙ ap (λ xs. list_any lacks_arguments (map (function_of meaning) xs)) c.deref-2.ensures.value) ∙ c.if-has_variadic_without_arguments.false)
+    (sym (c.has_bad_return.ensures meaning ∙ ap (λ xs. list_any has_bad_return (map (function_of meaning) xs))
+    c.deref.ensures.value) ∙ c.if-has_bad_return.false)
+    (sym (c.has_variadic_without_arguments.ensures meaning
+    ∙ ap (λ xs. list_any lacks_arguments (map (function_of meaning) xs)) c.deref-2.ensures.value)
+    ∙ c.if-has_variadic_without_arguments.false)
     (two_alike_moved _ _ (IsPermutation-map (function_of meaning) old new c.sort_unstable_by.ensures.permutation)
     ∙ ap (λ xs. has_two_alike (map (function_of meaning) xs)) (sym c.deref-3.ensures.value)
     ∙ neighbours_alike meaning c.deref-3.result.now pair.0 pair.1 pair.2)
@@ -46,11 +53,19 @@ invariant_of-result g c =
     let old = c.args.functions.items in
     let new = c.sort_unstable_by.new.self.items in
     let moved = IsPermutation-map (function_of (λ check args. None)) old new c.sort_unstable_by.ensures.permutation in
-    let up = c.sort_unstable_by.ensures.sorted (λ f h. is_lt (path_cmp (path_of f.name) (path_of h.name))) (ranks_by path_total (λ f. path_of f.name)) (answers_always _ _ _ (λ f a r h called. let is : r ≡ name_cmp a.0.now.name a.1.0.now.name = search rules in ap is_lt (is ∙ name_cmp_is a.0.now.name a.1.0.now.name))) in
-    let differ = subst (λ xs. AllAdjacentBelow (λ f h. not (path_eq (path_of f.name) (path_of h.name)) ≡ true) xs (length xs)) c.deref-3.ensures.value c.if-not-neighbours_differ.ensures in
+    let up = c.sort_unstable_by.ensures.sorted (λ f h. is_lt (path_cmp (path_of f.name) (path_of h.name)))
+    (ranks_by path_total (λ f. path_of f.name))
+    (answers_always _ _ _ (λ f a r h called. let is : r ≡ name_cmp a.0.now.name a.1.0.now.name = search rules in
+    ap is_lt (is ∙ name_cmp_is a.0.now.name a.1.0.now.name))) in
+    let differ = subst (λ xs. AllAdjacentBelow (λ f h. not (path_eq (path_of f.name) (path_of h.name)) ≡ true) xs
+    (length xs)) c.deref-3.ensures.value c.if-not-neighbours_differ.ensures in
     let none = fault_of (map (function_of (λ check args. None)) old) false false false
-    (sym (c.has_bad_return.ensures (λ check args. None) ∙ ap (λ xs. list_any has_bad_return (map (function_of (λ check args. None)) xs)) c.deref.ensures.value) ∙ c.if-has_bad_return.false)
-    (sym (c.has_variadic_without_arguments.ensures (λ check args. None) ∙ ap (λ xs. list_any lacks_arguments (map (function_of (λ check args. None)) xs)) c.deref-2.ensures.value) ∙ c.if-has_variadic_without_arguments.false)
+    (sym (c.has_bad_return.ensures (λ check args. None)
+    ∙ ap (λ xs. list_any has_bad_return (map (function_of (λ check args. None)) xs)) c.deref.ensures.value)
+    ∙ c.if-has_bad_return.false)
+    (sym (c.has_variadic_without_arguments.ensures (λ check args. None)
+    ∙ ap (λ xs. list_any lacks_arguments (map (function_of (λ check args. None)) xs)) c.deref-2.ensures.value)
+    ∙ c.if-has_variadic_without_arguments.false)
     (two_alike_moved _ _ moved ∙ neighbours_apart (λ check args. None) new up differ) in
     record { ascending = up; faultless = ap is_some (sym (fault_moved _ _ moved) ∙ none) }
 
@@ -59,11 +74,18 @@ returns-clause-faultless g c = λ meaning.
     let old = c.args.functions.items in
     let new = c.sort_unstable_by.new.self.items in
     let moved = IsPermutation-map (function_of meaning) old new c.sort_unstable_by.ensures.permutation in
-    let up = c.sort_unstable_by.ensures.sorted (λ f h. is_lt (path_cmp (path_of f.name) (path_of h.name))) (ranks_by path_total (λ f. path_of f.name)) (answers_always _ _ _ (λ f a r h called. let is : r ≡ name_cmp a.0.now.name a.1.0.now.name = search rules in ap is_lt (is ∙ name_cmp_is a.0.now.name a.1.0.now.name))) in
-    let differ = subst (λ xs. AllAdjacentBelow (λ f h. not (path_eq (path_of f.name) (path_of h.name)) ≡ true) xs (length xs)) c.deref-3.ensures.value c.if-not-neighbours_differ.ensures in
+    let up = c.sort_unstable_by.ensures.sorted (λ f h. is_lt (path_cmp (path_of f.name) (path_of h.name)))
+    (ranks_by path_total (λ f. path_of f.name))
+    (answers_always _ _ _ (λ f a r h called. let is : r ≡ name_cmp a.0.now.name a.1.0.now.name = search rules in
+    ap is_lt (is ∙ name_cmp_is a.0.now.name a.1.0.now.name))) in
+    let differ = subst (λ xs. AllAdjacentBelow (λ f h. not (path_eq (path_of f.name) (path_of h.name)) ≡ true) xs
+    (length xs)) c.deref-3.ensures.value c.if-not-neighbours_differ.ensures in
     fault_of (map (function_of meaning) old) false false false
-    (sym (c.has_bad_return.ensures meaning ∙ ap (λ xs. list_any has_bad_return (map (function_of meaning) xs)) c.deref.ensures.value) ∙ c.if-has_bad_return.false)
-    (sym (c.has_variadic_without_arguments.ensures meaning ∙ ap (λ xs. list_any lacks_arguments (map (function_of meaning) xs)) c.deref-2.ensures.value) ∙ c.if-has_variadic_without_arguments.false)
+    (sym (c.has_bad_return.ensures meaning ∙ ap (λ xs. list_any has_bad_return (map (function_of meaning) xs))
+    c.deref.ensures.value) ∙ c.if-has_bad_return.false)
+    (sym (c.has_variadic_without_arguments.ensures meaning
+    ∙ ap (λ xs. list_any lacks_arguments (map (function_of meaning) xs)) c.deref-2.ensures.value)
+    ∙ c.if-has_variadic_without_arguments.false)
     (two_alike_moved _ _ moved ∙ neighbours_apart meaning new up differ)
 
 pub returns-clause-functions : goal.returns-clause-functions
@@ -72,6 +94,10 @@ returns-clause-functions g c = λ meaning n.
     let old = c.args.functions.items in
     let new = c.sort_unstable_by.new.self.items in
     let moved = IsPermutation-map (function_of meaning) old new c.sort_unstable_by.ensures.permutation in
-    let up = c.sort_unstable_by.ensures.sorted (λ f h. is_lt (path_cmp (path_of f.name) (path_of h.name))) (ranks_by path_total (λ f. path_of f.name)) (answers_always _ _ _ (λ f a r h called. let is : r ≡ name_cmp a.0.now.name a.1.0.now.name = search rules in ap is_lt (is ∙ name_cmp_is a.0.now.name a.1.0.now.name))) in
-    let differ = subst (λ xs. AllAdjacentBelow (λ f h. not (path_eq (path_of f.name) (path_of h.name)) ≡ true) xs (length xs)) c.deref-3.ensures.value c.if-not-neighbours_differ.ensures in
+    let up = c.sort_unstable_by.ensures.sorted (λ f h. is_lt (path_cmp (path_of f.name) (path_of h.name)))
+    (ranks_by path_total (λ f. path_of f.name))
+    (answers_always _ _ _ (λ f a r h called. let is : r ≡ name_cmp a.0.now.name a.1.0.now.name = search rules in
+    ap is_lt (is ∙ name_cmp_is a.0.now.name a.1.0.now.name))) in
+    let differ = subst (λ xs. AllAdjacentBelow (λ f h. not (path_eq (path_of f.name) (path_of h.name)) ≡ true) xs
+    (length xs)) c.deref-3.ensures.value c.if-not-neighbours_differ.ensures in
     named_moved _ _ moved (neighbours_apart meaning new up differ) n

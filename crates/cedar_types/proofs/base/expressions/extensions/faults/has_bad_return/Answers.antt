@@ -11,7 +11,8 @@ returns-then-is_return_bad g c = λ meaning.
     let fs = c.args.functions.now in
     let i = c.loop-function.function-index in
     let here : i < length fs = omega arith in
-    sym (any_turn (λ f. has_bad_return (function_of (λ check args. None) f)) fs i c.function-item.result true here c.function-item.is (sym (c.is_return_bad.ensures (λ check args. None)) ∙ c.if-is_return_bad.true))
+    sym (any_turn (λ f. has_bad_return (function_of (λ check args. None) f)) fs i c.function-item.result true here
+    c.function-item.is (sym (c.is_return_bad.ensures (λ check args. None)) ∙ c.if-is_return_bad.true))
     ∙ c.loop-function.invariant
     ∙ any_mapped (function_of meaning) has_bad_return fs
 
@@ -20,7 +21,8 @@ loop-function-preserved g c =
     let fs = c.args.functions.now in
     let i = c.loop-function.function-index in
     let here : i < length fs = omega arith in
-    sym (any_turn (λ f. has_bad_return (function_of (λ check args. None) f)) fs i c.function-item.result false here c.function-item.is (sym (c.is_return_bad.ensures (λ check args. None)) ∙ c.if-is_return_bad.false))
+    sym (any_turn (λ f. has_bad_return (function_of (λ check args. None) f)) fs i c.function-item.result false here
+    c.function-item.is (sym (c.is_return_bad.ensures (λ check args. None)) ∙ c.if-is_return_bad.false))
     ∙ c.loop-function.invariant
 
 pub returns : goal.returns

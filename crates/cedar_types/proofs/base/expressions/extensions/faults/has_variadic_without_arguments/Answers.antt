@@ -11,7 +11,8 @@ returns-then-lacks_arguments g c = λ meaning.
     let fs = c.args.functions.now in
     let i = c.loop-function.function-index in
     let here : i < length fs = omega arith in
-    sym (any_turn (λ f. lacks_arguments (function_of (λ check args. None) f)) fs i c.function-item.result true here c.function-item.is (sym (c.lacks_arguments.ensures (λ check args. None)) ∙ c.if-lacks_arguments.true))
+    sym (any_turn (λ f. lacks_arguments (function_of (λ check args. None) f)) fs i c.function-item.result true here
+    c.function-item.is (sym (c.lacks_arguments.ensures (λ check args. None)) ∙ c.if-lacks_arguments.true))
     ∙ c.loop-function.invariant
     ∙ any_mapped (function_of meaning) lacks_arguments fs
 
@@ -20,7 +21,8 @@ loop-function-preserved g c =
     let fs = c.args.functions.now in
     let i = c.loop-function.function-index in
     let here : i < length fs = omega arith in
-    sym (any_turn (λ f. lacks_arguments (function_of (λ check args. None) f)) fs i c.function-item.result false here c.function-item.is (sym (c.lacks_arguments.ensures (λ check args. None)) ∙ c.if-lacks_arguments.false))
+    sym (any_turn (λ f. lacks_arguments (function_of (λ check args. None) f)) fs i c.function-item.result false here
+    c.function-item.is (sym (c.lacks_arguments.ensures (λ check args. None)) ∙ c.if-lacks_arguments.false))
     ∙ c.loop-function.invariant
 
 pub returns : goal.returns

@@ -13,7 +13,8 @@ returns-then-eq g c =
       omega arith,
       λ d. ap not (
           ap (λ j. path_eq (path_of (get_or fs before d).name) (path_of (get_or fs j d).name)) next
-          ∙ sym (compared fs before c.loop-later.later c.index-functions-later.result c.index-functions-later-in-loop-later.result d (omega arith) (omega arith))
+          ∙ sym (compared fs before c.loop-later.later c.index-functions-later.result
+          c.index-functions-later-in-loop-later.result d (omega arith) (omega arith))
           ∙ sym c.eq.ensures
           ∙ c.if-eq.true),
     )
@@ -22,7 +23,9 @@ pub loop-later-preserved : goal.loop-later-preserved
 loop-later-preserved g c =
     let fs = c.args.functions.now in
     let before = c.loop-later.later - 1 in
-    all_adjacent_more fs (λ f h. not (path_eq (path_of f.name) (path_of h.name)) ≡ true) c.loop-later.later (omega arith) c.loop-later.invariant (λ d. ap not (
-    sym (compared fs before c.loop-later.later c.index-functions-later.result c.index-functions-later-in-loop-later.result d (omega arith) (omega arith))
+    all_adjacent_more fs (λ f h. not (path_eq (path_of f.name) (path_of h.name)) ≡ true) c.loop-later.later
+    (omega arith) c.loop-later.invariant (λ d. ap not (
+    sym (compared fs before c.loop-later.later c.index-functions-later.result
+    c.index-functions-later-in-loop-later.result d (omega arith) (omega arith))
     ∙ sym c.eq.ensures
     ∙ c.if-eq.false))

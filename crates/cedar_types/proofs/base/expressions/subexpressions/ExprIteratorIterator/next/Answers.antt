@@ -15,9 +15,11 @@ returns-in-Ok-clause-steps g c =
     let below : List (Tree Written) = map (λ x. written x.now) c.pop.new.self.items in
     let after : List (Tree Written) = map (λ x. written x.now) c.push_parts.new.stack.items in
     let running : c.args.self.now.ended ≡ false = c.if-self.false in
-    let popped : whole ≡ below ++ e ∷ [] = ap (map (λ x. written x.now)) c.in-Some.ensures.items ∙ map-append (λ x. written x.now) c.pop.new.self.items (c.in-Some.expr ∷ []) in
+    let popped : whole ≡ below ++ e ∷ [] = ap (map (λ x. written x.now)) c.in-Some.ensures.items
+    ∙ map-append (λ x. written x.now) c.pop.new.self.items (c.in-Some.expr ∷ []) in
     let pushed : after ≡ below ++ parts e = c.in-Ok.ensures in
-    let given : from_last whole ≡ e ∷ from_last after = ap from_last popped ∙ visited e below ∙ ap (λ ts. e ∷ from_last ts) (sym pushed) in (
+    let given : from_last whole ≡ e ∷ from_last after = ap from_last popped ∙ visited e below
+    ∙ ap (λ ts. e ∷ from_last ts) (sym pushed) in (
       running,
       running,
       ap (λ b. cond b [] (from_last whole)) running ∙ given ∙ ap (λ b. e ∷ cond b [] (from_last after)) (sym running),

@@ -8,4 +8,6 @@ use Rattle.cedar_types.proofs.base.schema.action_tables.ActionTable.all_declared
 
 -- what is left decides
 abbrev pub invariant-loop-name : goal.invariant-loop-name
-invariant-loop-name l = list_all (declares_action (actions_in l.self)) (map uid_of l.name-iterator) ≡ list_all (declares_action (actions_in l.fn.self)) (uids_of l.fn.names)
+invariant-loop-name l =
+    list_all (declares_action (actions_in l.self)) (map uid_of l.name-iterator)
+    ≡ list_all (declares_action (actions_in l.fn.self)) (uids_of l.fn.names)

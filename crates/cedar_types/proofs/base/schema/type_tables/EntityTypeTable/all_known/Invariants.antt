@@ -8,4 +8,6 @@ use Rattle.cedar_types.proofs.base.schema.type_tables.EntityTypeTable.all_known.
 
 -- what is left decides
 abbrev pub invariant-loop-name : goal.invariant-loop-name
-invariant-loop-name l = list_all (knows_type (types_in l.self)) (map type_of l.name-iterator) ≡ list_all (knows_type (types_in l.fn.self)) (types_of l.fn.names)
+invariant-loop-name l =
+    list_all (knows_type (types_in l.self)) (map type_of l.name-iterator)
+    ≡ list_all (knows_type (types_in l.fn.self)) (types_of l.fn.names)

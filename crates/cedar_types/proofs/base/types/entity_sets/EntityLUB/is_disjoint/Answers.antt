@@ -9,4 +9,5 @@ pub returns : goal.returns
 unfolding lub_of
 returns c =
     let ps = lub_of c.args.other.now in
-    ap not (c.shares.ensures ∙ ap (λ s. list_any (λ k. list_any (path_eq (type_of k)) ps) s.keys) c.deref.ensures ∙ any_mapped type_of (λ p. list_any (path_eq p) ps) c.args.self.now.lub_elements.value.keys)
+    ap not (c.shares.ensures ∙ ap (λ s. list_any (λ k. list_any (path_eq (type_of k)) ps) s.keys) c.deref.ensures
+    ∙ any_mapped type_of (λ p. list_any (path_eq p) ps) c.args.self.now.lub_elements.value.keys)

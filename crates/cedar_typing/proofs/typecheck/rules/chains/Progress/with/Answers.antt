@@ -15,7 +15,8 @@ returns-then-is_declared-is_true c a h =
     let b = c.is_true_type-is_true.result in
     let both = c.if-is_declared-is_true.true in
     with_step_is old new b u (step_earns u q a)
-    (earned old.earned new u q a (h ∙ is_there c.args.is_declared b both) (sym c.is_true_type-is_true.ensures ∙ is_new c.args.is_declared b both) c.in_ok-insert.ensures.added)
+    (earned old.earned new u q a (h ∙ is_there c.args.is_declared b both)
+    (sym c.is_true_type-is_true.ensures ∙ is_new c.args.is_declared b both) c.in_ok-insert.ensures.added)
     c.is_true_type-is_true.ensures
 
 pub returns : goal.returns
