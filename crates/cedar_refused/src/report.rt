@@ -1,6 +1,6 @@
 // A line for each call: its name, and what came of it.
 use crate::calls::answers::FOLLOW_UPS;
-use crate::calls::capabilities::{SETS, TAGS};
+use crate::calls::capabilities::{SETS, STEPS, TAGS};
 use crate::calls::copies::COPIES;
 use crate::calls::environments::{ChecksMaking, ChecksWalk, LinkedMaking, LinkedWalk, MODE, Walk};
 use crate::calls::expressions::{MORE, ONE_OPERAND, TWO_OPERANDS};
@@ -64,6 +64,7 @@ fn made_of_parts<W: Write>(alloc: Global, rules: Rules<'_>, out: &mut W) -> io::
     write_table(alloc, rules, &TYPES, out)?;
     write_table(alloc, rules, &COPIES, out)?;
     write_table(alloc, rules, &SETS, out)?;
+    write_table(alloc, rules, &STEPS, out)?;
     write_table(alloc, rules, &TAGS, out)?;
     write_table(alloc, rules, &FOLLOW_UPS, out)
 }

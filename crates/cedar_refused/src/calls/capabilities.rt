@@ -3,8 +3,8 @@ use crate::calls::lines::{Rules, Tried};
 use crate::outcomes::{Outcome, ended};
 use crate::pictures::picture;
 use crate::refusals::refuse;
-use cedar_types::base::{Expr, Literal, Var};
-use cedar_types::types::capability::{Capability, CapabilitySet};
+use cedar_types::base::{AttrChain, Expr, Literal, Var};
+use cedar_types::types::capability::{Capability, CapabilitySet, ChainStep};
 use std::alloc::{AllocError, Global};
 use std::rc::RcStr;
 
@@ -106,6 +106,27 @@ fn inserted(alloc: Global, number: u16) -> Result<Outcome, AllocError> {
     })
 }
 
+/// The first step of an extended `has`.
+#[derive(Clone, Copy)]
+pub struct OfSteps;
+
+impl Tried for OfSteps {
+    fn made(
+        self,
+        alloc: Global,
+        _rules: Rules<'_>,
+        text: &str,
+        number: u16,
+    ) -> Result<Outcome, AllocError> {
+        let (base, first) = (Expr::var(Var::Principal), RcStr::from_str(alloc, text)?);
+        let rest = vec![in alloc; first.clone()?]?;
+        let attrs = AttrChain { first, rest };
+        let step = ChainStep::first(&base, &attrs);
+        refuse(alloc, number);
+        ended(alloc, step.capability(), &attrs)
+    }
+}
+
 impl Tried for OfSets {
     fn made(
         self,
@@ -143,6 +164,9 @@ pub const SETS: [(OfSets, &str); 6] = [
     (OfSets::Intersect, "CapabilitySet::intersect | nick"),
     (OfSets::Copy, "CapabilitySet::try_clone | nick"),
 ];
+
+/// What a step of an extended `has` finds.
+pub const STEPS: [(OfSteps, &str); 1] = [(OfSteps, "- ChainStep::capability | boss | boss")];
 
 /// The same of sets that know tags.
 pub const TAGS: [(OfTags, &str); 4] = [
