@@ -10,7 +10,7 @@ use Rattle.cedar_types.specs.declared.base.types.CedarType.{CedarType}
 use Rattle.cedar_types.specs.Names.{text_of, path_of, type_of, Text, Path}
 use Rattle.cedar_types.specs.Types.{Ty, TExtension, ty_of}
 use Rattle.cedar_types.specs.Expressions.View.{Written, no_name, of_type, chain_of, written}
-use Rattle.cedar_types.specs.Capability.{caps, HasNone}
+use Rattle.cedar_types.specs.Capability.{Cap, caps, HasNone}
 use Rattle.cedar_types.specs.Errors.{Finding, finding_of}
 use Rattle.cedar_types.specs.declared.types.capability.CapabilitySet.{CapabilitySet}
 use Rattle.cedar_types.specs.Environments.RequestEnvs.{env_of}

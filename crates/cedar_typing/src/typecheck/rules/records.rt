@@ -187,5 +187,6 @@ fn record_node(
         ≡ record_of (typed_as (option_map ty_of ty) (at loc))
         (fields_from (keys_in fields.entries) (trees_in fields.entries))) }
 {
-    node(alloc, loc, ty, ExprKind::Record(fields))
+    let typed = node(alloc, loc, ty, ExprKind::Record(fields))?;
+    Ok(typed)
 }

@@ -21,16 +21,16 @@ returns-clause-decides c next =
     let env = env_at c.args.self.now in
     let e = step_written c.args.at.now in
     let s = ty_of c.args.ty.now in
-    let x = text_of c.attr.result.now in
+    let x = text_of c.attr-attr.result.now in
     let l = c.args.place in
     let a = attribute_type env.schema s x in
     let prior = known_in c.args.prior.now in
     let p = progress_of c.args.progress in
     let same : cap_of c.in_ok-there.there ≡ attribute_of e x =
-      c.in_ok-there.ensures ∙ (λ i. attribute (sym (step_form c.args.at.now) i) (sym c.attr.ensures i)) in
+    c.in_ok-there.ensures ∙ (λ i. attribute (sym (step_form c.args.at.now) i) (sym c.attr-attr.ensures i)) in
     subst
     (λ (y : Text). next (progress_of c.in_ok-progress.progress) ≡ step env l (attribute_of e y) (union prior p.earned (attribute_of e y)) s y p next)
-    c.attr.ensures
+    c.attr-attr.ensures
     (goes_on env l s x prior p next (attribute_of e x) (cap_of c.in_ok-there.there) _ _ _
     same
     c.knows-is_known.ensures
@@ -45,14 +45,14 @@ returns-clause-knows c =
     let e = step_written c.args.at.now in
     let s = ty_of c.args.ty.now in
     let u = ty_of c.step_type-step_ty.result in
-    let x = text_of c.attr.result.now in
+    let x = text_of c.attr-attr.result.now in
     let l = c.args.place in
     let a = attribute_type env.schema s x in
     let prior = known_in c.args.prior.now in
     let p = progress_of c.args.progress in
     let q = cap_of c.in_ok-there.there in
     let same : q ≡ attribute_of e (step_attr c.args.at.now) =
-      c.in_ok-there.ensures ∙ (λ i. attribute (sym (step_form c.args.at.now) i) (step_attr c.args.at.now)) in
+    c.in_ok-there.ensures ∙ (λ i. attribute (sym (step_form c.args.at.now) i) (step_attr c.args.at.now)) in
     let declared = some_declared env l s x a ∙ (λ i. is_some (sym c.in_ok-required.ensures i)) ∙ sym c.is_some-is_declared.ensures in
     known_after prior p.earned (caps c.in_ok-progress.progress.earned) (step_earns u q a) (attribute_of e (step_attr c.args.at.now)) q _ _
     same
@@ -65,18 +65,18 @@ returns-then-is_false_type-clause-decides c next =
     let env = env_at c.args.self.now in
     let e = step_written c.args.at.now in
     let s = ty_of c.args.ty.now in
-    let x = text_of c.attr.result.now in
+    let x = text_of c.attr-attr.result.now in
     let l = c.args.place in
     let a = attribute_type env.schema s x in
     let prior = known_in c.args.prior.now in
     let p = progress_of c.args.progress in
     let same : cap_of c.in_ok-there.there ≡ attribute_of e x =
-      c.in_ok-there.ensures ∙ (λ i. attribute (sym (step_form c.args.at.now) i) (sym c.attr.ensures i)) in
+    c.in_ok-there.ensures ∙ (λ i. attribute (sym (step_form c.args.at.now) i) (sym c.attr-attr.ensures i)) in
     c.gives.ensures
     ∙ ap (λ t. gives t no_caps) c.bool_type.ensures
     ∙ subst
     (λ (y : Text). gives (TBool False) no_caps ≡ step env l (attribute_of e y) (union prior p.earned (attribute_of e y)) s y p next)
-    c.attr.ensures
+    c.attr-attr.ensures
     (ends env l s x prior p next (attribute_of e x) (cap_of c.in_ok-there.there) _ _
     same
     c.knows-is_known.ensures
