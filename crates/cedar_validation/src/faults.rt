@@ -58,7 +58,7 @@ pub fn read_fault(
     };
     let token = token_text(text, start);
     let read = beginning(token);
-    let trouble = trouble(written, fault, token);
+    let trouble = trouble_of(written, fault, token);
     Ok(TextFault {
         place: Loc {
             start,
@@ -69,7 +69,7 @@ pub fn read_fault(
 }
 
 /// What a fault at this token is.
-fn trouble(written: Written, fault: Fault, token: &str) -> Trouble {
+fn trouble_of(written: Written, fault: Fault, token: &str) -> Trouble {
     match fault {
         Fault::TooDeep if written == Written::Schema => Trouble::DeepType,
         Fault::TooDeep => Trouble::TooDeep,

@@ -24,7 +24,7 @@ pub enum Content {
 /// What the file of this name has, or standard input at `-`.
 pub fn read<R: Files + AllocGlobal + Input>(rt: &R, name: &str) -> io::Result<Content> {
     let bytes = read_bytes(rt, name)?;
-    Ok(content(rt.alloc(), bytes.as_slice())?)
+    Ok(content_of(rt.alloc(), bytes.as_slice())?)
 }
 
 fn read_bytes<R: Files + AllocGlobal + Input>(rt: &R, name: &str) -> io::Result<Vec<u8>> {
@@ -37,7 +37,7 @@ fn read_bytes<R: Files + AllocGlobal + Input>(rt: &R, name: &str) -> io::Result<
 }
 
 /// What these bytes say in UTF-8. A byte order mark at the beginning is no part of the text.
-pub fn content(alloc: Global, bytes: &[u8]) -> Result<Content, AllocError> {
+pub fn content_of(alloc: Global, bytes: &[u8]) -> Result<Content, AllocError> {
     let valid = match str::from_utf8(bytes) {
         Ok(text) => return Ok(Content::Text(String::from_str(alloc, without_mark(text))?)),
         Err(error) => error.valid_up_to(),

@@ -1,6 +1,6 @@
 // Bytes of files, and the texts that they are.
 use cedar_reading::Position;
-use cedar_validation::sources::{Content, content};
+use cedar_validation::sources::{Content, content_of};
 use std::alloc::{AllocError, Global};
 use std::test::Fail;
 
@@ -39,7 +39,7 @@ fn files(rt: HostRuntime) -> Result<(), Fail> {
 
 /// What these bytes say, or where and why they say nothing.
 fn said(alloc: Global, bytes: &[u8]) -> Result<String, AllocError> {
-    match content(alloc, bytes)? {
+    match content_of(alloc, bytes)? {
         Content::Text(text) => format!(in alloc; "text {text}"),
         Content::Broken(front, fault) => {
             let Position { line, column } = Position::in_text(front.as_str(), fault.place.start);

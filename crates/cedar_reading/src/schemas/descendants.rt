@@ -71,7 +71,7 @@ impl<'a, N: Ord + Clone + Drop, K> Family<'a, N, K> {
     /// Adds what is declared in this name. What of it is new is left to be looked at.
     fn add_children(
         &self,
-        name: &N,
+        name: &'a N,
         found: &mut BTreeSet<N>,
         left: &mut Vec<&'a N>,
     ) -> Result<(), AllocError> {
