@@ -12,8 +12,8 @@ use std::alloc::{AllocError, Global};
 use std::collections::HashSet;
 
 /// The text of a policy that is refused without an error, where each name is the schema's.
-const NESTED: &str = "nested too deep to be checked: 400 parts at most may stand inside each \
-     other, and a chain of `&&`, `||`, `+` or accesses nests one deeper at each step";
+const NESTED: &str = "nested too deep to be checked: fewer than 400 parts may stand inside \
+     each other, and a chain of `&&`, `||`, `+` or accesses nests one deeper at each step";
 
 /// The text of one where names may be others.
 const UNEXPLAINED: &str = "refused without an error: a part is nested too deep, or names what \
