@@ -28,7 +28,7 @@ fn main(rt: HostRuntime) -> ExitCode {
         return ExitCode::FAILURE;
     };
     let Ok(extensions) = ExtensionSchemas::new(functions, ordered) else {
-        unreachable!()
+        return ExitCode::FAILURE;
     };
     let mut out = rt.stdout();
     match report(alloc, &extensions, &mut out) {

@@ -152,9 +152,17 @@ fn walks<W: Write>(alloc: Global, rules: Rules<'_>, out: &mut W) -> io::Result<(
 fn whole_checks<W: Write>(alloc: Global, rules: Rules<'_>, out: &mut W) -> io::Result<()> {
     let schema = rules.validator.schema();
     let checker = Typechecker::new(schema, rules.extensions, ValidationMode::Strict);
+    whole_checks_by(alloc, &checker, out)
+}
+
+fn whole_checks_by<W: Write>(
+    alloc: Global,
+    checker: &Typechecker<'_>,
+    out: &mut W,
+) -> io::Result<()> {
     let (one, many) = (policy(alloc, ONE)?, policy(alloc, MANY)?);
     let small = WholeCheck {
-        checker: &checker,
+        checker,
         policy: &one.template,
         held: 1,
         holds_finding: false,
@@ -162,7 +170,7 @@ fn whole_checks<W: Write>(alloc: Global, rules: Rules<'_>, out: &mut W) -> io::R
     };
     // one of the many findings is held before
     let large = WholeCheck {
-        checker: &checker,
+        checker,
         policy: &many.template,
         held: 9,
         holds_finding: true,

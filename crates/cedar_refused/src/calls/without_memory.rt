@@ -148,30 +148,51 @@ pub fn chain_cost(alloc: Global, schema: &ValidatorSchema) -> Result<&'static st
     Ok(outcome(is_as_ever, was_refused))
 }
 
+/// Whether that the owner has an attribute is one with the same of an owner and a name of its own.
+fn is_one_attribute(owner: &Expr, own: Expr, names: (RcStr, RcStr)) -> bool {
+    Capability::new_attribute(owner, names.0) == Capability::new_attribute_owned(own, names.1)
+}
+
+/// Whether that the owner has a tag is one with the same of a name of its own.
+fn is_one_tag<'a>(owner: &'a Expr, name: &'a Expr, own: Expr) -> bool {
+    Capability::new_borrowed_tag(owner, name) == Capability::new_owned_tag(owner, own)
+}
+
+/// Whether the set has it that the owner has the attribute.
+fn is_known(set: &CapabilitySet<'_>, owner: Expr, name: RcStr) -> bool {
+    set.contains(&Capability::new_attribute_owned(owner, name))
+}
+
+/// Whether a set of this owner's attribute has it that it has the tag.
+fn is_taken_for_a_tag(
+    alloc: Global,
+    owner: &Expr,
+    name: Expr,
+    attr: RcStr,
+) -> Result<bool, AllocError> {
+    let set = CapabilitySet::singleton(alloc, Capability::new_attribute(owner, attr))?;
+    refuse_all(alloc);
+    Ok(set.contains(&Capability::new_owned_tag(owner, name)))
+}
+
 /// The makers of capabilities, and what is asked of a set of them.
 pub fn capabilities(alloc: Global) -> Result<&'static str, AllocError> {
     let (owner, name) = (
         Expr::var(Var::Principal),
         Expr::val(Literal::from_string(alloc, "t")?),
     );
-    let (own_owner, own_name) = (expression(alloc, "principal")?, name.try_clone(alloc)?);
-    let (vip, nick) = (
-        RcStr::from_str(alloc, "vip")?,
-        RcStr::from_str(alloc, "vip")?,
-    );
+    let (own_name, tag_name) = (name.try_clone(alloc)?, name.try_clone(alloc)?);
+    let own_owner = expression(alloc, "principal")?;
+    let (known_owner, other_owner) = (owner.try_clone(alloc)?, owner.try_clone(alloc)?);
+    let vip = RcStr::from_str(alloc, "vip")?;
+    let vips = (vip.clone()?, vip.clone()?);
+    let (known_vip, other_vip) = (vip.clone()?, vip.clone()?);
     let known = having(alloc, "vip", "nick")?;
-    refuse_all(alloc);
-    let borrowed = Capability::new_attribute(&owner, vip);
-    let owned = Capability::new_attribute_owned(own_owner, nick);
-    let tag = Capability::new_borrowed_tag(&owner, &name);
-    let own_tag = Capability::new_owned_tag(&owner, own_name);
-    let none = CapabilitySet::new(alloc);
-    let is_as_ever = borrowed == owned
-        && tag == own_tag
-        && tag != owned
-        && known.contains(&owned)
-        && !known.contains(&tag)
-        && !none.contains(&owned);
+    let is_taken = is_taken_for_a_tag(alloc, &owner, tag_name, vip)?;
+    let is_one = is_one_attribute(&owner, own_owner, vips) && is_one_tag(&owner, &name, own_name);
+    let is_known_there = is_known(&known, known_owner, known_vip);
+    let is_known_nowhere = is_known(&CapabilitySet::new(alloc), other_owner, other_vip);
+    let is_as_ever = is_one && is_known_there && !is_known_nowhere && !is_taken;
     let was_refused = was_refused(alloc);
     Ok(outcome(is_as_ever, was_refused))
 }
