@@ -172,7 +172,7 @@ pub const STEPS: [(OfSteps, &str); 1] = [(OfSteps, "- ChainStep::capability | bo
 pub const TAGS: [(OfTags, &str); 4] = [
     (
         OfTags(OfSets::Singleton),
-        "CapabilitySet::singleton, borrowed | Borrowed",
+        "CapabilitySet::singleton, borrowed | Lent",
     ),
     (OfTags(OfSets::Union), "CapabilitySet::union, of tags | Tag"),
     (
