@@ -91,13 +91,19 @@ def held(program, room, actions, condition):
     return max(size for _, size in found), late[0], max(late)
 
 
-def main(words):
+def program_to_count(words):
+    """The program that the words name, or cedar_cases as rt ci built it, where valgrind can run it."""
     program = Path(words[0]).resolve() if words else PROGRAM
     if not program.is_file():
         sys.exit(f"there is no program {program}: rt ci builds it")
     if not shutil.which("valgrind"):
         sys.exit("valgrind is needed: apt-get install valgrind")
     resource.setrlimit(resource.RLIMIT_CORE, (0, 0))
+    return program
+
+
+def main(words):
+    program = program_to_count(words)
     conditions = " && ".join(f"({it})" for it in CONDITIONS * 4)
     with tempfile.TemporaryDirectory() as room:
         check, both = (for_each_environment(program, room, conditions, asked) for asked in (CHECK, LEVELS))

@@ -7,8 +7,6 @@ some more of the same kind, so that reading the policy is taken away. Chains of 
 A chain of accesses, and one `has` with 10 to 300 attributes, are longer expressions. The last figure is that of the
 benchmark's policy. It needs valgrind, and is no part of the gate.
 """
-import resource
-import shutil
 import sys
 import tempfile
 from pathlib import Path
@@ -92,12 +90,7 @@ def benchmark_policy(program, room):
 
 
 def main(words):
-    program = Path(words[0]).resolve() if words else benchmark.PROGRAM
-    if not program.is_file():
-        sys.exit(f"there is no program {program}: rt ci builds it")
-    if not shutil.which("valgrind"):
-        sys.exit("valgrind is needed: apt-get install valgrind")
-    resource.setrlimit(resource.RLIMIT_CORE, (0, 0))
+    program = benchmark.program_to_count(words)
     optional = lambda size: [f"a{i}?: Long" for i in range(size)]
     with tempfile.TemporaryDirectory() as room:
         measure(program, room, "guards", LENGTHS, optional, guards)

@@ -9,15 +9,13 @@ set shows what another has, so each is looked at. The last line counts the lines
 cedar_cases, by default the one that rt ci built. It needs valgrind, and is no part of the gate.
 """
 import re
-import resource
-import shutil
 import subprocess
 import sys
 import tempfile
 from pathlib import Path
 
-TOP = Path(__file__).resolve().parent.parent
-PROGRAM = TOP / "crates" / "cedar_cases" / "out" / "cedar_cases"
+from benchmark import program_to_count
+
 SIZES = (30, 60, 120)
 LIMIT = 5.6
 CHECKS = ("are_types_closed", "are_actions_closed")
@@ -83,12 +81,7 @@ def instructions(program, room, rows, check):
 
 
 def main(words):
-    program = Path(words[0]).resolve() if words else PROGRAM
-    if not program.is_file():
-        sys.exit(f"there is no program {program}: rt ci builds it")
-    if not shutil.which("valgrind"):
-        sys.exit("valgrind is needed: apt-get install valgrind")
-    resource.setrlimit(resource.RLIMIT_CORE, (0, 0))
+    program = program_to_count(words)
     passed = failed = 0
     with tempfile.TemporaryDirectory() as room:
         for name, schema, check in (("types", types, CHECKS[0]), ("actions", actions, CHECKS[1])):
