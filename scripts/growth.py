@@ -3,9 +3,10 @@
 
 PROGRAM is cedar_cases, by default the one that rt ci built. Valgrind counts its instructions over one environment and over
 some more of the same kind, so that reading the policy is taken away. Chains of guards grow from 50 to 800: `has` alone, and each
-`has` with the access that it allows. They stand in parentheses, in halves of halves, since a policy may be nested 400 deep.
-A chain of accesses, and one `has` with 10 to 300 attributes, are longer expressions. The last figure is that of the
-benchmark's policy. It needs valgrind, and is no part of the gate.
+`has` with the access that it allows. They stand in parentheses, in halves of halves, since a policy may be nested 400 deep,
+and so do 64 to 4,096 accesses to a required attribute, which need no guard. A chain of accesses, and one `has` with 10 to
+300 attributes, are longer expressions. The last figure is that of the benchmark's policy. It needs valgrind, and is no part
+of the gate.
 """
 import sys
 import tempfile
@@ -14,6 +15,7 @@ from pathlib import Path
 import benchmark
 
 LENGTHS = (50, 100, 200, 400, 800)
+CONJUNCTS = (64, 256, 1024, 4096)
 ACCESSES = (50, 100, 200, 380)
 STEPS = (10, 50, 100, 300)
 MORE = 4
@@ -62,6 +64,10 @@ def guarded_accesses(length):
     return in_halves([f"principal has a{i} && principal.a{i} == {i}" for i in range(length)])
 
 
+def conjunction(length):
+    return in_halves(["principal.ok"] * length)
+
+
 def measure(program, room, what, sizes, attributes, condition):
     """Prints the instructions at each size, and how many times those of the size before they are."""
     last = None
@@ -95,6 +101,7 @@ def main(words):
     with tempfile.TemporaryDirectory() as room:
         measure(program, room, "guards", LENGTHS, optional, guards)
         measure(program, room, "guards with accesses", LENGTHS, optional, guarded_accesses)
+        measure(program, room, "required accesses", CONJUNCTS, lambda _: ["ok: Bool"], conjunction)
         measure(program, room, "accesses", ACCESSES, lambda _: ["a: P", "ok: Bool"], accesses)
         measure(program, room, "attributes of one has", STEPS, lambda _: ["a?: P"], extended_has)
         print(f"the benchmark's policy: {benchmark_policy(program, room):,.0f} instructions")

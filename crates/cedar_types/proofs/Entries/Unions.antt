@@ -1,5 +1,8 @@
 -- A walk over two lists that puts together what either has.
 use Rattle.std.proofs.Common.{◌≡◌, suc, ◌+◌, ◌<◌, Bool, ◌||◌, List, [], ◌∷◌, ◌++◌, length, refl, sym, ap, subst, ◌∙◌, arith}
+use Rattle.std.proofs.Common.{Option, Some}
+use Rattle.std.specs.Prelude.{MatchOption}
+use Rattle.std.specs.Option.{option_to_list}
 use Rattle.std.specs.List.{list_any}
 use Rattle.std.specs.Cmp.{IsTotalOrder}
 use Rattle.std.specs.declared.cmp.Ordering.{Ordering}
@@ -37,6 +40,14 @@ module _ {K : Type 0} (cmp : K → K → Ordering) where
       let p : length ls ≡ suc (length xs) = ap length a in
       let q : length rs ≡ suc (length ys) = ap length b in
       omega arith
+
+  -- the first of both, which are alike, are taken
+  pub both_taken : (ls rs xs ys : List K) (r q : Option K) (x y : K) → r ≡ Some x → q ≡ Some y
+      → ls ≡ option_to_list r ++ xs → rs ≡ option_to_list q ++ ys → cmp x y ≡ Equal
+      → MatchOption r ((ls ≡ []) × (rs ≡ [])) (λ z. IsFirst cmp ls rs z xs ys)
+  both_taken ls rs xs ys r q x y a b l m t =
+      subst (λ o. MatchOption o ((ls ≡ []) × (rs ≡ [])) (λ z. IsFirst cmp ls rs z xs ys)) (sym a)
+      (both_first y (l ∙ ap (λ o. option_to_list o ++ xs) a) (m ∙ ap (λ o. option_to_list o ++ ys) b) t)
 
 module _ {K : Type 0} {cmp : K → K → Ordering} (o : IsTotalOrder cmp) where
   pub merging_begins : (ls rs : List K) → SortedBy cmp ls → SortedBy cmp rs → Merging cmp ls rs [] ls rs

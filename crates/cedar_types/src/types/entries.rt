@@ -8,6 +8,7 @@ ghost use Rattle.cedar_types.specs.Capability.Entries.{IsFirst, HasEither, HasBo
 
 use std::alloc::{AllocError, Global};
 use std::cmp::Ordering;
+use std::collections::VecDeque;
 
 /// What such a set holds: entries that are ordered and can be copied.
 pub trait Entry: Ord {
@@ -78,6 +79,43 @@ pub(crate) fn either_of<T: Entry + Drop>(
         all.push(entry.copy(alloc)?)?;
         xs = more_xs;
         ys = more_ys;
+    }
+    Ok(all)
+}
+
+/// Takes the first of what is left of two lists. What both begin with goes from both.
+fn take_first<T: Ord + Drop>(left: &mut VecDeque<T>, right: &mut VecDeque<T>) -> Option<T>
+    ensures { MatchOption result
+        ((left.old.items ≡ []) × (right.old.items ≡ []))
+        (λ x. IsFirst T.cmp left.old.items right.old.items x left.new.items right.new.items) }
+{
+    match (left.front(), right.front()) {
+        (None, _) => right.pop_front(),
+        (Some(_), None) => left.pop_front(),
+        (Some(x), Some(y)) => match x.cmp(y) {
+            Ordering::Less => left.pop_front(),
+            Ordering::Equal => {
+                drop(right.pop_front());
+                left.pop_front()
+            }
+            Ordering::Greater => right.pop_front(),
+        },
+    }
+}
+
+/// What either list has: their own entries, without a copy. It walks both once.
+pub(crate) fn merged<T: Entry + Drop>(left: Vec<T>, right: Vec<T>) -> Result<Vec<T>, AllocError>
+    requires left { IsStrictlySortedBy T.cmp left.items }
+    requires right { IsStrictlySortedBy T.cmp right.items }
+    ensures ascending { IfOk result (λ v. IsStrictlySortedBy T.cmp v.items) }
+    ensures has { IfOk result (λ v. HasEither T.cmp left.items right.items v.items) }
+{
+    let size = left.len().saturating_add(right.len());
+    let mut all = Vec::with_capacity(*left.allocator(), size)?;
+    let mut xs = VecDeque::from_vec(left);
+    let mut ys = VecDeque::from_vec(right);
+    while let Some(entry) = take_first(&mut xs, &mut ys) {
+        all.push(entry)?;
     }
     Ok(all)
 }

@@ -5,9 +5,12 @@ ghost use Rattle.std.specs.Ordering.{is_eq};
 ghost use Rattle.cedar_types.specs.Capability.Entries.{HasEither, HasBoth, HasOneMore, HasSame};
 
 pub use crate::types::entries::Entry;
-use crate::types::entries::{add_entry, both_of, copied, either_of, has_entry};
+use crate::types::entries::{add_entry, both_of, copied, either_of, has_entry, merged};
 use std::alloc::{AllocError, Global};
 use std::marker::Model;
+
+/// From how many times as many entries on a set is much larger: it is cheaper to look up the place of each entry of the other.
+const MUCH: usize = 8;
 
 /// A set: a vector in ascending order without repeats. Two entries are one where their order says that they are equal.
 #[derive(Drop, Debug)]
@@ -68,8 +71,8 @@ impl<T: Entry + Drop> SortedSet<T> {
         Ok(SortedSet { entries })
     }
 
-    /// What either set has; both end in it. The smaller is put into the larger, so no entry is copied. Where memory is refused,
-    /// the answer is an `AllocError`.
+    /// What either set has; both end in it, and no entry is copied. Where one is much smaller, each of its entries is put in
+    /// its place in the other; else one walk goes over both. Where memory is refused, the answer is an `AllocError`.
     pub fn join(self, other: SortedSet<T>) -> Result<SortedSet<T>, AllocError>
         ensures { IfOk result (λ r. HasEither T.cmp self other r) }
     {
@@ -78,10 +81,20 @@ impl<T: Entry + Drop> SortedSet<T> {
         } else if self.entries.is_empty() {
             Ok(other)
         } else if self.entries.len() < other.entries.len() {
-            other.with_all(self)
+            other.with_fewer(self)
         } else {
-            self.with_all(other)
+            self.with_fewer(other)
         }
+    }
+
+    fn with_fewer(self, other: SortedSet<T>) -> Result<SortedSet<T>, AllocError>
+        ensures { IfOk result (λ r. HasEither T.cmp self other r) }
+    {
+        if other.entries.len() <= self.entries.len() / MUCH {
+            return self.with_all(other);
+        }
+        let entries = merged(self.entries, other.entries)?;
+        Ok(SortedSet { entries })
     }
 
     fn with_all(self, other: SortedSet<T>) -> Result<SortedSet<T>, AllocError>
