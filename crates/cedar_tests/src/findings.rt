@@ -1,4 +1,4 @@
-// Which errors are the same finding, which warnings the same caution, and what each says.
+// Which errors are the same finding, and which warnings the same caution.
 use crate::kinds::{Fields, Kind, application, error, parts_of_errors};
 use crate::parts::{place, policy, uid};
 use cedar_types::base::{EntityUID, Loc, PolicyID, ValidationError, ValidationWarning};
@@ -10,7 +10,7 @@ use std::test::Fail;
 
 /// A field of `Fields`.
 #[derive(Clone, Copy, PartialEq, Eq, Debug)]
-enum Field {
+pub enum Field {
     Place,
     Policy,
     First,
@@ -30,7 +30,7 @@ const FIELDS: [Field; 6] = [
 
 /// The fields that each kind has beside its place and its policy, and what it says: `FIRST` and `SECOND` stand for the
 /// fields, and `ID` for the second as an id is shown.
-const KINDS: [(Kind, &[Field], &str); 17] = [
+pub const KINDS: [(Kind, &[Field], &str); 17] = [
     (
         Kind::UnrecognizedEntityType,
         &[Field::First],
@@ -118,7 +118,7 @@ const KINDS: [(Kind, &[Field], &str); 17] = [
     ),
 ];
 
-const PLAIN: Fields = Fields {
+pub const PLAIN: Fields = Fields {
     place: 1,
     policy: "policy0",
     first: "a",
@@ -155,7 +155,7 @@ fn counts(field: Field, own: &[Field]) -> bool {
     matches!(field, Field::Place | Field::Policy) || own.contains(&field)
 }
 
-fn made(alloc: Global, kind: Kind, fields: Fields<'_>) -> Result<ValidationError, AllocError> {
+pub fn made(alloc: Global, kind: Kind, fields: Fields<'_>) -> Result<ValidationError, AllocError> {
     Ok(error(kind, fields, parts_of_errors(alloc, fields)?))
 }
 
@@ -223,11 +223,11 @@ fn errors_of_two_kinds_are_two(rt: HostRuntime) -> Result<(), Fail> {
     Ok(())
 }
 
-fn applied(alloc: Global, fields: Fields<'_>) -> Result<ValidationWarning, AllocError> {
+pub fn applied(alloc: Global, fields: Fields<'_>) -> Result<ValidationWarning, AllocError> {
     Ok(application(fields, PolicyID::from_string(alloc, fields.policy)?))
 }
 
-fn impossible(alloc: Global, fields: Fields<'_>) -> Result<ValidationWarning, AllocError> {
+pub fn impossible(alloc: Global, fields: Fields<'_>) -> Result<ValidationWarning, AllocError> {
     let id = PolicyID::from_string(alloc, fields.policy)?;
     Ok(ValidationWarning::impossible_policy(place(fields.place), id))
 }
@@ -253,89 +253,6 @@ fn is_told_of_warnings(alloc: Global, field: Field) -> Result<bool, AllocError> 
 fn warnings_are_one_where_all_fields_are(rt: HostRuntime) -> Result<(), Fail> {
     for field in FIELDS {
         assert!(rt; is_told_of_warnings(rt.alloc(), field)?, "{field:?}");
-    }
-    Ok(())
-}
-
-/// A line break, a quote, a backquote, the characters ESC and NUL, one that turns the direction of a text, a backslash; and
-/// what would be a line of its own.
-const ODD: [&str; 8] = [
-    "x\ny",
-    "x\"y",
-    "x`y",
-    "x\u{1b}[31my",
-    "x\0y",
-    "x\u{202e}y",
-    "x\\y",
-    "x` is well\nfor policy `z`, y",
-];
-
-/// What is said of fields: each text as it is, save that in an id a quote and a backslash stand behind a backslash.
-fn said(alloc: Global, text: &str, fields: Fields<'_>) -> Result<String, AllocError> {
-    let id = fields.second.replace(alloc, '\\', "\\\\")?;
-    let id = id.replace(alloc, '"', "\\\"")?;
-    let said = text.replace(alloc, "FIRST", fields.first)?;
-    let said = said.replace(alloc, "SECOND", fields.second)?;
-    let said = said.replace(alloc, "ID", id.as_str())?;
-    let policy = fields.policy;
-    format!(in alloc; "for policy `{policy}`, {said}")
-}
-
-/// The first kind whose error says something else of this text, wherever it stands.
-fn kind_that_differs(alloc: Global, odd: &str) -> Result<Option<Kind>, AllocError> {
-    let second = format!(in alloc; "y{odd}")?;
-    let fields = Fields {
-        policy: odd,
-        first: odd,
-        second: second.as_str(),
-        ..PLAIN
-    };
-    for (kind, _, text) in &KINDS {
-        let shown = made(alloc, *kind, fields)?.to_string(alloc)?;
-        if shown != said(alloc, text, fields)? {
-            return Ok(Some(*kind));
-        }
-    }
-    Ok(None)
-}
-
-#[test]
-fn errors_say_any_text_as_it_is(rt: HostRuntime) -> Result<(), Fail> {
-    assert!(rt; kind_that_differs(rt.alloc(), "x")?.is_none());
-    for odd in ODD {
-        assert!(rt; kind_that_differs(rt.alloc(), odd)?.is_none(), "{odd:?}");
-    }
-    Ok(())
-}
-
-/// Both warnings of a policy of this id.
-fn warned(alloc: Global, odd: &str) -> Result<(String, String), AllocError> {
-    let fields = Fields {
-        policy: odd,
-        ..PLAIN
-    };
-    let of_action = applied(alloc, fields)?.to_string(alloc)?;
-    Ok((of_action, impossible(alloc, fields)?.to_string(alloc)?))
-}
-
-/// What both say of it.
-fn warnings(alloc: Global, odd: &str) -> Result<(String, String), AllocError> {
-    let of_action = format!(in alloc;
-        "for policy `{odd}`, unable to find an applicable action given the policy scope constraints"
-    )?;
-    let of_policy = format!(in alloc;
-        "for policy `{odd}`, policy is impossible: it evaluates to false for every valid request"
-    )?;
-    Ok((of_action, of_policy))
-}
-
-#[test]
-fn warnings_say_any_id_as_it_is(rt: HostRuntime) -> Result<(), Fail> {
-    for odd in ODD {
-        assert!(rt;
-            warned(rt.alloc(), odd)? == warnings(rt.alloc(), odd)?,
-            "{odd:?}"
-        );
     }
     Ok(())
 }

@@ -78,6 +78,14 @@ pub fn parts_of_errors(alloc: Global, fields: Fields<'_>) -> Result<Parts, Alloc
     })
 }
 
+fn context(flag: bool) -> LubContext {
+    if flag {
+        LubContext::Set
+    } else {
+        LubContext::Equality
+    }
+}
+
 /// The error of this kind.
 pub fn error(kind: Kind, fields: Fields<'_>, all: Parts) -> ValidationError {
     let (loc, id) = (place(fields.place), all.policy);
@@ -91,12 +99,7 @@ pub fn error(kind: Kind, fields: Fields<'_>, all: Parts) -> ValidationError {
             ValidationError::expected_one_of_types(loc, id, all.only_first, all.second)
         }
         Kind::IncompatibleTypes => {
-            let context = if fields.flag {
-                LubContext::Set
-            } else {
-                LubContext::Equality
-            };
-            ValidationError::incompatible_types(loc, id, all.both, context)
+            ValidationError::incompatible_types(loc, id, all.both, context(fields.flag))
         }
         Kind::UnsafeAttributeAccess => {
             ValidationError::unsafe_attribute_access(loc, id, all.first, all.attr, fields.flag)

@@ -19,6 +19,8 @@ mod extensions;
 #[cfg(test)]
 mod findings;
 #[cfg(test)]
+mod findings_said;
+#[cfg(test)]
 mod kinds;
 #[cfg(test)]
 mod mentions;

@@ -19,7 +19,7 @@ use crate::level_validate::tally::LevelTally;
 use crate::level_validate::walk::LevelWalk;
 use crate::rbac::{LiteralErrors, Validator};
 use cedar_types::base::{
-    ArgumentCheck, ImpossiblePolicy, Template, ValidationError, ValidationMode, ValidationWarning,
+    ArgumentCheck, Template, ValidationError, ValidationMode, ValidationWarning,
 };
 use cedar_typing::typecheck::Typechecker;
 use std::alloc::{AllocError, Global};
@@ -35,12 +35,10 @@ impl<C: ArgumentCheck> Validator<'_, C> {
     /// irrelevant in each environment. Each environment is typed once, and one typed condition is held at a time.
     ///
     /// In Strict and in Permissive no error means that the policy passes and needs no more of a store than `max_deref_level`
-    /// steps reach (clauses `silent` and `silent_in_permissive`): by a schema without external declarations, where no part that
-    /// is visited is nested too deep, where the policy has no unknowns, its slots stand in the scope alone and are bound, the
-    /// request and the store conform and the extension functions keep to their table, evaluation gives a boolean or fails only
-    /// for a missing entity, an overflow or an extension function; and it gives the very same in each part of the store that
-    /// has at least the slice of `max_deref_level` steps. A policy that is warned to be impossible is then never true (clauses
-    /// `never_true` and `never_true_in_permissive`), with errors or without.
+    /// steps reach (clauses `silent` and `silent_in_permissive`): evaluating it gives a boolean, or fails only for a missing
+    /// entity, an overflow or an extension function; and it gives the very same in each part of the store that has at least
+    /// the slice of `max_deref_level` steps. A policy that is warned to be impossible is never true, with errors or without
+    /// (clauses `never_true` and `never_true_in_permissive`). What all this rests on: docs/THEOREMS.md, "The premises".
     ///
     /// Where a part is nested too deep the check fails, and there need be no error: `typecheck_policy` answers `true` of no
     /// such policy. Where memory is refused, the answer is an `AllocError`.
@@ -197,8 +195,5 @@ fn append(
 fn impossible_policy(p: &Template) -> Result<ValidationWarning, AllocError>
     ensures { IfOk result (λ w. caution_of w ≡ impossible (template_of p.now)) }
 {
-    Ok(ValidationWarning::ImpossiblePolicy(ImpossiblePolicy {
-        source_loc: p.loc,
-        policy_id: p.id.clone()?,
-    }))
+    Ok(ValidationWarning::impossible_policy(p.loc, p.id.clone()?))
 }

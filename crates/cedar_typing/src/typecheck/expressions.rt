@@ -11,6 +11,7 @@ ghost use Rattle.cedar_typing.specs.Capabilities.Priors.{known_in};
 use crate::typecheck::answer::{Part, TypecheckAnswer};
 use crate::typecheck::operands::Expected;
 use crate::typecheck::prior::Prior;
+use crate::typecheck::rules::decisions::{Branches, Operands};
 use crate::typecheck::rules::one_operand::OneOperand;
 use crate::typecheck::rules::short_circuit::Connective;
 use crate::typecheck::rules::two_operands::TwoOperands;
@@ -47,22 +48,31 @@ impl<C: ArgumentCheck> SingleEnvTypechecker<'_, '_, '_, '_, C> {
             ExprKind::Slot(slot) => self.env.type_slot(e.loc, *slot),
             ExprKind::Unknown(name) => self.env.type_unknown(name),
             ExprKind::And(left, right) => {
-                self.type_short_circuit(prior, depth, e.loc, Connective::And, left, right, errors)
+                let operands = Operands { left, right };
+                self.type_short_circuit(prior, depth, e.loc, Connective::And, operands, errors)
             }
             ExprKind::Or(left, right) => {
-                self.type_short_circuit(prior, depth, e.loc, Connective::Or, left, right, errors)
+                let operands = Operands { left, right };
+                self.type_short_circuit(prior, depth, e.loc, Connective::Or, operands, errors)
             }
             ExprKind::If {
                 test_expr,
                 then_expr,
                 else_expr,
-            } => self.type_if(prior, depth, e.loc, test_expr, then_expr, else_expr, errors),
+            } => {
+                let branches = Branches {
+                    then_expr,
+                    else_expr,
+                };
+                self.type_if(prior, depth, e.loc, test_expr, branches, errors)
+            }
             ExprKind::UnaryApp(op, operand) => {
                 self.type_one_operand(prior, depth, e.loc, OneOperand::Unary(*op), operand, errors)
             }
             ExprKind::BinaryApp(op, left, right) => {
                 let form = TwoOperands::of(*op);
-                self.type_two_operands(prior, depth, e.loc, form, left, right, errors)
+                let operands = Operands { left, right };
+                self.type_two_operands(prior, depth, e.loc, form, operands, errors)
             }
             ExprKind::HasAttr(base, attr) => {
                 self.type_one_operand(prior, depth, e.loc, OneOperand::Has(attr), base, errors)

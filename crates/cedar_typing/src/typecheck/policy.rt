@@ -14,9 +14,7 @@ ghost use Rattle.cedar_typing.specs.Views.Policies.{IsTally, TalliesEnvs};
 
 use crate::typecheck::sets::{insert_all, put_all};
 use crate::typecheck::typechecker::{PolicyCheck, Typechecker};
-use cedar_types::base::{
-    ArgumentCheck, ImpossiblePolicy, Template, ValidationError, ValidationWarning,
-};
+use cedar_types::base::{ArgumentCheck, Template, ValidationError, ValidationWarning};
 use std::alloc::{AllocError, Global};
 use std::collections::{BTreeSet, HashSet};
 
@@ -36,12 +34,10 @@ impl<'a, C: ArgumentCheck> Typechecker<'a, C> {
     /// `type_errors` gains each error that some check found. `warnings` gains `ImpossiblePolicy`, at the template's place,
     /// exactly where each check is irrelevant, so where there is no environment too. One typed condition is held at a time.
     ///
-    /// In Strict and in Permissive, by a schema without external declarations, a policy that passes does not go wrong
-    /// (clauses `safe` and `safe_in_permissive`): where it has no unknowns, the passes over types and actions find no unknown
-    /// name in it, its slots stand in the scope alone and are bound, the request and the store conform and the extension
-    /// functions keep to their table, evaluation gives a boolean or fails only for a missing entity, an overflow or an
-    /// extension function. A policy that this call newly warns to be impossible is then never true (clauses `never_true` and
-    /// `never_true_in_permissive`), whether or not it passes, what names it has, and what its slots are bound to, if they are.
+    /// In Strict and in Permissive a policy that passes does not go wrong (clauses `safe` and `safe_in_permissive`): evaluating
+    /// it gives a boolean, or fails only for a missing entity, an overflow or an extension function. A policy that this call
+    /// newly warns to be impossible is never true, whether or not it passes (clauses `never_true` and
+    /// `never_true_in_permissive`). What both rest on: docs/THEOREMS.md, "The premises".
     ///
     /// Where memory is refused, the answer is an `AllocError`, and both sets hold what they held.
     pub fn typecheck_policy(
@@ -130,8 +126,5 @@ impl Tally {
 fn impossible_policy(t: &Template) -> Result<ValidationWarning, AllocError>
     ensures { IfOk result (λ w. caution_of w ≡ impossible (template_of t.now)) }
 {
-    Ok(ValidationWarning::ImpossiblePolicy(ImpossiblePolicy {
-        source_loc: t.loc,
-        policy_id: t.id.clone()?,
-    }))
+    Ok(ValidationWarning::impossible_policy(t.loc, t.id.clone()?))
 }

@@ -14,6 +14,7 @@ use crate::typecheck::answer::Part;
 use crate::typecheck::capabilities::no_capabilities;
 use crate::typecheck::operands::Expected;
 use crate::typecheck::prior::Prior;
+use crate::typecheck::rules::decisions::Operands;
 use crate::typecheck::rules::short_circuit::Connective;
 use crate::typecheck::single_env::SingleEnvTypechecker;
 use crate::typecheck::type_env::TypeEnv;
@@ -163,13 +164,17 @@ impl<C: ArgumentCheck> SingleEnvTypechecker<'_, '_, '_, '_, C> {
                 Ok(verdict(part, errors))
             }
             Some(rest) => {
+                let operands = Operands {
+                    left: scope,
+                    right: rest,
+                };
+                let connective = Connective::And;
                 let answer = self.type_short_circuit(
                     &known,
                     1,
                     loc,
-                    Connective::And,
-                    scope,
-                    rest,
+                    connective,
+                    operands,
                     &mut errors,
                 )?;
                 let part = self.env.expect(Expected::Bool, loc, answer, &mut errors)?;

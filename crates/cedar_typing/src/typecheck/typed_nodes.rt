@@ -21,7 +21,8 @@ pub(crate) fn with_capabilities<'a>(
     typed: Box<Expr<Option<CedarType>>>,
     capabilities: CapabilitySet<'a>,
 ) -> TypecheckAnswer<'a>
-    ensures { answer_of result ≡ answer_if succeeded (typed_tree typed.value) (caps capabilities.entry) }
+    ensures { answer_of result
+        ≡ answer_if succeeded (typed_tree typed.value) (caps capabilities.entry) }
 {
     if succeeded {
         TypecheckAnswer::success_with_capability(typed, capabilities)

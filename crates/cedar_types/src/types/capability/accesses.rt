@@ -76,17 +76,17 @@ pub(crate) fn compare(left: &Accesses<'_>, right: &Accesses<'_>) -> Ordering
     let mut left = *left;
     let mut right = *right;
     loop {
-        match (left.last(), right.last()) {
+        let (one, other) = match (left.last(), right.last()) {
             (None, None) => return left.base.cmp(right.base),
             (None, Some(_)) => return Ordering::Less,
             (Some(_), None) => return Ordering::Greater,
-            (Some((x, more_left)), Some((y, more_right))) => match x.cmp(y) {
-                Ordering::Equal => {
-                    left = more_left;
-                    right = more_right;
-                }
-                order => return order,
-            },
+            (Some(one), Some(other)) => (one, other),
+        };
+        let order = one.0.cmp(other.0);
+        if order.is_ne() {
+            return order;
         }
+        left = one.1;
+        right = other.1;
     }
 }

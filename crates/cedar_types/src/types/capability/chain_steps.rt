@@ -81,7 +81,8 @@ impl<'a> ChainStep<'a> {
 
     /// That what the step is of has the attribute.
     pub fn capability(&self) -> Result<Capability<'a>, AllocError>
-        ensures { IfOk result (λ c. cap_of c ≡ attribute (step_shape self.now) (step_attr self.now)) }
+        ensures { IfOk result (λ c.
+            cap_of c ≡ attribute (step_shape self.now) (step_attr self.now)) }
     {
         Ok(Capability::of_accesses(self.on, self.attr.clone()?, self.digest))
     }

@@ -1,6 +1,5 @@
 // Calls of extension functions.
 ghost use Rattle.std.specs.Prelude.{◌≡◌, ◌≤◌, ◌+◌, ◌∷◌, ◌++◌, length, IfOk, Some, map, option_map};
-ghost use Rattle.std.specs.List.{list_all};
 ghost use Rattle.cedar_types.specs.Errors.{finding_of, wrong_number_arguments};
 ghost use Rattle.cedar_types.specs.Extensions.Functions.{function_of};
 ghost use Rattle.cedar_types.specs.Names.{path_of};
@@ -12,7 +11,7 @@ ghost use Rattle.cedar_typing.specs.Infer.{infer_within};
 ghost use Rattle.cedar_typing.specs.Infer.Eager.{infer_form};
 ghost use Rattle.cedar_typing.specs.Judgments.{max_nesting};
 ghost use Rattle.cedar_typing.specs.Capabilities.Priors.{known_in};
-ghost use Rattle.cedar_typing.specs.Rules.Calls.{call_decides, call_errors, check_faults, is_literal, literal_faults, number_faults, takes, types_wanted};
+ghost use Rattle.cedar_typing.specs.Rules.Calls.{call_decides, call_errors, check_faults, literal_faults, number_faults, takes, types_wanted};
 ghost use Rattle.cedar_typing.specs.Views.Settings.{setting_at};
 ghost use Rattle.cedar_typing.specs.TypeEnv.{finding};
 ghost use Rattle.cedar_typing.specs.Views.{answer_of, at, decision_of, env_at, findings, operands_of};
@@ -20,12 +19,13 @@ ghost use Rattle.cedar_typing.specs.Views.{answer_of, at, decision_of, env_at, f
 use crate::typecheck::answer::TypecheckAnswer;
 use crate::typecheck::prior::Prior;
 use crate::typecheck::rules::eager::{Decision, add_errors, gives_unless};
+use crate::typecheck::rules::literals::all_literals;
 use crate::typecheck::rules::operand_list::OperandList;
 use crate::typecheck::single_env::SingleEnvTypechecker;
 use crate::typecheck::type_env::TypeEnv;
 use crate::typecheck::typed_nodes::{call_node, with_capabilities};
 use cedar_types::base::{
-    ArgumentCheck, CedarType, Expr, ExprKind, ExtensionFunctionType, Loc, Name, ValidationError,
+    ArgumentCheck, CedarType, Expr, ExtensionFunctionType, Loc, Name, ValidationError,
     ValidationMode,
 };
 use std::alloc::{AllocError, Global};
@@ -272,42 +272,6 @@ fn takes<C>(function: &ExtensionFunctionType<C>, count: usize) -> bool
         count >= function.argument_types.len()
     } else {
         count == function.argument_types.len()
-    }
-}
-
-fn all_literals(arguments: &[Expr]) -> bool
-    ensures { result ≡ list_all is_literal (map written arguments.now) }
-{
-    each_is_literal(arguments)
-}
-
-fn each_is_literal(arguments: &[Expr]) -> bool
-    ensures { result ≡ list_all (λ e. is_literal (written e)) arguments.now }
-{
-    arguments.iter().all(|argument| is_literal(argument))
-}
-
-fn is_literal(e: &Expr) -> bool
-    ensures { result ≡ is_literal (written e.now) }
-{
-    match &e.kind {
-        ExprKind::Lit(_) => true,
-        ExprKind::Var(_) => false,
-        ExprKind::Slot(_) => false,
-        ExprKind::Unknown(_) => false,
-        ExprKind::If { .. } => false,
-        ExprKind::And(_, _) => false,
-        ExprKind::Or(_, _) => false,
-        ExprKind::UnaryApp(_, _) => false,
-        ExprKind::BinaryApp(_, _, _) => false,
-        ExprKind::ExtensionFunctionApp(_, _) => false,
-        ExprKind::GetAttr(_, _) => false,
-        ExprKind::HasAttr(_, _) => false,
-        ExprKind::ExtHasAttr(_, _) => false,
-        ExprKind::Like(_, _) => false,
-        ExprKind::Is(_, _) => false,
-        ExprKind::Set(_) => false,
-        ExprKind::Record(_) => false,
     }
 }
 

@@ -20,6 +20,7 @@ use crate::typecheck::answer::{Part, TypecheckAnswer};
 use crate::typecheck::capabilities::{intersection_of, union_of};
 use crate::typecheck::operands::Expected;
 use crate::typecheck::prior::Prior;
+use crate::typecheck::rules::decisions::Branches;
 use crate::typecheck::single_env::SingleEnvTypechecker;
 use crate::typecheck::type_env::TypeEnv;
 use crate::typecheck::type_tests::{is_typed_false, is_typed_true};
@@ -31,6 +32,7 @@ use std::alloc::{AllocError, Global};
 use std::rc::Rc;
 
 impl<C: ArgumentCheck> SingleEnvTypechecker<'_, '_, '_, '_, C> {
+    /// `if` at `loc`.
     #[cycle(typing)]
     #[inline(never)]
     pub(crate) fn type_if<'a>(
@@ -39,15 +41,15 @@ impl<C: ArgumentCheck> SingleEnvTypechecker<'_, '_, '_, '_, C> {
         depth: usize,
         loc: Option<Loc>,
         test: &'a Expr,
-        then_expr: &'a Expr,
-        else_expr: &'a Expr,
+        branches: Branches<'a>,
         errors: &mut Vec<ValidationError>,
     ) -> Result<TypecheckAnswer<'a>, AllocError>
         requires { depth ≤ max_nesting }
         ensures { IfOk result (λ r.
             infer_within (setting_at C.refusal self.now)
-            (if_then_else (at loc) (written test.now) (written then_expr.now)
-            (written else_expr.now)) (known_in prior.now) depth (findings errors.old.items)
+            (if_then_else (at loc) (written test.now) (written branches.entry.then_expr.now)
+            (written branches.entry.else_expr.now))
+            (known_in prior.now) depth (findings errors.old.items)
             ≡ (answer_of r, findings errors.new.items)) }
     {
         let Some(test) = self.type_part(prior, depth + 1, Expected::Bool, test, errors)? else {
@@ -55,7 +57,7 @@ impl<C: ArgumentCheck> SingleEnvTypechecker<'_, '_, '_, '_, C> {
         };
         if is_typed_true(&test.typed) {
             let known = (&*prior).with(&test.capabilities);
-            let branch = self.typecheck(&known, depth + 1, then_expr, errors)?;
+            let branch = self.typecheck(&known, depth + 1, branches.then_expr, errors)?;
             let Some(branch) = branch.into_part(self.env.alloc) else {
                 return Ok(TypecheckAnswer::RecursionLimit);
             };
@@ -63,7 +65,7 @@ impl<C: ArgumentCheck> SingleEnvTypechecker<'_, '_, '_, '_, C> {
             return Ok(answer);
         }
         if is_typed_false(&test.typed) {
-            let branch = self.typecheck(prior, depth + 1, else_expr, errors)?;
+            let branch = self.typecheck(prior, depth + 1, branches.else_expr, errors)?;
             let Some(branch) = branch.into_part(self.env.alloc) else {
                 return Ok(TypecheckAnswer::RecursionLimit);
             };
@@ -71,9 +73,9 @@ impl<C: ArgumentCheck> SingleEnvTypechecker<'_, '_, '_, '_, C> {
             return Ok(answer);
         }
         let known = (&*prior).with(&test.capabilities);
-        let one = self.typecheck(&known, depth + 1, then_expr, errors)?;
+        let one = self.typecheck(&known, depth + 1, branches.then_expr, errors)?;
         let one = one.into_part(self.env.alloc);
-        let other = self.typecheck(prior, depth + 1, else_expr, errors)?;
+        let other = self.typecheck(prior, depth + 1, branches.else_expr, errors)?;
         let other = other.into_part(self.env.alloc);
         let answer = self.env.open_test_answer(loc, test, one, other, errors)?;
         Ok(answer)

@@ -1,4 +1,4 @@
-// What the tables of the forms with two operands say.
+// Operands and branches as they were written, and what the tables of the forms with two operands say.
 ghost use Rattle.std.specs.Prelude.{◌≡◌, [], ◌∷◌, IfOk, option_map};
 ghost use Rattle.cedar_types.specs.Types.{ty_of};
 ghost use Rattle.cedar_types.specs.Expressions.View.{written};
@@ -19,6 +19,13 @@ use std::alloc::AllocError;
 pub(crate) struct Operands<'a> {
     pub(crate) left: &'a Expr,
     pub(crate) right: &'a Expr,
+}
+
+/// The branches of an `if`, as they were written.
+#[derive(Clone, Copy)]
+pub(crate) struct Branches<'a> {
+    pub(crate) then_expr: &'a Expr,
+    pub(crate) else_expr: &'a Expr,
 }
 
 impl TypeEnv<'_, '_, '_, '_> {

@@ -17,6 +17,7 @@ use crate::typecheck::answer::{Part, TypecheckAnswer};
 use crate::typecheck::capabilities::{intersection_of, no_capabilities, union_of};
 use crate::typecheck::operands::Expected;
 use crate::typecheck::prior::Prior;
+use crate::typecheck::rules::decisions::Operands;
 use crate::typecheck::single_env::SingleEnvTypechecker;
 use crate::typecheck::type_env::TypeEnv;
 use crate::typecheck::type_tests::{any_bool, is_false_type, is_true_type};
@@ -169,16 +170,17 @@ impl<C: ArgumentCheck> SingleEnvTypechecker<'_, '_, '_, '_, C> {
         depth: usize,
         loc: Option<Loc>,
         connective: Connective,
-        left: &'a Expr,
-        right: &'a Expr,
+        operands: Operands<'a>,
         errors: &mut Vec<ValidationError>,
     ) -> Result<TypecheckAnswer<'a>, AllocError>
         requires { depth ≤ max_nesting }
         ensures { IfOk result (λ r.
-            infer_connective (setting_at C.refusal self.now) (connective_of connective) (at loc) (written left.now)
-            (written right.now) (known_in prior.now) depth (findings errors.old.items)
+            infer_connective (setting_at C.refusal self.now) (connective_of connective) (at loc)
+            (written operands.entry.left.now) (written operands.entry.right.now)
+            (known_in prior.now) depth (findings errors.old.items)
             ≡ (answer_of r, findings errors.new.items)) }
     {
+        let Operands { left, right } = operands;
         let Some(left) = self.type_part(prior, depth + 1, Expected::Bool, left, errors)? else {
             return Ok(TypecheckAnswer::RecursionLimit);
         };

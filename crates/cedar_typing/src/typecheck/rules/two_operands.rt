@@ -164,16 +164,17 @@ impl<C: ArgumentCheck> SingleEnvTypechecker<'_, '_, '_, '_, C> {
         depth: usize,
         loc: Option<Loc>,
         form: TwoOperands,
-        left: &'a Expr,
-        right: &'a Expr,
+        operands: Operands<'a>,
         errors: &mut Vec<ValidationError>,
     ) -> Result<TypecheckAnswer<'a>, AllocError>
         requires { depth ≤ max_nesting }
         ensures { IfOk result (λ r.
-            infer_two (setting_at C.refusal self.now) (at loc) (written left.now) (written right.now)
-            (known_in prior.now) depth form (findings errors.old.items)
+            infer_two (setting_at C.refusal self.now) (at loc) (written operands.entry.left.now)
+            (written operands.entry.right.now) (known_in prior.now) depth form
+            (findings errors.old.items)
             ≡ (answer_of r, findings errors.new.items)) }
     {
+        let Operands { left, right } = operands;
         let one = self.typecheck(prior, depth + 1, left, errors)?;
         let one = self
             .env
@@ -185,10 +186,9 @@ impl<C: ArgumentCheck> SingleEnvTypechecker<'_, '_, '_, '_, C> {
         let other = self
             .env
             .operand(form.expected_right(), right.loc, other, errors)?;
-        let operands = Operands { left, right };
         let answer = self
             .env
-            .two_answer(prior, loc, form, operands, one, other, errors)?;
+            .two_answer(prior, loc, form, operands, (one, other), errors)?;
         Ok(answer)
     }
 }
@@ -201,25 +201,25 @@ impl TypeEnv<'_, '_, '_, '_> {
         loc: Option<Loc>,
         form: TwoOperands,
         operands: Operands<'a>,
-        one: Option<Part<'a>>,
-        other: Option<Part<'a>>,
+        parts: (Option<Part<'a>>, Option<Part<'a>>),
         errors: &mut Vec<ValidationError>,
     ) -> Result<TypecheckAnswer<'a>, AllocError>
         ensures { IfOk result (λ r.
             infer_form
             (form_of_two (env_at self.now) (at loc) (known_in prior.now)
             (written operands.entry.left.now) (written operands.entry.right.now) form)
-            (two_parts (option_map part_of one.entry) (option_map part_of other.entry))
+            (two_parts (option_map part_of parts.entry.0) (option_map part_of parts.entry.1))
             (findings errors.old.items)
             ≡ (answer_of r, findings errors.new.items)) }
     {
+        let (one, other) = parts;
         let Some(one) = one else {
             return Ok(TypecheckAnswer::RecursionLimit);
         };
         let Some(other) = other else {
             return Ok(TypecheckAnswer::RecursionLimit);
         };
-        let answer = self.two_parts_answer(prior, loc, form, operands, one, other, errors)?;
+        let answer = self.two_parts_answer(prior, loc, form, operands, (one, other), errors)?;
         Ok(answer)
     }
 
@@ -230,18 +230,18 @@ impl TypeEnv<'_, '_, '_, '_> {
         loc: Option<Loc>,
         form: TwoOperands,
         operands: Operands<'a>,
-        one: Part<'a>,
-        other: Part<'a>,
+        parts: (Part<'a>, Part<'a>),
         errors: &mut Vec<ValidationError>,
     ) -> Result<TypecheckAnswer<'a>, AllocError>
         ensures { IfOk result (λ r.
             infer_form
             (form_of_two (env_at self.now) (at loc) (known_in prior.now)
             (written operands.entry.left.now) (written operands.entry.right.now) form)
-            (two_parts (Some (part_of one.entry)) (Some (part_of other.entry)))
+            (two_parts (Some (part_of parts.entry.0)) (Some (part_of parts.entry.1)))
             (findings errors.old.items)
             ≡ (answer_of r, findings errors.new.items)) }
     {
+        let (one, other) = parts;
         let succeeded = other.succeeded & one.succeeded;
         let found = &one.typed.annotation;
         match self.decide_two(prior, loc, form, operands, found, &other.typed.annotation)? {

@@ -3,8 +3,8 @@ use Rattle.cedar_types.specs.Accesses.{spine_at, spine_cmp}
 use Rattle.cedar_types.proofs.types.capability.accesses.compare.Given as goal
 
 -- what is left compares as all
-abbrev pub invariant-loop-x : goal.invariant-loop-x
-invariant-loop-x l = spine_cmp (spine_at l.left) (spine_at l.right) ≡ spine_cmp (spine_at l.fn.left) (spine_at l.fn.right)
+abbrev pub invariant-loop-one : goal.invariant-loop-one
+invariant-loop-one l = spine_cmp (spine_at l.left) (spine_at l.right) ≡ spine_cmp (spine_at l.fn.left) (spine_at l.fn.right)
 
-abbrev pub decreases-loop-x : goal.decreases-loop-x
-decreases-loop-x l = length (spine_at l.left).0
+abbrev pub decreases-loop-one : goal.decreases-loop-one
+decreases-loop-one l = length (spine_at l.left).0

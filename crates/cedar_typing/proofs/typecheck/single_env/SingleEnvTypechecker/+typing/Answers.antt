@@ -132,14 +132,14 @@ type_two_operands-returns-then-is_none-goes_on g t c =
     let prior = known_in c.args.prior.now in
     let d = c.args.depth in
     let m = at c.args.loc in
-    let a = written c.args.left.now in
-    let b = written c.args.right.now in
+    let a = written c.args.operands.left.now in
+    let b = written c.args.operands.right.now in
     let f = form_of_two s.env m prior a b c.args.form in
     let es = findings c.args.errors.now.items in
     let es' = findings c.operand.new.errors.items in
     let q = option_map expected_types c.expected_left.result in
     let left : expect_operand s.env q (place_of a) (infer s a prior (d + 1) es) ≡ (option_map part_of c.in_ok-one-2.one, es') =
-    (λ i. expect_operand s.env q (place_is c.args.left.now i) (c.in_ok-one.ensures i)) ∙ c.in_ok-one-2.ensures in
+    (λ i. expect_operand s.env q (place_is c.args.operands.left.now i) (c.in_ok-one.ensures i)) ∙ c.in_ok-one-2.ensures in
     two_stopped s.env f (place_of a) (place_of b) (infer s a prior (d + 1)) (infer s b prior (d + 1)) q _ (c.expected_left.ensures s.env m prior a b) refl _ es es'
     (stops c.is_none.result c.goes_on.result f.goes_on c.in_ok-one-2.one c.is_none.ensures (c.goes_on.ensures s.env m prior a b) c.if-is_none-goes_on.true) left
     ∙ is_limit s.env m prior a b c.args.form [] es'
@@ -150,8 +150,8 @@ type_two_operands-returns g t c =
     let prior = known_in c.args.prior.now in
     let d = c.args.depth in
     let m = at c.args.loc in
-    let a = written c.args.left.now in
-    let b = written c.args.right.now in
+    let a = written c.args.operands.left.now in
+    let b = written c.args.operands.right.now in
     let f = form_of_two s.env m prior a b c.args.form in
     let es = findings c.args.errors.now.items in
     let es' = findings c.operand.new.errors.items in
@@ -159,9 +159,9 @@ type_two_operands-returns g t c =
     let q = option_map expected_types c.expected_left.result in
     let q' = option_map expected_types c.expected_right.result in
     let left : expect_operand s.env q (place_of a) (infer s a prior (d + 1) es) ≡ (option_map part_of c.in_ok-one-2.one, es') =
-    (λ i. expect_operand s.env q (place_is c.args.left.now i) (c.in_ok-one.ensures i)) ∙ c.in_ok-one-2.ensures in
+    (λ i. expect_operand s.env q (place_is c.args.operands.left.now i) (c.in_ok-one.ensures i)) ∙ c.in_ok-one-2.ensures in
     let right : expect_operand s.env q' (place_of b) (infer s b prior (d + 1) es') ≡ (option_map part_of c.in_ok-other-2.other, es'') =
-    (λ i. expect_operand s.env q' (place_is c.args.right.now i) (c.in_ok-other.ensures i)) ∙ c.in_ok-other-2.ensures in
+    (λ i. expect_operand s.env q' (place_is c.args.operands.right.now i) (c.in_ok-other.ensures i)) ∙ c.in_ok-other-2.ensures in
     two_typed s.env f (place_of a) (place_of b) (infer s a prior (d + 1)) (infer s b prior (d + 1)) q q' (c.expected_left.ensures s.env m prior a b) (c.expected_right.ensures s.env m prior a b) _ _ es es' es''
     (typed_on c.is_none.result c.goes_on.result f.goes_on c.in_ok-one-2.one c.is_none.ensures (c.goes_on.ensures s.env m prior a b) c.if-is_none-goes_on.false) left right
     ∙ c.in_ok-answer.ensures

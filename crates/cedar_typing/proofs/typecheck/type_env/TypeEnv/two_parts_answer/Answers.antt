@@ -21,13 +21,13 @@ returns-in-Gives c =
     let b = written c.args.operands.right.now in
     let m = at c.args.loc in
     let f = form_of_two env m prior a b c.args.form in
-    let x = typed_tree c.args.one.typed.value in
-    let y = typed_tree c.args.other.typed.value in
+    let x = typed_tree c.args.parts.0.typed.value in
+    let y = typed_tree c.args.parts.1.typed.value in
     let es = findings c.args.errors.now.items in
-    let succeeded = c.args.other.succeeded && c.args.one.succeeded in
+    let succeeded = c.args.parts.1.succeeded && c.args.parts.0.succeeded in
     let t = ty_of c.in-Gives.ty in
     let d : f.decides (annotation x ∷ annotation y ∷ []) ≡ gives t (caps c.in-Gives.capabilities) =
-    (λ i. f.decides (annotation_is c.args.one.typed.value i ∷ annotation_is c.args.other.typed.value i ∷ []))
+    (λ i. f.decides (annotation_is c.args.parts.0.typed.value i ∷ annotation_is c.args.parts.1.typed.value i ∷ []))
     ∙ (λ i. f.decides (option_map ty_of (sym c.deref.ensures i).annotation
     ∷ option_map ty_of (sym c.deref-2.ensures i).annotation ∷ [])) ∙ sym c.in_ok-ty.ensures
     ∙ ap decision_of c.in-Gives.is in
@@ -49,13 +49,13 @@ returns c =
     let b = written c.args.operands.right.now in
     let m = at c.args.loc in
     let f = form_of_two env m prior a b c.args.form in
-    let x = typed_tree c.args.one.typed.value in
-    let y = typed_tree c.args.other.typed.value in
+    let x = typed_tree c.args.parts.0.typed.value in
+    let y = typed_tree c.args.parts.1.typed.value in
     let es = findings c.args.errors.now.items in
-    let succeeded = c.args.other.succeeded && c.args.one.succeeded in
+    let succeeded = c.args.parts.1.succeeded && c.args.parts.0.succeeded in
     let t = option_map ty_of c.in-Refuses.ty in
     let d : f.decides (annotation x ∷ annotation y ∷ []) ≡ refuses t (findings c.in-Refuses.found.items) =
-    (λ i. f.decides (annotation_is c.args.one.typed.value i ∷ annotation_is c.args.other.typed.value i ∷ []))
+    (λ i. f.decides (annotation_is c.args.parts.0.typed.value i ∷ annotation_is c.args.parts.1.typed.value i ∷ []))
     ∙ (λ i. f.decides (option_map ty_of (sym c.deref.ensures i).annotation
     ∷ option_map ty_of (sym c.deref-2.ensures i).annotation ∷ [])) ∙ sym c.in_ok-ty.ensures
     ∙ ap decision_of c.in-Refuses.is in

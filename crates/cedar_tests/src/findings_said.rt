@@ -1,0 +1,88 @@
+// What each error and each warning says of texts, odd ones too.
+use crate::findings::{KINDS, PLAIN, applied, impossible, made};
+use crate::kinds::{Fields, Kind};
+use std::alloc::{AllocError, Global};
+use std::test::Fail;
+
+/// A line break, a quote, a backquote, the characters ESC and NUL, one that turns the direction of a text, a backslash; and
+/// what would be a line of its own.
+const ODD: [&str; 8] = [
+    "x\ny",
+    "x\"y",
+    "x`y",
+    "x\u{1b}[31my",
+    "x\0y",
+    "x\u{202e}y",
+    "x\\y",
+    "x` is well\nfor policy `z`, y",
+];
+
+/// What is said of fields: each text as it is, save that in an id a quote and a backslash stand behind a backslash.
+fn said(alloc: Global, text: &str, fields: Fields<'_>) -> Result<String, AllocError> {
+    let id = fields.second.replace(alloc, '\\', "\\\\")?;
+    let id = id.replace(alloc, '"', "\\\"")?;
+    let said = text.replace(alloc, "FIRST", fields.first)?;
+    let said = said.replace(alloc, "SECOND", fields.second)?;
+    let said = said.replace(alloc, "ID", id.as_str())?;
+    let policy = fields.policy;
+    format!(in alloc; "for policy `{policy}`, {said}")
+}
+
+/// The first kind whose error says something else of this text, wherever it stands.
+fn kind_that_differs(alloc: Global, odd: &str) -> Result<Option<Kind>, AllocError> {
+    let second = format!(in alloc; "y{odd}")?;
+    let fields = Fields {
+        policy: odd,
+        first: odd,
+        second: second.as_str(),
+        ..PLAIN
+    };
+    for (kind, _, text) in &KINDS {
+        let shown = made(alloc, *kind, fields)?.to_string(alloc)?;
+        if shown != said(alloc, text, fields)? {
+            return Ok(Some(*kind));
+        }
+    }
+    Ok(None)
+}
+
+#[test]
+fn errors_say_any_text_as_it_is(rt: HostRuntime) -> Result<(), Fail> {
+    assert!(rt; kind_that_differs(rt.alloc(), "x")?.is_none());
+    for odd in ODD {
+        assert!(rt; kind_that_differs(rt.alloc(), odd)?.is_none(), "{odd:?}");
+    }
+    Ok(())
+}
+
+/// Both warnings of a policy of this id.
+fn warned(alloc: Global, odd: &str) -> Result<(String, String), AllocError> {
+    let fields = Fields {
+        policy: odd,
+        ..PLAIN
+    };
+    let of_action = applied(alloc, fields)?.to_string(alloc)?;
+    Ok((of_action, impossible(alloc, fields)?.to_string(alloc)?))
+}
+
+/// What both say of it.
+fn warnings(alloc: Global, odd: &str) -> Result<(String, String), AllocError> {
+    let of_action = format!(in alloc;
+        "for policy `{odd}`, unable to find an applicable action given the policy scope constraints"
+    )?;
+    let of_policy = format!(in alloc;
+        "for policy `{odd}`, policy is impossible: it evaluates to false for every valid request"
+    )?;
+    Ok((of_action, of_policy))
+}
+
+#[test]
+fn warnings_say_any_id_as_it_is(rt: HostRuntime) -> Result<(), Fail> {
+    for odd in ODD {
+        assert!(rt;
+            warned(rt.alloc(), odd)? == warnings(rt.alloc(), odd)?,
+            "{odd:?}"
+        );
+    }
+    Ok(())
+}
