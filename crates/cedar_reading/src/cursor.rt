@@ -110,6 +110,15 @@ impl<'a> Cursor<'a> {
         }
     }
 
+    /// Reads this word or mark, which has to come next. The fault names what else may stand there.
+    pub fn expect_one(&mut self, text: &str, all: &'static str) -> Result<(), ReadError> {
+        if self.takes(text) {
+            Ok(())
+        } else {
+            Err(self.fault(Fault::Expected(all)))
+        }
+    }
+
     /// Reads a word.
     pub fn word(&mut self) -> Result<&'a str, ReadError> {
         if self.next.kind != TokenKind::Word {
@@ -141,13 +150,14 @@ impl<'a> Cursor<'a> {
         }
     }
 
+    /// Whether the next token is the first of its line, and not of the text.
+    pub fn begins_line(&self) -> bool {
+        let before = self.text.get(self.end..self.next.place.start).unwrap_or("");
+        before.contains('\n')
+    }
+
     /// How many tokens may still come, at most.
     pub fn most_left(&self) -> usize {
         self.text.len().saturating_add(1)
-    }
-
-    /// The text at a place.
-    pub fn text_at(&self, place: Loc) -> &'a str {
-        self.text.get(place.start..place.end).unwrap_or("")
     }
 }

@@ -2,7 +2,7 @@
 use crate::cursor::{Cursor, MAX_NESTING};
 use crate::faults::{Fault, ReadError};
 use crate::members::{
-    Beginning, beginning_with_word, call, has, key, literal, method_call, number_since, slot,
+    Beginning, beginning_with_word, call, has, key, literal, method_call, negative_number, slot,
 };
 use crate::names::entity_type;
 use crate::operators::{Level, compared, is_in, joined, next_comparison, next_connective};
@@ -131,8 +131,8 @@ fn unary(cursor: &mut Cursor<'_>, left: usize) -> Result<Part, ReadError> {
     } else if !cursor.takes("-") {
         return member(cursor, left);
     } else if cursor.peek().kind == TokenKind::Number {
-        // a minus right before a number belongs to the number
-        number_since(cursor, start)?
+        // a minus before a number belongs to the number
+        negative_number(cursor, start)?
     } else {
         Expr::neg(cursor.alloc, unary(cursor, left)?.expr)?
     };
@@ -152,10 +152,11 @@ fn member(cursor: &mut Cursor<'_>, left: usize) -> Result<Part, ReadError> {
             cursor.expect("]")?;
             Expr::get_attr(cursor.alloc, whole.expr, attr.as_str())?
         } else if cursor.takes(".") {
+            let at = cursor.start();
             let name = cursor.word()?;
             if cursor.takes("(") {
                 let args = list(cursor, ")", left)?;
-                method_call(cursor, name, whole.expr, args)?
+                method_call(cursor.alloc, at, name, whole.expr, args)?
             } else {
                 Expr::get_attr(cursor.alloc, whole.expr, name)?
             }
@@ -190,7 +191,7 @@ fn primary(cursor: &mut Cursor<'_>, left: usize) -> Result<Part, ReadError> {
             Beginning::Whole(expr) => expr,
             Beginning::Function(name) => {
                 let args = list(cursor, ")", left)?;
-                call(cursor, name, args)?
+                call(cursor.alloc, start, name, args)?
             }
         }
     } else {

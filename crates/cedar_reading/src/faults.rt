@@ -24,6 +24,8 @@ pub enum Fault {
     SameName,
     #[error("a name that is not declared")]
     Undeclared,
+    #[error("a name that the language keeps for itself")]
+    Reserved,
     /// More entity types or actions are in others, over any number of steps, than a schema may have.
     #[error("too many descendants")]
     TooMany,

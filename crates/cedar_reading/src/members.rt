@@ -6,6 +6,7 @@ use crate::operators::method;
 use crate::texts::text;
 use crate::tokens::TokenKind;
 use cedar_types::base::{AttrChain, Expr, ExprKind, Literal, Name, SlotId, Var};
+use std::alloc::Global;
 use std::rc::RcStr;
 
 /// What a word begins.
@@ -56,8 +57,8 @@ pub fn slot(cursor: &mut Cursor<'_>) -> Result<Expr, ReadError> {
 pub fn literal(cursor: &mut Cursor<'_>) -> Result<Expr, ReadError> {
     match cursor.peek().kind {
         TokenKind::Number => {
-            let start = cursor.start();
-            number_since(cursor, start)
+            let token = cursor.take();
+            long(token.text, token.place.start)
         }
         TokenKind::Text => {
             let said = text(cursor)?;
@@ -69,11 +70,17 @@ pub fn literal(cursor: &mut Cursor<'_>) -> Result<Expr, ReadError> {
     }
 }
 
-/// Reads a number, of which the text from this byte on is a part: a minus may stand there.
-pub fn number_since(cursor: &mut Cursor<'_>, start: usize) -> Result<Expr, ReadError> {
-    cursor.take();
-    let digits = cursor.text_at(cursor.since(start));
-    match digits.parse::<i64>() {
+/// Reads a number behind its minus, which stands at this byte. Blanks and comments may stand between them.
+pub fn negative_number(cursor: &mut Cursor<'_>, start: usize) -> Result<Expr, ReadError> {
+    let alloc = cursor.alloc;
+    let digits = cursor.take().text;
+    let said = format!(in alloc; "-{digits}")?;
+    long(said.as_str(), start)
+}
+
+/// The number that this text says, which begins at this byte.
+fn long(text: &str, start: usize) -> Result<Expr, ReadError> {
+    match text.parse::<i64>() {
         Ok(number) => Ok(Expr::val(Literal::Long(number))),
         Err(_) => Err(ReadError::At(start, Fault::Number)),
     }
@@ -113,18 +120,18 @@ fn further_attributes(cursor: &mut Cursor<'_>) -> Result<Vec<RcStr>, ReadError> 
     Err(cursor.fault(Fault::TooDeep))
 }
 
-/// A call of an extension function, or an unknown.
-pub fn call(cursor: &Cursor<'_>, name: Name, args: Vec<Expr>) -> Result<Expr, ReadError> {
+/// A call of an extension function, whose name begins at this byte, or an unknown.
+pub fn call(alloc: Global, start: usize, name: Name, args: Vec<Expr>) -> Result<Expr, ReadError> {
     if !name.path.is_empty() || name.basename.as_str() != "unknown" {
         return Ok(Expr::call_extension_fn(name, args));
     }
     let [argument] = args.as_slice() else {
-        return Err(cursor.fault(Fault::Expected("one argument")));
+        return Err(ReadError::At(start, Fault::Expected("one argument")));
     };
     let Some(unknown) = string_in(argument) else {
-        return Err(cursor.fault(Fault::Expected("the name of an unknown")));
+        return Err(ReadError::At(start, Fault::Expected("the name of an unknown")));
     };
-    Ok(Expr::unknown(Name::unqualified_name(cursor.alloc, unknown)?))
+    Ok(Expr::unknown(Name::unqualified_name(alloc, unknown)?))
 }
 
 /// The text of a literal that is one.
@@ -135,19 +142,20 @@ fn string_in(expr: &Expr) -> Option<&str> {
     }
 }
 
-/// What a method's call is: an operator, or a call of an extension function with the base as its first argument.
+/// What a method's call is: an operator, or a call of an extension function with the base as its first argument. The name
+/// begins at this byte.
 pub fn method_call(
-    cursor: &Cursor<'_>,
+    alloc: Global,
+    start: usize,
     name: &str,
     base: Expr,
     mut args: Vec<Expr>,
 ) -> Result<Expr, ReadError> {
-    let alloc = cursor.alloc;
     if name == "isEmpty" {
         return if args.is_empty() {
             Ok(Expr::is_empty(alloc, base)?)
         } else {
-            Err(cursor.fault(Fault::Expected("no argument")))
+            Err(ReadError::At(start, Fault::Expected("no argument")))
         };
     }
     let Some(operator) = method(name) else {
@@ -156,6 +164,6 @@ pub fn method_call(
     };
     match (args.pop(), args.is_empty()) {
         (Some(argument), true) => Ok(Expr::binary_app(alloc, operator, base, argument)?),
-        _ => Err(cursor.fault(Fault::Expected("one argument"))),
+        _ => Err(ReadError::At(start, Fault::Expected("one argument"))),
     }
 }

@@ -8,6 +8,7 @@ mod entity_types;
 mod lists;
 mod meanings;
 mod refusals;
+mod reserved;
 mod types;
 
 use crate::faults::ReadError;

@@ -196,7 +196,10 @@ fn part_of_application(
             names.check_context(&context, start)?;
             read.context = Some(context);
         }
-        _ => return Err(cursor.fault(Fault::Expected("another part of `appliesTo`"))),
+        "principal" | "resource" | "context" => {
+            return Err(cursor.fault(Fault::Expected("another part of `appliesTo`")));
+        }
+        _ => return Err(cursor.fault(Fault::Expected("`principal`, `resource` or `context`"))),
     }
     Ok(())
 }

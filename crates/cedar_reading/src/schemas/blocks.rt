@@ -5,7 +5,8 @@ use crate::faults::{Fault, ReadError};
 use crate::schemas::actions::{action_declaration, external_actions};
 use crate::schemas::declarations::{Alias, Declarations};
 use crate::schemas::entity_types::{entity_declaration, external_types};
-use crate::schemas::meanings::Names;
+use crate::schemas::meanings::{Names, Notation};
+use crate::schemas::reserved::{free_alias, free_word};
 use crate::schemas::types::cedar_type;
 use cedar_types::base::Name;
 
@@ -33,7 +34,7 @@ fn namespace(
     outside: Names<'_>,
     read: &mut Declarations,
 ) -> Result<(), ReadError> {
-    let path = path(cursor)?;
+    let path = path(cursor, outside.notation)?;
     let names = Names {
         namespace: path.as_slice(),
         ..outside
@@ -50,10 +51,10 @@ fn namespace(
 }
 
 /// Reads words with `::` between them.
-fn path<'a>(cursor: &mut Cursor<'a>) -> Result<Vec<&'a str>, ReadError> {
+fn path<'a>(cursor: &mut Cursor<'a>, notation: Notation) -> Result<Vec<&'a str>, ReadError> {
     let mut words = Vec::new(cursor.alloc);
     for _ in 0..cursor.most_left() {
-        words.push(cursor.word()?)?;
+        words.push(free_word(cursor, notation)?)?;
         if !cursor.takes("::") {
             break;
         }
@@ -104,7 +105,8 @@ fn alias_declaration(
     read: &mut Declarations,
 ) -> Result<(), ReadError> {
     let fault = cursor.fault(Fault::SameName);
-    let name = Name::new(cursor.alloc, cursor.word()?, names.namespace)?;
+    let word = free_alias(cursor, names.notation)?;
+    let name = Name::new(cursor.alloc, word, names.namespace)?;
     if read.alias(&name).is_some() {
         return Err(fault);
     }

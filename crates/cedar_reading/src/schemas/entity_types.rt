@@ -5,6 +5,7 @@ use crate::names::placed_name;
 use crate::schemas::declarations::{Declaration, Placed};
 use crate::schemas::lists::{Listing, one_or_in_brackets};
 use crate::schemas::meanings::Names;
+use crate::schemas::reserved::free_word;
 use crate::schemas::types::{attributes, cedar_type};
 use crate::texts::text;
 use cedar_types::base::{
@@ -81,7 +82,7 @@ fn own_types(
             break;
         }
         let start = cursor.start();
-        let name = names.own_type(cursor.word()?)?;
+        let name = names.own_type(free_word(cursor, names.notation)?)?;
         declared.push(Placed { name, start })?;
     }
     Ok(declared)

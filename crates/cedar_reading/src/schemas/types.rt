@@ -28,6 +28,9 @@ pub fn cedar_type(
     if cursor.is_at("{") {
         return record(cursor, names, left);
     }
+    if cursor.is_at("[") {
+        return Err(cursor.fault(Fault::Expected("a type such as `Set<Long>`")));
+    }
     if !cursor.takes("Set") {
         return named_type(cursor, names, left);
     }
@@ -78,11 +81,21 @@ pub fn attributes(
             return Err(ReadError::At(start, Fault::SameKey));
         }
         if !cursor.takes(",") {
-            cursor.expect("}")?;
+            let all = behind_attribute(cursor);
+            cursor.expect_one("}", all)?;
             break;
         }
     }
     Ok(Attributes::with_attributes(cursor.alloc, attrs)?)
+}
+
+/// What may stand behind an attribute's type, if what is read there is something else.
+fn behind_attribute(cursor: &Cursor<'_>) -> &'static str {
+    if cursor.is_at("?") {
+        "`?` before the `:`"
+    } else {
+        "`,` or `}`"
+    }
 }
 
 /// Reads the name of a type.
@@ -143,16 +156,15 @@ fn type_of_name(
     if let Some(own) = name_of_language(alloc, &name)? {
         return type_of_language(alloc, own, start);
     }
-    if let Some(primitive) = primitive(&name) {
-        return Ok(primitive);
-    }
-    let is_extension = is_extension(&name);
     let meant = names.entity_type(name)?;
-    if is_extension && !names.declared.has_type(&meant) {
-        return Ok(CedarType::extension(alloc, meant.name)?);
+    let is_declared = names.declared.has_type(&meant);
+    match undeclared_type(alloc, &meant.name)? {
+        Some(own) if !is_declared => Ok(own),
+        _ => {
+            names.check_known(&meant, start)?;
+            Ok(CedarType::named_entity_reference(alloc, meant)?)
+        }
     }
-    names.check_known(&meant, start)?;
-    Ok(CedarType::named_entity_reference(alloc, meant)?)
 }
 
 /// The last part of a name that begins with `__cedar::`.
@@ -168,16 +180,24 @@ fn name_of_language(alloc: Global, name: &Name) -> Result<Option<Name>, AllocErr
 
 /// The primitive or extension type of this name, whatever is declared.
 fn type_of_language(alloc: Global, name: Name, start: usize) -> Result<CedarType, ReadError> {
-    if let Some(primitive) = primitive(&name) {
-        return Ok(primitive);
+    match undeclared_type(alloc, &name)? {
+        Some(own) => Ok(own),
+        None => Err(ReadError::At(start, Fault::Undeclared)),
     }
-    if !is_extension(&name) {
-        return Err(ReadError::At(start, Fault::Undeclared));
-    }
-    Ok(CedarType::extension(alloc, name)?)
 }
 
-/// The type of this name that needs no declaration and that no declaration changes, if there is one.
+/// The primitive or extension type of this name, which needs no declaration, if there is one.
+fn undeclared_type(alloc: Global, name: &Name) -> Result<Option<CedarType>, AllocError> {
+    if let Some(primitive) = primitive(name) {
+        return Ok(Some(primitive));
+    }
+    if !is_extension(name) {
+        return Ok(None);
+    }
+    Ok(Some(CedarType::extension(alloc, name.clone()?)?))
+}
+
+/// The primitive type of this name, if there is one.
 fn primitive(name: &Name) -> Option<CedarType> {
     if !name.path.is_empty() {
         return None;
