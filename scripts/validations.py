@@ -3,11 +3,13 @@
 
 PROGRAM is cedar_validate, by default the one that rt ci built. It is called with words that are right and wrong, and given
 texts that are large, deep or broken: each has to end in time with the status and the words that are wanted. Then each file
-apps_*.tsv of crates/cedar_cases/data is a schema and
-some policies, with what has to be said of them: whether each is accepted in a mode, with which errors and at which texts, its
-least sufficient level where it is accepted, and its errors at a level. All policies of a file are validated by one run for each of these columns,
-and its objects of JSON are compared. The last line counts what agrees and what does not.
+apps_*.tsv of crates/cedar_cases/data is a schema and some policies, with what has to be said of them: whether each is
+accepted in a mode, with which errors and at which texts, its least sufficient level where it is accepted, and its errors at
+a level. All policies of a file are validated by one run for each of these columns, and its objects of JSON are compared.
+Last, what README.md and docs/TOUR.md show of runs has to be what they write. The last line counts what agrees and what does
+not.
 """
+import itertools
 import json
 import subprocess
 import sys
@@ -32,9 +34,9 @@ CALLS = (
     (["--mode", "loose", "s", "p"], 2, "cedar-validate: `--mode` takes `strict`, `permissive` or `partial`\nusage: "),
     (["--level", "-1", "s", "p"], 2, "cedar-validate: `--level` takes a number from 0 to 4294967295\nusage: "),
     (["-", "-"], 2, "cedar-validate: standard input, `-`, can be read once\nusage: "),
-    (["missing", "p"], 2, "missing: fault: No such file or directory (os error 2)\n"),
-    (["--json", "missing", "p"], 2, '{"kind":"fault","file":"missing","text":"No such file or directory (os error 2)"}\n'),
-    (["s", "."], 2, ".: fault: Is a directory (os error 21)\npolicies: 0"),
+    (["missing", "p"], 2, "missing: fault: cannot be read: No such file or directory (os error 2)\n"),
+    (["--json", "missing", "p"], 2, '{"kind":"fault","file":"missing","text":"cannot be read: No such file or directory (os error 2)"}\n'),
+    (["s", "."], 2, ".: fault: cannot be read: Is a directory (os error 21)\npolicies: 0"),
     (["s", "-"], 0, "policies: 0, accepted: 0, refused: 0, warnings: 0, faults: 0\n"),
 )
 
@@ -64,6 +66,22 @@ POLICIES = (
     (";" * LARGE, 2, "p: fault: more than 100 faults, so the rest of the file is not read"),
     ('"' + "\\" * LARGE, 2, "p:1:1: fault: `permit` or `forbid` is expected"),
     ("/" * (1 + (1 << 26)), 2, "p:1:1: fault: the text is longer than 64 MiB"),
+    (when("principal.age > - 9223372036854775808 && - - 5 > -\n// five\n5"), 0, "p:1:1: policy `policy0`: accepted, level 1"),
+    (when("principal.age > - 9223372036854775809"), 2, "p:1:60: fault: a number that does not fit 64 bits, where `-` is read"),
+    (when("[1].contains()"), 2, "p:1:48: fault: one argument is expected, where `contains` is read"),
+    (when("[1].contains(1, 2) && true"), 2, "p:1:48: fault: one argument is expected, where `contains` is read"),
+    (when("[1].isEmpty(1) && true"), 2, "p:1:48: fault: no argument is expected, where `isEmpty` is read"),
+    (when("true || unknown(1)"), 2, "p:1:52: fault: the name of an unknown is expected, where `unknown` is read"),
+    (f'@id("x") @level(3)\n{SCOPE};\n', 2, "policies: 0, accepted: 0, refused: 0, warnings: 0, faults: 1"),
+    (f'@id("x") # permit\n@level("3")\n{SCOPE};\n{GOOD}', 2, "policies: 1, accepted: 1, refused: 0, warnings: 0, faults: 1"),
+    (f'@permit("x") # all\n{SCOPE};\n', 2, "policies: 0, accepted: 0, refused: 0, warnings: 0, faults: 1"),
+    (f"forbid(principal, action, resource) when {{ true ; {SCOPE}; }};\n", 2, "policies: 0, accepted: 0, refused: 0, warnings: 0, faults: 1"),
+    (f"{SCOPE} when {{ [(1 ;\n{GOOD}", 2, "p:2:1: policy `policy1`: accepted, level 1"),
+    (f'{SCOPE} when {{ [(1 ;\n@id("b")\n{GOOD}', 2, "p:2:1: policy `b`: accepted, level 1"),
+    (f"{SCOPE} wen {{ true; true }};\n{GOOD}", 2, "p:1:37: fault: `when`, `unless` or `;` is expected, where `wen` is read"),
+    (f"{SCOPE} when {{ true }}", 2, "p:1:50: fault: `when`, `unless` or `;` is expected, where the text ends"),
+    (2 * 'permit(principal == User::"a, action, resource);\n', 2, "p:2:28: fault: `,` is expected, where `a` is read; the text in quotes before"),
+    ('[{"effect": "permit"}]', 2, "p:1:1: fault: `permit` or `forbid` is expected, where `[` is read; policies in JSON are not read"),
     ('@id("a")' + GOOD + GOOD + '@id("a")' + GOOD, 1, "p:3:1: error: the policy at 1:1 of this file has the same id"),
 )
 # Schemas, the exit status, and what one of the first lines begins with.
@@ -71,6 +89,17 @@ SCHEMAS = (
     ("\ufeff" + SCHEMA, 0, "p:1:1: policy `policy0`: accepted, level 1"),
     (SCHEMA.encode() + b"\xff", 2, "s:4:1: fault: the byte 0xff is no text in UTF-8"),
     ("entity A { a: " + "Set<" * LARGE, 2, "s:1:3211: fault: nested too deep, as a type that contains itself is"),
+    ("type Long = String; " + SCHEMA, 2, "s:1:6: fault: a name that the language keeps for itself, where `Long` is read"),
+    ("entity A, if; " + SCHEMA, 2, "s:1:11: fault: a name that the language keeps for itself, where `if` is read"),
+    ("namespace A::__cedar { entity B; }", 2, "s:1:14: fault: a name that the language keeps for itself, where `__cedar` is read"),
+    (SCHEMA.replace("age: Long", "age: [Long]"), 2, "s:1:42: fault: a type such as `Set<Long>` is expected, where `[` is read"),
+    ("type has = Long;", 2, "s:1:6: fault: a name that the language keeps for itself, where `has` is read"),
+    ("entity A { a: Long\n b: Long };", 2, "s:2:2: fault: `,` or `}` is expected, where `b` is read"),
+    ("entity A { a: Long? };", 2, "s:1:19: fault: `?` before the `:` is expected, where `?` is read"),
+    ("entity A; action a appliesTo { principals: A };", 2, "s:1:32: fault: `principal`, `resource` or `context` is expected, where"),
+    ("action a in [b]; action b in [a]; namespace N { } namespace N { }\n" + SCHEMA, 0, "p:1:1: policy `policy0`: accepted"),
+    ("namespace N { entity Long; }\n" + SCHEMA, 0, "p:1:1: policy `policy0`: accepted, level 1"),
+    ("namespace N { entity String; entity A { a: String, b: __cedar::String }; }\n" + SCHEMA, 0, "p:1:1: policy `policy0`: accepted"),
     ("type T = Set<U>; type U = T;", 2, "s:1:14: fault: nested too deep, as a type that contains itself is"),
     ("type T0 = Long; " + "".join(f"type T{i + 1} = {{a: T{i}, b: T{i}}}; " for i in range(99)), 2, "s:1:"),
     ("".join(f"entity T{i} {{ a: T{i * 7 % 10_000} }};\n" for i in range(10_000)) + SCHEMA, 0, "p:1:1: policy `policy0`: accepted"),
@@ -186,6 +215,24 @@ def runs(program):
             written(path, kept)
 
 
+def shown_runs():
+    """The runs that the documents show: the page, the words, and what is written, up to a line of two points."""
+    for page in ("README.md", "docs/TOUR.md"):
+        lines = (TOP / page).read_text(encoding="utf8").splitlines()
+        for at, line in enumerate(lines):
+            if line.startswith("    $ scripts/validate "):
+                shown = itertools.takewhile(lambda it: it.startswith("    "), lines[at + 1:])
+                yield page, line.split()[2:], [it[4:] for it in shown]
+
+
+def differs(program, words, shown):
+    """What a run writes, where that is not what is shown; else None."""
+    done = subprocess.run([str(program), *words], cwd=TOP, stdin=subprocess.DEVNULL, capture_output=True, text=True, timeout=SECONDS)
+    said = done.stdout.splitlines()
+    agrees_so_far = shown[-1:] == [".."] and said[:len(shown) - 1] == shown[:-1]
+    return None if said == shown or agrees_so_far else done.stdout
+
+
 def main(words):
     program = Path(words[0]).resolve() if words else PROGRAM
     if not program.is_file():
@@ -209,6 +256,12 @@ def main(words):
                 else:
                     failed += 1
                     print(f"{path.name}: {case['about']}: {column}: {case[column]!r} is wanted, not {said_of}")
+    for page, asked, shown in shown_runs():
+        difference = differs(program, asked, shown)
+        passed += difference is None
+        failed += difference is not None
+        if difference is not None:
+            print(f"{page}: {' '.join(asked)}: {difference}")
     print(f"{passed} passed, {failed} failed")
     sys.exit(1 if failed or not passed else 0)
 

@@ -19,3 +19,6 @@ permit(principal, action == Action::"veiw", resource);
 permit(principal == Album::"summer", action, resource);
 
 permit(principal == Group::"staff", action, resource);
+
+permit(principal, action, resource)
+when { context.now > datetime("2024-01-01") };

@@ -30,7 +30,7 @@ impl Environments {
 #[derive(Drop)]
 pub struct Occurrences {
     alloc: Global,
-    /// How many environments the policy is checked in.
+    /// How many environments the policy may apply in: those in which its check is not irrelevant, or finds an error.
     count: usize,
     of_errors: HashMap<ValidationError, Environments>,
 }
@@ -49,7 +49,6 @@ impl Occurrences {
         };
         for item in checker.typecheck_by_request_env(alloc, policy)? {
             let (env, check) = item?;
-            found.count = found.count.saturating_add(1);
             found.take_in(&env, check)?;
         }
         Ok(found)
@@ -57,17 +56,27 @@ impl Occurrences {
 
     fn take_in(&mut self, env: &RequestEnv<'_>, check: PolicyCheck) -> Result<(), AllocError> {
         match check {
-            PolicyCheck::Success(_typed) => Ok(()),
-            PolicyCheck::Irrelevant(errors, _typed) => self.add_all(env, errors),
+            PolicyCheck::Success(_typed) => self.add_all(env, Vec::new(self.alloc)),
+            PolicyCheck::Irrelevant(errors, _typed) => {
+                if errors.is_empty() {
+                    return Ok(());
+                }
+                self.add_all(env, errors)
+            }
             PolicyCheck::Fail(errors) => self.add_all(env, errors),
         }
     }
 
+    /// Takes note of an environment that the policy may apply in, and of the errors there.
     fn add_all(
         &mut self,
         env: &RequestEnv<'_>,
         errors: Vec<ValidationError>,
     ) -> Result<(), AllocError> {
+        self.count = self.count.saturating_add(1);
+        if errors.is_empty() {
+            return Ok(());
+        }
         let shown = shown_environment(self.alloc, env)?;
         for error in errors {
             self.add(error, shown.as_str())?;
@@ -85,8 +94,8 @@ impl Occurrences {
         found.add(shown)
     }
 
-    /// The environments of an error that does not come in all of them: the first few, and how many more there are. None of one
-    /// that comes in all, and of one that no check of an environment finds.
+    /// The environments of an error that does not come in all that the policy may apply in: the first few, and how many more
+    /// there are. None of one that comes in all of these, and of one that no check of an environment finds.
     pub fn shown(&self, error: &ValidationError) -> Result<Vec<String>, AllocError> {
         let mut shown = Vec::new(self.alloc);
         let Some(found) = self.of_errors.get(error) else {

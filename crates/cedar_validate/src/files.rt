@@ -57,7 +57,7 @@ fn shown_lack(
     name: &str,
     error: &io::Error,
 ) -> Result<String, AllocError> {
-    let why = error.to_string(alloc)?;
+    let why = format!(in alloc; "cannot be read: {error}")?;
     let mut shown = String::new(alloc);
     push_missing(&mut shown, is_json, name, why.as_str())?;
     Ok(shown)

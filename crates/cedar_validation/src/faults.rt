@@ -7,6 +7,10 @@ use thiserror::Error;
 /// How many characters are shown of what was read in place of something else.
 const MAX_SHOWN: usize = 40;
 
+/// What may help behind a text in quotes of several lines.
+const LONG_TEXT: &str = "; the text in quotes before it began on another line: it may have \
+     lost its end there";
+
 /// What is wrong with a text, and where.
 #[derive(Debug, Drop, Error)]
 #[error("{text}")]
@@ -59,13 +63,29 @@ pub fn read_fault(
     let token = token_text(text, start);
     let read = beginning(token);
     let trouble = trouble_of(written, fault, token);
+    let mut said = trouble_text(alloc, written, trouble, read)?;
+    if is_behind_long_text(text, start) {
+        said.push_str(LONG_TEXT)?;
+    }
     Ok(TextFault {
         place: Loc {
             start,
             end: start.saturating_add(read.len()),
         },
-        text: trouble_text(alloc, written, trouble, read)?,
+        text: said,
     })
+}
+
+/// Whether a text in quotes ends right before this byte, and began on another line.
+fn is_behind_long_text(text: &str, start: usize) -> bool {
+    let before = text.get(..start).unwrap_or("").trim_end();
+    let Some(inside) = before.strip_suffix('"') else {
+        return false;
+    };
+    match inside.rsplit_once('"') {
+        Some((_, said)) => said.contains('\n'),
+        None => false,
+    }
 }
 
 /// What a fault at this token is.
@@ -111,7 +131,7 @@ fn hint(written: Written, trouble: Trouble, read: &str) -> &'static str {
         (Written::Schema, "permit" | "forbid") => {
             "; the schema is the first file, and policies come behind it"
         }
-        (Written::Schema, "{") if is_expected => "; schemas in JSON are not read",
+        (Written::Schema, _) if is_expected => hint_in_schema(trouble, read),
         (Written::Policies, "entity" | "namespace" | "type") => {
             "; the schema is the first file, and policies come behind it"
         }
@@ -127,9 +147,43 @@ fn hint_in_policy(trouble: Trouble, read: &str) -> &'static str {
         "&" | "and" | "AND" => "; `&&` stands between conditions that both have to hold",
         "|" | "or" | "OR" => "; `||` stands between conditions of which one has to hold",
         "not" | "NOT" => "; `!` negates",
+        "True" | "TRUE" => "; `true` is written small",
+        "False" | "FALSE" => "; `false` is written small",
+        "null" | "nil" | "None" => "; nothing is null: `has` asks whether an attribute is there",
+        ":" => "; `::` stands between the parts of a name",
         _ if is_name(trouble, read) => {
             "; there are `principal`, `action`, `resource`, `context`, and ids such as `User::\"ann\"`"
         }
+        _ => hint_by_place(trouble, read),
+    }
+}
+
+/// What may help where this is read, by what is expected there.
+fn hint_by_place(trouble: Trouble, read: &str) -> &'static str {
+    let is_text = read.starts_with('"');
+    match (trouble, read) {
+        (Trouble::Other(Fault::Expected("`permit` or `forbid`")), "{" | "[") => {
+            "; policies in JSON are not read"
+        }
+        (Trouble::Other(Fault::Expected("a name")), "[") => {
+            "; only behind `action in` may a list stand"
+        }
+        (Trouble::Other(Fault::Expected("a name")), _) if is_text => {
+            "; an id has its type before it, as `User::\"ann\"`"
+        }
+        (Trouble::Missing("}" | ")"), "==" | "!=" | "<" | "<=" | ">" | ">=") => {
+            "; one comparison does not follow another: `&&` joins two"
+        }
+        _ => "",
+    }
+}
+
+/// What may help in a schema.
+fn hint_in_schema(trouble: Trouble, read: &str) -> &'static str {
+    match (trouble, read) {
+        (_, "{") => "; schemas in JSON are not read",
+        (_, "?") => "; the `?` stands behind an attribute, as in `a?: Long`",
+        (Trouble::Other(Fault::Expected("a name")), "[") => "; a type of sets is `Set<..>`",
         _ => "",
     }
 }
@@ -209,15 +263,21 @@ pub fn forbidden_part(alloc: Global, policy: &Template) -> Result<Option<TextFau
         return Ok(None);
     };
     for item in condition.subexpressions(alloc)? {
-        let part = item?;
-        if let Some(text) = why_forbidden(part) {
-            return Ok(Some(TextFault {
-                place: part.loc.unwrap_or(Loc { start: 0, end: 0 }),
-                text: String::from_str(alloc, text)?,
-            }));
+        if let Some(fault) = fault_of_part(alloc, item?)? {
+            return Ok(Some(fault));
         }
     }
     Ok(None)
+}
+
+fn fault_of_part(alloc: Global, part: &Expr) -> Result<Option<TextFault>, AllocError> {
+    let Some(text) = why_forbidden(part) else {
+        return Ok(None);
+    };
+    Ok(Some(TextFault {
+        place: part.loc.unwrap_or(Loc { start: 0, end: 0 }),
+        text: String::from_str(alloc, text)?,
+    }))
 }
 
 fn why_forbidden(part: &Expr) -> Option<&'static str> {

@@ -21,6 +21,8 @@ pub struct Finding {
     pub end: usize,
     pub severity: Severity,
     pub text: String,
+    /// What may help, behind a `; `; empty where that is not known.
+    pub hint: &'static str,
     /// The environments that an error comes in, where it does not come in all; else none.
     pub environments: Vec<String>,
 }
@@ -77,6 +79,7 @@ impl Finding {
             end,
             severity,
             text: own_text(alloc, &policy.id, text)?,
+            hint: "",
             environments: Vec::new(alloc),
         })
     }
@@ -91,6 +94,7 @@ impl Finding {
         let text = error.to_string(alloc)?;
         let place = error.source_loc();
         let mut finding = Finding::new(alloc, policy, Severity::Error, place, text.as_str())?;
+        finding.hint = hint_for_error(error);
         finding.environments = environments;
         Ok(finding)
     }
@@ -101,15 +105,36 @@ impl Finding {
         policy: &Template,
         warning: &ValidationWarning,
     ) -> Result<Finding, AllocError> {
-        let mut text = warning.to_string(alloc)?;
-        text.push_str(hint(warning))?;
+        let text = warning.to_string(alloc)?;
         let place = warning.source_loc();
-        Finding::new(alloc, policy, Severity::Warning, place, text.as_str())
+        let mut finding = Finding::new(alloc, policy, Severity::Warning, place, text.as_str())?;
+        finding.hint = hint_for_warning(warning);
+        Ok(finding)
+    }
+}
+
+/// What may help against an error.
+fn hint_for_error(error: &ValidationError) -> &'static str {
+    match error {
+        ValidationError::UnsafeOptionalAttributeAccess(_) => {
+            "; `has` may guard it, as in `a has b && a.b`"
+        }
+        ValidationError::UnsafeTagAccess(_) => {
+            "; `hasTag` may guard it, as in `a.hasTag(\"b\") && a.getTag(\"b\")`"
+        }
+        ValidationError::NonLitExtConstructor(_) => {
+            "; such a call takes a text in quotes, as in `ip(\"10.0.0.1\")`"
+        }
+        ValidationError::UndefinedFunction(_) => {
+            "; there are `contains`, `containsAll`, `containsAny`, `isEmpty`, `hasTag`, `getTag`, \
+             and the functions of the extensions"
+        }
+        _ => "",
     }
 }
 
 /// What may help against a warning.
-fn hint(warning: &ValidationWarning) -> &'static str {
+fn hint_for_warning(warning: &ValidationWarning) -> &'static str {
     let ValidationWarning::InvalidActionApplication(found) = warning else {
         return "";
     };

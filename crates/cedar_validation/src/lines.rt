@@ -57,7 +57,8 @@ pub fn push_finding(
     let start = finding.start;
     let end = finding.end;
     let excerpt = Excerpt::new(text, Loc { start, end });
-    write!(out, "{place}: {severity}: {said}\n{excerpt}")?;
+    let hint = finding.hint;
+    write!(out, "{place}: {severity}: {said}{hint}\n{excerpt}")?;
     for environment in &finding.environments {
         let environment = Shown(environment.as_str());
         writeln!(out, "  only for {environment}")?;

@@ -45,7 +45,12 @@ pub fn push_finding(
     push_place(out, severity_text(finding.severity), place)?;
     let id = Quoted(id);
     let text = Quoted(finding.text.as_str());
-    write!(out, ",\"id\":{id},\"text\":{text},\"only\":[")?;
+    write!(out, ",\"id\":{id},\"text\":{text}")?;
+    if let Some(hint) = finding.hint.strip_prefix("; ") {
+        let hint = Quoted(hint);
+        write!(out, ",\"hint\":{hint}")?;
+    }
+    out.push_str(",\"only\":[")?;
     let mut is_first = true;
     for environment in &finding.environments {
         if !is_first {

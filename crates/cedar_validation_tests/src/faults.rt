@@ -8,7 +8,7 @@ use std::test::Fail;
 const BEFORE: &str = "permit(principal, action, resource)\nwhen { ";
 
 /// Conditions behind `BEFORE`, with the rest of the text.
-const CONDITIONS: [(&str, &str); 16] = [
+const CONDITIONS: [(&str, &str); 19] = [
     (
         "user.a };",
         "2:8: an expression is expected, where `user` is read; there are `principal`, `action`, \
@@ -25,6 +25,15 @@ const CONDITIONS: [(&str, &str); 16] = [
     (
         "not true };",
         "2:8: an expression is expected, where `not` is read; `!` negates",
+    ),
+    (
+        "True };",
+        "2:8: an expression is expected, where `True` is read; `true` is written small",
+    ),
+    (
+        "1 < 2 < 3 };",
+        "2:14: `}` is expected, where `<` is read; one comparison does not follow another: `&&` \
+         joins two",
     ),
     (
         "true and false };",
@@ -45,6 +54,11 @@ const CONDITIONS: [(&str, &str); 16] = [
         "2:8: a text in quotes that does not end, where `\"a };` is read",
     ),
     (
+        "\"a };\n\"b\" };",
+        "3:2: `}` is expected, where `b` is read; the text in quotes before it began on another \
+         line: it may have lost its end there",
+    ),
+    (
         "9223372036854775808 };",
         "2:8: a number that does not fit 64 bits, where `9223372036854775808` is read",
     ),
@@ -58,7 +72,7 @@ const CONDITIONS: [(&str, &str); 16] = [
     ),
     (
         "principal.a }",
-        "2:21: `;` is expected, where the text ends",
+        "2:21: `when`, `unless` or `;` is expected, where the text ends",
     ),
     (
         "if true then 1 };",
@@ -70,7 +84,7 @@ const CONDITIONS: [(&str, &str); 16] = [
     ),
     (
         "unknown() };",
-        "2:18: one argument is expected, where `}` is read",
+        "2:8: one argument is expected, where `unknown` is read",
     ),
     (
         "[1, 2).isEmpty() };",
@@ -146,7 +160,7 @@ fn nesting(rt: HostRuntime) -> Result<(), Fail> {
 const SCHEMAS: [(&str, &str); 13] = [
     (
         "entity A { a: Long b: Long };",
-        "1:20: `}` is expected, where `b` is read",
+        "1:20: `,` or `}` is expected, where `b` is read",
     ),
     (
         "entity A { b: Strng };",

@@ -42,7 +42,7 @@ fn policies(rt: HostRuntime) -> Result<(), Fail> {
 }
 
 const FINDINGS: &str = r#"
-{"kind":"error","file":"a\"","line":3,"column":7,"id":"i","text":"\u202e","only":["h","t\u0009"]}
+{"kind":"error","file":"a\"","line":3,"column":7,"id":"i","text":"\u202e","hint":"ask \"x\"","only":["h","t\u0009"]}
 {"kind":"warning","file":"a\"","line":3,"column":7,"id":"i","text":"\u202e","only":[]}
 {"kind":"fault","file":"a\"","line":3,"column":7,"text":"`;` is expected"}
 {"kind":"fault","file":"\u001b","text":"none"}
@@ -89,6 +89,11 @@ fn finding(
         end: 1,
         severity,
         text: String::from_str(alloc, "\u{202e}")?,
+        hint: if environments.is_empty() {
+            ""
+        } else {
+            "; ask \"x\""
+        },
         environments,
     })
 }
