@@ -111,7 +111,7 @@ fn typed(cursor: &mut Cursor<'_>, first: Part, left: usize) -> Result<Part, Read
     }
     // the operand stands in the tree twice
     if !cursor.may_copy(first.covers) {
-        return Err(cursor.fault(Fault::TooDeep));
+        return Err(cursor.fault(Fault::Twice));
     }
     cursor.take();
     let right = connected(cursor, Level::Sum, left)?;

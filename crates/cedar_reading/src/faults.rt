@@ -11,6 +11,9 @@ pub enum Fault {
     /// The text is longer than `MAX_LENGTH`.
     #[error("too long")]
     TooLong,
+    /// `a is T in b`, where `a` stands in the tree twice and has such an operator itself.
+    #[error("an `is .. in` behind an operand that has one too")]
+    Twice,
     #[error("a number out of range")]
     Number,
     #[error("a text that does not end, or an escape that is none")]

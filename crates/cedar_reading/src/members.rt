@@ -30,6 +30,9 @@ pub fn beginning_with_word(cursor: &mut Cursor<'_>) -> Result<Beginning, ReadErr
     if cursor.takes("(") {
         return Ok(Beginning::Function(read.name));
     }
+    if !read.name.path.is_empty() {
+        return Err(ReadError::At(start, Fault::Expected("an expression")));
+    }
     let whole = match word {
         "true" => Expr::val(Literal::Bool(true)),
         "false" => Expr::val(Literal::Bool(false)),

@@ -1,6 +1,6 @@
 // Names and ids.
 use crate::cursor::Cursor;
-use crate::faults::ReadError;
+use crate::faults::{Fault, ReadError};
 use crate::texts::text;
 use crate::tokens::TokenKind;
 use cedar_types::base::{EntityType, EntityUID, Loc, Name};
@@ -67,6 +67,9 @@ pub fn uid_of(
 pub fn entity_uid(cursor: &mut Cursor<'_>) -> Result<EntityUID, ReadError> {
     let start = cursor.start();
     let read = placed_name(cursor)?;
+    if !read.is_of_id {
+        return Err(cursor.fault(Fault::Missing("::")));
+    }
     uid_of(cursor, start, read)
 }
 

@@ -15,8 +15,8 @@ use std::rt::Files;
 /// How many faults of a file are shown.
 const MAX_FAULTS: u64 = 100;
 
-/// What is said of a file with more faults.
-const REST: &str = "more than 100 faults, so the rest of the file is not read";
+/// What is said of a file with so many faults and more policies.
+const REST: &str = "100 faults, so the rest of the file is not read";
 
 /// The text of a file. Where it cannot be had, why is written, and the answer is `None`.
 pub fn read_text<R: Files + AllocGlobal + Input, O: Write>(

@@ -138,6 +138,9 @@ fn named_action(cursor: &mut Cursor<'_>, names: &Names<'_>) -> Result<EntityUID,
     if !read.is_of_id && read.name.path.is_empty() {
         return Ok(names.action(action_type, read.name.basename.as_str())?);
     }
+    if !read.is_of_id {
+        return Err(cursor.fault(Fault::Missing("::")));
+    }
     let eid = text(cursor)?;
     Ok(names.action(read.name, eid.as_str())?)
 }
