@@ -1,0 +1,131 @@
+#!/usr/bin/env python3
+"""What scripts/validate does, once the tools are there: scripts/validate.py [--proved] [OPTION..] SCHEMA POLICY..
+
+With --proved the program is proved and built first, and stays. Where it stands, and no text that it is made of is newer,
+it is run as it is. Else it is built without a proof for this one call, by `rt try`, which has limits: 60 seconds, and 1 MiB
+of output, which comes at the end. The exit status is the program's, or 70 where it was not built or did not reach its end.
+"""
+import os
+import resource
+import subprocess
+import sys
+import tempfile
+from pathlib import Path
+
+TOP = Path(__file__).resolve().parent.parent
+CRATE = TOP / "crates" / "cedar_validate"
+PROGRAM = CRATE / "out" / "cedar_validate"
+FAILED = 70
+LIMITS = (
+    ("did not end within the time limit", "it did not end within the 60 seconds of a run without a proof"),
+    ("1 MiB", "it wrote more than the 1 MiB that a run without a proof may write"),
+)
+
+
+def say(text):
+    print(f"scripts/validate: {text}", file=sys.stderr, flush=True)
+
+
+def below(crate, uses):
+    """A crate and all that it stands on, of this repository."""
+    found = {crate}
+    for other in uses.get(crate, ()):
+        found |= below(other, uses) if other in uses else set()
+    return found
+
+
+def is_built():
+    """Whether the program stands, and no text that it is made of is newer."""
+    if not PROGRAM.is_file():
+        return False
+    lines = [line.split(":") for line in (TOP / "crates.txt").read_text().splitlines() if not line.startswith("#")]
+    crates = below(CRATE.name, {name: uses.split() for name, uses in lines})
+    parts = [TOP / "crates.txt"]
+    parts += [path for it in crates for part in ("src", "specs", "proofs") for path in TOP.glob(f"crates/{it}/{part}/**/*.*t")]
+    made = PROGRAM.stat().st_mtime
+    return all(path.stat().st_mtime <= made for path in parts if path.is_file())
+
+
+def prove():
+    """Proves the program and builds it. What rt says goes to standard error."""
+    done = subprocess.run(["rt", "run", "--", "--help"], cwd=CRATE, stdin=subprocess.DEVNULL, stdout=sys.stderr)
+    return done.returncode == 0
+
+
+def placed(words, room):
+    """The words as the program gets them, its files, and the words that stand for those of another name.
+
+    The program is run in a folder of its own, to which each file is copied: by the name that it is called by, where this
+    leads nowhere else and is no form of an option of `rt try`, and else by one made up here. What a pipe holds is copied to
+    the room first."""
+    names, files, words_of = [], {}, {}
+    for number, word in enumerate(words):
+        name = word
+        if os.path.exists(word) and not os.path.isdir(word):
+            path = Path(word).resolve()
+            if not path.is_file():
+                path = Path(room, f"pipe-{number}")
+                with open(word, "rb") as pipe:
+                    path.write_bytes(pipe.read())
+            if word != os.path.normpath(word) or word.startswith(("/", "..")) or "=" in word:
+                name = f"file-{number}-of-{os.getpid()}"
+                words_of[name] = word
+            files[name] = path
+        names.append(name)
+    return names, files, words_of
+
+
+def with_words(line, words_of):
+    """A line of the output, with the files called as they were."""
+    for name, word in words_of.items():
+        if not word.isprintable() or set(word) & set('"\\'):
+            continue
+        if line.startswith(f"{name}:"):
+            return word + line[len(name):]
+        line = line.replace(f'"file":"{name}"', f'"file":"{word}"', 1)
+    return line
+
+
+def tried(words, room):
+    """Builds the program without a proof, runs it, and hands on what it says. The exit status."""
+    names, files, words_of = placed(words, room)
+    data = [part for name, path in files.items() for part in ("--data", f"{name}={path}")]
+    given = sys.stdin.buffer.read() if "-" in words else b""
+    say("building without a proof, which takes a minute or two (--proved proves first, and the program stays)")
+    try:
+        resource.setrlimit(resource.RLIMIT_STACK, (resource.RLIM_INFINITY, resource.RLIM_INFINITY))
+    except (OSError, ValueError):
+        pass
+    done = subprocess.run(["rt", "try", *data, "--", *names], cwd=CRATE, input=given, capture_output=True)
+    said = done.stderr.decode(errors="replace")
+    sys.stdout.write("".join(f"{with_words(line, words_of)}\n" for line in done.stdout.decode(errors="replace").splitlines()))
+    if "\nrun=ended " in f"\n{said}":
+        own = [line for line in said.splitlines() if not line.startswith(("checked: ended", "interpreted: ended", "run=ended"))]
+        sys.stderr.write("".join(f"{with_words(line, words_of)}\n" for line in own))
+        return done.returncode
+    sys.stderr.write(said)
+    for mark, why in LIMITS:
+        if mark in said:
+            say(f"{why}: scripts/validate --proved has no such limit")
+            break
+    return FAILED
+
+
+def main(words):
+    is_asked = words[:1] == ["--proved"]
+    words = words[is_asked:]
+    is_here = is_built() or is_asked and prove()
+    if is_here:
+        os.execv(PROGRAM, [str(PROGRAM), *words])
+    if is_asked:
+        return FAILED
+    with tempfile.TemporaryDirectory() as room:
+        return tried(words, room)
+
+
+if __name__ == "__main__":
+    try:
+        sys.exit(main(sys.argv[1:]))
+    except OSError as error:
+        say(f"{error}")
+        sys.exit(FAILED)
