@@ -71,7 +71,7 @@ POLICIES = (
     (when("resource::owner == principal"), 2, "p:1:44: fault: an expression is expected, where `resource` is read"),
     (when("true::x"), 2, "p:1:44: fault: an expression is expected, where `true` is read"),
     ('permit(principal == User "a", action, resource);', 2, "p:1:26: fault: `::` is expected, where `\"a\"` is read"),
-    (when("(principal is User in principal) is User in principal"), 2, "p:1:84: fault: an `is .. in` behind an operand that has one too"),
+    (when("(principal is User in principal) is User in principal"), 2, "p:1:85: fault: an `is .. in` behind an operand that has one too"),
     (when("[1].contains()"), 2, "p:1:48: fault: one argument is expected, where `contains` is read"),
     (when("[1].contains(1, 2) && true"), 2, "p:1:48: fault: one argument is expected, where `contains` is read"),
     (when("[1].isEmpty(1) && true"), 2, "p:1:48: fault: no argument is expected, where `isEmpty` is read"),
