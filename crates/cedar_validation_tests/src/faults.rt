@@ -115,7 +115,7 @@ const POLICIES: [(&str, &str); 6] = [
     ),
     (
         "permit(principal == User, action, resource);",
-        "1:25: a text in quotes is expected, where `,` is read",
+        "1:25: `::` is expected, where `,` is read",
     ),
     (
         "@id(x) permit(principal);",
