@@ -18,7 +18,7 @@ PROGRAM = CRATE / "out" / "cedar_validate"
 FAILED = 70
 LIMITS = (
     ("did not end within the time limit", "it did not end within the 60 seconds of a run without a proof"),
-    ("1 MiB", "it wrote more than the 1 MiB that a run without a proof may write"),
+    ("wrote more than 1048576 bytes", "it wrote more than the 1 MiB that a run without a proof may write"),
 )
 
 
@@ -40,10 +40,13 @@ def is_built():
         return False
     lines = [line.split(":") for line in (TOP / "crates.txt").read_text().splitlines() if not line.startswith("#")]
     crates = below(CRATE.name, {name: uses.split() for name, uses in lines})
+    # a folder is newer where a file of it has gone
+    folders = [TOP / "crates" / it / part for it in crates for part in ("src", "specs", "proofs")]
     parts = [TOP / "crates.txt"]
-    parts += [path for it in crates for part in ("src", "specs", "proofs") for path in TOP.glob(f"crates/{it}/{part}/**/*.*t")]
+    for folder in filter(Path.is_dir, folders):
+        parts += [folder, *folder.rglob("*")]
     made = PROGRAM.stat().st_mtime
-    return all(path.stat().st_mtime <= made for path in parts if path.is_file())
+    return all(path.lstat().st_mtime <= made for path in parts)
 
 
 def prove():

@@ -6,15 +6,18 @@ texts that are large, deep or broken: each has to end in time with the status an
 apps_*.tsv of crates/cedar_cases/data is a schema and some policies, with what has to be said of them: whether each is
 accepted in a mode, with which errors and at which texts, its least sufficient level where it is accepted, and its errors at
 a level. All policies of a file are validated by one run for each of these columns, and its objects of JSON are compared.
-Last, what README.md and docs/TOUR.md show of runs has to be what they write. The last line counts what agrees and what does
-not.
+Last, what README.md and docs/TOUR.md show of runs has to be what they write, and scripts/validate.py has to tell the files
+that it copies apart. The last line counts what agrees and what does not.
 """
 import itertools
 import json
+import os
 import subprocess
 import sys
 import tempfile
 from pathlib import Path
+
+import validate
 
 TOP = Path(__file__).resolve().parent.parent
 PROGRAM = TOP / "crates" / "cedar_validate" / "out" / "cedar_validate"
@@ -238,6 +241,23 @@ def differs(program, words, shown):
     return None if said == shown or agrees_so_far else done.stdout
 
 
+def copies_differ():
+    """What is wrong with the names of the copies of files that are called alike; None where nothing is."""
+    with tempfile.TemporaryDirectory() as room:
+        called = ["a/x", "./a/x", "a/../a/x", f"{room}/a/x", "a/y=z", "-", "missing"]
+        Path(room, "a").mkdir()
+        for name in ("a/x", "a/y=z"):
+            written(Path(room, name), name)
+        here = os.getcwd()
+        os.chdir(room)
+        names, files, words_of = validate.placed(called, room)
+        os.chdir(here)
+    back = [validate.with_words(f"{name}:1:1: fault", words_of) for name in names]
+    if len(set(names)) == len(names) and len(files) == 5 and back == [f"{word}:1:1: fault" for word in called]:
+        return None
+    return f"{names}, {files}, {back}"
+
+
 def main(words):
     program = Path(words[0]).resolve() if words else PROGRAM
     if not program.is_file():
@@ -261,6 +281,11 @@ def main(words):
                 else:
                     failed += 1
                     print(f"{path.name}: {case['about']}: {column}: {case[column]!r} is wanted, not {said_of}")
+    difference = copies_differ()
+    passed += difference is None
+    failed += difference is not None
+    if difference is not None:
+        print(f"scripts/validate.py: {difference}")
     for page, asked, shown in shown_runs():
         difference = differs(program, asked, shown)
         passed += difference is None
