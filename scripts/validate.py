@@ -26,6 +26,12 @@ def say(text):
     print(f"scripts/validate: {text}", file=sys.stderr, flush=True)
 
 
+def crates_of(text):
+    """What each crate stands on, by a text of crates.txt."""
+    lines = [line.split(":") for line in text.splitlines() if line and not line.startswith("#")]
+    return {name: uses.split() for name, uses in lines}
+
+
 def below(crate, uses):
     """A crate and all that it stands on, of this repository."""
     found = {crate}
@@ -34,14 +40,19 @@ def below(crate, uses):
     return found
 
 
+def needed():
+    """The crate of the program and all that it stands on, of this repository, lowest first."""
+    uses = crates_of((TOP / "crates.txt").read_text())
+    found = below(CRATE.name, uses)
+    return [crate for crate in uses if crate in found]
+
+
 def is_built():
     """Whether the program stands, and no text that it is made of is newer."""
     if not PROGRAM.is_file():
         return False
-    lines = [line.split(":") for line in (TOP / "crates.txt").read_text().splitlines() if not line.startswith("#")]
-    crates = below(CRATE.name, {name: uses.split() for name, uses in lines})
     # a folder is newer where a file of it has gone
-    folders = [TOP / "crates" / it / part for it in crates for part in ("src", "specs", "proofs")]
+    folders = [TOP / "crates" / it / part for it in needed() for part in ("src", "specs", "proofs")]
     parts = [TOP / "crates.txt"]
     for folder in filter(Path.is_dir, folders):
         parts += [folder, *folder.rglob("*")]
