@@ -4,5 +4,4 @@ pub mod View
 pub mod TreeEq
 pub mod Parts
 pub mod ShapeOnly
-pub mod Writes
 pub mod Makers

@@ -48,6 +48,7 @@ pub use templates::constraints::{
     ActionConstraint, EntityReference, PrincipalConstraint, PrincipalOrResourceConstraint,
     ResourceConstraint,
 };
+pub use templates::effects::Effect;
 pub use templates::mentions::{Mention, Mentions};
 pub use templates::{Policy, Template};
 pub use types::entity_sets::EntityLUB;

@@ -1,16 +1,14 @@
 -- The equality and the order of what counts by its shape are lawful.
-use Rattle.std.specs.Prelude.{◌≡◌, IsTrue}
+use Rattle.std.specs.Prelude.{◌≡◌}
 use Rattle.std.proofs.Common.{sym, ◌∙◌}
 use Rattle.std.specs.Cmp.{IsTotalOrder, IsEquivalence, on_total, on_equiv, decided}
 use Rattle.std.specs.Ordering.{is_eq}
 use denote.Builtin.{unit}
 use Rattle.cedar_types.specs.declared.base.expressions.shapes.ExprShapeOnly.{ExprShapeOnly}
 use Rattle.cedar_types.specs.contracts.base.expressions.ExprOrd.TheImpl.Laws as expr_ord_laws
-use Rattle.cedar_types.specs.contracts.base.expressions.ExprHash.TheImpl.Laws as expr_hash_laws
 use Rattle.cedar_types.specs.Expressions.TreeEq.{tree_eq}
 use Rattle.cedar_types.specs.Lemmas.TreeSame.{tree_eq-Decides}
 use Rattle.cedar_types.specs.Lemmas.Same.{expr_is}
-use Rattle.cedar_types.specs.Expressions.Writes.{shape_writes}
 use Rattle.cedar_types.specs.Expressions.ShapeOnly.{expr_of, shape_of, shape_eq, shape_cmp}
 
 pub shape_eq_equiv : IsEquivalence shape_eq
@@ -24,8 +22,3 @@ shape_cmp_total = on_total expr_of (expr_ord_laws.total-law unit)
 pub shape_cmp_ties : (a b : ExprShapeOnly) → shape_eq a b ≡ is_eq (shape_cmp a b)
 unfolding shape_cmp
 shape_cmp_ties a b = sym (expr_is unit (expr_of a) (expr_of b)) ∙ expr_ord_laws.matches_eq-law unit (expr_of a) (expr_of b)
-
--- equal shapes feed a hasher the same
-pub shape_writes_alike : (a b : ExprShapeOnly) → IsTrue (shape_eq a b) → shape_writes a ≡ shape_writes b
-unfolding shape_writes
-shape_writes_alike a b h = expr_hash_laws.respects_eq-law unit (expr_of a) (expr_of b) (expr_is unit (expr_of a) (expr_of b) ∙ h)

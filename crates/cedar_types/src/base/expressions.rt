@@ -28,7 +28,7 @@ use std::rc::{Rc, RcStr};
 /// `Expr` alone has no annotations. Annotations and places count in no comparison.
 #[cycle(expr)]
 #[derive(Debug)]
-#[derive_where(PartialEq, Eq, PartialOrd, Ord, Hash)]
+#[derive_where(PartialEq, Eq, PartialOrd, Ord)]
 pub struct Expr<T = ()> {
     #[derive_where(skip(EqHashOrd))]
     pub annotation: T,
@@ -52,7 +52,7 @@ impl<T: Drop> Drop for Expr<T> {
 /// The forms of expressions. The branches of an `if` may be shared, and a record is walked in byte order of its keys.
 #[cycle(expr)]
 #[derive(Drop, Debug)]
-#[derive_where(PartialEq, Eq, PartialOrd, Ord, Hash)]
+#[derive_where(PartialEq, Eq, PartialOrd, Ord)]
 pub enum ExprKind<T = ()> {
     /// `true`, `7`, `"a"` or `User::"a"`.
     Lit(Literal),

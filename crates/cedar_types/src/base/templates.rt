@@ -7,6 +7,7 @@ ghost use Rattle.cedar_types.specs.Templates.{template_of, scope_of, action_scop
 mod conditions;
 mod constraint_makers;
 pub(crate) mod constraints;
+pub(crate) mod effects;
 pub(crate) mod mentions;
 mod rest_mentions;
 mod scope_mentions;

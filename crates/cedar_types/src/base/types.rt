@@ -20,10 +20,10 @@ use std::collections::BTreeMap;
 use std::rc::{Rc, RcStr};
 
 /// How a policy is typed.
-#[derive(Clone, Copy, PartialEq, Eq, PartialOrd, Ord, Hash, Debug)]
+#[derive(Clone, Copy, PartialEq, Eq, Debug)]
 pub enum ValidationMode {
-    /// Types that meet have to agree: entity types do not unite, and no key of a record is dropped. It is the mode
-    /// in which soundness is proved.
+    /// Types that meet have to agree: entity types do not unite, and no key of a record is dropped. In this mode and in
+    /// Permissive soundness is proved.
     Strict,
     /// Entity types that meet unite, and records that meet keep the keys that they share.
     Permissive,
@@ -127,7 +127,7 @@ impl Drop for CedarType {
 pub type Type = CedarType;
 
 /// What a request is about, without its values.
-#[derive(PartialEq, Eq, PartialOrd, Ord, Hash, Debug, Drop)]
+#[derive(PartialEq, Eq, Debug, Drop)]
 pub struct RequestType {
     pub principal: EntityType,
     pub action: EntityUID,

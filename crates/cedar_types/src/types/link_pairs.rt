@@ -6,7 +6,7 @@ use crate::types::request_env::RequestEnv;
 use std::alloc::{AllocError, Global};
 
 /// A declared environment without its slots.
-#[derive(Clone, Copy, Debug)]
+#[derive(Clone, Copy)]
 pub(crate) struct Place<'a> {
     pub(crate) principal: &'a EntityType,
     pub(crate) action: &'a EntityUID,
@@ -16,7 +16,7 @@ pub(crate) struct Place<'a> {
 
 /// The ways that are still to come to link both slots: those of the principal's link at hand from that of the resource
 /// at hand on, and all of its later ones.
-#[derive(Drop, Debug)]
+#[derive(Drop)]
 pub(crate) struct LinkPairs<'a> {
     pub(crate) place: Place<'a>,
     pub(crate) principals: Vec<Option<&'a EntityType>>,

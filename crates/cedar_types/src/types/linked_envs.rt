@@ -17,7 +17,7 @@ use std::alloc::{AllocError, Global};
 /// environment at a time: of both slots together at most twice as many as the schema has entity types, and two.
 ///
 /// Where memory is refused, an item is an `AllocError`, and there is none after it.
-#[derive(Drop, Debug)]
+#[derive(Drop)]
 pub struct LinkedRequestEnvs<'a> {
     alloc: Global,
     schema: &'a ValidatorSchema,

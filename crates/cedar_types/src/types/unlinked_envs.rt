@@ -25,7 +25,7 @@ impl UnlinkedRequestEnv {
 }
 
 /// The environments of a schema, before their slots are linked.
-#[derive(Drop, Debug)]
+#[derive(Drop)]
 pub struct UnlinkedRequestEnvs<'a> {
     declared: &'a [UnlinkedRequestEnv],
     undeclared: bool,

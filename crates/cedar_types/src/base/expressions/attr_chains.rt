@@ -7,7 +7,7 @@ use std::alloc::{AllocError, Global};
 use std::rc::RcStr;
 
 /// The attributes that an extended `has` asks for, one after the other. There is always a first.
-#[derive(PartialEq, Eq, PartialOrd, Ord, Hash, Debug, Drop)]
+#[derive(PartialEq, Eq, PartialOrd, Ord, Debug, Drop)]
 pub struct AttrChain {
     pub first: RcStr,
     pub rest: Vec<RcStr>,

@@ -24,7 +24,7 @@ use std::rc::RcStr;
 use thiserror::Error;
 
 /// Why a check refused the arguments of a call.
-#[derive(PartialEq, Eq, Hash, Debug, Drop, Error)]
+#[derive(PartialEq, Eq, Debug, Drop, Error)]
 #[error("{msg}")]
 pub struct ArgumentError {
     pub msg: RcStr,
@@ -168,7 +168,7 @@ impl<C> ExtensionSchemas<C> {
 }
 
 /// Why a table of extension functions is refused.
-#[derive(Clone, Copy, PartialEq, Eq, PartialOrd, Ord, Hash, Debug, Error)]
+#[derive(Clone, Copy, PartialEq, Eq, Debug, Error)]
 pub enum ExtensionTableError {
     /// The return type is none of: a Boolean, a long, a string, an extension value, or a set of one of these.
     #[error("BadReturnType")]

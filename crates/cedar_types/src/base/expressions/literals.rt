@@ -10,7 +10,7 @@ use std::rc::RcStr;
 
 /// A literal. A long has the range of 64 bits.
 #[derive(Drop)]
-#[derive_where(PartialEq, Eq, PartialOrd, Ord, Hash, Debug)]
+#[derive_where(PartialEq, Eq, PartialOrd, Ord, Debug)]
 pub enum Literal {
     /// `true` or `false`.
     Bool(bool),

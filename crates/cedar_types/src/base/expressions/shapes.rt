@@ -8,7 +8,6 @@ use crate::base::expressions::Expr;
 use crate::base::expressions::copies::copy_expr;
 use std::alloc::{AllocError, Global};
 use std::cmp::Ordering;
-use std::hash::{Hash, Hasher};
 
 impl<T> Expr<T> {
     /// Whether two expressions have one shape: the same form, whatever their annotations and places. It is what `==`
@@ -107,19 +106,5 @@ impl<'a> Ord for ExprShapeOnly<'a> {
 
     fn cmp(&self, other: &Self) -> Ordering {
         self.expr().cmp(other.expr())
-    }
-}
-
-impl<'a> Hash for ExprShapeOnly<'a> {
-    ghost use Rattle.cedar_types.specs.Expressions.Writes.{shape_writes};
-    ghost use Rattle.cedar_types.specs.Lemmas.ShapeOnly.{shape_writes_alike};
-
-    ghost hash_input = { shape_writes };
-
-    ghost respects_eq = { shape_writes_alike };
-
-    #[tactic(auto, unfolding(crate::specs::Expressions::Writes::shape_writes))]
-    fn hash<H: Hasher>(&self, state: &mut H) {
-        self.expr().hash(state);
     }
 }
