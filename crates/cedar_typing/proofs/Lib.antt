@@ -12,3 +12,5 @@ pub mod Examples
 pub mod Views
 pub mod Rules
 pub mod Policies
+pub mod TypedCopies
+pub mod Refinement

@@ -13,3 +13,4 @@ pub mod FieldsInOrder
 pub mod Calls
 pub mod CallErrors
 pub mod Laws
+pub mod SameTables

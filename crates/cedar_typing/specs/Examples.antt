@@ -7,8 +7,11 @@ pub mod Evaluation
 pub mod Values
 pub mod Promises
 pub mod Premises
+pub mod TypedCopies
+pub mod Refinement
 pub mod Permissive
 pub mod Composition
 pub mod PolicySoundness
 pub mod Conforming
 pub mod NeededPremises
+pub mod CopyPremises

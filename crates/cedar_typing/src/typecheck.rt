@@ -9,6 +9,7 @@ mod operand_tests;
 mod operands;
 mod policy;
 mod prior;
+pub mod refinement;
 mod request_env_checks;
 mod rules;
 mod sequence;
@@ -17,6 +18,7 @@ mod single_env;
 mod type_env;
 mod type_tests;
 mod typechecker;
+pub mod typed_copies;
 mod typed_nodes;
 mod variable_types;
 

@@ -1,6 +1,9 @@
 -- What is one of a list: of lists put together, and by tests of all or of some.
 use Rattle.std.proofs.Common.{◌≡◌, inl, inr, Bool, true, false, cond, List, [], ◌∷◌, ◌++◌, map, Option, Some, refl, sym, ap, subst}
-use Rattle.std.specs.List.{list_all, list_any, find, flat_map}
+use Rattle.std.proofs.lemmas.List.Elements.{All-from_recursion, recursion_from_All}
+use Rattle.std.proofs.lemmas.List.Sorted.{All-permutation, IsPermutation-sym}
+use Rattle.std.specs.List.{list_all, list_any, find, flat_map, AllByRecursion}
+use Rattle.std.specs.Prelude.{All, IsPermutation}
 use Rattle.cedar_types.specs.Lemmas.Comparisons.{and_left, and_right, path_same}
 use Rattle.cedar_types.specs.Names.{Path, path_eq}
 use Rattle.cedar_types.specs.Schemas.{is_among}
@@ -10,6 +13,31 @@ use Rattle.cedar_typing.proofs.Basics.{some_is, neither_left, neither_right, or_
 -- it holds of each
 abbrev pub AreAll : {A : Type 0} → (A → Type 0) → List A → Type 0
 AreAll {A} P xs = (x : A) → IsOneOf x xs → P x
+
+-- ---- what holds of each
+
+module _ {A : Type 0} where
+  module _ (P : A → Type 0) where
+    pub by_recursion : (xs : List A) → AreAll P xs → AllByRecursion P xs
+    by_recursion [] f = tt
+    by_recursion (x ∷ xs) f = (f x (inl refl), by_recursion xs (λ z h. f z (inr h)))
+
+    pub one_of_all : (xs : List A) → AllByRecursion P xs → AreAll P xs
+    one_of_all [] h x k = absurd k
+    one_of_all (y ∷ xs) h x (inl e) = subst P (sym e) h.0
+    one_of_all (y ∷ xs) h x (inr k) = one_of_all xs h.1 x k
+
+    pub each_one : (xs : List A) → All P xs → AreAll P xs
+    each_one xs h = one_of_all xs (recursion_from_All P xs h)
+
+    -- it holds of each in another order
+    pub reordered : (xs ys : List A) → IsPermutation xs ys → AreAll P xs → AreAll P ys
+    reordered xs ys p f =
+        each_one ys (All-permutation P xs ys p (All-from_recursion P xs (by_recursion xs f)))
+
+  -- a list in another order has the same members
+  pub moved : (xs ys : List A) → IsPermutation xs ys → (x : A) → IsOneOf x xs → IsOneOf x ys
+  moved xs ys p = reordered (λ x. IsOneOf x ys) ys xs (IsPermutation-sym xs ys p) (λ x h. h)
 
 -- ---- lists put together
 

@@ -1,6 +1,8 @@
 -- What the check in the own environment says of each world of the request.
 use Rattle.std.proofs.Common.{◌≡◌, Bool, true, false, true≢false, ◌||◌, Some, None, refl, ap, sym}
 use Rattle.cedar_types.specs.declared.base.names.slots.SlotId.{SlotId}
+use Rattle.cedar_types.specs.declared.base.types.BoolType.TheVariants.{False}
+use Rattle.cedar_types.specs.Types.{TBool}
 use Rattle.cedar_types.specs.Types.Bounds.{is_strict}
 use Rattle.cedar_types.specs.Extensions.Functions.{table_fault}
 use Rattle.cedar_types.specs.Environments.RequestEnvs.{is_partial}
@@ -23,7 +25,7 @@ use Rattle.cedar_typing.specs.Evaluation.World.{World, Outcome, Gives, Fails}
 use Rattle.cedar_typing.specs.PolicyCheck.{Verdict, succeeds, irrelevant, fails, PolicyChecks, policy_check}
 use Rattle.cedar_typing.specs.Setting.{Setting, table}
 use Rattle.cedar_typing.specs.Soundness.PolicyCheck.{IsBooleanOrAllowed, Promises}
-use Rattle.cedar_typing.specs.Soundness.{IsTrueOutcome, IsWorldOf}
+use Rattle.cedar_typing.specs.Soundness.{HasFound, IsTrueOutcome, IsWorldOf}
 use Rattle.cedar_typing.proofs.Policies.Check.{checked}
 use Rattle.cedar_typing.proofs.Soundness.Capabilities.{hold_none}
 use Rattle.cedar_typing.proofs.Soundness.Induction.{sounds}
@@ -41,6 +43,13 @@ pub true_most : (U : Type 0) (o o' : Outcome) → IsAtMost U o o' → IsTrueOutc
 true_most U o o' itself h = h
 true_most U o o' is_false h = absurd (true≢false (sym h))
 true_most U o o' (unlinked u) h = absurd h
+
+-- and of the type False where that is
+pub found_most : (o o' : Outcome) → IsAtMost ⊥ o o'
+    → HasFound (Some (TBool False)) o' → HasFound (Some (TBool False)) o
+found_most o o' itself h = h
+found_most o o' is_false h = refl
+found_most o o' (unlinked u) h = absurd u
 
 -- and is a boolean or an allowed failure where that is
 pub kept_most : (o o' : Outcome) → IsAtMost ⊥ o o' → IsBooleanOrAllowed o' → IsBooleanOrAllowed o

@@ -6,41 +6,39 @@ use Rattle.cedar_types.specs.declared.base.errors.type_errors.LubContext.TheVari
 use Rattle.cedar_types.specs.declared.base.expressions.operators.BinaryOp.{BinaryOp}
 use Rattle.cedar_types.specs.declared.base.location.Loc.{Loc}
 use Rattle.cedar_types.specs.declared.base.types.BoolType.TheVariants.{AnyBool}
-use Rattle.cedar_types.specs.Names.{Text, Path, Uid}
+use Rattle.cedar_types.specs.Names.{Text, Path}
 use Rattle.cedar_types.specs.Types.{Ty, TBool}
-use Rattle.cedar_types.specs.Types.Order.{in_order}
 use Rattle.cedar_types.specs.Expressions.Tree.{if_then_else, binary, get_attr, has_attr, ext_has_attr, set_of, record_of}
 use Rattle.cedar_types.specs.Expressions.View.{Written, trees_of}
-use Rattle.cedar_types.specs.Capability.{Cap}
 use Rattle.cedar_types.specs.Types.Bounds.{is_strict, is_never, lub, list_lub}
-use Rattle.cedar_types.specs.Types.Lookups.{attribute_type, tag_types}
+use Rattle.cedar_types.specs.Types.Lookups.{tag_types}
 use Rattle.cedar_types.specs.Environments.{DeclaredEnv}
-use Rattle.cedar_types.specs.Environments.RequestEnvs.{Declared}
-use Rattle.cedar_types.specs.Errors.{Finding, unexpected_type, unsafe_tag_access, internal_invariant_violation}
+use Rattle.cedar_types.specs.Environments.RequestEnvs.{Env, Declared}
+use Rattle.cedar_types.specs.Errors.{Finding, unsafe_tag_access, internal_invariant_violation}
 use Rattle.cedar_types.specs.Extensions.Functions.{ExtensionFunction, function_named}
 use Rattle.cedar_typing.specs.Capabilities.{Caps, no_caps, union, intersection}
 use Rattle.cedar_typing.specs.Composition.{in_env}
-use Rattle.cedar_typing.specs.Eager.{Expectation, Decision, gives, refuses, Form, gives_unless, first_expectation, later_expectations, first_type, second_type, first_tree, second_tree, on_one, on_two}
+use Rattle.cedar_typing.specs.Eager.{Expectation, gives, refuses, Form, gives_unless, first_expectation, later_expectations, first_type, second_type, first_tree, second_tree, on_one, on_two}
 use Rattle.cedar_typing.specs.Infer.Conditional.{infer_constant_test, infer_open_parts, infer_branches}
 use Rattle.cedar_typing.specs.Infer.Eager.{OperandsAndErrors, infer_none, expect_operand, infer_rest, infer_one_more, infer_eager, infer_one_operand, infer_two_operands}
 use Rattle.cedar_typing.specs.Infer.Parts.{Part, AnswerAndErrors, answer_if, part_from, expect_type, expect_part, expect, any_part, after}
 use Rattle.cedar_typing.specs.Infer.ShortCircuit.{infer_sides, infer_right}
 use Rattle.cedar_typing.specs.TypeTests.Joins.{joined, bound_errors, join_errors, strict_errors}
-use Rattle.cedar_typing.specs.Rules.Attributes.{attribute_of, has_decides, has_table, get_decides, get_table, has_form, get_form}
+use Rattle.cedar_typing.specs.Rules.Attributes.{attribute_of, has_form, get_form}
 use Rattle.cedar_typing.specs.Rules.Binary.{binary_form}
 use Rattle.cedar_typing.specs.Rules.Calls.{form_of_function, call_form}
-use Rattle.cedar_typing.specs.Rules.Chains.{Progress, no_steps, is_object, step_type, step_earns, with_step, go_on_unless_false, step, end_of_chain, after_access, made_up, chain, chain_table, chain_form}
-use Rattle.cedar_typing.specs.Rules.Records.{fields_from, record_of_types, record_form}
-use Rattle.cedar_typing.specs.Rules.Sets.{all_types, set_by_bound, set_of_types, set_decides, errors_of, set_form}
+use Rattle.cedar_typing.specs.Rules.Chains.{chain_form}
+use Rattle.cedar_typing.specs.Rules.Records.{fields_from, record_form}
+use Rattle.cedar_typing.specs.Rules.Sets.{all_types, set_of_types, set_decides, errors_of, set_form}
 use Rattle.cedar_typing.specs.Rules.Equality.{equality_type, equality_decides, equality_form, member_type}
-use Rattle.cedar_typing.specs.Rules.Membership.{in_decides, in_form}
-use Rattle.cedar_typing.specs.Rules.Numbers.{compare_decides}
+use Rattle.cedar_typing.specs.Rules.Membership.{in_form}
 use Rattle.cedar_typing.specs.Rules.ShortCircuit.{Connective}
-use Rattle.cedar_typing.specs.Rules.Tags.{tag_of, has_tag_table, tag_by_bound, get_known_tag, get_tag_table, types_named}
+use Rattle.cedar_typing.specs.Rules.Tags.{tag_of, get_known_tag, get_tag_table, types_named}
 use Rattle.cedar_typing.specs.Setting.{Setting}
 use Rattle.cedar_typing.specs.TypeEnv.{TypeEnv, finding}
 use Rattle.cedar_typing.specs.TypeTests.{bool_types, string_types, set_types, entity_types, ancestor_types, object_types, is_any_bool, is_true, is_false, annotation_passes}
 use Rattle.cedar_typing.specs.TypedExpr.{Source, annotation, at_place, place_of, typed_as}
+use Rattle.cedar_typing.proofs.Rules.SameTables as same
 use Rattle.cedar_typing.proofs.Composition.SameLiterals.{literal_same, entity_same, ancestors_same}
 
 module _ (s : Setting) (d : DeclaredEnv) (p r p' r' : Option Path) where
@@ -55,6 +53,12 @@ module _ (s : Setting) (d : DeclaredEnv) (p r p' r' : Option Path) where
 
   abbrev e2 : TypeEnv
   e2 = other.env
+
+  abbrev here : Env
+  here = Declared d p r
+
+  abbrev elsewhere : Env
+  elsewhere = Declared d p' r'
 
   -- ---- parts
 
@@ -128,52 +132,14 @@ module _ (s : Setting) (d : DeclaredEnv) (p r p' r' : Option Path) where
 
   -- ---- attributes
 
-  has_decided : (x : Text) (there : Cap) (known : Bool) (t : Ty) (a : Option (Ty × Bool)) → has_decides e1 x there known t a ≡ has_decides e2 x there known t a
-  has_decided x there known t None = refl
-  has_decided x there known t (Some a) = refl
-
-  has_same : (x : Text) (there : Cap) (known : Bool) (t : Option Ty) → has_table e1 x there known t ≡ has_table e2 x there known t
-  has_same x there known None = refl
-  has_same x there known (Some t) = has_decided x there known t (attribute_type s.env.schema t x)
-
   pub has_form_same : (m : Written) (prior : Caps) (e : Source) (x : Text) → has_form e1 m prior e x ≡ has_form e2 m prior e x
-  has_form_same m prior e x = λ i. on_one m (Some object_types) (λ t. has_same x (attribute_of e x) (prior (attribute_of e x)) t i) (λ k a. has_attr k a x)
-
-  get_decided : (l : Option Loc) (x : Text) (known : Bool) (t : Ty) (a : Option (Ty × Bool)) → get_decides e1 l x known t a ≡ get_decides e2 l x known t a
-  get_decided l x known t None = refl
-  get_decided l x known t (Some a) = refl
-
-  get_same : (l : Option Loc) (x : Text) (known : Bool) (t : Option Ty) → get_table e1 l x known t ≡ get_table e2 l x known t
-  get_same l x known None = refl
-  get_same l x known (Some t) = get_decided l x known t (attribute_type s.env.schema t x)
+  has_form_same m prior e x = λ i. on_one m (Some object_types) (λ t. same.has_same s.env s.env.mode s.env.mode here elsewhere x (attribute_of e x) (prior (attribute_of e x)) t i) (λ k a. has_attr k a x)
 
   pub get_form_same : (m : Written) (prior : Caps) (e : Source) (x : Text) → get_form e1 m prior e x ≡ get_form e2 m prior e x
-  get_form_same m prior e x = λ i. on_one m (Some object_types) (λ t. get_same m.place x (prior (attribute_of e x)) t i) (λ k a. get_attr k a x)
-
-  step_typed : (t : Ty) (x : Text) (known : Bool) (a : Option (Ty × Bool)) → step_type e1 t x known a ≡ step_type e2 t x known a
-  step_typed t x known None = refl
-  step_typed t x known (Some a) = refl
-
-  step_same : (l : Option Loc) (there : Cap) (known : Bool) (t : Ty) (x : Text) (q : Progress) (next next' : Progress → Decision) → next ≡ next'
-      → step e1 l there known t x q next ≡ step e2 l there known t x q next'
-  step_same l there known t x q next next' n =
-      let a = attribute_type s.env.schema t x in
-      let u = step_typed t x known a in
-      λ i. if is_object t then go_on_unless_false (u i) (with_step q (u i) (step_earns (u i) there a)) (n i)
-      else refuses (Some (TBool AnyBool)) (finding e1 l (unexpected_type (in_order object_types) t) ∷ [])
-
-  chain_same : (l l' : Option Loc) (prior : Caps) (ys : List Text) (e : Source) (t : Ty) (x : Text) (q : Progress) → chain e1 l l' prior ys e t x q ≡ chain e2 l l' prior ys e t x q
-  chain_same l l' prior [] e t x q = step_same l (attribute_of e x) (union prior q.earned (attribute_of e x)) t x q end_of_chain end_of_chain refl
-  chain_same l l' prior (y ∷ ys) e t x q =
-      step_same l (attribute_of e x) (union prior q.earned (attribute_of e x)) t x q _ _
-      (λ i z. after_access (get_decided l x (union prior z.earned (attribute_of e x)) t (attribute_type s.env.schema t x) i) (λ u. chain_same l' l' prior ys (made_up e x) u y z i))
-
-  table_same : (l : Option Loc) (prior : Caps) (e : Source) (x : Text) (xs : List Text) (t : Option Ty) → chain_table e1 l prior e x xs t ≡ chain_table e2 l prior e x xs t
-  table_same l prior e x xs None = refl
-  table_same l prior e x xs (Some t) = chain_same (place_of e) l prior xs e t x no_steps
+  get_form_same m prior e x = λ i. on_one m (Some object_types) (λ t. same.get_same s.env s.env.mode s.env.mode here elsewhere refl m.place x (prior (attribute_of e x)) t i) (λ k a. get_attr k a x)
 
   pub chain_form_same : (m : Written) (prior : Caps) (e : Source) (x : Text) (xs : List Text) → chain_form e1 m prior e x xs ≡ chain_form e2 m prior e x xs
-  chain_form_same m prior e x xs = λ i. on_one m (Some object_types) (λ t. table_same m.place prior e x xs t i) (λ k a. ext_has_attr k a x xs)
+  chain_form_same m prior e x xs = λ i. on_one m (Some object_types) (λ t. same.chain_table_same s.env s.env.mode s.env.mode here elsewhere refl m.place prior e x xs t i) (λ k a. ext_has_attr k a x xs)
 
   -- ---- calls and sets
 
@@ -184,13 +150,9 @@ module _ (s : Setting) (d : DeclaredEnv) (p r p' r' : Option Path) where
   pub call_form_same : (m : Written) (n : Path) (xs : List Source) → call_form e1 s.functions m n xs ≡ call_form e2 s.functions m n xs
   call_form_same m n xs = function_same m n (function_named n s.functions) xs
 
-  set_bounded : (l : Option Loc) (ts : List Ty) (u : Option Ty) → set_by_bound e1 l ts u ≡ set_by_bound e2 l ts u
-  set_bounded l ts None = refl
-  set_bounded l ts (Some u) = refl
-
   set_typed : (l : Option Loc) (ts : Option (List Ty)) → set_of_types e1 l ts ≡ set_of_types e2 l ts
   set_typed l None = refl
-  set_typed l (Some ts) = set_bounded l ts (list_lub s.env.mode ts)
+  set_typed l (Some ts) = same.set_bounded s.env s.env.mode s.env.mode here elsewhere l ts (list_lub s.env.mode ts)
 
   set_decided : (l : Option Loc) (ts : List (Option Ty)) → set_decides e1 l ts ≡ set_decides e2 l ts
   set_decided l [] = refl
@@ -207,16 +169,12 @@ module _ (s : Setting) (d : DeclaredEnv) (p r p' r' : Option Path) where
     node = λ k xs. set_of k (trees_of xs);
   }
 
-  record_typed : (l : Option Loc) (ks : List Text) (ts : Option (List Ty)) → record_of_types e1 l ks ts ≡ record_of_types e2 l ks ts
-  record_typed l ks None = refl
-  record_typed l ks (Some ts) = refl
-
   pub record_form_same : (m : Written) (ks : List Text) → record_form e1 m ks ≡ record_form e2 m ks
   record_form_same m ks = λ i. record {
     at = m;
     expects = [];
     goes_on = false;
-    decides = λ ts. record_typed m.place ks (all_types ts) i;
+    decides = λ ts. same.record_typed s.env s.env.mode s.env.mode here elsewhere m.place ks (all_types ts) i;
     type_if_failed = λ t. t;
     at_limit = λ ts. [];
     node = λ k xs. record_of k (fields_from ks xs);
@@ -224,17 +182,12 @@ module _ (s : Setting) (d : DeclaredEnv) (p r p' r' : Option Path) where
 
   -- ---- operators
 
-  in_decided : (x : Option Uid) (y : Option (List Uid)) (t u : Option Ty) → in_decides e1 x y t u ≡ in_decides e2 x y t u
-  in_decided None y t u = refl
-  in_decided (Some x) None t u = refl
-  in_decided (Some x) (Some y) t u = refl
-
   in_same : (m : Written) (a b : Source) → in_form e1 m a b ≡ in_form e2 m a b
   in_same m a b = λ i. record {
     at = m;
     expects = Some entity_types ∷ Some ancestor_types ∷ [];
     goes_on = true;
-    decides = λ ts. in_decided (entity_same d p r p' r' a i) (ancestors_same d p r p' r' b i) (first_type ts) (second_type ts) i;
+    decides = λ ts. same.in_decided s.env s.env.mode s.env.mode here elsewhere refl (entity_same d p r p' r' a i) (ancestors_same d p r p' r' b i) (first_type ts) (second_type ts) i;
     type_if_failed = λ t. TBool AnyBool;
     at_limit = λ ts. [];
     node = λ k xs. binary k BinaryOp.In (first_tree xs) (second_tree xs);
@@ -256,22 +209,9 @@ module _ (s : Setting) (d : DeclaredEnv) (p r p' r' : Option Path) where
     node = λ k xs. binary k BinaryOp.Eq (first_tree xs) (second_tree xs);
   }
 
-  compared : (l l' : Option Loc) (t u : Option Ty) → compare_decides e1 l l' t u ≡ compare_decides e2 l l' t u
-  compared l l' None u = refl
-  compared l l' (Some t) None = refl
-  compared l l' (Some t) (Some u) = refl
-
-  has_tagged : (l : Option Loc) (there : Cap) (known : Bool) (t : Option Ty) → has_tag_table e1 l there known t ≡ has_tag_table e2 l there known t
-  has_tagged l there known None = refl
-  has_tagged l there known (Some t) = refl
-
-  tag_bounded : (l : Option Loc) (ts : List Ty) (u : Option Ty) → tag_by_bound e1 l ts u ≡ tag_by_bound e2 l ts u
-  tag_bounded l ts None = refl
-  tag_bounded l ts (Some u) = refl
-
   tag_known : (l : Option Loc) (t : Ty) (ts : List Ty) → get_known_tag e1 l t ts ≡ get_known_tag e2 l t ts
   tag_known l t [] = refl
-  tag_known l t (u ∷ ts) = tag_bounded l (u ∷ ts) (list_lub s.env.mode (u ∷ ts))
+  tag_known l t (u ∷ ts) = same.tag_bounded s.env s.env.mode s.env.mode here elsewhere l (u ∷ ts) (list_lub s.env.mode (u ∷ ts))
 
   get_tagged : (l : Option Loc) (known : Bool) (t : Option Ty) → get_tag_table e1 l known t ≡ get_tag_table e2 l known t
   get_tagged l known None = refl
@@ -282,8 +222,8 @@ module _ (s : Setting) (d : DeclaredEnv) (p r p' r' : Option Path) where
 
   pub binary_form_same : (m : Written) (prior : Caps) (a b : Source) (o : BinaryOp) → binary_form e1 m prior a b o ≡ binary_form e2 m prior a b o
   binary_form_same m prior a b BinaryOp.Eq = equal_same m a b
-  binary_form_same m prior a b BinaryOp.Less = λ i. on_two m None None (λ t u. compared (place_of a) (place_of b) t u i) (λ k x y. binary k BinaryOp.Less x y)
-  binary_form_same m prior a b BinaryOp.LessEq = λ i. on_two m None None (λ t u. compared (place_of a) (place_of b) t u i) (λ k x y. binary k BinaryOp.LessEq x y)
+  binary_form_same m prior a b BinaryOp.Less = λ i. on_two m None None (λ t u. same.compared s.env s.env.mode s.env.mode here elsewhere (place_of a) (place_of b) t u i) (λ k x y. binary k BinaryOp.Less x y)
+  binary_form_same m prior a b BinaryOp.LessEq = λ i. on_two m None None (λ t u. same.compared s.env s.env.mode s.env.mode here elsewhere (place_of a) (place_of b) t u i) (λ k x y. binary k BinaryOp.LessEq x y)
   binary_form_same m prior a b BinaryOp.Add = refl
   binary_form_same m prior a b BinaryOp.Sub = refl
   binary_form_same m prior a b BinaryOp.Mul = refl
@@ -297,4 +237,4 @@ module _ (s : Setting) (d : DeclaredEnv) (p r p' r' : Option Path) where
   binary_form_same m prior a b BinaryOp.GetTag =
       λ i. on_two m (Some entity_types) (Some string_types) (λ t u. get_tagged m.place (prior (tag_of a b)) t i) (λ k x y. binary k BinaryOp.GetTag x y)
   binary_form_same m prior a b BinaryOp.HasTag =
-      λ i. on_two m (Some entity_types) (Some string_types) (λ t u. has_tagged m.place (tag_of a b) (prior (tag_of a b)) t i) (λ k x y. binary k BinaryOp.HasTag x y)
+      λ i. on_two m (Some entity_types) (Some string_types) (λ t u. same.has_tagged s.env s.env.mode s.env.mode here elsewhere m.place (tag_of a b) (prior (tag_of a b)) t i) (λ k x y. binary k BinaryOp.HasTag x y)

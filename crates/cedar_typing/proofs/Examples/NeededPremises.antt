@@ -158,7 +158,7 @@ IsStored u = (e : Entity) × (entity_at guest_greeting.store u ≡ Some e)
 greet_is_stored : (u : Uid) → declares_action guest_schema.actions u ≡ true → IsStored u
 greet_is_stored u h = subst IsStored (sym (uid_same.to u greet (only_one (uid_eq u greet) h))) (_, refl)
 
-guests_conform : ConformingStore guest_schema guest_greeting.store
+pub guests_conform : ConformingStore guest_schema guest_greeting.store
 guests_conform = record {
   entities = λ u e h. all_found Fitting guest_greeting.store fitting u e h;
   actions = λ u h. greet_is_stored u h;

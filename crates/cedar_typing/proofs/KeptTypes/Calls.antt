@@ -74,12 +74,17 @@ module _ (Kept : Ty → Type 0) (env : TypeEnv) (keeps : IsKeeping Kept env) whe
   returned_kept (TSet t) h = keeps.sets t (plain_kept t h)
   returned_kept t h = plain_kept t h
 
-  module _ (fs : List ExtensionFunction) (faults : table_fault fs ≡ None) (m : Written) (n : Path) (xs : List Source) where
-    return_kept : (f : Option ExtensionFunction) → function_named n fs ≡ f → HasKept Kept (return_type f)
-    return_kept None e = tt
-    return_kept (Some f) e = returned_kept f.return_type (function_returns n fs f e faults)
+  module _ (fs : List ExtensionFunction) where
+    function_kept : table_fault fs ≡ None → (n : Path) (f : Option ExtensionFunction) → function_named n fs ≡ f → HasKept Kept (return_type f)
+    function_kept faults n None e = tt
+    function_kept faults n (Some f) e = returned_kept f.return_type (function_returns n fs f e faults)
 
-    pub call_kept : KeptForm Kept (call_form env fs m n xs)
-    call_kept ts h =
+    -- what the functions of a table without faults return
+    pub returns_kept : table_fault fs ≡ None → (n : Path) → HasKept Kept (return_type (function_named n fs))
+    returns_kept faults n = function_kept faults n (function_named n fs) refl
+
+    pub call_kept : (m : Written) (n : Path) (xs : List Source) → HasKept Kept (return_type (function_named n fs))
+        → KeptForm Kept (call_form env fs m n xs)
+    call_kept m n xs k ts h =
         let f = function_named n fs in
-        subst (HasKept Kept) (sym (call_type (return_type f) (call_errors env m.place f n xs))) (return_kept f refl)
+        subst (HasKept Kept) (sym (call_type (return_type f) (call_errors env m.place f n xs))) k

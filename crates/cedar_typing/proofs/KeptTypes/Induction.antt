@@ -14,7 +14,7 @@ use Rattle.cedar_types.specs.Types.Lookups.{declares_entity, literal_type, attri
 use Rattle.cedar_types.specs.Environments.{DeclaredEnv, environments_of}
 use Rattle.cedar_types.specs.Environments.RequestEnvs.{Env, Declared, Undeclared, is_partial}
 use Rattle.cedar_types.specs.Errors.{Finding}
-use Rattle.cedar_types.specs.Extensions.Functions.{table_fault}
+use Rattle.cedar_types.specs.Extensions.Functions.{table_fault, function_named}
 use Rattle.cedar_typing.specs.Capabilities.{Caps, no_caps}
 use Rattle.cedar_typing.specs.Eager.{Expectation, gives, refuses, first_expectation, later_expectations}
 use Rattle.cedar_typing.specs.Evaluation.Conformance.{IsOneOf, IsEnvironmentOf}
@@ -22,7 +22,7 @@ use Rattle.cedar_typing.specs.Judgments.{Judgment, within}
 use Rattle.cedar_typing.specs.Rules.{rules, rules_within, rules_all, rules_fields}
 use Rattle.cedar_typing.specs.Rules.Attributes.{attribute_of, has_decides, get_decides, has_form, get_form}
 use Rattle.cedar_typing.specs.Rules.Binary.{binary_form}
-use Rattle.cedar_typing.specs.Rules.Calls.{arguments, call_form}
+use Rattle.cedar_typing.specs.Rules.Calls.{arguments, return_type, call_form}
 use Rattle.cedar_typing.specs.Rules.Chains.{chain_form}
 use Rattle.cedar_typing.specs.Rules.Records.{field_keys, record_form}
 use Rattle.cedar_typing.specs.Rules.Sets.{set_form}
@@ -37,7 +37,7 @@ use Rattle.cedar_typing.specs.TypedExpr.{Source, TypedTree, Mark, annotation, pl
 use Rattle.cedar_typing.proofs.Agreement.Induction.{agrees_within}
 use Rattle.cedar_typing.proofs.Agreement.Operators.{unary_marked, binary_marked}
 use Rattle.cedar_typing.proofs.Agreement.Parts.{Marks}
-use Rattle.cedar_typing.proofs.KeptTypes.Calls.{call_kept}
+use Rattle.cedar_typing.proofs.KeptTypes.Calls.{returns_kept, call_kept}
 use Rattle.cedar_typing.proofs.KeptTypes.Chains.{chain_kept}
 use Rattle.cedar_typing.proofs.KeptTypes.Records.{record_kept}
 use Rattle.cedar_typing.proofs.KeptTypes.Sets.{set_kept}
@@ -161,8 +161,8 @@ within_kept Kept d J s = record {
 }
 
 module _ (Kept : Ty → Type 0) (s : Setting) (keeps : IsKeeping Kept s.env)
-    (table_faults : table_fault s.functions ≡ None)
-    (environment : IsEnvironmentOf s.env.schema s.env.request_env) where
+    (returns : (n : Path) → HasKept Kept (return_type (function_named n s.functions)))
+    (variables : (x : Var) → HasKept Kept (variable_type s.env x)) where
   deeper : {J : Judgment} (d : ℕ) → KeepsTypes Kept J → KeepsTypes Kept (within (d + 1) J)
   deeper d = within_kept Kept (d + 1) _
 
@@ -170,74 +170,86 @@ module _ (Kept : Ty → Type 0) (s : Setting) (keeps : IsKeeping Kept s.env)
   marks_of e prior d = (agrees_within s e prior d).marks
 
   mutual
-    pub kept_within : (e : Source) (prior : Caps) (d : ℕ) → KeepsTypes Kept (rules_within s e prior d)
-    kept_within (lit m x) prior d =
+    pub kept_by : (e : Source) (prior : Caps) (d : ℕ) → KeepsTypes Kept (rules_within s e prior d)
+    kept_by (lit m x) prior d =
         leaf_kept Kept s.env keeps m (λ k. lit k x) (λ k. refl) _ (literal_kept Kept s.env keeps x) (marks_of (lit m x) prior d)
-    kept_within (var m x) prior d =
+    kept_by (var m x) prior d =
         leaf_kept Kept s.env keeps m (λ k. var k x) (λ k. refl)
-        _ (variable_kept Kept s.env keeps s.env.request_env refl environment x) (marks_of (var m x) prior d)
-    kept_within (slot m x) prior d =
+        _ (variables x) (marks_of (var m x) prior d)
+    kept_by (slot m x) prior d =
         leaf_kept Kept s.env keeps m (λ k. slot k x) (λ k. refl) _ (keeps.slots x) (marks_of (slot m x) prior d)
-    kept_within (unknown m n) prior d = unknown_kept Kept s.env keeps n m
-    kept_within (if_then_else m a b e) prior d =
+    kept_by (unknown m n) prior d = unknown_kept Kept s.env keeps n m
+    kept_by (if_then_else m a b e) prior d =
         if_kept Kept s.env keeps m (place_of a) _ _ prior
-        (deeper d (kept_within a prior (d + 1))) (λ p. deeper d (kept_within b p (d + 1))) _ (deeper d (kept_within e prior (d + 1)))
+        (deeper d (kept_by a prior (d + 1))) (λ p. deeper d (kept_by b p (d + 1))) _ (deeper d (kept_by e prior (d + 1)))
         (marks_of (if_then_else m a b e) prior d)
-    kept_within (and m a b) prior d =
+    kept_by (and m a b) prior d =
         short_circuit_kept Kept s.env keeps m (place_of a) _ _ prior
-        (deeper d (kept_within a prior (d + 1))) (λ p. deeper d (kept_within b p (d + 1)))
+        (deeper d (kept_by a prior (d + 1))) (λ p. deeper d (kept_by b p (d + 1)))
         conjunction (λ k x y. refl) (place_of b) (marks_of (and m a b) prior d)
-    kept_within (or m a b) prior d =
+    kept_by (or m a b) prior d =
         short_circuit_kept Kept s.env keeps m (place_of a) _ _ prior
-        (deeper d (kept_within a prior (d + 1))) (λ p. deeper d (kept_within b p (d + 1)))
+        (deeper d (kept_by a prior (d + 1))) (λ p. deeper d (kept_by b p (d + 1)))
         disjunction (λ k x y. refl) (place_of b) (marks_of (or m a b) prior d)
-    kept_within (unary m o a) prior d =
+    kept_by (unary m o a) prior d =
         one_operand_kept Kept (unary_form m o) (unary_marked m o) (unary_kept Kept s.env keeps m o) (unary_failed_kept Kept s.env keeps m o)
-        s.env (place_of a) _ (deeper d (kept_within a prior (d + 1))) (marks_of (unary m o a) prior d)
-    kept_within (binary m o a b) prior d =
+        s.env (place_of a) _ (deeper d (kept_by a prior (d + 1))) (marks_of (unary m o a) prior d)
+    kept_by (binary m o a b) prior d =
         two_operands_kept Kept (binary_form s.env m prior a b o) (binary_marked s.env m prior a b o)
         (binary_kept Kept s.env keeps m prior a b o) (binary_failed_kept Kept s.env keeps m prior a b o) s.env (place_of a) (place_of b) _ _
-        (deeper d (kept_within a prior (d + 1))) (deeper d (kept_within b prior (d + 1))) (marks_of (binary m o a b) prior d)
-    kept_within (call m n ts) prior d =
+        (deeper d (kept_by a prior (d + 1))) (deeper d (kept_by b prior (d + 1))) (marks_of (binary m o a b) prior d)
+    kept_by (call m n ts) prior d =
         let f = call_form s.env s.functions m n (arguments ts) in
-        form_kept Kept f (λ k xs. refl) (call_kept Kept s.env keeps s.functions table_faults m n (arguments ts))
-        (λ t h. h) _ (all_are_kept f.goes_on f.expects ts prior (d + 1)) (marks_of (call m n ts) prior d)
-    kept_within (get_attr m e x) prior d =
+        form_kept Kept f (λ k xs. refl) (call_kept Kept s.env keeps s.functions m n (arguments ts) (returns n))
+        (λ t h. h) _ (all_kept_by f.goes_on f.expects ts prior (d + 1)) (marks_of (call m n ts) prior d)
+    kept_by (get_attr m e x) prior d =
         one_operand_kept Kept (get_form s.env m prior e x) (λ k xs. refl) (get_kept Kept s.env keeps m prior e x) (λ t h. h)
-        s.env (place_of e) _ (deeper d (kept_within e prior (d + 1))) (marks_of (get_attr m e x) prior d)
-    kept_within (has_attr m e x) prior d =
+        s.env (place_of e) _ (deeper d (kept_by e prior (d + 1))) (marks_of (get_attr m e x) prior d)
+    kept_by (has_attr m e x) prior d =
         one_operand_kept Kept (has_form s.env m prior e x) (λ k xs. refl) (has_kept Kept s.env keeps m prior e x) (λ t h. h)
-        s.env (place_of e) _ (deeper d (kept_within e prior (d + 1))) (marks_of (has_attr m e x) prior d)
-    kept_within (ext_has_attr m a x xs) prior d =
+        s.env (place_of e) _ (deeper d (kept_by e prior (d + 1))) (marks_of (has_attr m e x) prior d)
+    kept_by (ext_has_attr m a x xs) prior d =
         one_operand_kept Kept (chain_form s.env m prior a x xs) (λ k ys. refl) (chain_kept Kept s.env keeps m prior a x xs) (λ t h. h)
-        s.env (place_of a) _ (deeper d (kept_within a prior (d + 1))) (marks_of (ext_has_attr m a x xs) prior d)
-    kept_within (like m a p) prior d =
+        s.env (place_of a) _ (deeper d (kept_by a prior (d + 1))) (marks_of (ext_has_attr m a x xs) prior d)
+    kept_by (like m a p) prior d =
         one_operand_kept Kept (like_form m p) (λ k xs. refl) (like_kept Kept s.env keeps m p) (λ t h. h)
-        s.env (place_of a) _ (deeper d (kept_within a prior (d + 1))) (marks_of (like m a p) prior d)
-    kept_within (is_type m a n) prior d =
+        s.env (place_of a) _ (deeper d (kept_by a prior (d + 1))) (marks_of (like m a p) prior d)
+    kept_by (is_type m a n) prior d =
         one_operand_kept Kept (is_form m n) (λ k xs. refl) (is_kept Kept s.env keeps m n) (λ t h. h)
-        s.env (place_of a) _ (deeper d (kept_within a prior (d + 1))) (marks_of (is_type m a n) prior d)
-    kept_within (set_of m ts) prior d =
+        s.env (place_of a) _ (deeper d (kept_by a prior (d + 1))) (marks_of (is_type m a n) prior d)
+    kept_by (set_of m ts) prior d =
         form_kept Kept (set_form s.env m) (λ k xs. refl) (set_kept Kept s.env keeps m)
-        (λ t h. h) _ (all_are_kept true [] ts prior (d + 1)) (marks_of (set_of m ts) prior d)
-    kept_within (record_of m fs) prior d =
+        (λ t h. h) _ (all_kept_by true [] ts prior (d + 1)) (marks_of (set_of m ts) prior d)
+    kept_by (record_of m fs) prior d =
         form_kept Kept (record_form s.env m (field_keys fs)) (λ k xs. refl) (record_kept Kept s.env keeps m (field_keys fs))
-        (λ t h. h) _ (fields_are_kept fs prior (d + 1)) (marks_of (record_of m fs) prior d)
+        (λ t h. h) _ (fields_kept_by fs prior (d + 1)) (marks_of (record_of m fs) prior d)
 
     -- expressions one after another
-    pub all_are_kept : (goes_on : Bool) (qs : List Expectation) (ts : Trees Written) (prior : Caps) (d : ℕ)
+    pub all_kept_by : (goes_on : Bool) (qs : List Expectation) (ts : Trees Written) (prior : Caps) (d : ℕ)
         → KeepsAll Kept (rules_all s goes_on qs ts prior d)
-    all_are_kept goes_on qs no_trees prior d = none_kept Kept
-    all_are_kept goes_on qs (tree e ts) prior d =
+    all_kept_by goes_on qs no_trees prior d = none_kept Kept
+    all_kept_by goes_on qs (tree e ts) prior d =
         more_kept Kept s.env goes_on (first_expectation qs) (place_of e)
-        _ (within_kept Kept d _ (kept_within e prior d))
-        _ (all_are_kept goes_on (later_expectations qs) ts prior d)
+        _ (within_kept Kept d _ (kept_by e prior d))
+        _ (all_kept_by goes_on (later_expectations qs) ts prior d)
 
     -- the values of fields
-    pub fields_are_kept : (fs : Fields Written) (prior : Caps) (d : ℕ) → KeepsAll Kept (rules_fields s fs prior d)
-    fields_are_kept no_fields prior d = none_kept Kept
-    fields_are_kept (field k e fs) prior d =
-        more_kept Kept s.env false None (place_of e) _ (within_kept Kept d _ (kept_within e prior d)) _ (fields_are_kept fs prior d)
+    pub fields_kept_by : (fs : Fields Written) (prior : Caps) (d : ℕ) → KeepsAll Kept (rules_fields s fs prior d)
+    fields_kept_by no_fields prior d = none_kept Kept
+    fields_kept_by (field k e fs) prior d =
+        more_kept Kept s.env false None (place_of e) _ (within_kept Kept d _ (kept_by e prior d)) _ (fields_kept_by fs prior d)
+
+  pub types_kept_by : (e : Source) (prior : Caps) (d : ℕ) → KeepsTypes Kept (rules s e prior d)
+  types_kept_by e prior d = within_kept Kept d _ (kept_by e prior d)
+
+-- by a table without faults, in an environment of the schema
+module _ (Kept : Ty → Type 0) (s : Setting) (keeps : IsKeeping Kept s.env) (table_faults : table_fault s.functions ≡ None)
+    (environment : IsEnvironmentOf s.env.schema s.env.request_env) where
+  variables : (x : Var) → HasKept Kept (variable_type s.env x)
+  variables x = variable_kept Kept s.env keeps s.env.request_env refl environment x
+
+  pub kept_within : (e : Source) (prior : Caps) (d : ℕ) → KeepsTypes Kept (rules_within s e prior d)
+  kept_within e prior d = kept_by Kept s keeps (returns_kept Kept s.env keeps s.functions table_faults) variables e prior d
 
   pub types_are_kept : (e : Source) (prior : Caps) (d : ℕ) → KeepsTypes Kept (rules s e prior d)
   types_are_kept e prior d = within_kept Kept d _ (kept_within e prior d)

@@ -1,12 +1,13 @@
 // The check of a policy in one environment.
 ghost use Rattle.std.specs.Prelude.{◌≡◌, IfOk, map, option_map};
 ghost use Rattle.cedar_types.specs.Expressions.View.{written};
-ghost use Rattle.cedar_types.specs.declared.base.types.ValidationMode.TheVariants.{Permissive};
+ghost use Rattle.cedar_types.specs.declared.base.types.ValidationMode.TheVariants.{Permissive, Strict};
 ghost use Rattle.cedar_types.specs.Errors.{finding_of};
 ghost use Rattle.cedar_types.specs.Templates.{template_of, condition_of, with_rest};
 ghost use Rattle.cedar_typing.specs.Views.Checks.{verdict_of, schema_by, extensions_by, mode_by, setting_for};
 ghost use Rattle.cedar_typing.specs.PolicyCheck.{PolicyChecks, policy_check, part_verdict};
 ghost use Rattle.cedar_typing.specs.Soundness.PolicyCheck.{IsSoundPolicyCheck, IsSoundPolicyCheckIn};
+ghost use Rattle.cedar_typing.specs.TypedCopies.{CheckMeansTheSameIn};
 ghost use Rattle.cedar_typing.specs.Views.Settings.{setting_at};
 ghost use Rattle.cedar_typing.specs.Views.{env_at, part_of};
 
@@ -82,6 +83,10 @@ impl<'a, C: ArgumentCheck> Typechecker<'a, C> {
     /// that evaluation gives a boolean or fails only for a missing entity, an overflow or an extension function, and an
     /// irrelevant condition is never true. Nothing is promised of another environment, nor in Partial.
     ///
+    /// There (clauses `same` and `same_in_permissive`) the typed condition of a success and of an irrelevant check evaluates to
+    /// the very same as the condition, value or failure, also where slots that are linked to no type are not bound. So a host
+    /// may go on with the typed condition, from which typing dropped what is never evaluated.
+    ///
     /// That each type and action that the policy names is the schema's, also in parts that are not visited, and each id of an
     /// enumerated type one of its ids, is left to the passes over names and ids.
     ///
@@ -102,6 +107,12 @@ impl<'a, C: ArgumentCheck> Typechecker<'a, C> {
             (condition_of (template_of t.now)) (verdict_of r)) }
         ensures sound_in_permissive { IfOk result (λ r.
             IsSoundPolicyCheckIn Permissive (setting_for C.refusal self.now t.now env.now)
+            (condition_of (template_of t.now)) (verdict_of r)) }
+        ensures same { IfOk result (λ r.
+            CheckMeansTheSameIn Strict (setting_for C.refusal self.now t.now env.now)
+            (condition_of (template_of t.now)) (verdict_of r)) }
+        ensures same_in_permissive { IfOk result (λ r.
+            CheckMeansTheSameIn Permissive (setting_for C.refusal self.now t.now env.now)
             (condition_of (template_of t.now)) (verdict_of r)) }
     {
         let scope = t.scope_condition(alloc)?;

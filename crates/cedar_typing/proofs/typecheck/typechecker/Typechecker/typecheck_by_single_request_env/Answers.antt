@@ -10,6 +10,7 @@ use Rattle.cedar_typing.specs.Setting.{Setting}
 use Rattle.cedar_typing.specs.TypedExpr.{Source}
 use Rattle.cedar_typing.proofs.Policies.Check.{checked}
 use Rattle.cedar_typing.proofs.Soundness.PolicyCheck.{check_sound, check_sound_in_permissive}
+use Rattle.cedar_typing.proofs.TypedCopies.Laws.{checks_mean_the_same, checks_mean_the_same_in_permissive}
 use Rattle.cedar_typing.proofs.typecheck.typechecker.Typechecker.typecheck_by_single_request_env.Goals as goal
 
 pub returns : goal.returns
@@ -29,4 +30,6 @@ returns g c =
       exact = checks;
       sound = check_sound x (condition_of t) v schema.faultless table checks;
       sound_in_permissive = check_sound_in_permissive x (condition_of t) v schema.faultless schema.formed table checks;
+      same = checks_mean_the_same x (condition_of t) v schema.faultless table checks;
+      same_in_permissive = checks_mean_the_same_in_permissive x (condition_of t) v schema.faultless schema.formed table checks;
     }

@@ -1,0 +1,10 @@
+use Rattle.cedar_typing.proofs.TypedCopies.Laws.{copies_mean_the_same, copies_mean_the_same_in_permissive}
+use Rattle.cedar_typing.proofs.TypedCopies.Marks.{types_do_not_matter}
+use Rattle.cedar_typing.proofs.typecheck.typed_copies.copies_mean_the_same.Goals as goal
+
+pub returns : goal.returns
+returns c = record {
+  types = types_do_not_matter;
+  strict = copies_mean_the_same;
+  permissive = copies_mean_the_same_in_permissive;
+}

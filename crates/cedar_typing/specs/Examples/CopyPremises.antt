@@ -1,0 +1,168 @@
+-- What is asked of the schema and of the table is needed, of typed copies too: where one premise does
+-- not hold, and all others do, the typed condition of a check evaluates to something else than
+-- the condition.
+use Rattle.std.specs.Prelude.{◌≡◌, true, false, [], ◌∷◌, Some, None, codes}
+use Rattle.cedar_types.specs.declared.base.expressions.extensions.ExtensionTableError.TheVariants.{BadReturnType}
+use Rattle.cedar_types.specs.declared.base.expressions.operators.Var.{Var}
+use Rattle.cedar_types.specs.declared.base.types.ValidationMode.{ValidationMode}
+use Rattle.cedar_types.specs.declared.base.types.ValidationMode.TheVariants.{Strict, Permissive}
+use Rattle.cedar_types.specs.Environments.{DeclaredEnv}
+use Rattle.cedar_types.specs.Environments.RequestEnvs.{Declared}
+use Rattle.cedar_types.specs.Expressions.Tree.{Shape, var, and, if_then_else}
+use Rattle.cedar_types.specs.Extensions.Functions.{ExtensionFunction, table_fault}
+use Rattle.cedar_types.specs.Names.{Path}
+use Rattle.cedar_types.specs.Schemas.Formed.{has_formed_types}
+use Rattle.cedar_types.specs.Schemas.{Schema, has_fault}
+use Rattle.cedar_types.specs.Types.{Ty, TRecord}
+use Rattle.cedar_typing.specs.Evaluation.Conformance.{IsEnvironmentOf, has_external}
+use Rattle.cedar_typing.specs.Evaluation.World.{World}
+use Rattle.cedar_typing.specs.Examples.Expressions.{false_lit, one, two, the, context, dot, has, is_in, call0, record2, numbered}
+use Rattle.cedar_typing.specs.Examples.Greeting.{stored_action}
+use Rattle.cedar_typing.specs.Examples.NeededPremises.{guest_basis, guest_greeting, guest_has_role}
+use Rattle.cedar_typing.specs.Examples.Permissive.{twice_a, twice_context, twice_schema, twice_basis, twice_greeting}
+use Rattle.cedar_typing.specs.Examples.PolicySoundness.{sample_basis, meeting}
+use Rattle.cedar_typing.specs.Examples.World.{named, user, greet, meet, a_context, declared_user, declared_greet, declared_group, sample_schema}
+use Rattle.cedar_typing.specs.PolicyCheck.{Verdict, PolicyChecks}
+use Rattle.cedar_typing.specs.Setting.{Setting}
+use Rattle.cedar_typing.specs.Soundness.Policies.{Basis, setting_on}
+use Rattle.cedar_typing.specs.Soundness.{IsWorldOf}
+use Rattle.cedar_typing.specs.TypedCopies.{VerdictMeansTheSame}
+use Rattle.cedar_typing.specs.TypedExpr.{Source}
+
+-- the check of e has a typed condition that evaluates to something else in the world
+abbrev pub MeansAnother : Setting → World → Source → Type 0
+MeansAnother s world e =
+    (v : Verdict) × PolicyChecks s e v × (VerdictMeansTheSame world e v → ⊥)
+
+-- users greet users in such a context, and no slot is linked
+abbrev pub users_greet : Ty → DeclaredEnv
+users_greet t = record { principal = user; action = greet; resource = user; context = t }
+
+abbrev pub greeting_by : Basis → Ty → Setting
+greeting_by b t = setting_on b (codes "policy0") (Declared (users_greet t) None None)
+
+abbrev pub and_false : Shape → Source
+and_false e = numbered (and tt e false_lit)
+
+-- ---- external types
+
+-- `Guest::"g".hasTag("role") && false`, of an external type: the left side, which is true, stands for
+-- the whole
+pub record ClosedSchemaIsNeededIn (m : ValidationMode) : Type 0 where
+  pub mode : (guest_basis m).mode ≡ m
+  pub faultless : has_fault (guest_basis m).schema ≡ false
+  pub formed : has_formed_types (guest_basis m).schema ≡ true
+  pub functions : table_fault (guest_basis m).table.functions ≡ None
+  pub environment : IsEnvironmentOf (guest_basis m).schema (Declared (users_greet a_context) None None)
+  pub world : IsWorldOf (greeting_by (guest_basis m) a_context) guest_greeting
+  pub another : MeansAnother (greeting_by (guest_basis m) a_context) guest_greeting
+      (and_false guest_has_role)
+
+-- ---- a fault of the schema
+
+-- `Action::"meet"`, once without descendants, and once more with greet
+abbrev pub meet_twice : Schema
+meet_twice = record {
+  types = declared_user ∷ [];
+  actions = declared_greet ∷ declared_group meet [] ∷ declared_group meet (greet ∷ []) ∷ [];
+}
+
+abbrev pub meet_twice_basis : ValidationMode → Basis
+meet_twice_basis m = record (sample_basis m) { schema = meet_twice }
+
+abbrev pub greeting_at_meet : World
+greeting_at_meet = record meeting {
+  store = (greet, stored_action (meet ∷ [])) ∷ (meet, stored_action []) ∷ [];
+}
+
+-- `action in Action::"meet" && false`
+abbrev pub greet_in_meet : Shape
+greet_in_meet = is_in (var tt Var.Action) (the meet)
+
+pub record FaultlessSchemaIsNeededIn (m : ValidationMode) : Type 0 where
+  pub mode : (meet_twice_basis m).mode ≡ m
+  pub closed : has_external meet_twice ≡ false
+  pub formed : has_formed_types meet_twice ≡ true
+  pub functions : table_fault (meet_twice_basis m).table.functions ≡ None
+  pub environment : IsEnvironmentOf meet_twice (Declared (users_greet a_context) None None)
+  pub world : IsWorldOf (greeting_by (meet_twice_basis m) a_context) greeting_at_meet
+  pub another : MeansAnother (greeting_by (meet_twice_basis m) a_context) greeting_at_meet
+      (and_false greet_in_meet)
+
+-- ---- names that do not ascend, in Permissive
+
+-- `(if resource has vip then context.twice else context.both) has b && false`: the bound of both
+-- records has no `b`
+abbrev pub either_has_b : Shape
+either_has_b =
+    has
+    (if_then_else tt (has (var tt Var.Resource) (codes "vip")) (dot context (codes "twice"))
+    (dot context (codes "both")))
+    (codes "b")
+
+pub record FormIsNeededForCopies : Type 0 where
+  pub mode : twice_basis.mode ≡ Permissive
+  pub closed : has_external twice_schema ≡ false
+  pub faultless : has_fault twice_schema ≡ false
+  pub functions : table_fault twice_basis.table.functions ≡ None
+  pub environment : IsEnvironmentOf twice_schema (Declared (users_greet twice_context) None None)
+  pub world : IsWorldOf (greeting_by twice_basis twice_context) twice_greeting
+  pub unformed : has_formed_types twice_schema ≡ false
+  pub another : MeansAnother (greeting_by twice_basis twice_context) twice_greeting
+      (and_false either_has_b)
+
+-- ---- a fault of the table, in Permissive
+
+-- a function that is said to give a record with two attributes of one name, and gives nothing
+abbrev pub twice : Path
+twice = named (codes "twice")
+
+abbrev pub twice_function : ExtensionFunction
+twice_function = record {
+  name = twice;
+  argument_types = [];
+  is_variadic = false;
+  return_type = TRecord twice_a false;
+  check = None;
+}
+
+abbrev pub faulty_table_basis : Basis
+faulty_table_basis = record (sample_basis Permissive) {
+  table = record { functions = twice_function ∷ []; overloaded_types = [] };
+}
+
+abbrev pub without_calls : World
+without_calls = record meeting {
+  functions = record { calls = []; overloaded_types = []; less = []; less_or_equal = [] };
+}
+
+-- `(if resource has vip then twice() else {a: 1, b: 2}) has b && false`, and bob has no mark
+abbrev pub made_has_b : Shape
+made_has_b =
+    has
+    (if_then_else tt (has (var tt Var.Resource) (codes "vip")) (call0 twice)
+    (record2 (codes "a") one (codes "b") two))
+    (codes "b")
+
+pub record FaultlessTableIsNeeded : Type 0 where
+  pub mode : faulty_table_basis.mode ≡ Permissive
+  pub closed : has_external sample_schema ≡ false
+  pub faultless : has_fault sample_schema ≡ false
+  pub formed : has_formed_types sample_schema ≡ true
+  pub environment : IsEnvironmentOf sample_schema (Declared (users_greet a_context) None None)
+  pub world : IsWorldOf (greeting_by faulty_table_basis a_context) without_calls
+  pub faulty : table_fault faulty_table_basis.table.functions ≡ Some BadReturnType
+  pub another : MeansAnother (greeting_by faulty_table_basis a_context) without_calls
+      (and_false made_has_b)
+
+-- ---- all of them
+
+pub record CopyPremisesAreNeededIn (m : ValidationMode) : Type 0 where
+  pub closed : ClosedSchemaIsNeededIn m
+  pub faultless : FaultlessSchemaIsNeededIn m
+
+pub record CopyPremisesAreNeeded : Type 0 where
+  pub strict : CopyPremisesAreNeededIn Strict
+  pub permissive : CopyPremisesAreNeededIn Permissive
+  pub formed : FormIsNeededForCopies
+  pub table : FaultlessTableIsNeeded
