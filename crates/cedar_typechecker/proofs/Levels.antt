@@ -27,3 +27,4 @@ pub mod RequiredParts
 pub mod RequiredPaths
 pub mod Requirements
 pub mod RequiredLevels
+pub mod Refinement

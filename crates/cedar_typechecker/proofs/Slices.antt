@@ -16,6 +16,8 @@ pub mod Forms
 pub mod Induction
 pub mod TargetLevels
 pub mod Expressions
+pub mod Loaded
+pub mod TypedCopies
 pub mod Conditions
 pub mod Policies
 pub mod Validation

@@ -18,3 +18,4 @@ pub mod Outcome
 pub mod Requirements
 pub mod Required
 pub mod Tallies
+pub mod Refinement

@@ -2,6 +2,7 @@
 pub mod Reach
 pub mod Soundness
 pub mod Policies
+pub mod TypedCopies
 pub mod Validation
 pub mod Nesting
 pub mod Examples

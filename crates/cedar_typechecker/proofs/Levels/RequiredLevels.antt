@@ -2,10 +2,8 @@
 use Rattle.std.proofs.Common.{◌≡◌, ◌↔◌, ℕ, ◌≤◌, ◌<◌, Bool, true, false, nat_le, List, [], ◌∷◌, ◌++◌, inl, inr, Option, Some, None}
 use Rattle.std.proofs.Common.{if◌then◌else◌, refl, sym, ap, subst, arith}
 use Rattle.std.specs.Prelude.{IsPermutation}
-use Rattle.std.specs.List.{AllByRecursion}
 use Rattle.std.proofs.lemmas.Bool.{leb-true, leb-false}
-use Rattle.std.proofs.lemmas.List.Elements.{All-from_recursion, recursion_from_All}
-use Rattle.std.proofs.lemmas.List.Sorted.{All-permutation, IsPermutation-sym}
+use Rattle.std.proofs.lemmas.List.Sorted.{IsPermutation-sym}
 use Rattle.cedar_types.specs.Errors.{Finding}
 use Rattle.cedar_types.specs.Environments.Linking.{checked_envs}
 use Rattle.cedar_types.specs.Environments.RequestEnvs.{Env}
@@ -14,6 +12,7 @@ use Rattle.cedar_typing.specs.Evaluation.Conformance.{IsOneOf}
 use Rattle.cedar_typing.specs.PolicyCheck.{Verdict, succeeds, irrelevant, fails, SameVerdict, same_success, same_irrelevant, same_failure}
 use Rattle.cedar_typing.specs.PolicyCheck.Outcome.{VerdictsOf}
 use Rattle.cedar_typing.specs.Soundness.Policies.{Basis, setting_on}
+use Rattle.cedar_typing.proofs.Basics.Members.{moved}
 use Rattle.cedar_typing.proofs.Policies.Verdicts.{verdict_at_most}
 use Rattle.cedar_typechecker.specs.Levels.Laws.{VerdictIsShared}
 use Rattle.cedar_typechecker.specs.Levels.Outcome.{ChecksOn, levels_on, IsErrorOfVerdict, IsErrorInSome}
@@ -29,25 +28,6 @@ use Rattle.cedar_typechecker.proofs.Levels.Walk.{silent_walk_is_within}
 -- ---- lists
 
 module _ {A : Type 0} where
-  among_own : (zs ys : List A) → ((x : A) → IsOneOf x ys → IsOneOf x zs)
-      → AllByRecursion (λ x. IsOneOf x zs) ys
-  among_own zs [] f = tt
-  among_own zs (y ∷ ys) f = (f y (inl refl), among_own zs ys (λ x i. f x (inr i)))
-
-  one_of_these : (P : A → Type 0) (xs : List A) → AllByRecursion P xs → (x : A) → IsOneOf x xs → P x
-  one_of_these P [] h x i = absurd i
-  one_of_these P (y ∷ ys) h x (inl e) = subst P (sym e) h.0
-  one_of_these P (y ∷ ys) h x (inr i) = one_of_these P ys h.1 x i
-
-  -- a list in another order has the same members
-  moved : (xs ys : List A) → IsPermutation xs ys → (x : A) → IsOneOf x xs → IsOneOf x ys
-  moved xs ys p =
-      let P : A → Type 0 = λ x. IsOneOf x ys in
-      one_of_these P xs
-      (recursion_from_All P xs
-      (All-permutation P ys xs (IsPermutation-sym xs ys p)
-      (All-from_recursion P ys (among_own ys ys (λ x i. i)))))
-
   pub nil_right : (xs : List A) → xs ++ [] ≡ xs
   nil_right [] = refl
   nil_right (x ∷ xs) = ap (λ ys. x ∷ ys) (nil_right xs)

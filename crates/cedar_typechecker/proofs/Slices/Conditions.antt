@@ -1,6 +1,6 @@
--- A policy's condition in a part of a store, by what is known in the environment that links each slot to its variable's own
--- type: whatever the slots are bound to.
-use Rattle.std.proofs.Common.{◌≡◌, ℕ, ◌+◌, true≢false, Option, Some, None, refl, sym, ◌∙◌, subst}
+-- A policy's condition and its typed copies in a part of a store, by what is known in the environment that links each slot to its
+-- variable's own type: whatever the slots are bound to.
+use Rattle.std.proofs.Common.{◌≡◌, inl, ℕ, ◌+◌, true≢false, Option, Some, None, refl, sym, ◌∙◌, subst}
 use Rattle.cedar_types.specs.declared.base.expressions.operators.BinaryOp.{BinaryOp}
 use Rattle.cedar_types.specs.declared.base.expressions.operators.Var.{Var}
 use Rattle.cedar_types.specs.declared.base.location.Loc.{Loc}
@@ -25,16 +25,15 @@ use Rattle.cedar_typing.specs.PolicyCheck.{Verdict, succeeds, irrelevant, fails}
 use Rattle.cedar_typing.specs.Rules.{rules, Derives}
 use Rattle.cedar_typing.specs.Setting.{Setting}
 use Rattle.cedar_typing.specs.Silence.{IsDerivedAs}
-use Rattle.cedar_typing.specs.Soundness.{OnValue, HasFound, IsSoundAt}
+use Rattle.cedar_typing.specs.Soundness.{OnValue, HasFound, IsTrueOutcome}
 use Rattle.cedar_typing.specs.TypedExpr.{Source, TypedTree, place_of}
-use Rattle.cedar_typing.proofs.Agreement.Induction.{agrees}
 use Rattle.cedar_typing.proofs.Composition.Links.{no_action}
-use Rattle.cedar_typing.proofs.Composition.NeverTrue.{true_most}
-use Rattle.cedar_typing.proofs.Composition.OwnBinding.{own_slots, own_world, IsAtMost, itself, is_false, unlinked, and_most, equal_most}
-use Rattle.cedar_typing.proofs.Composition.OwnBinding.{within_most, unmentioned}
+use Rattle.cedar_typing.proofs.Composition.NeverTrue.{true_most, found_most}
+use Rattle.cedar_typing.proofs.Composition.OwnBinding.{own_slots, own_world, IsAtMost, and_most, equal_most, within_most, unmentioned}
 use Rattle.cedar_typing.proofs.Composition.SlotFree.{links_do_not_matter}
 use Rattle.cedar_typing.proofs.Composition.Slots.{eval_alike}
-use Rattle.cedar_typing.proofs.Soundness.Capabilities.{hold_none}
+use Rattle.cedar_typing.proofs.Soundness.Capabilities.{hold_none, hold_either}
+use Rattle.cedar_typing.proofs.Soundness.Parts.{Sounds}
 use Rattle.cedar_typechecker.specs.Levels.Setting.{LevelSetting}
 use Rattle.cedar_typechecker.specs.Slices.Policies.{VerdictIsWithin}
 use Rattle.cedar_typechecker.specs.Slices.Reach.{HoldsSlice}
@@ -47,13 +46,14 @@ use Rattle.cedar_typechecker.proofs.Slices.Ids.{Selected}
 use Rattle.cedar_typechecker.proofs.Slices.Leaves.{within_same, variable_same, slot_same}
 use Rattle.cedar_typechecker.proofs.Slices.Same.{IsSame, IsToldLeft}
 use Rattle.cedar_typechecker.proofs.Slices.Stores.{Agrees, Within, agrees as stores_agree}
-
--- an outcome that is false finds the type False
-found_most : (o o' : Outcome) → IsAtMost ⊥ o o'
-    → HasFound (Some (TBool False)) o' → HasFound (Some (TBool False)) o
-found_most o o' itself h = h
-found_most o o' is_false h = refl
-found_most o o' (unlinked u) h = absurd u
+use Rattle.cedar_typechecker.specs.Slices.TypedCopies.{VerdictMeansTheSameInPart}
+use Rattle.cedar_typing.proofs.TypedCopies.Choices.{and_copies}
+use Rattle.cedar_typing.proofs.TypedCopies.Induction.{copies, binary_copies}
+use Rattle.cedar_typing.proofs.TypedCopies.Leaves.{leaf_copies}
+use Rattle.cedar_typechecker.proofs.Slices.Loaded.{Loaded, loaded_closed}
+use Rattle.cedar_typing.proofs.TypedCopies.Same.{Told, ToldPart, ToldLeft, Copies, within_copies}
+use Rattle.cedar_typechecker.proofs.Slices.TypedCopies.{same_if_loaded}
+use Rattle.cedar_typing.proofs.TypedCopies.Unbound.{unbound, free_of, bound_if_free}
 
 module _ (s : Setting) (d : DeclaredEnv) where
   -- the environment with both slots linked
@@ -81,6 +81,13 @@ module _ (s : Setting) (t : PlainTemplate) (d : DeclaredEnv) (world : World) (n 
   abbrev Same : Outcome → Outcome → Judgment → Type 0
   Same = IsSame levels Reached
 
+  -- the copies of an expression in the part evaluate as it does there, where something is looked at in them
+  abbrev Copied : Outcome → Judgment → Type 0
+  Copied = Copies (Loaded levels) ⊥ other
+
+  abbrev Known : Caps → Type 0
+  Known = AllHold own_bound
+
   both_agree : Agrees world.request world.store part n Reached
   both_agree = stores_agree world.request world.store part n holds
 
@@ -94,7 +101,7 @@ module _ (s : Setting) (t : PlainTemplate) (d : DeclaredEnv) (world : World) (n 
   abbrev pub IsSoundInOwn : Type 0
   IsSoundInOwn =
       (e : Source) (prior : Caps) (k : ℕ) → AllHold own_bound prior
-      → IsSoundAt own own_bound e prior k
+      → Sounds own_bound (eval own_bound e) (rules own e prior k)
 
   module _ (linked_same : IsSameWhereLinked) (own_sound : IsSoundInOwn) where
     -- ---- what mentions no slot
@@ -123,15 +130,34 @@ module _ (s : Setting) (t : PlainTemplate) (d : DeclaredEnv) (world : World) (n 
             };
       }
 
+    free_told : (e : Source) → SlotsBound unbound e → (prior : Caps) (k : ℕ) → Known prior
+        → Told (Loaded levels) Known ⊥ (eval other e) (rules own e prior k)
+    free_told e b prior k h = record {
+      derivations = λ u c x i w.
+          let r = (own_sound e prior k h).derivations u c x i in
+          let q = same_if_loaded levels Reached (eval world e) (eval other e) (rules own e prior k)
+          (free_same e (free_of e b) prior k h) u c x i w in
+          let p = same_outcome e (free_of e b) world in
+          subst (λ z. ToldPart (Loaded levels) Known ⊥ z (Some u) c) (sym (q ∙ p))
+          (record { typed = r.typed; known_if_true = r.caps_hold_if_true; known_at_true = r.caps_hold_at_true });
+      operands = λ r. absurd r;
+    }
+
+    free_copies : (e : Source) → MentionsNoSlot e → (prior : Caps) (k : ℕ) → Known prior → Copied (eval other e) (rules own e prior k)
+    free_copies e h =
+        copies (Loaded levels) Known ⊥ own other unbound (loaded_closed levels) (λ c c' h k. hold_either own_bound c c' h k)
+        free_told e (bound_if_free e h)
+
     -- ---- parts of a condition
 
     -- what is shown of a part: in the world it is false, or what it is with own slots; and in the part of the store it is the same
     record IsGood (e : Source) : Type 0 where
       pub lower : IsAtMost ⊥ (eval world e) (eval own_bound e)
       pub same : (prior : Caps) (k : ℕ) → AllHold own_bound prior → Same (eval world e) (eval other e) (rules own e prior k)
+      pub copied : (prior : Caps) (k : ℕ) → Known prior → Copied (eval other e) (rules own e prior k)
 
     free : (e : Source) → MentionsNoSlot e → IsGood e
-    free e h = record { lower = unmentioned ⊥ world e h; same = free_same e h }
+    free e h = record { lower = unmentioned ⊥ world e h; same = free_same e h; copied = free_copies e h }
 
     left_told : (e : Source) → IsAtMost ⊥ (eval world e) (eval own_bound e) → (prior : Caps) (k : ℕ) → AllHold own_bound prior
         → IsToldLeft own_bound (eval world e) (rules own e prior k)
@@ -139,9 +165,23 @@ module _ (s : Setting) (t : PlainTemplate) (d : DeclaredEnv) (world : World) (n 
         let q = own_sound e prior k h in
         record {
           is_false = λ c x i.
-              found_most (eval world e) (eval own_bound e) g
-              (subst (λ z. HasFound z (eval own_bound e)) ((agrees own e prior k).marks (TBool False) c x i) (q.typed (TBool False) c x i));
-          caps_hold_if_true = λ u c x i j. q.caps_hold_if_true u c x i (true_most ⊥ (eval world e) (eval own_bound e) g j);
+              found_most (eval world e) (eval own_bound e) g (q.derivations (TBool False) c x i).typed;
+          caps_hold_if_true = λ u c x i j.
+              (q.derivations u c x i).caps_hold_if_true (true_most ⊥ (eval world e) (eval own_bound e) g j);
+        }
+
+    left_in_part : (e : Source) → IsGood e → (prior : Caps) (k : ℕ) → Known prior
+        → ToldLeft (Loaded levels) Known ⊥ (eval other e) (rules own e prior k)
+    left_in_part e g prior k h =
+        let q = left_told e g.lower prior k h in
+        let f = λ (u : Ty) (c : Caps) (x : TypedTree) (i : Derives own e prior k u c x) (w : Loaded levels x).
+        same_if_loaded levels Reached (eval world e) (eval other e) (rules own e prior k) (g.same prior k h) u c x i w in
+        record {
+          false_derived = λ c x i w.
+              subst (HasFound (Some (TBool False))) (sym (f (TBool False) c x i w)) (q.is_false c x i);
+          known_if_true = λ u c x i w j. q.caps_hold_if_true u c x i (subst IsTrueOutcome (f u c x i w) j);
+          false_recovered = λ r. absurd r;
+          known_if_recovered = λ r. absurd r;
         }
 
     both : (m : Written) (e e' : Source) → IsGood e → IsGood e' → IsGood (and m e e')
@@ -151,6 +191,11 @@ module _ (s : Setting) (t : PlainTemplate) (d : DeclaredEnv) (world : World) (n 
           within_same own world part n Reached both_agree k _ _ _
           (and_same levels Reached own_bound own.env m (place_of e) (place_of e') _ _ _ _ _ _ prior h
           (left_told e g.lower prior (k + 1) h) (g.same prior (k + 1) h) (λ c i. g'.same c (k + 1) i));
+      copied = λ prior k h.
+          within_copies (Loaded levels) ⊥ other k _ _
+          (and_copies (Loaded levels) Known ⊥ other (loaded_closed levels) (λ c c' h k. hold_either own_bound c c' h k) own.env m
+          (place_of e) (place_of e') _ _ _ _ prior h
+          (left_in_part e g prior (k + 1) h) (g.copied prior (k + 1) h) (λ c i. g'.copied c (k + 1) i));
     }
 
     -- ---- the tests of slots
@@ -170,27 +215,39 @@ module _ (s : Setting) (t : PlainTemplate) (d : DeclaredEnv) (world : World) (n 
           (within_same own world part n Reached both_agree (k + 1) _ _ _ (variable_same own world part n Reached both_agree m' v _))
           (within_same own world part n Reached both_agree (k + 1) _ _ _ (slot_same own world part n Reached both_agree m'' x _ _)) op)
 
+      test_copied : (op : BinaryOp) (v : Var) (x : SlotId) (prior : Caps) (k : ℕ)
+          → Copied (eval other (binary m op (var m' v) (slot m'' x))) (rules own (binary m op (var m' v) (slot m'' x)) prior k)
+      test_copied op v x prior k =
+          within_copies (Loaded levels) ⊥ other k _ _
+          (binary_copies (Loaded levels) Known ⊥ own other unbound (loaded_closed levels) (λ c c' h k. hold_either own_bound c c' h k)
+          m prior (var m' v) (slot m'' x) op (place_of (var m' v)) (place_of (slot m'' x)) _ _ _ _
+          (within_copies (Loaded levels) ⊥ other (k + 1) _ _
+          (leaf_copies (Loaded levels) ⊥ other m' (λ k. var k v) _ (λ k. refl) _))
+          (within_copies (Loaded levels) ⊥ other (k + 1) _ _
+          (leaf_copies (Loaded levels) ⊥ other m'' (λ k. slot k x) _ (λ k. refl) _)))
+
+      test_good : (op : BinaryOp) (v : Var) (x : SlotId)
+          → IsAtMost ⊥ (eval world (binary m op (var m' v) (slot m'' x))) (eval own_bound (binary m op (var m' v) (slot m'' x)))
+          → IsGood (binary m op (var m' v) (slot m'' x))
+      test_good op v x h = record {
+        lower = h;
+        same = λ prior k i. test_same op v x prior k;
+        copied = λ prior k i. test_copied op v x prior k;
+      }
+
       equal_good : (v : Var) (x : SlotId) (w : Uid) → Own v x w → IsBound (world.slots x)
           → IsGood (binary m BinaryOp.Eq (var m' v) (slot m'' x))
-      equal_good v x w own_principal b = record {
-        lower = equal_most ⊥ world w (world.slots SlotId.Principal) (λ n. n b);
-        same = λ prior k h. test_same BinaryOp.Eq v x prior k;
-      }
-      equal_good v x w own_resource b = record {
-        lower = equal_most ⊥ world w (world.slots SlotId.Resource) (λ n. n b);
-        same = λ prior k h. test_same BinaryOp.Eq v x prior k;
-      }
+      equal_good v x w own_principal b =
+          test_good BinaryOp.Eq v x (equal_most ⊥ world w (world.slots SlotId.Principal) (λ n. n b))
+      equal_good v x w own_resource b =
+          test_good BinaryOp.Eq v x (equal_most ⊥ world w (world.slots SlotId.Resource) (λ n. n b))
 
       in_good : (v : Var) (x : SlotId) (w : Uid) → Own v x w → IsBound (world.slots x)
           → IsGood (binary m BinaryOp.In (var m' v) (slot m'' x))
-      in_good v x w own_principal b = record {
-        lower = within_most ⊥ world w (world.slots SlotId.Principal) (λ n. n b);
-        same = λ prior k h. test_same BinaryOp.In v x prior k;
-      }
-      in_good v x w own_resource b = record {
-        lower = within_most ⊥ world w (world.slots SlotId.Resource) (λ n. n b);
-        same = λ prior k h. test_same BinaryOp.In v x prior k;
-      }
+      in_good v x w own_principal b =
+          test_good BinaryOp.In v x (within_most ⊥ world w (world.slots SlotId.Principal) (λ n. n b))
+      in_good v x w own_resource b =
+          test_good BinaryOp.In v x (within_most ⊥ world w (world.slots SlotId.Resource) (λ n. n b))
 
     -- ---- the condition
 
@@ -219,12 +276,25 @@ module _ (s : Setting) (t : PlainTemplate) (d : DeclaredEnv) (world : World) (n 
         (free (action_scope_at t.place t.action) (λ y. no_action t.place y t.action)))
         (scope_good t.place Var.Resource SlotId.Resource world.request.resource own_resource t.resource z.1))
 
-    -- what is derived in the own environment, and within the level there, is the same in the part
-    pub derived_same : SlotsInScopeAlone t → SlotsBound world.slots (condition_of t)
-        → (v : Verdict) → IsDerivedAs own (condition_of t) v → VerdictIsWithin levels v
-        → eval other (condition_of t) ≡ eval world (condition_of t)
-    derived_same h b (succeeds x) k w =
-        ((condition_good h b).same no_caps 1 (hold_none own_bound)).checked k.0 k.1 x k.2 (silent_of levels x w)
-    derived_same h b (irrelevant es x) k w =
-        ((condition_good h b).same no_caps 1 (hold_none own_bound)).checked (TBool False) k.0 x k.1 (silent_of levels x w)
-    derived_same h b (fails es) k w = absurd k
+    -- what is derived in the own environment, and within the level there, is the same in the part, and so is its copy
+    module _ (h : SlotsInScopeAlone t) (b : SlotsBound world.slots (condition_of t)) where
+      same_derived : (u : Ty) (c : Caps) (x : TypedTree) → Derives own (condition_of t) no_caps 1 u c x → Silent levels x
+          → eval other (condition_of t) ≡ eval world (condition_of t)
+      same_derived u c x i w = ((condition_good h b).same no_caps 1 (hold_none own_bound)).checked u c x i w
+
+      copy_derived : (u : Ty) (c : Caps) (x : TypedTree) → Derives own (condition_of t) no_caps 1 u c x → Silent levels x
+          → eval other x ≡ eval world (condition_of t)
+      copy_derived u c x i w =
+          ((condition_good h b).copied no_caps 1 (hold_none own_bound)).derivations u c x i (inl w) ∙ same_derived u c x i w
+
+      pub derived_same : (v : Verdict) → IsDerivedAs own (condition_of t) v → VerdictIsWithin levels v
+          → eval other (condition_of t) ≡ eval world (condition_of t)
+      derived_same (succeeds x) k w = same_derived k.0 k.1 x k.2 (silent_of levels x w)
+      derived_same (irrelevant es x) k w = same_derived (TBool False) k.0 x k.1 (silent_of levels x w)
+      derived_same (fails es) k w = absurd k
+
+      pub derived_copies : (v : Verdict) → IsDerivedAs own (condition_of t) v → VerdictIsWithin levels v
+          → VerdictMeansTheSameInPart world part (condition_of t) v
+      derived_copies (succeeds x) k w = copy_derived k.0 k.1 x k.2 (silent_of levels x w)
+      derived_copies (irrelevant es x) k w = copy_derived (TBool False) k.0 x k.1 (silent_of levels x w)
+      derived_copies (fails es) k w = absurd k

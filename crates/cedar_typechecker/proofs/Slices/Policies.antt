@@ -13,7 +13,7 @@ use Rattle.cedar_types.specs.Templates.{PlainTemplate, condition_of}
 use Rattle.cedar_typing.specs.Composition.{in_env, own_env}
 use Rattle.cedar_typing.specs.Evaluation.Conformance.{IsOneOf, FitsRequest, ConformingRequest, SlotsBound, has_external}
 use Rattle.cedar_typing.specs.Evaluation.World.{World}
-use Rattle.cedar_typing.specs.PolicyCheck.{Verdict}
+use Rattle.cedar_typing.specs.PolicyCheck.{Verdict, SameVerdict, same_success, same_irrelevant, same_failure}
 use Rattle.cedar_typing.specs.Soundness.Policies.{Basis, IsNamedBySchema, IsWellFormed, IsConforming, setting_on, CheckedOn}
 use Rattle.cedar_typing.specs.Setting.{Setting}
 use Rattle.cedar_typing.specs.Silence.{IsWellNamedTemplate, IsDerivedAs}
@@ -23,13 +23,16 @@ use Rattle.cedar_typing.proofs.Composition.NeverTrue.{Sure, own_is_world}
 use Rattle.cedar_typing.proofs.Composition.OwnBinding.{own_slots, own_world, both_bound}
 use Rattle.cedar_typing.proofs.Composition.Slots.{slots_bound}
 use Rattle.cedar_typing.proofs.Silence.Policies.{passing_derived_in}
-use Rattle.cedar_typing.proofs.Soundness.Induction.{sound_at}
-use Rattle.cedar_typechecker.specs.Levels.Outcome.{levels_on}
+use Rattle.cedar_typing.proofs.Policies.Verdicts.{verdict_at_most}
+use Rattle.cedar_typing.proofs.Soundness.Induction.{sounds}
+use Rattle.cedar_typechecker.specs.Levels.Outcome.{ChecksOn, levels_on}
 use Rattle.cedar_typechecker.specs.Slices.Policies.{VerdictIsWithin, PolicyIsWithinLevel, IsSameIn, IsSameInSlices, PassingNeedsSliceAlone}
 use Rattle.cedar_typechecker.specs.Slices.Policies.{PassingNeedsSliceAloneInPermissive, PassingNeedsSliceWithoutSlots}
 use Rattle.cedar_typechecker.specs.Slices.Policies.{PassingNeedsSliceForWholeCopies}
 use Rattle.cedar_typechecker.specs.Slices.Reach.{HoldsSlice}
-use Rattle.cedar_typechecker.proofs.Slices.Conditions.{linked, derived_same}
+use Rattle.cedar_typechecker.specs.Slices.TypedCopies.{VerdictMeansTheSameInPart, PassingCopyNeedsSliceAlone}
+use Rattle.cedar_typechecker.specs.Slices.TypedCopies.{PassingCopyNeedsSliceAloneInPermissive}
+use Rattle.cedar_typechecker.proofs.Slices.Conditions.{linked, IsSameWhereLinked, IsSoundInOwn, derived_same, derived_copies}
 use Rattle.cedar_typechecker.proofs.Slices.Expressions.{same_at}
 
 -- ---- in one of both modes
@@ -50,19 +53,35 @@ module _ (strictly : Bool) (b : Basis) (t : PlainTemplate) (schema : has_fault b
     bound : (e : Source) → SlotsBound (own_slots world.request) e
     bound = slots_bound (own_slots world.request) (both_bound world.request)
 
-    -- what is derived in the own environment, and has no level error there, is the same in the part
-    in_own : (d : DeclaredEnv) → IsOneOf d (environments_of b.schema.actions) → FitsRequest d world.request
-        → (v : Verdict) → IsDerivedAs (setting_on b t.id (own_env t d)) (condition_of t) v
-        → VerdictIsWithin (levels_on b t n (own_env t d)) v → IsSameIn t world part
-    in_own d one fits =
-        derived_same s t d world n part holds
-        (λ e prior k h.
-        same_at strictly (linked s d) (own_world world) n part strict total formed schema functions closed one tt
-        (fits, fits.principal, fits.resource) i.store i.functions holds e (bound e) prior k h)
-        (λ e prior k h.
-        sound_at strictly (in_env s (own_env t d)) (own_world world) strict total formed schema functions closed one
-        (own_is_world strictly s t sure d one world fits i.store i.functions).environment i.store i.functions e (bound e) prior k h)
-        w.slots_in_scope w.bound
+    module _ (d : DeclaredEnv) (one : IsOneOf d (environments_of b.schema.actions)) (fits : FitsRequest d world.request) where
+      same_where_linked : IsSameWhereLinked s t d world n part holds
+      same_where_linked e prior k h =
+          same_at strictly (linked s d) (own_world world) n part strict total formed schema functions closed one tt
+          (fits, fits.principal, fits.resource) i.store i.functions holds e (bound e) prior k h
+
+      sound_in_own : IsSoundInOwn s t d world n part holds
+      sound_in_own e prior k h =
+          sounds strictly (in_env s (own_env t d)) (own_world world) strict total formed schema functions closed one
+          (own_is_world strictly s t sure d one world fits i.store i.functions).environment i.store i.functions e (bound e) prior k h
+
+      -- what is derived in the own environment, and has no level error there, is the same in the part
+      in_own : (v : Verdict) → IsDerivedAs (setting_on b t.id (own_env t d)) (condition_of t) v
+          → VerdictIsWithin (levels_on b t n (own_env t d)) v → IsSameIn t world part
+      in_own =
+          derived_same s t d world n part holds same_where_linked sound_in_own w.slots_in_scope w.bound
+
+      -- and so are its typed copies
+      copies_in_own : (v : Verdict) → IsDerivedAs (setting_on b t.id (own_env t d)) (condition_of t) v
+          → VerdictIsWithin (levels_on b t n (own_env t d)) v → VerdictMeansTheSameInPart world part (condition_of t) v
+      copies_in_own =
+          derived_copies s t d world n part holds same_where_linked sound_in_own w.slots_in_scope w.bound
+
+    -- another verdict of the same check hands out the same copy
+    of_same : (u v : Verdict) → SameVerdict u v → VerdictMeansTheSameInPart world part (condition_of t) u
+        → VerdictMeansTheSameInPart world part (condition_of t) v
+    of_same u v same_success h = h
+    of_same u v (same_irrelevant p) h = h
+    of_same u v (same_failure p) h = h
 
     same_if_known : ((env : Env) → IsOneOf env (checked_envs b.schema b.mode t)
         → (v : Verdict) × IsDerivedAs (setting_on b t.id env) (condition_of t) v × VerdictIsWithin (levels_on b t n env) v)
@@ -84,7 +103,31 @@ module _ (strictly : Bool) (b : Basis) (t : PlainTemplate) (schema : has_fault b
       let p = passing_derived_in strictly s t strict total formed schema functions named errors errors' old new o env k in
       (p.0, p.2, quiet env k p.0 p.1))
 
+  copy_suffices : (errors errors' : List Finding) (old new : List Caution) → CheckedOn b t true errors errors' old new
+      → (n : ℕ) → IsNamedBySchema b.schema t → PolicyIsWithinLevel b t n
+      → (world : World) → IsWellFormed t world.slots → IsConforming b world
+      → (d : DeclaredEnv) → IsOneOf d (environments_of b.schema.actions) → FitsRequest d world.request
+      → (part : Store) → HoldsSlice world.request world.store n part
+      → (v : Verdict) → ChecksOn b t (own_env t d) v → VerdictMeansTheSameInPart world part (condition_of t) v
+  copy_suffices errors errors' old new o n names quiet world w i d one fits part holds v c =
+      let named : IsWellNamedTemplate b.schema t = record { unknowns = w.no_unknowns; types = names.types; actions = names.actions } in
+      let there = own_env_is_checked b.schema b.mode t w.slots_in_scope d one in
+      let p = passing_derived_in strictly s t strict total formed schema functions named errors errors' old new o (own_env t d) there in
+      of_same n world w i part holds p.0 v (verdict_at_most (in_env s (own_env t d)) (condition_of t) p.0 v p.1 c)
+      (copies_in_own n world w i part holds d one fits p.0 p.2 (quiet (own_env t d) there p.0 p.1))
+
 -- ---- the laws
+
+pub passing_copy_needs_slice_alone : PassingCopyNeedsSliceAlone
+passing_copy_needs_slice_alone b t schema functions errors errors' old new o n k names quiet world w i d one fits part holds v c =
+    copy_suffices true b t schema refl functions (ap is_strict k.mode) (ap is_partial k.mode)
+    k.closed errors errors' old new o n names quiet world w i d one fits part holds v c
+
+pub passing_copy_needs_slice_alone_in_permissive : PassingCopyNeedsSliceAloneInPermissive
+passing_copy_needs_slice_alone_in_permissive b t schema formed functions errors errors' old new o n k names quiet world w i d one
+    fits part holds v c =
+    copy_suffices false b t schema formed functions (ap is_strict k.mode) (ap is_partial k.mode)
+    k.closed errors errors' old new o n names quiet world w i d one fits part holds v c
 
 pub passing_needs_slice_alone : PassingNeedsSliceAlone
 passing_needs_slice_alone b t schema functions errors errors' old new o n k names quiet world w i =

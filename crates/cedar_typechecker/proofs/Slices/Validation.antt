@@ -1,9 +1,7 @@
 -- Validation that finds no error: what it says of the check of the policy, and what that promises.
 use Rattle.std.proofs.Common.{◌≡◌, inl, inr, ℕ, Bool, true, false, true≢false, ◌||◌, List, [], ◌∷◌, ◌++◌, None, refl, sym, ap, subst}
 use Rattle.std.specs.Prelude.{IsPermutation, cond}
-use Rattle.std.specs.List.{AllByRecursion}
-use Rattle.std.proofs.lemmas.List.Elements.{All-from_recursion, recursion_from_All}
-use Rattle.std.proofs.lemmas.List.Sorted.{All-permutation, IsPermutation-sym, IsPermutation-refl}
+use Rattle.std.proofs.lemmas.List.Sorted.{IsPermutation-sym, IsPermutation-refl}
 use Rattle.cedar_types.specs.declared.base.types.ValidationMode.{ValidationMode}
 use Rattle.cedar_types.specs.declared.base.types.ValidationMode.TheVariants.{Strict, Permissive, Partial}
 use Rattle.cedar_types.specs.Types.Bounds.{is_strict}
@@ -26,6 +24,7 @@ use Rattle.cedar_typing.specs.Rules.Laws.{IsCut}
 use Rattle.cedar_typing.specs.Setting.{Setting}
 use Rattle.cedar_typing.specs.Silence.{HasNoUnknowns, IsWellNamed}
 use Rattle.cedar_typing.specs.TypedExpr.{Source}
+use Rattle.cedar_typing.proofs.Basics.Members.{reordered}
 use Rattle.cedar_typing.proofs.Policies.EachEnvironment.{each_has_passing}
 use Rattle.cedar_typing.proofs.Soundness.Policies.{promises_are_kept, promises_are_kept_in_permissive}
 use Rattle.cedar_typing.proofs.Silence.Checks.{silent_cut}
@@ -60,21 +59,6 @@ module _ {A : Type 0} where
   of_second x [] ys f h = h
   of_second x (z ∷ xs) ys f (inl e) = absurd (f (inl e))
   of_second x (z ∷ xs) ys f (inr h) = of_second x xs ys (λ k. f (inr k)) h
-
-  module _ (P : A → Type 0) where
-    one_by_one : (xs : List A) → ((x : A) → IsOneOf x xs → P x) → AllByRecursion P xs
-    one_by_one [] f = tt
-    one_by_one (x ∷ xs) f = (f x (inl refl), one_by_one xs (λ z h. f z (inr h)))
-
-    one_of_all : (xs : List A) → AllByRecursion P xs → (x : A) → IsOneOf x xs → P x
-    one_of_all [] h x k = absurd k
-    one_of_all (y ∷ xs) h x (inl e) = subst P (sym e) h.0
-    one_of_all (y ∷ xs) h x (inr k) = one_of_all xs h.1 x k
-
-    -- what holds of each holds of each in another order
-    reordered : (xs ys : List A) → IsPermutation xs ys → ((x : A) → IsOneOf x xs → P x) → (y : A) → IsOneOf y ys → P y
-    reordered xs ys p f =
-        one_of_all ys (recursion_from_All P ys (All-permutation P xs ys p (All-from_recursion P xs (one_by_one xs f))))
 
 -- ---- verdicts
 

@@ -1,6 +1,7 @@
 //! Laws of levels, and computed examples, each on a function that does nothing.
 ghost use Rattle.cedar_typechecker.specs.Levels.Details.{LevelDetails};
 ghost use Rattle.cedar_typechecker.specs.Levels.Laws.{ChainsAreListed, LevelIsGreatest, LargerLevelsAreWithin, WalkFindsErrors, SilentWalkIsWithin, TypedBranchesAreShared, ErrorsAreAdded};
+ghost use Rattle.cedar_typechecker.specs.Levels.Refinement.{StrictLevelsAreKept};
 ghost use Rattle.cedar_typechecker.specs.Levels.Required.{WithinWhereReached, SilentWhereReached, RequiredLevelIsOne};
 ghost use Rattle.cedar_typechecker.specs.Levels.Rows.{LevelRows};
 
@@ -21,6 +22,11 @@ pub fn required_levels()
     ensures within { WithinWhereReached }
     ensures silent { SilentWhereReached }
     ensures one { RequiredLevelIsOne }
+{}
+
+/// Where a policy passes in Strict, its levels are those of Permissive.
+pub fn strict_levels_are_kept()
+    ensures { StrictLevelsAreKept }
 {}
 
 /// A walk down a typed expression finds each of its level errors, and nothing else.

@@ -1,0 +1,87 @@
+-- What a host that goes on with typed conditions over parts of a store may rely on.
+use Rattle.std.specs.Prelude.{◌≡◌, ℕ, true, false, List, None}
+use Rattle.cedar_types.specs.declared.base.types.ValidationMode.{ValidationMode}
+use Rattle.cedar_types.specs.declared.base.types.ValidationMode.TheVariants.{Strict, Permissive}
+use Rattle.cedar_types.specs.Environments.{DeclaredEnv, environments_of}
+use Rattle.cedar_types.specs.Errors.{Finding, Caution}
+use Rattle.cedar_types.specs.Extensions.Functions.{table_fault}
+use Rattle.cedar_types.specs.Schemas.{has_fault}
+use Rattle.cedar_types.specs.Schemas.Formed.{has_formed_types}
+use Rattle.cedar_types.specs.Templates.{PlainTemplate, condition_of}
+use Rattle.cedar_types.specs.Types.{Ty}
+use Rattle.cedar_types.specs.Values.Stores.{Store}
+use Rattle.cedar_typing.specs.Capabilities.{Caps}
+use Rattle.cedar_typing.specs.Composition.{own_env}
+use Rattle.cedar_typing.specs.Evaluation.Conformance.{IsOneOf, FitsRequest, SlotsBound, AllHold}
+use Rattle.cedar_typing.specs.Evaluation.Eval.{eval}
+use Rattle.cedar_typing.specs.Evaluation.World.{World}
+use Rattle.cedar_typing.specs.PolicyCheck.{Verdict, succeeds, irrelevant, fails}
+use Rattle.cedar_typing.specs.Rules.{Derives}
+use Rattle.cedar_typing.specs.Setting.{Setting}
+use Rattle.cedar_typing.specs.Soundness.Policies.{Basis, IsClosedIn, IsNamedBySchema, IsWellFormed, IsConforming, CheckedOn}
+use Rattle.cedar_typing.specs.TypedExpr.{Source, TypedTree}
+use Rattle.cedar_typechecker.specs.Levels.Errors.{IsWithinLevel}
+use Rattle.cedar_typechecker.specs.Levels.Outcome.{ChecksOn}
+use Rattle.cedar_typechecker.specs.Slices.Policies.{PolicyIsWithinLevel}
+use Rattle.cedar_typechecker.specs.Slices.Reach.{HoldsSlice}
+use Rattle.cedar_typechecker.specs.Slices.Soundness.{with_store, levels_in, IsSlicedIn}
+
+-- ---- an expression
+
+-- the copy evaluates to the same in the part of the store as the expression in the whole of it
+abbrev pub EvaluatesInPartAs : World → Store → TypedTree → Source → Type 0
+EvaluatesInPartAs world part x e = eval (with_store world part) x ≡ eval world e
+
+-- so does each typed copy without level errors at n
+abbrev pub CopiesMeanTheSameInPart : Setting → World → ℕ → Store → Type 0
+CopiesMeanTheSameInPart s world n part =
+    (e : Source) → SlotsBound world.slots e
+    → (prior : Caps) (d : ℕ) → AllHold world prior
+    → (t : Ty) (c : Caps) (x : TypedTree) → Derives s e prior d t c x
+    → IsWithinLevel (levels_in s n) x → EvaluatesInPartAs world part x e
+
+-- where typing can be relied on in the world, and a part of its store holds the slice of n steps
+abbrev pub CopiesNeedSliceAlone : Type 0
+CopiesNeedSliceAlone =
+    (s : Setting) (world : World) (n : ℕ) (part : Store) → IsSlicedIn Strict s world n part
+    → CopiesMeanTheSameInPart s world n part
+
+abbrev pub CopiesNeedSliceAloneInPermissive : Type 0
+CopiesNeedSliceAloneInPermissive =
+    (s : Setting) (world : World) (n : ℕ) (part : Store) → has_formed_types s.env.schema ≡ true
+    → IsSlicedIn Permissive s world n part → CopiesMeanTheSameInPart s world n part
+
+-- ---- a policy
+
+abbrev pub VerdictMeansTheSameInPart : World → Store → Source → Verdict → Type 0
+VerdictMeansTheSameInPart world part e (succeeds x) = EvaluatesInPartAs world part x e
+VerdictMeansTheSameInPart world part e (irrelevant es x) = EvaluatesInPartAs world part x e
+VerdictMeansTheSameInPart world part e (fails es) = Unit {0}
+
+-- in each world that conforms, at each n at which the level pass is silent: the typed condition of the own environment of the
+-- request evaluates in each part that has the slice of n steps as the template's condition does in the whole store
+abbrev pub OwnCopySufficesIn : ValidationMode → Basis → PlainTemplate → Type 0
+OwnCopySufficesIn m b t =
+    (n : ℕ) → IsClosedIn m b → IsNamedBySchema b.schema t → PolicyIsWithinLevel b t n
+    → (world : World) → IsWellFormed t world.slots → IsConforming b world
+    → (d : DeclaredEnv) → IsOneOf d (environments_of b.schema.actions) → FitsRequest d world.request
+    → (part : Store) → HoldsSlice world.request world.store n part
+    → (v : Verdict) → ChecksOn b t (own_env t d) v
+    → VerdictMeansTheSameInPart world part (condition_of t) v
+
+-- of each policy that passes, by a schema and a table without faults
+abbrev pub PassingCopyNeedsSliceAlone : Type 0
+PassingCopyNeedsSliceAlone =
+    (b : Basis) (t : PlainTemplate)
+    → has_fault b.schema ≡ false → table_fault b.table.functions ≡ None
+    → (errors errors' : List Finding) (old new : List Caution)
+    → CheckedOn b t true errors errors' old new → OwnCopySufficesIn Strict b t
+
+-- in Permissive, where names also ascend in the types of the schema
+abbrev pub PassingCopyNeedsSliceAloneInPermissive : Type 0
+PassingCopyNeedsSliceAloneInPermissive =
+    (b : Basis) (t : PlainTemplate)
+    → has_fault b.schema ≡ false → has_formed_types b.schema ≡ true
+    → table_fault b.table.functions ≡ None
+    → (errors errors' : List Finding) (old new : List Caution)
+    → CheckedOn b t true errors errors' old new → OwnCopySufficesIn Permissive b t
