@@ -89,6 +89,7 @@ POLICIES = (
     (f"{SCOPE} when {{ true }}", 2, "p:1:50: fault: `when`, `unless` or `;` is expected, where the text ends"),
     (2 * 'permit(principal == User::"a, action, resource);\n', 2, "p:2:28: fault: `,` is expected, where `a` is read; the text in quotes before"),
     ('[{"effect": "permit"}]', 2, "p:1:1: fault: `permit` or `forbid` is expected, where `[` is read; policies in JSON are not read"),
+    (f"{SCOPE};\n// harmless\rforbid(principal, action, resource);\n", 0, "policies: 2, accepted: 2, refused: 0, warnings: 0, faults: 0"),
     ('@id("a")' + GOOD + GOOD + '@id("a")' + GOOD, 1, "p:3:1: error: the policy at 1:1 of this file has the same id"),
 )
 # Schemas, the exit status, and what one of the first lines begins with.
@@ -103,6 +104,7 @@ SCHEMAS = (
     ("action a in A::Action \"x\";", 2, "s:1:23: fault: `::` is expected, where `\"x\"` is read"),
     ("type has = Long;", 2, "s:1:6: fault: a name that the language keeps for itself, where `has` is read"),
     ("entity A { a: Long\n b: Long };", 2, "s:2:2: fault: `,` or `}` is expected, where `b` is read"),
+    ("// a\rentity A { a: Long? };", 2, "s:1:24: fault: `?` before the `:` is expected, where `?` is read"),
     ("entity A { a: Long? };", 2, "s:1:19: fault: `?` before the `:` is expected, where `?` is read"),
     ("entity A; action a appliesTo { principals: A };", 2, "s:1:32: fault: `principal`, `resource` or `context` is expected, where"),
     ("action a in [b]; action b in [a]; namespace N { } namespace N { }\n" + SCHEMA, 0, "p:1:1: policy `policy0`: accepted"),

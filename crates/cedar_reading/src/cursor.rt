@@ -153,7 +153,7 @@ impl<'a> Cursor<'a> {
     /// Whether the next token is the first of its line, and not of the text.
     pub fn begins_line(&self) -> bool {
         let before = self.text.get(self.end..self.next.place.start).unwrap_or("");
-        before.contains('\n')
+        before.contains('\n') || before.contains('\r')
     }
 
     /// How many tokens may still come, at most.

@@ -20,7 +20,7 @@ mod tokens;
 
 pub use cursor::MAX_LENGTH;
 pub use faults::{Fault, ReadError};
-pub use policies::Policies;
+pub use policies::{Policies, ReadPolicy};
 pub use positions::Position;
 pub use schemas::{
     Notation, RefusedName, SchemaDeclarations, SchemaReadError, refused_name, schema,

@@ -4,8 +4,15 @@ use crate::cursor::{Cursor, MAX_NESTING};
 use crate::expressions::expression;
 use crate::faults::{Fault, ReadError};
 use crate::scopes::read_scope;
-use cedar_types::base::{Expr, PolicyID, Template};
+use cedar_types::base::{Effect, Expr, PolicyID, Template};
 use std::alloc::{AllocError, Global};
+
+/// A policy that was read: what it does, and what it asks.
+#[derive(Debug, Drop)]
+pub struct ReadPolicy {
+    pub effect: Effect,
+    pub template: Template,
+}
 
 /// Reads the policies of a text, one after another.
 #[derive(Drop)]
@@ -26,7 +33,7 @@ impl<'a> Policies<'a> {
     ///
     /// A policy has its own text as its place, annotations included. Its id is what `@id` says, or `policy` and how many come
     /// before it in the text, faulty ones included.
-    pub fn next_policy(&mut self) -> Option<Result<Template, ReadError>> {
+    pub fn next_policy(&mut self) -> Option<Result<ReadPolicy, ReadError>> {
         if self.cursor.is_at_end() {
             return None;
         }
@@ -41,7 +48,7 @@ impl<'a> Policies<'a> {
 }
 
 /// Reads a policy, before which there are so many.
-fn policy(cursor: &mut Cursor<'_>, number: usize) -> Result<Template, ReadError> {
+fn policy(cursor: &mut Cursor<'_>, number: usize) -> Result<ReadPolicy, ReadError> {
     let start = cursor.start();
     let said = annotations(cursor)?;
     let id = policy_id(cursor.alloc, said, number)?;
@@ -49,14 +56,18 @@ fn policy(cursor: &mut Cursor<'_>, number: usize) -> Result<Template, ReadError>
     let rest = conditions(cursor)?;
     cursor.expect_one(";", "`when`, `unless` or `;`")?;
     let place = cursor.since(start);
-    Ok(Template::new(
+    let template = Template::new(
         id,
         Some(place),
         scope.principal,
         scope.action,
         scope.resource,
         rest,
-    ))
+    );
+    Ok(ReadPolicy {
+        effect: scope.effect,
+        template,
+    })
 }
 
 fn policy_id(alloc: Global, said: Option<String>, number: usize) -> Result<PolicyID, AllocError> {

@@ -4,7 +4,7 @@ use crate::expressions::expression;
 use crate::faults::{Fault, ReadError};
 use crate::names::{entity_type, entity_uid};
 use cedar_types::base::{
-    ActionConstraint, EntityReference, EntityUID, Expr, PolicyID, PrincipalConstraint,
+    ActionConstraint, Effect, EntityReference, EntityUID, Expr, PolicyID, PrincipalConstraint,
     PrincipalOrResourceConstraint, ResourceConstraint, Template,
 };
 use std::alloc::{AllocError, Global};
@@ -15,6 +15,7 @@ pub const POLICY: &str = "policy0";
 /// The constraints of a scope that was read.
 #[derive(Drop)]
 pub struct Scope {
+    pub effect: Effect,
     pub principal: PrincipalConstraint,
     pub action: ActionConstraint,
     pub resource: ResourceConstraint,
@@ -22,9 +23,7 @@ pub struct Scope {
 
 /// Reads a scope alone: `permit(principal, action, resource)`.
 pub fn read_scope(cursor: &mut Cursor<'_>) -> Result<Scope, ReadError> {
-    if !cursor.takes("forbid") && !cursor.takes("permit") {
-        return Err(cursor.fault(Fault::Expected("`permit` or `forbid`")));
-    }
+    let effect = effect(cursor)?;
     cursor.expect("(")?;
     let principal = entity_constraint(cursor, "principal")?;
     cursor.expect(",")?;
@@ -33,6 +32,7 @@ pub fn read_scope(cursor: &mut Cursor<'_>) -> Result<Scope, ReadError> {
     let resource = entity_constraint(cursor, "resource")?;
     cursor.expect(")")?;
     Ok(Scope {
+        effect,
         principal: PrincipalConstraint {
             constraint: principal,
         },
@@ -41,6 +41,17 @@ pub fn read_scope(cursor: &mut Cursor<'_>) -> Result<Scope, ReadError> {
             constraint: resource,
         },
     })
+}
+
+/// Reads what the policy does.
+fn effect(cursor: &mut Cursor<'_>) -> Result<Effect, ReadError> {
+    if cursor.takes("forbid") {
+        return Ok(Effect::Forbid);
+    }
+    if cursor.takes("permit") {
+        return Ok(Effect::Permit);
+    }
+    Err(cursor.fault(Fault::Expected("`permit` or `forbid`")))
 }
 
 /// Reads the constraint of the principal or of the resource, after its name.

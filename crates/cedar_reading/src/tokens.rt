@@ -51,7 +51,8 @@ pub fn token_text(text: &str, at: usize) -> &str {
     token_from(text, at).text
 }
 
-/// The text behind the blanks and the comments at its beginning. A comment goes from `//` to the end of its line.
+/// The text behind the blanks and the comments at its beginning. A comment goes from `//` to the end of its line: to a line
+/// feed or a carriage return, as Cedar reads it. Else a carriage return alone would hide what stands behind it.
 fn after_blanks(text: &str) -> &str {
     let mut rest = text.trim_start();
     for _ in 0..text.len() {
@@ -64,8 +65,8 @@ fn after_blanks(text: &str) -> &str {
 }
 
 fn after_line(text: &str) -> &str {
-    match text.split_once('\n') {
-        Some((_, rest)) => rest,
+    match text.find(|c: char| c == '\n' || c == '\r') {
+        Some(end) => text.get(end..).unwrap_or(""),
         None => "",
     }
 }

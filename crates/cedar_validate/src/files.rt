@@ -1,7 +1,7 @@
 // What is done with a file.
 use crate::progress::Progress;
 use crate::verdicts::{Rules, judged};
-use cedar_reading::{Policies, ReadError};
+use cedar_reading::{Policies, ReadError, ReadPolicy};
 use cedar_types::base::Template;
 use cedar_validation::faults::{TextFault, Written, forbidden_part, read_fault};
 use cedar_validation::reports::{Report, push_missing};
@@ -133,10 +133,10 @@ fn validate_text<O: Write, T: Write>(
 fn policy_or_fault(
     alloc: Global,
     text: &str,
-    read: Result<Template, ReadError>,
+    read: Result<ReadPolicy, ReadError>,
 ) -> Result<Result<Template, TextFault>, AllocError> {
     let policy = match read {
-        Ok(policy) => policy,
+        Ok(read) => read.template,
         Err(error) => return Ok(Err(read_fault(alloc, Written::Policies, text, error)?)),
     };
     match forbidden_part(alloc, &policy)? {
