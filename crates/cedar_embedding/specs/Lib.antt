@@ -1,4 +1,7 @@
 pub mod Addresses
+pub mod Conditions
 pub mod Loading
+pub mod ResponseExamples
+pub mod Responses
 pub mod Safety
 pub mod Slices

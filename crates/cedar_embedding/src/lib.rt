@@ -2,11 +2,13 @@
 //! that loads a slice of its data for each request.
 #![tactic(auto)]
 
+pub mod conditions;
 pub mod functions;
 pub mod loading;
 pub mod policies;
 pub mod policy_sets;
 pub mod reports;
+pub mod responses;
 pub mod safety;
 pub mod schemas;
 pub mod slices;

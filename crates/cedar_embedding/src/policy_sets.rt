@@ -11,7 +11,7 @@ use crate::reports::{PolicyReport, report};
 use crate::safety::{SoundMode, typechecker_in};
 use cedar_typechecker::rbac::{LiteralErrors, Validator};
 use cedar_types::base::{
-    ArgumentCheck, Template, ValidationError, ValidationWarning, ValidatorSchema,
+    ArgumentCheck, Effect, Template, ValidationError, ValidationWarning, ValidatorSchema,
 };
 use std::alloc::{AllocError, Global};
 use std::collections::HashSet;
@@ -19,6 +19,8 @@ use std::collections::HashSet;
 /// A policy, and the text that its places are in.
 #[derive(Debug, Drop)]
 pub struct WrittenPolicy {
+    /// What it does where it is satisfied: validation does not ask for it, and an authoriser does.
+    pub effect: Effect,
     pub template: Template,
     pub text: String,
 }

@@ -2,6 +2,7 @@
 ghost use Rattle.std.specs.Prelude.{◌≡◌, true, [], map, All, IfOk};
 ghost use Rattle.cedar_types.specs.Templates.{template_of};
 ghost use Rattle.cedar_typechecker.specs.Levels.Answers.{level_errors_left};
+ghost use Rattle.cedar_embedding.specs.Responses.{HaveSameResponses};
 ghost use Rattle.cedar_embedding.specs.Safety.{basis_in, PassesEverywhere, DoesNotGoWrong};
 ghost use Rattle.cedar_embedding.specs.Safety.{IsNeverTrue};
 ghost use Rattle.cedar_embedding.specs.Slices.{NeedsSliceAlone, IsRightForSlices};
@@ -28,7 +29,8 @@ pub struct SliceReport<'a> {
 
 /// A report on each policy of the set, checked in this mode, for slices of `steps` steps. Those that
 /// are accepted do not go wrong and need the slice alone, and those that are impossible are never
-/// true.
+/// true. So an authoriser that has the accepted ones, each under a name, with an effect and with its
+/// slots bound, answers a request over such a slice as over the whole store (clause `responses`).
 pub fn validate_for_slices<'a, C: ArgumentCheck>(
     alloc: Global,
     validator: &Validator<'_, C>,
@@ -40,6 +42,8 @@ pub fn validate_for_slices<'a, C: ArgumentCheck>(
         map (λ r. r.report.policy.now) reports.items ≡ policies.now) }
     ensures right { IfOk result (λ reports.
         All (IsRightForSlices (basis_in mode C.refusal validator.now) steps) reports.items) }
+    ensures responses { IfOk result (λ reports.
+        HaveSameResponses (basis_in mode C.refusal validator.now) steps reports.items) }
 {
     let mut reports = Vec::with_capacity(alloc, policies.len())?;
     for policy in policies {

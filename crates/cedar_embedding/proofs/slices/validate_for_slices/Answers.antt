@@ -9,6 +9,7 @@ use Rattle.cedar_embedding.specs.declared.slices.SliceReport.{SliceReport}
 use Rattle.cedar_embedding.specs.Safety.{basis_in}
 use Rattle.cedar_embedding.specs.Slices.{NeedsSliceAlone, IsRightForSlices}
 use Rattle.cedar_embedding.proofs.Reported.{one_more_each, one_more_right, right_report}
+use Rattle.cedar_embedding.proofs.SameResponses.{accepted_respond_alike}
 use Rattle.cedar_embedding.proofs.slices.validate_for_slices.Goals as goal
 
 pub loop-policy-preserved : goal.loop-policy-preserved
@@ -47,3 +48,8 @@ loop-policy-preserved g c =
           said pushed inv.each of_policy c.loop-policy-test.true c.policy-item.is;
       right = one_more_right (IsRightForSlices b n) old _ said pushed inv.right right_now;
     }
+
+pub returns-clause-responses : goal.returns-clause-responses
+returns-clause-responses g c =
+    accepted_respond_alike (basis_in c.args.mode g.C.ArgumentCheck.refusal c.args.validator.now) c.args.steps
+    c.loop-policy.reports.items c.loop-policy.invariant.right
