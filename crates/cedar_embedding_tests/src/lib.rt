@@ -1,7 +1,10 @@
-//! What the host says of a set of policies, in which environments one is safe, and what a host that loads
-//! slices says and finds. They stand apart, since a crate with tests is proved twice.
+//! What the host says of a set of policies, in which environments one is safe, its typed conditions,
+//! and what a host that loads slices says and finds. They stand apart, since a crate with tests is
+//! proved twice.
 #![tactic(auto)]
 
+#[cfg(test)]
+mod conditions;
 #[cfg(test)]
 mod loading;
 pub mod memory;

@@ -4,13 +4,11 @@ use cedar_embedding::policies::{approved_sharing, from_nowhere, from_range, of_e
 use cedar_embedding::safety::{SoundMode, is_safe_in};
 use cedar_embedding::schemas::documents;
 use cedar_typechecker::rbac::Validator;
-use cedar_types::base::{ExtensionSchemas, Template, ValidationMode};
+use cedar_types::base::{ExtensionSchemas, SchemaError, Template, ValidationMode};
 use std::alloc::{AllocError, Global};
 use std::collections::BTreeSet;
 use std::process::Abort;
 use std::test::Fail;
-
-const BOTH: [SoundMode; 2] = [SoundMode::Strict, SoundMode::Permissive];
 
 /// In how many environments of the schema the policy is safe.
 fn safe_environments(
@@ -31,17 +29,29 @@ fn safe_environments(
     Ok(safe)
 }
 
+/// That a policy is safe in so many environments in Strict, and in so many in Permissive, by the schema of documents.
+fn is_safe_in_so_many(
+    rt: &impl Abort,
+    alloc: Global,
+    extensions: &ExtensionSchemas,
+    policy: &Template,
+    wanted: [usize; 2],
+) -> Result<(), SchemaError> {
+    let validator = Validator::new(documents(alloc)?, extensions);
+    let [in_strict, in_permissive] = wanted;
+    let strict = safe_environments(alloc, &validator, SoundMode::Strict, policy)?;
+    let permissive = safe_environments(alloc, &validator, SoundMode::Permissive, policy)?;
+    assert_eq!(rt; strict, in_strict);
+    assert_eq!(rt; permissive, in_permissive);
+    Ok(())
+}
+
 #[test]
 fn a_policy_is_safe_where_it_is_a_success(rt: HostRuntime) -> Result<(), Fail> {
     let alloc = rt.alloc();
     let extensions = ExtensionSchemas::default(alloc);
-    let validator = Validator::new(documents(alloc)?, &extensions);
-    let sharing = approved_sharing(alloc)?;
-    let refused = unguarded(alloc)?;
-    for mode in BOTH {
-        assert_eq!(rt; safe_environments(alloc, &validator, mode, &sharing)?, 1);
-        assert_eq!(rt; safe_environments(alloc, &validator, mode, &refused)?, 0);
-    }
+    is_safe_in_so_many(&rt, alloc, &extensions, &approved_sharing(alloc)?, [1, 1])?;
+    is_safe_in_so_many(&rt, alloc, &extensions, &unguarded(alloc)?, [0, 0])?;
     Ok(())
 }
 
@@ -49,31 +59,26 @@ fn a_policy_is_safe_where_it_is_a_success(rt: HostRuntime) -> Result<(), Fail> {
 fn types_unite_in_permissive_alone(rt: HostRuntime) -> Result<(), Fail> {
     let alloc = rt.alloc();
     let extensions = ExtensionSchemas::default(alloc);
-    let validator = Validator::new(documents(alloc)?, &extensions);
-    let policy = of_either(alloc)?;
-    assert_eq!(rt;
-        safe_environments(alloc, &validator, SoundMode::Strict, &policy)?,
-        0
-    );
-    assert_eq!(rt;
-        safe_environments(alloc, &validator, SoundMode::Permissive, &policy)?,
-        2
-    );
+    is_safe_in_so_many(&rt, alloc, &extensions, &of_either(alloc)?, [0, 2])?;
     Ok(())
+}
+
+/// That one is safe whose check refuses nothing, and one that it refuses is not.
+fn calls_are_safe_in(
+    rt: &impl Abort,
+    alloc: Global,
+    extensions: &ExtensionSchemas,
+) -> Result<(), SchemaError> {
+    is_safe_in_so_many(rt, alloc, extensions, &from_range(alloc)?, [2, 2])?;
+    is_safe_in_so_many(rt, alloc, extensions, &from_nowhere(alloc)?, [0, 0])
 }
 
 #[test]
 fn a_policy_that_calls_functions_is_safe(rt: HostRuntime) -> Result<(), Fail> {
     let alloc = rt.alloc();
-    let ip = ip(alloc, Box::new(alloc, RefusesEmptyAddress { alloc })?)?;
-    let functions = vec![in alloc; ip, is_in_range(alloc)?]?;
+    let mut functions = Vec::new(alloc);
+    functions.push(ip(alloc, Box::new(alloc, RefusesEmptyAddress { alloc })?)?)?;
+    functions.push(is_in_range(alloc)?)?;
     let extensions = ExtensionSchemas::new(functions, BTreeSet::new(alloc))?;
-    let validator = Validator::new(documents(alloc)?, &extensions);
-    let policy = from_range(alloc)?;
-    let refused = from_nowhere(alloc)?;
-    for mode in BOTH {
-        assert_eq!(rt; safe_environments(alloc, &validator, mode, &policy)?, 2);
-        assert_eq!(rt; safe_environments(alloc, &validator, mode, &refused)?, 0);
-    }
-    Ok(())
+    Ok(calls_are_safe_in(&rt, alloc, &extensions)?)
 }

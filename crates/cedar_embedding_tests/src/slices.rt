@@ -1,15 +1,15 @@
 // What the host says of a set of policies that it evaluates over slices.
-use crate::wanted::{ACCEPTED, Want, is_said, policy};
+use crate::wanted::{ACCEPTED, Want, add, is_said, of_an_unknown};
 use cedar_embedding::policies::{
     APPROVED_SHARING, BY_ITS_CONTACT, BY_THEIR_CONTACT, MISSPELT, UNGUARDED, approved_sharing,
-    by_its_contact, by_their_contact, misspelt, permit_when, unguarded,
+    by_its_contact, by_their_contact, misspelt, unguarded,
 };
 use cedar_embedding::policy_sets::WrittenPolicy;
 use cedar_embedding::safety::SoundMode;
 use cedar_embedding::schemas::documents;
 use cedar_embedding::slices::validate_for_slices;
 use cedar_typechecker::rbac::Validator;
-use cedar_types::base::{Expr, ExtensionSchemas, Name};
+use cedar_types::base::ExtensionSchemas;
 use std::alloc::{AllocError, Global};
 use std::process::Abort;
 use std::test::Fail;
@@ -19,15 +19,33 @@ const IMPOSSIBLE_3: &str =
 
 /// Each policy with its text and an id of its own; the last has an unknown, and no text.
 fn policies(alloc: Global) -> Result<Vec<WrittenPolicy>, AllocError> {
-    let unknown = Expr::unknown(Name::unqualified_name(alloc, "later")?);
-    Ok(vec![in alloc;
-        policy(alloc, "policy0", approved_sharing(alloc)?, APPROVED_SHARING)?,
-        policy(alloc, "policy1", by_its_contact(alloc)?, BY_ITS_CONTACT)?,
-        policy(alloc, "policy2", by_their_contact(alloc)?, BY_THEIR_CONTACT)?,
-        policy(alloc, "policy3", misspelt(alloc)?, MISSPELT)?,
-        policy(alloc, "policy4", unguarded(alloc)?, UNGUARDED)?,
-        policy(alloc, "policy5", permit_when(alloc, "", unknown)?, "")?,
-    ]?)
+    let mut policies = Vec::new(alloc);
+    let all = &mut policies;
+    add(
+        alloc,
+        all,
+        "policy0",
+        approved_sharing(alloc)?,
+        APPROVED_SHARING,
+    )?;
+    add(
+        alloc,
+        all,
+        "policy1",
+        by_its_contact(alloc)?,
+        BY_ITS_CONTACT,
+    )?;
+    add(
+        alloc,
+        all,
+        "policy2",
+        by_their_contact(alloc)?,
+        BY_THEIR_CONTACT,
+    )?;
+    add(alloc, all, "policy3", misspelt(alloc)?, MISSPELT)?;
+    add(alloc, all, "policy4", unguarded(alloc)?, UNGUARDED)?;
+    add(alloc, all, "policy5", of_an_unknown(alloc)?, "")?;
+    Ok(policies)
 }
 
 const IMPOSSIBLE: Want = Want {
@@ -115,32 +133,41 @@ const WITH_TWO: &[Want] = &[
     UNKNOWN_WANTED,
 ];
 
-/// Of the whole set in this mode, for slices of so many steps.
+/// That these are said of the policies, in this mode, for slices of so many steps.
 fn are_said(
     rt: &impl Abort,
     alloc: Global,
+    validator: &Validator<'_>,
     mode: SoundMode,
     steps: u32,
     wanted: &[Want],
-) -> Result<(), Fail> {
-    let extensions = ExtensionSchemas::default(alloc);
-    let validator = Validator::new(documents(alloc)?, &extensions);
+) -> Result<(), AllocError> {
     let policies = policies(alloc)?;
-    let reports = validate_for_slices(alloc, &validator, mode, steps, &policies)?;
+    let reports = validate_for_slices(alloc, validator, mode, steps, &policies)?;
     assert_eq!(rt; reports.len(), wanted.len());
     for (said, want) in reports.iter().zip(wanted) {
-        is_said(rt, &said.report, want)?;
+        is_said(rt, &said.report, want);
     }
     Ok(())
 }
 
+/// What is said for slices of no step, of one and of two, in each mode.
+const SAID: [(SoundMode, u32, &[Want]); 6] = [
+    (SoundMode::Strict, 0, WITHOUT_STEPS),
+    (SoundMode::Strict, 1, WITH_ONE),
+    (SoundMode::Strict, 2, WITH_TWO),
+    (SoundMode::Permissive, 0, WITHOUT_STEPS),
+    (SoundMode::Permissive, 1, WITH_ONE),
+    (SoundMode::Permissive, 2, WITH_TWO),
+];
+
 #[test]
 fn a_policy_is_accepted_from_its_level_on(rt: HostRuntime) -> Result<(), Fail> {
     let alloc = rt.alloc();
-    for mode in [SoundMode::Strict, SoundMode::Permissive] {
-        are_said(&rt, alloc, mode, 0, WITHOUT_STEPS)?;
-        are_said(&rt, alloc, mode, 1, WITH_ONE)?;
-        are_said(&rt, alloc, mode, 2, WITH_TWO)?;
+    let extensions = ExtensionSchemas::default(alloc);
+    let validator = Validator::new(documents(alloc)?, &extensions);
+    for (mode, steps, wanted) in SAID {
+        are_said(&rt, alloc, &validator, mode, steps, wanted)?;
     }
     Ok(())
 }

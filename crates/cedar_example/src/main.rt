@@ -11,40 +11,42 @@ use std::collections::BTreeSet;
 use std::rc::Rc;
 
 /// `entity User { vip?: Bool };`
-fn user_type(alloc: Global, user: EntityType) -> Result<ValidatorEntityType, AllocError> {
+fn types(alloc: Global) -> Result<Vec<ValidatorEntityType>, AllocError> {
     let vip = AttributeType::optional_attribute(CedarType::primitive_boolean());
     let attributes = Attributes::from_list(alloc, vec![in alloc; ("vip", vip)]?)?;
-    let standard = StandardValidatorEntityType {
-        attributes,
-        tags: None,
-    };
-    let kind = ValidatorEntityTypeKind::Standard(standard);
-    Ok(ValidatorEntityType {
-        name: user,
+    let name = EntityType::from(Name::unqualified_name(alloc, "User")?);
+    let tags = None;
+    let standard = StandardValidatorEntityType { attributes, tags };
+    let user = ValidatorEntityType {
+        name,
         descendants: BTreeSet::new(alloc),
-        kind,
-    })
+        kind: ValidatorEntityTypeKind::Standard(standard),
+    };
+    Ok(vec![in alloc; user]?)
 }
 
 /// `action view appliesTo { principal: User, resource: User };`
-fn view_action(alloc: Global, user: EntityType) -> Result<ValidatorActionId, AllocError> {
-    let mut users = BTreeSet::new(alloc);
-    users.insert(user)?;
+fn actions(alloc: Global) -> Result<Vec<ValidatorActionId>, AllocError> {
     let no_attributes = Attributes::from_list(alloc, Vec::new(alloc))?;
     let context = CedarType::record_with_attributes(no_attributes, OpenTag::ClosedAttributes);
+    let mut users = BTreeSet::new(alloc);
+    users.insert(EntityType::from(Name::unqualified_name(alloc, "User")?))?;
     let applies_to = ValidatorApplySpec {
         principal_apply_spec: users.clone()?,
         resource_apply_spec: users,
         context: Rc::new(alloc, context)?,
     };
-    let actions = EntityType::from(Name::unqualified_name(alloc, "Action")?);
-    let name = EntityUID::from_components(alloc, actions, "view", None)?;
-    let kind = ValidatorActionKind::Defined(applies_to);
-    Ok(ValidatorActionId {
-        name,
+    let action_type = EntityType::from(Name::unqualified_name(alloc, "Action")?);
+    let view = ValidatorActionId {
+        name: EntityUID::from_components(alloc, action_type, "view", None)?,
         descendants: BTreeSet::new(alloc),
-        kind,
-    })
+        kind: ValidatorActionKind::Defined(applies_to),
+    };
+    Ok(vec![in alloc; view]?)
+}
+
+fn schema(alloc: Global) -> Result<ValidatorSchema, SchemaError> {
+    ValidatorSchema::new(alloc, types(alloc)?, actions(alloc)?)
 }
 
 /// `permit(principal, action, resource) when { CONDITION };`
@@ -58,31 +60,32 @@ fn policy(alloc: Global, id: &str, condition: Expr) -> Result<WrittenPolicy, All
         Some(condition),
     );
     Ok(WrittenPolicy {
+        effect: Effect::Permit,
         template,
         text: String::new(alloc),
     })
 }
 
-fn main(rt: HostRuntime) -> anyhow::Result<()> {
-    let alloc = rt.alloc();
-    let user = EntityType::from(Name::unqualified_name(alloc, "User")?);
-    let types = vec![in alloc; user_type(alloc, user.clone()?)?]?;
-    let actions = vec![in alloc; view_action(alloc, user)?]?;
-    let extensions = ExtensionSchemas::default(alloc);
-    let validator = Validator::new(ValidatorSchema::new(alloc, types, actions)?, &extensions);
-
+/// Of `principal has vip && principal.vip`, and of the second half alone.
+fn policies(alloc: Global) -> Result<Vec<WrittenPolicy>, AllocError> {
     let test = Expr::has_attr(alloc, Expr::var(Var::Principal), "vip")?;
     let access = Expr::get_attr(alloc, Expr::var(Var::Principal), "vip")?;
-    let unguarded = policy(alloc, "unguarded", access.try_clone(alloc)?)?;
-    let guarded = policy(alloc, "guarded", Expr::and(alloc, test, access)?)?;
-    let policies = vec![in alloc; guarded, unguarded]?;
+    let both = Expr::and(alloc, test, access.try_clone(alloc)?)?;
+    let guarded = policy(alloc, "guarded", both)?;
+    let unguarded = policy(alloc, "unguarded", access)?;
+    Ok(vec![in alloc; guarded, unguarded]?)
+}
 
+fn main(rt: HostRuntime) -> anyhow::Result<()> {
+    let alloc = rt.alloc();
+    let policies = policies(alloc)?;
+    let extensions = ExtensionSchemas::default(alloc);
+    let validator = Validator::new(schema(alloc)?, &extensions);
     let steps = 1;
-    for said in validate_for_slices(alloc, &validator, SoundMode::Strict, steps, &policies)? {
-        let report = said.report;
-        let id = &report.policy.template.id;
-        println!(rt; "{id} is accepted: {}", report.is_accepted)?;
-        for error in report.errors {
+    for said in &validate_for_slices(alloc, &validator, SoundMode::Strict, steps, &policies)? {
+        let id = &said.report.policy.template.id;
+        println!(rt; "{id} is accepted: {}", said.report.is_accepted)?;
+        for error in &said.report.errors {
             println!(rt; "    {error}")?;
         }
     }

@@ -15,24 +15,27 @@ fn owned<'a>(alloc: Global, start: usize, name: Var) -> Result<Box<ExprShapeOnly
     boxed(alloc, ExprShapeOnly::Owned(variable(start, name)))
 }
 
-/// Whether the first two are one shape and the third is another, by equality and by order.
-fn are_two_shapes<'a>(
-    here: &ExprShapeOnly<'a>,
-    there: &ExprShapeOnly<'a>,
-    other: &ExprShapeOnly<'a>,
-) -> bool {
-    *here == *there
-        && *here != *other
-        && here.partial_cmp(there) == Some(Ordering::Equal)
-        && here.cmp(other) == other.cmp(here).reverse()
+/// Whether two are one shape, by equality and by order.
+fn are_one_shape<'a>(here: &ExprShapeOnly<'a>, there: &ExprShapeOnly<'a>) -> bool {
+    *here == *there && matches!(here.partial_cmp(there), Some(Ordering::Equal))
+}
+
+/// Whether two are two, by equality and by order.
+fn are_two_shapes<'a>(here: &ExprShapeOnly<'a>, other: &ExprShapeOnly<'a>) -> bool {
+    *here != *other && here.cmp(other) == other.cmp(here).reverse()
+}
+
+/// Whether the place of an expression is no part of its shape, and the variable is.
+fn have_no_places(alloc: Global, here: &Expr) -> Result<bool, AllocError> {
+    let there = owned(alloc, 2, Var::Principal)?;
+    let other = owned(alloc, 1, Var::Resource)?;
+    let here = ExprShapeOnly::Borrowed(here);
+    Ok(are_one_shape(&here, &there) && are_two_shapes(&here, &other))
 }
 
 #[test]
 fn shapes_have_no_places(rt: HostRuntime) -> Result<(), Fail> {
-    let there = owned(rt.alloc(), 2, Var::Principal)?;
-    let other = owned(rt.alloc(), 1, Var::Resource)?;
-    let here = variable(1, Var::Principal);
-    assert!(rt; are_two_shapes(&ExprShapeOnly::Borrowed(&here), &there, &other));
+    assert!(rt; have_no_places(rt.alloc(), &variable(1, Var::Principal))?);
     Ok(())
 }
 
@@ -48,11 +51,21 @@ fn is_copy<'a>(copy: &ExprShapeOnly<'a>, there: &ExprShapeOnly<'a>, here: &Expr)
     *copy == *there && copy.expr().loc == place(2) && here.has_shape_of(copy.expr())
 }
 
+/// Whether a copy of the shape is one.
+fn keeps_its_place<'a>(
+    alloc: Global,
+    there: &ExprShapeOnly<'a>,
+    here: &Expr,
+) -> Result<bool, AllocError> {
+    let copy = copied(alloc, there)?;
+    Ok(is_copy(&copy, there, here))
+}
+
 #[test]
 fn a_copied_shape_keeps_the_place_of_its_expression(rt: HostRuntime) -> Result<(), Fail> {
     let there = owned(rt.alloc(), 2, Var::Principal)?;
-    let copy = copied(rt.alloc(), &there)?;
-    assert!(rt; is_copy(&copy, &there, &variable(1, Var::Principal)));
+    let here = variable(1, Var::Principal);
+    assert!(rt; keeps_its_place(rt.alloc(), &there, &here)?);
     Ok(())
 }
 
@@ -73,11 +86,16 @@ fn are_told_apart<'a>(one: &Capability<'a>, other: &Capability<'a>) -> bool {
     *one != *other && one.cmp(other) != Ordering::Equal
 }
 
+/// Whether an attribute and a tag of one text differ.
+fn is_no_attribute(alloc: Global, base: &Expr) -> Result<bool, AllocError> {
+    let attribute = attribute(alloc, base)?;
+    let tag = tag(alloc, base)?;
+    Ok(are_told_apart(&attribute, &tag))
+}
+
 #[test]
 fn a_tag_is_no_attribute_of_the_same_text(rt: HostRuntime) -> Result<(), Fail> {
     let base = variable(1, Var::Principal);
-    let attribute = attribute(rt.alloc(), &base)?;
-    let tag = tag(rt.alloc(), &base)?;
-    assert!(rt; are_told_apart(&attribute, &tag));
+    assert!(rt; is_no_attribute(rt.alloc(), &base)?);
     Ok(())
 }

@@ -1,5 +1,5 @@
 // Declarations of schemas as data.
-use crate::parts::{entity_type, text, types, uid};
+use crate::parts::{add, alone, entity_type, text, types, uid};
 use cedar_types::base::{
     AttributeType, Attributes, CedarType, EntityUID, SchemaError, StandardValidatorEntityType,
     ValidatorActionId, ValidatorActionKind, ValidatorApplySpec, ValidatorEntityType,
@@ -32,14 +32,14 @@ fn type_kind(alloc: Global, kind: Kind) -> Result<ValidatorEntityTypeKind, Alloc
         Kind::Enum(ids) => {
             let mut members = Vec::new(alloc);
             for id in ids {
-                members.push(text(alloc, id)?)?;
+                add(&mut members, text(alloc, id)?)?;
             }
             Ok(ValidatorEntityTypeKind::Enum(members))
         }
         Kind::External => Ok(ValidatorEntityTypeKind::External),
         Kind::Vague => {
             let never = AttributeType::required_attribute(CedarType::Never);
-            standard(alloc, vec![in alloc; ("x", never)]?, None)
+            standard(alloc, alone(alloc, ("x", never))?, None)
         }
         Kind::Plain | Kind::Action(_) => standard(alloc, Vec::new(alloc), None),
     }
@@ -132,25 +132,38 @@ impl Declarations {
     fn add(&mut self, alloc: Global, declared: &Declared) -> Result<(), AllocError> {
         match declared.2 {
             Kind::Action(type_name) => {
-                self.actions.push(action_of(alloc, declared, type_name)?)?;
+                add(&mut self.actions, action_of(alloc, declared, type_name)?)
             }
-            _ => self.types.push(type_of(alloc, declared)?)?,
+            _ => add(&mut self.types, type_of(alloc, declared)?),
+        }
+    }
+
+    fn add_all(&mut self, alloc: Global, lists: &[&[Declared]]) -> Result<(), AllocError> {
+        for list in lists {
+            for declared in *list {
+                self.add(alloc, declared)?;
+            }
         }
         Ok(())
     }
 }
 
-/// The schema of these declarations.
-pub fn schema(alloc: Global, lists: &[&[Declared]]) -> Result<ValidatorSchema, SchemaError> {
+/// The fault of the schema of these types and actions.
+pub fn fault_of(
+    alloc: Global,
+    types: Vec<ValidatorEntityType>,
+    actions: Vec<ValidatorActionId>,
+) -> Option<SchemaError> {
+    ValidatorSchema::new(alloc, types, actions).err()
+}
+
+/// The fault of the schema of these declarations.
+pub fn fault(alloc: Global, lists: &[&[Declared]]) -> Result<Option<SchemaError>, AllocError> {
     let mut all = Declarations {
         types: Vec::new(alloc),
         actions: Vec::new(alloc),
     };
-    for list in lists {
-        for declared in *list {
-            all.add(alloc, declared)?;
-        }
-    }
+    all.add_all(alloc, lists)?;
     let Declarations { types, actions } = all;
-    ValidatorSchema::new(alloc, types, actions)
+    Ok(fault_of(alloc, types, actions))
 }

@@ -1,5 +1,5 @@
 // The texts of errors that no case shows.
-use crate::parts::{entity_type, place, policy};
+use crate::parts::{assert_text, entity_type, place, policy};
 use cedar_types::base::{EntityDerefLevel, ValidationError};
 use std::alloc::{AllocError, Global};
 use std::test::Fail;
@@ -24,27 +24,28 @@ fn no_tags(alloc: Global, name: Option<&str>) -> Result<String, AllocError> {
 fn tags_are_not_allowed(rt: HostRuntime) -> Result<(), Fail> {
     let alloc = rt.alloc();
     let shown = no_tags(alloc, Some("Photo"))?;
-    assert_eq!(rt;
-        shown.as_str(),
-        "for policy `policy0`, tags are not allowed on `Photo`"
-    );
+    let want = "for policy `policy0`, tags are not allowed on `Photo`";
+    assert_text(&rt, shown.as_str(), want);
     let shown = no_tags(alloc, None)?;
-    assert_eq!(rt;
-        shown.as_str(),
-        "for policy `policy0`, tags are not allowed on `entity`"
-    );
+    let want = "for policy `policy0`, tags are not allowed on `entity`";
+    assert_text(&rt, shown.as_str(), want);
     Ok(())
+}
+
+/// What is said where the highest level is needed and none is allowed.
+fn exceeded(alloc: Global) -> Result<String, AllocError> {
+    let allowed = EntityDerefLevel::default();
+    let needed = EntityDerefLevel::from(4294967295);
+    said(
+        alloc,
+        &ValidationError::maximum_level_exceeded(place(1), policy(alloc)?, allowed, needed),
+    )
 }
 
 #[test]
 fn a_level_is_exceeded(rt: HostRuntime) -> Result<(), Fail> {
-    let alloc = rt.alloc();
-    let allowed = EntityDerefLevel::default();
-    let needed = EntityDerefLevel::from(4294967295);
-    let e = ValidationError::maximum_level_exceeded(place(1), policy(alloc)?, allowed, needed);
     let want =
         "for policy `policy0`, this policy requires level 4294967295, which exceeds the maximum allowed level (0)";
-    let shown = said(alloc, &e)?;
-    assert_eq!(rt; shown.as_str(), want);
+    assert_text(&rt, exceeded(rt.alloc())?.as_str(), want);
     Ok(())
 }

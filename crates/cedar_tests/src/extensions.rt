@@ -1,4 +1,5 @@
 // The faults of tables of extension functions.
+use crate::parts::add;
 use cedar_types::base::{
     CedarType, ExtensionFunctionType, ExtensionSchemas, ExtensionTableError, Name,
 };
@@ -107,23 +108,23 @@ fn function(alloc: Global, described: &Described) -> Result<ExtensionFunctionTyp
     })
 }
 
-/// The functions of these lists.
-fn functions(
+/// Adds these functions.
+fn add_functions(
     alloc: Global,
-    lists: &[&[Described]],
-) -> Result<Vec<ExtensionFunctionType>, AllocError> {
-    let mut all = Vec::new(alloc);
-    for list in lists {
-        for described in *list {
-            all.push(function(alloc, described)?)?;
-        }
+    all: &mut Vec<ExtensionFunctionType>,
+    described: &[Described],
+) -> Result<(), AllocError> {
+    for one in described {
+        add(all, function(alloc, one)?)?;
     }
-    Ok(all)
+    Ok(())
 }
 
 /// The fault of the table of these functions beside those that no table refuses.
 fn fault(alloc: Global, added: &[Described]) -> Result<Option<ExtensionTableError>, AllocError> {
-    let all = functions(alloc, &[GOOD, added])?;
+    let mut all = Vec::new(alloc);
+    add_functions(alloc, &mut all, GOOD)?;
+    add_functions(alloc, &mut all, added)?;
     Ok(ExtensionSchemas::new(all, BTreeSet::new(alloc)).err())
 }
 

@@ -1,5 +1,5 @@
 // Which errors are the same finding, and which warnings the same caution.
-use crate::kinds::{Fields, Kind, application, error, parts_of_errors};
+use crate::kinds::{Fields, Kind, application, error};
 use crate::parts::{place, policy, uid};
 use cedar_types::base::{EntityUID, Loc, PolicyID, ValidationError, ValidationWarning};
 use std::alloc::{AllocError, Global};
@@ -155,10 +155,6 @@ fn counts(field: Field, own: &[Field]) -> bool {
     matches!(field, Field::Place | Field::Policy) || own.contains(&field)
 }
 
-pub fn made(alloc: Global, kind: Kind, fields: Fields<'_>) -> Result<ValidationError, AllocError> {
-    Ok(error(kind, fields, parts_of_errors(alloc, fields)?))
-}
-
 /// Whether `==` and a set, which asks for hashes, both say whether two values are one.
 fn is_said<T: Eq + Hash + Drop>(
     alloc: Global,
@@ -181,17 +177,28 @@ fn is_told(
 ) -> Result<bool, AllocError> {
     let order = one.cmp(other);
     let is_turned = other.cmp(&one) == order.reverse();
-    let are_tied = order == Ordering::Equal;
-    Ok(are_tied == are_one && is_turned && is_said(alloc, one, other, are_one)?)
+    let is_ordered = is_turned && (order == Ordering::Equal) == are_one;
+    Ok(is_said(alloc, one, other, are_one)? && is_ordered)
+}
+
+/// Whether the error of these fields is told from another, or is one with it.
+fn is_made(
+    alloc: Global,
+    kind: Kind,
+    fields: Fields<'_>,
+    other: &ValidationError,
+    are_one: bool,
+) -> Result<bool, AllocError> {
+    is_told(alloc, error(alloc, kind, fields)?, other, are_one)
 }
 
 /// Whether errors of a kind that differ in one field are one finding just where the kind does not have the field.
 fn fields_count(alloc: Global, kind: Kind, own: &[Field]) -> Result<bool, AllocError> {
-    let plain = made(alloc, kind, PLAIN)?;
-    let mut is_so = is_told(alloc, made(alloc, kind, PLAIN)?, &plain, true)?;
+    let plain = error(alloc, kind, PLAIN)?;
+    let mut is_so = is_made(alloc, kind, PLAIN, &plain, true)?;
     for field in FIELDS {
-        let other = made(alloc, kind, changed(field))?;
-        is_so = is_so && is_told(alloc, other, &plain, !counts(field, own))?;
+        let are_one = !counts(field, own);
+        is_so = is_made(alloc, kind, changed(field), &plain, are_one)? && is_so;
     }
     Ok(is_so)
 }
@@ -206,11 +213,10 @@ fn errors_are_one_where_all_fields_are(rt: HostRuntime) -> Result<(), Fail> {
 
 /// Whether no error of this kind is one of another kind, of the same fields.
 fn is_alone(alloc: Global, kind: Kind) -> Result<bool, AllocError> {
-    let plain = made(alloc, kind, PLAIN)?;
+    let plain = error(alloc, kind, PLAIN)?;
     let mut is_so = true;
     for (other, _, _) in &KINDS {
-        let error = made(alloc, *other, PLAIN)?;
-        is_so = is_so && is_told(alloc, error, &plain, *other == kind)?;
+        is_so = is_made(alloc, *other, PLAIN, &plain, *other == kind)? && is_so;
     }
     Ok(is_so)
 }
@@ -232,27 +238,27 @@ pub fn impossible(alloc: Global, fields: Fields<'_>) -> Result<ValidationWarning
     Ok(ValidationWarning::impossible_policy(place(fields.place), id))
 }
 
-/// Whether warnings that differ in this field are told apart as they should.
-fn is_told_of_warnings(alloc: Global, field: Field) -> Result<bool, AllocError> {
-    let (of_action, of_policy) = (applied(alloc, PLAIN)?, impossible(alloc, PLAIN)?);
-    let other = changed(field);
-    let is_of_action = counts(field, &[Field::Number, Field::Flag]);
-    Ok(
-        is_said(alloc, applied(alloc, other)?, &of_action, !is_of_action)?
-            && is_said(
-                alloc,
-                impossible(alloc, other)?,
-                &of_policy,
-                !counts(field, &[]),
-            )?
-            && is_said(alloc, impossible(alloc, other)?, &of_action, false)?,
-    )
+/// Whether what is said of an action is told from the same with another value of this field, and
+/// from what is said of a policy.
+fn is_told_of_actions(alloc: Global, field: Field) -> Result<bool, AllocError> {
+    let plain = applied(alloc, PLAIN)?;
+    let are_one = !counts(field, &[Field::Number, Field::Flag]);
+    let is_so = is_said(alloc, applied(alloc, changed(field))?, &plain, are_one)?;
+    Ok(is_said(alloc, impossible(alloc, changed(field))?, &plain, false)? && is_so)
+}
+
+/// Whether what is said of a policy is told from the same with another value of this field.
+fn is_told_of_policies(alloc: Global, field: Field) -> Result<bool, AllocError> {
+    let plain = impossible(alloc, PLAIN)?;
+    let are_one = !counts(field, &[]);
+    is_said(alloc, impossible(alloc, changed(field))?, &plain, are_one)
 }
 
 #[test]
 fn warnings_are_one_where_all_fields_are(rt: HostRuntime) -> Result<(), Fail> {
     for field in FIELDS {
-        assert!(rt; is_told_of_warnings(rt.alloc(), field)?, "{field:?}");
+        assert!(rt; is_told_of_actions(rt.alloc(), field)?, "{field:?}");
+        assert!(rt; is_told_of_policies(rt.alloc(), field)?, "{field:?}");
     }
     Ok(())
 }

@@ -1,12 +1,11 @@
 // Each kind of error and warning, made of fields that are texts, numbers and places.
-use crate::parts::{entity, entity_type, lub, place, text, uid};
+use crate::parts::{add, alone, entity, entity_type, lub, place, text, uid};
 use cedar_types::base::{
-    CedarType, EntityDerefLevel, EntityLUB, EntityType, EntityUID, LubContext, Name, PolicyID,
-    ValidationError, ValidationWarning, types_in_order,
+    CedarType, EntityDerefLevel, LubContext, Name, PolicyID, ValidationError, ValidationWarning,
+    types_in_order,
 };
 use std::alloc::{AllocError, Global};
 use std::collections::BTreeSet;
-use std::rc::RcStr;
 
 /// What an error is made of. Each kind takes some of it.
 #[derive(Clone, Copy)]
@@ -43,39 +42,16 @@ pub enum Kind {
     LiteralDereferenceTarget,
 }
 
-/// The parts of errors, all made of the same fields.
-#[derive(Drop)]
-pub struct Parts {
-    named: EntityType,
-    uid: EntityUID,
-    first: CedarType,
-    second: CedarType,
-    only_first: BTreeSet<CedarType>,
-    both: BTreeSet<CedarType>,
-    owner: EntityLUB,
-    function: Name,
-    message: RcStr,
-    attr: RcStr,
-    policy: PolicyID,
+/// The set of the type of the entities of this name.
+fn only(alloc: Global, name: &str) -> Result<BTreeSet<CedarType>, AllocError> {
+    types_in_order(alloc, alone(alloc, entity(alloc, &[name])?)?)
 }
 
-pub fn parts_of_errors(alloc: Global, fields: Fields<'_>) -> Result<Parts, AllocError> {
-    let (first, second) = (fields.first, fields.second);
-    let alone = vec![in alloc; entity(alloc, &[first])?]?;
-    let listed = vec![in alloc; entity(alloc, &[first])?, entity(alloc, &[second])?]?;
-    Ok(Parts {
-        named: entity_type(alloc, first)?,
-        uid: uid(alloc, first, second)?,
-        first: entity(alloc, &[first])?,
-        second: entity(alloc, &[second])?,
-        only_first: types_in_order(alloc, alone)?,
-        both: types_in_order(alloc, listed)?,
-        owner: lub(alloc, &[first])?,
-        function: Name::unqualified_name(alloc, first)?,
-        message: text(alloc, first)?,
-        attr: text(alloc, second)?,
-        policy: PolicyID::from_string(alloc, fields.policy)?,
-    })
+/// The set of the types of the entities of these names.
+fn both(alloc: Global, first: &str, second: &str) -> Result<BTreeSet<CedarType>, AllocError> {
+    let mut listed = alone(alloc, entity(alloc, &[first])?)?;
+    add(&mut listed, entity(alloc, &[second])?)?;
+    types_in_order(alloc, listed)
 }
 
 fn context(flag: bool) -> LubContext {
@@ -86,46 +62,155 @@ fn context(flag: bool) -> LubContext {
     }
 }
 
-/// The error of this kind.
-pub fn error(kind: Kind, fields: Fields<'_>, all: Parts) -> ValidationError {
-    let (loc, id) = (place(fields.place), all.policy);
+/// That the entity type of the first name is unknown.
+fn unknown_type(
+    alloc: Global,
+    fields: Fields<'_>,
+    id: PolicyID,
+) -> Result<ValidationError, AllocError> {
+    let named = entity_type(alloc, fields.first)?;
+    Ok(ValidationError::unrecognized_entity_type(place(fields.place), id, named))
+}
+
+/// That the action of both names is unknown.
+fn unknown_action(
+    alloc: Global,
+    fields: Fields<'_>,
+    id: PolicyID,
+) -> Result<ValidationError, AllocError> {
+    let action = uid(alloc, fields.first, fields.second)?;
+    Ok(ValidationError::unrecognized_action_id(place(fields.place), id, action))
+}
+
+/// That the entity of both names is no member of its type.
+fn no_member(
+    alloc: Global,
+    fields: Fields<'_>,
+    id: PolicyID,
+) -> Result<ValidationError, AllocError> {
+    let entity = uid(alloc, fields.first, fields.second)?;
+    Ok(ValidationError::invalid_enum_entity(place(fields.place), id, entity))
+}
+
+/// That an entity of the second name stands where one of the first is expected.
+fn unexpected(
+    alloc: Global,
+    fields: Fields<'_>,
+    id: PolicyID,
+) -> Result<ValidationError, AllocError> {
+    let found = entity(alloc, &[fields.second])?;
+    let expected = only(alloc, fields.first)?;
+    Ok(ValidationError::expected_one_of_types(place(fields.place), id, expected, found))
+}
+
+/// That entities of both names have no type in common.
+fn incompatible(
+    alloc: Global,
+    fields: Fields<'_>,
+    id: PolicyID,
+) -> Result<ValidationError, AllocError> {
+    let types = both(alloc, fields.first, fields.second)?;
+    let context = context(fields.flag);
+    Ok(ValidationError::incompatible_types(place(fields.place), id, types, context))
+}
+
+/// That the attribute of the second name may not be there.
+fn unsafe_attribute(
+    alloc: Global,
+    fields: Fields<'_>,
+    id: PolicyID,
+) -> Result<ValidationError, AllocError> {
+    let attr = text(alloc, fields.second)?;
+    let (loc, owner) = (place(fields.place), entity(alloc, &[fields.first])?);
+    Ok(ValidationError::unsafe_attribute_access(loc, id, owner, attr, fields.flag))
+}
+
+/// The same of an optional attribute.
+fn unsafe_optional_attribute(
+    alloc: Global,
+    fields: Fields<'_>,
+    id: PolicyID,
+) -> Result<ValidationError, AllocError> {
+    let attr = text(alloc, fields.second)?;
+    let (loc, owner) = (place(fields.place), entity(alloc, &[fields.first])?);
+    Ok(ValidationError::unsafe_optional_attribute_access(loc, id, owner, attr))
+}
+
+/// That a tag of the first name's entities may not be there.
+fn unsafe_tag(
+    alloc: Global,
+    fields: Fields<'_>,
+    id: PolicyID,
+) -> Result<ValidationError, AllocError> {
+    let owner = lub(alloc, &[fields.first])?;
+    Ok(ValidationError::unsafe_tag_access(place(fields.place), id, Some(owner)))
+}
+
+/// That they have no tags.
+fn no_tags(alloc: Global, fields: Fields<'_>, id: PolicyID) -> Result<ValidationError, AllocError> {
+    let owner = entity_type(alloc, fields.first)?;
+    Ok(ValidationError::no_tags_allowed(place(fields.place), id, Some(owner)))
+}
+
+/// That there is no function of the first name.
+fn no_function(
+    alloc: Global,
+    fields: Fields<'_>,
+    id: PolicyID,
+) -> Result<ValidationError, AllocError> {
+    let function = Name::unqualified_name(alloc, fields.first)?;
+    Ok(ValidationError::undefined_extension(place(fields.place), id, function))
+}
+
+/// That an argument is refused with the first text.
+fn refused_argument(
+    alloc: Global,
+    fields: Fields<'_>,
+    id: PolicyID,
+) -> Result<ValidationError, AllocError> {
+    let message = text(alloc, fields.first)?;
+    Ok(ValidationError::function_argument_validation(place(fields.place), id, message))
+}
+
+/// That there are another number of arguments.
+fn wrong_number(fields: Fields<'_>, id: PolicyID) -> ValidationError {
+    let (wanted, found) = (usize::from(fields.flag), fields.number as usize);
+    ValidationError::wrong_number_args(place(fields.place), id, wanted, found)
+}
+
+/// That the level is too high.
+fn exceeded(fields: Fields<'_>, id: PolicyID) -> ValidationError {
+    let allowed = EntityDerefLevel::from(u32::from(fields.flag));
+    let needed = EntityDerefLevel::from(fields.number);
+    ValidationError::maximum_level_exceeded(place(fields.place), id, allowed, needed)
+}
+
+/// The error of this kind, which owns no more than its own parts.
+pub fn error(alloc: Global, kind: Kind, fields: Fields<'_>) -> Result<ValidationError, AllocError> {
+    let id = PolicyID::from_string(alloc, fields.policy)?;
+    let loc = place(fields.place);
     match kind {
-        Kind::UnrecognizedEntityType => {
-            ValidationError::unrecognized_entity_type(loc, id, all.named)
+        Kind::UnrecognizedEntityType => unknown_type(alloc, fields, id),
+        Kind::UnrecognizedActionId => unknown_action(alloc, fields, id),
+        Kind::InvalidEnumEntity => no_member(alloc, fields, id),
+        Kind::UnexpectedType => unexpected(alloc, fields, id),
+        Kind::IncompatibleTypes => incompatible(alloc, fields, id),
+        Kind::UnsafeAttributeAccess => unsafe_attribute(alloc, fields, id),
+        Kind::UnsafeOptionalAttributeAccess => unsafe_optional_attribute(alloc, fields, id),
+        Kind::UnsafeTagAccess => unsafe_tag(alloc, fields, id),
+        Kind::NoTagsAllowed => no_tags(alloc, fields, id),
+        Kind::UndefinedFunction => no_function(alloc, fields, id),
+        Kind::FunctionArgumentValidation => refused_argument(alloc, fields, id),
+        Kind::WrongNumberArguments => Ok(wrong_number(fields, id)),
+        Kind::MaximumLevelExceeded => Ok(exceeded(fields, id)),
+        Kind::EmptySetForbidden => Ok(ValidationError::empty_set_forbidden(loc, id)),
+        Kind::NonLitExtConstructor => Ok(ValidationError::non_lit_ext_constructor(loc, id)),
+        Kind::InternalInvariantViolation => {
+            Ok(ValidationError::internal_invariant_violation(loc, id))
         }
-        Kind::UnrecognizedActionId => ValidationError::unrecognized_action_id(loc, id, all.uid),
-        Kind::InvalidEnumEntity => ValidationError::invalid_enum_entity(loc, id, all.uid),
-        Kind::UnexpectedType => {
-            ValidationError::expected_one_of_types(loc, id, all.only_first, all.second)
+        Kind::LiteralDereferenceTarget => {
+            Ok(ValidationError::literal_dereference_target(loc, id))
         }
-        Kind::IncompatibleTypes => {
-            ValidationError::incompatible_types(loc, id, all.both, context(fields.flag))
-        }
-        Kind::UnsafeAttributeAccess => {
-            ValidationError::unsafe_attribute_access(loc, id, all.first, all.attr, fields.flag)
-        }
-        Kind::UnsafeOptionalAttributeAccess => {
-            ValidationError::unsafe_optional_attribute_access(loc, id, all.first, all.attr)
-        }
-        Kind::UnsafeTagAccess => ValidationError::unsafe_tag_access(loc, id, Some(all.owner)),
-        Kind::NoTagsAllowed => ValidationError::no_tags_allowed(loc, id, Some(all.named)),
-        Kind::UndefinedFunction => ValidationError::undefined_extension(loc, id, all.function),
-        Kind::FunctionArgumentValidation => {
-            ValidationError::function_argument_validation(loc, id, all.message)
-        }
-        Kind::WrongNumberArguments => {
-            let counts = (usize::from(fields.flag), fields.number as usize);
-            ValidationError::wrong_number_args(loc, id, counts.0, counts.1)
-        }
-        Kind::MaximumLevelExceeded => {
-            let allowed = EntityDerefLevel::from(u32::from(fields.flag));
-            let actual = EntityDerefLevel::from(fields.number);
-            ValidationError::maximum_level_exceeded(loc, id, allowed, actual)
-        }
-        Kind::EmptySetForbidden => ValidationError::empty_set_forbidden(loc, id),
-        Kind::NonLitExtConstructor => ValidationError::non_lit_ext_constructor(loc, id),
-        Kind::InternalInvariantViolation => ValidationError::internal_invariant_violation(loc, id),
-        Kind::LiteralDereferenceTarget => ValidationError::literal_dereference_target(loc, id),
     }
 }
 

@@ -1,8 +1,8 @@
 // What a template names, each occurrence with its places. What comes is the rest's, the resource's, the action's and the
 // principal's, in each from the last to the first.
-use crate::parts::{boxed, place, policy};
+use crate::parts::{add, boxed, place, policy};
 use cedar_types::base::{
-    ActionConstraint, EntityType, EntityUID, Expr, Loc, Mention, Mentions, Name,
+    ActionConstraint, EntityType, EntityUID, Expr, Loc, Mention, Mentions, Name, PolicyID,
     PrincipalConstraint, ResourceConstraint, SlotId, Template, Var,
 };
 use std::alloc::{AllocError, Global};
@@ -45,8 +45,10 @@ fn is_of(mention: &Mention<'_>, (name, type_at, id_at): (&str, usize, usize)) ->
 }
 
 /// Whether these names come, and nothing after them.
-fn come(mentions: Mentions<'_>, expected: &[(&str, usize, usize)]) -> Result<bool, AllocError> {
-    let mut mentions = mentions;
+fn come(
+    mentions: &mut Mentions<'_>,
+    expected: &[(&str, usize, usize)],
+) -> Result<bool, AllocError> {
     for name in expected {
         if !is_of(&mentions.next().ok_or(AllocError)??, *name) {
             return Ok(false);
@@ -76,17 +78,24 @@ fn whole(alloc: Global) -> Result<Box<Template>, AllocError> {
     )
 }
 
+/// What is named there, as it comes.
+const NAMED: [(&str, usize, usize); 5] = [
+    ("Robot", 9, 0),
+    ("Photo", 7, 0),
+    ("Action", 5, 6),
+    ("Group", 3, 4),
+    ("User", 1, 0),
+];
+
+fn are_named(alloc: Global, t: &Template) -> Result<bool, AllocError> {
+    let mut mentions = t.mentions(alloc);
+    come(&mut mentions, &NAMED)
+}
+
 #[test]
 fn each_occurrence_comes_once(rt: HostRuntime) -> Result<(), Fail> {
     let t = whole(rt.alloc())?;
-    let expected = [
-        ("Robot", 9, 0),
-        ("Photo", 7, 0),
-        ("Action", 5, 6),
-        ("Group", 3, 4),
-        ("User", 1, 0),
-    ];
-    assert!(rt; come(t.mentions(rt.alloc()), &expected)?);
+    assert!(rt; are_named(rt.alloc(), &t)?);
     Ok(())
 }
 
@@ -94,7 +103,7 @@ fn each_occurrence_comes_once(rt: HostRuntime) -> Result<(), Fail> {
 fn ids_at(alloc: Global, t: &Template) -> Result<Vec<usize>, AllocError> {
     let mut places = Vec::new(alloc);
     for uid in t.policy_entity_uids(alloc)? {
-        places.push(start(uid.loc))?;
+        add(&mut places, start(uid.loc))?;
     }
     Ok(places)
 }
@@ -103,33 +112,33 @@ fn ids_at(alloc: Global, t: &Template) -> Result<Vec<usize>, AllocError> {
 fn types_at(alloc: Global, t: &Template) -> Result<Vec<usize>, AllocError> {
     let mut places = Vec::new(alloc);
     for entity_type in t.policy_entity_type_names(alloc)? {
-        places.push(start(entity_type.loc))?;
+        add(&mut places, start(entity_type.loc))?;
     }
     Ok(places)
+}
+
+/// Whether these are the places of its ids and of its types.
+fn are_listed(alloc: Global, t: &Template) -> Result<bool, AllocError> {
+    let ids = ids_at(alloc, t)?;
+    let types = types_at(alloc, t)?;
+    Ok(ids.as_slice() == [6, 4].as_slice() && types.as_slice() == [9, 7, 5, 3, 1].as_slice())
 }
 
 #[test]
 fn ids_and_types_are_listed(rt: HostRuntime) -> Result<(), Fail> {
     let t = whole(rt.alloc())?;
-    let (ids, types) = (ids_at(rt.alloc(), &t)?, types_at(rt.alloc(), &t)?);
-    assert!(rt;
-        ids.as_slice() == [6, 4].as_slice() && types.as_slice() == [9, 7, 5, 3, 1].as_slice()
-    );
+    assert!(rt; are_listed(rt.alloc(), &t)?);
     Ok(())
 }
 
-/// Whether the template of these constraints has the slots of principal and resource.
-fn slots(
-    alloc: Global,
-    principal: PrincipalConstraint,
-    resource: ResourceConstraint,
-) -> Result<(bool, bool), AllocError> {
-    let id = policy(alloc)?;
+/// The template of these constraints alone.
+fn scoped(id: PolicyID, principal: PrincipalConstraint, resource: ResourceConstraint) -> Template {
     let action = ActionConstraint::any();
-    let t = boxed(
-        alloc,
-        Template::new(id, None, principal, action, resource, None),
-    )?;
+    Template::new(id, None, principal, action, resource, None)
+}
+
+/// Whether the condition has the slots of principal and resource.
+fn slots(alloc: Global, t: &Template) -> Result<(bool, bool), AllocError> {
     let condition = t.condition(alloc)?;
     let of_principal = condition.mentions_slot(alloc, SlotId::Principal)?;
     Ok((
@@ -138,20 +147,28 @@ fn slots(
     ))
 }
 
+/// A template with the slot of the principal alone.
+fn of_principal(alloc: Global) -> Result<Box<Template>, AllocError> {
+    let principal = PrincipalConstraint::is_eq_slot();
+    boxed(
+        alloc,
+        scoped(policy(alloc)?, principal, ResourceConstraint::any()),
+    )
+}
+
+/// One with that of the resource alone.
+fn of_resource(alloc: Global) -> Result<Box<Template>, AllocError> {
+    let resource = ResourceConstraint::is_in_slot();
+    boxed(
+        alloc,
+        scoped(policy(alloc)?, PrincipalConstraint::any(), resource),
+    )
+}
+
 #[test]
 fn a_condition_has_the_slots_of_its_scope(rt: HostRuntime) -> Result<(), Fail> {
     let alloc = rt.alloc();
-    let found = slots(
-        alloc,
-        PrincipalConstraint::is_eq_slot(),
-        ResourceConstraint::any(),
-    )?;
-    assert!(rt; found == (true, false));
-    let found = slots(
-        alloc,
-        PrincipalConstraint::any(),
-        ResourceConstraint::is_in_slot(),
-    )?;
-    assert!(rt; found == (false, true));
+    assert!(rt; slots(alloc, &*of_principal(alloc)?)? == (true, false));
+    assert!(rt; slots(alloc, &*of_resource(alloc)?)? == (false, true));
     Ok(())
 }

@@ -4,11 +4,31 @@ use cedar_types::base::{
 };
 use std::alloc::{AllocError, Global};
 use std::collections::BTreeSet;
+use std::process::Abort;
 use std::rc::RcStr;
 
 /// The value in a box, which is dropped by one call: without it a proof pays for each part.
 pub fn boxed<T: Drop>(alloc: Global, value: T) -> Result<Box<T>, AllocError> {
     Ok(Box::new(alloc, value)?)
+}
+
+/// Adds an item to a list. A refused push hands its item back, which is dropped here once and not
+/// at each place.
+pub fn add<T: Drop>(list: &mut Vec<T>, item: T) -> Result<(), AllocError> {
+    list.push(item)?;
+    Ok(())
+}
+
+/// A list of this item alone.
+pub fn alone<T: Drop>(alloc: Global, item: T) -> Result<Vec<T>, AllocError> {
+    let mut list = Vec::new(alloc);
+    list.push(item)?;
+    Ok(list)
+}
+
+/// Asserts that a text is the one that is wanted.
+pub fn assert_text(rt: &impl Abort, shown: &str, wanted: &str) {
+    assert_eq!(rt; shown, wanted);
 }
 
 pub fn text(alloc: Global, s: &str) -> Result<RcStr, AllocError> {

@@ -25,10 +25,14 @@ fn has_types(env: &RequestEnv<'_>, asked: &UnlinkedRequestEnv) -> bool {
         && env.resource_entity_type() == Some(&asked.resource)
 }
 
+/// Whether its environment has them.
+fn has_its_types(asked: &UnlinkedRequestEnv) -> bool {
+    has_types(&asked.as_request_env(), asked)
+}
+
 #[test]
 fn an_environment_has_its_parts(rt: HostRuntime) -> Result<(), Fail> {
-    let asked = asked(rt.alloc())?;
-    assert!(rt; has_types(&asked.as_request_env(), &asked));
+    assert!(rt; has_its_types(&*asked(rt.alloc())?));
     Ok(())
 }
 
@@ -49,11 +53,15 @@ fn is_for(request: &Option<RequestType>, asked: &UnlinkedRequestEnv) -> bool {
     }
 }
 
+/// Whether the request of its environment is for it.
+fn is_asked(alloc: Global, asked: &UnlinkedRequestEnv) -> Result<bool, AllocError> {
+    Ok(is_for(&request(alloc, asked)?, asked))
+}
+
 #[test]
 fn a_request_has_the_parts_of_its_environment(rt: HostRuntime) -> Result<(), Fail> {
     let asked = asked(rt.alloc())?;
-    let request = boxed(rt.alloc(), request(rt.alloc(), &asked)?)?;
-    assert!(rt; is_for(&request, &asked));
+    assert!(rt; is_asked(rt.alloc(), &asked)?);
     Ok(())
 }
 
@@ -80,11 +88,15 @@ fn has_slots(env: &RequestEnv<'_>, principal: &EntityType) -> bool {
     env.principal_slot() == Some(principal) && env.resource_slot().is_none()
 }
 
+/// Whether the last of the two counts.
+fn last_counts(alloc: Global, asked: &UnlinkedRequestEnv) -> Result<bool, AllocError> {
+    let env = linked(alloc, asked)?;
+    Ok(has_slots(&env, &entity_type(alloc, "Team")?))
+}
+
 #[test]
 fn the_last_linking_counts_for_both_slots(rt: HostRuntime) -> Result<(), Fail> {
     let asked = asked(rt.alloc())?;
-    let env = linked(rt.alloc(), &asked)?;
-    let team = boxed(rt.alloc(), entity_type(rt.alloc(), "Team")?)?;
-    assert!(rt; has_slots(&env, &team));
+    assert!(rt; last_counts(rt.alloc(), &asked)?);
     Ok(())
 }

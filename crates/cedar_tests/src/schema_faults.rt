@@ -1,9 +1,7 @@
 // Schemas that are refused: each fault alone, and before every later one.
-use crate::declarations::{Declared, Kind, declare, schema, standard, view};
-use crate::parts::entity;
-use cedar_types::base::{
-    AttributeType, CedarType, SchemaError, ValidatorEntityTypeKind, ValidatorSchema,
-};
+use crate::declarations::{Declared, Kind, declare, fault, fault_of, standard, view};
+use crate::parts::{add, alone, assert_text, entity};
+use cedar_types::base::{AttributeType, CedarType, SchemaError, ValidatorEntityTypeKind};
 use std::alloc::{AllocError, Global};
 use std::test::Fail;
 
@@ -42,25 +40,24 @@ const SAMPLES: [&[Declared]; 9] = [
     ],
 ];
 
-/// The fault of the schema of these declarations.
-fn fault(alloc: Global, lists: &[&[Declared]]) -> Option<SchemaError> {
-    schema(alloc, lists).err()
+/// Whether the schema of these declarations has this fault.
+fn is_found(alloc: Global, lists: &[&[Declared]], want: &SchemaError) -> Result<bool, AllocError> {
+    let found = fault(alloc, lists)?;
+    Ok(found.as_ref() == Some(want))
 }
 
-/// Whether the schema of these declarations has this fault.
-fn is_found(alloc: Global, lists: &[&[Declared]], want: &SchemaError) -> bool {
-    fault(alloc, lists).as_ref() == Some(want)
+/// Whether the sample of this place has this fault, alone and before the later ones.
+fn is_found_at(alloc: Global, at: usize, want: &SchemaError) -> Result<bool, AllocError> {
+    let (_, all) = SAMPLES.split_at(at.min(SAMPLES.len()));
+    let (first, _) = all.split_at(all.len().min(1));
+    Ok(is_found(alloc, first, want)? && is_found(alloc, all, want)?)
 }
 
 #[test]
 fn each_fault_is_found_before_the_later_ones(rt: HostRuntime) -> Result<(), Fail> {
-    assert!(rt; fault(rt.alloc(), &[]).is_none());
+    assert!(rt; fault(rt.alloc(), &[])?.is_none());
     for (at, want) in FAULTS.iter().enumerate() {
-        let (alone, all) = (&SAMPLES[at..at + 1], &SAMPLES[at..]);
-        assert!(rt;
-            is_found(rt.alloc(), alone, want) && is_found(rt.alloc(), all, want),
-            "{want}"
-        );
+        assert!(rt; is_found_at(rt.alloc(), at, want)?, "{want}");
     }
     Ok(())
 }
@@ -74,7 +71,7 @@ const OPEN: &[Declared] = &[
 
 #[test]
 fn descendants_of_actions_are_closed(rt: HostRuntime) -> Result<(), Fail> {
-    assert!(rt; fault(rt.alloc(), &[OPEN]).as_ref() == FAULTS.last());
+    assert!(rt; fault(rt.alloc(), &[OPEN])?.as_ref() == FAULTS.last());
     Ok(())
 }
 
@@ -129,29 +126,34 @@ fn fault_of_kind(
     alloc: Global,
     kind: ValidatorEntityTypeKind,
 ) -> Result<Option<SchemaError>, AllocError> {
-    let mut types = Vec::new(alloc);
-    types.push(declare(alloc, "A", kind)?)?;
-    types.push(declare(alloc, "B", ValidatorEntityTypeKind::External)?)?;
-    Ok(ValidatorSchema::new(alloc, types, Vec::new(alloc)).err())
+    let mut types = alone(alloc, declare(alloc, "A", kind)?)?;
+    add(
+        &mut types,
+        declare(alloc, "B", ValidatorEntityTypeKind::External)?,
+    )?;
+    Ok(fault_of(alloc, types, Vec::new(alloc)))
 }
 
-/// The faults of a schema with an attribute of this type, and of one with such tags.
-fn faults(
-    alloc: Global,
-    named: Named,
-) -> Result<(Option<SchemaError>, Option<SchemaError>), AllocError> {
+/// The fault of a schema with an attribute of this type.
+fn fault_of_attribute(alloc: Global, named: Named) -> Result<Option<SchemaError>, AllocError> {
     let attribute = AttributeType::optional_attribute(made(alloc, named)?);
-    let attributes = standard(alloc, vec![in alloc; ("x", attribute)]?, None)?;
-    let of_attribute = fault_of_kind(alloc, attributes)?;
-    let tags = standard(alloc, Vec::new(alloc), Some(made(alloc, named)?))?;
-    Ok((of_attribute, fault_of_kind(alloc, tags)?))
+    fault_of_kind(
+        alloc,
+        standard(alloc, alone(alloc, ("x", attribute))?, None)?,
+    )
+}
+
+/// The fault of a schema with such tags.
+fn fault_of_tags(alloc: Global, named: Named) -> Result<Option<SchemaError>, AllocError> {
+    let tags = made(alloc, named)?;
+    fault_of_kind(alloc, standard(alloc, Vec::new(alloc), Some(tags))?)
 }
 
 #[test]
 fn attributes_and_tags_say_enough_and_are_known(rt: HostRuntime) -> Result<(), Fail> {
     for (named, want) in &TYPES {
-        let (of_attribute, of_tags) = faults(rt.alloc(), *named)?;
-        assert!(rt; of_attribute == *want && of_tags == *want);
+        assert!(rt; fault_of_attribute(rt.alloc(), *named)? == *want);
+        assert!(rt; fault_of_tags(rt.alloc(), *named)? == *want);
     }
     Ok(())
 }
@@ -171,10 +173,10 @@ fn applied(
     (principal, resource): (&str, &str),
     context: Named,
 ) -> Result<Option<SchemaError>, AllocError> {
-    let context = made(alloc, context)?;
-    let actions = vec![in alloc; view(alloc, principal, resource, context)?]?;
-    let types = vec![in alloc; declare(alloc, "A", ValidatorEntityTypeKind::External)?]?;
-    Ok(ValidatorSchema::new(alloc, types, actions).err())
+    let declared = declare(alloc, "A", ValidatorEntityTypeKind::External)?;
+    let types = alone(alloc, declared)?;
+    let applied = view(alloc, principal, resource, made(alloc, context)?)?;
+    Ok(fault_of(alloc, types, alone(alloc, applied)?))
 }
 
 #[test]
@@ -189,6 +191,6 @@ fn what_an_action_applies_to_is_known(rt: HostRuntime) -> Result<(), Fail> {
 #[test]
 fn refused_memory_is_an_error_of_a_schema(rt: HostRuntime) -> Result<(), Fail> {
     let shown = SchemaError::from(AllocError).to_string(rt.alloc())?;
-    assert_eq!(rt; shown.as_str(), "Memory");
+    assert_text(&rt, shown.as_str(), "Memory");
     Ok(())
 }

@@ -1,5 +1,5 @@
 // Types: their texts and their order, and what is asked of two.
-use crate::parts::{entity, lub, types};
+use crate::parts::{add, alone, assert_text, entity, lub, types};
 use cedar_types::base::type_laws::{compare_types, equal_types, types_are_well_formed};
 use cedar_types::base::{
     AttributeType, Attributes, CedarType, EntityLUB, Name, OpenTag, types_in_order,
@@ -10,49 +10,49 @@ use std::test::Fail;
 
 /// An open or a closed record of one attribute, `a`.
 fn field(alloc: Global, a: AttributeType, is_open: OpenTag) -> Result<CedarType, AllocError> {
-    let attributes = Attributes::from_list(alloc, vec![in alloc; ("a", a)]?)?;
+    let attributes = Attributes::from_list(alloc, alone(alloc, ("a", a))?)?;
     Ok(CedarType::record_with_attributes(attributes, is_open))
 }
 
 fn add_records(alloc: Global, types: &mut Vec<CedarType>) -> Result<(), AllocError> {
     let string = AttributeType::optional_attribute(CedarType::String);
-    types.push(field(alloc, string, OpenTag::OpenAttributes)?)?;
+    add(types, field(alloc, string, OpenTag::OpenAttributes)?)?;
     let required = AttributeType::required_attribute(CedarType::Long);
-    types.push(field(alloc, required, OpenTag::OpenAttributes)?)?;
+    add(types, field(alloc, required, OpenTag::OpenAttributes)?)?;
     for is_open in [OpenTag::ClosedAttributes, OpenTag::OpenAttributes] {
         let optional = AttributeType::optional_attribute(CedarType::Long);
-        types.push(field(alloc, optional, is_open)?)?;
+        add(types, field(alloc, optional, is_open)?)?;
     }
-    types.push(CedarType::any_record(alloc)?)?;
+    add(types, CedarType::any_record(alloc)?)?;
     Ok(())
 }
 
 fn add_entities(alloc: Global, types: &mut Vec<CedarType>) -> Result<(), AllocError> {
     let ip = Name::new(alloc, "ip", &["ext"])?;
-    types.push(CedarType::extension(alloc, ip)?)?;
-    types.push(CedarType::any_entity_reference())?;
+    add(types, CedarType::extension(alloc, ip)?)?;
+    add(types, CedarType::any_entity_reference())?;
     for names in [&["b"][..], &["a", "b"][..], &["a"][..]] {
-        types.push(entity(alloc, names)?)?;
+        add(types, entity(alloc, names)?)?;
     }
     Ok(())
 }
 
 fn add_sets(alloc: Global, types: &mut Vec<CedarType>) -> Result<(), AllocError> {
-    types.push(CedarType::any_set())?;
-    types.push(CedarType::set(alloc, CedarType::any_set())?)?;
-    types.push(CedarType::set(alloc, CedarType::primitive_string())?)?;
-    types.push(CedarType::set(alloc, CedarType::Never)?)?;
+    add(types, CedarType::any_set())?;
+    add(types, CedarType::set(alloc, CedarType::any_set())?)?;
+    add(types, CedarType::set(alloc, CedarType::primitive_string())?)?;
+    add(types, CedarType::set(alloc, CedarType::Never)?)?;
     Ok(())
 }
 
 fn add_flat_types(types: &mut Vec<CedarType>) -> Result<(), AllocError> {
-    types.push(CedarType::primitive_string())?;
-    types.push(CedarType::primitive_long())?;
-    types.push(CedarType::primitive_long())?;
-    types.push(CedarType::singleton_boolean(false))?;
-    types.push(CedarType::singleton_boolean(true))?;
-    types.push(CedarType::primitive_boolean())?;
-    types.push(CedarType::Never)?;
+    add(types, CedarType::primitive_string())?;
+    add(types, CedarType::primitive_long())?;
+    add(types, CedarType::primitive_long())?;
+    add(types, CedarType::singleton_boolean(false))?;
+    add(types, CedarType::singleton_boolean(true))?;
+    add(types, CedarType::primitive_boolean())?;
+    add(types, CedarType::Never)?;
     Ok(())
 }
 
@@ -89,7 +89,7 @@ fn equals_itself_and_is_below(first: &CedarType, second: &CedarType) -> bool {
 #[test]
 fn types_are_shown_in_their_order(rt: HostRuntime) -> Result<(), Fail> {
     let shown = shown_in_order(rt.alloc())?;
-    assert_eq!(rt; shown.as_str(), IN_ORDER);
+    assert_text(&rt, shown.as_str(), IN_ORDER);
     assert!(rt; equals_itself_and_is_below(&CedarType::Long, &CedarType::AnySet));
     Ok(())
 }
