@@ -22,7 +22,7 @@ use Rattle.cedar_typing.proofs.Basics.Members.{each_one, in_right, moved}
 use Rattle.cedar_typing.proofs.Composition.Links.{own_env_is_checked}
 use Rattle.cedar_typechecker.proofs.Levels.RequiredLevels.{nil_right}
 use Rattle.cedar_embedding.specs.declared.conditions.TypedCondition.{TypedCondition}
-use Rattle.cedar_embedding.specs.Conditions.{env_in, tree_in, condition_in, IsOfCheck, AreOfAllChecks, AreConditionsOf}
+use Rattle.cedar_embedding.specs.Conditions.{env_in, tree_in, typed_condition_in, IsOfCheck, AreOfAllChecks, AreConditionsOf}
 use Rattle.cedar_embedding.specs.Conditions.{MeansTheConditionIn, IsOwnOf, CoverRequestsIn, MeanItIfThereIn}
 
 -- what is one of a list under a function comes from one of it
@@ -35,7 +35,7 @@ mapped_from f b (a ∷ xs) (inr h) =
     (r.0, inr r.1, r.2)
 
 -- the condition that a verdict has means what the verdict's does
-of_verdict : (world : World) (e : Source) (v : Verdict) (x : TypedTree) → condition_in v ≡ Some x
+of_verdict : (world : World) (e : Source) (v : Verdict) (x : TypedTree) → typed_condition_in v ≡ Some x
     → VerdictMeansTheSame world e v → EvaluatesAs world x e
 of_verdict world e (succeeds y) x q h = subst (λ z. EvaluatesAs world z e) (some_is q) h
 of_verdict world e (irrelevant es y) x q h = subst (λ z. EvaluatesAs world z e) (some_is q) h
@@ -103,8 +103,8 @@ pub is_one_of_all : (before left left' all : List Env) (e : Env) → left ≡ e 
 is_one_of_all before left left' all e first p =
     moved (before ++ left) all p e (in_right e before left (subst (IsOneOf e) (sym first) (inl refl)))
 
--- a verdict without a condition refuses it
-pub refused : (s : Setting) (e : Source) (v : Verdict) → condition_in v ≡ None → PolicyChecks s e v
+-- a verdict without a condition is a failure
+pub refused : (s : Setting) (e : Source) (v : Verdict) → typed_condition_in v ≡ None → PolicyChecks s e v
     → (es : List Finding) × PolicyChecks s e (fails es)
 refused s e (succeeds x) q h = absurd (none_is (sym q))
 refused s e (irrelevant es x) q h = absurd (none_is (sym q))

@@ -26,20 +26,20 @@ tree_in c = typed_tree c.condition
 -- ---- which they are
 
 -- the typed condition that a verdict has, if it has one
-abbrev pub condition_in : Verdict → Option TypedTree
-condition_in (succeeds x) = Some x
-condition_in (irrelevant es x) = Some x
-condition_in (fails es) = None
+abbrev pub typed_condition_in : Verdict → Option TypedTree
+typed_condition_in (succeeds x) = Some x
+typed_condition_in (irrelevant es x) = Some x
+typed_condition_in (fails es) = None
 
 -- it is that of the check of the policy in its environment
 abbrev pub IsOfCheck : Basis → PlainTemplate → TypedCondition → Type 0
 IsOfCheck b t c =
     (v : Verdict) × PolicyChecks (setting_on b t.id (env_in c)) (condition_of t) v
-    × (condition_in v ≡ Some (tree_in c))
+    × (typed_condition_in v ≡ Some (tree_in c))
 
--- some environment refuses the policy
-abbrev pub IsRefusedSomewhere : Basis → PlainTemplate → Type 0
-IsRefusedSomewhere b t =
+-- the check of the policy fails in some environment
+abbrev pub FailsSomewhere : Basis → PlainTemplate → Type 0
+FailsSomewhere b t =
     (env : Env) × IsOneOf env (checked_envs b.schema b.mode t)
     × (es : List Finding) × PolicyChecks (setting_on b t.id env) (condition_of t) (fails es)
 
@@ -48,9 +48,9 @@ pub record AreOfAllChecks (b : Basis) (t : PlainTemplate) (cs : List TypedCondit
   pub environments : IsPermutation (map env_in cs) (checked_envs b.schema b.mode t)
   pub checked : All (IsOfCheck b t) cs
 
--- so it is where no environment refuses the policy
+-- so it is where its check fails in none
 abbrev pub AreConditionsOf : Basis → PlainTemplate → Option (List TypedCondition) → Type 0
-AreConditionsOf b t None = IsRefusedSomewhere b t
+AreConditionsOf b t None = FailsSomewhere b t
 AreConditionsOf b t (Some cs) = AreOfAllChecks b t cs
 
 -- ---- what they mean, in a mode

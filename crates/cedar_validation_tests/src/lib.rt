@@ -5,6 +5,8 @@
 #[cfg(test)]
 mod arguments;
 #[cfg(test)]
+mod effects;
+#[cfg(test)]
 mod excerpts;
 #[cfg(test)]
 mod faults;
