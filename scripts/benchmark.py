@@ -20,23 +20,25 @@ from pathlib import Path
 TOP = Path(__file__).resolve().parent.parent
 PROGRAM = TOP / "crates" / "cedar_cases" / "out" / "cedar_cases"
 TYPES = 10
-# Ten conditions, each a Boolean in every environment of the schema.
+# Ten conditions, each a success in every environment of the schema, which the script sees to.
 CONDITIONS = (
     "principal.ready",
     "principal has vip && principal.vip",
     "resource.owner == principal.boss",
     "context.n < resource.size",
     "resource.size * 2 + 1 <= context.n",
-    "principal in resource.owner",
+    "resource.owner in principal.boss",
     'principal.name like "a*"',
     "[1, 2, 3].contains(context.n)",
     'if principal.ready then resource.open else principal.name == "b"',
     'principal.hasTag("t") && principal.getTag("t") == 1',
 )
 SMALL, LARGE = 2, 4
-# A column of the case, and what it has to say: that the policy passes, and that it has no finding at a level that is enough.
+# A column of the case, and what it has to say: that the policy passes, that it has no finding at a level that is enough, and that
+# each environment of the one action is a success.
 CHECK = "strict policy", "true"
 LEVELS = "strict level 9", ""
+SUCCESSES = "strict environments", " | ".join(f"P{i} a0 R{j}: Success" for i in range(TYPES) for j in range(TYPES))
 FIGURE = re.compile(r"I\s+refs:\s+([\d,]+)")
 HELD = re.compile(r"^time=(\d+)\nmem_heap_B=(\d+)$", re.M)
 
@@ -81,6 +83,13 @@ def for_each_environment(program, room, conditions, asked):
     return ((counts[3] - counts[2]) - (counts[1] - counts[0])) / ((LARGE - SMALL) * TYPES * TYPES)
 
 
+def see_to_successes(program, room):
+    """Ends the script where a condition is no success in some environment: what is False ends all that comes after it."""
+    for condition in CONDITIONS:
+        written(room, 1, condition, SUCCESSES)
+        ran([str(program), "case.tsv"], room)
+
+
 def held(program, room, actions, condition):
     """The bytes allocated at a time for one case: at most, in the middle of the run, and at most after that."""
     written(room, actions, condition)
@@ -106,6 +115,7 @@ def main(words):
     program = program_to_count(words)
     conditions = " && ".join(f"({it})" for it in CONDITIONS * 4)
     with tempfile.TemporaryDirectory() as room:
+        see_to_successes(program, room)
         check, both = (for_each_environment(program, room, conditions, asked) for asked in (CHECK, LEVELS))
         print(f"{check:,.0f} instructions for the check in each environment")
         print(f"{both - check:,.0f} for its level pass, {(both - check) / check:.0%} of the check")

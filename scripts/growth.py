@@ -5,8 +5,10 @@ PROGRAM is cedar_cases, by default the one that rt ci built. Valgrind counts its
 some more of the same kind, so that reading the policy is taken away. Chains of guards grow from 50 to 800: `has` alone, and each
 `has` with the access that it allows. They stand in parentheses, in halves of halves, since a policy may be nested 400 deep,
 and so do 64 to 4,096 accesses to a required attribute, which need no guard. A chain of accesses, and one `has` with 10 to
-300 attributes, are longer expressions. The last figure is that of the benchmark's policy. It needs valgrind, and is no part
-of the gate.
+380 attributes, are longer expressions. Of guards and an eighth as many others, the two sets are joined. Chains of `has` on
+bases that differ in one number of a test have many capabilities that are alike but there. A set has 10 to 1,000 entities of
+one type, or 100 to 1,600 of as many types, which unite in Permissive. The last figure is that of the benchmark's policy. It
+needs valgrind, and is no part of the gate.
 """
 import sys
 import tempfile
@@ -17,24 +19,31 @@ import benchmark
 LENGTHS = (50, 100, 200, 400, 800)
 CONJUNCTS = (64, 256, 1024, 4096)
 ACCESSES = (50, 100, 200, 380)
-STEPS = (10, 50, 100, 300)
+STEPS = (10, 50, 100, 200, 380)
+JOINED = (512, 2048, 8192)
+MEMBERS = (10, 100, 1000)
+UNIONS = (100, 400, 1600)
+BASES = (10, 20, 40, 80)
+# As many attributes as a chain on such a base has.
+CHAIN = 50
 MORE = 4
 # As many guards as stand in one pair of parentheses.
 GROUP = 10
 
 
-def schema(attributes, environments):
-    """The text of a schema with so many environments, whose principals have these attributes."""
+def schema(attributes, environments, others):
+    """The text of a schema with so many environments, whose principals have these attributes, and so many other types."""
     lines = [f"entity P {{ {', '.join(attributes)} }};", "entity R;"]
+    lines += [f"entity T{i};" for i in range(others)]
     sides = "principal: [P], resource: [R], context: { }"
     lines += [f"action a{i} appliesTo {{ {sides} }};" for i in range(environments)]
     return "\n".join(lines) + "\n"
 
 
-def instructions(program, room, text, condition):
+def instructions(program, room, text, condition, mode):
     """How many instructions the program takes for one case by this schema."""
     Path(room, "schema.txt").write_text(text, encoding="utf8")
-    rows = ["schema\tschema.txt", "policy\tstrict policy"]
+    rows = ["schema\tschema.txt", f"policy\t{mode} policy"]
     rows += [f"permit(principal, action, resource) when {{ {condition} }};\ttrue"]
     Path(room, "case.tsv").write_text("\n".join(rows) + "\n", encoding="utf8")
     words = ["valgrind", "--tool=cachegrind", "--cache-sim=no", "--cachegrind-out-file=/dev/null"]
@@ -42,9 +51,9 @@ def instructions(program, room, text, condition):
     return int(benchmark.FIGURE.search(said)[1].replace(",", ""))
 
 
-def for_each(program, room, attributes, condition):
+def for_each(program, room, attributes, condition, others=0, mode="strict"):
     """The instructions of a check in one environment."""
-    counts = [instructions(program, room, schema(attributes, n), condition) for n in (1, 1 + MORE)]
+    counts = [instructions(program, room, schema(attributes, n, others), condition, mode) for n in (1, 1 + MORE)]
     return (counts[1] - counts[0]) / MORE
 
 
@@ -68,11 +77,11 @@ def conjunction(length):
     return in_halves(["principal.ok"] * length)
 
 
-def measure(program, room, what, sizes, attributes, condition):
+def measure(program, room, what, sizes, attributes, condition, others=lambda _: 0, mode="strict"):
     """Prints the instructions at each size, and how many times those of the size before they are."""
     last = None
     for size in sizes:
-        count = for_each(program, room, attributes(size), condition(size))
+        count = for_each(program, room, attributes(size), condition(size), others(size), mode)
         growth = f", {count / last:.2f} times as many for {size / before:.2f} times the length" if last else ""
         print(f"{what}, {size}: {count:,.0f} instructions{growth}", flush=True)
         last, before = count, size
@@ -86,11 +95,35 @@ def extended_has(length):
     return "principal has " + ".".join(["a"] * length)
 
 
+def joined(length):
+    """So many guards, and then an eighth as many others."""
+    few = in_halves([f"principal has a{i}" for i in range(length, length + length // 8)])
+    return f"({guards(length)}) && ({few})"
+
+
+def chains_on_branches(length):
+    """A long chain of `has` on each of so many bases, which differ in a number."""
+    chain = ".".join(["u"] * CHAIN)
+    return in_halves([f"(if principal.n == {i} then principal else principal.p) has {chain}" for i in range(length)])
+
+
+def literals(length):
+    """A set of so many entities of one type."""
+    members = ", ".join(f'P::"{i}"' for i in range(length))
+    return f"principal in [{members}]"
+
+
+def of_many_types(length):
+    """A set of so many entities, each of a type of its own."""
+    members = ", ".join(f'T{i}::"a"' for i in range(length))
+    return f'[{members}, P::"a"].contains(principal)'
+
+
 def benchmark_policy(program, room):
     """The instructions of the benchmark's policy in one environment."""
     policy = " && ".join(f"({it})" for it in benchmark.CONDITIONS * 4)
     sizes = (benchmark.SMALL, benchmark.LARGE)
-    counts = [instructions(program, room, benchmark.schema(n), it) for n in sizes for it in ("true", policy)]
+    counts = [instructions(program, room, benchmark.schema(n), it, "strict") for n in sizes for it in ("true", policy)]
     environments = (benchmark.LARGE - benchmark.SMALL) * benchmark.TYPES**2
     return ((counts[3] - counts[2]) - (counts[1] - counts[0])) / environments
 
@@ -104,6 +137,12 @@ def main(words):
         measure(program, room, "required accesses", CONJUNCTS, lambda _: ["ok: Bool"], conjunction)
         measure(program, room, "accesses", ACCESSES, lambda _: ["a: P", "ok: Bool"], accesses)
         measure(program, room, "attributes of one has", STEPS, lambda _: ["a?: P"], extended_has)
+        measure(program, room, "guards, and an eighth of others", JOINED, lambda size: optional(size + size // 8), joined)
+        on_branches = lambda _: ["n: Long", "p: P", "u?: P"]
+        measure(program, room, f"bases with {CHAIN} attributes of has", BASES, on_branches, chains_on_branches)
+        measure(program, room, "entity literals in a set", MEMBERS, lambda _: ["ok: Bool"], literals)
+        types = dict(others=lambda size: size, mode="permissive")
+        measure(program, room, "entity types in a union", UNIONS, lambda _: ["ok: Bool"], of_many_types, **types)
         print(f"the benchmark's policy: {benchmark_policy(program, room):,.0f} instructions")
 
 

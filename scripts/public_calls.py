@@ -14,6 +14,7 @@ LIBRARIES = ("cedar_types", "cedar_typing", "cedar_typechecker")
 EXCEPTIONS = {
     "ExtensionSchemas::new": "it takes no memory: the line `tables` makes it while each growth is refused",
     "SortedSet::insert": "CapabilitySet::insert is this call",
+    "SortedSet::from_ordered": "CapabilitySetBuilder::build is this call",
     "SortedSet::try_clone": "CapabilitySet::try_clone is this call",
     "SortedSet::union": "CapabilitySet::union is this call",
     "SortedSet::join": "CapabilitySet::join is this call",

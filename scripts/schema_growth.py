@@ -1,12 +1,13 @@
 #!/usr/bin/env python3
-"""What a schema's check takes for descendants of descendants: scripts/schema_growth.py [PROGRAM].
+"""What a schema's check, and its reading, take for descendants of descendants: scripts/schema_growth.py [PROGRAM].
 
-Types, or actions, stand in a line, each in the one before, so that n of them declare n (n - 1) / 2 descendants. Counted are
-the instructions of the check alone, by callgrind; printed are they, what they are for each declared descendant, and how
-many times as many there are where n doubles and the declared descendants are four times as many. A line passes where that
-is less than LIMIT. Three layers, in which each member of a layer is in each of the one above, have figures alone: of them no
-set shows what another has, so each is looked at. The last line counts the lines that pass and those that do not. PROGRAM is
-cedar_cases, by default the one that rt ci built. It needs valgrind, and is no part of the gate.
+Types, or actions, stand in a line, each in the one before, so that n of them declare n (n - 1) / 2 descendants; or each is in
+all, so that n of them declare n n. Counted are the instructions of the check alone, by callgrind, and of finding the
+descendants in a text alone; printed are they, what they are for each declared descendant, and how many times as many there
+are where n doubles and the declared descendants are four times as many. A line passes where that is less than LIMIT. Three
+layers, in which each member of a layer is in each of the one above, have figures alone: of them no set shows what another
+has, so each is looked at. The last line counts the lines that pass and those that do not. PROGRAM is cedar_cases, by default
+the one that rt ci built. It needs valgrind, and is no part of the gate.
 """
 import re
 import subprocess
@@ -18,7 +19,8 @@ from benchmark import program_to_count
 
 SIZES = (30, 60, 120)
 LIMIT = 5.6
-CHECKS = ("are_types_closed", "are_actions_closed")
+CHECKS = ("closures::are_types_closed", "closures::are_actions_closed")
+READING = ("closed::closed_types", "closed::closed_actions")
 COLLECTED = re.compile(r"Collected\s*:\s*(\d+)")
 
 
@@ -36,6 +38,11 @@ def layers(n):
     """Three layers, each member in all of the layer above."""
     third = n // 3
     return [list(range((i // third - 1) * third, i // third * third)) if i >= third else [] for i in range(3 * third)]
+
+
+def dense(n):
+    """Each in all, itself included."""
+    return [list(range(n)) for _ in range(n)]
 
 
 def declared(parents):
@@ -70,7 +77,7 @@ def instructions(program, room, rows, check):
     Path(room, "schema.txt").write_text("\n".join(rows) + "\n", encoding="utf8")
     case = ["schema\tschema.txt", "policy\tstrict policy", "permit(principal, action, resource);\ttrue"]
     Path(room, "case.tsv").write_text("\n".join(case) + "\n", encoding="utf8")
-    words = ["valgrind", "--tool=callgrind", "--callgrind-out-file=/dev/null", f"--toggle-collect=*closures::{check}*"]
+    words = ["valgrind", "--tool=callgrind", "--callgrind-out-file=/dev/null", f"--toggle-collect=*{check}*"]
     done = subprocess.run([*words, str(program), "case.tsv"], cwd=room, stdin=subprocess.DEVNULL, capture_output=True, text=True)
     if done.returncode:
         sys.exit(f"{program} ended with status {done.returncode}: {done.stdout[-300:]}{done.stderr[-300:]}")
@@ -83,14 +90,16 @@ def instructions(program, room, rows, check):
 def main(words):
     program = program_to_count(words)
     passed = failed = 0
+    counted = [("check of types", types, CHECKS[0], (line, line_back, layers)), ("check of actions", actions, CHECKS[1], (line, line_back, layers))]
+    counted += [("reading of types", types, READING[0], (line, line_back, dense, layers)), ("reading of actions", actions, READING[1], (line, dense))]
     with tempfile.TemporaryDirectory() as room:
-        for name, schema, check in (("types", types, CHECKS[0]), ("actions", actions, CHECKS[1])):
-            for shape in (line, line_back, layers):
-                counts = [instructions(program, room, schema(shape(n)), check) for n in SIZES]
+        for name, schema, function, shapes in counted:
+            for shape in shapes:
+                counts = [instructions(program, room, schema(shape(n)), function) for n in SIZES]
                 growth = [b / a for a, b in zip(counts, counts[1:])]
                 each = counts[-1] / declared(shape(SIZES[-1]))
                 times = " and ".join(f"{it:.1f}" for it in growth)
-                print(f"{SIZES[-1]} {name}, {shape.__name__}: {counts[-1]:,} instructions, {each:,.0f} a descendant, {times} times", flush=True)
+                print(f"{SIZES[-1]}, {name}, {shape.__name__}: {counts[-1]:,} instructions, {each:,.0f} a descendant, {times} times", flush=True)
                 if shape is not layers:
                     passed += max(growth) < LIMIT
                     failed += max(growth) >= LIMIT

@@ -2,9 +2,9 @@
 """How much stack it takes to type a condition at the limit of nesting: scripts/stack.py [PROGRAM].
 
 PROGRAM is cedar_cases, by default the one that rt ci built. Each condition has a part at depth 400: a line of operands, each
-in the one after it, a chain of accesses, and negations. Printed is the least stack that the whole run ends well in, reading
-and dropping of the policy included, found by halves. A line passes where that is at most 2 MiB, which a thread has by default.
-The last line counts the lines that pass and those that do not. It is no part of the gate.
+in the one after it, a chain of accesses, negations, and operands in parentheses. Printed is the least stack that the whole
+run ends well in, reading and dropping of the policy included, found by halves. A line passes where that is at most 2 MiB,
+which a thread has by default. The last line counts the lines that pass and those that do not. It is no part of the gate.
 """
 import resource
 import subprocess
@@ -24,6 +24,9 @@ CONDITIONS = {
     "sum": " + ".join(["1"] * DEPTH) + " == 1",
     "access": "principal" + ".again" * DEPTH + ".on",
     "negation": "!" * DEPTH + "principal.on",
+    "parentheses": "(" * 2 * DEPTH + "principal.on" + ")" * 2 * DEPTH,
+    "parentheses on the left": "(" * DEPTH + "principal.on" + " || principal.on)" * (DEPTH - 1) + ")",
+    "parentheses on the right": "(principal.on || " * (DEPTH - 1) + "principal.on" + ")" * (DEPTH - 1),
 }
 
 

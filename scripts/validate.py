@@ -7,6 +7,7 @@ of output, which comes at the end. The exit status is the program's, or 70 where
 """
 import os
 import resource
+import signal
 import subprocess
 import sys
 import tempfile
@@ -16,6 +17,10 @@ TOP = Path(__file__).resolve().parent.parent
 CRATE = TOP / "crates" / "cedar_validate"
 PROGRAM = CRATE / "out" / "cedar_validate"
 FAILED = 70
+REFUSED = 2
+MOST_READ = (1 << 26) + 1
+# names of files that rt try makes in the folder of a run
+TAKEN = {"stdin", "stdout", "program"}
 LIMITS = (
     ("did not end within the time limit", "it did not end within the 60 seconds of a run without a proof"),
     ("wrote more than 1048576 bytes", "it wrote more than the 1 MiB that a run without a proof may write"),
@@ -60,18 +65,40 @@ def is_built():
     return all(path.lstat().st_mtime <= made for path in parts)
 
 
+class Stopped(Exception):
+    """The script was told to end."""
+
+
+def stop(number, frame):
+    raise Stopped
+
+
+def run(words, given=None, **streams):
+    """Runs a command in a group of its own, which ends where this script is stopped. Its status, and what it wrote to pipes."""
+    streams.setdefault("stdin", subprocess.DEVNULL if given is None else subprocess.PIPE)
+    child = subprocess.Popen(words, cwd=CRATE, start_new_session=True, **streams)
+    try:
+        out, err = child.communicate(given)
+        return child.returncode, out, err
+    except BaseException:
+        try:
+            os.killpg(child.pid, signal.SIGTERM)
+        except ProcessLookupError:
+            pass
+        raise
+
+
 def prove():
     """Proves the program and builds it. What rt says goes to standard error."""
-    done = subprocess.run(["rt", "run", "--", "--help"], cwd=CRATE, stdin=subprocess.DEVNULL, stdout=sys.stderr)
-    return done.returncode == 0
+    return run(["rt", "run", "--", "--help"], stdout=sys.stderr)[0] == 0
 
 
 def placed(words, room):
     """The words as the program gets them, its files, and the words that stand for those of another name.
 
     The program is run in a folder of its own, to which each file is copied: by the name that it is called by, where this
-    leads nowhere else and is no form of an option of `rt try`, and else by one made up here. What a pipe holds is copied to
-    the room first."""
+    leads nowhere else and is no form of an option of `rt try` nor a file of its own, and else by one made up here. What a pipe
+    holds is copied to the room first, as much of it as the program reads."""
     names, files, words_of = [], {}, {}
     for number, word in enumerate(words):
         name = word
@@ -80,8 +107,8 @@ def placed(words, room):
             if not path.is_file():
                 path = Path(room, f"pipe-{number}")
                 with open(word, "rb") as pipe:
-                    path.write_bytes(pipe.read())
-            if word != os.path.normpath(word) or word.startswith(("/", "..")) or "=" in word:
+                    path.write_bytes(pipe.read(MOST_READ))
+            if word != os.path.normpath(word) or word.startswith(("/", "..")) or "=" in word or word.split("/")[0] in TAKEN:
                 name = f"file-{number}-of-{os.getpid()}"
                 words_of[name] = word
             files[name] = path
@@ -104,19 +131,19 @@ def tried(words, room):
     """Builds the program without a proof, runs it, and hands on what it says. The exit status."""
     names, files, words_of = placed(words, room)
     data = [part for name, path in files.items() for part in ("--data", f"{name}={path}")]
-    given = sys.stdin.buffer.read() if "-" in words else b""
+    given = sys.stdin.buffer.read(MOST_READ) if "-" in words else b""
     say("building without a proof, which takes a minute or two (--proved proves first, and the program stays)")
     try:
         resource.setrlimit(resource.RLIMIT_STACK, (resource.RLIM_INFINITY, resource.RLIM_INFINITY))
     except (OSError, ValueError):
         pass
-    done = subprocess.run(["rt", "try", *data, "--", *names], cwd=CRATE, input=given, capture_output=True)
-    said = done.stderr.decode(errors="replace")
-    sys.stdout.write("".join(f"{with_words(line, words_of)}\n" for line in done.stdout.decode(errors="replace").splitlines()))
+    status, out, err = run(["rt", "try", *data, "--", *names], given, stdout=subprocess.PIPE, stderr=subprocess.PIPE)
+    said = err.decode(errors="replace")
+    sys.stdout.write("".join(f"{with_words(line, words_of)}\n" for line in out.decode(errors="replace").splitlines()))
     if "\nrun=ended " in f"\n{said}":
         own = [line for line in said.splitlines() if not line.startswith(("checked: ended", "interpreted: ended", "run=ended"))]
         sys.stderr.write("".join(f"{with_words(line, words_of)}\n" for line in own))
-        return done.returncode
+        return status
     sys.stderr.write(said)
     for mark, why in LIMITS:
         if mark in said:
@@ -128,6 +155,10 @@ def tried(words, room):
 def main(words):
     is_asked = words[:1] == ["--proved"]
     words = words[is_asked:]
+    why = misused(words)
+    if why is not None:
+        say(why)
+        return REFUSED
     is_here = is_built() or is_asked and prove()
     if is_here:
         os.execv(PROGRAM, [str(PROGRAM), *words])
@@ -137,9 +168,27 @@ def main(words):
         return tried(words, room)
 
 
+def misused(words):
+    """What is wrong with the words, whatever the program says of them: a name that is no text, or that of a folder."""
+    before = ""
+    for word in words:
+        try:
+            word.encode()
+        except UnicodeEncodeError:
+            return "a word of the command line is no text in UTF-8"
+        if os.path.isdir(word) and before not in ("--mode", "--level"):
+            return f"{word!r} is a folder"
+        before = word
+    return None
+
+
 if __name__ == "__main__":
+    signal.signal(signal.SIGTERM, stop)
     try:
         sys.exit(main(sys.argv[1:]))
+    except (KeyboardInterrupt, Stopped):
+        say("stopped")
+        sys.exit(FAILED)
     except OSError as error:
         say(f"{error}")
         sys.exit(FAILED)

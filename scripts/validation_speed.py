@@ -2,10 +2,11 @@
 """What cedar-validate takes for each policy of a large file: scripts/validation_speed.py [PROGRAM].
 
 PROGRAM is cedar_validate, by default the one that rt ci built. The policies are about one action each of a schema with 300
-actions, and each has a condition of its own, most accepted and some refused. Instructions are counted by valgrind over two
-files, one of twice the policies, so that what the schema takes is left out; then 10,000 policies are validated, by the clock
-and with the memory that the program has at most. The figures are alike where reading is linear and one typed condition is alive
-at a time. It needs valgrind, and is no part of the gate.
+actions, and then with 3,000, and each has a condition, most accepted and some refused. Instructions are counted by valgrind
+over two files, one of twice the policies, so that what the schema takes is left out. Of policies about all actions, without a
+condition, the figure is that of one environment. Then 10,000 policies are validated, by the clock and with the memory that the
+program has at most. The figures are alike where reading is linear and one typed condition is alive at a time. It needs
+valgrind, and is no part of the gate.
 """
 import os
 import resource
@@ -31,29 +32,31 @@ CONDITIONS = (
 )
 
 
-def schema():
-    """The text of the schema."""
+def schema(actions):
+    """The text of a schema with so many actions."""
     lines = ["entity Group;", "entity User in [Group] { name: String, boss: User, vip?: Bool };"]
     lines += ["entity File { owner: User, readers: Group, size: Long, name: String, tags: Set<String>, open: Bool };"]
     sides = "principal: User, resource: File, context: { n: Long }"
-    lines += [f"action a{i} appliesTo {{ {sides} }};" for i in range(ACTIONS)]
+    lines += [f"action a{i} appliesTo {{ {sides} }};" for i in range(actions)]
     return "\n".join(lines) + "\n"
 
 
-def policies(count):
-    """The text of so many policies."""
-    lines = []
-    for i in range(count):
-        scope = f'permit(principal, action == Action::"a{i % ACTIONS}", resource)'
-        lines.append(f"{scope}\nwhen {{ {CONDITIONS[i % len(CONDITIONS)]} }};\n")
-    return "".join(lines)
+def of_one_action(i):
+    """A policy about one of the actions, with a condition."""
+    scope = f'permit(principal, action == Action::"a{i % ACTIONS}", resource)'
+    return f"{scope}\nwhen {{ {CONDITIONS[i % len(CONDITIONS)]} }};\n"
 
 
-def words_for(program, room, count):
-    """The words of a run over so many policies."""
+def of_all_actions(i):
+    """A policy about all actions, without a condition; the first has one, which is refused."""
+    return f"permit(principal, action, resource){'' if i else ' when { principal.vip }'};\n"
+
+
+def words_for(program, room, count, actions=ACTIONS, policy=of_one_action):
+    """The words of a run over so many policies, by a schema with so many actions."""
     names = Path(room, "schema.cedarschema"), Path(room, f"{count}.cedar")
-    names[0].write_text(schema(), encoding="utf8")
-    names[1].write_text(policies(count), encoding="utf8")
+    names[0].write_text(schema(actions), encoding="utf8")
+    names[1].write_text("".join(map(policy, range(count))), encoding="utf8")
     return [str(program), *map(str, names)]
 
 
@@ -65,11 +68,16 @@ def ran(words):
     return done.stderr
 
 
-def instructions(program, room, count):
-    """How many instructions the program takes for so many policies."""
+def instructions(words):
+    """How many instructions a run takes."""
     counted = ["valgrind", "--tool=cachegrind", "--cache-sim=no", "--cachegrind-out-file=/dev/null"]
-    said = ran([*counted, *words_for(program, room, count)])
-    return int(benchmark.FIGURE.search(said)[1].replace(",", ""))
+    return int(benchmark.FIGURE.search(ran([*counted, *words]))[1].replace(",", ""))
+
+
+def for_each_further(program, room, count, actions, policy=of_one_action):
+    """How many instructions each of so many further policies takes, beside as many."""
+    counts = [instructions(words_for(program, room, n, actions, policy)) for n in (count, 2 * count)]
+    return (counts[1] - counts[0]) / count
 
 
 def main(words):
@@ -78,9 +86,11 @@ def main(words):
         sys.exit(f"there is no program {program}: rt ci builds it")
     resource.setrlimit(resource.RLIMIT_CORE, (0, 0))
     with tempfile.TemporaryDirectory() as room:
-        counts = [instructions(program, room, n) for n in (300, 600, 1200)]
-        for first, second, more in ((0, 1, 300), (1, 2, 600)):
-            print(f"{(counts[second] - counts[first]) / more:,.0f} instructions for each of {more} further policies")
+        for count, actions in ((300, 300), (600, 300), (300, 3000)):
+            each = for_each_further(program, room, count, actions)
+            print(f"{each:,.0f} instructions for each of {count} further policies about one of {actions:,} actions")
+        each = for_each_further(program, room, 60, ACTIONS, of_all_actions)
+        print(f"{each / ACTIONS:,.0f} in each environment for a policy about all {ACTIONS} actions, without a condition")
         for count in (1000, 10000):
             words = words_for(program, room, count)
             seconds, most = held(words)

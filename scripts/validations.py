@@ -12,9 +12,12 @@ that it copies apart. The last line counts what agrees and what does not.
 import itertools
 import json
 import os
+import shutil
+import signal
 import subprocess
 import sys
 import tempfile
+import time
 from pathlib import Path
 
 import validate
@@ -41,6 +44,14 @@ CALLS = (
     (["--json", "missing", "p"], 2, '{"kind":"fault","file":"missing","text":"cannot be read: No such file or directory (os error 2)"}\n'),
     (["s", "."], 2, ".: fault: cannot be read: Is a directory (os error 21)\npolicies: 0"),
     (["s", "-"], 0, "policies: 0, accepted: 0, refused: 0, warnings: 0, faults: 0\n"),
+    (["s", "-h"], 0, "usage: cedar-validate "),
+    (["--version"], 0, "cedar-validate 0.1.0\n"),
+    (["--level=1", "--mode=strict", "s", "p"], 0, "p:1:1: policy `policy0`: accepted, level 1\n"),
+    (["--level=", "s", "p"], 2, "cedar-validate: `--level` takes a number from 0 to 4294967295\nusage: "),
+    (["--", "s", "--p"], 2, "--p: fault: cannot be read: No such file or directory (os error 2)\n"),
+    ([b"\xff", "p"], 2, "cedar-validate: a word of the command line is no text in UTF-8\n"),
+    (["s", "/dev/zero"], 2, "/dev/zero:1:1: fault: the text is longer than 64 MiB\n"),
+    (["/dev/zero", "p"], 2, "/dev/zero:1:1: fault: the text is longer than 64 MiB\n"),
 )
 
 
@@ -59,13 +70,17 @@ POLICIES = (
     ("//" + "x" * LARGE + "\n" + GOOD, 0, "p:2:1: policy `policy0`: accepted, level 1"),
     (when(f'principal.name == "{"x" * LARGE}" && principal.ag > 1'), 1, f"p:1:{LARGE + 68}: error: attribute `ag` does not exist on `User`"),
     (when(f"[{'1,' * (LARGE // 20)}1].contains(context.n)"), 0, "p:1:1: policy `policy0`: accepted, level 0"),
-    (when("(" * LARGE), 2, "p:1:105: fault: nested too deep: some 60 parentheses are read"),
-    (when("!" * LARGE), 2, "p:1:834: fault: nested too deep: some 60 parentheses are read"),
-    (when("principal has " + ".".join(["boss"] * 100_000)), 2, "p:1:4062: fault: nested too deep: some 60 parentheses are read"),
+    (when("(" * LARGE), 2, "p:1:844: fault: nested too deep: 800 brackets and operators are read"),
+    (when("!" * LARGE), 2, "p:1:844: fault: nested too deep: 800 brackets and operators are read"),
+    (when("(" * 799 + "true" + ")" * 799), 0, "p:1:1: policy `policy0`: accepted, level 0"),
+    (when("(" * 395 + "true" + " || true)" * 395), 0, "p:1:1: policy `policy0`: accepted, level 0"),
+    (when("(true || " * 395 + "true" + ")" * 395), 0, "p:1:1: policy `policy0`: accepted, level 0"),
+    (when("(" * 700 + "principal" + ".boss" * 450 + ")" * 700 + ".boss" * 450), 2, "p:1:5453: fault: nested too deep: 800"),
+    (when("principal has " + ".".join(["boss"] * 100_000)), 2, "p:1:4062: fault: nested too deep: 800 brackets and operators are read"),
     (when("principal" + ".boss" * 350 + ".age > 1"), 0, "p:1:1: policy `policy0`: accepted, level 351"),
     (when("principal" + ".boss" * 450 + ".age > 1"), 1, "p:1:1: error: nested too deep to be checked: fewer than 400 parts may stand inside each other"),
-    (when(" && ".join(["true"] * 100_000)), 2, "p:1:6449: fault: nested too deep: some 60 parentheses are read"),
-    (SCOPE + " when { true }" * 801 + ";", 2, "p:1:11237: fault: nested too deep: some 60 parentheses are read"),
+    (when(" && ".join(["true"] * 100_000)), 2, "p:1:6449: fault: nested too deep: 800 brackets and operators are read"),
+    (SCOPE + " when { true }" * 801 + ";", 2, "p:1:11237: fault: nested too deep: 800 brackets and operators are read"),
     (";" * LARGE, 2, "p: fault: 100 faults, so the rest of the file is not read"),
     ('"' + "\\" * LARGE, 2, "p:1:1: fault: `permit` or `forbid` is expected"),
     ("/" * (1 + (1 << 26)), 2, "p:1:1: fault: the text is longer than 64 MiB"),
@@ -75,6 +90,17 @@ POLICIES = (
     (when("true::x"), 2, "p:1:44: fault: an expression is expected, where `true` is read"),
     ('permit(principal == User "a", action, resource);', 2, "p:1:26: fault: `::` is expected, where `\"a\"` is read"),
     (when("(principal is User in principal) is User in principal"), 2, "p:1:85: fault: an `is .. in` behind an operand that has one too"),
+    ("permit(principal, action, resource,);\n", 0, "policies: 1, accepted: 1, refused: 0, warnings: 0, faults: 0"),
+    ('permit(principal, action in [Action::"view",], resource);', 0, "policies: 1, accepted: 1, refused: 0, warnings: 0, faults: 0"),
+    ('permit(principal, action == User::"a", resource);', 2, "p:1:29: fault: the type of an action has to be named `Action`, where `User`"),
+    ('permit(principal, action in [Action::"view", File::"b"], resource);', 2, "p:1:46: fault: the type of an action has to be named"),
+    (when('principal == User :: "a"'), 0, "p:1:1: policy `policy0`: accepted, level 0"),
+    (when('"\\u{6_1}" == "a"'), 0, "policies: 1, accepted: 1, refused: 0, warnings: 0, faults: 0"),
+    (when('"a\rb" == "a"'), 2, "p:1:44: fault: a carriage return in a text: `\\r` stands for one, where"),
+    ('@id("admin\u3164") ' + GOOD, 0, "p:1:1: policy `admin\\u{3164}`: accepted, level 1"),
+    (when('principal.name == "\u202e"'), 0, "p:1:62: warning: a text with marks of direction, which may be shown in another order"),
+    (when('principal != User::"\\u{2066}"'), 0, "p:1:57: warning: an id with marks of direction, which may be shown in another order"),
+    (when(f"[{'principal.x, ' * 150}1].isEmpty()"), 1, "p:1:1: 50 more findings"),
     (when("[1].contains()"), 2, "p:1:48: fault: one argument is expected, where `contains` is read"),
     (when("[1].contains(1, 2) && true"), 2, "p:1:48: fault: one argument is expected, where `contains` is read"),
     (when("[1].isEmpty(1) && true"), 2, "p:1:48: fault: no argument is expected, where `isEmpty` is read"),
@@ -108,12 +134,19 @@ SCHEMAS = (
     ("entity A { a: Long? };", 2, "s:1:19: fault: `?` before the `:` is expected, where `?` is read"),
     ("entity A; action a appliesTo { principals: A };", 2, "s:1:32: fault: `principal`, `resource` or `context` is expected, where"),
     ("action a in [b]; action b in [a]; namespace N { } namespace N { }\n" + SCHEMA, 0, "p:1:1: policy `policy0`: accepted"),
+    (SCHEMA + 'entity A in [User,]; entity B enum ["a", "b",]; action a in [view,] appliesTo { principal: [User,], resource: [File,] };', 0, "p:1:1:"),
+    (SCHEMA + "action a appliesTo { principal: [], resource: File };", 2, "s:4:33: fault: at least one type is expected, where `[` is read"),
+    (SCHEMA + "namespace N { entity User; }", 2, "s:4:22: fault: a name of a namespace that hides one outside of namespaces: `N::User`"),
+    (SCHEMA + "namespace N { type File = Long; }", 2, "s:4:20: fault: a name of a namespace that hides one outside of namespaces: `N::File`"),
+    (SCHEMA + "namespace N { action a, view; }", 2, "s:4:25: fault: a name of a namespace that hides one outside of namespaces: `N::Action"),
+    (SCHEMA + "entity A { b: B }; entity B; type B = Long;", 0, "p:1:1: policy `policy0`: accepted, level 1"),
     ("namespace N { entity Long; }\n" + SCHEMA, 0, "p:1:1: policy `policy0`: accepted, level 1"),
     ("namespace N { entity String; entity A { a: String, b: __cedar::String }; }\n" + SCHEMA, 0, "p:1:1: policy `policy0`: accepted"),
     ("type T = Set<U>; type U = T;", 2, "s:1:14: fault: nested too deep, as a type that contains itself is"),
     ("type T0 = Long; " + "".join(f"type T{i + 1} = {{a: T{i}, b: T{i}}}; " for i in range(99)), 2, "s:1:"),
     ("".join(f"entity T{i} {{ a: T{i * 7 % 10_000} }};\n" for i in range(10_000)) + SCHEMA, 0, "p:1:1: policy `policy0`: accepted"),
     ("".join(f"entity T{i} in [T{i + 1}];\n" for i in range(20_000)) + "entity T20000;", 2, "s:1449:8: fault: too many descendants"),
+    (SCHEMA + f"entity {', '.join(f'A{i}' for i in range(1100))} in [{', '.join(f'A{i}' for i in range(1100))}];", 2, "s:4:8: fault: too many descendants"),
 )
 
 
@@ -246,18 +279,57 @@ def differs(program, words, shown):
 def copies_differ():
     """What is wrong with the names of the copies of files that are called alike; None where nothing is."""
     with tempfile.TemporaryDirectory() as room:
-        called = ["a/x", "./a/x", "a/../a/x", f"{room}/a/x", "a/y=z", "-", "missing"]
+        called = ["a/x", "./a/x", "a/../a/x", f"{room}/a/x", "a/y=z", "-", "missing", "stdin", "stdout", "program"]
         Path(room, "a").mkdir()
-        for name in ("a/x", "a/y=z"):
+        for name in ("a/x", "a/y=z", "stdin", "stdout", "program"):
             written(Path(room, name), name)
         here = os.getcwd()
         os.chdir(room)
         names, files, words_of = validate.placed(called, room)
         os.chdir(here)
     back = [validate.with_words(f"{name}:1:1: fault", words_of) for name in names]
-    if len(set(names)) == len(names) and len(files) == 5 and back == [f"{word}:1:1: fault" for word in called]:
+    are_apart = not set(names) & {"stdin", "stdout", "program"}
+    if are_apart and len(set(names)) == len(names) and len(files) == 8 and back == [f"{word}:1:1: fault" for word in called]:
         return None
     return f"{names}, {files}, {back}"
+
+
+def ends_of_script():
+    """What differs in how a copy of scripts/validate ends, called by a symbolic link, with an rt that only waits."""
+    with tempfile.TemporaryDirectory() as room:
+        for folder in ("scripts", "tools", "crates/cedar_validate"):
+            Path(room, folder).mkdir(parents=True)
+        for name in ("setup", "validate", "validate.py"):
+            shutil.copy(TOP / "scripts" / name, Path(room, "scripts"))
+        tools = Path(room, "tools")
+        waiting = tools / "rt"
+        waiting.write_text(f"#!/bin/sh\ntouch {room}/begun\nexec sleep 60\n")
+        waiting.chmod(0o755)
+        link = Path(room, "link")
+        link.symlink_to(Path(room, "scripts", "validate"))
+        here = {**os.environ, "PATH": f"{tools}:{os.environ['PATH']}"}
+        for number in (signal.SIGINT, signal.SIGTERM):
+            yield number.name, stopped(link, room, here, number)
+        for words in ([room, "p"], [b"\xff", "p"]):
+            done = subprocess.run([str(link), *words], env=here, stdin=subprocess.DEVNULL, capture_output=True, timeout=SECONDS)
+            is_right = done.returncode == 2 and done.stderr.startswith(b"scripts/validate: ") and b"Traceback" not in done.stderr
+            yield words, None if is_right else f"status {done.returncode}: {done.stderr!r}"
+
+
+def stopped(link, room, here, number):
+    """What is wrong with how the script ends at a signal, once rt has begun; None where nothing is."""
+    begun = Path(room, "begun")
+    begun.unlink(missing_ok=True)
+    child = subprocess.Popen([str(link), "s", "p"], env=here, stdin=subprocess.DEVNULL, stdout=subprocess.PIPE, stderr=subprocess.PIPE)
+    for _ in range(SECONDS * 10):
+        if begun.exists() or child.poll() is not None:
+            break
+        time.sleep(0.1)
+    child.send_signal(number)
+    out, err = child.communicate(timeout=SECONDS)
+    if child.returncode == 70 and b"Traceback" not in err and err.endswith(b"scripts/validate: stopped\n"):
+        return None
+    return f"status {child.returncode}: {err!r}"
 
 
 def main(words):
@@ -288,6 +360,11 @@ def main(words):
     failed += difference is not None
     if difference is not None:
         print(f"scripts/validate.py: {difference}")
+    for what, difference in ends_of_script():
+        passed += difference is None
+        failed += difference is not None
+        if difference is not None:
+            print(f"scripts/validate: {what}: {difference}")
     for page, asked, shown in shown_runs():
         difference = differs(program, asked, shown)
         passed += difference is None

@@ -1,4 +1,4 @@
--- A set of ids, to which one more is added.
+-- A set of ids, to which one more is added, or some and then more.
 use Rattle.std.proofs.Common.{◌≡◌, ◌⊎◌, inl, inr, ◌||◌, true, true≢false, List, [], ◌∷◌, ◌++◌, sym, ◌∙◌, subst}
 use Rattle.cedar_types.specs.Lemmas.Comparisons.{uid_same}
 use Rattle.cedar_types.specs.Names.{Uid, uid_eq}
@@ -76,3 +76,32 @@ module _ (old these new added : List Uid) (x : Uid) (a : AddsNew old these new a
           subst (λ z. AddsNew old (these ++ x ∷ []) z added) (sym same) (known h) in
           subst (λ z. AddsNew old z new' added') (sym one_more)
           (subst (AddsNew old (these ++ x ∷ []) new') (sym e) k)
+
+-- ---- some ids, and then more
+
+module _ (old these mid added more new found : List Uid) (first : AddsNew old these mid added)
+    (second : AddsNew mid more new found) where
+  old_or_found : (u : Uid) → IsOneOf u old ⊎ IsOneOf u added → IsOneOf u old ⊎ IsOneOf u (added ++ found)
+  old_or_found u (inl k) = inl k
+  old_or_found u (inr k) = inr (in_left u added found k)
+
+  by_both : (u : Uid) → IsOneOf u mid ⊎ IsOneOf u found → IsOneOf u old ⊎ IsOneOf u (added ++ found)
+  by_both u (inl k) = old_or_found u (first.only u k)
+  by_both u (inr k) = inr (in_right u added found k)
+
+  both : AddsNew old (these ++ more) new (added ++ found)
+  both = record {
+    kept = λ u k. second.kept u (first.kept u k);
+    there = λ u k.
+        in_either these more u (IsOneOf u new) k (λ i. second.kept u (first.there u i)) (second.there u);
+    only = λ u k. by_both u (second.only u k);
+    of_these = λ u k.
+        in_either added found u (IsOneOf u (these ++ more)) k
+        (λ i. in_left u these more (first.of_these u i)) (λ i. in_right u these more (second.of_these u i));
+  }
+
+  pub then_more : (all came : List Uid) → all ≡ these ++ more → came ≡ added ++ found
+      → AddsNew old all new came
+  then_more all came e f =
+      subst (λ z. AddsNew old z new came) (sym e)
+      (subst (AddsNew old (these ++ more) new) (sym f) both)

@@ -1,9 +1,9 @@
 mod AddedIds
 mod TypedConditions
+mod LoadedOutcomes
 mod LoadedSlices
 mod Passes
 mod Promises
 mod Reported
 mod SameResponses
 mod Rounds
-mod Warnings

@@ -1,5 +1,5 @@
 -- A store with the entries of the ids that were found has the slice.
-use Rattle.std.proofs.Common.{ℕ, zero, suc, List, [], ◌∙◌}
+use Rattle.std.proofs.Common.{ℕ, zero, suc, List, ◌∙◌}
 use Rattle.cedar_types.specs.Names.{Uid}
 use Rattle.cedar_types.specs.Schemas.{uid_is_among}
 use Rattle.cedar_types.specs.Values.Stores.{Store, entity_at}

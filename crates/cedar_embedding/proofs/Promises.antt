@@ -1,19 +1,20 @@
 -- What a host is promised in its mode, from what the libraries promise in each.
-use Rattle.std.proofs.Common.{◌≡◌, ℕ, Bool, true, List, [], sym, ◌∙◌}
+use Rattle.std.proofs.Common.{◌≡◌, ℕ, ◌≤◌, Bool, true, false, true≢false, List, [], ◌∷◌, length, refl, sym, ◌∙◌, IsTrue, arith}
+use Rattle.std.specs.Prelude.{◌↔◌}
 use Rattle.cedar_types.specs.declared.base.types.ValidationMode.{ValidationMode}
 use Rattle.cedar_types.specs.Errors.{Finding, Caution}
 use Rattle.cedar_types.specs.Environments.Linking.{checked_envs}
 use Rattle.cedar_types.specs.Environments.RequestEnvs.{Env}
 use Rattle.cedar_types.specs.Templates.{PlainTemplate, condition_of}
-use Rattle.cedar_typing.specs.Evaluation.Conformance.{IsOneOf}
 use Rattle.cedar_typing.specs.PolicyCheck.{succeeds, PolicyChecks}
-use Rattle.cedar_typing.specs.PolicyCheck.Outcome.{passes, impossible}
-use Rattle.cedar_typing.specs.Soundness.Policies.{Basis, IsNamedBySchema, PolicyIsSafeIn, ImpossibleIsNeverTrueIn, CheckedOn, setting_on}
+use Rattle.cedar_typing.specs.PolicyCheck.Outcome.{passes}
+use Rattle.cedar_typing.specs.Soundness.Policies.{Basis, IsNamedBySchema, CheckedOn, setting_on}
 use Rattle.cedar_typing.specs.Soundness.PolicyCheck.{IsSoundPolicyCheckIn}
 use Rattle.cedar_typing.specs.TypedExpr.{TypedTree}
 use Rattle.cedar_typing.proofs.Policies.EachEnvironment.{each_has_passing}
-use Rattle.cedar_typechecker.specs.Slices.Validation.{IsCutNowhere, SilenceIsKeptIn}
-use Rattle.cedar_typechecker.proofs.Slices.Validation.{passing_is_no_cut}
+use Rattle.cedar_typechecker.specs.declared.survey.Survey.{Survey}
+use Rattle.cedar_typechecker.specs.Slices.Surveys.{SurveyIsKeptIn}
+use Rattle.cedar_typechecker.specs.Surveys.{passes_of, impossible_of, level_errors_of}
 use Rattle.cedar_embedding.specs.declared.safety.SoundMode.{SoundMode}
 use Rattle.cedar_embedding.specs.Safety.{validation_mode, IsSafeToEvaluate, PassesEverywhere, DoesNotGoWrong, IsNeverTrue}
 use Rattle.cedar_embedding.specs.Slices.{NeedsSliceAlone}
@@ -28,11 +29,15 @@ passes_everywhere b t answer errors errors' old new o h =
     o.listed (checked_envs b.schema b.mode t) o.verdicts o.in_some_order o.checked
     (sym o.answered ∙ h)
 
--- what passes in each environment is nested too deep in none
-pub passing_is_shallow : (b : Basis) (t : PlainTemplate) → PassesEverywhere b t → IsCutNowhere b t
-passing_is_shallow b t passing env one =
-    let p = passing env one in
-    passing_is_no_cut (setting_on b t.id env) (condition_of t) p.0 p.1 p.2
+-- a set of which a test says that it has no member has none
+pub no_member : {A : Type 0} (xs : List A) (b : Bool) → (IsTrue b ↔ (length xs ≡ 0)) → b ≡ true
+    → xs ≡ []
+no_member [] b d e = refl
+no_member (x ∷ xs) true d e = absurd (not_none (d.0 refl))
+  where
+    not_none : length (x ∷ xs) ≡ 0 → ⊥
+    not_none h = omega arith
+no_member (x ∷ xs) false d e = absurd (true≢false (sym e))
 
 -- what holds in Strict and in Permissive holds in the host's mode
 in_each : (P : ValidationMode → Type 0) → P ValidationMode.Strict → P ValidationMode.Permissive
@@ -54,27 +59,24 @@ module _ (asked : SoundMode) (b : Basis) (t : PlainTemplate)
       in_each (SoundIn env e) strict permissive asked
       (record { mode = same; closed = closed; environment = of_schema })
 
-  pub accepted_is_safe : (answer : Bool)
-      → PolicyIsSafeIn ValidationMode.Strict b t answer
-      → PolicyIsSafeIn ValidationMode.Permissive b t answer
-      → answer ≡ true → IsNamedBySchema b.schema t → DoesNotGoWrong b t
-  accepted_is_safe answer strict permissive h named closed =
-      in_each (λ m. PolicyIsSafeIn m b t answer) strict permissive asked h
-      (record { mode = same; closed = closed }) named
+  -- ---- by a survey
 
-  pub warned_is_never_true : (old new : List Caution)
-      → ImpossibleIsNeverTrueIn ValidationMode.Strict b t old new
-      → ImpossibleIsNeverTrueIn ValidationMode.Permissive b t old new
-      → (IsOneOf (impossible t) old → ⊥) → IsOneOf (impossible t) new → IsNeverTrue b t
-  warned_is_never_true old new strict permissive absent there closed =
-      in_each (λ m. ImpossibleIsNeverTrueIn m b t old new) strict permissive asked absent there
-      (record { mode = same; closed = closed })
+  module _ (s : Survey) (strict : SurveyIsKeptIn ValidationMode.Strict b t s)
+      (permissive : SurveyIsKeptIn ValidationMode.Permissive b t s) where
+    kept : SurveyIsKeptIn (validation_mode asked) b t s
+    kept = in_each (λ m. SurveyIsKeptIn m b t s) strict permissive asked
 
-  -- without a level error an accepted policy needs the slice alone
-  pub silent_needs_slice_alone : (n : ℕ) (errors : List Finding)
-      → SilenceIsKeptIn ValidationMode.Strict b t n errors
-      → SilenceIsKeptIn ValidationMode.Permissive b t n errors
-      → errors ≡ [] → PassesEverywhere b t → NeedsSliceAlone b t n
-  silent_needs_slice_alone n errors strict permissive silent passing closed =
-      in_each (λ m. SilenceIsKeptIn m b t n errors) strict permissive asked silent
-      (passing_is_shallow b t passing) (record { mode = same; closed = closed })
+    pub passing_is_safe : passes_of s ≡ true → IsNamedBySchema b.schema t → DoesNotGoWrong b t
+    passing_is_safe e named closed = kept.safe e (record { mode = same; closed = closed }) named
+
+    pub impossible_is_never_true : impossible_of s ≡ true → IsNeverTrue b t
+    impossible_is_never_true e closed = kept.never_true e (record { mode = same; closed = closed })
+
+    -- without a level error what passes needs the slice alone
+    pub passing_needs_slice_alone : (n : ℕ) → n ≤ 4294967295 → passes_of s ≡ true
+        → level_errors_of s n ≡ [] → IsNamedBySchema b.schema t → NeedsSliceAlone b t n
+    passing_needs_slice_alone n le e none named closed world formed conforming = record {
+      safe = passing_is_safe e named closed world formed conforming;
+      same = kept.sliced n le e none (record { mode = same; closed = closed }) named world formed
+          conforming;
+    }

@@ -20,7 +20,7 @@ use Rattle.cedar_typing.specs.TypedExpr.{Source, TypedTree}
 use Rattle.cedar_typing.proofs.Basics.{some_is, none_is}
 use Rattle.cedar_typing.proofs.Basics.Members.{each_one, in_right, moved}
 use Rattle.cedar_typing.proofs.Composition.Links.{own_env_is_checked}
-use Rattle.cedar_typechecker.proofs.Levels.RequiredLevels.{nil_right}
+use Rattle.cedar_typechecker.proofs.Levels.Gains.{nil_right}
 use Rattle.cedar_embedding.specs.declared.conditions.TypedCondition.{TypedCondition}
 use Rattle.cedar_embedding.specs.Conditions.{env_in, tree_in, typed_condition_in, IsOfCheck, AreOfAllChecks, AreConditionsOf}
 use Rattle.cedar_embedding.specs.Conditions.{MeansTheConditionIn, IsOwnOf, CoverRequestsIn, MeanItIfThereIn}

@@ -1,5 +1,6 @@
 pub mod Addresses
 pub mod Conditions
+pub mod LoadedOutcomes
 pub mod Loading
 pub mod ResponseExamples
 pub mod Responses

@@ -4,6 +4,7 @@
 
 pub mod conditions;
 pub mod functions;
+pub mod loaded_outcomes;
 pub mod loading;
 pub mod policies;
 pub mod policy_sets;

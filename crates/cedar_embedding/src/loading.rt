@@ -57,27 +57,30 @@ pub fn ids_within<E: Entities>(
         if newest.is_empty() {
             return Ok(ids);
         }
-        let held = held_by_all(alloc, entities, &newest)?;
-        newest = add_new(alloc, &mut ids, &held)?;
+        newest = add_held(alloc, &mut ids, entities, &newest)?;
     }
     Ok(ids)
 }
 
-/// What each of these holds, one after another.
-fn held_by_all<E: Entities>(
+/// Adds what each of these holds to the ids, and answers those that were not there. What an entity holds is added before the
+/// next is asked, so that repeats among what they hold take no memory.
+fn add_held<E: Entities>(
     alloc: Global,
+    ids: &mut BTreeSet<EntityUID>,
     entities: &E,
-    ids: &[EntityUID],
+    holders: &[EntityUID],
 ) -> Result<Vec<EntityUID>, AllocError>
-    ensures { IfOk result (λ all.
-        map uid_of all.items ≡ flat_map (E.answered entities.now) (map uid_of ids.now)) }
+    ensures { IfOk result (λ added. AddsNew (uids_of ids.old)
+        (flat_map (E.answered entities.now) (map uid_of holders.now))
+        (uids_of ids.new) (map uid_of added.items)) }
 {
-    let mut all = Vec::new(alloc);
-    for id in ids {
-        let held = entities.held(alloc, id)?;
-        append(&mut all, held)?;
+    let mut added = Vec::new(alloc);
+    for holder in holders {
+        let held = entities.held(alloc, holder)?;
+        let more = add_new(alloc, ids, &held)?;
+        append(&mut added, more)?;
     }
-    Ok(all)
+    Ok(added)
 }
 
 fn append(all: &mut Vec<EntityUID>, more: Vec<EntityUID>) -> Result<(), AllocError>

@@ -2,9 +2,10 @@
 ghost use Rattle.std.specs.Prelude.{◌≡◌, IfOk};
 
 use crate::policy_sets::{Findings, WrittenPolicy};
+use cedar_typechecker::survey::Environments;
 use cedar_types::base::{Escaped, Loc, OneLine, PolicyID, ValidationError, ValidationWarning};
 use std::alloc::{AllocError, Global};
-use std::collections::HashSet;
+use std::collections::BTreeMap;
 
 /// What may have failed where there is no error.
 const UNEXPLAINED: &str = "an unknown, or too deep a nesting";
@@ -49,10 +50,10 @@ pub(crate) fn report<'a>(
 fn error_lines(
     alloc: Global,
     text: &str,
-    errors: &HashSet<ValidationError>,
+    errors: &BTreeMap<ValidationError, Environments>,
 ) -> Result<Vec<String>, AllocError> {
     let mut lines = Vec::new(alloc);
-    for error in errors {
+    for error in errors.keys() {
         lines.push(reason(alloc, text, error)?)?;
     }
     lines.sort()?;
@@ -61,7 +62,7 @@ fn error_lines(
 
 fn warning_lines(
     alloc: Global,
-    warnings: &HashSet<ValidationWarning>,
+    warnings: &Vec<ValidationWarning>,
 ) -> Result<Vec<String>, AllocError> {
     let mut lines = Vec::new(alloc);
     for warning in warnings {

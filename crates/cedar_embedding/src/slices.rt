@@ -1,22 +1,22 @@
 //! A host that validates policies for the slices that it loads.
-ghost use Rattle.std.specs.Prelude.{◌≡◌, true, [], map, All, IfOk};
+ghost use Rattle.std.specs.Prelude.{◌≡◌, true, map, option_map, All, IfOk};
 ghost use Rattle.cedar_types.specs.Templates.{template_of};
-ghost use Rattle.cedar_typechecker.specs.Levels.Answers.{level_errors_left};
+ghost use Rattle.cedar_typechecker.specs.Levels.Required.{IsRequiredLevel};
 ghost use Rattle.cedar_embedding.specs.Responses.{HaveSameResponses};
 ghost use Rattle.cedar_embedding.specs.Safety.{basis_in, PassesEverywhere, DoesNotGoWrong};
 ghost use Rattle.cedar_embedding.specs.Safety.{IsNeverTrue};
 ghost use Rattle.cedar_embedding.specs.Slices.{NeedsSliceAlone, IsRightForSlices};
 
-use crate::policy_sets::{Findings, WrittenPolicy, validate};
+use crate::policy_sets::{Findings, WrittenPolicy, find};
 use crate::reports::{PolicyReport, report};
 use crate::safety::SoundMode;
-use cedar_typechecker::level_validate::LevelErrors;
 use cedar_typechecker::rbac::Validator;
+use cedar_typechecker::survey::Environments;
 use cedar_types::base::{
     ArgumentCheck, EntityDerefLevel, Template, ValidationError, ValidationMode,
 };
 use std::alloc::{AllocError, Global};
-use std::collections::HashSet;
+use std::collections::{BTreeMap, BTreeSet};
 
 /// What the host says of a policy that it evaluates over slices.
 #[derive(Debug, Drop)]
@@ -47,20 +47,16 @@ pub fn validate_for_slices<'a, C: ArgumentCheck>(
 {
     let mut reports = Vec::with_capacity(alloc, policies.len())?;
     for policy in policies {
-        let findings = validate_within(alloc, validator, mode, steps, &policy.template)?;
-        let said = report(alloc, policy, findings)?;
-        let asked = ValidationMode::from(mode);
-        let level = validator.required_level(alloc, &policy.template, asked)?;
-        reports.push(SliceReport {
-            report: said,
-            level,
-        })?;
+        let found = validate_within(alloc, validator, mode, steps, &policy.template)?;
+        let level = found.level;
+        let own = report(alloc, policy, found)?;
+        reports.push(SliceReport { report: own, level })?;
     }
     Ok(reports)
 }
 
 /// What is found in a policy, and where it dereferences more than `steps` entities, one after another.
-/// The check alone says that no part is nested too deep, and the levels alone that the slice suffices.
+/// Each environment is typed once.
 pub fn validate_within<C: ArgumentCheck>(
     alloc: Global,
     validator: &Validator<'_, C>,
@@ -76,23 +72,27 @@ pub fn validate_within<C: ArgumentCheck>(
         → NeedsSliceAlone (basis_in mode C.refusal validator.now) (template_of policy.now) steps) }
     ensures never_true { IfOk result (λ found. found.is_impossible ≡ true
         → IsNeverTrue (basis_in mode C.refusal validator.now) (template_of policy.now)) }
+    ensures level { IfOk result (λ found.
+        IsRequiredLevel (basis_in mode C.refusal validator.now) (template_of policy.now)
+        (option_map (λ l. l.level) found.level)) }
 {
-    let mut findings = validate(alloc, validator, mode, policy)?;
-    let mode = ValidationMode::from(mode);
-    let (found, _warnings) = validator.validate_policy_with_level(alloc, policy, mode, steps)?;
-    let is_within = is_silent(found, &mut findings.errors)?;
+    let survey = validator.survey(alloc, policy, ValidationMode::from(mode))?;
+    let exceeding = survey.level_errors(alloc, steps)?;
+    let is_within = exceeding.is_empty();
+    let mut findings = find(alloc, validator, policy, survey)?;
+    add_all(alloc, &mut findings.errors, exceeding)?;
     findings.is_accepted &= is_within;
     Ok(findings)
 }
 
-/// Whether there is no error. Each that there is, is added.
-fn is_silent(found: LevelErrors, errors: &mut HashSet<ValidationError>) -> Result<bool, AllocError>
-    ensures { IfOk result (λ silent. silent ≡ true → level_errors_left found ≡ []) }
-{
-    let mut silent = true;
+/// Adds errors that typing does not find.
+fn add_all(
+    alloc: Global,
+    errors: &mut BTreeMap<ValidationError, Environments>,
+    found: BTreeSet<ValidationError>,
+) -> Result<(), AllocError> {
     for error in found {
-        errors.insert(error)?;
-        silent = false;
+        errors.insert(error, Environments::none(alloc))?;
     }
-    Ok(silent)
+    Ok(())
 }

@@ -6,6 +6,8 @@
 #[cfg(test)]
 mod conditions;
 #[cfg(test)]
+mod enumerated;
+#[cfg(test)]
 mod loading;
 pub mod memory;
 #[cfg(test)]

@@ -8,7 +8,20 @@ use cedar_typechecker::base::*;
 use cedar_typechecker::rbac::Validator;
 use std::alloc::{AllocError, Global};
 use std::collections::BTreeSet;
+use std::io;
 use std::rc::Rc;
+use thiserror::Error;
+
+/// Why the report is not printed whole.
+#[derive(Debug, Drop, Error)]
+enum ReportError {
+    #[error(transparent)]
+    Memory(#[from(alloc)] AllocError),
+    #[error("the schema is refused: {0}")]
+    Schema(#[from] SchemaError),
+    #[error(transparent)]
+    Output(#[from] io::Error),
+}
 
 /// `entity User { vip?: Bool };`
 fn types(alloc: Global) -> Result<Vec<ValidatorEntityType>, AllocError> {
@@ -76,7 +89,7 @@ fn policies(alloc: Global) -> Result<Vec<WrittenPolicy>, AllocError> {
     Ok(vec![in alloc; guarded, unguarded]?)
 }
 
-fn main(rt: HostRuntime) -> anyhow::Result<()> {
+fn main(rt: HostRuntime) -> Result<(), ReportError> {
     let alloc = rt.alloc();
     let policies = policies(alloc)?;
     let extensions = ExtensionSchemas::default(alloc);

@@ -4,7 +4,8 @@ use crate::tokens::{Token, TokenKind, token_from};
 use cedar_types::base::Loc;
 use std::alloc::Global;
 
-/// How deep the parts of a text may stand inside each other, counted in steps of the grammar: some sixty parentheses.
+/// How deep the parts of a text may stand inside each other: of an expression its nodes, and also the brackets and operators
+/// that are begun at a place; of a type the steps of the grammar.
 pub const MAX_NESTING: usize = 800;
 
 /// How many bytes a text may have.

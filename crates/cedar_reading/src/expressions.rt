@@ -1,251 +1,227 @@
-// Expressions, as Cedar writes them. Each call goes one step deeper into the grammar, up to `MAX_NESTING`.
+// Expressions, as Cedar writes them. What is begun stands in a list, and not on the stack: so the stack does not grow with what
+// the text nests, parentheses included.
+use crate::brackets::{Fields, List, ListOf};
 use crate::cursor::{Cursor, MAX_NESTING};
 use crate::faults::{Fault, ReadError};
-use crate::members::{
-    Beginning, beginning_with_word, call, has, key, literal, method_call, negative_number, slot,
-};
+use crate::members::{Beginning, beginning_with_word, has, literal, negative_number, slot};
 use crate::names::entity_type;
-use crate::operators::{Level, compared, is_in, joined, next_comparison, next_connective};
-use crate::parts::{Part, in_parentheses, part_since};
+use crate::open_parts::{
+    Next, Open, Prefix, begin, close, innermost_level, next_member, next_value,
+};
+use crate::operators::{Level, Operator, next_operator};
+use crate::parts::{Part, leaf_since, part_since};
 use crate::texts::{pattern, text};
 use crate::tokens::TokenKind;
 use cedar_types::base::Expr;
-use std::collections::BTreeMap;
 use std::rc::RcStr;
 
-/// Reads an expression.
-#[cycle(expressions)]
-pub fn expression(cursor: &mut Cursor<'_>, left: usize) -> Result<Part, ReadError> {
-    let Some(left) = left.checked_sub(1) else {
-        return Err(cursor.fault(Fault::TooDeep));
-    };
-    let start = cursor.start();
-    if !cursor.takes("if") {
-        return connected(cursor, Level::Or, left);
-    }
-    let test = expression(cursor, left)?;
-    cursor.expect("then")?;
-    let chosen = expression(cursor, left)?;
-    cursor.expect("else")?;
-    let other = expression(cursor, left)?;
-    let whole = Expr::ite(cursor.alloc, test.expr, chosen.expr, other.expr)?;
-    Ok(part_since(cursor, start, whole))
-}
-
-/// Reads operands with connectives of this level between them.
-#[cycle(expressions)]
-fn connected(cursor: &mut Cursor<'_>, level: Level, left: usize) -> Result<Part, ReadError> {
-    let Some(left) = left.checked_sub(1) else {
-        return Err(cursor.fault(Fault::TooDeep));
-    };
-    let mut whole = operand(cursor, level, left)?;
-    // each operand nests those before it one deeper
-    for _ in 0..MAX_NESTING {
-        let Some(connective) = next_connective(cursor, level) else {
-            return Ok(whole);
+/// Reads an expression. At most `MAX_NESTING` nodes stand inside each other in it, and at most as many brackets and operators
+/// are begun at any place.
+pub fn expression(cursor: &mut Cursor<'_>) -> Result<Part, ReadError> {
+    let mut open = Vec::new(cursor.alloc);
+    let mut next = Next::Operand;
+    // each turn reads a token, or ends what began with one
+    for _ in 0..cursor.most_left().saturating_mul(2) {
+        next = match next {
+            Next::Operand => operand(cursor, &mut open)?,
+            Next::Behind(part, follows) => behind(cursor, &mut open, part, follows)?,
+            Next::End(part) => return Ok(part),
         };
-        let right = operand(cursor, level, left)?;
-        let expr = joined(cursor.alloc, connective, whole.expr, right.expr)?;
-        whole = part_since(cursor, whole.covers.start, expr);
     }
     Err(cursor.fault(Fault::TooDeep))
 }
 
-/// Reads an operand of a connective of this level.
-#[cycle(expressions)]
-fn operand(cursor: &mut Cursor<'_>, level: Level, left: usize) -> Result<Part, ReadError> {
-    let Some(left) = left.checked_sub(1) else {
+/// Reads the beginning of an operand: a whole one, or what begins one. It fails where too much is begun.
+fn operand(cursor: &mut Cursor<'_>, open: &mut Vec<Open>) -> Result<Next, ReadError> {
+    if open.len() >= MAX_NESTING {
         return Err(cursor.fault(Fault::TooDeep));
-    };
-    match level {
-        Level::Or => connected(cursor, Level::And, left),
-        Level::And => relation(cursor, left),
-        Level::Sum => connected(cursor, Level::Product, left),
-        Level::Product => unary(cursor, left),
     }
-}
-
-/// Reads one operand, or two with a comparison between them, or one with `has`, `like` or `is`.
-#[cycle(expressions)]
-fn relation(cursor: &mut Cursor<'_>, left: usize) -> Result<Part, ReadError> {
-    let Some(left) = left.checked_sub(1) else {
-        return Err(cursor.fault(Fault::TooDeep));
-    };
-    let alloc = cursor.alloc;
-    let first = connected(cursor, Level::Sum, left)?;
-    let start = first.covers.start;
-    let whole = if cursor.takes("has") {
-        has(cursor, first.expr)?
-    } else if cursor.takes("like") {
-        let pattern = pattern(cursor)?;
-        Expr::like(alloc, first.expr, pattern)?
-    } else if cursor.takes("is") {
-        return typed(cursor, first, left);
-    } else if let Some(comparison) = next_comparison(cursor) {
-        let right = connected(cursor, Level::Sum, left)?;
-        compared(
-            alloc,
-            cursor.since(start),
-            comparison,
-            first.expr,
-            right.expr,
-        )?
-    } else {
-        return Ok(first);
-    };
-    Ok(part_since(cursor, start, whole))
-}
-
-/// Reads what stands behind `is`: a type, and perhaps `in` and an operand.
-#[cycle(expressions)]
-fn typed(cursor: &mut Cursor<'_>, first: Part, left: usize) -> Result<Part, ReadError> {
-    let Some(left) = left.checked_sub(1) else {
-        return Err(cursor.fault(Fault::TooDeep));
-    };
-    let alloc = cursor.alloc;
-    let start = first.covers.start;
-    let named = entity_type(cursor)?;
-    if !cursor.is_at("in") {
-        let whole = Expr::is_entity_type(alloc, first.expr, named)?;
-        return Ok(part_since(cursor, start, whole));
-    }
-    // the operand stands in the tree twice
-    if !cursor.may_copy(first.covers) {
-        return Err(cursor.fault(Fault::Twice));
-    }
-    cursor.take();
-    let right = connected(cursor, Level::Sum, left)?;
-    let whole = is_in(alloc, cursor.since(start), first.expr, named, right.expr)?;
-    Ok(part_since(cursor, start, whole))
-}
-
-/// Reads an operand with the operators before it.
-#[cycle(expressions)]
-fn unary(cursor: &mut Cursor<'_>, left: usize) -> Result<Part, ReadError> {
-    let Some(left) = left.checked_sub(1) else {
-        return Err(cursor.fault(Fault::TooDeep));
-    };
     let start = cursor.start();
-    let whole = if cursor.takes("!") {
-        Expr::not(cursor.alloc, unary(cursor, left)?.expr)?
-    } else if !cursor.takes("-") {
-        return member(cursor, left);
-    } else if cursor.peek().kind == TokenKind::Number {
-        // a minus before a number belongs to the number
-        negative_number(cursor, start)?
-    } else {
-        Expr::neg(cursor.alloc, unary(cursor, left)?.expr)?
-    };
-    Ok(part_since(cursor, start, whole))
-}
-
-/// Reads an operand with the accesses and method calls behind it.
-#[cycle(expressions)]
-fn member(cursor: &mut Cursor<'_>, left: usize) -> Result<Part, ReadError> {
-    let Some(left) = left.checked_sub(1) else {
-        return Err(cursor.fault(Fault::TooDeep));
-    };
-    let mut whole = primary(cursor, left)?;
-    for _ in 0..MAX_NESTING {
-        let expr = if cursor.takes("[") {
-            let attr = text(cursor)?;
-            cursor.expect("]")?;
-            Expr::get_attr(cursor.alloc, whole.expr, attr.as_str())?
-        } else if cursor.takes(".") {
-            let at = cursor.start();
-            let name = cursor.word()?;
-            if cursor.takes("(") {
-                let args = list(cursor, ")", left)?;
-                method_call(cursor.alloc, at, name, whole.expr, args)?
-            } else {
-                Expr::get_attr(cursor.alloc, whole.expr, name)?
-            }
-        } else {
-            return Ok(whole);
-        };
-        whole = part_since(cursor, whole.covers.start, expr);
-    }
-    Err(cursor.fault(Fault::TooDeep))
-}
-
-/// Reads what no operator stands in.
-#[cycle(expressions)]
-fn primary(cursor: &mut Cursor<'_>, left: usize) -> Result<Part, ReadError> {
-    let Some(left) = left.checked_sub(1) else {
-        return Err(cursor.fault(Fault::TooDeep));
-    };
-    let start = cursor.start();
-    if cursor.takes("(") {
-        let inner = expression(cursor, left)?;
-        cursor.expect(")")?;
-        return Ok(in_parentheses(cursor, start, inner));
-    }
-    let whole = if cursor.takes("[") {
-        Expr::set(list(cursor, "]", left)?)
-    } else if cursor.takes("{") {
-        Expr::record(fields(cursor, left)?)
-    } else if cursor.takes("?") {
-        slot(cursor)?
-    } else if cursor.peek().kind == TokenKind::Word {
-        match beginning_with_word(cursor)? {
-            Beginning::Whole(expr) => expr,
-            Beginning::Function(name) => {
-                let args = list(cursor, ")", left)?;
-                call(cursor.alloc, start, name, args)?
-            }
+    let token = cursor.peek();
+    match token.kind {
+        TokenKind::Mark => marked(cursor, open, token.text, start),
+        TokenKind::Word => named(cursor, open, start),
+        _ => {
+            let whole = literal(cursor)?;
+            Ok(Next::Behind(leaf_since(cursor, start, whole), Level::Member))
         }
-    } else {
-        literal(cursor)?
-    };
-    Ok(part_since(cursor, start, whole))
+    }
 }
 
-/// Reads expressions with commas between them, and the mark behind the last.
-#[cycle(expressions)]
-fn list(
+/// Reads the beginning of an operand that begins with this mark.
+fn marked(
     cursor: &mut Cursor<'_>,
-    closing: &'static str,
-    left: usize,
-) -> Result<Vec<Expr>, ReadError> {
-    let Some(left) = left.checked_sub(1) else {
-        return Err(cursor.fault(Fault::TooDeep));
-    };
-    let mut members = Vec::new(cursor.alloc);
-    for _ in 0..cursor.most_left() {
-        if cursor.takes(closing) {
-            break;
+    open: &mut Vec<Open>,
+    mark: &str,
+    start: usize,
+) -> Result<Next, ReadError> {
+    match mark {
+        "!" => {
+            cursor.take();
+            begin(open, Open::Prefix(Prefix::Not, start))
         }
-        members.push(expression(cursor, left)?.expr)?;
-        if !cursor.takes(",") {
-            cursor.expect(closing)?;
-            break;
+        "-" => {
+            cursor.take();
+            behind_minus(cursor, open, start)
         }
+        "(" => {
+            cursor.take();
+            begin(open, Open::Parenthesis(start))
+        }
+        "[" => {
+            cursor.take();
+            let list = List::new(cursor, start, ListOf::Set);
+            next_member(cursor, open, list)
+        }
+        "{" => {
+            cursor.take();
+            let fields = Fields::new(cursor, start);
+            next_value(cursor, open, fields)
+        }
+        "?" => {
+            cursor.take();
+            let whole = slot(cursor)?;
+            Ok(Next::Behind(leaf_since(cursor, start, whole), Level::Member))
+        }
+        _ => Err(cursor.fault(Fault::Expected("an expression"))),
     }
-    Ok(members)
 }
 
-/// Reads the entries of a record, and the brace behind the last.
-#[cycle(expressions)]
-fn fields(cursor: &mut Cursor<'_>, left: usize) -> Result<BTreeMap<RcStr, Expr>, ReadError> {
-    let Some(left) = left.checked_sub(1) else {
-        return Err(cursor.fault(Fault::TooDeep));
-    };
-    let mut entries = BTreeMap::new(cursor.alloc);
-    for _ in 0..cursor.most_left() {
-        if cursor.takes("}") {
-            break;
+/// Reads what stands behind a minus, which stands at this byte: a minus before a number belongs to the number.
+fn behind_minus(
+    cursor: &mut Cursor<'_>,
+    open: &mut Vec<Open>,
+    start: usize,
+) -> Result<Next, ReadError> {
+    if cursor.peek().kind != TokenKind::Number {
+        return begin(open, Open::Prefix(Prefix::Minus, start));
+    }
+    let whole = negative_number(cursor, start)?;
+    Ok(Next::Behind(leaf_since(cursor, start, whole), Level::Product))
+}
+
+/// Reads the beginning of an operand that begins with a word. An `if` may only begin a whole expression.
+fn named(cursor: &mut Cursor<'_>, open: &mut Vec<Open>, start: usize) -> Result<Next, ReadError> {
+    if innermost_level(open) == Level::Whole && cursor.takes("if") {
+        return begin(open, Open::Test(start));
+    }
+    match beginning_with_word(cursor)? {
+        Beginning::Whole(expr) => {
+            Ok(Next::Behind(leaf_since(cursor, start, expr), Level::Member))
         }
-        let start = cursor.start();
-        let key = key(cursor)?;
-        cursor.expect(":")?;
-        let value = expression(cursor, left)?.expr;
-        if entries.insert(key, value)?.is_some() {
-            return Err(ReadError::At(start, Fault::SameKey));
-        }
-        if !cursor.takes(",") {
-            cursor.expect("}")?;
-            break;
+        Beginning::Function(name) => {
+            let list = List::new(cursor, start, ListOf::Function(name));
+            next_member(cursor, open, list)
         }
     }
-    Ok(entries)
+}
+
+/// Reads what stands behind a part: an operator, if one comes that may follow and binds stronger than what was begun before
+/// the part; else what was begun goes on with the part.
+fn behind(
+    cursor: &mut Cursor<'_>,
+    open: &mut Vec<Open>,
+    part: Part,
+    follows: Level,
+) -> Result<Next, ReadError> {
+    match next_operator(cursor) {
+        Some((level, operator)) if level <= follows && level > innermost_level(open) => {
+            cursor.take();
+            with_operator(cursor, open, part, level, operator)
+        }
+        _ => close(cursor, open, part),
+    }
+}
+
+/// Reads what stands behind an operator.
+fn with_operator(
+    cursor: &mut Cursor<'_>,
+    open: &mut Vec<Open>,
+    part: Part,
+    level: Level,
+    operator: Operator,
+) -> Result<Next, ReadError> {
+    match operator {
+        Operator::Between(connective) => { begin(open, Open::Between(level, connective, part)) }
+        Operator::Has => with_has(cursor, part),
+        Operator::Like => with_like(cursor, part),
+        Operator::Is => with_is(cursor, open, part),
+        Operator::Point => with_point(cursor, open, part),
+        Operator::Bracket => with_bracket(cursor, part),
+    }
+}
+
+fn with_has(cursor: &mut Cursor<'_>, base: Part) -> Result<Next, ReadError> {
+    let Part {
+        expr,
+        covers,
+        depth,
+    } = base;
+    let whole = has(cursor, expr)?;
+    Ok(Next::Behind(part_since(cursor, covers.start, depth, whole)?, Level::And))
+}
+
+fn with_like(cursor: &mut Cursor<'_>, base: Part) -> Result<Next, ReadError> {
+    let Part {
+        expr,
+        covers,
+        depth,
+    } = base;
+    let pattern = pattern(cursor)?;
+    let whole = Expr::like(cursor.alloc, expr, pattern)?;
+    Ok(Next::Behind(part_since(cursor, covers.start, depth, whole)?, Level::And))
+}
+
+/// Reads a type, and perhaps an `in` before an operand.
+fn with_is(cursor: &mut Cursor<'_>, open: &mut Vec<Open>, base: Part) -> Result<Next, ReadError> {
+    let entity_type = entity_type(cursor)?;
+    if cursor.is_at("in") {
+        // the operand stands in the tree twice
+        if !cursor.may_copy(base.covers) {
+            return Err(cursor.fault(Fault::Twice));
+        }
+        cursor.take();
+        return begin(open, Open::Within(entity_type, base));
+    }
+    let Part {
+        expr,
+        covers,
+        depth,
+    } = base;
+    let whole = Expr::is_entity_type(cursor.alloc, expr, entity_type)?;
+    Ok(Next::Behind(part_since(cursor, covers.start, depth, whole)?, Level::And))
+}
+
+/// Reads an attribute, or a method and the beginning of its arguments.
+fn with_point(
+    cursor: &mut Cursor<'_>,
+    open: &mut Vec<Open>,
+    base: Part,
+) -> Result<Next, ReadError> {
+    let at = cursor.start();
+    let name = cursor.word()?;
+    let start = base.covers.start;
+    if cursor.takes("(") {
+        let name = RcStr::from_str(cursor.alloc, name)?;
+        let list = List::new(cursor, start, ListOf::Method(base, name, at));
+        return next_member(cursor, open, list);
+    }
+    let whole = Expr::get_attr(cursor.alloc, base.expr, name)?;
+    Ok(Next::Behind(part_since(cursor, start, base.depth, whole)?, Level::Member))
+}
+
+/// Reads an attribute in quotes, and the bracket behind it.
+fn with_bracket(cursor: &mut Cursor<'_>, base: Part) -> Result<Next, ReadError> {
+    let Part {
+        expr,
+        covers,
+        depth,
+    } = base;
+    let attr = text(cursor)?;
+    cursor.expect("]")?;
+    let whole = Expr::get_attr(cursor.alloc, expr, attr.as_str())?;
+    Ok(Next::Behind(
+        part_since(cursor, covers.start, depth, whole)?,
+        Level::Member,
+    ))
 }

@@ -21,6 +21,12 @@ pub enum Fault {
     /// Aliases stand for others so often that their types would be too large.
     #[error("aliases that stand for too much")]
     TooLarge,
+    /// A carriage return stands in a text as it is.
+    #[error("a carriage return in a text")]
+    CarriageReturn,
+    /// The type of an action in a policy's scope has another name.
+    #[error("the type of an action has to be named `Action`")]
+    ActionType,
     #[error("the same key twice")]
     SameKey,
     #[error("the same name twice")]

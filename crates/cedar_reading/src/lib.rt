@@ -3,11 +3,13 @@
 #![tactic(auto)]
 
 mod annotations;
+mod brackets;
 mod cursor;
 mod expressions;
 mod faults;
 mod members;
 mod names;
+mod open_parts;
 mod operators;
 mod parts;
 mod policies;
@@ -24,7 +26,7 @@ pub use policies::{Policies, ReadPolicy};
 pub use positions::Position;
 pub use schemas::{
     Notation, RefusedName, SchemaDeclarations, SchemaReadError, refused_name, schema,
-    schema_as_given, schema_declarations,
+    schema_as_given, schema_declarations, shadowing_name,
 };
 pub use scopes::{condition, policy, scope_alone, uid_alone, whole_policy};
 pub use shown_types::type_alone;

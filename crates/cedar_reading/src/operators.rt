@@ -1,76 +1,123 @@
-// The operators that stand between two operands, by how strongly they bind.
+// The operators, by how strongly they bind.
 use crate::cursor::Cursor;
+use crate::tokens::TokenKind;
 use cedar_types::base::{BinaryOp, EntityType, Expr, Loc};
 use std::alloc::{AllocError, Global};
 
-/// Operators that bind equally strongly, and from left to right.
-#[derive(Clone, Copy, PartialEq, Eq, Debug)]
+/// How strongly the parts of an expression hold together, the weakest first.
+#[derive(Clone, Copy, PartialEq, Eq, PartialOrd, Ord, Debug)]
 pub enum Level {
+    /// A whole expression, as the one behind `else`: no operator goes on with it.
+    Whole,
     Or,
     And,
+    /// Comparisons, `has`, `like` and `is`, of which none goes on with another.
+    Relation,
     Sum,
     Product,
+    /// `!` and `-` before an operand.
+    Prefix,
+    /// Accesses and calls of methods.
+    Member,
+}
+
+/// What goes on with an operand.
+#[derive(Clone, Copy)]
+pub enum Operator {
+    Between(Connective),
+    Has,
+    Like,
+    Is,
+    /// A point before an attribute or a method.
+    Point,
+    /// A bracket before an attribute in quotes.
+    Bracket,
 }
 
 /// What stands between two operands.
-#[derive(Clone, Copy, PartialEq, Eq, Debug)]
+#[derive(Clone, Copy)]
 pub enum Connective {
     And,
     Or,
     Binary(BinaryOp),
+    /// An operator that is true where this one is false, as `!=`.
+    Negated(BinaryOp),
 }
 
-/// Reads a connective of this level, if one comes next.
-pub fn next_connective(cursor: &mut Cursor<'_>, level: Level) -> Option<Connective> {
-    let (text, connective) = match level {
-        Level::Or => ("||", Connective::Or),
-        Level::And => ("&&", Connective::And),
-        Level::Product => ("*", Connective::Binary(BinaryOp::Mul)),
-        Level::Sum if cursor.is_at("+") => ("+", Connective::Binary(BinaryOp::Add)),
-        Level::Sum => ("-", Connective::Binary(BinaryOp::Sub)),
-    };
-    cursor.takes(text).then_some(connective)
+/// The operator that comes next, if one does, and how strongly it binds.
+pub fn next_operator(cursor: &Cursor<'_>) -> Option<(Level, Operator)> {
+    let token = cursor.peek();
+    match token.kind {
+        TokenKind::Mark => mark(token.text),
+        TokenKind::Word => word(token.text),
+        _ => None,
+    }
 }
 
-/// A comparison: an operator, or what is true where it is false.
-#[derive(Clone, Copy)]
-pub struct Comparison {
-    pub operator: BinaryOp,
-    pub is_negated: bool,
+fn mark(text: &str) -> Option<(Level, Operator)> {
+    match text {
+        "." => Some((Level::Member, Operator::Point)),
+        "[" => Some((Level::Member, Operator::Bracket)),
+        "&&" => Some((Level::And, Operator::Between(Connective::And))),
+        "||" => Some((Level::Or, Operator::Between(Connective::Or))),
+        _ => {
+            let (level, connective) = comparison_or_sum(text)?;
+            Some((level, Operator::Between(connective)))
+        }
+    }
 }
 
-/// Reads a comparison, if one comes next.
-pub fn next_comparison(cursor: &mut Cursor<'_>) -> Option<Comparison> {
-    let (operator, is_negated) = match cursor.peek().text {
-        "==" => (BinaryOp::Eq, false),
-        "!=" => (BinaryOp::Eq, true),
-        "<" => (BinaryOp::Less, false),
-        ">=" => (BinaryOp::Less, true),
-        "<=" => (BinaryOp::LessEq, false),
-        ">" => (BinaryOp::LessEq, true),
-        "in" => (BinaryOp::In, false),
+fn comparison_or_sum(text: &str) -> Option<(Level, Connective)> {
+    match text {
+        "==" => Some((Level::Relation, Connective::Binary(BinaryOp::Eq))),
+        "!=" => Some((Level::Relation, Connective::Negated(BinaryOp::Eq))),
+        "<" => Some((Level::Relation, Connective::Binary(BinaryOp::Less))),
+        ">=" => Some((Level::Relation, Connective::Negated(BinaryOp::Less))),
+        "<=" => Some((Level::Relation, Connective::Binary(BinaryOp::LessEq))),
+        ">" => Some((Level::Relation, Connective::Negated(BinaryOp::LessEq))),
+        "+" => Some((Level::Sum, Connective::Binary(BinaryOp::Add))),
+        "-" => Some((Level::Sum, Connective::Binary(BinaryOp::Sub))),
+        "*" => Some((Level::Product, Connective::Binary(BinaryOp::Mul))),
+        _ => None,
+    }
+}
+
+fn word(text: &str) -> Option<(Level, Operator)> {
+    let operator = match text {
+        "in" => Operator::Between(Connective::Binary(BinaryOp::In)),
+        "has" => Operator::Has,
+        "like" => Operator::Like,
+        "is" => Operator::Is,
         _ => return None,
     };
-    cursor.take();
-    Some(Comparison {
-        operator,
-        is_negated,
-    })
+    Some((Level::Relation, operator))
 }
 
-/// Both operands with a comparison between them. It stands at this place, also where it is negated.
-pub fn compared(
+/// Both operands with what stands between them. The whole stands at this place, also where it is negated.
+pub fn joined(
     alloc: Global,
     place: Loc,
-    comparison: Comparison,
+    connective: Connective,
     left: Expr,
     right: Expr,
 ) -> Result<Expr, AllocError> {
-    let whole = Expr::binary_app(alloc, comparison.operator, left, right)?;
-    if !comparison.is_negated {
-        return Ok(whole);
+    match connective {
+        Connective::And => Expr::and(alloc, left, right),
+        Connective::Or => Expr::or(alloc, left, right),
+        Connective::Binary(operator) => Expr::binary_app(alloc, operator, left, right),
+        Connective::Negated(operator) => {
+            let compared = Expr::binary_app(alloc, operator, left, right)?;
+            Expr::not(alloc, compared.with_maybe_source_loc(Some(place)))
+        }
     }
-    Expr::not(alloc, whole.with_maybe_source_loc(Some(place)))
+}
+
+/// How many nodes stand between the node of a connective and its operands.
+pub fn nodes_within(connective: Connective) -> usize {
+    match connective {
+        Connective::Negated(_) => 1,
+        _ => 0,
+    }
 }
 
 /// `left is entity_type && left in right`, of which both sides stand at this place.
@@ -100,19 +147,5 @@ pub fn method(name: &str) -> Option<BinaryOp> {
         "hasTag" => Some(BinaryOp::HasTag),
         "getTag" => Some(BinaryOp::GetTag),
         _ => None,
-    }
-}
-
-/// Both operands with what stands between them, without a place.
-pub fn joined(
-    alloc: Global,
-    connective: Connective,
-    left: Expr,
-    right: Expr,
-) -> Result<Expr, AllocError> {
-    match connective {
-        Connective::And => Expr::and(alloc, left, right),
-        Connective::Or => Expr::or(alloc, left, right),
-        Connective::Binary(operator) => Expr::binary_app(alloc, operator, left, right),
     }
 }

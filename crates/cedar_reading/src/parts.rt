@@ -1,5 +1,6 @@
 // Expressions that were read, with the text that they cover.
-use crate::cursor::Cursor;
+use crate::cursor::{Cursor, MAX_NESTING};
+use crate::faults::{Fault, ReadError};
 use cedar_types::base::{Expr, Loc};
 
 /// An expression that was read.
@@ -9,15 +10,38 @@ pub struct Part {
     pub expr: Expr,
     /// What was read of the text, parentheses included.
     pub covers: Loc,
+    /// How many nodes stand inside each other, itself included: at most `MAX_NESTING`.
+    pub depth: usize,
 }
 
-/// The expression, whose root stands at the text from this byte on.
-pub fn part_since(cursor: &Cursor<'_>, start: usize, expr: Expr) -> Part {
+/// An expression without parts, whose root stands at the text from this byte on.
+pub fn leaf_since(cursor: &Cursor<'_>, start: usize, expr: Expr) -> Part {
     let covers = cursor.since(start);
     Part {
         expr: expr.with_maybe_source_loc(Some(covers)),
         covers,
+        depth: 1,
     }
+}
+
+/// An expression around parts that are so deep, whose root stands at the text from this byte on. It fails where it is nested
+/// too deep.
+pub fn part_since(
+    cursor: &Cursor<'_>,
+    start: usize,
+    inner: usize,
+    expr: Expr,
+) -> Result<Part, ReadError> {
+    let depth = inner.saturating_add(1);
+    if depth > MAX_NESTING {
+        return Err(cursor.fault(Fault::TooDeep));
+    }
+    let covers = cursor.since(start);
+    Ok(Part {
+        expr: expr.with_maybe_source_loc(Some(covers)),
+        covers,
+        depth,
+    })
 }
 
 /// The same part, with more text around it.
@@ -25,5 +49,6 @@ pub fn in_parentheses(cursor: &Cursor<'_>, start: usize, inner: Part) -> Part {
     Part {
         expr: inner.expr,
         covers: cursor.since(start),
+        depth: inner.depth,
     }
 }

@@ -3,8 +3,9 @@ use crate::annotations::annotations;
 use crate::cursor::{Cursor, MAX_NESTING};
 use crate::expressions::expression;
 use crate::faults::{Fault, ReadError};
+use crate::parts::{Part, part_since};
 use crate::scopes::read_scope;
-use cedar_types::base::{Effect, Expr, PolicyID, Template};
+use cedar_types::base::{ActionConstraint, Effect, Expr, Loc, PolicyID, Template};
 use std::alloc::{AllocError, Global};
 
 /// A policy that was read: what it does, and what it asks.
@@ -53,6 +54,7 @@ fn policy(cursor: &mut Cursor<'_>, number: usize) -> Result<ReadPolicy, ReadErro
     let said = annotations(cursor)?;
     let id = policy_id(cursor.alloc, said, number)?;
     let scope = read_scope(cursor)?;
+    check_actions(&scope.action)?;
     let rest = conditions(cursor)?;
     cursor.expect_one(";", "`when`, `unless` or `;`")?;
     let place = cursor.since(start);
@@ -70,6 +72,26 @@ fn policy(cursor: &mut Cursor<'_>, number: usize) -> Result<ReadPolicy, ReadErro
     })
 }
 
+/// Fails at the first action of a scope whose type is not named `Action` in its last part.
+fn check_actions(constraint: &ActionConstraint) -> Result<(), ReadError> {
+    let other = match constraint {
+        ActionConstraint::Any => None,
+        ActionConstraint::Eq(uid) => Some(uid).filter(|uid| !uid.entity_type.is_action()),
+        ActionConstraint::In(uids) => uids.iter().find(|uid| !uid.entity_type.is_action()),
+    };
+    match other {
+        Some(uid) => Err(ReadError::At(start_of(uid.loc), Fault::ActionType)),
+        None => Ok(()),
+    }
+}
+
+fn start_of(place: Option<Loc>) -> usize {
+    match place {
+        Some(place) => place.start,
+        None => 0,
+    }
+}
+
 fn policy_id(alloc: Global, said: Option<String>, number: usize) -> Result<PolicyID, AllocError> {
     let id = match said {
         Some(said) => said,
@@ -85,7 +107,7 @@ fn conditions(cursor: &mut Cursor<'_>) -> Result<Option<Expr>, ReadError> {
     // each condition nests those before it one deeper
     for _ in 0..MAX_NESTING {
         if !cursor.is_at("when") && !cursor.is_at("unless") {
-            return Ok(whole);
+            return Ok(whole.map(|part: Part| part.expr));
         }
         let next = one_condition(cursor)?;
         whole = Some(with_next(cursor, start, whole, next)?);
@@ -94,31 +116,32 @@ fn conditions(cursor: &mut Cursor<'_>) -> Result<Option<Expr>, ReadError> {
 }
 
 /// Reads `when` or `unless`, and the condition in braces behind it.
-fn one_condition(cursor: &mut Cursor<'_>) -> Result<Expr, ReadError> {
+fn one_condition(cursor: &mut Cursor<'_>) -> Result<Part, ReadError> {
     let start = cursor.start();
     let is_negated = cursor.take().text == "unless";
     cursor.expect("{")?;
-    let read = expression(cursor, MAX_NESTING)?;
+    let read = expression(cursor)?;
     cursor.expect("}")?;
     if !is_negated {
-        return Ok(read.expr);
+        return Ok(read);
     }
     let whole = Expr::not(cursor.alloc, read.expr)?;
-    Ok(whole.with_maybe_source_loc(Some(cursor.since(start))))
+    part_since(cursor, start, read.depth, whole)
 }
 
 /// Both conditions, of which the first began at this byte; the next alone where there is none before it.
 fn with_next(
     cursor: &Cursor<'_>,
     start: usize,
-    before: Option<Expr>,
-    next: Expr,
-) -> Result<Expr, AllocError> {
+    before: Option<Part>,
+    next: Part,
+) -> Result<Part, ReadError> {
     let Some(before) = before else {
         return Ok(next);
     };
-    let whole = Expr::and(cursor.alloc, before, next)?;
-    Ok(whole.with_maybe_source_loc(Some(cursor.since(start))))
+    let depth = before.depth.max(next.depth);
+    let whole = Expr::and(cursor.alloc, before.expr, next.expr)?;
+    part_since(cursor, start, depth, whole)
 }
 
 /// Where the next policy seems to begin, after a fault in the one that began at this byte. What was read of that one is

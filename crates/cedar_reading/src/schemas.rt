@@ -5,10 +5,12 @@ mod closed;
 mod declarations;
 mod descendants;
 mod entity_types;
+mod groups;
 mod lists;
 mod meanings;
 mod refusals;
 mod reserved;
+mod shadows;
 mod types;
 
 use crate::faults::ReadError;
@@ -19,6 +21,7 @@ use declarations::Declarations;
 use meanings::Names;
 pub use meanings::Notation;
 pub use refusals::{RefusedName, refused_name};
+pub use shadows::shadowing_name;
 use std::alloc::Global;
 use thiserror::Error;
 

@@ -1,5 +1,5 @@
 // Policies: a scope, and perhaps a condition.
-use crate::cursor::{Cursor, MAX_NESTING};
+use crate::cursor::Cursor;
 use crate::expressions::expression;
 use crate::faults::{Fault, ReadError};
 use crate::names::{entity_type, entity_uid};
@@ -30,6 +30,8 @@ pub fn read_scope(cursor: &mut Cursor<'_>) -> Result<Scope, ReadError> {
     let action = action_constraint(cursor)?;
     cursor.expect(",")?;
     let resource = entity_constraint(cursor, "resource")?;
+    // a comma may stand behind the last
+    cursor.takes(",");
     cursor.expect(")")?;
     Ok(Scope {
         effect,
@@ -125,7 +127,7 @@ fn entity_uids(cursor: &mut Cursor<'_>) -> Result<Vec<EntityUID>, ReadError> {
 /// Reads a text that is an expression and nothing else.
 pub fn condition(alloc: Global, text: &str) -> Result<Expr, ReadError> {
     let mut cursor = Cursor::new(alloc, text)?;
-    let read = expression(&mut cursor, MAX_NESTING)?;
+    let read = expression(&mut cursor)?;
     finish(&cursor)?;
     Ok(read.expr)
 }
@@ -155,7 +157,7 @@ pub fn whole_policy(alloc: Global, text: &str) -> Result<Template, ReadError> {
     let mut rest = None;
     if cursor.takes("when") {
         cursor.expect("{")?;
-        rest = Some(expression(&mut cursor, MAX_NESTING)?.expr);
+        rest = Some(expression(&mut cursor)?.expr);
         cursor.expect("}")?;
     }
     cursor.expect(";")?;

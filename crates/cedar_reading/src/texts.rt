@@ -31,7 +31,11 @@ pub fn pattern(cursor: &mut Cursor<'_>) -> Result<Vec<PatternElem>, ReadError> {
         .text
         .strip_prefix('"')
         .and_then(|t| t.strip_suffix('"'));
-    let Some(parts) = unescaped(cursor.alloc, inner.unwrap_or(""))? else {
+    let inner = inner.unwrap_or("");
+    if inner.contains('\r') {
+        return Err(cursor.fault(Fault::CarriageReturn));
+    }
+    let Some(parts) = unescaped(cursor.alloc, inner)? else {
         return Err(cursor.fault(Fault::Text));
     };
     cursor.take();
@@ -112,10 +116,13 @@ fn byte(value: u32, digits: u8, c: char) -> Option<(Escape, Option<PatternElem>)
     Some(completed(char::from_u32(value)?))
 }
 
-/// One of up to six digits, or the brace behind them.
+/// One of up to six digits, an underscore behind one, or the brace behind them.
 fn in_braces(value: u32, digits: u8, c: char) -> Option<(Escape, Option<PatternElem>)> {
     if c == '}' && digits > 0 {
         return Some(completed(char::from_u32(value)?));
+    }
+    if c == '_' && digits > 0 {
+        return Some((Escape::Braces(value, digits), None));
     }
     if digits >= 6 {
         return None;

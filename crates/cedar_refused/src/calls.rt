@@ -12,6 +12,7 @@ pub mod passes;
 pub mod policies;
 pub mod request_envs;
 pub mod schemas;
+pub mod surveys;
 pub mod templates;
 pub mod types;
 pub mod walks;

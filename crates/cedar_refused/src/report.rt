@@ -2,7 +2,9 @@
 use crate::calls::answers::FOLLOW_UPS;
 use crate::calls::capabilities::{SETS, STEPS, TAGS};
 use crate::calls::copies::COPIES;
-use crate::calls::environments::{ChecksMaking, ChecksWalk, LinkedMaking, LinkedWalk, MODE, Walk};
+use crate::calls::environments::{
+    ChecksMaking, ChecksWalk, LinkedMaking, LinkedWalk, MODE, NextWalk, OneCheck, Walk,
+};
 use crate::calls::expressions::{MORE, ONE_OPERAND, TWO_OPERANDS};
 use crate::calls::lines::{Line, LineCall, Rules, Tried};
 use crate::calls::lookups::LOOKUPS;
@@ -146,7 +148,9 @@ fn walks<W: Write>(alloc: Global, rules: Rules<'_>, out: &mut W) -> io::Result<(
         "Typechecker::typecheck_by_request_env",
         &ChecksMaking(walk),
     )?;
-    write_sweep(alloc, out, "RequestEnvChecks::next", &ChecksWalk(walk))
+    write_sweep(alloc, out, "RequestEnvChecks::next", &ChecksWalk(walk))?;
+    write_sweep(alloc, out, "RequestEnvChecks::next_env", &NextWalk(walk))?;
+    write_sweep(alloc, out, "RequestEnvChecks::check", &OneCheck(walk))
 }
 
 fn whole_checks<W: Write>(alloc: Global, rules: Rules<'_>, out: &mut W) -> io::Result<()> {

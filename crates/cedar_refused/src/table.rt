@@ -89,7 +89,7 @@ Typechecker::typecheck_by_single_request_env, tags of several types | GetTag | (
 ];
 
 /// Questions about policies.
-pub const POLICIES: [(OfValidator, &str); 6] = [
+pub const POLICIES: [(OfValidator, &str); 9] = [
     (
         OfValidator::Principals,
         "Validator::get_principals_satisfying_constraint | User | NAMED",
@@ -113,6 +113,13 @@ Validator::validate_linked_action_application | Ok | KNOWN
 "#,
     ),
     (
+        OfValidator::Policy,
+        r#"
+Validator::validate_policy, of unknown names | InvalidActionApplication | NAMED
+Validator::validate_policy, of many findings | ImpossiblePolicy | MANY
+"#,
+    ),
+    (
         OfValidator::Level,
         r#"
 Validator::validate_policy_with_level, of level errors | MaximumLevelExceeded | KNOWN
@@ -129,6 +136,21 @@ Validator::required_level, where none is enough | None | permit(principal, actio
 Validator::required_level, of a record | level: 2 | permit(principal, action, resource) when { {a: resource.owner, b: principal.boss}.a.vip };
 Validator::required_level, of a conditional | level: 2 | permit(principal, action, resource) when { (if context.is_public then principal else principal.boss).vip };
 Validator::required_level, of a tag | level: 2 | permit(principal, action, resource) when { principal.hasTag("t") && principal.getTag("t").vip };
+"#,
+    ),
+    (
+        OfValidator::Survey,
+        r#"
+Validator::survey, with a slot | level: 1 | KNOWN
+Validator::survey, of many findings | UnexpectedType | MANY
+Validator::survey, of an error in some environments | count: | permit(principal, action, resource) when { resource.owner.vip == 1 };
+"#,
+    ),
+    (
+        OfValidator::SurveyedLevel,
+        r#"
+Survey::level_errors, of level errors | MaximumLevelExceeded | KNOWN
+Survey::level_errors, of a target | LiteralDereferenceTarget | permit(principal, action, resource) when { {a: User::"a", b: principal.boss}.a.vip };
 "#,
     ),
 ];

@@ -10,11 +10,6 @@ fn variable(start: usize, variable: Var) -> Expr {
     Expr::var(variable).with_maybe_source_loc(place(start))
 }
 
-/// A shape that owns its expression.
-fn owned<'a>(alloc: Global, start: usize, name: Var) -> Result<Box<ExprShapeOnly<'a>>, AllocError> {
-    boxed(alloc, ExprShapeOnly::Owned(variable(start, name)))
-}
-
 /// Whether two are one shape, by equality and by order.
 fn are_one_shape<'a>(here: &ExprShapeOnly<'a>, there: &ExprShapeOnly<'a>) -> bool {
     *here == *there && matches!(here.partial_cmp(there), Some(Ordering::Equal))
@@ -25,25 +20,26 @@ fn are_two_shapes<'a>(here: &ExprShapeOnly<'a>, other: &ExprShapeOnly<'a>) -> bo
     *here != *other && here.cmp(other) == other.cmp(here).reverse()
 }
 
+/// Whether the first two are one shape, and the third is another.
+fn are_told<'a>(
+    here: &ExprShapeOnly<'a>,
+    there: &ExprShapeOnly<'a>,
+    other: &ExprShapeOnly<'a>,
+) -> bool {
+    are_one_shape(here, there) && are_two_shapes(here, other)
+}
+
 /// Whether the place of an expression is no part of its shape, and the variable is.
-fn have_no_places(alloc: Global, here: &Expr) -> Result<bool, AllocError> {
-    let there = owned(alloc, 2, Var::Principal)?;
-    let other = owned(alloc, 1, Var::Resource)?;
-    let here = ExprShapeOnly::Borrowed(here);
-    Ok(are_one_shape(&here, &there) && are_two_shapes(&here, &other))
+fn have_no_places(here: &Expr) -> bool {
+    let there = ExprShapeOnly::Owned(variable(2, Var::Principal));
+    let other = ExprShapeOnly::Owned(variable(1, Var::Resource));
+    are_told(&ExprShapeOnly::Borrowed(here), &there, &other)
 }
 
 #[test]
 fn shapes_have_no_places(rt: HostRuntime) -> Result<(), Fail> {
-    assert!(rt; have_no_places(rt.alloc(), &variable(1, Var::Principal))?);
+    assert!(rt; have_no_places(&variable(1, Var::Principal)));
     Ok(())
-}
-
-fn copied<'a>(
-    alloc: Global,
-    shape: &ExprShapeOnly<'a>,
-) -> Result<Box<ExprShapeOnly<'a>>, AllocError> {
-    boxed(alloc, shape.try_clone(alloc)?)
 }
 
 /// Whether the copy is the same shape, stands at the second place, and has that of `here`.
@@ -51,21 +47,16 @@ fn is_copy<'a>(copy: &ExprShapeOnly<'a>, there: &ExprShapeOnly<'a>, here: &Expr)
     *copy == *there && copy.expr().loc == place(2) && here.has_shape_of(copy.expr())
 }
 
-/// Whether a copy of the shape is one.
-fn keeps_its_place<'a>(
-    alloc: Global,
-    there: &ExprShapeOnly<'a>,
-    here: &Expr,
-) -> Result<bool, AllocError> {
-    let copy = copied(alloc, there)?;
-    Ok(is_copy(&copy, there, here))
+/// Whether a copy of the principal's shape at the second place is one.
+fn keeps_its_place(alloc: Global, here: &Expr) -> Result<bool, AllocError> {
+    let there = ExprShapeOnly::Owned(variable(2, Var::Principal));
+    let copy = there.try_clone(alloc)?;
+    Ok(is_copy(&copy, &there, here))
 }
 
 #[test]
 fn a_copied_shape_keeps_the_place_of_its_expression(rt: HostRuntime) -> Result<(), Fail> {
-    let there = owned(rt.alloc(), 2, Var::Principal)?;
-    let here = variable(1, Var::Principal);
-    assert!(rt; keeps_its_place(rt.alloc(), &there, &here)?);
+    assert!(rt; keeps_its_place(rt.alloc(), &variable(1, Var::Principal))?);
     Ok(())
 }
 

@@ -51,9 +51,8 @@ fn set_of<T: Entry + Drop>(
 ) -> Result<SortedSet<T>, AllocError> {
     let mut set = SortedSet::new(alloc);
     for (at, bit) in BITS.iter().enumerate().rev() {
-        match all.get(at) {
-            Some(entry) if picked & *bit != 0 => add_twice(alloc, &mut set, entry)?,
-            _ => {}
+        if picked & *bit != 0 {
+            add_twice(alloc, &mut set, all.get(at))?;
         }
     }
     Ok(set)
@@ -62,10 +61,15 @@ fn set_of<T: Entry + Drop>(
 fn add_twice<T: Entry + Drop>(
     alloc: Global,
     set: &mut SortedSet<T>,
-    entry: &T,
+    entry: Option<&T>,
 ) -> Result<(), AllocError> {
-    set.insert(entry.copy(alloc)?)?;
-    set.insert(entry.copy(alloc)?)
+    match entry {
+        Some(entry) => {
+            set.insert(entry.copy(alloc)?)?;
+            set.insert(entry.copy(alloc)?)
+        }
+        None => Ok(()),
+    }
 }
 
 /// Adds, for each of all entries, whether the set has it.
@@ -120,9 +124,9 @@ fn is_told<T: Entry + Drop>(
 /// What these have to be.
 fn wanted(alloc: Global, left: u32, right: u32) -> Result<Vec<bool>, AllocError> {
     let mut answers = Vec::new(alloc);
-    for picked in [left, left | right, left & right, left] {
-        for bit in BITS {
-            answers.push(picked & bit != 0)?;
+    for picked in &[left, left | right, left & right, left] {
+        for bit in &BITS {
+            answers.push(*picked & *bit != 0)?;
         }
     }
     Ok(answers)

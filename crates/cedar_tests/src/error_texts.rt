@@ -1,6 +1,6 @@
 // The texts of errors that no case shows.
 use crate::parts::{assert_text, entity_type, place, policy};
-use cedar_types::base::{EntityDerefLevel, ValidationError};
+use cedar_types::base::{EntityDerefLevel, SchemaError, ValidationError};
 use std::alloc::{AllocError, Global};
 use std::test::Fail;
 
@@ -47,5 +47,12 @@ fn a_level_is_exceeded(rt: HostRuntime) -> Result<(), Fail> {
     let want =
         "for policy `policy0`, this policy requires level 4294967295, which exceeds the maximum allowed level (0)";
     assert_text(&rt, exceeded(rt.alloc())?.as_str(), want);
+    Ok(())
+}
+
+#[test]
+fn refused_memory_is_an_error_of_a_schema(rt: HostRuntime) -> Result<(), Fail> {
+    let shown = SchemaError::from(AllocError).to_string(rt.alloc())?;
+    assert_text(&rt, shown.as_str(), "Memory");
     Ok(())
 }

@@ -196,9 +196,9 @@ fn is_made(
 fn fields_count(alloc: Global, kind: Kind, own: &[Field]) -> Result<bool, AllocError> {
     let plain = error(alloc, kind, PLAIN)?;
     let mut is_so = is_made(alloc, kind, PLAIN, &plain, true)?;
-    for field in FIELDS {
-        let are_one = !counts(field, own);
-        is_so = is_made(alloc, kind, changed(field), &plain, are_one)? && is_so;
+    for field in &FIELDS {
+        let are_one = !counts(*field, own);
+        is_so = is_made(alloc, kind, changed(*field), &plain, are_one)? && is_so;
     }
     Ok(is_so)
 }
@@ -256,9 +256,9 @@ fn is_told_of_policies(alloc: Global, field: Field) -> Result<bool, AllocError> 
 
 #[test]
 fn warnings_are_one_where_all_fields_are(rt: HostRuntime) -> Result<(), Fail> {
-    for field in FIELDS {
-        assert!(rt; is_told_of_actions(rt.alloc(), field)?, "{field:?}");
-        assert!(rt; is_told_of_policies(rt.alloc(), field)?, "{field:?}");
+    for field in &FIELDS {
+        assert!(rt; is_told_of_actions(rt.alloc(), *field)?, "{field:?}");
+        assert!(rt; is_told_of_policies(rt.alloc(), *field)?, "{field:?}");
     }
     Ok(())
 }
@@ -274,12 +274,15 @@ fn unknown(
     Ok(ValidationError::unrecognized_action_id(loc, policy(alloc)?, id))
 }
 
+/// Whether both are one finding, by equality and by order, whose ids stand at these places.
+fn are_one_at(alloc: Global, here: Option<Loc>, there: Option<Loc>) -> Result<bool, AllocError> {
+    let error = unknown(alloc, place(1), here)?;
+    let same = unknown(alloc, place(1), there)?;
+    Ok(error.is_same_finding(&same) && error.cmp(&same) == Ordering::Equal)
+}
+
 #[test]
 fn places_in_names_do_not_count(rt: HostRuntime) -> Result<(), Fail> {
-    let alloc = rt.alloc();
-    let e = unknown(alloc, place(1), place(8))?;
-    let same = unknown(alloc, place(1), None)?;
-    assert!(rt; e.is_same_finding(&same));
-    assert!(rt; e.cmp(&same) == Ordering::Equal);
+    assert!(rt; are_one_at(rt.alloc(), place(8), None)?);
     Ok(())
 }

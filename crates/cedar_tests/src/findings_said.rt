@@ -1,6 +1,7 @@
 // What each error and each warning says of texts, odd ones too.
 use crate::findings::{KINDS, PLAIN, applied, impossible};
 use crate::kinds::{Fields, Kind, error};
+use cedar_types::base::ValidationWarning;
 use std::alloc::{AllocError, Global};
 use std::test::Fail;
 
@@ -36,10 +37,15 @@ fn shown(alloc: Global, kind: Kind, fields: Fields<'_>) -> Result<String, AllocE
 fn all_say(alloc: Global, fields: Fields<'_>) -> Result<bool, AllocError> {
     let mut is_so = true;
     for (kind, _, text) in &KINDS {
-        let shown = shown(alloc, *kind, fields)?;
-        is_so = shown == said(alloc, text, fields)? && is_so;
+        is_so = says(alloc, *kind, text, fields)? && is_so;
     }
     Ok(is_so)
+}
+
+/// Whether an error of this kind says this of the fields.
+fn says(alloc: Global, kind: Kind, text: &str, fields: Fields<'_>) -> Result<bool, AllocError> {
+    let shown = shown(alloc, kind, fields)?;
+    Ok(shown == said(alloc, text, fields)?)
 }
 
 /// Whether each kind says it of this text, wherever that stands.
@@ -57,40 +63,44 @@ fn all_say_it(alloc: Global, odd: &str) -> Result<bool, AllocError> {
 #[test]
 fn errors_say_any_text_as_it_is(rt: HostRuntime) -> Result<(), Fail> {
     assert!(rt; all_say_it(rt.alloc(), "x")?);
-    for odd in ODD {
+    for odd in &ODD {
         assert!(rt; all_say_it(rt.alloc(), odd)?, "{odd:?}");
     }
     Ok(())
 }
 
-/// Both warnings of a policy of this id.
-fn warned(alloc: Global, odd: &str) -> Result<(String, String), AllocError> {
+/// What is said where no action applies.
+const NOT_APPLICABLE: &str =
+    "unable to find an applicable action given the policy scope constraints";
+
+/// What is said where a policy never applies.
+const IMPOSSIBLE: &str = "policy is impossible: it evaluates to false for every valid request";
+
+/// Whether this is said of the policy of this id.
+fn is_said_of(
+    alloc: Global,
+    warning: &ValidationWarning,
+    odd: &str,
+    text: &str,
+) -> Result<bool, AllocError> {
+    let shown = warning.to_string(alloc)?;
+    Ok(shown == format!(in alloc; "for policy `{odd}`, {text}")?)
+}
+
+/// Whether both warnings of a policy of this id say what they should.
+fn both_warn(alloc: Global, odd: &str) -> Result<bool, AllocError> {
     let fields = Fields {
         policy: odd,
         ..PLAIN
     };
-    let of_action = applied(alloc, fields)?.to_string(alloc)?;
-    Ok((of_action, impossible(alloc, fields)?.to_string(alloc)?))
-}
-
-/// What both say of it.
-fn warnings(alloc: Global, odd: &str) -> Result<(String, String), AllocError> {
-    let of_action = format!(in alloc;
-        "for policy `{odd}`, unable to find an applicable action given the policy scope constraints"
-    )?;
-    let of_policy = format!(in alloc;
-        "for policy `{odd}`, policy is impossible: it evaluates to false for every valid request"
-    )?;
-    Ok((of_action, of_policy))
+    let of_action = is_said_of(alloc, &applied(alloc, fields)?, odd, NOT_APPLICABLE)?;
+    Ok(is_said_of(alloc, &impossible(alloc, fields)?, odd, IMPOSSIBLE)? && of_action)
 }
 
 #[test]
 fn warnings_say_any_id_as_it_is(rt: HostRuntime) -> Result<(), Fail> {
-    for odd in ODD {
-        assert!(rt;
-            warned(rt.alloc(), odd)? == warnings(rt.alloc(), odd)?,
-            "{odd:?}"
-        );
+    for odd in &ODD {
+        assert!(rt; both_warn(rt.alloc(), odd)?, "{odd:?}");
     }
     Ok(())
 }

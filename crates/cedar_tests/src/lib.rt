@@ -7,8 +7,6 @@ mod capabilities;
 #[cfg(test)]
 mod collisions;
 #[cfg(test)]
-mod declarations;
-#[cfg(test)]
 mod error_texts;
 #[cfg(test)]
 mod escapes;
@@ -28,8 +26,6 @@ mod mentions;
 mod parts;
 #[cfg(test)]
 mod request_envs;
-#[cfg(test)]
-mod schema_faults;
 #[cfg(test)]
 mod subexpressions;
 #[cfg(test)]

@@ -1,5 +1,8 @@
 mod Lists
 mod Answers
 mod Passes
+pub mod SurveyedErrors
+pub mod Surveys
+pub mod Representatives
 pub mod Levels
 pub mod Slices

@@ -21,5 +21,7 @@ pub mod TypedCopies
 pub mod Conditions
 pub mod Policies
 pub mod Validation
+pub mod Passing
+pub mod Surveys
 pub mod Nesting
 pub mod Examples

@@ -10,12 +10,10 @@ pub mod Examples
 pub mod Rows
 pub mod Details
 pub mod Shared
-pub mod InOrder
+pub mod Demands
 pub mod Paths
 pub mod Views
 pub mod Answers
 pub mod Outcome
-pub mod Requirements
 pub mod Required
-pub mod Tallies
 pub mod Refinement

@@ -6,3 +6,6 @@ pub mod Passes
 pub mod SlotTypes
 pub mod Levels
 pub mod Slices
+pub mod SurveyedErrors
+pub mod Surveys
+pub mod Representatives

@@ -4,6 +4,8 @@ pub mod Soundness
 pub mod Policies
 pub mod TypedCopies
 pub mod Validation
+pub mod Passing
+pub mod Surveys
 pub mod Nesting
 pub mod Examples
 pub mod NeededPremises

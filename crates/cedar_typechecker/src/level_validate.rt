@@ -2,21 +2,19 @@
 mod answers;
 mod bases;
 mod costs;
+pub(crate) mod demands;
 pub mod laws;
 mod paths;
 mod policy;
 pub mod promises;
-mod reports;
 mod required;
-mod required_targets;
-mod requirements;
 mod shared;
 pub mod slice_examples;
 pub mod slices;
-mod tally;
 mod targets;
-mod walk;
+pub(crate) mod walk;
 
 pub use answers::{LevelErrors, LevelWarnings};
+pub use cedar_types::base::EntityDerefLevel;
 pub use costs::attr_chain_cost_from_root;
 pub use shared::only_branch;

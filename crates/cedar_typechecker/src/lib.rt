@@ -3,6 +3,8 @@
 
 pub mod level_validate;
 pub mod rbac;
+pub mod survey;
+mod validation;
 
 pub use cedar_types::{base, types};
 pub use cedar_typing::typecheck;

@@ -2,10 +2,10 @@
 use crate::names::uid;
 use crate::schemas::users_and_photos;
 use cedar_typechecker::base::{
-    ActionConstraint, AttrChain, EntityDerefLevel, Expr, ExtensionSchemas, Literal, PolicyID,
-    PrincipalConstraint, ResourceConstraint, SlotId, Template, ValidationMode, Var,
+    ActionConstraint, AttrChain, Expr, ExtensionSchemas, Literal, PolicyID, PrincipalConstraint,
+    ResourceConstraint, SlotId, Template, ValidationMode, Var,
 };
-use cedar_typechecker::level_validate::{LevelErrors, LevelWarnings};
+use cedar_typechecker::level_validate::{EntityDerefLevel, LevelErrors, LevelWarnings};
 use cedar_typechecker::rbac::Validator;
 use std::alloc::{AllocError, Global};
 use std::test::Fail;

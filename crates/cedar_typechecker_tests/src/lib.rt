@@ -6,6 +6,10 @@ mod levels;
 #[cfg(test)]
 mod names;
 #[cfg(test)]
+mod policies;
+#[cfg(test)]
 mod satisfying_types;
 #[cfg(test)]
 mod schemas;
+#[cfg(test)]
+mod surveys;

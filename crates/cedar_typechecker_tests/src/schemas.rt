@@ -69,30 +69,52 @@ fn standard(
     })
 }
 
-/// The action `view` of users on photos.
-fn view(alloc: Global) -> Result<ValidatorActionId, AllocError> {
+/// An action of these types on photos.
+fn on_photos(
+    alloc: Global,
+    name: &str,
+    principals: &[&str],
+) -> Result<ValidatorActionId, AllocError> {
     let nothing = Attributes::from_list(alloc, Vec::new(alloc))?;
     let context = CedarType::record_with_attributes(nothing, OpenTag::ClosedAttributes);
     Ok(ValidatorActionId {
-        name: uid(alloc, "Action", "view")?,
+        name: uid(alloc, "Action", name)?,
         descendants: BTreeSet::new(alloc),
         kind: ValidatorActionKind::Defined(ValidatorApplySpec {
-            principal_apply_spec: types(alloc, &["User"])?,
+            principal_apply_spec: types(alloc, principals)?,
             resource_apply_spec: types(alloc, &["Photo"])?,
             context: Rc::new(alloc, context)?,
         }),
     })
 }
 
-/// Users, each with a `user` and a `bool`, who view photos.
-pub fn users_and_photos(alloc: Global) -> Result<ValidatorSchema, Fail> {
+/// Users, each with a `user` and a `bool`.
+fn users(alloc: Global) -> Result<ValidatorEntityType, AllocError> {
     let user = CedarType::named_entity_reference(alloc, typed(alloc, "User")?)?;
     let user = AttributeType::required_attribute(user);
     let boolean = AttributeType::required_attribute(CedarType::primitive_boolean());
     let of_users = vec![in alloc; ("user", user), ("bool", boolean)]?;
-    let users = standard(alloc, "User", Attributes::from_list(alloc, of_users)?)?;
-    let nothing = Attributes::from_list(alloc, Vec::new(alloc))?;
-    let photos = standard(alloc, "Photo", nothing)?;
-    let types = vec![in alloc; users, photos]?;
-    Ok(ValidatorSchema::new(alloc, types, vec![in alloc; view(alloc)?]?)?)
+    standard(alloc, "User", Attributes::from_list(alloc, of_users)?)
+}
+
+/// A type of whose entities each has no attribute.
+fn bare(alloc: Global, name: &str) -> Result<ValidatorEntityType, AllocError> {
+    standard(alloc, name, Attributes::from_list(alloc, Vec::new(alloc))?)
+}
+
+/// Users, each with a `user` and a `bool`, who view photos.
+pub fn users_and_photos(alloc: Global) -> Result<ValidatorSchema, Fail> {
+    let types = vec![in alloc; users(alloc)?, bare(alloc, "Photo")?]?;
+    let view = on_photos(alloc, "view", &["User"])?;
+    Ok(ValidatorSchema::new(alloc, types, vec![in alloc; view]?)?)
+}
+
+/// Users, and robots without attributes, who view, edit and print photos.
+pub fn users_and_robots(alloc: Global) -> Result<ValidatorSchema, Fail> {
+    let types = vec![in alloc; users(alloc)?, bare(alloc, "Robot")?, bare(alloc, "Photo")?]?;
+    let mut actions = Vec::new(alloc);
+    for name in ["view", "edit", "print"] {
+        actions.push(on_photos(alloc, name, &["User", "Robot"])?)?;
+    }
+    Ok(ValidatorSchema::new(alloc, types, actions)?)
 }

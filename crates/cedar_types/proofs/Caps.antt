@@ -1,7 +1,8 @@
 -- How the order of capabilities and the set's steps bear on what is in a set.
-use Rattle.std.proofs.Common.{◌≡◌, true, ◌||◌, List, [], ◌∷◌, Result, Ok, Err, IfOk, OnOk, OnErr, refl, sym, ap, ◌∙◌, true≢false}
+use Rattle.std.proofs.Common.{◌≡◌, Bool, true, ◌||◌, List, [], ◌∷◌, Result, Ok, Err, IfOk, OnOk, OnErr, refl, sym, ap, ◌∙◌, true≢false}
 use Rattle.std.specs.List.{list_any}
-use Rattle.std.specs.Ordering.{is_eq}
+use Rattle.std.specs.BTreeSet.{insert_key}
+use Rattle.std.specs.Ordering.{is_eq, match_ordering}
 use Rattle.std.specs.declared.cmp.Ordering.{Ordering}
 use Rattle.std.specs.declared.cmp.Ordering.TheVariants.{Less, Equal, Greater}
 use Rattle.cedar_types.specs.Capability.Entries.{IsPoint, HasOneMore}
@@ -10,6 +11,7 @@ use Rattle.cedar_types.specs.declared.types.capability.digested.Capability.{Capa
 use Rattle.cedar_types.specs.contracts.types.capability.digested.CapabilityOrd.TheImpl.Laws as ord_laws
 use Rattle.cedar_types.specs.Capability.{Cap, cap_eq, cap_of, among, capability_eq, capability_cmp}
 use Rattle.cedar_types.proofs.Digests.{one_cap, cap_same, by_digest}
+use Rattle.cedar_types.proofs.Entries.Basics.{or_false, or_turned, or_regroup, there}
 
 abbrev pub cmp : Capability → Capability → Ordering
 cmp = capability_cmp
@@ -59,3 +61,16 @@ pub keeps_is : (r : Result (Unit {0}) AllocError) (ks ns : List Capability) → 
     → OnErr r ((q : Cap) → among ns q ≡ among ks q)
 keeps_is (Ok u) ks ns h = h
 keeps_is (Err e) ks ns h = λ q. ap (λ xs. among xs q) h
+
+-- what an ordered list has after a capability was put in its place
+pub put_in : (p : Capability → Bool) → IsPoint cmp p → (ks : List Capability) (k : Capability)
+    → list_any p (insert_key cmp ks k) ≡ (list_any p ks || p k)
+put_in p h [] k = or_false (p k)
+put_in p h (x ∷ xs) k = along (cmp k x) (h.alike k x) (put_in p h xs k)
+  where
+    along : (o : Ordering) → (o ≡ Equal → p k ≡ p x)
+        → list_any p (insert_key cmp xs k) ≡ (list_any p xs || p k)
+        → list_any p (match_ordering o (k ∷ x ∷ xs) (x ∷ xs) (x ∷ insert_key cmp xs k)) ≡ ((p x || list_any p xs) || p k)
+    along Less e rest = or_turned (p k) (p x || list_any p xs)
+    along Equal e rest = there (p k) (p x || list_any p xs) (λ t. ap (λ b. b || list_any p xs) (sym (e refl) ∙ t))
+    along Greater e rest = ap (λ b. p x || b) rest ∙ or_regroup (p x) (list_any p xs) (p k)

@@ -2,6 +2,7 @@ pub mod Attributes
 pub mod Entries
 pub mod Caps
 pub mod Digests
+pub mod Feeds
 pub mod ChainSteps
 pub mod Comparisons
 pub mod Names

@@ -6,3 +6,4 @@ pub mod Places
 pub mod Faults
 pub mod KeptEnvironments
 pub mod Closures
+pub mod References

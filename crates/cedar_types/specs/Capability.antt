@@ -5,6 +5,7 @@ use Rattle.std.specs.declared.cmp.Ordering.{Ordering}
 use Rattle.cedar_types.specs.declared.types.capability.digested.Capability.{Capability}
 use Rattle.cedar_types.specs.declared.types.capability.CapabilitySet.{CapabilitySet}
 use Rattle.cedar_types.specs.declared.types.capability.digested.Known.{Known}
+use Rattle.cedar_types.specs.declared.types.capability.builder.CapabilitySetBuilder.{CapabilitySetBuilder}
 use Rattle.cedar_types.specs.contracts.types.capability.digested.CapabilityPartialEq.TheImpl as eq_impl
 use Rattle.cedar_types.specs.contracts.types.capability.digested.CapabilityOrd.TheImpl as ord_impl
 use Rattle.cedar_types.specs.Names.{Text, text_of, text_eq}
@@ -46,6 +47,10 @@ among cs q = list_any (λ c. cap_eq q (cap_of c)) cs
 -- the set, as the test of what it has
 unfoldable pub caps : CapabilitySet → Cap → Bool
 caps s = among s.set
+
+-- those that a builder has so far, likewise
+unfoldable pub caps_so_far : CapabilitySetBuilder → Cap → Bool
+caps_so_far b = among b.set.keys
 
 -- the set has nothing
 abbrev pub HasNone : (Cap → Bool) → Type 0

@@ -9,6 +9,7 @@ pub mod RequestEnvs
 pub mod Linking
 pub mod LinkViews
 pub mod SlotLinks
+pub mod Representatives
 
 -- what a request may be about, without slots
 pub record DeclaredEnv : Type 0 where

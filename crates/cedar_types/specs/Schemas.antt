@@ -14,6 +14,7 @@ pub mod Closures
 pub mod Tables
 pub mod Contents
 pub mod Listings
+pub mod References
 
 -- ---- declarations
 

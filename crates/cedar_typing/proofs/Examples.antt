@@ -11,5 +11,6 @@ pub mod Permissive
 pub mod Composition
 pub mod PolicySoundness
 pub mod Conforming
+pub mod LeftOpen
 pub mod NeededPremises
 pub mod CopyPremises

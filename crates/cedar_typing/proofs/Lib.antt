@@ -7,6 +7,7 @@ pub mod Bounds
 pub mod KeptTypes
 pub mod Soundness
 pub mod Composition
+pub mod Representatives
 pub mod Silence
 pub mod Examples
 pub mod Views

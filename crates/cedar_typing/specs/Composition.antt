@@ -5,13 +5,14 @@ use Rattle.cedar_types.specs.declared.base.expressions.operators.Var.{Var}
 use Rattle.cedar_types.specs.declared.base.names.slots.SlotId.{SlotId}
 use Rattle.cedar_types.specs.declared.base.types.BoolType.TheVariants.{AnyBool}
 use Rattle.cedar_types.specs.declared.base.types.ValidationMode.{ValidationMode}
-use Rattle.cedar_types.specs.declared.base.types.ValidationMode.TheVariants.{Strict}
+use Rattle.cedar_types.specs.declared.base.types.ValidationMode.TheVariants.{Strict, Permissive}
 use Rattle.cedar_types.specs.Names.{Path, is_action_path}
 use Rattle.cedar_types.specs.Types.{Ty, TBool}
 use Rattle.cedar_types.specs.Expressions.Tree.{var, slot, binary}
 use Rattle.cedar_types.specs.Expressions.View.{Written}
 use Rattle.cedar_types.specs.Errors.{Finding}
 use Rattle.cedar_types.specs.Extensions.Functions.{table_fault}
+use Rattle.cedar_types.specs.Schemas.Formed.{has_formed_types}
 use Rattle.cedar_types.specs.Schemas.{Schema, has_fault}
 use Rattle.cedar_types.specs.Environments.{DeclaredEnv, environments_of}
 use Rattle.cedar_types.specs.Environments.RequestEnvs.{Env, Declared}
@@ -140,12 +141,15 @@ Coverage =
 
 -- ---- a condition that is warned to be impossible
 
--- the setting of which the two theorems below speak: Strict, a schema and a table without faults, nothing external
-pub record IsFaultless (s : Setting) : Type 0 where
-  pub mode : s.env.mode ≡ Strict
+-- the setting of which the theorems below speak: in the given mode, a schema and a table without faults, nothing external
+pub record IsFaultlessIn (m : ValidationMode) (s : Setting) : Type 0 where
+  pub mode : s.env.mode ≡ m
   pub schema : has_fault s.env.schema ≡ false
   pub functions : table_fault s.functions ≡ None
   pub closed : has_external s.env.schema ≡ false
+
+abbrev pub IsFaultless : Setting → Type 0
+IsFaultless = IsFaultlessIn Strict
 
 -- the check says that the condition is never true
 abbrev pub IsIrrelevant : Verdict → Type 0
@@ -158,21 +162,43 @@ IsIrrelevantInAll s t =
     (e : Env) → IsOneOf e (checked_envs s.env.schema s.env.mode t)
     → (v : Verdict) → PolicyChecks (in_env s e) (condition_of t) v → IsIrrelevant v
 
--- then the condition is true of no request of the schema, whether or not its slots are bound
-abbrev pub NeverTrue : Type 0
-NeverTrue =
-    (s : Setting) (t : PlainTemplate) → IsFaultless s → SlotsInScopeAlone t → IsIrrelevantInAll s t
-    → (world : World) → ConformingRequest s.env.schema world.request
+-- the condition is true of no request of the schema, whether or not its slots are bound
+abbrev pub IsTrueOfNone : Setting → PlainTemplate → Type 0
+IsTrueOfNone s t =
+    (world : World) → ConformingRequest s.env.schema world.request
     → ConformingStore s.env.schema world.store → KeepsTable (table s) world.functions
     → IsTrueOutcome (eval world (condition_of t)) → ⊥
 
+-- what is irrelevant in all environments is true of none
+abbrev pub NeverTrue : Type 0
+NeverTrue =
+    (s : Setting) (t : PlainTemplate) → IsFaultless s → SlotsInScopeAlone t → IsIrrelevantInAll s t
+    → IsTrueOfNone s t
+
+-- the same in Permissive, by a schema in whose types names ascend, as they do in every schema of the program
+abbrev pub NeverTrueInPermissive : Type 0
+NeverTrueInPermissive =
+    (s : Setting) (t : PlainTemplate)
+    → IsFaultlessIn Permissive s → has_formed_types s.env.schema ≡ true
+    → SlotsInScopeAlone t → IsIrrelevantInAll s t → IsTrueOfNone s t
+
 -- a check that succeeds in the own environment alone keeps its promise in each world of the request, whatever the slots
 -- are bound to, if they are
-abbrev pub OwnSuccessIsKept : Type 0
-OwnSuccessIsKept =
-    (s : Setting) (t : PlainTemplate) → IsFaultless s → SlotsInScopeAlone t
-    → (d : DeclaredEnv) → IsOneOf d (environments_of s.env.schema.actions)
+abbrev pub IsKeptFromOwn : Setting → PlainTemplate → Type 0
+IsKeptFromOwn s t =
+    (d : DeclaredEnv) → IsOneOf d (environments_of s.env.schema.actions)
     → (x : TypedTree) → PolicyChecks (in_env s (own_env t d)) (condition_of t) (succeeds x)
     → (world : World) → FitsRequest d world.request
     → ConformingStore s.env.schema world.store → KeepsTable (table s) world.functions
     → SlotsBound world.slots (condition_of t) → Promises (succeeds x) (eval world (condition_of t))
+
+abbrev pub OwnSuccessIsKept : Type 0
+OwnSuccessIsKept =
+    (s : Setting) (t : PlainTemplate) → IsFaultless s → SlotsInScopeAlone t → IsKeptFromOwn s t
+
+-- the same in Permissive
+abbrev pub OwnSuccessIsKeptInPermissive : Type 0
+OwnSuccessIsKeptInPermissive =
+    (s : Setting) (t : PlainTemplate)
+    → IsFaultlessIn Permissive s → has_formed_types s.env.schema ≡ true
+    → SlotsInScopeAlone t → IsKeptFromOwn s t

@@ -13,5 +13,6 @@ pub mod Permissive
 pub mod Composition
 pub mod PolicySoundness
 pub mod Conforming
+pub mod LeftOpen
 pub mod NeededPremises
 pub mod CopyPremises

@@ -13,6 +13,7 @@ pub mod PolicyCheck
 pub mod Evaluation
 pub mod Soundness
 pub mod Composition
+pub mod Representatives
 pub mod TypedCopies
 pub mod Refinement
 pub mod Examples

@@ -103,11 +103,21 @@ FailuresHaveErrorsInPermissive =
     → (prior : Caps) (d : ℕ) (x : TypedTree) (es : List Finding)
     → Recovers s e prior d x es → is_silent es ≡ false
 
--- so a check that fails without an error is a cut
-abbrev pub SilentFailureIsCut : Type 0
-SilentFailureIsCut =
-    (s : Setting) → IsSettled s → (e : Source) → IsWellNamed s.env.schema e
+-- a check that fails without an error is a cut
+abbrev pub SilentFailuresAreCuts : Setting → Type 0
+SilentFailuresAreCuts s =
+    (e : Source) → IsWellNamed s.env.schema e
     → (es : List Finding) → PolicyChecks s e (fails es) → is_silent es ≡ true → IsCut s e no_caps 1
+
+-- so it is in Strict
+abbrev pub SilentFailureIsCut : Type 0
+SilentFailureIsCut = (s : Setting) → IsSettled s → SilentFailuresAreCuts s
+
+-- and in Permissive
+abbrev pub SilentFailureIsCutInPermissive : Type 0
+SilentFailureIsCutInPermissive =
+    (s : Setting) → IsSettledIn Permissive s → has_formed_types s.env.schema ≡ true
+    → SilentFailuresAreCuts s
 
 -- ---- what passes is derived
 
@@ -122,10 +132,18 @@ IsDerivedAs s e (fails es) = ⊥
 
 -- a verdict that passes, a success or irrelevant without errors, is of a condition that is derived. So
 -- no part of it that is visited is too deep
-abbrev pub PassingIsDerived : Type 0
-PassingIsDerived =
-    (s : Setting) → IsSettled s → (e : Source) → IsWellNamed s.env.schema e
+abbrev pub PassingVerdictsAreDerived : Setting → Type 0
+PassingVerdictsAreDerived s =
+    (e : Source) → IsWellNamed s.env.schema e
     → (v : Verdict) → PolicyChecks s e v → passes v ≡ true → IsDerivedAs s e v
+
+abbrev pub PassingIsDerived : Type 0
+PassingIsDerived = (s : Setting) → IsSettled s → PassingVerdictsAreDerived s
+
+abbrev pub PassingIsDerivedInPermissive : Type 0
+PassingIsDerivedInPermissive =
+    (s : Setting) → IsSettledIn Permissive s → has_formed_types s.env.schema ≡ true
+    → PassingVerdictsAreDerived s
 
 -- the verdicts of a template's condition in an environment
 abbrev pub ChecksOf : Setting → PlainTemplate → Env → Verdict → Type 0
@@ -137,10 +155,20 @@ IsDerivedIn s t env =
     (v : Verdict) × ChecksOf s t env v × IsDerivedAs (in_env s env) (condition_of t) v
 
 -- a policy that passes is derived in each of the environments that it is checked in
-abbrev pub PassingPolicyIsDerived : Type 0
-PassingPolicyIsDerived =
-    (s : Setting) (t : PlainTemplate) → IsStrictWithoutFaults s → IsWellNamedTemplate s.env.schema t
-    → (errors errors' : List Finding) (warnings warnings' : List Caution)
+abbrev pub IsDerivedWherePassing : Setting → PlainTemplate → Type 0
+IsDerivedWherePassing s t =
+    (errors errors' : List Finding) (warnings warnings' : List Caution)
     → PolicyOutcome (ChecksOf s t) (checked_envs s.env.schema s.env.mode t) t true errors errors'
     warnings warnings'
     → (env : Env) → IsOneOf env (checked_envs s.env.schema s.env.mode t) → IsDerivedIn s t env
+
+abbrev pub PassingPolicyIsDerived : Type 0
+PassingPolicyIsDerived =
+    (s : Setting) (t : PlainTemplate) → IsStrictWithoutFaults s → IsWellNamedTemplate s.env.schema t
+    → IsDerivedWherePassing s t
+
+abbrev pub PassingPolicyIsDerivedInPermissive : Type 0
+PassingPolicyIsDerivedInPermissive =
+    (s : Setting) (t : PlainTemplate)
+    → IsWithoutFaultsIn Permissive s → has_formed_types s.env.schema ≡ true
+    → IsWellNamedTemplate s.env.schema t → IsDerivedWherePassing s t

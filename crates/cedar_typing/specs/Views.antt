@@ -10,7 +10,7 @@ use Rattle.cedar_types.specs.declared.base.types.CedarType.{CedarType}
 use Rattle.cedar_types.specs.Names.{text_of, path_of, type_of, Text, Path}
 use Rattle.cedar_types.specs.Types.{Ty, TExtension, ty_of}
 use Rattle.cedar_types.specs.Expressions.View.{Written, no_name, of_type, chain_of, written}
-use Rattle.cedar_types.specs.Capability.{Cap, caps, HasNone}
+use Rattle.cedar_types.specs.Capability.{Cap, caps, caps_so_far, HasNone}
 use Rattle.cedar_types.specs.Errors.{Finding, finding_of}
 use Rattle.cedar_types.specs.declared.types.capability.CapabilitySet.{CapabilitySet}
 use Rattle.cedar_types.specs.Environments.RequestEnvs.{env_of}
@@ -198,7 +198,7 @@ decision_without_errors None = refuses None []
 
 -- what the steps of a chain say so far
 abbrev pub progress_of : TableProgress → Progress
-progress_of p = record { earned = caps p.earned; all_true = p.all_true }
+progress_of p = record { earned = caps_so_far p.earned; all_true = p.all_true }
 
 -- what a chain comes to by a step, or by a step and an access, where it goes on as `next` says
 abbrev pub by_step : Step → (Progress → Decision) → Decision
@@ -212,7 +212,7 @@ by_link (link.GoesOn t p) next = next (ty_of t) (progress_of p)
 -- where it goes on, it says whether the attribute is known now, from before or by steps of this chain
 abbrev pub KnowsAfter : Caps → Cap → Step → Type 0
 KnowsAfter prior there (step.Ends d) = Unit {0}
-KnowsAfter prior there (step.GoesOn p k) = k ≡ union prior (caps p.earned) there
+KnowsAfter prior there (step.GoesOn p k) = k ≡ union prior (caps_so_far p.earned) there
 
 -- ---- what answers give
 

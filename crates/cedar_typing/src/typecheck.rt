@@ -10,6 +10,7 @@ mod operands;
 mod policy;
 mod prior;
 pub mod refinement;
+pub mod representatives;
 mod request_env_checks;
 mod rules;
 mod sequence;

@@ -1,9 +1,10 @@
 // What is done with a file.
 use crate::progress::Progress;
-use crate::verdicts::{Rules, judged};
+use crate::verdicts::{Rules, judge};
 use cedar_reading::{Policies, ReadError, ReadPolicy};
 use cedar_types::base::Template;
 use cedar_validation::faults::{TextFault, Written, forbidden_part, read_fault};
+use cedar_validation::marks::warnings_of_marks;
 use cedar_validation::reports::{Report, push_missing};
 use cedar_validation::sources::{Content, Source, read};
 use cedar_validation::tallies::Tally;
@@ -167,7 +168,8 @@ fn shown_policy(
     tally: &mut Tally,
 ) -> Result<String, AllocError> {
     let mut shown = String::new(alloc);
-    let mut said = judged(alloc, rules, policy)?;
+    let mut said = judge(alloc, rules, policy)?;
+    said.add_warnings(warnings_of_marks(alloc, policy)?)?;
     if let Some(other) = report.take_id(alloc, policy)? {
         said.refuse_id(alloc, policy, other)?;
     }

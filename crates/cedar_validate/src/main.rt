@@ -13,44 +13,57 @@ use cedar_validation::functions::{CONSTRUCTOR_COUNT, functions, overloaded_types
 use progress::Progress;
 use run::run;
 use std::env;
-use std::io::IsTerminal;
+use std::io::{ErrorKind, IsTerminal, Write};
 use std::process::ExitCode;
 
 /// The status of a program that cannot begin.
 const CANNOT_BEGIN: u8 = 2;
 
+/// Why it cannot, where it is no word of the command line.
+const NO_MEMORY: &str = "memory was refused";
+
 fn main(rt: HostRuntime) -> ExitCode {
     let alloc = rt.alloc();
-    let Ok(arguments) = env::args(&rt) else {
-        return ExitCode::from(CANNOT_BEGIN);
+    let mut err = rt.stderr();
+    let arguments = match env::args(&rt) {
+        Ok(arguments) => arguments,
+        Err(error) if error.kind() == ErrorKind::InvalidData => {
+            return cannot_begin(&mut err, "a word of the command line is no text in UTF-8");
+        }
+        Err(_) => return cannot_begin(&mut err, NO_MEMORY),
     };
     let mut words = Vec::new(alloc);
     for word in arguments.skip(1) {
         let Ok(()) = words.push(word) else {
-            return ExitCode::from(CANNOT_BEGIN);
+            return cannot_begin(&mut err, NO_MEMORY);
         };
     }
     let mut checks = Vec::new(alloc);
     for _ in 0..CONSTRUCTOR_COUNT {
         let Ok(check) = Box::new(alloc, RefusesEmptyText { alloc }) else {
-            return ExitCode::from(CANNOT_BEGIN);
+            return cannot_begin(&mut err, NO_MEMORY);
         };
         let check: Box<dyn ArgumentCheck> = check;
         let Ok(()) = checks.push(check) else {
-            return ExitCode::from(CANNOT_BEGIN);
+            return cannot_begin(&mut err, NO_MEMORY);
         };
     }
     let (Ok(functions), Ok(overloaded)) = (functions(alloc, checks), overloaded_types(alloc)) else {
-        return ExitCode::from(CANNOT_BEGIN);
+        return cannot_begin(&mut err, NO_MEMORY);
     };
     let Ok(extensions) = ExtensionSchemas::new(functions, overloaded) else {
-        return ExitCode::from(CANNOT_BEGIN);
+        return cannot_begin(&mut err, NO_MEMORY);
     };
     let mut out = rt.stdout();
-    let mut err = rt.stderr();
     // on a terminal the lines of the policies show how far the program is
     let terminal = (err.is_terminal() && !out.is_terminal()).then_some(rt.stderr());
     let mut progress = Progress::new(terminal);
     let words = words.as_slice();
     ExitCode::from(run(&rt, words, &extensions, &mut progress, &mut out, &mut err))
+}
+
+/// Says why the program cannot begin, and answers its status.
+fn cannot_begin<E: Write>(err: &mut E, why: &str) -> ExitCode {
+    let _ = writeln!(err, "cedar-validate: {why}");
+    ExitCode::from(CANNOT_BEGIN)
 }

@@ -6,10 +6,11 @@ use cedar_reading::schema;
 use cedar_typechecker::rbac::Validator;
 use cedar_types::base::{ExtensionSchemas, ValidatorSchema};
 use cedar_validation::arguments::{Arguments, Asked, read_arguments};
-use cedar_validation::faults::schema_fault;
+use cedar_validation::faults::{TextFault, schema_fault, shadowing_fault};
 use cedar_validation::reports::{Report, push_tally};
 use cedar_validation::sources::Source;
 use cedar_validation::tallies::Tally;
+use std::alloc::{AllocError, Global};
 use std::io;
 use std::io::Write;
 use std::rt::Files;
@@ -17,12 +18,17 @@ use std::rt::Files;
 const USAGE: &str = "usage: cedar-validate [--mode strict|permissive|partial] [--level N] \
      [--json] SCHEMA POLICY..\n";
 
+const VERSION: &str = "cedar-validate 0.1.0\n";
+
 const HELP: &str = "\
 Validates the policies of some files by a schema, and says what is wrong and where.
 
   --mode MODE   strict (without this option), permissive or partial
   --level N     how many entities a policy may dereference, one after another
   --json        an object of JSON for each line
+  -h, --help    this text
+  --version     the version of the program
+  --            what comes behind it is a file, whatever it begins with
   -             in place of a file: standard input
 
   cedar-validate --level 1 photos.cedarschema share.cedar
@@ -62,6 +68,10 @@ fn answer<R: Files + AllocGlobal + Input, O: Write, E: Write, T: Write>(
         Ok(Asked::Help) => {
             out.write_all(USAGE.as_bytes())?;
             out.write_all(HELP.as_bytes())?;
+            Ok(0)
+        }
+        Ok(Asked::Version) => {
+            out.write_all(VERSION.as_bytes())?;
             Ok(0)
         }
         Ok(Asked::Validation(arguments)) => {
@@ -116,16 +126,29 @@ fn read_schema<R: Files + AllocGlobal + Input, O: Write>(
         return Ok(None);
     };
     let text = text.as_str();
-    match schema(alloc, text) {
-        Ok(schema) => Ok(Some(schema)),
-        Err(error) => {
-            let fault = schema_fault(alloc, text, error)?;
-            let source = Source { name, text };
-            let mut shown = String::new(alloc);
-            let mut report = Report::new(alloc, arguments.is_json, source);
-            report.push_fault(&mut shown, &fault)?;
-            out.write_all(shown.as_bytes())?;
-            Ok(None)
-        }
+    let fault = match schema_or_fault(alloc, text)? {
+        Ok(schema) => return Ok(Some(schema)),
+        Err(fault) => fault,
+    };
+    let source = Source { name, text };
+    let mut shown = String::new(alloc);
+    let mut report = Report::new(alloc, arguments.is_json, source);
+    report.push_fault(&mut shown, &fault)?;
+    out.write_all(shown.as_bytes())?;
+    Ok(None)
+}
+
+/// The schema that a text declares, or the fault that it has.
+fn schema_or_fault(
+    alloc: Global,
+    text: &str,
+) -> Result<Result<ValidatorSchema, TextFault>, AllocError> {
+    let schema = match schema(alloc, text) {
+        Ok(schema) => schema,
+        Err(error) => return Ok(Err(schema_fault(alloc, text, error)?)),
+    };
+    match shadowing_fault(alloc, text)? {
+        None => Ok(Ok(schema)),
+        Some(fault) => Ok(Err(fault)),
     }
 }

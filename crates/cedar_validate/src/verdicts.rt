@@ -1,15 +1,17 @@
 // What is said of a policy.
-use crate::environments::Occurrences;
+use crate::environments::environments_shown;
 use cedar_embedding::policy_sets::{Findings, validate};
 use cedar_embedding::safety::SoundMode;
 use cedar_embedding::slices::validate_within;
 use cedar_typechecker::rbac::Validator;
-use cedar_types::base::{ArgumentCheck, Template, ValidationError, ValidationMode};
-use cedar_typing::typecheck::Typechecker;
+use cedar_typechecker::survey::Environments;
+use cedar_types::base::{
+    ArgumentCheck, Template, ValidationError, ValidationMode, ValidationWarning,
+};
 use cedar_validation::findings::{Finding, Requirement, Severity, Verdict};
 use cedar_validation::unread_texts::add_unread_texts;
 use std::alloc::{AllocError, Global};
-use std::collections::HashSet;
+use std::collections::{BTreeMap, HashSet};
 
 /// The text of a policy that is refused without an error, where each name is the schema's.
 const NESTED: &str = "nested too deep to be checked: fewer than 400 parts may stand inside \
@@ -30,20 +32,34 @@ pub struct Rules<'a, C = Box<dyn ArgumentCheck>> {
 /// What is said of a policy. Where it is accepted in Strict or in Permissive, it does not go wrong, and needs no more than the
 /// slice of the level, if there is one: the contracts of `validate` and `validate_within` say so. It fails where memory is
 /// refused.
-pub fn judged<C: ArgumentCheck>(
+pub fn judge<C: ArgumentCheck>(
     alloc: Global,
     rules: &Rules<'_, C>,
     policy: &Template,
 ) -> Result<Verdict, AllocError> {
-    let mut found = found_in(alloc, rules, policy)?;
-    if add_unread_texts(alloc, policy, &mut found.errors)? {
+    let mut found = find(alloc, rules, policy)?;
+    if add_unread(alloc, policy, &mut found.errors)? {
         found.is_accepted = false;
     }
     Ok(Verdict {
         is_accepted: found.is_accepted,
-        requirement: required(alloc, rules, &found, policy)?,
-        findings: shown(alloc, rules, &found, policy)?,
+        requirement: requirement(rules.mode, &found),
+        findings: findings_shown(alloc, rules.mode, &found, policy)?,
     })
+}
+
+/// Adds the texts of extension functions that do not read, and answers whether there is one.
+fn add_unread(
+    alloc: Global,
+    policy: &Template,
+    errors: &mut BTreeMap<ValidationError, Environments>,
+) -> Result<bool, AllocError> {
+    let mut unread = HashSet::new(alloc);
+    let is_unread = add_unread_texts(alloc, policy, &mut unread)?;
+    for error in unread {
+        errors.insert(error, Environments::none(alloc))?;
+    }
+    Ok(is_unread)
 }
 
 /// The mode, if it is one in which validation promises something of evaluation.
@@ -55,42 +71,46 @@ fn sound_mode(mode: ValidationMode) -> Option<SoundMode> {
     }
 }
 
-fn found_in<C: ArgumentCheck>(
+fn find<C: ArgumentCheck>(
     alloc: Global,
     rules: &Rules<'_, C>,
     policy: &Template,
 ) -> Result<Findings, AllocError> {
     let validator = rules.validator;
     match (sound_mode(rules.mode), rules.level) {
-        (None, _) => found_in_partial(alloc, validator, policy),
+        (None, _) => find_in_partial(alloc, validator, policy),
         (Some(mode), None) => validate(alloc, validator, mode, policy),
         (Some(mode), Some(steps)) => validate_within(alloc, validator, mode, steps, policy),
     }
 }
 
 /// What typing finds in Partial.
-fn found_in_partial<C: ArgumentCheck>(
+fn find_in_partial<C: ArgumentCheck>(
     alloc: Global,
     validator: &Validator<'_, C>,
     policy: &Template,
 ) -> Result<Findings, AllocError> {
-    let mut errors = HashSet::new(alloc);
-    let mut warnings = HashSet::new(alloc);
-    let mode = ValidationMode::Partial;
-    let checker = Typechecker::new(validator.schema(), validator.extensions(), mode);
-    let is_accepted = checker.typecheck_policy(alloc, policy, &mut errors, &mut warnings)?;
+    let survey = validator.survey(alloc, policy, ValidationMode::Partial)?;
+    let is_impossible = survey.is_impossible();
+    let mut warnings = Vec::new(alloc);
+    if is_impossible {
+        let id = policy.id.clone()?;
+        warnings.push(ValidationWarning::impossible_policy(policy.loc, id))?;
+    }
     Ok(Findings {
-        is_accepted,
-        is_impossible: !warnings.is_empty(),
-        errors,
+        is_accepted: survey.passes(),
+        is_impossible,
         warnings,
+        applicable_environments: survey.applicable_environments(),
+        level: None,
+        errors: survey.into_errors(),
     })
 }
 
 /// The findings in order. A policy that is refused has an error at least.
-fn shown<C: ArgumentCheck>(
+fn findings_shown(
     alloc: Global,
-    rules: &Rules<'_, C>,
+    mode: ValidationMode,
     found: &Findings,
     policy: &Template,
 ) -> Result<Vec<Finding>, AllocError> {
@@ -98,10 +118,13 @@ fn shown<C: ArgumentCheck>(
     for warning in &found.warnings {
         shown.push(Finding::of_warning(alloc, policy, warning)?)?;
     }
-    if !found.errors.is_empty() {
-        add_errors(alloc, rules, found, policy, &mut shown)?;
-    } else if !found.is_accepted {
-        let why = why_unexplained(rules.mode);
+    for (error, environments) in found.errors.iter() {
+        let applicable = found.applicable_environments;
+        let environments = environments_shown(alloc, environments, applicable)?;
+        shown.push(Finding::of_error(alloc, policy, error, environments)?)?;
+    }
+    if found.errors.is_empty() && !found.is_accepted {
+        let why = why_unexplained(mode);
         shown.push(Finding::new(alloc, policy, Severity::Error, None, why)?)?;
     }
     shown.sort()?;
@@ -116,36 +139,14 @@ fn why_unexplained(mode: ValidationMode) -> &'static str {
     }
 }
 
-fn add_errors<C: ArgumentCheck>(
-    alloc: Global,
-    rules: &Rules<'_, C>,
-    found: &Findings,
-    policy: &Template,
-    shown: &mut Vec<Finding>,
-) -> Result<(), AllocError> {
-    let validator = rules.validator;
-    let checker = Typechecker::new(validator.schema(), validator.extensions(), rules.mode);
-    let occurrences = Occurrences::new(alloc, &checker, policy)?;
-    for error in &found.errors {
-        let environments = occurrences.shown(error)?;
-        shown.push(Finding::of_error(alloc, policy, error, environments)?)?;
-    }
-    Ok(())
-}
-
 /// The level that a policy requires, unless its check fails.
-fn required<C: ArgumentCheck>(
-    alloc: Global,
-    rules: &Rules<'_, C>,
-    found: &Findings,
-    policy: &Template,
-) -> Result<Requirement, AllocError> {
-    if rules.mode == ValidationMode::Partial || !passes_without_level(found) {
-        return Ok(Requirement::Unsaid);
+fn requirement(mode: ValidationMode, found: &Findings) -> Requirement {
+    if mode == ValidationMode::Partial || !passes_without_level(found) {
+        return Requirement::Unsaid;
     }
-    match rules.validator.required_level(alloc, policy, rules.mode)? {
-        Some(level) => Ok(Requirement::Level(level)),
-        None => Ok(Requirement::NoLevel),
+    match found.level {
+        Some(level) => Requirement::Level(level),
+        None => Requirement::NoLevel,
     }
 }
 
@@ -154,7 +155,7 @@ fn passes_without_level(found: &Findings) -> bool {
     if found.errors.is_empty() {
         return found.is_accepted;
     }
-    found.errors.iter().all(is_about_level)
+    found.errors.keys().all(is_about_level)
 }
 
 fn is_about_level(error: &ValidationError) -> bool {

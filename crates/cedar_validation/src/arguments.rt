@@ -20,6 +20,7 @@ pub struct Arguments {
 #[derive(Drop)]
 pub enum Asked {
     Help,
+    Version,
     Validation(Arguments),
 }
 
@@ -47,8 +48,8 @@ pub fn read_arguments(
 ) -> Result<Result<Asked, Misuse>, AllocError> {
     let mut read = Reading::new(alloc);
     for word in words {
-        if word.as_str() == "--help" {
-            return Ok(Ok(Asked::Help));
+        if let Some(asked) = read.asks_about_program(word.as_str()) {
+            return Ok(Ok(asked));
         }
         if let Some(misuse) = read.take(word)? {
             return Ok(Err(misuse));
@@ -63,6 +64,8 @@ enum Next {
     Any,
     Mode,
     Level,
+    /// A file, behind `--`.
+    File,
 }
 
 /// What was read so far.
@@ -86,12 +89,26 @@ impl Reading {
         }
     }
 
+    /// What a word asks about the program itself, unless it stands behind `--`.
+    fn asks_about_program(&self, word: &str) -> Option<Asked> {
+        match (self.next, word) {
+            (Next::File, _) => None,
+            (_, "--help" | "-h") => Some(Asked::Help),
+            (_, "--version") => Some(Asked::Version),
+            _ => None,
+        }
+    }
+
     /// Reads a word, and says what is wrong with it.
     fn take(&mut self, word: &String) -> Result<Option<Misuse>, AllocError> {
         match self.next {
             Next::Mode => Ok(self.take_mode(word.as_str())),
             Next::Level => Ok(self.take_level(word.as_str())),
             Next::Any => self.take_option_or_file(word),
+            Next::File => {
+                self.files.push(word.clone()?)?;
+                Ok(None)
+            }
         }
     }
 
@@ -122,12 +139,23 @@ impl Reading {
             "--mode" => self.next = Next::Mode,
             "--level" => self.next = Next::Level,
             "--json" => self.is_json = true,
+            "--" => self.next = Next::File,
+            text if is_with_value(text) => return Ok(self.take_with_value(text)),
             text if text.len() > 1 && text.starts_with("-") => {
                 return Ok(Some(Misuse::UnknownOption(word.clone()?)));
             }
             _ => self.files.push(word.clone()?)?,
         }
         Ok(None)
+    }
+
+    /// Reads an option and its value behind a `=`.
+    fn take_with_value(&mut self, word: &str) -> Option<Misuse> {
+        match word.split_once('=') {
+            Some(("--mode", mode)) => self.take_mode(mode),
+            Some(("--level", level)) => self.take_level(level),
+            _ => None,
+        }
     }
 
     fn finish(self) -> Result<Asked, Misuse> {
@@ -141,7 +169,7 @@ impl Reading {
         match next {
             Next::Mode => return Err(Misuse::Mode),
             Next::Level => return Err(Misuse::Level),
-            Next::Any => {}
+            Next::Any | Next::File => {}
         }
         if mode == ValidationMode::Partial && level.is_some() {
             return Err(Misuse::LevelInPartial);
@@ -161,6 +189,11 @@ impl Reading {
             policies: files,
         }))
     }
+}
+
+/// Whether a word is an option with its value.
+fn is_with_value(word: &str) -> bool {
+    word.starts_with("--mode=") || word.starts_with("--level=")
 }
 
 /// How often standard input is named.

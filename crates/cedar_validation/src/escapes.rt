@@ -1,5 +1,4 @@
 //! Texts that others wrote, shown so that none of their characters steers what shows them.
-use cedar_types::base::OneLine;
 use std::fmt;
 
 /// A text as JSON has it, in quotes. What [`is_hidden`] stands as `\u` with its digits.
@@ -33,26 +32,53 @@ fn write_units<W: fmt::Write>(f: &mut fmt::Formatter<W>, number: u32) -> fmt::Re
     write!(f, "\\u{high:04x}\\u{low:04x}")
 }
 
-/// A text on one line, as `OneLine` shows it, but for backslashes, which stay as they are.
+/// A text on one line: what [`is_hidden`] is escaped, and quotes and backslashes stay as they are.
 #[derive(Drop)]
 pub struct Shown<'a>(pub &'a str);
 
 impl fmt::Display for Shown<'_> {
     fn fmt<W: fmt::Write>(&self, f: &mut fmt::Formatter<W>) -> fmt::Result {
-        let mut is_first = true;
-        for part in self.0.split('\\') {
-            if !is_first {
-                f.write_str("\\")?;
+        for c in self.0.chars() {
+            match c {
+                '"' | '\'' | '\\' => f.write_char(c)?,
+                _ => write_escaped(f, c)?,
             }
-            is_first = false;
-            let part = OneLine(part);
-            write!(f, "{part}")?;
         }
         Ok(())
     }
 }
 
-/// Whether a character is a control character, a mark of direction, a line's end, or takes no place of its own.
+/// An id between backquotes: double quotes, backquotes and backslashes are escaped too, so it ends neither.
+#[derive(Drop)]
+pub struct ShownId<'a>(pub &'a str);
+
+impl fmt::Display for ShownId<'_> {
+    fn fmt<W: fmt::Write>(&self, f: &mut fmt::Formatter<W>) -> fmt::Result {
+        for c in self.0.chars() {
+            match c {
+                '\'' => f.write_char(c)?,
+                '`' => f.write_str("\\u{60}")?,
+                _ => write_escaped(f, c)?,
+            }
+        }
+        Ok(())
+    }
+}
+
+fn write_escaped<W: fmt::Write>(f: &mut fmt::Formatter<W>, c: char) -> fmt::Result {
+    if is_filler(c) {
+        for part in c.escape_unicode() {
+            f.write_char(part)?;
+        }
+        return Ok(());
+    }
+    for part in c.escape_debug() {
+        f.write_char(part)?;
+    }
+    Ok(())
+}
+
+/// Whether a character is a control character, a mark of direction, a line's end, takes no place of its own, or shows nothing.
 pub fn is_hidden(c: char) -> bool {
     shown_width(c) > 1
 }
@@ -61,6 +87,16 @@ pub fn is_hidden(c: char) -> bool {
 pub fn shown_width(c: char) -> usize {
     match c {
         '"' | '\'' | '\\' => 1,
+        _ if is_filler(c) => c.escape_unicode().count(),
         _ => c.escape_debug().count(),
     }
+}
+
+/// Whether a letter or a symbol shows nothing, though it is one: the fillers of Hangul, the empty Braille pattern, and the empty
+/// head of a note.
+fn is_filler(c: char) -> bool {
+    matches!(
+        c,
+        '\u{115f}' | '\u{1160}' | '\u{2800}' | '\u{3164}' | '\u{ffa0}' | '\u{1d159}'
+    )
 }

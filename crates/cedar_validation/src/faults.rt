@@ -1,5 +1,7 @@
 //! What is wrong with texts that cannot be read, in words.
-use cedar_reading::{Fault, ReadError, RefusedName, SchemaReadError, refused_name, token_text};
+use cedar_reading::{
+    Fault, ReadError, RefusedName, SchemaReadError, refused_name, shadowing_name, token_text,
+};
 use cedar_types::base::{Expr, ExprKind, Loc, SchemaError, Template};
 use std::alloc::{AllocError, Global};
 use thiserror::Error;
@@ -29,7 +31,7 @@ pub enum Written {
 /// What is wrong at a place, for people.
 #[derive(Clone, Copy, Debug, Error)]
 enum Trouble {
-    #[error("nested too deep: some 60 parentheses are read, or 800 links of a chain")]
+    #[error("nested too deep: 800 brackets and operators are read inside each other, or 800 links of a chain")]
     TooDeep,
     #[error("nested too deep, as a type that contains itself is")]
     DeepType,
@@ -41,6 +43,8 @@ enum Trouble {
     OpenText,
     #[error("an escape that there is not: there are \\\" \\\\ \\' \\n \\r \\t \\0 \\x41 \\u{{41}}")]
     Escape,
+    #[error("a carriage return in a text: `\\r` stands for one")]
+    CarriageReturn,
     #[error("a character that begins nothing")]
     Character,
     #[error("`{0}` is expected")]
@@ -98,6 +102,7 @@ fn trouble_of(written: Written, fault: Fault, token: &str) -> Trouble {
         Fault::Text if !token.starts_with('"') => Trouble::Character,
         Fault::Text if token.len() > 1 && token.ends_with('"') => Trouble::Escape,
         Fault::Text => Trouble::OpenText,
+        Fault::CarriageReturn => Trouble::CarriageReturn,
         Fault::Missing(word) => Trouble::Missing(word),
         _ => Trouble::Other(fault),
     }
@@ -216,6 +221,17 @@ pub fn schema_fault(
         SchemaReadError::Refused(fault) => {
             let name = refused_name(alloc, text, &fault)?;
             refusal(alloc, text, refusal_text(&fault), name)
+        }
+    }
+}
+
+/// What is wrong with a schema that can be had, as Cedar has it: a name of a namespace that hides one outside.
+pub fn shadowing_fault(alloc: Global, text: &str) -> Result<Option<TextFault>, AllocError> {
+    match shadowing_name(alloc, text)? {
+        None => Ok(None),
+        name => {
+            let why = "a name of a namespace that hides one outside of namespaces";
+            Ok(Some(refusal(alloc, text, why, name)?))
         }
     }
 }

@@ -47,6 +47,17 @@ pub struct Verdict {
 }
 
 impl Verdict {
+    /// Adds warnings. The policy stays accepted, if it was.
+    pub fn add_warnings(&mut self, warnings: Vec<Finding>) -> Result<(), AllocError> {
+        if warnings.is_empty() {
+            return Ok(());
+        }
+        for warning in warnings {
+            self.findings.push(warning)?;
+        }
+        self.findings.sort()
+    }
+
     /// Refuses the policy, as another one has its id. This says where.
     pub fn refuse_id(
         &mut self,

@@ -11,6 +11,7 @@ pub mod faults;
 pub mod findings;
 pub mod functions;
 pub mod lines;
+pub mod marks;
 pub mod objects;
 pub mod places;
 pub mod reports;

@@ -1,11 +1,11 @@
 //! What is found, as lines for people.
-use crate::escapes::Shown;
+use crate::escapes::{Shown, ShownId};
 use crate::excerpts::Excerpt;
 use crate::faults::TextFault;
 use crate::findings::{Finding, Requirement, Severity, Verdict};
 use crate::tallies::Tally;
 use cedar_reading::Position;
-use cedar_types::base::{Escaped, Loc};
+use cedar_types::base::Loc;
 use std::alloc::AllocError;
 use std::fmt;
 
@@ -31,7 +31,7 @@ pub fn push_policy(
     id: &str,
     verdict: &Verdict,
 ) -> Result<(), AllocError> {
-    let id = Escaped(id);
+    let id = ShownId(id);
     let outcome = if verdict.is_accepted {
         "accepted"
     } else {
@@ -64,6 +64,11 @@ pub fn push_finding(
         writeln!(out, "  only for {environment}")?;
     }
     Ok(())
+}
+
+/// Adds the line of a policy that has so many findings more than are shown.
+pub fn push_rest(out: &mut String, place: Place<'_>, count: usize) -> Result<(), AllocError> {
+    writeln!(out, "{place}: {count} more findings")
 }
 
 /// What a severity is called.

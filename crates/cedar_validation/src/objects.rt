@@ -63,6 +63,18 @@ pub fn push_finding(
     out.push_str("]}\n")
 }
 
+/// Adds the object of the policy of this id that has so many findings more than are shown.
+pub fn push_rest(
+    out: &mut String,
+    place: Place<'_>,
+    id: &str,
+    count: usize,
+) -> Result<(), AllocError> {
+    push_place(out, "rest", place)?;
+    let id = Quoted(id);
+    writeln!(out, ",\"id\":{id},\"findings\":{count}}}")
+}
+
 /// Adds the object of a fault of a text.
 pub fn push_fault(out: &mut String, place: Place<'_>, fault: &TextFault) -> Result<(), AllocError> {
     push_place(out, "fault", place)?;

@@ -11,6 +11,9 @@ use cedar_types::base::{Loc, Template};
 use std::alloc::{AllocError, Global};
 use std::collections::BTreeMap;
 
+/// How many findings of a policy are shown.
+const MAX_FINDINGS: usize = 100;
+
 /// Shows what is found in a file.
 #[derive(Drop)]
 pub struct Report<'a> {
@@ -56,7 +59,7 @@ impl<'a> Report<'a> {
         }
     }
 
-    /// Adds a policy, and what is found in it.
+    /// Adds a policy, and what is found in it: the first findings, and how many more there are.
     pub fn push_policy(
         &mut self,
         out: &mut String,
@@ -71,10 +74,27 @@ impl<'a> Report<'a> {
         } else {
             lines::push_policy(out, place, id, verdict)?;
         }
-        for finding in &verdict.findings {
+        for finding in verdict.findings.iter().take(MAX_FINDINGS) {
             self.push_finding(out, id, finding)?;
         }
-        Ok(())
+        match verdict.findings.len().checked_sub(MAX_FINDINGS) {
+            None | Some(0) => Ok(()),
+            Some(count) => self.push_rest(out, place, id, count),
+        }
+    }
+
+    fn push_rest(
+        &self,
+        out: &mut String,
+        place: Place<'_>,
+        id: &str,
+        count: usize,
+    ) -> Result<(), AllocError> {
+        if self.is_json {
+            objects::push_rest(out, place, id, count)
+        } else {
+            lines::push_rest(out, place, count)
+        }
     }
 
     fn push_finding(

@@ -1,10 +1,14 @@
 //! The texts of files.
 use crate::faults::TextFault;
+use cedar_reading::MAX_LENGTH;
 use cedar_types::base::Loc;
 use std::alloc::{AllocError, Global};
 use std::io::Read;
 use std::rt::Files;
 use std::{fs, io, str};
+
+/// How many bytes of a file are read at most: one more than a text may have, so that a longer one is seen to be so.
+const MOST_READ: u64 = (1 << 26) + 1;
 
 /// A text that was read, and the name of its file.
 #[derive(Clone, Copy)]
@@ -17,7 +21,7 @@ pub struct Source<'a> {
 #[derive(Drop)]
 pub enum Content {
     Text(String),
-    /// It is no text: what stands before the first byte that is none, and the fault there.
+    /// It is no text, or too long: what stands before the first byte that is none, and the fault there.
     Broken(String, TextFault),
 }
 
@@ -28,16 +32,20 @@ pub fn read<R: Files + AllocGlobal + Input>(rt: &R, name: &str) -> io::Result<Co
 }
 
 fn read_bytes<R: Files + AllocGlobal + Input>(rt: &R, name: &str) -> io::Result<Vec<u8>> {
-    if name != "-" {
-        return fs::read(rt, name);
-    }
     let mut bytes = Vec::new(rt.alloc());
-    rt.reader().read_to_end(&mut bytes)?;
+    if name == "-" {
+        rt.reader().take(MOST_READ).read_to_end(&mut bytes)?;
+    } else {
+        fs::open(rt, name)?.take(MOST_READ).read_to_end(&mut bytes)?;
+    }
     Ok(bytes)
 }
 
 /// What these bytes say in UTF-8. A byte order mark at the beginning is no part of the text.
 pub fn content_of(alloc: Global, bytes: &[u8]) -> Result<Content, AllocError> {
+    if bytes.len() > MAX_LENGTH {
+        return Ok(Content::Broken(String::new(alloc), too_long(alloc)?));
+    }
     let valid = match str::from_utf8(bytes) {
         Ok(text) => return Ok(Content::Text(String::from_str(alloc, without_mark(text))?)),
         Err(error) => error.valid_up_to(),
@@ -49,6 +57,14 @@ pub fn content_of(alloc: Global, bytes: &[u8]) -> Result<Content, AllocError> {
         text: broken_text(alloc, bytes, valid)?,
     };
     Ok(Content::Broken(front, fault))
+}
+
+/// What is wrong with a file that is too long.
+fn too_long(alloc: Global) -> Result<TextFault, AllocError> {
+    Ok(TextFault {
+        place: Loc { start: 0, end: 0 },
+        text: String::from_str(alloc, "the text is longer than 64 MiB")?,
+    })
 }
 
 /// So many bytes at the beginning, which are a text.

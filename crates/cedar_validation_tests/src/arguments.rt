@@ -5,7 +5,7 @@ use std::alloc::{AllocError, Global};
 use std::test::Fail;
 
 /// Command lines, and what they ask for or what is wrong with them.
-const LINES: [(&str, &str); 19] = [
+const LINES: [(&str, &str); 27] = [
     ("s p", "strict, no level, lines: s, p"),
     ("--json s - q", "strict, no level, objects: s, -, q"),
     (
@@ -21,7 +21,21 @@ const LINES: [(&str, &str); 19] = [
     ("- p q", "strict, no level, lines: -, p, q"),
     ("- p -", "standard input, `-`, can be read once"),
     ("--modes strict s p", "there is no option `--modes`"),
-    ("--level=1 s p", "there is no option `--level=1`"),
+    ("--level=1 s p", "strict, level 1, lines: s, p"),
+    ("--mode=partial s p", "partial, no level, lines: s, p"),
+    ("--levels=1 s p", "there is no option `--levels=1`"),
+    (
+        "--level= s p",
+        "`--level` takes a number from 0 to 4294967295",
+    ),
+    (
+        "--json -- --json -h",
+        "strict, no level, objects: --json, -h",
+    ),
+    ("s -- -p -", "strict, no level, lines: s, -p, -"),
+    ("s -h", "help"),
+    ("--version s", "version"),
+    ("- -- -", "standard input, `-`, can be read once"),
     ("--\u{202e} s p", "there is no option `--\\u{202e}`"),
     (
         "--mode stricter s p",
@@ -63,6 +77,7 @@ fn shown(alloc: Global, line: &str) -> Result<String, AllocError> {
     let arguments = match read_arguments(alloc, words.as_slice())? {
         Ok(Asked::Validation(arguments)) => arguments,
         Ok(Asked::Help) => return String::from_str(alloc, "help"),
+        Ok(Asked::Version) => return String::from_str(alloc, "version"),
         Err(misuse) => return misuse.to_string(alloc),
     };
     let mut said = String::from_str(alloc, mode_text(arguments.mode))?;

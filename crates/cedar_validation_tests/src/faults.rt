@@ -1,6 +1,6 @@
 // Texts with a fault: which it is, and where.
 use cedar_reading::{Policies, Position, schema};
-use cedar_validation::faults::{TextFault, Written, read_fault, schema_fault};
+use cedar_validation::faults::{TextFault, Written, read_fault, schema_fault, shadowing_fault};
 use std::alloc::{AllocError, Global};
 use std::test::Fail;
 
@@ -8,7 +8,7 @@ use std::test::Fail;
 const BEFORE: &str = "permit(principal, action, resource)\nwhen { ";
 
 /// Conditions behind `BEFORE`, with the rest of the text.
-const CONDITIONS: [(&str, &str); 19] = [
+const CONDITIONS: [(&str, &str); 25] = [
     (
         "user.a };",
         "2:8: an expression is expected, where `user` is read; there are `principal`, `action`, \
@@ -87,6 +87,30 @@ const CONDITIONS: [(&str, &str); 19] = [
         "2:8: one argument is expected, where `unknown` is read",
     ),
     (
+        "true && if true then true else true };",
+        "2:16: an expression is expected, where `if` is read; there are `principal`, `action`, \
+         `resource`, `context`, and ids such as `User::\"ann\"`",
+    ),
+    (
+        "principal has a == true };",
+        "2:24: `}` is expected, where `==` is read; one comparison does not follow another: `&&` \
+         joins two",
+    ),
+    (
+        "(if true then 1 else 2).a + - 3 .b };",
+        "2:40: `}` is expected, where `.` is read",
+    ),
+    ("\"\\u{1_0}\\u{1f_6_00}\" == \"\" };", "no fault"),
+    (
+        "\"\\u{_1}\" == \"\" };",
+        "2:8: an escape that there is not: there are \\\" \\\\ \\' \\n \\r \\t \\0 \\x41 \\u{41}, where \
+         `\"\\u{_1}\"` is read",
+    ),
+    (
+        "\"a\rb\" == \"\" };",
+        "2:8: a carriage return in a text: `\\r` stands for one, where `\"a\rb\"` is read",
+    ),
+    (
         "[1, 2).isEmpty() };",
         "2:13: `]` is expected, where `)` is read",
     ),
@@ -104,10 +128,35 @@ fn conditions(rt: HostRuntime) -> Result<(), Fail> {
 }
 
 /// Whole policies.
-const POLICIES: [(&str, &str); 6] = [
+const POLICIES: [(&str, &str); 13] = [
     (
         "allow(principal);",
         "1:1: `permit` or `forbid` is expected, where `allow` is read",
+    ),
+    ("permit(principal, action, resource,);", "no fault"),
+    (
+        "permit(principal, action in [Action::\"a\", N::Action::\"b\",], resource);",
+        "no fault",
+    ),
+    (
+        "permit(principal is N :: User, action, resource);",
+        "no fault",
+    ),
+    (
+        "permit(principal, action == User::\"a\", resource);",
+        "1:29: the type of an action has to be named `Action`, where `User` is read",
+    ),
+    (
+        "permit(principal, action in Action::B::\"a\", resource);",
+        "1:29: the type of an action has to be named `Action`, where `Action` is read",
+    ),
+    (
+        "permit(principal, action in [Action::\"a\", User::\"a\"], resource);",
+        "1:43: the type of an action has to be named `Action`, where `User` is read",
+    ),
+    (
+        "permit(principal, action, resource,,);",
+        "1:36: `)` is expected, where `,` is read",
     ),
     (
         "permit(principal, action);",
@@ -141,23 +190,55 @@ fn policies(rt: HostRuntime) -> Result<(), Fail> {
     Ok(())
 }
 
-/// Each parenthesis is 13 steps of the grammar, and 800 steps are read: 61 parentheses and some steps of the next.
+/// What is written so often, what stands in the middle, what is written as often behind it, and the fault. 800 brackets and
+/// operators are begun at most, so with an operator in each 400 parentheses are; and 800 nodes stand inside each other.
+const NESTED: [(&str, usize, &str, &str, &str); 8] = [
+    ("(", 799, "true", ")", "no fault"),
+    ("(", 800, "true", ")", TOO_DEEP_AT_TRUE),
+    ("(true || ", 399, "true", ")", "no fault"),
+    (
+        "(true || ",
+        400,
+        "true",
+        ")",
+        "2:3608: nested too deep: 800 brackets and operators are read inside each other, or 800 links of a chain, \
+         where `true` is read",
+    ),
+    ("(", 400, "true", " || true)", "no fault"),
+    ("!", 799, "true", "", "no fault"),
+    ("[", 799, "1", "]", "no fault"),
+    ("", 799, "true", " || true", "no fault"),
+];
+
+const TOO_DEEP_AT_TRUE: &str =
+    "2:808: nested too deep: 800 brackets and operators are read inside each other, or 800 links \
+     of a chain, where `true` is read";
+
 #[test]
 fn nesting(rt: HostRuntime) -> Result<(), Fail> {
     let alloc = rt.alloc();
-    let mut text = String::from_str(alloc, BEFORE)?;
-    for _ in 0..100 {
-        text.push_str("(")?;
+    for (before, count, middle, behind, wanted) in &NESTED {
+        let mut text = String::from_str(alloc, BEFORE)?;
+        for _ in 0..*count {
+            text.push_str(before)?;
+        }
+        text.push_str(middle)?;
+        for _ in 0..*count {
+            text.push_str(behind)?;
+        }
+        text.push_str(" };")?;
+        let said = fault_of_policy(alloc, text.as_str())?;
+        assert_eq!(rt;
+            said.as_str(),
+            *wanted,
+            "for {count} times {before} .. {behind}"
+        );
     }
-    let said = fault_of_policy(alloc, text.as_str())?;
-    let wanted = "2:69: nested too deep: some 60 parentheses are read, or 800 links of a chain, \
-         where `(` is read";
-    assert_eq!(rt; said.as_str(), wanted);
     Ok(())
 }
 
 /// Schemas.
-const SCHEMAS: [(&str, &str); 13] = [
+const SCHEMAS: [(&str, &str); 22] = [
     (
         "entity A { a: Long b: Long };",
         "1:20: `,` or `}` is expected, where `b` is read",
@@ -208,6 +289,40 @@ const SCHEMAS: [(&str, &str); 13] = [
          and policies come behind it",
     ),
     (
+        "entity A enum [\"a\", \"b\",]; entity B in [A,]; entity C;\naction v in [w,] appliesTo { principal: [B, C,], \
+         resource: [B,], };\naction w;",
+        "no fault",
+    ),
+    (
+        "entity A enum [\"a\",,];",
+        "1:20: a text in quotes is expected, where `,` is read",
+    ),
+    (
+        "entity A; action v appliesTo { principal: [], resource: A };",
+        "1:43: at least one type is expected, where `[` is read",
+    ),
+    ("entity A { b: B }; type B = Long; entity B;", "no fault"),
+    (
+        "entity A; namespace N { entity B, A; }",
+        "1:35: a name of a namespace that hides one outside of namespaces: `N::A`",
+    ),
+    (
+        "namespace N::M { type A = Long; }\nentity A;",
+        "1:23: a name of a namespace that hides one outside of namespaces: `N::M::A`",
+    ),
+    (
+        "type A = Long; namespace N { entity A; }",
+        "1:37: a name of a namespace that hides one outside of namespaces: `N::A`",
+    ),
+    (
+        "namespace N { action a, \"b\"; }\naction b;",
+        "1:25: a name of a namespace that hides one outside of namespaces: `N::Action::\"b\"`",
+    ),
+    (
+        "namespace N { entity A; action a; } namespace M { entity A; action a; }",
+        "no fault",
+    ),
+    (
         "entity A\nentity B;",
         "2:1: `;` is expected, where `entity` is read",
     ),
@@ -240,7 +355,10 @@ fn fault_of_policy(alloc: Global, text: &str) -> Result<String, AllocError> {
 
 fn fault_of_schema(alloc: Global, text: &str) -> Result<String, AllocError> {
     match schema(alloc, text) {
-        Ok(_schema) => String::from_str(alloc, "no fault"),
+        Ok(_schema) => match shadowing_fault(alloc, text)? {
+            None => String::from_str(alloc, "no fault"),
+            Some(fault) => shown(alloc, text, &fault),
+        },
         Err(error) => {
             let fault = schema_fault(alloc, text, error)?;
             shown(alloc, text, &fault)

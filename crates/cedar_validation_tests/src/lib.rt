@@ -7,10 +7,18 @@ mod arguments;
 #[cfg(test)]
 mod effects;
 #[cfg(test)]
+mod escapes;
+#[cfg(test)]
 mod excerpts;
 #[cfg(test)]
 mod faults;
 #[cfg(test)]
+mod marks;
+#[cfg(test)]
+mod memberships;
+#[cfg(test)]
 mod objects;
+#[cfg(test)]
+mod reports;
 #[cfg(test)]
 mod sources;

@@ -242,9 +242,14 @@ fn applied_types(
 ) -> Result<BTreeSet<EntityType>, ReadError> {
     cursor.expect(variable)?;
     cursor.expect(":")?;
+    let fault = cursor.fault(Fault::Expected("at least one type"));
     let mut types = BTreeSet::new(cursor.alloc);
     for read in one_or_more_types(cursor, names)? {
         types.insert(read.name)?;
+    }
+    // an action that applies to nothing has no `appliesTo`
+    if types.is_empty() && !names.are_as_given() {
+        return Err(fault);
     }
     Ok(types)
 }

@@ -105,6 +105,7 @@ fn alias_declaration(
     read: &mut Declarations,
 ) -> Result<(), ReadError> {
     let fault = cursor.fault(Fault::SameName);
+    let own_start = cursor.start();
     let word = free_alias(cursor, names.notation)?;
     let name = Name::new(cursor.alloc, word, names.namespace)?;
     if read.alias(&name).is_some() {
@@ -114,6 +115,10 @@ fn alias_declaration(
     let start = cursor.start();
     cedar_type(cursor, names, MAX_NESTING)?;
     cursor.expect(";")?;
-    read.add_alias(Alias { name, start })?;
+    read.add_alias(Alias {
+        name,
+        own_start,
+        start,
+    })?;
     Ok(())
 }

@@ -1,15 +1,12 @@
 // Declarations as a schema takes them: each name on its own, with its descendants.
 use crate::faults::{Fault, ReadError};
 use crate::schemas::declarations::Declarations;
-use crate::schemas::descendants::Family;
+use crate::schemas::descendants::{Family, MAX_DESCENDANTS};
 use cedar_types::base::{
     StandardValidatorEntityType, ValidatorActionId, ValidatorActionKind, ValidatorApplySpec,
     ValidatorEntityType, ValidatorEntityTypeKind,
 };
 use std::alloc::{AllocError, Global};
-
-/// How many descendants all entity types of a schema may have together, and all actions.
-const MAX_DESCENDANTS: usize = 1 << 20;
 
 /// The declared entity types. It fails where too many are in others.
 pub fn closed_types(

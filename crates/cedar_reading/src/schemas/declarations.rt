@@ -28,6 +28,8 @@ pub struct Declaration<N, K> {
 #[derive(Drop)]
 pub struct Alias {
     pub name: Name,
+    /// The byte at which the name stands.
+    pub own_start: usize,
     /// The byte at which the type begins.
     pub start: usize,
 }
@@ -41,7 +43,7 @@ pub type ActionDeclaration = Declaration<EntityUID, ValidatorActionKind>;
 /// What a text declares, in its order.
 #[derive(Drop)]
 pub struct Declarations {
-    aliases: BTreeMap<Name, Alias>,
+    pub aliases: BTreeMap<Name, Alias>,
     pub entity_types: Vec<TypeDeclaration>,
     pub actions: Vec<ActionDeclaration>,
     /// The names that all of them declare.

@@ -1,100 +1,143 @@
 // What is in what, over any number of steps.
+use crate::faults::{Fault, ReadError};
 use crate::schemas::declarations::{Declaration, Placed, add_names};
+use crate::schemas::groups::{Graph, Groups};
 use std::alloc::{AllocError, Global};
 use std::collections::{BTreeMap, BTreeSet};
 
-/// What is declared in each name, by one step.
+/// How many descendants all names may have together; and how many parents the declarations may give their names.
+pub const MAX_DESCENDANTS: usize = 1 << 20;
+
+/// What is declared in each name, over any number of steps.
 #[derive(Drop)]
-pub struct Family<'a, N: Ord, K> {
+pub struct Family<'a, N: Ord> {
     alloc: Global,
-    /// How many names are declared.
-    size: usize,
-    children: BTreeMap<&'a N, Vec<&'a Declaration<N, K>>>,
+    /// The names that are declared, each once.
+    names: Vec<&'a N>,
+    /// Where each of them stands there.
+    numbers: BTreeMap<&'a N, usize>,
+    groups: Groups,
 }
 
-impl<'a, N: Ord + Clone + Drop, K> Family<'a, N, K> {
-    /// Of these declarations.
-    pub fn new(
+impl<'a, N: Ord + Clone + Drop> Family<'a, N> {
+    /// Of these declarations. It fails where too many are in others.
+    pub fn new<K>(
         alloc: Global,
         declared: &'a [Declaration<N, K>],
-    ) -> Result<Family<'a, N, K>, AllocError> {
-        let mut family = Family {
-            alloc,
-            size: 0,
-            children: BTreeMap::new(alloc),
-        };
+    ) -> Result<Family<'a, N>, ReadError> {
+        check_parents(declared)?;
+        let (names, numbers) = numbered(alloc, declared)?;
+        let mut graph = Graph::new(alloc, names.len())?;
         for declaration in declared {
-            family.size = family.size.saturating_add(declaration.names.len());
-            family.add(declaration)?;
+            add_steps(&mut graph, &numbers, declaration)?;
         }
-        Ok(family)
+        let groups = match Groups::new(&graph, MAX_DESCENDANTS)? {
+            Ok(groups) => groups,
+            Err(number) => return Err(too_many(declared, names.get(number).copied())),
+        };
+        Ok(Family {
+            alloc,
+            names,
+            numbers,
+            groups,
+        })
     }
 
-    fn add(&mut self, declaration: &'a Declaration<N, K>) -> Result<(), AllocError> {
-        for parent in &declaration.parents {
-            let nothing = Vec::new(self.alloc);
-            let children = self.children.entry(&parent.name)?.or_insert(nothing);
-            children.push(declaration)?;
-        }
-        Ok(())
-    }
-
-    /// The descendants of a name that this declaration declares: those that it gives, or what is in that name.
-    pub fn descendants_of(
+    /// The descendants of a name that this declaration declares: those that it gives, or what is in that name. It is among
+    /// them itself where it is in one of them.
+    pub fn descendants_of<K>(
         &self,
-        declaration: &'a Declaration<N, K>,
+        declaration: &Declaration<N, K>,
         own: &'a N,
     ) -> Result<BTreeSet<N>, AllocError> {
-        let Some(given) = &declaration.given else {
-            return self.descendants(own);
+        let mut found = BTreeSet::new(self.alloc);
+        if let Some(given) = &declaration.given {
+            add_names(given.as_slice(), &mut found)?;
+            return Ok(found);
+        }
+        let Some(number) = self.numbers.get(&own) else {
+            return Ok(found);
         };
-        let mut found = BTreeSet::new(self.alloc);
-        add_names(given.as_slice(), &mut found)?;
-        Ok(found)
-    }
-
-    /// What is in this name. It is among them itself where it is in one of them.
-    fn descendants(&self, ancestor: &'a N) -> Result<BTreeSet<N>, AllocError> {
-        let mut found = BTreeSet::new(self.alloc);
-        let mut left = Vec::new(self.alloc);
-        left.push(ancestor)?;
-        // each name is found once, and the ancestor may be found too
-        for _ in 0..=self.size {
-            let Some(name) = left.pop() else {
-                break;
-            };
-            self.add_children(name, &mut found, &mut left)?;
+        for group in self.groups.below(*number) {
+            self.add_members(*group, &mut found)?;
         }
         Ok(found)
     }
 
-    /// Adds what is declared in this name. What of it is new is left to be looked at.
-    fn add_children(
-        &self,
-        name: &'a N,
-        found: &mut BTreeSet<N>,
-        left: &mut Vec<&'a N>,
-    ) -> Result<(), AllocError> {
-        let Some(children) = self.children.get(&name) else {
-            return Ok(());
-        };
-        for declaration in children {
-            add_new(declaration.names.as_slice(), found, left)?;
+    /// Adds the names of a group.
+    fn add_members(&self, group: usize, found: &mut BTreeSet<N>) -> Result<(), AllocError> {
+        for member in self.groups.members(group) {
+            if let Some(name) = self.names.get(*member) {
+                found.insert((*name).clone()?)?;
+            }
         }
         Ok(())
     }
 }
 
-/// Adds the names that are new to both.
-fn add_new<'a, N: Ord + Clone + Drop>(
-    names: &'a [Placed<N>],
-    found: &mut BTreeSet<N>,
-    left: &mut Vec<&'a N>,
-) -> Result<(), AllocError> {
-    for own in names {
-        if found.insert(own.name.clone()?)? {
-            left.push(&own.name)?;
+/// Fails where the declarations give their names too many parents, of which each is a step.
+fn check_parents<N, K>(declared: &[Declaration<N, K>]) -> Result<(), ReadError> {
+    let mut steps = 0usize;
+    for declaration in declared {
+        let own = declaration.names.len();
+        steps = steps.saturating_add(own.saturating_mul(declaration.parents.len()));
+        if steps > MAX_DESCENDANTS {
+            return Err(fault_at(declaration.names.first()));
         }
     }
     Ok(())
+}
+
+/// The names that are declared, each once, and where each stands among them.
+fn numbered<'a, N: Ord, K>(
+    alloc: Global,
+    declared: &'a [Declaration<N, K>],
+) -> Result<(Vec<&'a N>, BTreeMap<&'a N, usize>), AllocError> {
+    let mut names = Vec::new(alloc);
+    let mut numbers = BTreeMap::new(alloc);
+    for own in declared.iter().flat_map(|d| d.names.iter()) {
+        let name: &'a N = &own.name;
+        if numbers.get(&name).is_none() {
+            numbers.insert(name, names.len())?;
+            names.push(name)?;
+        }
+    }
+    Ok((names, numbers))
+}
+
+/// Adds what a declaration says by one step.
+fn add_steps<'a, N: Ord, K>(
+    graph: &mut Graph,
+    numbers: &BTreeMap<&'a N, usize>,
+    declaration: &'a Declaration<N, K>,
+) -> Result<(), AllocError> {
+    for own in &declaration.names {
+        for parent in &declaration.parents {
+            let child: &'a N = &own.name;
+            let parent: &'a N = &parent.name;
+            let child = numbers.get(&child).copied();
+            let parent = numbers.get(&parent).copied();
+            if let (Some(child), Some(parent)) = (child, parent) {
+                graph.add(child, parent)?;
+            }
+        }
+    }
+    Ok(())
+}
+
+/// The fault at the declaration of this name, which has too many descendants.
+fn too_many<N: Ord, K>(declared: &[Declaration<N, K>], name: Option<&N>) -> ReadError {
+    let own = declared
+        .iter()
+        .flat_map(|d| d.names.iter())
+        .find(|own| Some(&own.name) == name);
+    fault_at(own)
+}
+
+fn fault_at<N>(own: Option<&Placed<N>>) -> ReadError {
+    let start = match own {
+        Some(own) => own.start,
+        None => 0,
+    };
+    ReadError::At(start, Fault::TooMany)
 }

@@ -8,7 +8,7 @@ pub enum Listing {
     One,
     /// One or more, with commas between them.
     WithCommas,
-    /// Any number, with commas between them and a bracket behind the last.
+    /// Any number, with commas between them, perhaps one behind the last, and a bracket.
     InBrackets,
 }
 
@@ -32,7 +32,8 @@ impl Listing {
                 if before > 0 {
                     cursor.expect(",")?;
                 }
-                Ok(true)
+                // a comma may stand behind the last
+                Ok(before == 0 || !cursor.takes("]"))
             }
         }
     }

@@ -4,7 +4,7 @@ use crate::outcomes::{Outcome, ended};
 use crate::pictures::picture;
 use crate::refusals::refuse;
 use cedar_types::base::{AttrChain, Expr, Literal, Var};
-use cedar_types::types::capability::{Capability, CapabilitySet, ChainStep};
+use cedar_types::types::capability::{Capability, CapabilitySet, CapabilitySetBuilder, ChainStep};
 use std::alloc::{AllocError, Global};
 use std::rc::RcStr;
 
@@ -13,6 +13,8 @@ use std::rc::RcStr;
 pub enum OfSets {
     Insert,
     Join,
+    Build,
+    Add,
     Singleton,
     Copy,
     Union,
@@ -46,7 +48,7 @@ fn of_sets(alloc: Global, asked: OfSets, number: u16) -> Result<Outcome, AllocEr
     let alone = has(alloc, "vip")?;
     refuse(alloc, number);
     match asked {
-        OfSets::Insert | OfSets::Join | OfSets::Singleton => ended(
+        OfSets::Insert | OfSets::Add | OfSets::Join | OfSets::Build | OfSets::Singleton => ended(
             alloc,
             CapabilitySet::singleton(alloc, alone),
             &sets,
@@ -69,7 +71,7 @@ fn of_tags(alloc: Global, asked: OfSets, number: u16) -> Result<Outcome, AllocEr
     let set = CapabilitySet::singleton(alloc, owned)?;
     refuse(alloc, number);
     match asked {
-        OfSets::Insert | OfSets::Join | OfSets::Singleton => ended(
+        OfSets::Insert | OfSets::Add | OfSets::Join | OfSets::Build | OfSets::Singleton => ended(
             alloc,
             CapabilitySet::singleton(alloc, alone),
             &lent,
@@ -106,6 +108,30 @@ fn inserted(alloc: Global, number: u16) -> Result<Outcome, AllocError> {
     })
 }
 
+/// Adds a capability to a builder, which is as it was where memory was refused.
+fn added(alloc: Global, number: u16) -> Result<Outcome, AllocError> {
+    let (mut builder, another) = (CapabilitySetBuilder::new(alloc), has(alloc, "age")?);
+    let before = picture(alloc, &builder)?;
+    refuse(alloc, number);
+    let answer = builder.insert(another);
+    let outcome = ended(alloc, answer, &())?;
+    let is_kept = outcome.answer.is_some() || picture(alloc, &builder)? == before;
+    Ok(Outcome {
+        lent: picture(alloc, &is_kept)?,
+        ..outcome
+    })
+}
+
+/// Makes a set by a builder of two capabilities.
+fn built(alloc: Global, number: u16) -> Result<Outcome, AllocError> {
+    let mut builder = CapabilitySetBuilder::new(alloc);
+    builder.insert(has(alloc, "vip")?)?;
+    builder.insert(has(alloc, "nick")?)?;
+    refuse(alloc, number);
+    let set = builder.build(alloc);
+    ended(alloc, set, &())
+}
+
 /// The first step of an extended `has`.
 #[derive(Clone, Copy)]
 pub struct OfSteps;
@@ -138,6 +164,8 @@ impl Tried for OfSets {
         match self {
             OfSets::Insert => inserted(alloc, number),
             OfSets::Join => joined(alloc, number),
+            OfSets::Build => built(alloc, number),
+            OfSets::Add => added(alloc, number),
             _ => of_sets(alloc, self, number),
         }
     }
@@ -156,10 +184,12 @@ impl Tried for OfTags {
 }
 
 /// Questions about sets of capabilities.
-pub const SETS: [(OfSets, &str); 6] = [
+pub const SETS: [(OfSets, &str); 8] = [
     (OfSets::Join, "CapabilitySet::join | names"),
     (OfSets::Singleton, "CapabilitySet::singleton | vip"),
     (OfSets::Insert, "CapabilitySet::insert | ()"),
+    (OfSets::Add, "CapabilitySetBuilder::insert | ()"),
+    (OfSets::Build, "CapabilitySetBuilder::build | nick"),
     (OfSets::Union, "CapabilitySet::union | age"),
     (OfSets::Intersect, "CapabilitySet::intersect | nick"),
     (OfSets::Copy, "CapabilitySet::try_clone | nick"),

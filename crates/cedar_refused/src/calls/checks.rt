@@ -1,5 +1,6 @@
 // Checks of policies, and what a validator is asked.
 use crate::calls::lines::{Rules, Tried};
+use crate::calls::surveys::{level_errors_at_0, survey};
 use crate::outcomes::{Outcome, ended};
 use crate::pictures::picture;
 use crate::refusals::{refuse, was_refused};
@@ -57,8 +58,11 @@ pub enum OfValidator {
     Resources,
     Application,
     LinkedApplication,
+    Policy,
     RequiredLevel,
     Level,
+    Survey,
+    SurveyedLevel,
 }
 
 /// Asks it of the policy of this text, in Strict.
@@ -91,7 +95,14 @@ fn of_validator(
             let applies = validator.validate_linked_action_application(alloc, &policy);
             ended(alloc, applies, &policy)
         }
-        OfValidator::RequiredLevel | OfValidator::Level => {
+        OfValidator::Policy => {
+            let found = validator.validate_policy(alloc, template, mode);
+            ended(alloc, found, &policy)
+        }
+        OfValidator::RequiredLevel
+        | OfValidator::Level
+        | OfValidator::Survey
+        | OfValidator::SurveyedLevel => {
             ended(
                 alloc,
                 validator.required_level(alloc, template, mode),
@@ -168,6 +179,10 @@ impl Tried for OfValidator {
     ) -> Result<Outcome, AllocError> {
         match self {
             OfValidator::Level => at_level_0(alloc, rules.validator, text, number),
+            OfValidator::Survey => survey(alloc, rules.validator, text, number),
+            OfValidator::SurveyedLevel => {
+                level_errors_at_0(alloc, rules.validator, text, number)
+            }
             _ => of_validator(alloc, rules.validator, self, text, number),
         }
     }

@@ -1,4 +1,4 @@
-// The walks over a template's environments, alone and with their checks. Each step takes memory.
+// The walks over a template's environments, alone and with their checks. A step may take memory.
 use crate::calls::walks::{Steps, attempt_walk, walked};
 use crate::pictures::picture;
 use crate::sweep::{ANOTHER_POLICY, Attempt, Call, Question, attempt_question};
@@ -36,6 +36,14 @@ pub struct ChecksMaking<'a>(pub Walk<'a>);
 #[derive(Clone, Copy)]
 pub struct ChecksWalk<'a>(pub Walk<'a>);
 
+/// Each step of `RequestEnvChecks::next_env`.
+#[derive(Clone, Copy)]
+pub struct NextWalk<'a>(pub Walk<'a>);
+
+/// `RequestEnvChecks::check` in the environment of undeclared actions, of checks that are made for it.
+#[derive(Clone, Copy)]
+pub struct OneCheck<'a>(pub Walk<'a>);
+
 impl Call for LinkedWalk<'_> {
     fn attempt(&self, alloc: Global, number: u16) -> Result<Attempt, AllocError> {
         let (schema, policy) = (self.0.schema, self.0.policy);
@@ -61,6 +69,44 @@ impl Call for ChecksWalk<'_> {
         );
         let attempt = attempt_walk(alloc, walks, self.0.environments, number)?;
         Ok(attempt.only_if(picture(alloc, policy)? == before, ANOTHER_POLICY))
+    }
+}
+
+impl Call for NextWalk<'_> {
+    fn attempt(&self, alloc: Global, number: u16) -> Result<Attempt, AllocError> {
+        let (checker, policy) = (self.0.checker, self.0.policy);
+        let before = picture(alloc, policy)?;
+        let walks = (
+            NextEnvs(checker.typecheck_by_request_env(alloc, policy)?),
+            NextEnvs(checker.typecheck_by_request_env(alloc, policy)?),
+            NextEnvs(checker.typecheck_by_request_env(alloc, policy)?),
+        );
+        let attempt = attempt_walk(alloc, walks, self.0.environments, number)?;
+        Ok(attempt.only_if(picture(alloc, policy)? == before, ANOTHER_POLICY))
+    }
+}
+
+impl Question for OneCheck<'_> {
+    type Answer = PolicyCheck;
+
+    fn ask(&self, alloc: Global) -> Result<PolicyCheck, AllocError> {
+        let checks = self
+            .0
+            .checker
+            .typecheck_by_request_env(alloc, self.0.policy)?;
+        checks.check(&RequestEnv::UndeclaredAction)
+    }
+
+    fn shown(&self, alloc: Global, answer: PolicyCheck) -> Result<String, AllocError> {
+        picture(alloc, &answer)
+    }
+}
+
+impl Call for OneCheck<'_> {
+    fn attempt(&self, alloc: Global, number: u16) -> Result<Attempt, AllocError> {
+        let before = picture(alloc, self.0.policy)?;
+        let attempt = attempt_question(alloc, self, number)?;
+        Ok(attempt.only_if(picture(alloc, self.0.policy)? == before, ANOTHER_POLICY))
     }
 }
 
@@ -121,5 +167,21 @@ impl<'a> Steps for RequestEnvChecks<'a> {
 
     fn step(&mut self) -> Option<Result<(RequestEnv<'a>, PolicyCheck), AllocError>> {
         self.next()
+    }
+}
+
+/// The environments of the checks, without the checks.
+#[derive(Drop)]
+struct NextEnvs<'a>(RequestEnvChecks<'a>);
+
+impl<'a> Steps for NextEnvs<'a> {
+    type Item = RequestEnv<'a>;
+
+    fn step(&mut self) -> Option<Result<RequestEnv<'a>, AllocError>> {
+        match self.0.next_env() {
+            Ok(None) => None,
+            Ok(Some(env)) => Some(Ok(env)),
+            Err(refused) => Some(Err(refused)),
+        }
     }
 }

@@ -14,6 +14,7 @@ pub enum Lookup {
     Bound,
     Attribute,
     Literal,
+    Reference,
     ChainCost,
 }
 
@@ -43,6 +44,14 @@ fn literal(alloc: Global, text: &str, number: u16) -> Result<Outcome, AllocError
     ended(alloc, found, &entity)
 }
 
+/// Asks for the type of the entities of the type that this id has.
+fn reference(alloc: Global, text: &str, number: u16) -> Result<Outcome, AllocError> {
+    let (schema, entity) = (schema_of(alloc, SCHEMA)?, uid(alloc, text)?);
+    refuse(alloc, number);
+    let found = CedarType::entity_reference(alloc, &entity.entity_type, &schema);
+    ended(alloc, found, &entity)
+}
+
 /// Asks for the cost of a chain of which each entity is of two types.
 fn chain_cost(alloc: Global, text: &str, number: u16) -> Result<Outcome, AllocError> {
     let (schema, root) = (schema_of(alloc, OWNERS)?, cedar_type(alloc, text)?);
@@ -65,13 +74,14 @@ impl Tried for Lookup {
             Lookup::Bound => bound_of_entities(alloc, number),
             Lookup::Attribute => attribute(alloc, text, number),
             Lookup::Literal => literal(alloc, text, number),
+            Lookup::Reference => reference(alloc, text, number),
             Lookup::ChainCost => chain_cost(alloc, text, number),
         }
     }
 }
 
 /// What is looked up, by what it is looked up for.
-pub const LOOKUPS: [(Lookup, &str); 4] = [
+pub const LOOKUPS: [(Lookup, &str); 5] = [
     (Lookup::Bound, "EntityLUB::least_upper_bound | Photo"),
     (
         Lookup::Attribute,
@@ -84,8 +94,15 @@ CedarType::lookup_attribute_type, of several types | Photo | User|Photo
     (
         Lookup::Literal,
         r#"
-CedarType::euid_literal | User | User::"a"
-CedarType::euid_literal, of an action | Action | Action::"view"
+- CedarType::euid_literal | User | User::"a"
+- CedarType::euid_literal, of an action | Action | Action::"view"
+"#,
+    ),
+    (
+        Lookup::Reference,
+        r#"
+CedarType::entity_reference, of a type that is not declared | Gone | Gone::"a"
+- CedarType::entity_reference | User | User::"a"
 "#,
     ),
     (

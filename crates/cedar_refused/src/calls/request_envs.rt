@@ -98,7 +98,7 @@ pub const ENVIRONMENTS: [(Declared, &str); 6] = [
     ),
     (
         Declared(OfEnvironment::Action),
-        "RequestEnv::action_type | Action",
+        "- RequestEnv::action_type | Action",
     ),
     (
         Declared(OfEnvironment::Resource),

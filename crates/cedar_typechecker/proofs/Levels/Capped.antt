@@ -2,7 +2,7 @@
 use Rattle.std.proofs.Common.{◌≡◌, ℕ, ◌+◌, ◌≤◌, ◌<◌, Bool, true, false, nat_lt, nat_le, refl, arith}
 use Rattle.std.proofs.lemmas.Bool.{ltb-true, ltb-false, leb-true, leb-false, le-leb, lt-ltb}
 use Rattle.cedar_typechecker.specs.Levels.Errors.{reported}
-use Rattle.cedar_typechecker.specs.Levels.InOrder.{capped, raised}
+use Rattle.cedar_typechecker.specs.Levels.Demands.{capped, raised}
 
 pub same_less : (n j : ℕ) → n ≤ 4294967295 → nat_lt (capped j) n ≡ nat_lt j n
 same_less n j le = go (nat_lt j n) refl

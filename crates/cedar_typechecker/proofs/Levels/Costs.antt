@@ -7,7 +7,7 @@ use Rattle.cedar_types.specs.Schemas.{Schema}
 use Rattle.cedar_types.specs.Types.{Ty}
 use Rattle.cedar_typechecker.specs.Levels.Chains.{Base, an_entity, a_record, neither, base_of_type}
 use Rattle.cedar_typechecker.specs.Levels.Costs.{on_attribute, keys_on, keys_to_entity}
-use Rattle.cedar_typechecker.specs.Levels.InOrder.{by_base, entity_after}
+use Rattle.cedar_typechecker.specs.Levels.Demands.{by_base, entity_after}
 
 -- i attributes come before x; then what is found, and the keys
 abbrev KeysAre : ℕ → Text → List Text → Option ℕ → Option (List Text) → Type 0

@@ -8,7 +8,7 @@ use Rattle.cedar_types.specs.Expressions.Tree.{ext_has_attr, like, is_type, set_
 use Rattle.cedar_typing.specs.TypedExpr.{TypedTree, Mark, annotation}
 use Rattle.cedar_typechecker.specs.Levels.Chains.{Base, an_entity, a_record, neither, base_of, is_get_tag, Chain, one_more}
 use Rattle.cedar_typechecker.specs.Levels.Chains.{chains_of_access, chains_of_operator, chains, field_chains, greatest}
-use Rattle.cedar_typechecker.specs.Levels.InOrder.{capped, raised, by_base, counted_level, counted_at_key, has_key}
+use Rattle.cedar_typechecker.specs.Levels.Demands.{capped, raised, by_base, counted_level, counted_at_key, has_key}
 use Rattle.cedar_typechecker.specs.Levels.Shared.{is_constant, BranchesAreShared, FieldsAreShared}
 use Rattle.cedar_typechecker.proofs.Levels.Greatest.{IsNotEmpty, has_chain, greatest_of_both, greatest_more}
 

@@ -49,6 +49,7 @@ level_details = record {
   chain_and_base = refl;
   chain_within = refl;
   record_base = refl;
+  other_base = refl;
   costs = refl;
   keys = refl;
   leaves = refl;

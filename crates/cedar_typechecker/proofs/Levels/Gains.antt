@@ -12,6 +12,10 @@ module _ {A : Type 0} where
   joined_again [] ys zs = refl
   joined_again (x ∷ xs) ys zs = ap (λ us. x ∷ us) (joined_again xs ys zs)
 
+  pub nil_right : (xs : List A) → xs ++ [] ≡ xs
+  nil_right [] = refl
+  nil_right (x ∷ xs) = ap (λ ys. x ∷ ys) (nil_right xs)
+
   pub from_either : (x : A) (xs ys : List A) → IsOneOf x xs ⊎ IsOneOf x ys → IsOneOf x (xs ++ ys)
   from_either x xs ys (inl h) = in_left x xs ys h
   from_either x xs ys (inr h) = in_right x xs ys h
@@ -75,18 +79,3 @@ module _ {A : Type 0} where
       from : IsOneOf x old ⊎ IsOneOf x (xs ++ ys) → IsOneOf x (mid ++ ys)
       from (inl i) = in_left x mid ys ((h x).1 (in_left x old xs i))
       from (inr i) = earlier (in_either x xs ys i)
-
-  -- the second before the first
-  pub adds_before : (old xs mid ys new : List A) → Adds old xs mid → Adds mid ys new
-      → Adds old (ys ++ xs) new
-  adds_before old xs mid ys new h k =
-      adds_alike old (xs ++ ys) (ys ++ xs) new (λ x. swapped x xs ys) (λ x. swapped x ys xs)
-      (adds_both old xs mid ys new h k)
-
-  pub adds_twice : (old xs new : List A) → Adds old xs new → Adds old (xs ++ xs) new
-  adds_twice old xs new h =
-      adds_alike old xs (xs ++ xs) new (λ x. in_left x xs xs) (λ x. once x xs) h
-
-  pub adds_end : (old xs new : List A) → Adds old xs new → Adds old (xs ++ []) new
-  adds_end old xs new h =
-      adds_alike old xs (xs ++ []) new (λ x. in_left x xs []) (λ x. without_end x xs) h

@@ -1,9 +1,13 @@
 -- What the public call puts together.
-use Rattle.std.proofs.Common.{◌≡◌, ℕ, true, false, true≢false, List, ◌++◌, Option, option_map, refl, sym, ap, subst, ◌∙◌, append_assoc}
-use Rattle.std.specs.Borrow.{Bor}
-use Rattle.std.specs.Prelude.{[], IsPermutation}
+use Rattle.std.proofs.Common.{◌≡◌, ◌↔◌, true, false, true≢false, List, [], ◌∷◌, ◌++◌, map, inl, inr, option_map, refl, sym, ap, subst, ◌∙◌, append_assoc}
+use Rattle.std.specs.List.{AllByRecursion}
+use Rattle.std.specs.List.Sorted.{IsStrictlySortedBy}
+use Rattle.std.specs.Ordering.{is_eq}
+use Rattle.std.specs.Prelude.{IsPermutation}
+use Rattle.std.specs.declared.cmp.Ordering.TheVariants.{Less}
 use Rattle.std.proofs.lemmas.List.Sorted.{IsPermutation-append, IsPermutation-refl}
-use Rattle.cedar_types.specs.declared.base.names.entities.EntityUID.{EntityUID}
+use Rattle.cedar_types.specs.declared.base.errors.validation_errors.ValidationError.{ValidationError}
+use Rattle.cedar_types.specs.declared.base.expressions.extensions.ExtensionSchemas.{ExtensionSchemas}
 use Rattle.cedar_types.specs.declared.base.schema.ValidatorSchema.{ValidatorSchema}
 use Rattle.cedar_types.specs.declared.base.templates.Template.{Template}
 use Rattle.cedar_types.specs.declared.base.types.ValidationMode.{ValidationMode}
@@ -11,20 +15,27 @@ use Rattle.cedar_types.specs.declared.base.types.ValidationMode.TheVariants.{Str
 use Rattle.cedar_types.specs.declared.types.request_env.RequestEnv.{RequestEnv}
 use Rattle.cedar_types.specs.declared.types.request_env.RequestEnv.TheVariants.{DeclaredAction, UndeclaredAction}
 use Rattle.cedar_types.specs.contracts.base.types.ValidationModePartialEq.TheImpl as mode_test
-use Rattle.cedar_types.specs.Errors.{Finding}
+use Rattle.cedar_types.specs.ErrorOrder.{error_cmp}
+use Rattle.cedar_types.specs.Errors.{Finding, finding_of}
+use Rattle.cedar_types.specs.Extensions.Functions.{Refusals}
+use Rattle.cedar_types.specs.Extensions.{functions_of, overloaded_types_of}
 use Rattle.cedar_types.specs.Templates.Findings.{unknown_types, unknown_actions, wrong_members}
 use Rattle.cedar_types.specs.Environments.Linking.{checked_envs}
-use Rattle.cedar_types.specs.Names.{uid_of}
+use Rattle.cedar_types.specs.Names.{text_of, uid_of}
 use Rattle.cedar_types.specs.Environments.RequestEnvs.{Env, env_of, action_in}
 use Rattle.cedar_types.specs.Schemas.Contents.{schema_of}
 use Rattle.cedar_types.specs.Schemas.{Schema}
-use Rattle.cedar_types.specs.Templates.{PlainTemplate, template_of}
+use Rattle.cedar_types.specs.Templates.{PlainTemplate, template_of, condition_of}
 use Rattle.cedar_typing.specs.declared.typecheck.typechecker.Typechecker.{Typechecker}
-use Rattle.cedar_typing.specs.Views.Checks.{schema_by, mode_by}
-use Rattle.cedar_typing.specs.Soundness.Policies.{Basis}
-use Rattle.cedar_typechecker.specs.Levels.Outcome.{levels_on, name_findings}
-use Rattle.cedar_typechecker.specs.Levels.Requirements.{Surroundings}
-use Rattle.cedar_typechecker.specs.Levels.Setting.{LevelSetting, action_of}
+use Rattle.cedar_typing.specs.Evaluation.Conformance.{IsOneOf}
+use Rattle.cedar_typing.specs.PolicyCheck.{Verdict, PolicyChecks}
+use Rattle.cedar_typing.specs.Views.Checks.{schema_by, extensions_by, mode_by}
+use Rattle.cedar_typing.specs.Views.EnvironmentChecks.{ChecksIn}
+use Rattle.cedar_typing.proofs.Policies.Tallies.{tie_decides}
+use Rattle.cedar_typechecker.specs.declared.rbac.validator.Validator.{Validator}
+use Rattle.cedar_typechecker.specs.Levels.Outcome.{ChecksOn, AreApart, name_findings}
+use Rattle.cedar_typechecker.specs.Levels.Setting.{action_of}
+use Rattle.cedar_typechecker.specs.ValidatorViews.{schema_in, extensions_in, basis_in}
 
 -- ---- the passes over names
 
@@ -59,13 +70,15 @@ module _ (s : Schema) (t : PlainTemplate) where
 
 -- ---- all errors
 
--- the members of two sets, after what the passes found
-pub all_given : (f0 f1 f2 a b names : List Finding) → f1 ≡ f0 ++ a → f2 ≡ f1 ++ b
-    → IsPermutation f0 names → IsPermutation f2 (names ++ (a ++ b))
-all_given f0 f1 f2 a b names e1 e2 p =
-    let both : f2 ≡ f0 ++ (a ++ b) = e2 ∙ (ap (λ z. z ++ b) e1 ∙ append_assoc f0 a b) in
-    subst (λ z. IsPermutation z (names ++ (a ++ b))) (sym both)
-    (IsPermutation-append f0 names (a ++ b) (a ++ b) p (IsPermutation-refl (a ++ b)))
+-- what is added, after what the passes found
+pub all_given : (found new names added : List Finding) → new ≡ found ++ added
+    → IsPermutation found names → IsPermutation new (names ++ added)
+all_given found new names added e p =
+    subst (λ z. IsPermutation z (names ++ added)) (sym e)
+    (IsPermutation-append found names added added p (IsPermutation-refl added))
+
+pub both_ways : {A B C : Type 0} → A ↔ B → B ↔ C → A ↔ C
+both_ways h k = (λ a. k.0 (h.0 a), λ c. h.1 (k.1 c))
 
 -- ---- one environment after another
 
@@ -83,31 +96,49 @@ all_left c s m t left begun e hs hm p =
     IsPermutation xs (checked_envs (schema_of s) m (template_of t)) in
     subst R (sym e) (subst Q hm (subst P hs p))
 
-action_seen : (e : RequestEnv)
+pub action_seen : (e : RequestEnv)
     → option_map (λ u. uid_of u.now) (action_in e) ≡ action_of (env_of e)
 action_seen (DeclaredAction p a r c ps rs) = refl
 action_seen UndeclaredAction = refl
 
--- what the walk in an environment stands for
-pub walk_setting : (a : Option (Bor EntityUID)) (s : ValidatorSchema) (b : Basis)
-    (t : PlainTemplate) (n : ℕ) (e : RequestEnv) → a ≡ action_in e → schema_of s ≡ b.schema
-    → ◌≡◌ {A = LevelSetting} (record {
-      action = option_map (λ u. uid_of u.now) a;
-      schema = schema_of s;
-      maximum = n;
-      policy = t.id;
-    }) (levels_on b t n (env_of e))
-walk_setting a s b t n e ha hs =
-    let action = ap (option_map (λ u. uid_of u.now)) ha ∙ action_seen e in
-    λ i. record { action = action i; schema = hs i; maximum = n; policy = t.id }
+-- ---- members of a set, each once
 
--- the same of the walk for required levels
-pub walk_surroundings : (a : Option (Bor EntityUID)) (s : ValidatorSchema) (b : Basis)
-    (e : RequestEnv) → a ≡ action_in e → schema_of s ≡ b.schema
-    → ◌≡◌ {A = Surroundings} (record {
-      action = option_map (λ u. uid_of u.now) a;
-      schema = schema_of s;
-    }) (record { action = action_of (env_of e); schema = b.schema })
-walk_surroundings a s b e ha hs =
-    let action = ap (option_map (λ u. uid_of u.now)) ha ∙ action_seen e in
-    λ i. record { action = action i; schema = hs i }
+not_again : (x : ValidationError) (xs : List ValidationError)
+    → AllByRecursion (λ y. error_cmp x y ≡ Less) xs
+    → IsOneOf (finding_of x) (map finding_of xs) → ⊥
+not_again x [] h i = i
+not_again x (y ∷ ys) h (inl e) = true≢false (sym ((tie_decides x y).1 e) ∙ ap is_eq h.0)
+not_again x (y ∷ ys) h (inr i) = not_again x ys h.1 i
+
+pub apart : (xs : List ValidationError) → IsStrictlySortedBy error_cmp xs
+    → AreApart (map finding_of xs)
+unfolding IsStrictlySortedBy
+apart [] h = tt
+apart (x ∷ xs) h = (not_again x xs h.0, apart xs h.1)
+
+-- ---- what the validator's checker checks by
+
+module _ {C : Type 0} (meaning : C → Refusals) where
+  pub checks_on : (v : Validator C) (m : ValidationMode) (c : Typechecker C) (t : Template)
+      → (schema_by c).now ≡ schema_in v → (extensions_by c).now ≡ (extensions_in v).now
+      → mode_by c ≡ m
+      → (e : Env) (w : Verdict) → ChecksIn meaning c t e w
+      → ChecksOn (basis_in meaning v m) (template_of t) e w
+  checks_on v m c t hs hx hm e w h =
+      let P : ValidatorSchema → ValidationMode → ExtensionSchemas C → Type 0 = λ s k x. PolicyChecks
+      (record {
+        env = record {
+          schema = schema_of s;
+          mode = k;
+          request_env = e;
+          overloaded_types = overloaded_types_of x;
+          policy = text_of t.id.text;
+        };
+        functions = functions_of meaning x;
+      })
+      (condition_of (template_of t)) w in
+      let first : P (schema_in v) (mode_by c) (extensions_by c).now =
+      subst (λ s. P s (mode_by c) (extensions_by c).now) hs h in
+      let second : P (schema_in v) m (extensions_by c).now =
+      subst (λ k. P (schema_in v) k (extensions_by c).now) hm first in
+      subst (λ x. P (schema_in v) m x) hx second

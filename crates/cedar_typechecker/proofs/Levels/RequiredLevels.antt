@@ -1,5 +1,5 @@
 -- The required level of a policy: what the program counts is it, and what follows of it.
-use Rattle.std.proofs.Common.{◌≡◌, ◌↔◌, ℕ, ◌≤◌, ◌<◌, Bool, true, false, nat_le, List, [], ◌∷◌, ◌++◌, inl, inr, Option, Some, None}
+use Rattle.std.proofs.Common.{◌≡◌, ◌↔◌, ℕ, ◌≤◌, ◌<◌, max, Bool, true, false, nat_le, List, [], ◌∷◌, inl, inr, Option, Some, None}
 use Rattle.std.proofs.Common.{if◌then◌else◌, refl, sym, ap, subst, arith}
 use Rattle.std.specs.Prelude.{IsPermutation}
 use Rattle.std.proofs.lemmas.Bool.{leb-true, leb-false}
@@ -16,22 +16,17 @@ use Rattle.cedar_typing.proofs.Basics.Members.{moved}
 use Rattle.cedar_typing.proofs.Policies.Verdicts.{verdict_at_most}
 use Rattle.cedar_typechecker.specs.Levels.Laws.{VerdictIsShared}
 use Rattle.cedar_typechecker.specs.Levels.Outcome.{ChecksOn, levels_on, IsErrorOfVerdict, IsErrorInSome}
+use Rattle.cedar_typechecker.specs.Levels.Demands.{Need, this_level, no_literal, a_rule, Demand, Meets, MeetsAll}
 use Rattle.cedar_typechecker.specs.Levels.Required.{IsRequiredLevel, Reaches, WithinWhereReached, SilentWhereReached, RequiredLevelIsOne}
-use Rattle.cedar_typechecker.specs.Levels.Requirements.{Surroundings, of_32_bits, required_after_verdict, AreWithinLevel, RequiredOfAll}
-use Rattle.cedar_typechecker.specs.Levels.Setting.{LevelSetting, action_of}
+use Rattle.cedar_typechecker.specs.Levels.Setting.{LevelSetting}
 use Rattle.cedar_typechecker.specs.Slices.Policies.{VerdictIsWithin, PolicyIsWithinLevel}
+use Rattle.cedar_typechecker.specs.Surveys.{surroundings_at, IsDemandOfVerdict, IsDemandInSome, raise, raise_all, of_32_bits}
 use Rattle.cedar_typechecker.proofs.Levels.Monotone.{larger_levels_are_within}
-use Rattle.cedar_typechecker.proofs.Levels.RequiredParts.{around}
-use Rattle.cedar_typechecker.proofs.Levels.Requirements.{covered}
-use Rattle.cedar_typechecker.proofs.Levels.Walk.{silent_walk_is_within}
+use Rattle.cedar_typechecker.proofs.Levels.Demands.{demands_are_met}
 
 -- ---- lists
 
 module _ {A : Type 0} where
-  pub nil_right : (xs : List A) → xs ++ [] ≡ xs
-  nil_right [] = refl
-  nil_right (x ∷ xs) = ap (λ ys. x ∷ ys) (nil_right xs)
-
   empty_if_none : (xs : List A) → ((x : A) → IsOneOf x xs → ⊥) → xs ≡ []
   empty_if_none [] h = refl
   empty_if_none (x ∷ xs) h = absurd (h x (inl refl))
@@ -41,6 +36,15 @@ module _ {A : Type 0} where
   none_if_empty (y ∷ ys) e x i = cc
 
 -- ---- numbers
+
+first_below : (j k n : ℕ) → max j k ≤ n → j ≤ n
+first_below j k n h = omega arith
+
+second_below : (j k n : ℕ) → max j k ≤ n → k ≤ n
+second_below j k n h = omega arith
+
+both_below : (j k n : ℕ) → j ≤ n → k ≤ n → max j k ≤ n
+both_below j k n h i = omega arith
 
 at_least_none : (n : ℕ) → 0 ≤ n
 at_least_none n = omega arith
@@ -60,23 +64,46 @@ larger_than_all k n l h i = omega arith
 same_number : (m n : ℕ) → m ≤ n → n ≤ m → m ≡ n
 same_number m n h i = omega arith
 
+-- ---- the least level of some demands
+
+raise_reached : (need : Need) (r : Option ℕ) (n : ℕ)
+    → Reaches (raise need r) n ↔ (Reaches r n × Meets n need)
+raise_reached need None n = (λ i. absurd i, λ i. i.0)
+raise_reached (this_level k) (Some j) n =
+    (λ i. (first_below j k n i, second_below j k n i), λ i. both_below j k n i.0 i.1)
+raise_reached no_literal (Some j) n = (λ i. absurd i, λ i. i.1)
+raise_reached a_rule (Some j) n = (λ i. absurd i, λ i. i.1)
+
+each_met : (n : ℕ) (x : Demand) (ds : List Demand) → Meets n x.need → MeetsAll n ds
+    → MeetsAll n (x ∷ ds)
+each_met n x ds i k d (inl e) = let P : Demand → Type 0 = λ z. Meets n z.need in subst P (sym e) i
+each_met n x ds i k d (inr m) = k d m
+
+reached_more : (x : Demand) (ds : List Demand) (r : Option ℕ) (n : ℕ)
+    → Reaches (raise_all ds (raise x.need r)) n ↔ (Reaches (raise x.need r) n × MeetsAll n ds)
+    → Reaches (raise_all (x ∷ ds) r) n ↔ (Reaches r n × MeetsAll n (x ∷ ds))
+reached_more x ds r n later =
+    let own = raise_reached x.need r n in (
+      λ i. let k = later.0 i in let h = own.0 k.0 in (h.0, each_met n x ds h.1 k.1),
+      λ i. later.1 (own.1 (i.0, i.1 x (inl refl)), λ d m. i.1 d (inr m)),
+    )
+
+-- a level reaches it where it reached what was before and meets all
+pub all_reached : (ds : List Demand) (r : Option ℕ) (n : ℕ)
+    → Reaches (raise_all ds r) n ↔ (Reaches r n × MeetsAll n ds)
+all_reached [] r n = (λ i. (i, λ d m. absurd m), λ i. i.0)
+all_reached (x ∷ ds) r n = reached_more x ds r n (all_reached ds (raise x.need r) n)
+
 -- ---- of one verdict
 
--- a level is enough for what the walk of a verdict raised exactly where it was before and the verdict has
--- no level error at it
-verdict_covered : (s : LevelSetting) (bounded : s.maximum ≤ 4294967295) (v : Verdict)
-    → VerdictIsShared v → (r : Option ℕ)
-    → Reaches (required_after_verdict (around s bounded) v r) s.maximum
-    ↔ (Reaches r s.maximum × VerdictIsWithin s v)
-verdict_covered s bounded (succeeds x) h r =
-    let c = covered s bounded x h r in
-    let w = silent_walk_is_within s x in
-    (λ i. let k = c.0 i in (k.0, w.0 k.1), λ i. c.1 (i.0, w.1 i.1))
-verdict_covered s bounded (irrelevant es x) h r =
-    let c = covered s bounded x h r in
-    let w = silent_walk_is_within s x in
-    (λ i. let k = c.0 i in (k.0, w.0 k.1), λ i. c.1 (i.0, w.1 i.1))
-verdict_covered s bounded (fails es) h r = (λ i. (i, λ e k. k), λ i. i.0)
+-- a level is enough for the demands of a verdict exactly where the verdict has no level error at it
+verdict_met : (s : LevelSetting) → s.maximum ≤ 4294967295 → (v : Verdict) → VerdictIsShared v
+    → ((d : Demand) → IsDemandOfVerdict (record { action = s.action; schema = s.schema }) v d
+    → Meets s.maximum d.need)
+    ↔ VerdictIsWithin s v
+verdict_met s le (succeeds x) h = demands_are_met s x le h
+verdict_met s le (irrelevant es x) h = demands_are_met s x le h
+verdict_met s le (fails es) h = (λ i e k. k, λ i d k. absurd k)
 
 same_errors : (s : LevelSetting) (u v : Verdict) (e : Finding) → SameVerdict u v
     → IsErrorOfVerdict s u e → IsErrorOfVerdict s v e
@@ -93,67 +120,68 @@ module _ (b : Basis) (t : PlainTemplate) where
       same_errors (levels_on b t n env) u v e
       (verdict_at_most (setting_on b t.id env) (condition_of t) u v h k)
 
-  -- ---- one environment after another
-
-  -- at first any level is enough
-  pub none_yet : (n : ℕ) → n ≤ 4294967295 → AreWithinLevel b t [] n ↔ Reaches (Some 0) n
-  none_yet n le = (λ h. at_least_none n, λ h env i v c e w. i)
-
-  pub one_more : (env : Env) (envs : List Env) (v : Verdict) (r q : Option ℕ)
-      (around_env : Surroundings)
-      → around_env ≡ record { action = action_of env; schema = b.schema }
-      → ChecksOn b t env v → VerdictIsShared v → required_after_verdict around_env v r ≡ q
-      → ((n : ℕ) → n ≤ 4294967295 → AreWithinLevel b t envs n ↔ Reaches r n)
-      → (n : ℕ) → n ≤ 4294967295 → AreWithinLevel b t (env ∷ envs) n ↔ Reaches q n
-  one_more env envs v r q around_env same checks shared is before n le = (to, from)
-    where
-      own : Reaches q n ↔ (Reaches r n × VerdictIsWithin (levels_on b t n env) v)
-      own =
-          let P : Option ℕ → Type 0 = λ z. Reaches z n
-          ↔ (Reaches r n × VerdictIsWithin (levels_on b t n env) v) in
-          let Q : Surroundings → Type 0 = λ z. P (required_after_verdict z v r) in
-          subst P is (subst Q (sym same) (verdict_covered (levels_on b t n env) le v shared r))
-
-      to : AreWithinLevel b t (env ∷ envs) n → Reaches q n
-      to h = own.1 ((before n le).0 (λ env' i. h env' (inr i)), h env (inl refl) v checks)
-
-      of_this : Reaches q n → (env' : Env) → env' ≡ env → (v' : Verdict)
-          → ChecksOn b t env' v' → VerdictIsWithin (levels_on b t n env') v'
-      of_this h env' i v' c e w =
-          let C : Env → Type 0 = λ z. ChecksOn b t z v' in
-          let W : Env → Type 0 = λ z. IsErrorOfVerdict (levels_on b t n z) v' e in
-          (own.0 h).1 e (errors_alike n env v' v e (subst C i c) checks (subst W i w))
-
-      from : Reaches q n → AreWithinLevel b t (env ∷ envs) n
-      from h env' (inl i) v' c = of_this h env' i v' c
-      from h env' (inr i) v' c = (before n le).1 (own.0 h).0 env' i v' c
-
   -- ---- of all environments
 
-  -- those that are done are all, where none is left
-  pub all_done : (done left : List Env) (r : Option ℕ)
-      → IsPermutation (done ++ left) (checked_envs b.schema b.mode t) → left ≡ []
-      → ((n : ℕ) → n ≤ 4294967295 → AreWithinLevel b t done n ↔ Reaches r n)
-      → RequiredOfAll b t r
-  all_done done left r p e h =
-      let P : List Env → Type 0 = λ xs. IsPermutation xs (checked_envs b.schema b.mode t) in record {
-        listed = done;
-        in_some_order = subst P (nil_right done) (subst (λ xs. P (done ++ xs)) e p);
-        enough = h;
-      }
+  -- none of these environments has a level error at n
+  abbrev pub AreWithinLevel : List Env → ℕ → Type 0
+  AreWithinLevel envs n =
+      (env : Env) → IsOneOf env envs
+      → (v : Verdict) → ChecksOn b t env v → VerdictIsWithin (levels_on b t n env) v
 
-  enough_of_all : (r : Option ℕ) → RequiredOfAll b t r → (n : ℕ) → n ≤ 4294967295
-      → PolicyIsWithinLevel b t n ↔ Reaches r n
-  enough_of_all r h n le =
-      let k = h.enough n le in (
-        λ i. k.0 (λ env m. i env (moved h.listed _ h.in_some_order env m)),
-        λ i env m. k.1 i env
-            (moved _ h.listed (IsPermutation-sym h.listed _ h.in_some_order) env m),
-      )
+  -- each verdict of an environment that has this one
+  of_this : (n : ℕ) (env : Env) (v : Verdict) → ChecksOn b t env v
+      → VerdictIsWithin (levels_on b t n env) v → (env' : Env) → env' ≡ env → (v' : Verdict)
+      → ChecksOn b t env' v' → VerdictIsWithin (levels_on b t n env') v'
+  of_this n env v h i env' q v' c e w =
+      let C : Env → Type 0 = λ z. ChecksOn b t z v' in
+      let W : Env → Type 0 = λ z. IsErrorOfVerdict (levels_on b t n z) v' e in
+      i e (errors_alike n env v' v e (subst C q c) h (subst W q w))
 
-  -- what the program counts is the required level, where it is a number of 32 bits
-  pub required_is : (r : Option ℕ) → RequiredOfAll b t r → IsRequiredLevel b t (of_32_bits r)
-  required_is None h = λ n le i. (enough_of_all None h n le).0 i
+  -- n is enough for the demands of some environments
+  abbrev AreMet : List Env → List Verdict → ℕ → Type 0
+  AreMet envs vs n = (d : Demand) → IsDemandInSome b.schema envs vs d → Meets n d.need
+
+  met_more : (n : ℕ) → n ≤ 4294967295 → (env : Env) (envs : List Env) (v : Verdict)
+      (vs : List Verdict) → ChecksOn b t env v → VerdictIsShared v
+      → AreMet envs vs n ↔ AreWithinLevel envs n
+      → AreMet (env ∷ envs) (v ∷ vs) n ↔ AreWithinLevel (env ∷ envs) n
+  met_more n le env envs v vs c shared others = (to, from)
+    where
+      own : ((d : Demand) → IsDemandOfVerdict (surroundings_at b.schema env) v d → Meets n d.need)
+          ↔ VerdictIsWithin (levels_on b t n env) v
+      own = verdict_met (levels_on b t n env) le v shared
+
+      to : AreMet (env ∷ envs) (v ∷ vs) n → AreWithinLevel (env ∷ envs) n
+      to i env' (inl q) v' c' = of_this n env v c (own.0 (λ d m. i d (inl m))) env' q v' c'
+      to i env' (inr m) v' c' = others.0 (λ d j. i d (inr j)) env' m v' c'
+
+      from : AreWithinLevel (env ∷ envs) n → AreMet (env ∷ envs) (v ∷ vs) n
+      from i d (inl m) = own.1 (i env (inl refl) v c) d m
+      from i d (inr m) = others.1 (λ env' j. i env' (inr j)) d m
+
+  -- a level is enough for all demands exactly there
+  pub all_met : (n : ℕ) → n ≤ 4294967295 → (envs : List Env) (vs : List Verdict)
+      → VerdictsOf (ChecksOn b t) envs vs
+      → ((v : Verdict) (env : Env) → ChecksOn b t env v → VerdictIsShared v)
+      → AreMet envs vs n ↔ AreWithinLevel envs n
+  all_met n le [] vs h k = (λ i env m. absurd m, λ i d m. absurd m)
+  all_met n le (env ∷ envs) [] h k = absurd h
+  all_met n le (env ∷ envs) (v ∷ vs) h k =
+      met_more n le env envs v vs h.0 (k v env h.0) (all_met n le envs vs h.1 k)
+
+  -- r is enough for a policy exactly where it is for all environments in some order
+  within_listed : (listed : List Env) → IsPermutation listed (checked_envs b.schema b.mode t)
+      → (n : ℕ) → PolicyIsWithinLevel b t n ↔ AreWithinLevel listed n
+  within_listed listed p n = (
+    λ i env m. i env (moved listed _ p env m),
+    λ i env m. i env (moved _ listed (IsPermutation-sym listed _ p) env m),
+  )
+
+  -- what reaches r is enough for the policy: then r is the required level, where it is a number of 32 bits
+  pub required_is : (r : Option ℕ)
+      → ((n : ℕ) → n ≤ 4294967295 → PolicyIsWithinLevel b t n ↔ Reaches r n)
+      → IsRequiredLevel b t (of_32_bits r)
+  required_is None h = λ n le i. (h n le).0 i
   required_is (Some k) h = go (nat_le k 4294967295) refl
     where
       go : (c : Bool) → nat_le k 4294967295 ≡ c
@@ -161,13 +189,30 @@ module _ (b : Basis) (t : PlainTemplate) where
       go true e =
           let le = leb-true k 4294967295 e in (
             le,
-            (enough_of_all (Some k) h k le).1 (at_least_itself k),
-            λ m l i. not_both m k l
-                ((enough_of_all (Some k) h m (smaller_within m k l le)).0 i),
+            (h k le).1 (at_least_itself k),
+            λ m l i. not_both m k l ((h m (smaller_within m k l le)).0 i),
           )
       go false e =
-          λ n le i. larger_than_all k n (leb-false k 4294967295 e) le
-          ((enough_of_all (Some k) h n le).0 i)
+          λ n le i. larger_than_all k n (leb-false k 4294967295 e) le ((h n le).0 i)
+
+  -- the least level of the demands of all environments is the required level
+  pub least_is_required : (listed : List Env) (vs : List Verdict) (ds : List Demand)
+      → IsPermutation listed (checked_envs b.schema b.mode t)
+      → VerdictsOf (ChecksOn b t) listed vs
+      → ((v : Verdict) (env : Env) → ChecksOn b t env v → VerdictIsShared v)
+      → ((d : Demand) → IsOneOf d ds ↔ IsDemandInSome b.schema listed vs d)
+      → IsRequiredLevel b t (of_32_bits (raise_all ds (Some 0)))
+  least_is_required listed vs ds p h k same = required_is (raise_all ds (Some 0)) enough
+    where
+      enough : (n : ℕ) → n ≤ 4294967295
+          → PolicyIsWithinLevel b t n ↔ Reaches (raise_all ds (Some 0)) n
+      enough n le =
+          let w = within_listed listed p n in
+          let m = all_met n le listed vs h k in
+          let r = all_reached ds (Some 0) n in (
+            λ i. r.1 (at_least_none n, λ d j. m.1 (w.0 i) d ((same d).0 j)),
+            λ i. w.1 (m.0 (λ d j. (r.0 i).1 d ((same d).1 j))),
+          )
 
   -- ---- what follows
 
@@ -204,12 +249,19 @@ module _ (b : Basis) (t : PlainTemplate) where
   in_some n (x ∷ envs) (u ∷ vs) h env v e (inr m) c w = inr (in_some n envs vs h.1 env v e m c w)
 
   none_in_some : (n : ℕ) (envs : List Env) (vs : List Verdict) → VerdictsOf (ChecksOn b t) envs vs
-      → AreWithinLevel b t envs n → (e : Finding) → IsErrorInSome (levels_on b t n) envs vs e → ⊥
+      → AreWithinLevel envs n → (e : Finding) → IsErrorInSome (levels_on b t n) envs vs e → ⊥
   none_in_some n [] vs h k e i = i
   none_in_some n (x ∷ envs) [] h k e i = i
   none_in_some n (x ∷ envs) (v ∷ vs) h k e (inl i) = k x (inl refl) v h.0 e i
   none_in_some n (x ∷ envs) (v ∷ vs) h k e (inr i) =
       none_in_some n envs vs h.1 (λ env m. k env (inr m)) e i
+
+  -- where no environment of a list has one, in some order, the policy has none
+  pub within_if_none_listed : (n : ℕ) (envs : List Env) (vs : List Verdict)
+      → IsPermutation envs (checked_envs b.schema b.mode t) → VerdictsOf (ChecksOn b t) envs vs
+      → ((e : Finding) → IsErrorInSome (levels_on b t n) envs vs e → ⊥) → PolicyIsWithinLevel b t n
+  within_if_none_listed n envs vs p h none env m v c e w =
+      none e (in_some n envs vs h env v e (moved _ envs (IsPermutation-sym envs _ p) env m) c w)
 
 pub within_where_reached : WithinWhereReached
 within_where_reached b t r n h le = reached b t r n h le
@@ -221,9 +273,9 @@ silent_where_reached b t r n errors warnings h le o = (to, from)
     enough = reached b t r n h le
 
     to : o.level_errors ≡ [] → Reaches r n
-    to none = enough.0 (λ env m v c e w. none_if_empty o.level_errors none e
-        ((o.levels e).1 (in_some b t n o.listed o.verdicts o.checked env v e
-        (moved _ o.listed (IsPermutation-sym o.listed _ o.in_some_order) env m) c w)))
+    to none =
+        enough.0 (within_if_none_listed b t n o.listed o.verdicts o.in_some_order o.checked
+        (λ e w. none_if_empty o.level_errors none e ((o.levels e).1 w)))
 
     from : Reaches r n → o.level_errors ≡ []
     from i =

@@ -9,3 +9,5 @@ pub mod NeededWorlds
 pub mod NeededSchemas
 pub mod NeededSettings
 pub mod Needed
+pub mod Promises
+pub mod LeftOpen

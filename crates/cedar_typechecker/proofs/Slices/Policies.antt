@@ -27,8 +27,7 @@ use Rattle.cedar_typing.proofs.Policies.Verdicts.{verdict_at_most}
 use Rattle.cedar_typing.proofs.Soundness.Induction.{sounds}
 use Rattle.cedar_typechecker.specs.Levels.Outcome.{ChecksOn, levels_on}
 use Rattle.cedar_typechecker.specs.Slices.Policies.{VerdictIsWithin, PolicyIsWithinLevel, IsSameIn, IsSameInSlices, PassingNeedsSliceAlone}
-use Rattle.cedar_typechecker.specs.Slices.Policies.{PassingNeedsSliceAloneInPermissive, PassingNeedsSliceWithoutSlots}
-use Rattle.cedar_typechecker.specs.Slices.Policies.{PassingNeedsSliceForWholeCopies}
+use Rattle.cedar_typechecker.specs.Slices.Policies.{PassingNeedsSliceAloneInPermissive}
 use Rattle.cedar_typechecker.specs.Slices.Reach.{HoldsSlice}
 use Rattle.cedar_typechecker.specs.Slices.TypedCopies.{VerdictMeansTheSameInPart, PassingCopyNeedsSliceAlone}
 use Rattle.cedar_typechecker.specs.Slices.TypedCopies.{PassingCopyNeedsSliceAloneInPermissive}
@@ -138,11 +137,3 @@ pub passing_needs_slice_alone_in_permissive : PassingNeedsSliceAloneInPermissive
 passing_needs_slice_alone_in_permissive b t schema formed functions errors errors' old new o n k names quiet world w i =
     suffices false b t schema formed functions (ap is_strict k.mode) (ap is_partial k.mode)
     k.closed errors errors' old new o n names quiet world w i
-
-pub passing_needs_slice_without_slots : PassingNeedsSliceWithoutSlots
-passing_needs_slice_without_slots b t schema functions errors errors' old new o no_slots =
-    passing_needs_slice_alone b t schema functions errors errors' old new o
-
-pub passing_needs_slice_for_whole_copies : PassingNeedsSliceForWholeCopies
-passing_needs_slice_for_whole_copies b t schema functions errors errors' old new o no_slots whole =
-    passing_needs_slice_alone b t schema functions errors errors' old new o

@@ -50,7 +50,7 @@ module _ {A : Type 0} where
   right_empty [] ys e = e
   right_empty (x ∷ xs) ys e = cc
 
-  nothing_in : (xs : List A) → ((x : A) → IsOneOf x xs → ⊥) → xs ≡ []
+  pub nothing_in : (xs : List A) → ((x : A) → IsOneOf x xs → ⊥) → xs ≡ []
   nothing_in [] h = refl
   nothing_in (x ∷ xs) h = absurd (h x (inl refl))
 
@@ -89,10 +89,10 @@ module _ (b : Basis) (t : PlainTemplate) where
 
   module _ (n : ℕ) where
     -- each verdict of the environment is within the level
-    abbrev IsWithin : Env → Type 0
+    abbrev pub IsWithin : Env → Type 0
     IsWithin env = (v : Verdict) → ChecksOn b t env v → VerdictIsWithin (levels_on b t n env) v
 
-    listed_within : (envs : List Env) (vs : List Verdict) → VerdictsOf (ChecksOn b t) envs vs
+    pub listed_within : (envs : List Env) (vs : List Verdict) → VerdictsOf (ChecksOn b t) envs vs
         → ((e : Finding) → IsErrorInSome (levels_on b t n) envs vs e → ⊥)
         → (env : Env) → IsOneOf env envs → IsWithin env
     listed_within [] vs c f env k = absurd k

@@ -57,6 +57,11 @@ pub record LevelDetails : Type 0 where
   pub record_base :
       strictly 0 (has2 (only_foo (only_foo (bool_of principal))) (codes "foo") (codes "foo"))
       ≡ exceeds 0 1 ∷ []
+  -- a base that is neither an entity nor a record is checked too: `(principal.bool has foo.bar) &&
+  -- false`, whose check has an error, and is irrelevant all the same
+  pub other_base :
+      strictly 0 (and tt (has2 (bool_of principal) (codes "foo") (codes "bar")) false_lit)
+      ≡ exceeds 0 1 ∷ []
   -- the cost: a root of any entity counts, one that is no entity does not, an entity of several
   -- types counts, and the last attribute and what follows an unknown one do not
   pub costs :

@@ -7,8 +7,8 @@ use Rattle.cedar_typing.specs.PolicyCheck.{Verdict, succeeds, irrelevant, fails,
 use Rattle.cedar_typing.specs.Setting.{Setting}
 use Rattle.cedar_typing.specs.TypedExpr.{Source, TypedTree}
 use Rattle.cedar_typechecker.specs.Levels.Chains.{Leaf, HasChain, chains, level}
+use Rattle.cedar_typechecker.specs.Levels.Demands.{told, MeetsAll, around, add_demands}
 use Rattle.cedar_typechecker.specs.Levels.Errors.{IsLevelError, IsWithinLevel}
-use Rattle.cedar_typechecker.specs.Levels.InOrder.{add_errors}
 use Rattle.cedar_typechecker.specs.Levels.Setting.{LevelSetting}
 use Rattle.cedar_typechecker.specs.Levels.Shared.{BranchesAreShared}
 use Rattle.cedar_typechecker.specs.Levels.Walk.{checked_errors}
@@ -57,9 +57,17 @@ abbrev pub TypedBranchesAreShared : Type 0
 TypedBranchesAreShared =
     (s : Setting) (e : Source) (v : Verdict) → PolicyChecks s e v → VerdictIsShared v
 
--- what the program adds, one node after another, has each level error, and nothing else
-abbrev pub ErrorsAreAdded : Type 0
-ErrorsAreAdded =
+-- what is told at a maximum of the demands of an expression is each level error, and nothing else
+abbrev pub DemandsTellErrors : Type 0
+DemandsTellErrors =
     (s : LevelSetting) (root : TypedTree) (e : Finding)
     → s.maximum ≤ 4294967295 → BranchesAreShared root
-    → IsOneOf e (add_errors s root []) ↔ IsLevelError s root e
+    → IsOneOf e (told s.policy s.maximum (add_demands (around s) root 0 []))
+    ↔ IsLevelError s root e
+
+-- and the maximum meets all demands, also those that are hidden, exactly where there is no level error
+abbrev pub DemandsAreMet : Type 0
+DemandsAreMet =
+    (s : LevelSetting) (root : TypedTree)
+    → s.maximum ≤ 4294967295 → BranchesAreShared root
+    → MeetsAll s.maximum (add_demands (around s) root 0 []) ↔ IsWithinLevel s root

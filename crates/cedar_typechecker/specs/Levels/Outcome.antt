@@ -1,4 +1,4 @@
--- What the validation of a policy with levels comes to.
+-- What the validation of a policy comes to, without levels and with them.
 use Rattle.std.specs.Prelude.{◌≡◌, ◌↔◌, ℕ, cond, List, [], ◌∷◌, ◌++◌, ◌⊎◌, IsPermutation}
 use Rattle.cedar_types.specs.declared.base.types.ValidationMode.{ValidationMode}
 use Rattle.cedar_types.specs.declared.base.types.ValidationMode.TheVariants.{Strict, Permissive, Partial}
@@ -63,6 +63,23 @@ application_warnings Partial s t = []
 abbrev pub AreApart : {A : Type 0} → List A → Type 0
 AreApart [] = Unit {0}
 AreApart (x ∷ xs) = (IsOneOf x xs → ⊥) × AreApart xs
+
+-- the errors and the warnings of a policy
+pub record ValidationOutcome (b : Basis) (t : PlainTemplate)
+    (errors : List Finding) (warnings : List Caution) : Type 0 where
+  -- the environments in some order, and a verdict of each
+  pub listed : List Env
+  pub verdicts : List Verdict
+  pub in_some_order : IsPermutation listed (checked_envs b.schema b.mode t)
+  pub checked : VerdictsOf (ChecksOn b t) listed verdicts
+  -- the errors are those of the passes, as often as they are found, and the members of a set
+  pub type_errors : List Finding
+  pub given : IsPermutation errors (name_findings b.mode b.schema t ++ type_errors)
+  -- the errors of the checks, each once
+  pub types : (e : Finding) → IsOneOf e type_errors ↔ IsOneOf e (all_errors verdicts)
+  pub types_once : AreApart type_errors
+  -- the warnings are that of the scope, and that the policy is impossible
+  pub warned : warnings ≡ application_warnings b.mode b.schema t ++ warnings_of t verdicts
 
 -- the errors and the warnings of a policy, at the maximum n
 pub record LevelOutcome (b : Basis) (t : PlainTemplate) (n : ℕ)

@@ -33,6 +33,8 @@ use Rattle.cedar_typechecker.specs.Slices.Soundness.{with_store}
 use Rattle.cedar_typechecker.specs.Slices.Examples.World.{home, read, carol, dan, erin, wiki_schema, wiki_basis, stored_alice, stored_bob}
 use Rattle.cedar_typechecker.specs.Slices.Examples.World.{stored_carol, plain_user, page_guided_by, wiki_store, reading, slice_of}
 pub mod World
+pub mod Promises
+pub mod LeftOpen
 
 -- ---- level errors of a policy
 

@@ -10,14 +10,11 @@ use Rattle.cedar_types.specs.Environments.RequestEnvs.{Env}
 use Rattle.cedar_types.specs.Schemas.{has_fault}
 use Rattle.cedar_types.specs.Values.Stores.{Store}
 use Rattle.cedar_types.specs.Templates.{PlainTemplate, condition_of}
-use Rattle.cedar_types.specs.Expressions.Tree.{map_tree}
-use Rattle.cedar_typing.specs.Composition.{MentionsNoSlot}
 use Rattle.cedar_typing.specs.Evaluation.Conformance.{IsOneOf}
 use Rattle.cedar_typing.specs.Evaluation.Eval.{eval}
 use Rattle.cedar_typing.specs.Evaluation.World.{World}
-use Rattle.cedar_typing.specs.PolicyCheck.{Verdict, succeeds, irrelevant, fails}
+use Rattle.cedar_typing.specs.PolicyCheck.{Verdict}
 use Rattle.cedar_typing.specs.Soundness.Policies.{Basis, IsClosedIn, IsNamedBySchema, IsWellFormed, IsConforming, CheckedOn}
-use Rattle.cedar_typing.specs.TypedExpr.{Source, form_of}
 use Rattle.cedar_typechecker.specs.Levels.Outcome.{ChecksOn, levels_on, IsErrorOfVerdict}
 use Rattle.cedar_typechecker.specs.Levels.Setting.{LevelSetting}
 use Rattle.cedar_typechecker.specs.Slices.Reach.{HoldsSlice}
@@ -72,34 +69,3 @@ PassingNeedsSliceAloneInPermissive =
     → table_fault b.table.functions ≡ None
     → (errors errors' : List Finding) (old new : List Caution)
     → CheckedOn b t true errors errors' old new → SliceSufficesIn Permissive b t
-
--- ---- of less, each a case of it
-
--- without slots: no environment that fits has to be found for what they are bound to
-abbrev pub PassingNeedsSliceWithoutSlots : Type 0
-PassingNeedsSliceWithoutSlots =
-    (b : Basis) (t : PlainTemplate)
-    → has_fault b.schema ≡ false → table_fault b.table.functions ≡ None
-    → (errors errors' : List Finding) (old new : List Caution)
-    → CheckedOn b t true errors errors' old new
-    → MentionsNoSlot (condition_of t) → SliceSufficesIn Strict b t
-
--- a typed copy has the form of the expression: no part of it was dropped
-abbrev pub IsWholeCopy : Source → Verdict → Type 0
-IsWholeCopy e (succeeds x) = map_tree (λ m. tt) x ≡ form_of e
-IsWholeCopy e (irrelevant es x) = map_tree (λ m. tt) x ≡ form_of e
-IsWholeCopy e (fails es) = Unit {0}
-
-abbrev pub CopiesAreWhole : Basis → PlainTemplate → Type 0
-CopiesAreWhole b t =
-    (env : Env) → IsOneOf env (checked_envs b.schema b.mode t)
-    → (v : Verdict) → ChecksOn b t env v → IsWholeCopy (condition_of t) v
-
--- and with whole copies alone: nothing has to be known of what typing drops
-abbrev pub PassingNeedsSliceForWholeCopies : Type 0
-PassingNeedsSliceForWholeCopies =
-    (b : Basis) (t : PlainTemplate)
-    → has_fault b.schema ≡ false → table_fault b.table.functions ≡ None
-    → (errors errors' : List Finding) (old new : List Caution)
-    → CheckedOn b t true errors errors' old new
-    → MentionsNoSlot (condition_of t) → CopiesAreWhole b t → SliceSufficesIn Strict b t

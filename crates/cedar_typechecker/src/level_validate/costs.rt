@@ -4,7 +4,7 @@ ghost use Rattle.cedar_types.specs.Names.{text_of};
 ghost use Rattle.cedar_types.specs.Schemas.Contents.{schema_of};
 ghost use Rattle.cedar_types.specs.Types.{ty_of};
 ghost use Rattle.cedar_typechecker.specs.Levels.Costs.{root_cost, entity_cost, chain_cost, attributes_cost, keys_to_entity};
-ghost use Rattle.cedar_typechecker.specs.Levels.InOrder.{entity_after};
+ghost use Rattle.cedar_typechecker.specs.Levels.Demands.{entity_after};
 ghost use Rattle.cedar_typechecker.specs.Levels.Views.{base_seen};
 
 use crate::level_validate::bases::{Base, base_of_type};

@@ -1,6 +1,6 @@
 //! Laws of levels, and computed examples, each on a function that does nothing.
 ghost use Rattle.cedar_typechecker.specs.Levels.Details.{LevelDetails};
-ghost use Rattle.cedar_typechecker.specs.Levels.Laws.{ChainsAreListed, LevelIsGreatest, LargerLevelsAreWithin, WalkFindsErrors, SilentWalkIsWithin, TypedBranchesAreShared, ErrorsAreAdded};
+ghost use Rattle.cedar_typechecker.specs.Levels.Laws.{ChainsAreListed, LevelIsGreatest, LargerLevelsAreWithin, WalkFindsErrors, SilentWalkIsWithin, TypedBranchesAreShared, DemandsTellErrors, DemandsAreMet};
 ghost use Rattle.cedar_typechecker.specs.Levels.Refinement.{StrictLevelsAreKept};
 ghost use Rattle.cedar_typechecker.specs.Levels.Required.{WithinWhereReached, SilentWhereReached, RequiredLevelIsOne};
 ghost use Rattle.cedar_typechecker.specs.Levels.Rows.{LevelRows};
@@ -35,11 +35,13 @@ pub fn walk_finds_errors()
     ensures silent { SilentWalkIsWithin }
 {}
 
-/// An `if` whose test has the type True or False has one branch twice where typing made it, so it is walked once: what the walk
-/// of the program adds then has each level error, and nothing else.
+/// An `if` whose test has the type True or False has one branch twice where typing made it, so it is walked once. What the walk
+/// of the program demands then tells each level error at a maximum, and nothing else; and a maximum meets it all exactly where
+/// there is none.
 pub fn one_branch_is_enough()
     ensures shared { TypedBranchesAreShared }
-    ensures errors { ErrorsAreAdded }
+    ensures errors { DemandsTellErrors }
+    ensures met { DemandsAreMet }
 {}
 
 /// The errors of some expressions: the worked rows, and what is easily got wrong.

@@ -1,27 +1,19 @@
 // The validation of a policy with levels.
-ghost use Rattle.std.specs.Prelude.{◌≡◌, ◌++◌, IfOk, OnOk, IsPermutation, map, cond, [], ◌∷◌};
+ghost use Rattle.std.specs.Prelude.{◌≡◌, ◌++◌, IfOk, OnOk};
 ghost use Rattle.cedar_types.specs.declared.base.types.ValidationMode.TheVariants.{Strict, Permissive};
-ghost use Rattle.cedar_types.specs.Errors.{caution_of};
-ghost use Rattle.cedar_types.specs.Environments.Linking.{checked_envs};
-ghost use Rattle.cedar_types.specs.Schemas.Contents.{schema_of};
 ghost use Rattle.cedar_types.specs.Templates.{template_of};
-ghost use Rattle.cedar_typing.specs.PolicyCheck.Outcome.{impossible};
 ghost use Rattle.cedar_typechecker.specs.Levels.Answers.{level_errors_left, level_warnings_left};
-ghost use Rattle.cedar_typechecker.specs.Levels.Outcome.{ChecksOn, levels_on, name_findings, application_warnings, AreApart, LevelOutcome};
-ghost use Rattle.cedar_typechecker.specs.Levels.Tallies.{basis_in, TalliesLevels};
+ghost use Rattle.cedar_typechecker.specs.Levels.Outcome.{AreApart, LevelOutcome};
 ghost use Rattle.cedar_typechecker.specs.Levels.Views.{findings};
-ghost use Rattle.cedar_typechecker.specs.Passes.{errors_left};
 ghost use Rattle.cedar_typechecker.specs.Slices.Validation.{SilenceIsKeptIn, WarnedIsNeverTrueIn};
-ghost use Rattle.cedar_typechecker.specs.ValidatorViews.{schema_in};
+ghost use Rattle.cedar_typechecker.specs.Surveys.{AddsFound};
+ghost use Rattle.cedar_typechecker.specs.ValidatorViews.{basis_in};
 
 use crate::level_validate::answers::{LevelErrors, LevelWarnings};
-use crate::level_validate::tally::LevelTally;
-use crate::level_validate::walk::LevelWalk;
-use crate::rbac::{LiteralErrors, Validator};
-use cedar_types::base::{
-    ArgumentCheck, Template, ValidationError, ValidationMode, ValidationWarning,
-};
-use cedar_typing::typecheck::Typechecker;
+use crate::rbac::Validator;
+use crate::survey::Survey;
+use crate::validation::append_keys;
+use cedar_types::base::{ArgumentCheck, Template, ValidationError, ValidationMode};
 use std::alloc::{AllocError, Global};
 use std::collections::BTreeSet;
 
@@ -65,11 +57,10 @@ impl<C: ArgumentCheck> Validator<'_, C> {
             WarnedIsNeverTrueIn Permissive (basis_in C.refusal self.now mode) (template_of p.now)
             (level_warnings_left r.1)) }
     {
-        let tally = self.level_tally(alloc, p, mode, max_deref_level)?;
+        let survey = self.survey(alloc, p, mode)?;
+        let warnings = self.warnings(alloc, p, mode, survey.is_impossible())?;
         let mut errors = self.name_errors(alloc, p, mode)?;
-        append(&mut errors, tally.type_errors)?;
-        append(&mut errors, tally.level_errors)?;
-        let warnings = self.level_warnings(alloc, p, mode, tally.all_irrelevant)?;
+        append_found(&mut errors, alloc, survey, max_deref_level)?;
         let errors = LevelErrors {
             errors: errors.into_iter(),
         };
@@ -78,101 +69,21 @@ impl<C: ArgumentCheck> Validator<'_, C> {
         };
         Ok((errors, warnings))
     }
-
-    /// What the checks of the policy in its environments find, and the walks over what they typed.
-    fn level_tally(
-        &self,
-        alloc: Global,
-        p: &Template,
-        mode: ValidationMode,
-        maximum: u32,
-    ) -> Result<LevelTally, AllocError>
-        ensures { IfOk result (
-            TalliesLevels (ChecksOn (basis_in C.refusal self.now mode) (template_of p.now))
-            (levels_on (basis_in C.refusal self.now mode) (template_of p.now) maximum)
-            (checked_envs (schema_of (schema_in self.now)) mode (template_of p.now))) }
-    {
-        let checker = Typechecker::new(&self.schema, self.extensions, mode);
-        let mut tally = LevelTally {
-            type_errors: BTreeSet::new(alloc),
-            level_errors: BTreeSet::new(alloc),
-            all_irrelevant: true,
-        };
-        for item in checker.typecheck_by_request_env(alloc, p)? {
-            let (env, check) = item?;
-            let action = env.action_entity_uid();
-            drop(env);
-            let walk = LevelWalk {
-                alloc,
-                schema: &self.schema,
-                action,
-                policy_id: &p.id,
-                maximum,
-            };
-            tally.take_in(&walk, check)?;
-        }
-        Ok(tally)
-    }
-
-    /// The findings of the passes over the names, in the modes that make them.
-    fn name_errors(
-        &self,
-        alloc: Global,
-        p: &Template,
-        mode: ValidationMode,
-    ) -> Result<Vec<ValidationError>, AllocError>
-        ensures { IfOk result (λ found. IsPermutation (findings found.items)
-            (name_findings mode (schema_of (schema_in self.now)) (template_of p.now))) }
-    {
-        let mut found = Vec::new(alloc);
-        if mode == ValidationMode::Partial {
-            return Ok(found);
-        }
-        let schema = &self.schema;
-        collect(
-            &mut found,
-            Validator::validate_enum_entity(alloc, schema, p),
-        )?;
-        collect(
-            &mut found,
-            Validator::validate_entity_types(alloc, schema, p),
-        )?;
-        collect(&mut found, Validator::validate_action_ids(alloc, schema, p))?;
-        Ok(found)
-    }
-
-    fn level_warnings(
-        &self,
-        alloc: Global,
-        p: &Template,
-        mode: ValidationMode,
-        is_impossible: bool,
-    ) -> Result<Vec<ValidationWarning>, AllocError>
-        ensures { IfOk result (λ found. map caution_of found.items
-            ≡ application_warnings mode (schema_of (schema_in self.now)) (template_of p.now)
-            ++ cond is_impossible (impossible (template_of p.now) ∷ []) []) }
-    {
-        let mut found = Vec::new(alloc);
-        if mode != ValidationMode::Partial {
-            if let Err(warning) = self.validate_template_action_application(alloc, p)? {
-                found.push(warning)?;
-            }
-        }
-        if is_impossible {
-            found.push(impossible_policy(p)?)?;
-        }
-        Ok(found)
-    }
 }
 
-/// Adds all that is left of a pass.
-fn collect(found: &mut Vec<ValidationError>, pass: LiteralErrors<'_>) -> Result<(), AllocError>
+/// Adds the errors of the checks and the level errors at a maximum, each once.
+fn append_found(
+    found: &mut Vec<ValidationError>,
+    alloc: Global,
+    survey: Survey,
+    maximum: u32,
+) -> Result<(), AllocError>
     ensures { OnOk result (
-        findings found.new.items ≡ findings found.old.items ++ errors_left pass.entry) }
+        AddsFound survey maximum (findings found.old.items) (findings found.new.items)) }
 {
-    for error in pass {
-        found.push(error?)?;
-    }
+    let level_errors = survey.level_errors(alloc, maximum)?;
+    append_keys(found, survey.into_errors())?;
+    append(found, level_errors)?;
     Ok(())
 }
 
@@ -189,11 +100,4 @@ fn append(
         found.push(error)?;
     }
     Ok(())
-}
-
-/// The warning that this policy is impossible.
-fn impossible_policy(p: &Template) -> Result<ValidationWarning, AllocError>
-    ensures { IfOk result (λ w. caution_of w ≡ impossible (template_of p.now)) }
-{
-    Ok(ValidationWarning::impossible_policy(p.loc, p.id.clone()?))
 }

@@ -1,14 +1,13 @@
 //! Laws of what silence of the level rules promises of a policy, each on a function that does nothing.
 ghost use Rattle.cedar_typechecker.specs.Slices.Nesting.{ShallowIsCutNowhere};
-ghost use Rattle.cedar_typechecker.specs.Slices.Policies.{PassingNeedsSliceAlone, PassingNeedsSliceAloneInPermissive, PassingNeedsSliceWithoutSlots, PassingNeedsSliceForWholeCopies};
+ghost use Rattle.cedar_typechecker.specs.Slices.Passing.{PassingIsKept, PassingIsKeptInPermissive, RequiredLevelSuffices, RequiredLevelSufficesInPermissive};
+ghost use Rattle.cedar_typechecker.specs.Slices.Policies.{PassingNeedsSliceAlone, PassingNeedsSliceAloneInPermissive};
 ghost use Rattle.cedar_typechecker.specs.Slices.TypedCopies.{PassingCopyNeedsSliceAlone, PassingCopyNeedsSliceAloneInPermissive};
 ghost use Rattle.cedar_typechecker.specs.Slices.Validation.{PassingIsCutNowhere, OutcomesAreKept, OutcomesAreKeptInPermissive};
 
 /// The condition of a policy that passes, and has no level error at n in any environment, evaluates to the same in each part of
-/// the store that has the slice of n steps. Two weaker claims are cases of it: without slots, and where typing dropped nothing.
+/// the store that has the slice of n steps.
 pub fn passing_needs_slice_alone()
-    ensures whole_copies { PassingNeedsSliceForWholeCopies }
-    ensures without_slots { PassingNeedsSliceWithoutSlots }
     ensures strict { PassingNeedsSliceAlone }
     ensures permissive { PassingNeedsSliceAloneInPermissive }
 {}
@@ -30,4 +29,18 @@ pub fn cut_nowhere()
 pub fn outcomes_are_kept()
     ensures strict { OutcomesAreKept }
     ensures permissive { OutcomesAreKeptInPermissive }
+{}
+
+/// What validation with levels promises it promises too where it finds errors, if the check of the policy passes, and no error is
+/// an unknown type, an unknown action or one of the rules of levels: as where an enumerated type does not list an id.
+pub fn passing_is_kept()
+    ensures strict { PassingIsKept }
+    ensures permissive { PassingIsKeptInPermissive }
+{}
+
+/// A policy that passes, whose types and actions the schema has, and that requires n levels, keeps both halves of the promise for
+/// the slice of n steps.
+pub fn required_level_suffices()
+    ensures strict { RequiredLevelSuffices }
+    ensures permissive { RequiredLevelSufficesInPermissive }
 {}

@@ -1,11 +1,11 @@
 -- Names: their order and their equality.
-use Rattle.std.proofs.Common.{◌≡◌, refl, sym, ap, ◌∙◌, Bool, true, ℕ, length, ◌&&◌, ◌||◌, List, [], ◌∷◌, map}
+use Rattle.std.proofs.Common.{◌≡◌, ◌⊎◌, inl, inr, refl, sym, ap, ◌∙◌, Bool, true, ℕ, length, ◌&&◌, ◌||◌, List, [], ◌∷◌, map}
 use Rattle.std.specs.declared.cmp.Ordering.{Ordering}
 use Rattle.std.specs.declared.cmp.Ordering.TheVariants.{Less, Equal, Greater}
 use Rattle.std.specs.Ordering.{ordering_then, is_eq, is_lt, match_ordering}
 use Rattle.std.specs.Cmp.Lexicographic.{slice_cmp, pointwise, texts_ties, lists_ties}
 use Rattle.std.specs.Cmp.Derive.Mapped.{pointwise-map, lex_map}
-use Rattle.std.specs.BTreeSet.{insert_key}
+use Rattle.std.specs.BTreeSet.{BTreeSet, insert_key}
 use Rattle.std.specs.List.{AllByRecursion, AllZip, list_all, list_any}
 use Rattle.std.specs.List.Sorted.{IsStrictlySortedBy}
 use Rattle.cedar_types.specs.declared.base.names.Name.{Name}
@@ -89,6 +89,12 @@ clones_alike f [] [] g h = refl
 clones_alike f [] (y ∷ ys) g h = absurd h
 clones_alike f (x ∷ xs) [] g h = absurd h
 clones_alike f (x ∷ xs) (y ∷ ys) g h = λ i. g x y h.0 i ∷ clones_alike f xs ys g h.1 i
+
+-- what was owned, or else was copied, shows the same
+pub owned_types : (s t : BTreeSet EntityType) → (t ≡ s) ⊎ AllZip (λ x y. placed_type y ≡ placed_type x) s.keys t.keys
+    → map type_of t.keys ≡ map type_of s.keys
+owned_types s t (inl e) = ap (λ r. map type_of r.keys) e
+owned_types s t (inr h) = clones_alike type_of s.keys t.keys (λ x y e. ap (λ p. p.name) e) h
 
 pub any_mapped : {A B : Type 0} (f : A → B) (p : B → Bool) (xs : List A) → list_any (λ x. p (f x)) xs ≡ list_any p (map f xs)
 any_mapped f p [] = refl

@@ -16,6 +16,7 @@ mod forms;
 mod lookups;
 pub(crate) mod memberships;
 mod queries;
+mod references;
 pub(crate) mod request_environments;
 mod slot_links;
 mod tag_types;
@@ -29,16 +30,19 @@ use crate::base::schema::environments::declared_environments;
 use crate::base::schema::errors::SchemaError;
 use crate::base::schema::faults::find_fault;
 use crate::base::schema::forms::schemas_are_formed;
+use crate::base::schema::references::EntityReferences;
 use crate::base::schema::request_environments::UnlinkedRequestEnv;
 use crate::base::schema::type_tables::EntityTypeTable;
 use std::alloc::Global;
 
-/// The declarations of a schema, which have no fault, and the environments of its actions.
+/// The declarations of a schema, which have no fault, the environments of its actions, and for each of its types the set of it
+/// alone.
 #[derive(Debug, Drop)]
 pub struct ValidatorSchema {
     pub(crate) types: EntityTypeTable,
     pub(crate) actions: ActionTable,
     pub(crate) environments: Vec<UnlinkedRequestEnv>,
+    pub(crate) references: EntityReferences,
     pub ghost faultless: { has_fault (schema_in types actions) ≡ false },
     pub ghost formed: { has_formed_types (schema_in types actions) ≡ true },
     pub ghost listed: { ∥ map declared_env environments.items
@@ -76,10 +80,12 @@ impl ValidatorSchema {
         }
         schemas_are_formed(&types, &actions);
         let environments = declared_environments(alloc, &actions)?;
+        let references = EntityReferences::new(alloc, &types.declared, &actions.declared)?;
         Ok(ValidatorSchema {
             types,
             actions,
             environments,
+            references,
         })
     }
 }

@@ -123,6 +123,30 @@ impl Drop for CedarType {
     }
 }
 
+impl CedarType {
+    ghost use Rattle.std.specs.Prelude.{IfOk, IfErr};
+    ghost use Rattle.cedar_types.specs.Types.{ty_of, lub_of, TEntity};
+
+    /// The type of the entities of these types.
+    pub(crate) fn of_entity_types(types: EntityLUB) -> CedarType
+        ensures { ty_of result ≡ TEntity (lub_of types) }
+    {
+        CedarType::Entity(EntityKind::Entity(types))
+    }
+
+    /// The entity types whose entities have this type, or else the type itself. A type has a `drop` of its own, so it is by this
+    /// call that it is taken apart by value.
+    pub(crate) fn into_entity_types(self) -> Result<EntityLUB, CedarType>
+        ensures types { IfOk result (λ s. ty_of self ≡ TEntity (lub_of s)) }
+        ensures other { IfErr result (λ t. t ≡ self) }
+    {
+        match self {
+            CedarType::Entity(EntityKind::Entity(types)) => Ok(types),
+            other => Err(other),
+        }
+    }
+}
+
 /// The short name of a type.
 pub type Type = CedarType;
 

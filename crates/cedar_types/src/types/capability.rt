@@ -2,11 +2,13 @@
 ghost use Rattle.std.specs.Prelude.{◌≡◌, IfOk, OnOk, OnErr};
 
 mod accesses;
+mod builder;
 mod chain_steps;
 mod digested;
 mod digests;
 mod owners;
 
+pub use crate::types::capability::builder::CapabilitySetBuilder;
 pub use crate::types::capability::chain_steps::ChainStep;
 pub use crate::types::capability::digested::Capability;
 use crate::types::sorted_set::SortedSet;

@@ -8,7 +8,7 @@ ghost use Rattle.cedar_types.specs.Capability.Entries.{IsFirst, HasEither, HasBo
 
 use std::alloc::{AllocError, Global};
 use std::cmp::Ordering;
-use std::collections::VecDeque;
+use std::collections::{BTreeSet, VecDeque};
 
 /// What such a set holds: entries that are ordered and can be copied.
 pub trait Entry: Ord {
@@ -146,6 +146,21 @@ pub(crate) fn both_of<T: Entry + Drop>(
         }
     }
     Ok(common)
+}
+
+/// The entries of an ordered set.
+pub(crate) fn listed<T: Ord + Drop>(
+    alloc: Global,
+    ordered: BTreeSet<T>,
+) -> Result<Vec<T>, AllocError>
+    ensures ascending { IfOk result (λ v. IsStrictlySortedBy T.cmp v.items) }
+    ensures all { IfOk result (λ v. v.items ≡ ordered.keys) }
+{
+    let mut entries = Vec::with_capacity(alloc, ordered.len())?;
+    for entry in ordered {
+        entries.push(entry)?;
+    }
+    Ok(entries)
 }
 
 /// A copy of a list.

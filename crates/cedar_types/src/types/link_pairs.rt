@@ -14,6 +14,32 @@ pub(crate) struct Place<'a> {
     pub(crate) context: &'a CedarType,
 }
 
+impl<'a> Place<'a> {
+    ghost use Rattle.std.specs.Prelude.{◌≡◌};
+    ghost use Rattle.cedar_types.specs.Environments.LinkViews.{place_env};
+    ghost use Rattle.cedar_types.specs.Environments.RequestEnvs.{env_of, unlinked};
+
+    /// The environment with no slot linked. It takes no memory.
+    pub(crate) fn unlinked_env(self) -> RequestEnv<'a>
+        ensures { env_of result ≡ unlinked (place_env self.entry) }
+    {
+        let Place {
+            principal,
+            action,
+            resource,
+            context,
+        } = self;
+        RequestEnv::DeclaredAction {
+            principal,
+            action,
+            resource,
+            context,
+            principal_slot: None,
+            resource_slot: None,
+        }
+    }
+}
+
 /// The ways that are still to come to link both slots: those of the principal's link at hand from that of the resource
 /// at hand on, and all of its later ones.
 #[derive(Drop)]

@@ -14,7 +14,8 @@ use std::alloc::{AllocError, Global};
 /// A slot that does not occur in the template is not linked. One that does is linked to the type of its variable where
 /// the scope says `==`; where it says `in`, to each declared type that has this type as a descendant and then to the type
 /// itself, so a type below itself comes twice; where it says neither, to each declared type. It holds the links of one
-/// environment at a time: of both slots together at most twice as many as the schema has entity types, and two.
+/// environment at a time: of both slots together at most twice as many as the schema has entity types, and two. Where
+/// neither slot occurs it holds none, and a step takes no memory.
 ///
 /// Where memory is refused, an item is an `AllocError`, and there is none after it.
 #[derive(Drop)]
@@ -114,7 +115,7 @@ impl<'a> LinkedRequestEnvs<'a> {
             if let Some(env) = LinkPairs::next_of(self.alloc, &mut self.links)? {
                 return Ok(Some(env));
             }
-            match self.unlinked.next() {
+            let place = match self.unlinked.next() {
                 None => return Ok(None),
                 Some(RequestEnv::UndeclaredAction) => {
                     return Ok(Some(RequestEnv::UndeclaredAction));
@@ -127,16 +128,17 @@ impl<'a> LinkedRequestEnvs<'a> {
                         context,
                         ..
                     },
-                ) => {
-                    let place = Place {
-                        principal,
-                        action,
-                        resource,
-                        context,
-                    };
-                    self.links = Some(self.links_at(place)?);
-                }
+                ) => Place {
+                    principal,
+                    action,
+                    resource,
+                    context,
+                },
+            };
+            if !self.has_principal_slot && !self.has_resource_slot {
+                return Ok(Some(place.unlinked_env()));
             }
+            self.links = Some(self.links_at(place)?);
         }
     }
 

@@ -5,12 +5,16 @@ ghost use Rattle.std.specs.Ordering.{is_eq};
 ghost use Rattle.cedar_types.specs.Capability.Entries.{HasEither, HasBoth, HasOneMore, HasSame};
 
 pub use crate::types::entries::Entry;
-use crate::types::entries::{add_entry, both_of, copied, either_of, has_entry, merged};
+use crate::types::entries::{add_entry, both_of, copied, either_of, has_entry, listed, merged};
 use std::alloc::{AllocError, Global};
+use std::collections::BTreeSet;
 use std::marker::Model;
 
 /// From how many times as many entries on a set is much larger: it is cheaper to look up the place of each entry of the other.
 const MUCH: usize = 8;
+
+/// Up to how many entries are put in their places one after another: each moves what stands above it.
+const FEW: usize = 64;
 
 /// A set: a vector in ascending order without repeats. Two entries are one where their order says that they are equal.
 #[derive(Drop, Debug)]
@@ -38,6 +42,14 @@ impl<T: Entry + Drop> SortedSet<T> {
         SortedSet {
             entries: Vec::new(alloc),
         }
+    }
+
+    /// The set of these entries, without a copy. Where memory is refused, the answer is an `AllocError`.
+    pub fn from_ordered(alloc: Global, ordered: BTreeSet<T>) -> Result<SortedSet<T>, AllocError>
+        ensures { IfOk result (λ r. r ≡ ordered.keys) }
+    {
+        let entries = listed(alloc, ordered)?;
+        Ok(SortedSet { entries })
     }
 
     /// Whether it is in the set, by a binary search.
@@ -71,8 +83,9 @@ impl<T: Entry + Drop> SortedSet<T> {
         Ok(SortedSet { entries })
     }
 
-    /// What either set has; both end in it, and no entry is copied. Where one is much smaller, each of its entries is put in
-    /// its place in the other; else one walk goes over both. Where memory is refused, the answer is an `AllocError`.
+    /// What either set has; both end in it, and no entry is copied. Where one has few entries and is much smaller, each of
+    /// these is put in its place in the other; else one walk goes over both. Where memory is refused, the answer is an
+    /// `AllocError`.
     pub fn join(self, other: SortedSet<T>) -> Result<SortedSet<T>, AllocError>
         ensures { IfOk result (λ r. HasEither T.cmp self other r) }
     {
@@ -90,7 +103,7 @@ impl<T: Entry + Drop> SortedSet<T> {
     fn with_fewer(self, other: SortedSet<T>) -> Result<SortedSet<T>, AllocError>
         ensures { IfOk result (λ r. HasEither T.cmp self other r) }
     {
-        if other.entries.len() <= self.entries.len() / MUCH {
+        if other.entries.len() <= FEW && other.entries.len() <= self.entries.len() / MUCH {
             return self.with_all(other);
         }
         let entries = merged(self.entries, other.entries)?;

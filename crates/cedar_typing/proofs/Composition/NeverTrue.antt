@@ -2,6 +2,7 @@
 use Rattle.std.proofs.Common.{◌≡◌, Bool, true, false, true≢false, ◌||◌, Some, None, refl, ap, sym}
 use Rattle.cedar_types.specs.declared.base.names.slots.SlotId.{SlotId}
 use Rattle.cedar_types.specs.declared.base.types.BoolType.TheVariants.{False}
+use Rattle.cedar_types.specs.declared.base.types.ValidationMode.TheVariants.{Permissive}
 use Rattle.cedar_types.specs.Types.{TBool}
 use Rattle.cedar_types.specs.Types.Bounds.{is_strict}
 use Rattle.cedar_types.specs.Extensions.Functions.{table_fault}
@@ -16,8 +17,9 @@ use Rattle.cedar_types.specs.Templates.{PlainTemplate, condition_of}
 use Rattle.cedar_types.specs.Values.{VBool}
 use Rattle.cedar_types.specs.Values.Stores.{ConformingStore}
 use Rattle.cedar_types.specs.Environments.Linking.{has_slot}
-use Rattle.cedar_typing.specs.Composition.{in_env, SlotsInScopeAlone, own_link, own_env, IsFaultless, IsIrrelevant, IsIrrelevantInAll}
-use Rattle.cedar_typing.specs.Composition.{NeverTrue, OwnSuccessIsKept}
+use Rattle.cedar_typing.specs.Composition.{in_env, SlotsInScopeAlone, own_link, own_env, IsFaultlessIn, IsFaultless, IsIrrelevant}
+use Rattle.cedar_typing.specs.Composition.{IsIrrelevantInAll, IsKeptFromOwn, NeverTrue, NeverTrueInPermissive, OwnSuccessIsKept}
+use Rattle.cedar_typing.specs.Composition.{OwnSuccessIsKeptInPermissive}
 use Rattle.cedar_typing.specs.Evaluation.Conformance.{IsOneOf, FitsRequest, ConformingRequest, FitsSlot, has_external, KeepsTable}
 use Rattle.cedar_typing.specs.Evaluation.Conformance.{SlotsBound}
 use Rattle.cedar_typing.specs.Evaluation.Eval.{eval}
@@ -91,6 +93,16 @@ sure_in_strict s f = record {
   closed = f.closed;
 }
 
+pub sure_in_permissive : (s : Setting) → IsFaultlessIn Permissive s → has_formed_types s.env.schema ≡ true → Sure false s
+sure_in_permissive s f formed = record {
+  strict = ap is_strict f.mode;
+  total = ap is_partial f.mode;
+  formed = formed;
+  schema = f.schema;
+  functions = f.functions;
+  closed = f.closed;
+}
+
 module _ (strictly : Bool) (s : Setting) (t : PlainTemplate) (f : Sure strictly s) (d : DeclaredEnv)
     (one : IsOneOf d (environments_of s.env.schema.actions))
     (world : World) (fits : FitsRequest d world.request) (store : ConformingStore s.env.schema world.store)
@@ -151,7 +163,18 @@ never_true_in strictly s t f h all world (d, one, fits) store keeps k =
 pub never_true : NeverTrue
 never_true s t f h all world r store keeps k = never_true_in true s t (sure_in_strict s f) h all world r store keeps k
 
+pub never_true_in_permissive : NeverTrueInPermissive
+never_true_in_permissive s t f formed h all world r store keeps k =
+    never_true_in false s t (sure_in_permissive s f formed) h all world r store keeps k
+
+success_kept : (strictly : Bool) (s : Setting) (t : PlainTemplate) → Sure strictly s → SlotsInScopeAlone t → IsKeptFromOwn s t
+success_kept strictly s t f h d one x c world fits store keeps b =
+    own_kept strictly s t f d one world fits store keeps h b (own_promise strictly s t f d one world fits store keeps (succeeds x) c)
+
 pub own_success_is_kept : OwnSuccessIsKept
 own_success_is_kept s t f h d one x c world fits store keeps b =
-    let g = sure_in_strict s f in
-    own_kept true s t g d one world fits store keeps h b (own_promise true s t g d one world fits store keeps (succeeds x) c)
+    success_kept true s t (sure_in_strict s f) h d one x c world fits store keeps b
+
+pub own_success_is_kept_in_permissive : OwnSuccessIsKeptInPermissive
+own_success_is_kept_in_permissive s t f formed h d one x c world fits store keeps b =
+    success_kept false s t (sure_in_permissive s f formed) h d one x c world fits store keeps b

@@ -1,9 +1,10 @@
--- What inference asks of the request environment is asked of its variables alone: all else is the same whatever the
--- slots are linked to.
+-- What inference asks of the request environment is asked of its variables and slots alone: all else is the same in any two
+-- environments.
 use Rattle.std.proofs.Common.{◌≡◌, Bool, true, false, ◌&&◌, if◌then◌else◌, List, [], ◌∷◌, ◌++◌, Option, Some, None, is_some, refl}
 use Rattle.cedar_types.specs.declared.base.errors.type_errors.LubContext.{LubContext}
 use Rattle.cedar_types.specs.declared.base.errors.type_errors.LubContext.TheVariants.{Conditional, Equality, Contains, ContainsAnyAll}
 use Rattle.cedar_types.specs.declared.base.expressions.operators.BinaryOp.{BinaryOp}
+use Rattle.cedar_types.specs.declared.base.expressions.operators.Var.{Var}
 use Rattle.cedar_types.specs.declared.base.location.Loc.{Loc}
 use Rattle.cedar_types.specs.declared.base.types.BoolType.TheVariants.{AnyBool}
 use Rattle.cedar_types.specs.Names.{Text, Path}
@@ -12,8 +13,7 @@ use Rattle.cedar_types.specs.Expressions.Tree.{if_then_else, binary, get_attr, h
 use Rattle.cedar_types.specs.Expressions.View.{Written, trees_of}
 use Rattle.cedar_types.specs.Types.Bounds.{is_strict, is_never, lub, list_lub}
 use Rattle.cedar_types.specs.Types.Lookups.{tag_types}
-use Rattle.cedar_types.specs.Environments.{DeclaredEnv}
-use Rattle.cedar_types.specs.Environments.RequestEnvs.{Env, Declared}
+use Rattle.cedar_types.specs.Environments.RequestEnvs.{Env}
 use Rattle.cedar_types.specs.Errors.{Finding, unsafe_tag_access, internal_invariant_violation}
 use Rattle.cedar_types.specs.Extensions.Functions.{ExtensionFunction, function_named}
 use Rattle.cedar_typing.specs.Capabilities.{Caps, no_caps, union, intersection}
@@ -30,8 +30,8 @@ use Rattle.cedar_typing.specs.Rules.Calls.{form_of_function, call_form}
 use Rattle.cedar_typing.specs.Rules.Chains.{chain_form}
 use Rattle.cedar_typing.specs.Rules.Records.{fields_from, record_form}
 use Rattle.cedar_typing.specs.Rules.Sets.{all_types, set_of_types, set_decides, errors_of, set_form}
-use Rattle.cedar_typing.specs.Rules.Equality.{equality_type, equality_decides, equality_form, member_type}
-use Rattle.cedar_typing.specs.Rules.Membership.{in_form}
+use Rattle.cedar_typing.specs.Rules.Equality.{variable_literal, literal_of, equality_type, equality_decides, equality_form, member_type}
+use Rattle.cedar_typing.specs.Rules.Membership.{entity_of, ancestors_of, in_form}
 use Rattle.cedar_typing.specs.Rules.ShortCircuit.{Connective}
 use Rattle.cedar_typing.specs.Rules.Tags.{tag_of, get_known_tag, get_tag_table, types_named}
 use Rattle.cedar_typing.specs.Setting.{Setting}
@@ -41,24 +41,18 @@ use Rattle.cedar_typing.specs.TypedExpr.{Source, annotation, at_place, place_of,
 use Rattle.cedar_typing.proofs.Rules.SameTables as same
 use Rattle.cedar_typing.proofs.Composition.SameLiterals.{literal_same, entity_same, ancestors_same}
 
-module _ (s : Setting) (d : DeclaredEnv) (p r p' r' : Option Path) where
+module _ (s : Setting) (here elsewhere : Env) where
   abbrev pub one : Setting
-  one = in_env s (Declared d p r)
+  one = in_env s here
 
   abbrev pub other : Setting
-  other = in_env s (Declared d p' r')
+  other = in_env s elsewhere
 
   abbrev e1 : TypeEnv
   e1 = one.env
 
   abbrev e2 : TypeEnv
   e2 = other.env
-
-  abbrev here : Env
-  here = Declared d p r
-
-  abbrev elsewhere : Env
-  elsewhere = Declared d p' r'
 
   -- ---- parts
 
@@ -182,28 +176,30 @@ module _ (s : Setting) (d : DeclaredEnv) (p r p' r' : Option Path) where
 
   -- ---- operators
 
-  in_same : (m : Written) (a b : Source) → in_form e1 m a b ≡ in_form e2 m a b
-  in_same m a b = λ i. record {
+  -- `in` and `==` ask which entities and literals their operands are
+  pub in_same : (m : Written) (a b : Source) → entity_of here a ≡ entity_of elsewhere a → ancestors_of here b ≡ ancestors_of elsewhere b
+      → in_form e1 m a b ≡ in_form e2 m a b
+  in_same m a b ha hb = λ i. record {
     at = m;
     expects = Some entity_types ∷ Some ancestor_types ∷ [];
     goes_on = true;
-    decides = λ ts. same.in_decided s.env s.env.mode s.env.mode here elsewhere refl (entity_same d p r p' r' a i) (ancestors_same d p r p' r' b i) (first_type ts) (second_type ts) i;
+    decides = λ ts. same.in_decided s.env s.env.mode s.env.mode here elsewhere refl (ha i) (hb i) (first_type ts) (second_type ts) i;
     type_if_failed = λ t. TBool AnyBool;
     at_limit = λ ts. [];
     node = λ k xs. binary k BinaryOp.In (first_tree xs) (second_tree xs);
   }
 
-  equal_decided : (l : Option Loc) (u : Ty) (t t' : Option Ty) → equality_decides e1 l u t t' ≡ equality_decides e2 l u t t'
+  pub equal_decided : (l : Option Loc) (u : Ty) (t t' : Option Ty) → equality_decides e1 l u t t' ≡ equality_decides e2 l u t t'
   equal_decided l u t t' = λ i. if is_any_bool u then gives_unless (strict_same l Equality t t' i) u else gives u no_caps
 
-  equal_same : (m : Written) (a b : Source) → equality_form e1 m a b ≡ equality_form e2 m a b
-  equal_same m a b = λ i. record {
+  pub equal_same : (m : Written) (a b : Source) → literal_of here a ≡ literal_of elsewhere a → literal_of here b ≡ literal_of elsewhere b
+      → equality_form e1 m a b ≡ equality_form e2 m a b
+  equal_same m a b ha hb = λ i. record {
     at = m;
     expects = [];
     goes_on = true;
     decides =
-        λ ts. equal_decided m.place (equality_type (literal_same d p r p' r' a i) (literal_same d p r p' r' b i) (first_type ts)
-        (second_type ts)) (first_type ts) (second_type ts) i;
+        λ ts. equal_decided m.place (equality_type (ha i) (hb i) (first_type ts) (second_type ts)) (first_type ts) (second_type ts) i;
     type_if_failed = λ t. t;
     at_limit = λ ts. [];
     node = λ k xs. binary k BinaryOp.Eq (first_tree xs) (second_tree xs);
@@ -220,21 +216,22 @@ module _ (s : Setting) (d : DeclaredEnv) (p r p' r' : Option Path) where
       else if known then tag_known l t (tag_types s.env.schema t) i
       else refuses None (finding e1 l (unsafe_tag_access (types_named t)) ∷ [])
 
-  pub binary_form_same : (m : Written) (prior : Caps) (a b : Source) (o : BinaryOp) → binary_form e1 m prior a b o ≡ binary_form e2 m prior a b o
-  binary_form_same m prior a b BinaryOp.Eq = equal_same m a b
-  binary_form_same m prior a b BinaryOp.Less = λ i. on_two m None None (λ t u. same.compared s.env s.env.mode s.env.mode here elsewhere (place_of a) (place_of b) t u i) (λ k x y. binary k BinaryOp.Less x y)
-  binary_form_same m prior a b BinaryOp.LessEq = λ i. on_two m None None (λ t u. same.compared s.env s.env.mode s.env.mode here elsewhere (place_of a) (place_of b) t u i) (λ k x y. binary k BinaryOp.LessEq x y)
-  binary_form_same m prior a b BinaryOp.Add = refl
-  binary_form_same m prior a b BinaryOp.Sub = refl
-  binary_form_same m prior a b BinaryOp.Mul = refl
-  binary_form_same m prior a b BinaryOp.In = in_same m a b
-  binary_form_same m prior a b BinaryOp.Contains =
-      λ i. on_two m (Some set_types) None (λ t u. gives_unless (strict_same m.place Contains (member_type t) u i) (TBool AnyBool)) (λ k x y. binary k BinaryOp.Contains x y)
-  binary_form_same m prior a b BinaryOp.ContainsAll =
-      λ i. on_two m (Some set_types) (Some set_types) (λ t u. gives_unless (strict_same m.place ContainsAnyAll t u i) (TBool AnyBool)) (λ k x y. binary k BinaryOp.ContainsAll x y)
-  binary_form_same m prior a b BinaryOp.ContainsAny =
-      λ i. on_two m (Some set_types) (Some set_types) (λ t u. gives_unless (strict_same m.place ContainsAnyAll t u i) (TBool AnyBool)) (λ k x y. binary k BinaryOp.ContainsAny x y)
-  binary_form_same m prior a b BinaryOp.GetTag =
-      λ i. on_two m (Some entity_types) (Some string_types) (λ t u. get_tagged m.place (prior (tag_of a b)) t i) (λ k x y. binary k BinaryOp.GetTag x y)
-  binary_form_same m prior a b BinaryOp.HasTag =
-      λ i. on_two m (Some entity_types) (Some string_types) (λ t u. same.has_tagged s.env s.env.mode s.env.mode here elsewhere m.place (tag_of a b) (prior (tag_of a b)) t i) (λ k x y. binary k BinaryOp.HasTag x y)
+  module _ (vars : (x : Var) → variable_literal here x ≡ variable_literal elsewhere x) where
+    pub binary_form_same : (m : Written) (prior : Caps) (a b : Source) (o : BinaryOp) → binary_form e1 m prior a b o ≡ binary_form e2 m prior a b o
+    binary_form_same m prior a b BinaryOp.Eq = equal_same m a b (literal_same here elsewhere vars a) (literal_same here elsewhere vars b)
+    binary_form_same m prior a b BinaryOp.Less = λ i. on_two m None None (λ t u. same.compared s.env s.env.mode s.env.mode here elsewhere (place_of a) (place_of b) t u i) (λ k x y. binary k BinaryOp.Less x y)
+    binary_form_same m prior a b BinaryOp.LessEq = λ i. on_two m None None (λ t u. same.compared s.env s.env.mode s.env.mode here elsewhere (place_of a) (place_of b) t u i) (λ k x y. binary k BinaryOp.LessEq x y)
+    binary_form_same m prior a b BinaryOp.Add = refl
+    binary_form_same m prior a b BinaryOp.Sub = refl
+    binary_form_same m prior a b BinaryOp.Mul = refl
+    binary_form_same m prior a b BinaryOp.In = in_same m a b (entity_same here elsewhere vars a) (ancestors_same here elsewhere vars b)
+    binary_form_same m prior a b BinaryOp.Contains =
+        λ i. on_two m (Some set_types) None (λ t u. gives_unless (strict_same m.place Contains (member_type t) u i) (TBool AnyBool)) (λ k x y. binary k BinaryOp.Contains x y)
+    binary_form_same m prior a b BinaryOp.ContainsAll =
+        λ i. on_two m (Some set_types) (Some set_types) (λ t u. gives_unless (strict_same m.place ContainsAnyAll t u i) (TBool AnyBool)) (λ k x y. binary k BinaryOp.ContainsAll x y)
+    binary_form_same m prior a b BinaryOp.ContainsAny =
+        λ i. on_two m (Some set_types) (Some set_types) (λ t u. gives_unless (strict_same m.place ContainsAnyAll t u i) (TBool AnyBool)) (λ k x y. binary k BinaryOp.ContainsAny x y)
+    binary_form_same m prior a b BinaryOp.GetTag =
+        λ i. on_two m (Some entity_types) (Some string_types) (λ t u. get_tagged m.place (prior (tag_of a b)) t i) (λ k x y. binary k BinaryOp.GetTag x y)
+    binary_form_same m prior a b BinaryOp.HasTag =
+        λ i. on_two m (Some entity_types) (Some string_types) (λ t u. same.has_tagged s.env s.env.mode s.env.mode here elsewhere m.place (tag_of a b) (prior (tag_of a b)) t i) (λ k x y. binary k BinaryOp.HasTag x y)

@@ -1,26 +1,18 @@
--- Which expressions are literals or actions is the same whatever the slots are linked to.
-use Rattle.std.proofs.Common.{◌≡◌, [], ◌∷◌, Option, option_map, refl, ap}
+-- Which expressions are literals or actions is the same in two environments where it is so of the variables.
+use Rattle.std.proofs.Common.{◌≡◌, [], ◌∷◌, option_map, refl, ap}
 use Rattle.cedar_types.specs.declared.base.expressions.operators.Var.{Var}
-use Rattle.cedar_types.specs.Names.{Path}
 use Rattle.cedar_types.specs.Expressions.Tree.{lit, var, slot, unknown, if_then_else, and, or, unary, binary, call, get_attr, has_attr}
 use Rattle.cedar_types.specs.Expressions.Tree.{ext_has_attr, like, is_type, set_of, record_of, Trees, no_trees, tree}
 use Rattle.cedar_types.specs.Expressions.View.{Written}
-use Rattle.cedar_types.specs.Environments.{DeclaredEnv}
-use Rattle.cedar_types.specs.Environments.RequestEnvs.{Declared}
+use Rattle.cedar_types.specs.Environments.RequestEnvs.{Env}
 use Rattle.cedar_typing.specs.Rules.Equality.{variable_literal, literal_of}
 use Rattle.cedar_typing.specs.Rules.Membership.{literal_entity, entity_of, with_entity, entities_of, ancestors_of}
 use Rattle.cedar_typing.specs.TypedExpr.{Source}
 
-module _ (d : DeclaredEnv) (p r p' r' : Option Path) where
-  variable_same : (x : Var) → variable_literal (Declared d p r) x ≡ variable_literal (Declared d p' r') x
-  variable_same Var.Principal = refl
-  variable_same Var.Action = refl
-  variable_same Var.Resource = refl
-  variable_same Var.Context = refl
-
-  pub literal_same : (e : Source) → literal_of (Declared d p r) e ≡ literal_of (Declared d p' r') e
+module _ (here elsewhere : Env) (same : (x : Var) → variable_literal here x ≡ variable_literal elsewhere x) where
+  pub literal_same : (e : Source) → literal_of here e ≡ literal_of elsewhere e
   literal_same (lit m x) = refl
-  literal_same (var m x) = variable_same x
+  literal_same (var m x) = same x
   literal_same (slot m x) = refl
   literal_same (unknown m n) = refl
   literal_same (if_then_else m x y z) = refl
@@ -37,16 +29,16 @@ module _ (d : DeclaredEnv) (p r p' r' : Option Path) where
   literal_same (set_of m ts) = refl
   literal_same (record_of m fs) = refl
 
-  pub entity_same : (e : Source) → entity_of (Declared d p r) e ≡ entity_of (Declared d p' r') e
+  pub entity_same : (e : Source) → entity_of here e ≡ entity_of elsewhere e
   entity_same e = ap literal_entity (literal_same e)
 
-  entities_same : (ts : Trees Written) → entities_of (Declared d p r) ts ≡ entities_of (Declared d p' r') ts
+  entities_same : (ts : Trees Written) → entities_of here ts ≡ entities_of elsewhere ts
   entities_same no_trees = refl
   entities_same (tree e ts) = λ i. with_entity (entity_same e i) (entities_same ts i)
 
-  pub ancestors_same : (e : Source) → ancestors_of (Declared d p r) e ≡ ancestors_of (Declared d p' r') e
+  pub ancestors_same : (e : Source) → ancestors_of here e ≡ ancestors_of elsewhere e
   ancestors_same (set_of m ts) = entities_same ts
-  ancestors_same (var m x) = ap (λ o. option_map (λ u. u ∷ []) (literal_entity o)) (variable_same x)
+  ancestors_same (var m x) = ap (λ o. option_map (λ u. u ∷ []) (literal_entity o)) (same x)
   ancestors_same (lit m x) = refl
   ancestors_same (slot m x) = refl
   ancestors_same (unknown m n) = refl

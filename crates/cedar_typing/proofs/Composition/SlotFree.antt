@@ -10,6 +10,7 @@ use Rattle.cedar_types.specs.Expressions.Tree.{binary, call, get_attr, has_attr,
 use Rattle.cedar_types.specs.Expressions.Tree.{no_trees, tree, Fields, no_fields, field}
 use Rattle.cedar_types.specs.Expressions.View.{Written}
 use Rattle.cedar_types.specs.Environments.{DeclaredEnv}
+use Rattle.cedar_types.specs.Environments.RequestEnvs.{Env, Declared}
 use Rattle.cedar_types.specs.Errors.{Finding}
 use Rattle.cedar_types.specs.Expressions.Parts.{mentions_slot, any_mentions_slot, field_mentions_slot}
 use Rattle.cedar_typing.specs.Capabilities.{Caps}
@@ -22,6 +23,7 @@ use Rattle.cedar_typing.specs.Infer.Parts.{success, failure, limit, Answer, Answ
 use Rattle.cedar_typing.specs.Judgments.{Judgment}
 use Rattle.cedar_typing.specs.Rules.{rules, Derives}
 use Rattle.cedar_typing.specs.Rules.Calls.{arguments}
+use Rattle.cedar_typing.specs.Rules.Equality.{variable_literal}
 use Rattle.cedar_typing.specs.Rules.Records.{field_keys}
 use Rattle.cedar_typing.specs.Rules.Leaves.{variable_type, type_of_literal}
 use Rattle.cedar_typing.specs.Rules.ShortCircuit.{conjunction, disjunction}
@@ -48,11 +50,23 @@ rest_of : (f g : SlotId → Bool) → NotIn (λ x. f x || g x) → NotIn g
 rest_of f g h x = neither_right (f x) (g x) (h x)
 
 module _ (s : Setting) (d : DeclaredEnv) (p r p' r' : Option Path) where
+  abbrev here : Env
+  here = Declared d p r
+
+  abbrev elsewhere : Env
+  elsewhere = Declared d p' r'
+
+  variable_same : (x : Var) → variable_literal here x ≡ variable_literal elsewhere x
+  variable_same Var.Principal = refl
+  variable_same Var.Action = refl
+  variable_same Var.Resource = refl
+  variable_same Var.Context = refl
+
   abbrev s1 : Setting
-  s1 = one s d p r p' r'
+  s1 = one s here elsewhere
 
   abbrev s2 : Setting
-  s2 = other s d p r p' r'
+  s2 = other s here elsewhere
 
   variable_typed : (x : Var) → variable_type s1.env x ≡ variable_type s2.env x
   variable_typed Var.Principal = refl
@@ -77,54 +91,54 @@ module _ (s : Setting) (d : DeclaredEnv) (p r p' r' : Option Path) where
         let ha = first_of (λ x. mentions_slot x a) (λ x. mentions_slot x b || mentions_slot x c) h in
         let hb = first_of (λ x. mentions_slot x b) (λ x. mentions_slot x c) g in
         let hc = rest_of (λ x. mentions_slot x b) (λ x. mentions_slot x c) g in
-        λ i es. after (expect_same s d p r p' r' bool_types (place_of a)
+        λ i es. after (expect_same s here elsewhere bool_types (place_of a)
         (unless_too_deep (k + 1) es (same_within a ha prior (k + 1) i es)) i)
-        (λ q es'. branches_same s d p r p' r' m prior q es'
+        (λ q es'. branches_same s here elsewhere m prior q es'
         (λ known es''. unless_too_deep (k + 1) es'' (same_within b hb known (k + 1) i es''))
         (λ es''. unless_too_deep (k + 1) es'' (same_within c hc prior (k + 1) i es'')) i)
     same_within (and m a b) h prior k =
         let ha = first_of (λ x. mentions_slot x a) (λ x. mentions_slot x b) h in
         let hb = rest_of (λ x. mentions_slot x a) (λ x. mentions_slot x b) h in
-        λ i es. after (expect_same s d p r p' r' bool_types (place_of a)
+        λ i es. after (expect_same s here elsewhere bool_types (place_of a)
         (unless_too_deep (k + 1) es (same_within a ha prior (k + 1) i es)) i)
-        (λ q es'. right_same s d p r p' r' conjunction m (place_of b) prior q es'
+        (λ q es'. right_same s here elsewhere conjunction m (place_of b) prior q es'
         (λ known es''. unless_too_deep (k + 1) es'' (same_within b hb known (k + 1) i es'')) i)
     same_within (or m a b) h prior k =
         let ha = first_of (λ x. mentions_slot x a) (λ x. mentions_slot x b) h in
         let hb = rest_of (λ x. mentions_slot x a) (λ x. mentions_slot x b) h in
-        λ i es. after (expect_same s d p r p' r' bool_types (place_of a)
+        λ i es. after (expect_same s here elsewhere bool_types (place_of a)
         (unless_too_deep (k + 1) es (same_within a ha prior (k + 1) i es)) i)
-        (λ q es'. right_same s d p r p' r' disjunction m (place_of b) prior q es'
+        (λ q es'. right_same s here elsewhere disjunction m (place_of b) prior q es'
         (λ known es''. unless_too_deep (k + 1) es'' (same_within b hb known (k + 1) i es'')) i)
     same_within (unary m o a) h prior k =
-        λ i. one_same s d p r p' r' (unary_form m o) (place_of a) (λ es. unless_too_deep (k + 1) es (same_within a h prior (k + 1) i es)) i
+        λ i. one_same s here elsewhere (unary_form m o) (place_of a) (λ es. unless_too_deep (k + 1) es (same_within a h prior (k + 1) i es)) i
     same_within (binary m o a b) h prior k =
         let ha = first_of (λ x. mentions_slot x a) (λ x. mentions_slot x b) h in
         let hb = rest_of (λ x. mentions_slot x a) (λ x. mentions_slot x b) h in
-        λ i. two_same s d p r p' r' (binary_form_same s d p r p' r' m prior a b o i) (place_of a) (place_of b)
+        λ i. two_same s here elsewhere (binary_form_same s here elsewhere variable_same m prior a b o i) (place_of a) (place_of b)
         (λ es. unless_too_deep (k + 1) es (same_within a ha prior (k + 1) i es))
         (λ es. unless_too_deep (k + 1) es (same_within b hb prior (k + 1) i es)) i
     same_within (call m n ts) h prior k =
-        let f = call_form_same s d p r p' r' m n (arguments ts) in
+        let f = call_form_same s here elsewhere m n (arguments ts) in
         λ i. infer_eager (f i) (same_all (f i).goes_on (f i).expects ts h prior (k + 1) i)
     same_within (get_attr m a x) h prior k =
-        λ i. one_same s d p r p' r' (get_form_same s d p r p' r' m prior a x i) (place_of a)
+        λ i. one_same s here elsewhere (get_form_same s here elsewhere m prior a x i) (place_of a)
         (λ es. unless_too_deep (k + 1) es (same_within a h prior (k + 1) i es)) i
     same_within (has_attr m a x) h prior k =
-        λ i. one_same s d p r p' r' (has_form_same s d p r p' r' m prior a x i) (place_of a)
+        λ i. one_same s here elsewhere (has_form_same s here elsewhere m prior a x i) (place_of a)
         (λ es. unless_too_deep (k + 1) es (same_within a h prior (k + 1) i es)) i
     same_within (ext_has_attr m a x xs) h prior k =
-        λ i. one_same s d p r p' r' (chain_form_same s d p r p' r' m prior a x xs i) (place_of a)
+        λ i. one_same s here elsewhere (chain_form_same s here elsewhere m prior a x xs i) (place_of a)
         (λ es. unless_too_deep (k + 1) es (same_within a h prior (k + 1) i es)) i
     same_within (like m a q) h prior k =
-        λ i. one_same s d p r p' r' (like_form m q) (place_of a) (λ es. unless_too_deep (k + 1) es (same_within a h prior (k + 1) i es)) i
+        λ i. one_same s here elsewhere (like_form m q) (place_of a) (λ es. unless_too_deep (k + 1) es (same_within a h prior (k + 1) i es)) i
     same_within (is_type m a n) h prior k =
-        λ i. one_same s d p r p' r' (is_form m n) (place_of a) (λ es. unless_too_deep (k + 1) es (same_within a h prior (k + 1) i es)) i
+        λ i. one_same s here elsewhere (is_form m n) (place_of a) (λ es. unless_too_deep (k + 1) es (same_within a h prior (k + 1) i es)) i
     same_within (set_of m ts) h prior k =
-        let f = set_form_same s d p r p' r' m in
+        let f = set_form_same s here elsewhere m in
         λ i. infer_eager (f i) (same_all (f i).goes_on (f i).expects ts h prior (k + 1) i)
     same_within (record_of m fs) h prior k =
-        λ i. infer_eager (record_form_same s d p r p' r' m (field_keys fs) i) (same_fields fs h prior (k + 1) i)
+        λ i. infer_eager (record_form_same s here elsewhere m (field_keys fs) i) (same_fields fs h prior (k + 1) i)
 
     same_all : (goes_on : Bool) (qs : List Expectation) (ts : Trees Written) → NotIn (λ x. any_mentions_slot x ts)
         → (prior : Caps) (k : ℕ) → infer_all s1 goes_on qs ts prior k ≡ infer_all s2 goes_on qs ts prior k
@@ -132,7 +146,7 @@ module _ (s : Setting) (d : DeclaredEnv) (p r p' r' : Option Path) where
     same_all goes_on qs (tree e ts) h prior k =
         let he = first_of (λ x. mentions_slot x e) (λ x. any_mentions_slot x ts) h in
         let hs = rest_of (λ x. mentions_slot x e) (λ x. any_mentions_slot x ts) h in
-        λ i. more_same s d p r p' r' goes_on (first_expectation qs) (place_of e)
+        λ i. more_same s here elsewhere goes_on (first_expectation qs) (place_of e)
         (λ es. unless_too_deep k es (same_within e he prior k i es))
         (same_all goes_on (later_expectations qs) ts hs prior k i) i
 
@@ -142,7 +156,7 @@ module _ (s : Setting) (d : DeclaredEnv) (p r p' r' : Option Path) where
     same_fields (field n e fs) h prior k =
         let he = first_of (λ x. mentions_slot x e) (λ x. field_mentions_slot x fs) h in
         let hs = rest_of (λ x. mentions_slot x e) (λ x. field_mentions_slot x fs) h in
-        λ i. more_same s d p r p' r' false None (place_of e)
+        λ i. more_same s here elsewhere false None (place_of e)
         (λ es. unless_too_deep k es (same_within e he prior k i es)) (same_fields fs hs prior k i) i
 
   pub same_inference : (e : Source) → MentionsNoSlot e → (prior : Caps) (k : ℕ) → infer s1 e prior k ≡ infer s2 e prior k
@@ -176,8 +190,8 @@ module _ (s s' : Setting) (e : Source) (prior : Caps) (k : ℕ) (same : infer s 
 
 pub links_do_not_matter : LinksDoNotMatter
 links_do_not_matter s d p r p' r' e h prior k =
-    let s1 = one s d p r p' r' in
-    let s2 = other s d p r p' r' in
+    let s1 = one s (Declared d p r) (Declared d p' r') in
+    let s2 = other s (Declared d p r) (Declared d p' r') in
     let to : infer s1 e prior k ≡ infer s2 e prior k = same_inference s d p r p' r' e h prior k in
     record {
       derived = λ t c x. (derivation s1 s2 e prior k to t c x, derivation s2 s1 e prior k (sym to) t c x);

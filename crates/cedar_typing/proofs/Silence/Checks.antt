@@ -10,13 +10,14 @@ use Rattle.cedar_typing.specs.PolicyCheck.Outcome.{is_silent, passes}
 use Rattle.cedar_typing.specs.Rules.Laws.{IsCut}
 use Rattle.cedar_typing.specs.Rules.{rules}
 use Rattle.cedar_typing.specs.Setting.{Setting}
-use Rattle.cedar_typing.specs.Silence.{IsWellNamed, SilentFailureIsCut, IsDerivedAs, PassingIsDerived}
+use Rattle.cedar_typing.specs.Silence.{IsWellNamed, SilentFailureIsCut, SilentFailureIsCutInPermissive, IsDerivedAs, PassingIsDerived}
+use Rattle.cedar_typing.specs.Silence.{PassingIsDerivedInPermissive}
 use Rattle.cedar_typing.specs.TypeTests.{bool_types}
 use Rattle.cedar_typing.specs.TypedExpr.{Source, TypedTree, place_of}
 use Rattle.cedar_typing.proofs.Silence.Induction.{loud}
 use Rattle.cedar_typing.proofs.Silence.Names.{clean}
 use Rattle.cedar_typing.proofs.Silence.Parts.{IsLoud, operand_loud}
-use Rattle.cedar_typing.proofs.Silence.Settled.{Settled, in_strict}
+use Rattle.cedar_typing.proofs.Silence.Settled.{Settled, in_strict, in_permissive}
 use Rattle.cedar_typing.proofs.Policies.Verdicts.{none}
 
 -- there is an error in every order
@@ -48,3 +49,9 @@ silent_failure_is_cut s ok e h fs c q = silent_cut true s (in_strict s ok) e h f
 
 pub passing_is_derived : PassingIsDerived
 passing_is_derived s ok e h v c q = passing_derived true s (in_strict s ok) e h v c q
+
+pub silent_failure_is_cut_in_permissive : SilentFailureIsCutInPermissive
+silent_failure_is_cut_in_permissive s ok formed e h fs c q = silent_cut false s (in_permissive s ok formed) e h fs c q
+
+pub passing_is_derived_in_permissive : PassingIsDerivedInPermissive
+passing_is_derived_in_permissive s ok formed e h v c q = passing_derived false s (in_permissive s ok formed) e h v c q

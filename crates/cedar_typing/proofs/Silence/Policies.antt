@@ -14,7 +14,7 @@ use Rattle.cedar_types.specs.Templates.{PlainTemplate, condition_of}
 use Rattle.cedar_typing.specs.Composition.{in_env}
 use Rattle.cedar_typing.specs.Evaluation.Conformance.{IsOneOf, IsEnvironmentOf}
 use Rattle.cedar_typing.specs.PolicyCheck.Outcome.{passes, PolicyOutcome}
-use Rattle.cedar_typing.specs.Silence.{IsWellNamedTemplate, ChecksOf, IsDerivedIn, PassingPolicyIsDerived}
+use Rattle.cedar_typing.specs.Silence.{IsWellNamedTemplate, ChecksOf, IsDerivedIn, PassingPolicyIsDerived, PassingPolicyIsDerivedInPermissive}
 use Rattle.cedar_typing.proofs.Policies.EachEnvironment.{each_has_passing}
 use Rattle.cedar_typing.proofs.Basics.Members.{all_flat}
 use Rattle.cedar_typing.proofs.Silence.Checks.{passing_derived}
@@ -89,4 +89,9 @@ module _ (strictly : Bool) (s : Setting) (t : PlainTemplate) (strict : is_strict
 pub passing_policy_is_derived : PassingPolicyIsDerived
 passing_policy_is_derived s t ok named errors errors' warnings warnings' o e i =
     passing_derived_in true s t (ap is_strict ok.mode) (ap is_partial ok.mode) refl ok.schema ok.functions named
+    errors errors' warnings warnings' o e i
+
+pub passing_policy_is_derived_in_permissive : PassingPolicyIsDerivedInPermissive
+passing_policy_is_derived_in_permissive s t ok formed named errors errors' warnings warnings' o e i =
+    passing_derived_in false s t (ap is_strict ok.mode) (ap is_partial ok.mode) formed ok.schema ok.functions named
     errors errors' warnings warnings' o e i

@@ -1,11 +1,12 @@
 //! What the checks of a template in its environments say together: laws, each on a function that does nothing.
-ghost use Rattle.cedar_typing.specs.Composition.{OwnEnvIsChecked, OwnEnvIsCheckedOfTypes, OwnTestsAreBool, LinksDoNotMatter, ScopeIsBoolean, Coverage, NeverTrue, OwnSuccessIsKept};
+ghost use Rattle.cedar_typing.specs.Composition.{OwnEnvIsChecked, OwnEnvIsCheckedOfTypes, OwnTestsAreBool, LinksDoNotMatter, ScopeIsBoolean, Coverage, NeverTrue, NeverTrueInPermissive, OwnSuccessIsKept, OwnSuccessIsKeptInPermissive};
 ghost use Rattle.cedar_typing.specs.Examples.Composition.{EnvironmentsAre, SlotsInTheRestAreNot, OwnEnvMayBeMissing};
 ghost use Rattle.cedar_typing.specs.Examples.Conforming.{ConformityAllows};
+ghost use Rattle.cedar_typing.specs.Examples.LeftOpen.{PremisesLeaveOpen};
 ghost use Rattle.cedar_typing.specs.Examples.NeededPremises.{PremisesAreNeeded};
 ghost use Rattle.cedar_typing.specs.Examples.PolicySoundness.{PolicyPremisesAreMet};
 ghost use Rattle.cedar_typing.specs.Soundness.Policies.{PromisesAreKept, PromisesAreKeptInPermissive};
-ghost use Rattle.cedar_typing.specs.Silence.{ConditionIsWellNamed, FailuresHaveErrors, FailuresHaveErrorsInPermissive, SilentFailureIsCut, PassingIsDerived, PassingPolicyIsDerived};
+ghost use Rattle.cedar_typing.specs.Silence.{ConditionIsWellNamed, FailuresHaveErrors, FailuresHaveErrorsInPermissive, SilentFailureIsCut, SilentFailureIsCutInPermissive, PassingIsDerived, PassingIsDerivedInPermissive, PassingPolicyIsDerived, PassingPolicyIsDerivedInPermissive};
 
 /// One of the environments that are checked links each slot to its variable's own type, and there the scope's tests of slots
 /// may be true.
@@ -31,6 +32,8 @@ pub fn environments_cover()
 pub fn impossible_is_never_true()
     ensures never { NeverTrue }
     ensures kept { OwnSuccessIsKept }
+    ensures never_in_permissive { NeverTrueInPermissive }
+    ensures kept_in_permissive { OwnSuccessIsKeptInPermissive }
 {}
 
 /// In Strict, what fails without being cut has at least one error, where nothing is unknown: no name of a type or of an action,
@@ -43,15 +46,22 @@ pub fn failures_have_errors()
     ensures policy { PassingPolicyIsDerived }
 {}
 
+/// The same in Permissive.
+pub fn failures_have_errors_in_permissive()
+    ensures failures { FailuresHaveErrorsInPermissive }
+    ensures cut { SilentFailureIsCutInPermissive }
+    ensures passing { PassingIsDerivedInPermissive }
+    ensures policy { PassingPolicyIsDerivedInPermissive }
+{}
+
 /// What is promised of a policy that passes, and of one that is warned to be impossible, follows from what its check comes to.
 pub fn passing_is_safe()
     ensures { PromisesAreKept }
 {}
 
-/// The same in Permissive, and there too what fails without being cut has an error.
+/// The same in Permissive.
 pub fn passing_is_safe_in_permissive()
-    ensures kept { PromisesAreKeptInPermissive }
-    ensures failures { FailuresHaveErrorsInPermissive }
+    ensures { PromisesAreKeptInPermissive }
 {}
 
 /// Which environments some templates are checked in, and that what is warned to be impossible may be true where a slot stands
@@ -62,10 +72,12 @@ pub fn examples_of_environments()
     ensures own { OwnEnvMayBeMissing }
 {}
 
-/// A policy that passes, in a world that conforms; what a world that conforms may still hold; and that each premise on such a
-/// policy is needed, in Strict and in Permissive: without it one that passes breaks the promise.
+/// A policy that passes, in a world that conforms; what a world that conforms may still hold; requests, stores and scopes that
+/// the premises leave open; and that each premise on such a policy is needed, in Strict and in Permissive: without it one that
+/// passes breaks the promise.
 pub fn examples_of_policies()
     ensures met { PolicyPremisesAreMet }
     ensures allows { ConformityAllows }
+    ensures left_open { PremisesLeaveOpen }
     ensures needed { PremisesAreNeeded }
 {}

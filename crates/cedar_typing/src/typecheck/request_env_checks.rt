@@ -96,16 +96,44 @@ impl<'b, C: ArgumentCheck> Iterator for RequestEnvChecks<'b, C> {
     }
 }
 
-impl<C: ArgumentCheck> RequestEnvChecks<'_, C> {
-    ghost use Rattle.std.specs.Prelude.{◌≡◌, IfOk};
+impl<'b, C: ArgumentCheck> RequestEnvChecks<'b, C> {
+    ghost use Rattle.std.specs.Prelude.{◌≡◌, [], ◌∷◌, IfOk, MatchOption, OnOk};
+    ghost use Rattle.cedar_types.specs.Environments.RequestEnvs.{env_of};
     ghost use Rattle.cedar_typing.specs.Views.Checks.{setting_for, verdict_of};
-    ghost use Rattle.cedar_typing.specs.Views.EnvironmentChecks.{condition_in};
+    ghost use Rattle.cedar_typing.specs.Views.EnvironmentChecks.{checker_of, template_in, condition_in, checks_left, SameInput};
     ghost use Rattle.cedar_typing.specs.PolicyCheck.{PolicyChecks};
 
-    #[tactic(auto, unfolding(crate::specs::Views::EnvironmentChecks::condition_in))]
-    fn check(&self, env: &RequestEnv<'_>) -> Result<PolicyCheck, AllocError>
+    /// The next environment, without its check, for a caller who may know that without asking; `None` after the last. Where
+    /// memory is refused, the answer is an `AllocError`, and none comes after it.
+    #[tactic(auto, unfolding(crate::specs::Views::EnvironmentChecks::checks_left, crate::specs::Views::EnvironmentChecks::checks_are_over, crate::specs::Views::EnvironmentChecks::checker_of, crate::specs::Views::EnvironmentChecks::template_in, crate::specs::Views::EnvironmentChecks::condition_in))]
+    pub fn next_env(&mut self) -> Result<Option<RequestEnv<'b>>, AllocError>
+        ensures next { IfOk result (λ o. MatchOption o
+            (checks_left self.old ≡ [])
+            (λ e. checks_left self.old ≡ env_of e ∷ checks_left self.new)) }
+        ensures input { OnOk result (SameInput self.old self.new) }
+    {
+        if self.ended {
+            return Ok(None);
+        }
+        match self.linked.next() {
+            None => {
+                self.ended = true;
+                Ok(None)
+            }
+            Some(Err(refused)) => {
+                self.ended = true;
+                Err(refused)
+            }
+            Some(Ok(env)) => Ok(Some(env)),
+        }
+    }
+
+    /// The check of the template in an environment, as `Typechecker::typecheck_by_single_request_env` has it. Where memory is
+    /// refused, the answer is an `AllocError`.
+    #[tactic(auto, unfolding(crate::specs::Views::EnvironmentChecks::checker_of, crate::specs::Views::EnvironmentChecks::template_in, crate::specs::Views::EnvironmentChecks::condition_in))]
+    pub fn check(&self, env: &RequestEnv<'_>) -> Result<PolicyCheck, AllocError>
         ensures { IfOk result (λ r.
-            PolicyChecks (setting_for C.refusal self.now.checker.now self.now.template.now env.now)
+            PolicyChecks (setting_for C.refusal (checker_of self.now) (template_in self.now) env.now)
             (condition_in self.now) (verdict_of r)) }
     {
         let check = self

@@ -1,10 +1,13 @@
 // The types of the variables in one environment.
-ghost use Rattle.std.specs.Prelude.{IfOk};
+ghost use Rattle.std.specs.Prelude.{◌≡◌, IfOk, option_map};
 ghost use Rattle.cedar_types.specs.Environments.RequestEnvs.{env_of};
+ghost use Rattle.cedar_types.specs.Names.{type_of};
 ghost use Rattle.cedar_types.specs.Schemas.Contents.{schema_of};
+ghost use Rattle.cedar_types.specs.Types.{ty_of};
+ghost use Rattle.cedar_typing.specs.Rules.Leaves.{linked_ty};
 ghost use Rattle.cedar_typing.specs.Setting.VariableTypes.{HasPrincipal, HasAction, HasResource, HasContext};
 
-use cedar_types::base::{CedarType, ValidatorSchema};
+use cedar_types::base::{CedarType, EntityType, ValidatorSchema};
 use cedar_types::types::request_env::RequestEnv;
 use std::alloc::{AllocError, Global};
 
@@ -20,7 +23,7 @@ pub(crate) struct VariableTypes {
 }
 
 impl VariableTypes {
-    #[tactic(auto, using(crate::proofs::TypeTests::VariableTypes::kept, crate::proofs::TypeTests::VariableTypes::kept_if_any))]
+    #[tactic(auto, using(crate::proofs::TypeTests::VariableTypes::kept, crate::proofs::TypeTests::VariableTypes::kept_if_any, crate::proofs::TypeTests::VariableTypes::kept_principal, crate::proofs::TypeTests::VariableTypes::kept_resource))]
     pub(crate) fn of_environment(
         alloc: Global,
         schema: &ValidatorSchema,
@@ -32,10 +35,27 @@ impl VariableTypes {
         ensures context { IfOk result (HasContext (env_of request_env.now)) }
     {
         Ok(VariableTypes {
-            principal: request_env.principal_type(alloc)?,
+            principal: type_of_entities(alloc, schema, request_env.principal_entity_type())?,
             action: request_env.action_type(alloc, schema)?,
-            resource: request_env.resource_type(alloc)?,
+            resource: type_of_entities(alloc, schema, request_env.resource_entity_type())?,
             context: request_env.context_type(alloc)?,
         })
+    }
+}
+
+/// The type of the entities of this type, or of all entities where none is known. That of a type which the schema declares is
+/// the schema's, and takes no memory.
+pub(crate) fn type_of_entities(
+    alloc: Global,
+    schema: &ValidatorSchema,
+    known: Option<&EntityType>,
+) -> Result<CedarType, AllocError>
+    ensures { IfOk result (λ t.
+        ty_of t
+        ≡ linked_ty (option_map (λ p. type_of p.now) known.entry)) }
+{
+    match known {
+        Some(entity_type) => CedarType::entity_reference(alloc, entity_type, schema),
+        None => Ok(CedarType::any_entity_reference()),
     }
 }

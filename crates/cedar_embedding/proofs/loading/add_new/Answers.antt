@@ -1,4 +1,4 @@
-use Rattle.std.proofs.Common.{◌≡◌, ◌+◌, ◌∷◌, [], ◌++◌, ◌||◌, sym, ap, ◌∙◌, subst, map, take, Bool}
+use Rattle.std.proofs.Common.{◌≡◌, ◌∷◌, [], ◌++◌, ◌||◌, sym, ap, ◌∙◌, subst, map, Bool}
 use Rattle.std.specs.Bool.{OnFalse}
 use Rattle.std.specs.declared.cmp.Ordering.TheVariants.{Equal}
 use Rattle.std.specs.Ordering.{is_eq}
@@ -6,12 +6,10 @@ use Rattle.std.proofs.lemmas.List.{map_push}
 use Rattle.cedar_types.specs.Names.Comparisons.{entity_uid_cmp}
 use Rattle.cedar_types.specs.declared.base.names.entities.EntityUID.{EntityUID}
 use Rattle.cedar_types.specs.Names.{Uid, uid_of, uid_eq}
-use Rattle.cedar_types.specs.Schemas.Declarations.{uids_of}
 use Rattle.cedar_types.specs.Schemas.{uid_is_among}
 use Rattle.cedar_types.proofs.Names.Ids.{uid_decides, uid_ties, uids_cmp}
 use Rattle.cedar_types.proofs.Schema.Listings.{inserted}
 use Rattle.cedar_types.proofs.Schema.Places.{next_mapped}
-use Rattle.cedar_embedding.specs.Loading.{AddsNew}
 use Rattle.cedar_embedding.proofs.AddedIds.{lacked, had}
 use Rattle.cedar_embedding.proofs.loading.add_new.Goals as goal
 use Rattle.cedar_embedding.proofs.loading.add_new.Goals.{then-branch+in_ok-clone-2+in_ok-push, else-branch}

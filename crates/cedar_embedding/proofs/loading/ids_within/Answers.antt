@@ -1,10 +1,10 @@
-use Rattle.std.proofs.Common.{◌≡◌, ℕ, ◌+◌, ◌≤◌, suc, List, [], ◌∷◌, map, refl, sym, ap, ◌∙◌, subst, arith}
+use Rattle.std.proofs.Common.{◌≡◌, ◌+◌, ◌≤◌, suc, List, [], map, refl, sym, ap, ◌∙◌, subst, arith}
 use Rattle.std.specs.List.{flat_map}
 use Rattle.std.proofs.lemmas.List.{nil_from_length}
 use borrow.Author.Tests.{eqb-true}
 use Rattle.cedar_types.specs.Names.{Uid, uid_of}
 use Rattle.cedar_types.specs.Schemas.Declarations.{uids_of}
-use Rattle.cedar_embedding.specs.Loading.{AreAmong, AreSame, ids_below, LoadsSlices, AddsNew}
+use Rattle.cedar_embedding.specs.Loading.{AddsNew}
 use Rattle.cedar_embedding.proofs.Rounds.{IsRound, first_round, next_round, same_at_none, same_after, same_at_end}
 use Rattle.cedar_embedding.proofs.LoadedSlices.{loads_slices}
 use Rattle.cedar_embedding.proofs.loading.ids_within.Goals as goal
@@ -28,17 +28,15 @@ loop-step-preserved g c =
     let before = c.loop-step.invariant in
     let k = before.0 in
     let old = uids_of c.loop-step.ids in
-    let ids = uids_of c.add_new-in-loop-step.new.ids in
+    let ids = uids_of c.add_held.new.ids in
     let last = map uid_of c.loop-step.newest.items in
     let newest = map uid_of c.in_ok-newest-2.newest.items in
-    let held : map uid_of c.deref-in-loop-step.result.now ≡ flat_map answered last =
-    ap (map uid_of) c.deref-in-loop-step.ensures.value
-    ∙ (c.in_ok-held.ensures ∙ ap (λ xs. flat_map answered (map uid_of xs)) c.deref.ensures.value) in
     let more : c.loop-step._step + 1 ≡ suc (suc k) = omega (arith, before.1) in (
       suc k,
       more,
       next_round answered start k old last ids newest before.2
-          (subst (λ us. AddsNew old us ids newest) held c.in_ok-newest-2.ensures),
+          (subst (λ ks. AddsNew old (flat_map answered (map uid_of ks)) ids newest) c.deref.ensures.value
+          c.in_ok-newest-2.ensures),
     )
 
 pub returns-then-steps-eq0 : goal.returns-then-steps-eq0

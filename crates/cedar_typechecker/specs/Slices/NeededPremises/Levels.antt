@@ -1,26 +1,31 @@
 -- That the level pass is silent is needed, and each of its errors counts: policies that pass, with
 -- one thing wrong, and that evaluate to something else in the slice of as many steps.
-use Rattle.std.specs.Prelude.{ℕ, true, false}
+use Rattle.std.specs.Prelude.{◌≡◌, ℕ, true, false, [], ◌∷◌, codes}
 use Rattle.cedar_types.specs.declared.base.types.ValidationMode.{ValidationMode}
 use Rattle.cedar_types.specs.Errors.{literal_dereference_target}
 use Rattle.cedar_types.specs.Environments.Linking.{checked_envs}
 use Rattle.cedar_types.specs.Environments.RequestEnvs.{Env}
-use Rattle.cedar_types.specs.Templates.{PlainTemplate}
+use Rattle.cedar_types.specs.Templates.{PlainTemplate, condition_of}
 use Rattle.cedar_types.specs.Expressions.Tree.{and}
 use Rattle.cedar_types.specs.Values.{VBool}
+use Rattle.cedar_types.specs.Values.Stores.{Store}
 use Rattle.cedar_typing.specs.Evaluation.Conformance.{IsOneOf}
-use Rattle.cedar_typing.specs.Evaluation.World.{MissingEntity, Gives, Fails}
-use Rattle.cedar_typing.specs.Examples.Expressions.{false_lit, the, principal}
+use Rattle.cedar_typing.specs.Evaluation.Eval.{eval}
+use Rattle.cedar_typing.specs.Evaluation.World.{MissingEntity, Overflow, Gives, Fails}
+use Rattle.cedar_typing.specs.Examples.Expressions.{false_lit, one, the, principal, has, equal, less, too_great}
 use Rattle.cedar_typing.specs.Examples.PolicySoundness.{Passes, PassesWarned, policy_when}
+use Rattle.cedar_typing.specs.Examples.World.{alice}
 use Rattle.cedar_typing.specs.PolicyCheck.{succeeds}
 use Rattle.cedar_typing.specs.Soundness.Policies.{Basis}
 use Rattle.cedar_typing.specs.TypedExpr.{TypedTree}
 use Rattle.cedar_typechecker.specs.Levels.Errors.{exceeds, IsWithinLevel}
 use Rattle.cedar_typechecker.specs.Levels.Outcome.{ChecksOn, levels_on}
-use Rattle.cedar_typechecker.specs.Slices.Examples.{active_of, guided_page}
-use Rattle.cedar_typechecker.specs.Slices.Examples.World.{dan, wiki_basis, reading, slice_of}
+use Rattle.cedar_typechecker.specs.Slices.Examples.{active_of, has_guide, resource, guided_page}
+use Rattle.cedar_typechecker.specs.Slices.Examples.World.{dan, wiki_basis, stored_alice, reading, slice_of}
 use Rattle.cedar_typechecker.specs.Slices.NeededPremises.Differing.{IsAskedIn, IsAskedPolicy, OnlyFaultIs, DiffersIn}
+use Rattle.cedar_typechecker.specs.Slices.Policies.{IsSameIn, IsSameInSlices}
 use Rattle.cedar_typechecker.specs.Slices.Reach.{HoldsSlice}
+use Rattle.cedar_typechecker.specs.Slices.Soundness.{with_store}
 
 -- one level less than is required, which is 3
 pub record OneLevelLessGoesWrongIn (m : ValidationMode) : Type 0 where
@@ -66,7 +71,50 @@ pub record IrrelevantEnvironmentsCountIn (m : ValidationMode) : Type 0 where
   pub differs : DiffersIn never_active reading (slice_of reading 0)
       (Fails MissingEntity) (Gives (VBool false))
 
+-- ---- what the promise says: the very same, and in each part
+
+-- `principal.active && 9223372036854775807 + 1 < 1`
+abbrev pub overflowing : PlainTemplate
+overflowing = policy_when (and tt (active_of principal) (less too_great one))
+
+-- it fails over the store and over the slice, and not alike: the one sum is too great, and of the
+-- other the principal is missing
+pub record OneFailureIsNotAnotherIn (m : ValidationMode) : Type 0 where
+  pub asked : IsAskedIn m (wiki_basis m) reading
+  pub policy : IsAskedPolicy (wiki_basis m) overflowing reading
+  pub passes : Passes (wiki_basis m) overflowing
+  pub wrong : OnlyFaultIs (wiki_basis m) overflowing 0 (exceeds 0 1)
+  pub held : HoldsSlice reading.request reading.store 0 (slice_of reading 0)
+  pub differs : DiffersIn overflowing reading (slice_of reading 0)
+      (Fails MissingEntity) (Fails Overflow)
+
+-- `(principal has profile) == resource.hasTag("guide")`
+abbrev pub both_or_neither : PlainTemplate
+both_or_neither =
+    policy_when (equal (has principal (codes "profile")) (has_guide resource))
+
+-- a part of the store that has alice alone
+abbrev pub alice_alone : Store
+alice_alone = (alice, stored_alice) ∷ []
+
+-- it is true over the store, of both, and over the slice of no steps, of neither; and false in
+-- between, though that part has this slice
+pub record SliceAloneIsNotEachPartIn (m : ValidationMode) : Type 0 where
+  pub asked : IsAskedIn m (wiki_basis m) reading
+  pub policy : IsAskedPolicy (wiki_basis m) both_or_neither reading
+  pub passes : Passes (wiki_basis m) both_or_neither
+  pub wrong : OnlyFaultIs (wiki_basis m) both_or_neither 0 (exceeds 0 1)
+  pub in_slice : eval (with_store reading (slice_of reading 0)) (condition_of both_or_neither)
+      ≡ Gives (VBool true)
+  pub same_in_slice : IsSameIn both_or_neither reading (slice_of reading 0)
+  pub held : HoldsSlice reading.request reading.store 0 alice_alone
+  pub differs : DiffersIn both_or_neither reading alice_alone
+      (Gives (VBool false)) (Gives (VBool true))
+  pub broken : IsSameInSlices both_or_neither reading 0 → ⊥
+
 pub record LevelsAreNeededIn (m : ValidationMode) : Type 0 where
   pub less : OneLevelLessGoesWrongIn m
   pub literal : LiteralTargetsGoWrongIn m
   pub irrelevant : IrrelevantEnvironmentsCountIn m
+  pub failures : OneFailureIsNotAnotherIn m
+  pub parts : SliceAloneIsNotEachPartIn m

@@ -14,7 +14,7 @@ pub enum Var {
 }
 
 /// An operator on one operand: `!`, `-` and `isEmpty`.
-#[derive(Clone, Copy, PartialEq, Eq, PartialOrd, Ord, Debug)]
+#[derive(Clone, Copy, PartialEq, Eq, PartialOrd, Ord, Hash, Debug)]
 pub enum UnaryOp {
     /// `!`.
     Not,
@@ -25,7 +25,7 @@ pub enum UnaryOp {
 }
 
 /// An operator on two operands: `==`, `<`, `<=`, `+`, `-`, `*`, `in`, the three of sets and the two of tags.
-#[derive(Clone, Copy, PartialEq, Eq, PartialOrd, Ord, Debug)]
+#[derive(Clone, Copy, PartialEq, Eq, PartialOrd, Ord, Hash, Debug)]
 pub enum BinaryOp {
     /// `==`.
     Eq,

@@ -3,7 +3,7 @@ use crate::base::names::entities::EntityUID;
 use std::collections::BTreeMap;
 
 /// A place in a template's scope that a link fills with an entity.
-#[derive(Clone, Copy, PartialEq, Eq, PartialOrd, Ord, Debug)]
+#[derive(Clone, Copy, PartialEq, Eq, PartialOrd, Ord, Hash, Debug)]
 pub enum SlotId {
     /// `?principal`.
     Principal,

@@ -1,8 +1,8 @@
 // What types tell of attributes and of entity literals, in a schema.
-ghost use Rattle.std.specs.Prelude.{◌≡◌, IfOk, option_map, is_some};
+ghost use Rattle.std.specs.Prelude.{◌≡◌, [], ◌∷◌, IfOk, option_map, is_some};
 ghost use Rattle.std.specs.List.{list_any};
 ghost use Rattle.cedar_types.specs.Names.{text_of, type_of, uid_of};
-ghost use Rattle.cedar_types.specs.Types.{ty_of, kind_of, lub_of, is_open_tag};
+ghost use Rattle.cedar_types.specs.Types.{ty_of, kind_of, lub_of, is_open_tag, TEntity};
 ghost use Rattle.cedar_types.specs.Schemas.Declarations.{type_kind};
 ghost use Rattle.cedar_types.specs.Types.Lookups.{attribute_view, attribute_type, may_have, may_declare, literal_type, declares_entity, kind_attribute, declared_attribute, joined_attribute, types_attribute};
 ghost use Rattle.cedar_types.specs.Schemas.Contents.{schema_of};
@@ -76,8 +76,21 @@ impl CedarType {
         if !is_declared(entity, schema) {
             return Ok(None);
         }
-        let lub = EntityLUB::single_entity(alloc, entity.entity_type.clone()?)?;
-        Ok(Some(CedarType::Entity(EntityKind::Entity(lub))))
+        let found = CedarType::entity_reference(alloc, &entity.entity_type, schema)?;
+        Ok(Some(found))
+    }
+
+    /// The type of the entities of this type. That of a type that the schema declares, or that its actions have, is made once, with
+    /// the schema, and shared.
+    pub fn entity_reference(
+        alloc: Global,
+        entity_type: &EntityType,
+        schema: &ValidatorSchema,
+    ) -> Result<CedarType, AllocError>
+        ensures { IfOk result (λ t. ty_of t ≡ TEntity (type_of entity_type.now ∷ [])) }
+    {
+        let set = schema.references.set_of(alloc, entity_type)?;
+        Ok(CedarType::Entity(EntityKind::Entity(set)))
     }
 }
 

@@ -13,6 +13,7 @@ use crate::base::schema::action_tables::ActionTable;
 use crate::base::schema::actions::ValidatorActionId;
 use crate::base::schema::entity_types::ValidatorEntityType;
 use crate::base::schema::memberships::is_same_type;
+use crate::base::schema::references::EntityReferences;
 use crate::base::schema::type_tables::EntityTypeTable;
 use std::alloc::{AllocError, Global};
 use std::collections::BTreeSet;
@@ -27,6 +28,7 @@ impl ValidatorSchema {
             types: EntityTypeTable::empty(alloc),
             actions: ActionTable::empty(alloc),
             environments: Vec::new(alloc),
+            references: EntityReferences::empty(alloc),
         }
     }
 

@@ -3,7 +3,7 @@ ghost use Rattle.std.specs.Prelude.{◌≡◌, true};
 ghost use Rattle.cedar_types.specs.Names.Ascending.{has_members, types_ascend};
 
 use crate::base::names::entities::EntityType;
-use crate::base::types::entity_unions::{shares, union_of};
+use crate::base::types::entity_unions::{add_types, shares, union_of};
 use std::alloc::{AllocError, Global};
 use std::collections::btree_set::{self, BTreeSet};
 use std::rc::Rc;
@@ -110,6 +110,20 @@ impl EntityLUB {
     {
         let all = union_of(&self.lub_elements, &other.lub_elements)?;
         EntityLUB::of_members(alloc, all)
+    }
+
+    /// The types of both. This set ends in it, and is copied only where it is shared.
+    pub(crate) fn into_union(
+        self,
+        alloc: Global,
+        other: &EntityLUB,
+    ) -> Result<EntityLUB, AllocError>
+        ensures { IfOk result (λ s. lub_of s ≡ union (lub_of self) (lub_of other.now)) }
+    {
+        let mine = Rc::unwrap_or_clone(self.lub_elements)?;
+        let all = add_types(mine, &other.lub_elements)?;
+        let united = EntityLUB::of_members(alloc, all)?;
+        Ok(united)
     }
 
     /// Whether no type is in both.

@@ -17,7 +17,19 @@ pub(crate) fn union_of(
 ) -> Result<BTreeSet<EntityType>, AllocError>
     ensures { IfOk result (λ all. types_of all ≡ union (types_of xs.now) (types_of ys.now)) }
 {
-    let mut all = xs.clone()?;
+    let mine = xs.clone()?;
+    let all = add_types(mine, ys)?;
+    Ok(all)
+}
+
+/// The types of both sets, of which the first ends in it.
+pub(crate) fn add_types(
+    xs: BTreeSet<EntityType>,
+    ys: &BTreeSet<EntityType>,
+) -> Result<BTreeSet<EntityType>, AllocError>
+    ensures { IfOk result (λ all. types_of all ≡ union (types_of xs) (types_of ys.now)) }
+{
+    let mut all = xs;
     for y in ys.iter() {
         all.insert(y.clone()?)?;
     }

@@ -1,9 +1,10 @@
 // What rests on the bounds of types: bounds of lists, subtypes. Disjointness of types.
-ghost use Rattle.std.specs.Prelude.{◌≡◌, IfOk, option_map, map};
-ghost use Rattle.cedar_types.specs.Types.{ty_of, lub_of};
-ghost use Rattle.cedar_types.specs.Types.Bounds.{fold_lub, list_lub, is_subtype, are_disjoint};
+ghost use Rattle.std.specs.Prelude.{◌≡◌, IfOk, IfSome, option_map, map};
+ghost use Rattle.cedar_types.specs.Types.{ty_of, lub_of, TEntity};
+ghost use Rattle.cedar_types.specs.Types.Bounds.{lub, fold_lub, list_lub, is_subtype, are_disjoint};
 
-use crate::base::types::flat_bounds::is_same;
+use crate::base::types::entity_sets::EntityLUB;
+use crate::base::types::flat_bounds::{is_same, is_strict};
 use crate::base::types::{CedarType, EntityKind, ValidationMode};
 use std::alloc::{AllocError, Global};
 
@@ -80,10 +81,49 @@ fn fold_bound(
 {
     let mut bound = first.clone()?;
     for ty in rest {
-        let Some(next) = CedarType::least_upper_bound(alloc, &bound, ty, mode)? else {
+        let Some(next) = bound_with(alloc, bound, ty, mode)? else {
             return Ok(None);
         };
         bound = next;
     }
     Ok(Some(bound))
+}
+
+/// The bound of two types, of which the first ends in it: some entity types that are held nowhere else take the others in.
+fn bound_with(
+    alloc: Global,
+    bound: CedarType,
+    ty: &CedarType,
+    mode: ValidationMode,
+) -> Result<Option<CedarType>, AllocError>
+    ensures { IfOk result (λ o. option_map ty_of o ≡ lub mode (ty_of bound) (ty_of ty.now)) }
+{
+    if is_strict(mode) {
+        let next = CedarType::least_upper_bound(alloc, &bound, ty, mode)?;
+        return Ok(next);
+    }
+    let Some(others) = entity_types(ty) else {
+        let next = CedarType::least_upper_bound(alloc, &bound, ty, mode)?;
+        return Ok(next);
+    };
+    match bound.into_entity_types() {
+        Ok(types) => {
+            let all = types.into_union(alloc, others)?;
+            Ok(Some(CedarType::of_entity_types(all)))
+        }
+        Err(bound) => {
+            let next = CedarType::least_upper_bound(alloc, &bound, ty, mode)?;
+            Ok(next)
+        }
+    }
+}
+
+/// The entity types whose entities have this type, if it is such a type.
+fn entity_types(ty: &CedarType) -> Option<&EntityLUB>
+    ensures { IfSome result (λ s. ty_of ty.now ≡ TEntity (lub_of s.now)) }
+{
+    match ty {
+        CedarType::Entity(EntityKind::Entity(types)) => Some(types),
+        _ => None,
+    }
 }

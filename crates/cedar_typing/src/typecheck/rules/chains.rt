@@ -1,6 +1,6 @@
 // Extended `has`, `base has x.y.z`: one step after another.
 ghost use Rattle.std.specs.Prelude.{◌≡◌, ◌||◌, is_some, IfOk, option_map};
-ghost use Rattle.cedar_types.specs.Capability.{caps, cap_of};
+ghost use Rattle.cedar_types.specs.Capability.{caps_so_far, cap_of};
 ghost use Rattle.cedar_types.specs.ChainSteps.{step_attr, step_written};
 ghost use Rattle.cedar_types.specs.Types.Lookups.{attribute_type};
 ghost use Rattle.cedar_types.specs.Names.{text_of};
@@ -12,7 +12,7 @@ ghost use Rattle.cedar_typing.specs.Rules.Chains.{no_steps, step_type, step_earn
 ghost use Rattle.cedar_typing.specs.Views.{env_at, decision_of, progress_of, by_step, by_link, KnowsAfter};
 ghost use Rattle.cedar_typing.specs.Capabilities.Priors.{known_in};
 
-use crate::typecheck::capabilities::no_capabilities;
+use crate::typecheck::capabilities::{none_so_far, set_of};
 use crate::typecheck::operands::Expected;
 use crate::typecheck::prior::Prior;
 use crate::typecheck::rules::attributes::declared_type;
@@ -21,15 +21,15 @@ use crate::typecheck::rules::leaves::bool_type;
 use crate::typecheck::type_env::TypeEnv;
 use crate::typecheck::type_tests::{any_bool, is_false_type, is_object_type, is_true_type};
 use cedar_types::base::{AttrChain, BoolType, CedarType, Expr, Loc};
-use cedar_types::types::capability::{Capability, CapabilitySet, ChainStep};
+use cedar_types::types::capability::{Capability, CapabilitySetBuilder, ChainStep};
 use std::alloc::{AllocError, Global};
 use std::rc::RcStr;
 
 /// What the steps so far say.
 #[derive(Drop)]
 pub(crate) struct Progress<'a> {
-    /// That attributes are there.
-    earned: CapabilitySet<'a>,
+    /// That attributes are there. One set of them is made at the end: what is put into a set moves what stands above it.
+    earned: CapabilitySetBuilder<'a>,
     /// Whether each of them is True.
     all_true: bool,
 }
@@ -58,7 +58,7 @@ impl<'a> Progress<'a> {
         ensures { progress_of result ≡ no_steps }
     {
         Progress {
-            earned: no_capabilities(alloc),
+            earned: none_so_far(alloc),
             all_true: true,
         }
     }
@@ -85,20 +85,22 @@ impl<'a> Progress<'a> {
     }
 
     /// What a chain comes to at its end.
-    fn end(self) -> Decision<'a>
-        ensures { decision_of result ≡ end_of_chain (progress_of self.entry) }
+    fn end(self, alloc: Global) -> Result<Decision<'a>, AllocError>
+        ensures { IfOk result (λ d. decision_of d ≡ end_of_chain (progress_of self.entry)) }
     {
-        if self.all_true {
-            return Decision::Gives(CedarType::Bool(BoolType::True), self.earned);
+        let all_true = self.all_true;
+        let earned = set_of(alloc, self.earned)?;
+        if all_true {
+            return Ok(Decision::Gives(CedarType::Bool(BoolType::True), earned));
         }
-        Decision::Gives(any_bool(), self.earned)
+        Ok(Decision::Gives(any_bool(), earned))
     }
 }
 
 /// Whether it is known that the attribute is there: before, or by steps of this chain.
 fn knows<'a>(prior: &Prior<'_, 'a>, progress: &Progress<'a>, there: &Capability<'a>) -> bool
     ensures { result
-        ≡ union (known_in prior.now) (caps progress.now.earned) (cap_of there.now) }
+        ≡ union (known_in prior.now) (caps_so_far progress.now.earned) (cap_of there.now) }
 {
     prior.contains(there) | progress.earned.contains(there)
 }
@@ -159,12 +161,16 @@ impl TypeEnv<'_, '_, '_, '_> {
     ) -> Result<Decision<'a>, AllocError>
         ensures { IfOk result (λ d. decision_of d
             ≡ step (env_at self.now) place (attribute_of (step_written at.now) (step_attr at.now))
-            (union (known_in prior.now) (caps progress.entry.earned) (attribute_of (step_written at.now) (step_attr at.now)))
+            (union (known_in prior.now) (caps_so_far progress.entry.earned)
+            (attribute_of (step_written at.now) (step_attr at.now)))
             (ty_of ty.now) (step_attr at.now) (progress_of progress.entry) end_of_chain) }
     {
         match self.step(prior, place, at, ty, progress)? {
             Step::Ends(decision) => Ok(decision),
-            Step::GoesOn(progress, _is_known) => Ok(progress.end()),
+            Step::GoesOn(progress, _is_known) => {
+                let decision = progress.end(self.alloc)?;
+                Ok(decision)
+            }
         }
     }
 
@@ -227,7 +233,8 @@ impl TypeEnv<'_, '_, '_, '_> {
         ensures decides { IfOk result (λ r. (next : _) →
             by_step r next
             ≡ step (env_at self.now) place (attribute_of (step_written at.now) (step_attr at.now))
-            (union (known_in prior.now) (caps progress.entry.earned) (attribute_of (step_written at.now) (step_attr at.now)))
+            (union (known_in prior.now) (caps_so_far progress.entry.earned)
+            (attribute_of (step_written at.now) (step_attr at.now)))
             (ty_of ty.now) (step_attr at.now) (progress_of progress.entry) next) }
         ensures knows { IfOk result (λ r.
             KnowsAfter (known_in prior.now) (attribute_of (step_written at.now) (step_attr at.now)) r) }

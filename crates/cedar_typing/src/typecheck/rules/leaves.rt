@@ -1,19 +1,20 @@
 // Expressions without parts: literals, variables, slots and unknowns.
 ghost use Rattle.std.specs.Prelude.{◌≡◌, IfOk, None, Some, option_map};
-ghost use Rattle.cedar_types.specs.Names.{type_of, uid_of, path_of};
+ghost use Rattle.cedar_types.specs.Names.{uid_of, path_of};
 ghost use Rattle.cedar_types.specs.Types.{ty_of};
 ghost use Rattle.cedar_types.specs.Expressions.Tree.{entity, lit, var, slot as slot_tree};
 ghost use Rattle.cedar_types.specs.Expressions.View.{lit_of, lit_places};
 ghost use Rattle.cedar_typing.specs.Infer.Leaves.{infer_leaf, infer_unknown};
-ghost use Rattle.cedar_typing.specs.Rules.Leaves.{bool_ty, linked_ty, slot_ty, type_of_literal, variable_type};
+ghost use Rattle.cedar_typing.specs.Rules.Leaves.{bool_ty, slot_ty, type_of_literal, variable_type};
 ghost use Rattle.cedar_typing.specs.Views.{env_at, answer_of, findings, at};
 
 use crate::typecheck::answer::TypecheckAnswer;
 use crate::typecheck::type_env::TypeEnv;
 use crate::typecheck::typed_nodes::{node, without_capabilities};
+use crate::typecheck::variable_types::type_of_entities;
 use cedar_types::base::{
-    BoolType, CedarType, EntityKind, EntityType, EntityUID, ExprKind, Literal, Loc, Name, SlotId,
-    ValidationError, ValidationMode, Var,
+    BoolType, CedarType, EntityUID, ExprKind, Literal, Loc, Name, SlotId, ValidationError,
+    ValidationMode, Var,
 };
 use std::alloc::{AllocError, Global};
 use std::rc::RcStr;
@@ -82,7 +83,7 @@ impl TypeEnv<'_, '_, '_, '_> {
             SlotId::Principal => self.request_env.principal_slot(),
             SlotId::Resource => self.request_env.resource_slot(),
         };
-        let linked = linked_type(self.alloc, linked)?;
+        let linked = type_of_entities(self.alloc, self.schema, linked)?;
         let typed = node(self.alloc, loc, Some(linked), ExprKind::Slot(slot))?;
         Ok(without_capabilities(self.alloc, true, typed))
     }
@@ -119,22 +120,10 @@ impl TypeEnv<'_, '_, '_, '_> {
             return Ok(Some(known));
         }
         if self.mode == ValidationMode::Partial {
-            let named = uid.entity_type.clone()?;
-            return Ok(Some(CedarType::named_entity_reference(self.alloc, named)?));
+            let named = CedarType::entity_reference(self.alloc, &uid.entity_type, self.schema)?;
+            return Ok(Some(named));
         }
         Ok(None)
-    }
-}
-
-/// The type that a slot is linked to, or any entity.
-fn linked_type(alloc: Global, linked: Option<&EntityType>) -> Result<CedarType, AllocError>
-    ensures { IfOk result (λ t.
-        ty_of t
-        ≡ linked_ty (option_map (λ p. type_of p.now) linked.entry)) }
-{
-    match linked {
-        Some(entity_type) => CedarType::named_entity_reference(alloc, entity_type.clone()?),
-        None => Ok(CedarType::Entity(EntityKind::AnyEntity)),
     }
 }
 

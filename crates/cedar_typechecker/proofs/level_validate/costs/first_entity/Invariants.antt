@@ -2,7 +2,7 @@ use Rattle.std.proofs.Common.{◌≡◌, map, drop}
 use Rattle.cedar_types.specs.Names.{text_of}
 use Rattle.cedar_types.specs.Schemas.Contents.{schema_of}
 use Rattle.cedar_types.specs.Types.{ty_of}
-use Rattle.cedar_typechecker.specs.Levels.InOrder.{entity_after}
+use Rattle.cedar_typechecker.specs.Levels.Demands.{entity_after}
 use Rattle.cedar_typechecker.proofs.level_validate.costs.first_entity.Given as goal
 
 -- what is found of the attributes that are left, after those before

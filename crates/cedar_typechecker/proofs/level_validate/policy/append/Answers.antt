@@ -1,4 +1,4 @@
-use Rattle.cedar_typechecker.proofs.Levels.Tallies.{apart}
+use Rattle.cedar_typechecker.proofs.Levels.Outcomes.{apart}
 use Rattle.cedar_typechecker.proofs.level_validate.policy.append.Goals as goal
 
 pub returns-clause-once : goal.returns-clause-once

@@ -1,6 +1,6 @@
 use Rattle.std.proofs.Common.{◌≡◌}
 use Rattle.cedar_types.specs.Names.{text_of}
-use Rattle.cedar_typechecker.specs.Levels.InOrder.{has_key}
+use Rattle.cedar_typechecker.specs.Levels.Demands.{has_key}
 use Rattle.cedar_typechecker.specs.Levels.Views.{typed_fields}
 use Rattle.cedar_typechecker.proofs.level_validate.targets.has_key.Given as goal
 

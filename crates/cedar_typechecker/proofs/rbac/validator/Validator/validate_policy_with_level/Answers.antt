@@ -1,4 +1,4 @@
-use Rattle.std.proofs.Common.{◌++◌, ◌∷◌, [], List, map, cond, sym, ap, subst, ◌∙◌}
+use Rattle.std.proofs.Common.{◌≤◌, ◌++◌, ◌∷◌, [], List, map, cond, sym, ap, subst, ◌∙◌, arith}
 use Rattle.std.specs.Prelude.{IsPermutation}
 use Rattle.cedar_types.specs.Errors.{Finding, finding_of, caution_of}
 use Rattle.cedar_types.specs.Extensions.{functions_of}
@@ -8,10 +8,10 @@ use Rattle.cedar_types.proofs.Expressions.SortedTables.{no_fault}
 use Rattle.cedar_typing.specs.PolicyCheck.Outcome.{impossible}
 use Rattle.cedar_typechecker.specs.Levels.Answers.{level_errors_left, level_warnings_left}
 use Rattle.cedar_typechecker.specs.Levels.Outcome.{name_findings, application_warnings}
-use Rattle.cedar_typechecker.specs.Levels.Tallies.{basis_in}
 use Rattle.cedar_typechecker.specs.Levels.Views.{findings}
-use Rattle.cedar_typechecker.specs.ValidatorViews.{schema_in, extensions_in}
-use Rattle.cedar_typechecker.proofs.Levels.Outcomes.{all_given}
+use Rattle.cedar_typechecker.specs.Surveys.{errors_of}
+use Rattle.cedar_typechecker.specs.ValidatorViews.{schema_in, extensions_in, basis_in}
+use Rattle.cedar_typechecker.proofs.Levels.Outcomes.{all_given, both_ways}
 use Rattle.cedar_typechecker.proofs.Slices.Validation.{outcomes_are_kept, outcomes_are_kept_in_permissive}
 use Rattle.cedar_typechecker.proofs.rbac.validator.Validator.validate_policy_with_level.Goals as goal
 
@@ -20,33 +20,33 @@ unfolding level_errors_left level_warnings_left
 returns-clause-exact g c =
     let s = schema_of (schema_in c.args.self.now) in
     let t = template_of c.args.p.now in
-    let k = c.in_ok-tally.ensures in
-    let found = findings c.in_ok-errors.errors.items in
-    let more = findings c.append.new.found.items in
-    let all = findings c.append-2.new.found.items in
-    let of_types = findings c.in_ok-tally.tally.type_errors.keys in
-    let of_levels = findings c.in_ok-tally.tally.level_errors.keys in
+    let k = c.in_ok-survey.ensures.exact in
+    let a = c.in_ok-append_found.ensures in
+    let of_types = errors_of c.in_ok-survey.survey in
     let names = name_findings c.args.mode s t in
+    let before = findings c.in_ok-errors.errors.items in
+    let after = findings c.append_found.new.found.items in
+    let small : c.args.max_deref_level ≤ 4294967295 =
+    omega (arith, c.ranges.max_deref_level.fits) in
     let Given : List Finding → Type 0 = λ es.
-    IsPermutation es (names ++ (of_types ++ of_levels)) in
+    IsPermutation es (names ++ (of_types ++ a.level_errors)) in
     record {
       listed = k.listed;
       verdicts = k.verdicts;
       in_some_order = k.in_some_order;
       checked = k.checked;
       type_errors = of_types;
-      level_errors = of_levels;
+      level_errors = a.level_errors;
       given = subst Given (ap (map finding_of) (sym c.into_iter.ensures.rest))
-          (all_given found more all of_types of_levels names c.in_ok-append.ensures.all
-          c.in_ok-append-2.ensures.all c.in_ok-errors.ensures);
-      types = k.tallied.errors;
-      types_once = c.in_ok-append.ensures.once;
-      levels = k.tallied.levels;
-      levels_once = c.in_ok-append-2.ensures.once;
+          (all_given before after names (of_types ++ a.level_errors) a.added c.in_ok-errors.ensures);
+      types = k.errors;
+      types_once = a.types_once;
+      levels = λ e. both_ways (a.levels e) (k.levels c.args.max_deref_level small e);
+      levels_once = a.levels_once;
       warned = ap (map caution_of) c.into_iter-2.ensures.rest
           ∙ (c.in_ok-warnings.ensures
           ∙ ap (λ i. application_warnings c.args.mode s t ++ cond i (impossible t ∷ []) [])
-          k.tallied.irrelevant);
+          (c.is_impossible.ensures ∙ k.impossible));
     }
 
 pub returns-clause-silent : goal.returns-clause-silent

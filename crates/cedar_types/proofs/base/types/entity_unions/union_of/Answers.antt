@@ -1,23 +1,12 @@
-use Rattle.std.proofs.Common.{ap, ◌∙◌, sym, map}
+use Rattle.std.proofs.Common.{ap, ◌∙◌}
 use Rattle.cedar_types.specs.Names.{type_of}
 use Rattle.cedar_types.specs.Types.{types_of}
-use Rattle.cedar_types.specs.Types.Bounds.{union, insert_path}
-use Rattle.cedar_types.proofs.Names.Paths.{clones_alike, inserted, names_cmp}
+use Rattle.cedar_types.specs.Types.Bounds.{union}
+use Rattle.cedar_types.proofs.Names.Paths.{clones_alike}
 use Rattle.cedar_types.proofs.base.types.entity_unions.union_of.Goals as goal
 
-pub loop-y-init : goal.loop-y-init
-loop-y-init c =
-    ap (λ ks. union ks (map type_of c.into_iter-y-iterator.result))
-    (clones_alike type_of c.args.xs.now.keys c.in_ok-all.all.keys (λ x y e. ap (λ p. p.name) e)
-    c.in_ok-all.ensures.cases)
-    ∙ ap (λ ks. union (types_of c.args.xs.now) (map type_of ks))
-    (c.into_iter-y-iterator.ensures.into_iter_gives ∙ c.iter-y-items.ensures.rest)
-
-pub loop-y-preserved : goal.loop-y-preserved
-loop-y-preserved c =
-    let rest = map type_of c.next.new.self in
-    ap (λ ks. union (map type_of ks) rest) c.in_ok-insert.ensures.keys
-    ∙ ap (λ ks. union ks rest) (inserted _ (λ a b. names_cmp a.name b.name) c.loop-y.all.keys c.in_ok-clone.field-0)
-    ∙ ap (λ p. union (insert_path p (types_of c.loop-y.all)) rest) (ap (λ p. p.name) c.in_ok-clone.ensures.cases)
-    ∙ ap (λ ks. union (types_of c.loop-y.all) (map type_of ks)) (sym c.in-Some.ensures.steps)
-    ∙ c.loop-y.invariant
+pub returns : goal.returns
+returns c =
+    c.in_ok-all.ensures
+    ∙ ap (λ ks. union ks (types_of c.args.ys.now))
+    (clones_alike type_of c.args.xs.now.keys c.in_ok-mine.mine.keys (λ x y e. ap (λ p. p.name) e) c.in_ok-mine.ensures.cases)

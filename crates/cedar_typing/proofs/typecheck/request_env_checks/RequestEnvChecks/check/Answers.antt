@@ -1,13 +1,13 @@
 use Rattle.std.proofs.Common.{sym, subst}
 use Rattle.cedar_typing.specs.Views.Checks.{setting_for}
-use Rattle.cedar_typing.specs.Views.EnvironmentChecks.{condition_in}
+use Rattle.cedar_typing.specs.Views.EnvironmentChecks.{checker_of, template_in, condition_in}
 use Rattle.cedar_typing.specs.PolicyCheck.{Verdict, PolicyChecks}
 use Rattle.cedar_typing.specs.Setting.{Setting}
 use Rattle.cedar_typing.proofs.Policies.Check.{checked}
 use Rattle.cedar_typing.proofs.typecheck.request_env_checks.RequestEnvChecks.check.Goals as goal
 
 pub returns : goal.returns
-unfolding condition_in
+unfolding checker_of template_in condition_in
 returns g c =
     let s = c.args.self.now in
     let x : Setting = setting_for g.C.ArgumentCheck.refusal s.checker.now s.template.now c.args.env.now in

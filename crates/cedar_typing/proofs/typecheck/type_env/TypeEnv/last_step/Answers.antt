@@ -6,5 +6,8 @@ use Rattle.cedar_typing.proofs.typecheck.type_env.TypeEnv.last_step.Goals as goa
 pub returns-in-Ends : goal.returns-in-Ends
 returns-in-Ends c = ap (λ r. by_step r end_of_chain) (sym c.in-Ends.is) ∙ c.in_ok-decision.ensures.decides end_of_chain
 
-pub returns-in-GoesOn : goal.returns-in-GoesOn
-returns-in-GoesOn c = c.end.ensures ∙ ap (λ r. by_step r end_of_chain) (sym c.in-GoesOn.is) ∙ c.in_ok-decision.ensures.decides end_of_chain
+pub returns-in_ok-decision-in-GoesOn : goal.returns-in_ok-decision-in-GoesOn
+returns-in_ok-decision-in-GoesOn c =
+    c.in_ok-decision-in-GoesOn.ensures
+    ∙ ap (λ r. by_step r end_of_chain) (sym c.in-GoesOn.is)
+    ∙ c.in_ok-decision.ensures.decides end_of_chain

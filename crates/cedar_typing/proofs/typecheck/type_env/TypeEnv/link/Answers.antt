@@ -1,15 +1,13 @@
 use Rattle.std.proofs.Common.{sym, ap, subst, ◌≡◌, ◌∙◌}
-use Rattle.cedar_types.specs.Capability.{caps}
 use Rattle.cedar_types.specs.ChainSteps.{step_attr, step_written}
 use Rattle.cedar_types.specs.Types.Lookups.{attribute_type}
-use Rattle.cedar_types.specs.Names.{Text, text_of}
 use Rattle.cedar_types.specs.Types.{ty_of}
 use Rattle.cedar_typing.specs.Capabilities.Priors.{known_in}
 use Rattle.cedar_typing.specs.Capabilities.{union}
 use Rattle.cedar_typing.specs.Eager.{Decision}
 use Rattle.cedar_typing.specs.Rules.Attributes.{attribute_of, get_decides}
 use Rattle.cedar_typing.specs.Rules.Chains.{Progress, after_access}
-use Rattle.cedar_typing.specs.Views.{KnowsAfter, by_link, by_step, env_at, progress_of}
+use Rattle.cedar_typing.specs.Views.{KnowsAfter, by_step, env_at, progress_of}
 use Rattle.cedar_typing.proofs.typecheck.type_env.TypeEnv.link.Goals as goal
 
 pub returns-in-Ends : goal.returns-in-Ends

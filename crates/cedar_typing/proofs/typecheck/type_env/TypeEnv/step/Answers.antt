@@ -1,6 +1,6 @@
 use Rattle.std.proofs.Common.{◌≡◌, ap, subst, sym, ◌∙◌}
 use Rattle.std.specs.Prelude.{is_some}
-use Rattle.cedar_types.specs.Capability.{attribute, cap_of, caps}
+use Rattle.cedar_types.specs.Capability.{attribute, cap_of, caps_so_far}
 use Rattle.cedar_types.specs.ChainSteps.{step_attr, step_written}
 use Rattle.cedar_types.proofs.ChainSteps.{step_form}
 use Rattle.cedar_types.specs.Types.Lookups.{attribute_type}
@@ -54,7 +54,7 @@ returns-clause-knows c =
     let same : q ≡ attribute_of e (step_attr c.args.at.now) =
     c.in_ok-there.ensures ∙ (λ i. attribute (sym (step_form c.args.at.now) i) (step_attr c.args.at.now)) in
     let declared = some_declared env l s x a ∙ (λ i. is_some (sym c.in_ok-required.ensures i)) ∙ sym c.is_some-is_declared.ensures in
-    known_after prior p.earned (caps c.in_ok-progress.progress.earned) (step_earns u q a) (attribute_of e (step_attr c.args.at.now)) q _ _
+    known_after prior p.earned (caps_so_far c.in_ok-progress.progress.earned) (step_earns u q a) (attribute_of e (step_attr c.args.at.now)) q _ _
     same
     c.knows-is_known.ensures
     (c.knows_after-is_known.ensures a declared q)

@@ -1,5 +1,5 @@
 use Rattle.std.proofs.Common.{◌&&◌, ◌∙◌, not, sym}
-use Rattle.cedar_types.specs.Capability.{cap_of, caps}
+use Rattle.cedar_types.specs.Capability.{cap_of, caps_so_far}
 use Rattle.cedar_types.specs.Types.{ty_of}
 use Rattle.cedar_typing.specs.Rules.Chains.{step_earns}
 use Rattle.cedar_typing.specs.Views.{progress_of}
@@ -11,7 +11,7 @@ returns-then-is_declared-is_true c a h =
     let u = ty_of c.args.ty.now in
     let q = cap_of c.args.there in
     let old = progress_of c.args.self in
-    let new = caps c.insert.new.self in
+    let new = caps_so_far c.insert.new.self in
     let b = c.is_true_type-is_true.result in
     let both = c.if-is_declared-is_true.true in
     with_step_is old new b u (step_earns u q a)

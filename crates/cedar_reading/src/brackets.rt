@@ -1,0 +1,132 @@
+// Parts of expressions with commas between them: the elements of a set, the arguments of a call, the entries of a record.
+use crate::cursor::Cursor;
+use crate::faults::{Fault, ReadError};
+use crate::members::{call, key, method_call};
+use crate::parts::{Part, part_since};
+use cedar_types::base::{Expr, Name};
+use std::collections::BTreeMap;
+use std::rc::RcStr;
+
+/// What expressions with commas between them are of.
+#[derive(Drop)]
+pub enum ListOf {
+    Set,
+    /// The arguments of the function of this name.
+    Function(Name),
+    /// The arguments of a method: what it is called on, its name, and the byte at which this begins.
+    Method(Part, RcStr, usize),
+}
+
+/// Expressions with commas between them, of which more may follow.
+#[derive(Drop)]
+pub struct List {
+    /// The byte at which the whole began.
+    start: usize,
+    of: ListOf,
+    members: Vec<Expr>,
+    /// How deep the deepest of them is.
+    depth: usize,
+}
+
+impl List {
+    /// Without members so far.
+    pub fn new(cursor: &Cursor<'_>, start: usize, of: ListOf) -> List {
+        let depth = match &of {
+            ListOf::Method(base, _, _) => base.depth,
+            _ => 0,
+        };
+        let members = Vec::new(cursor.alloc);
+        List {
+            start,
+            of,
+            members,
+            depth,
+        }
+    }
+
+    /// The mark behind the last member.
+    pub fn closing(&self) -> &'static str {
+        match self.of {
+            ListOf::Set => "]",
+            _ => ")",
+        }
+    }
+
+    /// With one member more.
+    pub fn with(mut self, member: Part) -> Result<List, ReadError> {
+        self.depth = self.depth.max(member.depth);
+        self.members.push(member.expr)?;
+        Ok(self)
+    }
+
+    /// The set or the call of all members, whose closing mark was read.
+    pub fn finish(self, cursor: &Cursor<'_>) -> Result<Part, ReadError> {
+        let List {
+            start,
+            of,
+            members,
+            depth,
+        } = self;
+        let whole = match of {
+            ListOf::Set => Expr::set(members),
+            ListOf::Function(name) => call(cursor.alloc, start, name, members)?,
+            ListOf::Method(base, name, at) => {
+                method_call(cursor.alloc, at, name.as_str(), base.expr, members)?
+            }
+        };
+        part_since(cursor, start, depth, whole)
+    }
+}
+
+/// The entries of a record, of which more may follow.
+#[derive(Drop)]
+pub struct Fields {
+    /// The byte at which the record began.
+    start: usize,
+    entries: BTreeMap<RcStr, Expr>,
+    /// How deep the deepest value is.
+    depth: usize,
+}
+
+/// A key whose value follows, and the byte at which it stands.
+#[derive(Drop)]
+pub struct Key {
+    name: RcStr,
+    start: usize,
+}
+
+impl Key {
+    /// Reads a key and the `:` behind it.
+    pub fn read(cursor: &mut Cursor<'_>) -> Result<Key, ReadError> {
+        let start = cursor.start();
+        let name = key(cursor)?;
+        cursor.expect(":")?;
+        Ok(Key { name, start })
+    }
+}
+
+impl Fields {
+    /// Without entries so far.
+    pub fn new(cursor: &Cursor<'_>, start: usize) -> Fields {
+        let entries = BTreeMap::new(cursor.alloc);
+        Fields {
+            start,
+            entries,
+            depth: 0,
+        }
+    }
+
+    /// With one entry more. It fails where the key is there.
+    pub fn with(mut self, key: Key, value: Part) -> Result<Fields, ReadError> {
+        self.depth = self.depth.max(value.depth);
+        if self.entries.insert(key.name, value.expr)?.is_some() {
+            return Err(ReadError::At(key.start, Fault::SameKey));
+        }
+        Ok(self)
+    }
+
+    /// The record of all entries, whose brace was read.
+    pub fn finish(self, cursor: &Cursor<'_>) -> Result<Part, ReadError> {
+        part_since(cursor, self.start, self.depth, Expr::record(self.entries))
+    }
+}

@@ -1,0 +1,208 @@
+// What is begun of an expression, and how each of these goes on behind the expression that it waits for.
+use crate::brackets::{Fields, Key, List};
+use crate::cursor::Cursor;
+use crate::faults::ReadError;
+use crate::operators::{Connective, Level, is_in, joined, nodes_within};
+use crate::parts::{Part, in_parentheses, part_since};
+use cedar_types::base::{EntityType, Expr};
+
+/// An operator before its operand.
+#[derive(Clone, Copy)]
+pub enum Prefix {
+    Not,
+    Minus,
+}
+
+/// What waits for an expression.
+#[derive(Drop)]
+pub enum Open {
+    /// An operator before its operand, which begins at this byte.
+    Prefix(Prefix, usize),
+    /// An operator behind its left operand.
+    Between(Level, Connective, Part),
+    /// `is` and `in` behind their left operand.
+    Within(EntityType, Part),
+    /// An `if` at this byte: it waits for the test, then for what is chosen, then for the other.
+    Test(usize),
+    Chosen(usize, Part),
+    Other(usize, Part, Part),
+    /// A parenthesis at this byte.
+    Parenthesis(usize),
+    List(List),
+    Record(Fields, Key),
+}
+
+/// What is to be read next.
+#[derive(Drop)]
+pub enum Next {
+    /// The beginning of an operand.
+    Operand,
+    /// What goes on with this part, or ends it: no operator that binds stronger than this.
+    Behind(Part, Level),
+    /// Nothing, as this is the whole.
+    End(Part),
+}
+
+/// Begins something inside of what is begun.
+pub fn begin(open: &mut Vec<Open>, what: Open) -> Result<Next, ReadError> {
+    open.push(what)?;
+    Ok(Next::Operand)
+}
+
+/// How strongly the innermost of what is begun binds what is read.
+pub fn innermost_level(open: &[Open]) -> Level {
+    match open.last() {
+        Some(Open::Prefix(_, _)) => Level::Prefix,
+        Some(Open::Between(level, _, _)) => *level,
+        Some(Open::Within(_, _)) => Level::Relation,
+        _ => Level::Whole,
+    }
+}
+
+/// Goes on with the innermost of what is begun, behind the expression that it waits for.
+pub fn close(cursor: &mut Cursor<'_>, open: &mut Vec<Open>, part: Part) -> Result<Next, ReadError> {
+    match open.pop() {
+        None => Ok(Next::End(part)),
+        Some(Open::Prefix(prefix, start)) => prefixed(cursor, prefix, start, part),
+        Some(Open::Between(level, connective, left)) => {
+            between(cursor, level, connective, left, part)
+        }
+        Some(Open::Within(entity_type, left)) => within(cursor, entity_type, left, part),
+        Some(Open::Test(start)) => {
+            cursor.expect("then")?;
+            begin(open, Open::Chosen(start, part))
+        }
+        Some(Open::Chosen(start, test)) => {
+            cursor.expect("else")?;
+            begin(open, Open::Other(start, test, part))
+        }
+        Some(Open::Other(start, test, chosen)) => conditional(cursor, start, test, chosen, part),
+        Some(Open::Parenthesis(start)) => {
+            cursor.expect(")")?;
+            Ok(Next::Behind(in_parentheses(cursor, start, part), Level::Member))
+        }
+        Some(Open::List(list)) => behind_member(cursor, open, list, part),
+        Some(Open::Record(fields, key)) => behind_value(cursor, open, fields, key, part),
+    }
+}
+
+fn prefixed(
+    cursor: &Cursor<'_>,
+    prefix: Prefix,
+    start: usize,
+    operand: Part,
+) -> Result<Next, ReadError> {
+    let whole = match prefix {
+        Prefix::Not => Expr::not(cursor.alloc, operand.expr)?,
+        Prefix::Minus => Expr::neg(cursor.alloc, operand.expr)?,
+    };
+    let whole = part_since(cursor, start, operand.depth, whole)?;
+    Ok(Next::Behind(whole, Level::Product))
+}
+
+/// Both operands. An operator that binds as strongly may follow, but no relation behind a relation.
+fn between(
+    cursor: &Cursor<'_>,
+    level: Level,
+    connective: Connective,
+    left: Part,
+    right: Part,
+) -> Result<Next, ReadError> {
+    let start = left.covers.start;
+    let depth = left
+        .depth
+        .max(right.depth)
+        .saturating_add(nodes_within(connective));
+    let place = cursor.since(start);
+    let whole = joined(cursor.alloc, place, connective, left.expr, right.expr)?;
+    let whole = part_since(cursor, start, depth, whole)?;
+    let follows = if level == Level::Relation {
+        Level::And
+    } else {
+        level
+    };
+    Ok(Next::Behind(whole, follows))
+}
+
+fn within(
+    cursor: &Cursor<'_>,
+    entity_type: EntityType,
+    left: Part,
+    right: Part,
+) -> Result<Next, ReadError> {
+    let start = left.covers.start;
+    let depth = left.depth.max(right.depth).saturating_add(1);
+    let place = cursor.since(start);
+    let whole = is_in(cursor.alloc, place, left.expr, entity_type, right.expr)?;
+    let whole = part_since(cursor, start, depth, whole)?;
+    Ok(Next::Behind(whole, Level::And))
+}
+
+fn conditional(
+    cursor: &Cursor<'_>,
+    start: usize,
+    test: Part,
+    chosen: Part,
+    other: Part,
+) -> Result<Next, ReadError> {
+    let depth = test.depth.max(chosen.depth).max(other.depth);
+    let whole = Expr::ite(cursor.alloc, test.expr, chosen.expr, other.expr)?;
+    let whole = part_since(cursor, start, depth, whole)?;
+    Ok(Next::Behind(whole, Level::Whole))
+}
+
+/// Reads what stands behind a member of a list: a comma, the mark that closes the list, or both.
+fn behind_member(
+    cursor: &mut Cursor<'_>,
+    open: &mut Vec<Open>,
+    list: List,
+    member: Part,
+) -> Result<Next, ReadError> {
+    let list = list.with(member)?;
+    if cursor.takes(",") {
+        return next_member(cursor, open, list);
+    }
+    cursor.expect(list.closing())?;
+    Ok(Next::Behind(list.finish(cursor)?, Level::Member))
+}
+
+/// Reads the mark that closes a list, if it comes next; else another member is to follow.
+pub fn next_member(
+    cursor: &mut Cursor<'_>,
+    open: &mut Vec<Open>,
+    list: List,
+) -> Result<Next, ReadError> {
+    if !cursor.takes(list.closing()) {
+        return begin(open, Open::List(list));
+    }
+    Ok(Next::Behind(list.finish(cursor)?, Level::Member))
+}
+
+/// Reads what stands behind a value of a record: a comma, the brace that closes the record, or both.
+fn behind_value(
+    cursor: &mut Cursor<'_>,
+    open: &mut Vec<Open>,
+    fields: Fields,
+    key: Key,
+    value: Part,
+) -> Result<Next, ReadError> {
+    let fields = fields.with(key, value)?;
+    if cursor.takes(",") {
+        return next_value(cursor, open, fields);
+    }
+    cursor.expect("}")?;
+    Ok(Next::Behind(fields.finish(cursor)?, Level::Member))
+}
+
+/// Reads the brace that closes a record, if it comes next; else a key, whose value is to follow.
+pub fn next_value(
+    cursor: &mut Cursor<'_>,
+    open: &mut Vec<Open>,
+    fields: Fields,
+) -> Result<Next, ReadError> {
+    if cursor.takes("}") {
+        return Ok(Next::Behind(fields.finish(cursor)?, Level::Member));
+    }
+    let key = Key::read(cursor)?;
+    begin(open, Open::Record(fields, key))
+}

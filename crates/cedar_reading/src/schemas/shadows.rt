@@ -1,0 +1,84 @@
+// Names of namespaces that hide names outside of namespaces.
+use crate::faults::ReadError;
+use crate::schemas::declarations::{Declarations, Placed};
+use crate::schemas::declarations_of;
+use crate::schemas::meanings::Notation;
+use crate::schemas::refusals::RefusedName;
+use cedar_types::base::Name;
+use std::alloc::{AllocError, Global};
+use std::collections::BTreeSet;
+
+/// The first name in a text that a namespace declares and that hides one declared outside of namespaces: an entity type or
+/// an alias with the last part of another, or an action with the id of another. Cedar refuses a schema with such a name.
+/// `None` where there is none, and where the text cannot be read.
+pub fn shadowing_name(alloc: Global, text: &str) -> Result<Option<RefusedName>, AllocError> {
+    let read = match declarations_of(alloc, text, Notation::Schema) {
+        Ok(read) => read,
+        Err(ReadError::Memory(error)) => return Err(error),
+        Err(ReadError::At(_, _)) => return Ok(None),
+    };
+    if let Some(name) = shadowing_type(alloc, &read)? {
+        return Ok(Some(name));
+    }
+    shadowing_action(alloc, &read)
+}
+
+/// The first entity type or alias of a namespace whose last part is the name of one outside.
+fn shadowing_type(alloc: Global, read: &Declarations) -> Result<Option<RefusedName>, AllocError> {
+    let mut outside = BTreeSet::new(alloc);
+    let mut inside = Vec::new(alloc);
+    for own in read.entity_types.iter().flat_map(|d| d.names.iter()) {
+        sort_out(&own.name.name, own.start, &mut outside, &mut inside)?;
+    }
+    for alias in read.aliases.values() {
+        sort_out(&alias.name, alias.own_start, &mut outside, &mut inside)?;
+    }
+    inside.sort()?;
+    for (start, name) in &inside {
+        if outside.contains(&name.basename.as_str()) {
+            let name = name.to_string(alloc)?;
+            return Ok(Some(RefusedName {
+                name,
+                start: *start,
+            }));
+        }
+    }
+    Ok(None)
+}
+
+/// Adds the last part of a name to those outside of namespaces, or the name to those inside.
+fn sort_out<'a>(
+    name: &'a Name,
+    start: usize,
+    outside: &mut BTreeSet<&'a str>,
+    inside: &mut Vec<(usize, &'a Name)>,
+) -> Result<(), AllocError> {
+    if name.path.is_empty() {
+        outside.insert(name.basename.as_str())?;
+    } else {
+        inside.push((start, name))?;
+    }
+    Ok(())
+}
+
+/// The first action of a namespace whose id is that of one outside.
+fn shadowing_action(alloc: Global, read: &Declarations) -> Result<Option<RefusedName>, AllocError> {
+    let mut outside = BTreeSet::new(alloc);
+    for own in read.actions.iter().flat_map(|d| d.names.iter()) {
+        if own.name.entity_type.name.path.is_empty() {
+            outside.insert(own.name.eid.as_str())?;
+        }
+    }
+    for own in read.actions.iter().flat_map(|d| d.names.iter()) {
+        let is_inside = !own.name.entity_type.name.path.is_empty();
+        if is_inside && outside.contains(&own.name.eid.as_str()) {
+            let Placed { name, start } = own;
+            let name = name.to_string(alloc)?;
+            return Ok(Some(RefusedName {
+                name,
+                start: *start,
+            }));
+        }
+    }
+    Ok(None)
+}

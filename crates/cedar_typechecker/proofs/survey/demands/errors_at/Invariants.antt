@@ -1,0 +1,12 @@
+use Rattle.std.proofs.Common.{◌≡◌, ◌++◌}
+use Rattle.cedar_types.specs.Names.{text_of}
+use Rattle.cedar_typechecker.specs.Levels.Demands.{told}
+use Rattle.cedar_typechecker.specs.Levels.Views.{demands_of, findings}
+use Rattle.cedar_typechecker.proofs.survey.demands.errors_at.Given as goal
+
+-- what was found, and what is told of the demands that are left, is told of all
+abbrev pub invariant-loop-demand : goal.invariant-loop-demand
+invariant-loop-demand l =
+    findings l.found.items
+    ++ told (text_of l.policy_id.text) l.maximum (demands_of l.demand-iterator)
+    ≡ told (text_of l.policy_id.text) l.maximum (demands_of l.fn.demands.keys)

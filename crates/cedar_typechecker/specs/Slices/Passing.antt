@@ -1,0 +1,89 @@
+-- What a policy that passes is promised where validation with levels finds some error, but none that
+-- the promise is about; and where it requires so many levels.
+use Rattle.std.specs.Prelude.{◌≡◌, ℕ, Bool, true, false, List, Some, None}
+use Rattle.cedar_types.specs.declared.base.types.ValidationMode.{ValidationMode}
+use Rattle.cedar_types.specs.declared.base.types.ValidationMode.TheVariants.{Strict, Permissive}
+use Rattle.cedar_types.specs.Errors.{Fault, Finding, Caution, unrecognized_entity_type, unrecognized_action_id, internal_invariant_violation}
+use Rattle.cedar_types.specs.Errors.{maximum_level_exceeded, literal_dereference_target}
+use Rattle.cedar_types.specs.Extensions.Functions.{table_fault}
+use Rattle.cedar_types.specs.Schemas.Formed.{has_formed_types}
+use Rattle.cedar_types.specs.Schemas.{has_fault}
+use Rattle.cedar_types.specs.Templates.{PlainTemplate}
+use Rattle.cedar_typing.specs.Evaluation.Conformance.{IsOneOf}
+use Rattle.cedar_typing.specs.Evaluation.World.{World}
+use Rattle.cedar_typing.specs.Soundness.Policies.{Basis, IsClosedIn, IsNamedBySchema, IsWellFormed, IsConforming, CheckedOn}
+use Rattle.cedar_typechecker.specs.Levels.Outcome.{LevelOutcome}
+use Rattle.cedar_typechecker.specs.Levels.Required.{IsRequiredLevel}
+use Rattle.cedar_typechecker.specs.Slices.Validation.{IsKeptInSlices}
+
+-- ---- by the errors of the call
+
+-- an unknown type, an unknown action, or what is wrong by the rules of levels. So an id that its
+-- enumerated type does not list is none of these
+abbrev pub is_of_names_or_levels : Fault → Bool
+is_of_names_or_levels (unrecognized_entity_type p) = true
+is_of_names_or_levels (unrecognized_action_id u) = true
+is_of_names_or_levels internal_invariant_violation = true
+is_of_names_or_levels (maximum_level_exceeded n k) = true
+is_of_names_or_levels literal_dereference_target = true
+is_of_names_or_levels f = false
+
+abbrev pub NoneOfNamesOrLevels : List Finding → Type 0
+NoneOfNamesOrLevels errors =
+    (e : Finding) → IsOneOf e errors → is_of_names_or_levels e.fault ≡ false
+
+-- in each world that conforms, of a policy without unknowns, whose slots stand in its scope alone and
+-- are bound, where no error is one of these: both halves of the promise
+abbrev pub PassingIsKeptIn : ValidationMode → Basis → PlainTemplate → ℕ → List Finding → Type 0
+PassingIsKeptIn m b t n errors =
+    NoneOfNamesOrLevels errors → IsClosedIn m b
+    → (world : World) → IsWellFormed t world.slots → IsConforming b world
+    → IsKeptInSlices t n world
+
+-- it follows from what validation at n comes to, where the check of the policy passes, by a schema
+-- and a table without faults
+abbrev pub PassingIsKept : Type 0
+PassingIsKept =
+    (b : Basis) (t : PlainTemplate)
+    → has_fault b.schema ≡ false → table_fault b.table.functions ≡ None
+    → (errors errors' : List Finding) (old new : List Caution)
+    → CheckedOn b t true errors errors' old new
+    → (n : ℕ) (found : List Finding) (warnings : List Caution)
+    → LevelOutcome b t n found warnings → PassingIsKeptIn Strict b t n found
+
+-- in Permissive, where names also ascend in the types of the schema
+abbrev pub PassingIsKeptInPermissive : Type 0
+PassingIsKeptInPermissive =
+    (b : Basis) (t : PlainTemplate)
+    → has_fault b.schema ≡ false → has_formed_types b.schema ≡ true
+    → table_fault b.table.functions ≡ None
+    → (errors errors' : List Finding) (old new : List Caution)
+    → CheckedOn b t true errors errors' old new
+    → (n : ℕ) (found : List Finding) (warnings : List Caution)
+    → LevelOutcome b t n found warnings → PassingIsKeptIn Permissive b t n found
+
+-- ---- by the required level
+
+-- in each world that conforms, of a policy without unknown names, where it requires n levels: both
+-- halves of the promise, for the slice of n steps
+abbrev pub RequiredLevelSufficesIn : ValidationMode → Basis → PlainTemplate → Type 0
+RequiredLevelSufficesIn m b t =
+    (n : ℕ) → IsRequiredLevel b t (Some n) → IsClosedIn m b → IsNamedBySchema b.schema t
+    → (world : World) → IsWellFormed t world.slots → IsConforming b world
+    → IsKeptInSlices t n world
+
+-- it follows where the check of the policy passes
+abbrev pub RequiredLevelSuffices : Type 0
+RequiredLevelSuffices =
+    (b : Basis) (t : PlainTemplate)
+    → has_fault b.schema ≡ false → table_fault b.table.functions ≡ None
+    → (errors errors' : List Finding) (old new : List Caution)
+    → CheckedOn b t true errors errors' old new → RequiredLevelSufficesIn Strict b t
+
+abbrev pub RequiredLevelSufficesInPermissive : Type 0
+RequiredLevelSufficesInPermissive =
+    (b : Basis) (t : PlainTemplate)
+    → has_fault b.schema ≡ false → has_formed_types b.schema ≡ true
+    → table_fault b.table.functions ≡ None
+    → (errors errors' : List Finding) (old new : List Caution)
+    → CheckedOn b t true errors errors' old new → RequiredLevelSufficesIn Permissive b t

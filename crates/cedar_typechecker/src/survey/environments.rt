@@ -1,0 +1,125 @@
+// In which environments the errors of a policy come.
+ghost use Rattle.std.specs.Prelude.{◌≡◌, List, [], ◌∷◌, ◌++◌, option_map, IfOk, OnOk};
+ghost use Rattle.std.specs.BTreeMap.{get};
+ghost use Rattle.cedar_types.specs.Environments.RequestEnvs.{Env, env_of};
+ghost use Rattle.cedar_types.specs.ErrorOrder.{error_cmp};
+ghost use Rattle.cedar_types.specs.Errors.{finding_of};
+ghost use Rattle.cedar_types.specs.Names.{type_of};
+ghost use Rattle.cedar_typechecker.specs.Levels.Views.{findings};
+ghost use Rattle.cedar_typechecker.specs.SurveyedErrors.{about, about_env, IsListing, AddsEnvironment};
+
+use crate::survey::demands::insert_all;
+use cedar_types::base::{EntityType, RequestType, ValidationError};
+use cedar_types::types::request_env::RequestEnv;
+use std::alloc::{AllocError, Global};
+use std::collections::{BTreeMap, BTreeSet};
+
+/// How many of the environments of an error are kept.
+const MAX_LISTED: usize = 5;
+
+/// What an environment of a policy is about.
+#[derive(Debug, Drop)]
+pub struct Environment {
+    /// The types and the action of its requests; `None` of an action that is not declared.
+    pub request: Option<RequestType>,
+    /// The type that `?principal` is linked to, if it is linked.
+    pub principal_slot: Option<EntityType>,
+    /// The type that `?resource` is linked to, if it is linked.
+    pub resource_slot: Option<EntityType>,
+}
+
+/// The environments in which an error comes: how many there are, and the first of them.
+#[derive(Debug, Drop)]
+pub struct Environments {
+    /// How many; the greatest number of 64 bits stands for itself and for all greater ones.
+    pub count: u64,
+    /// The first five, or all of fewer.
+    pub listed: Vec<Environment>,
+}
+
+impl Environment {
+    fn of(alloc: Global, env: &RequestEnv<'_>) -> Result<Environment, AllocError>
+        ensures { IfOk result (λ e. about e ≡ about_env (env_of env.now)) }
+    {
+        let request = env.to_request_type(alloc)?;
+        let principal_slot = copy(env.principal_slot())?;
+        let resource_slot = copy(env.resource_slot())?;
+        Ok(Environment {
+            request,
+            principal_slot,
+            resource_slot,
+        })
+    }
+}
+
+/// A copy of a type, if there is one.
+pub(crate) fn copy(ty: Option<&EntityType>) -> Result<Option<EntityType>, AllocError>
+    ensures { IfOk result (λ c.
+        option_map type_of c ≡ option_map (λ t. type_of t.now) ty.entry) }
+{
+    match ty {
+        Some(ty) => Ok(Some(ty.clone()?)),
+        None => Ok(None),
+    }
+}
+
+impl Environments {
+    /// No environment.
+    pub fn none(alloc: Global) -> Environments
+        ensures { IsListing [] result }
+    {
+        Environments {
+            count: 0,
+            listed: Vec::new(alloc),
+        }
+    }
+
+    /// One environment more.
+    fn add(&mut self, alloc: Global, env: &RequestEnv<'_>) -> Result<(), AllocError>
+        ensures { OnOk result ((own : List Env) → IsListing own self.old
+            → IsListing (own ++ env_of env.now ∷ []) self.new) }
+    {
+        self.count = self.count.saturating_add(1);
+        if self.listed.len() < MAX_LISTED {
+            self.listed.push(Environment::of(alloc, env)?)?;
+        }
+        Ok(())
+    }
+}
+
+/// Takes note that these errors come in an environment.
+pub(crate) fn add_errors(
+    all: &mut BTreeMap<ValidationError, Environments>,
+    alloc: Global,
+    env: &RequestEnv<'_>,
+    errors: Vec<ValidationError>,
+) -> Result<(), AllocError>
+    ensures { OnOk result ((x : ValidationError)
+        → AddsEnvironment (env_of env.now) (findings errors.items) (finding_of x)
+        (get error_cmp all.old x) (get error_cmp all.new x)) }
+{
+    let mut own = BTreeSet::new(alloc);
+    insert_all(&mut own, errors)?;
+    for error in own {
+        add_error(all, alloc, env, error)?;
+    }
+    Ok(())
+}
+
+/// Takes note that this error comes in one environment more.
+fn add_error(
+    all: &mut BTreeMap<ValidationError, Environments>,
+    alloc: Global,
+    env: &RequestEnv<'_>,
+    error: ValidationError,
+) -> Result<(), AllocError>
+    ensures { OnOk result ((x : ValidationError)
+        → AddsEnvironment (env_of env.now) (finding_of error ∷ []) (finding_of x)
+        (get error_cmp all.old x) (get error_cmp all.new x)) }
+{
+    let found = all.remove(&error);
+    let mut environments = found.unwrap_or(Environments::none(alloc));
+    environments.add(alloc, env)?;
+    all.insert(error, environments)?;
+    Ok(())
+}

@@ -1,0 +1,131 @@
+// The validation of a policy: the names in it, its scope, and its checks.
+ghost use Rattle.std.specs.Prelude.{◌≡◌, ◌++◌, IfOk, OnOk, IsPermutation, map, cond, [], ◌∷◌};
+ghost use Rattle.std.specs.BTreeMap.{keys};
+ghost use Rattle.cedar_types.specs.Errors.{caution_of};
+ghost use Rattle.cedar_types.specs.Schemas.Contents.{schema_of};
+ghost use Rattle.cedar_types.specs.Templates.{template_of};
+ghost use Rattle.cedar_typing.specs.PolicyCheck.Outcome.{impossible};
+ghost use Rattle.cedar_typechecker.specs.Levels.Outcome.{name_findings, application_warnings, AreApart, ValidationOutcome};
+ghost use Rattle.cedar_typechecker.specs.Levels.Views.{findings};
+ghost use Rattle.cedar_typechecker.specs.Passes.{errors_left};
+ghost use Rattle.cedar_typechecker.specs.ValidatorViews.{schema_in, basis_in};
+
+use crate::rbac::{LiteralErrors, Validator};
+use crate::survey::Environments;
+use cedar_types::base::{
+    ArgumentCheck, Template, ValidationError, ValidationMode, ValidationWarning,
+};
+use std::alloc::{AllocError, Global};
+use std::collections::BTreeMap;
+
+impl<C: ArgumentCheck> Validator<'_, C> {
+    /// Validates a policy in a mode: its errors, in any order, and its warnings.
+    ///
+    /// The errors are, in Strict and in Permissive, each finding of the passes over the names of the template, as often as it is
+    /// found; and in each mode each error of its check in some environment, once. The warnings are that no action fits the scope, in
+    /// Strict and in Permissive, and that the policy is impossible: irrelevant in each environment. Each environment is typed at
+    /// most once, and one typed condition is held at a time.
+    ///
+    /// Where a part is nested too deep the check fails, and there need be no error: `typecheck_policy` answers `true` of no
+    /// such policy. Where memory is refused, the answer is an `AllocError`.
+    pub fn validate_policy(
+        &self,
+        alloc: Global,
+        p: &Template,
+        mode: ValidationMode,
+    ) -> Result<(Vec<ValidationError>, Vec<ValidationWarning>), AllocError>
+        ensures exact { IfOk result (λ r.
+            ValidationOutcome (basis_in C.refusal self.now mode) (template_of p.now)
+            (findings r.0.items) (map caution_of r.1.items)) }
+    {
+        let survey = self.survey(alloc, p, mode)?;
+        let warnings = self.warnings(alloc, p, mode, survey.is_impossible())?;
+        let mut errors = self.name_errors(alloc, p, mode)?;
+        append_keys(&mut errors, survey.into_errors())?;
+        Ok((errors, warnings))
+    }
+
+    /// The findings of the passes over the names, in the modes that make them.
+    pub(crate) fn name_errors(
+        &self,
+        alloc: Global,
+        p: &Template,
+        mode: ValidationMode,
+    ) -> Result<Vec<ValidationError>, AllocError>
+        ensures { IfOk result (λ found. IsPermutation (findings found.items)
+            (name_findings mode (schema_of (schema_in self.now)) (template_of p.now))) }
+    {
+        let mut found = Vec::new(alloc);
+        if mode == ValidationMode::Partial {
+            return Ok(found);
+        }
+        let schema = &self.schema;
+        collect(
+            &mut found,
+            Validator::validate_enum_entity(alloc, schema, p),
+        )?;
+        collect(
+            &mut found,
+            Validator::validate_entity_types(alloc, schema, p),
+        )?;
+        collect(&mut found, Validator::validate_action_ids(alloc, schema, p))?;
+        Ok(found)
+    }
+
+    /// The warning of the scope, in the modes that look at it, and that the policy is impossible.
+    pub(crate) fn warnings(
+        &self,
+        alloc: Global,
+        p: &Template,
+        mode: ValidationMode,
+        is_impossible: bool,
+    ) -> Result<Vec<ValidationWarning>, AllocError>
+        ensures { IfOk result (λ found. map caution_of found.items
+            ≡ application_warnings mode (schema_of (schema_in self.now)) (template_of p.now)
+            ++ cond is_impossible (impossible (template_of p.now) ∷ []) []) }
+    {
+        let mut found = Vec::new(alloc);
+        if mode != ValidationMode::Partial {
+            if let Err(warning) = self.validate_template_action_application(alloc, p)? {
+                found.push(warning)?;
+            }
+        }
+        if is_impossible {
+            found.push(impossible_policy(p)?)?;
+        }
+        Ok(found)
+    }
+}
+
+/// Adds all that is left of a pass.
+fn collect(found: &mut Vec<ValidationError>, pass: LiteralErrors<'_>) -> Result<(), AllocError>
+    ensures { OnOk result (
+        findings found.new.items ≡ findings found.old.items ++ errors_left pass.entry) }
+{
+    for error in pass {
+        found.push(error?)?;
+    }
+    Ok(())
+}
+
+/// Adds each error of the checks, once.
+pub(crate) fn append_keys(
+    found: &mut Vec<ValidationError>,
+    map: BTreeMap<ValidationError, Environments>,
+) -> Result<(), AllocError>
+    ensures all { OnOk result (
+        findings found.new.items ≡ findings found.old.items ++ findings (keys map)) }
+    ensures once { OnOk result (AreApart (findings (keys map))) }
+{
+    for error in map.into_keys() {
+        found.push(error)?;
+    }
+    Ok(())
+}
+
+/// The warning that this policy is impossible.
+fn impossible_policy(p: &Template) -> Result<ValidationWarning, AllocError>
+    ensures { IfOk result (λ w. caution_of w ≡ impossible (template_of p.now)) }
+{
+    Ok(ValidationWarning::impossible_policy(p.loc, p.id.clone()?))
+}

@@ -1,0 +1,105 @@
+// The survey of a policy.
+use crate::names::{typed, uid};
+use crate::schemas::{users_and_photos, users_and_robots};
+use cedar_typechecker::base::{
+    ActionConstraint, EntityDerefLevel, Expr, ExtensionSchemas, PolicyID, PrincipalConstraint,
+    RequestType, ResourceConstraint, Template, ValidationMode, Var,
+};
+use cedar_typechecker::rbac::Validator;
+use cedar_typechecker::survey::Survey;
+use std::alloc::{AllocError, Global};
+use std::test::Fail;
+
+/// `permit(principal, action, resource) when { principal.ATTRIBUTE.ATTRIBUTE };`
+fn policy(alloc: Global, first: &str, second: &str) -> Result<Template, AllocError> {
+    let user = Expr::get_attr(alloc, Expr::var(Var::Principal), first)?;
+    Ok(Template::new(
+        PolicyID::from_string(alloc, "p")?,
+        None,
+        PrincipalConstraint::any(),
+        ActionConstraint::any(),
+        ResourceConstraint::any(),
+        Some(Expr::get_attr(alloc, user, second)?),
+    ))
+}
+
+fn survey(alloc: Global, first: &str, second: &str) -> Result<Survey, Fail> {
+    let extensions = ExtensionSchemas::default(alloc);
+    let validator = Validator::new(users_and_photos(alloc)?, &extensions);
+    let policy = policy(alloc, first, second)?;
+    Ok(validator.survey(alloc, &policy, ValidationMode::Strict)?)
+}
+
+#[test]
+fn what_passes_has_its_levels(rt: HostRuntime) -> Result<(), Fail> {
+    let alloc = rt.alloc();
+    let survey = survey(alloc, "user", "bool")?;
+    assert_eq!(rt; survey.passes(), true);
+    assert_eq!(rt; survey.is_impossible(), false);
+    assert_eq!(rt; survey.fails_without_error(), false);
+    assert_eq!(rt; survey.applicable_environments(), 1);
+    assert_eq!(rt; survey.errors().len(), 0);
+    assert_eq!(rt; survey.level_errors(alloc, 1)?.len(), 1);
+    assert_eq!(rt; survey.level_errors(alloc, 2)?.len(), 0);
+    assert_eq!(rt; survey.required_level(), Some(EntityDerefLevel::from(2)));
+    Ok(())
+}
+
+#[test]
+fn an_error_has_its_environments(rt: HostRuntime) -> Result<(), Fail> {
+    let alloc = rt.alloc();
+    let survey = survey(alloc, "user", "gone")?;
+    assert_eq!(rt; survey.passes(), false);
+    assert_eq!(rt; survey.is_impossible(), false);
+    assert_eq!(rt; survey.applicable_environments(), 1);
+    let viewed = RequestType {
+        principal: typed(alloc, "User")?,
+        action: uid(alloc, "Action", "view")?,
+        resource: typed(alloc, "Photo")?,
+    };
+    let mut found: usize = 0;
+    for (_error, environments) in survey.into_errors() {
+        found = found.saturating_add(1);
+        assert_eq!(rt; environments.count, 1);
+        for environment in &environments.listed {
+            assert!(rt; environment.request.as_ref() == Some(&viewed));
+            assert!(rt; environment.principal_slot.is_none());
+        }
+    }
+    assert_eq!(rt; found, 1);
+    Ok(())
+}
+
+/// `permit(principal in User::"alice", action == Action::"ACTION", resource) when { principal.bool };`, surveyed where users and
+/// robots view, edit and print.
+fn survey_of_action(alloc: Global, action: &str) -> Result<Survey, Fail> {
+    let extensions = ExtensionSchemas::default(alloc);
+    let validator = Validator::new(users_and_robots(alloc)?, &extensions);
+    let alice = uid(alloc, "User", "alice")?;
+    let policy = Template::new(
+        PolicyID::from_string(alloc, "p")?,
+        None,
+        PrincipalConstraint::is_in(alice),
+        ActionConstraint::is_eq(uid(alloc, "Action", action)?),
+        ResourceConstraint::any(),
+        Some(Expr::get_attr(alloc, Expr::var(Var::Principal), "bool")?),
+    );
+    Ok(validator.survey(alloc, &policy, ValidationMode::Strict)?)
+}
+
+#[test]
+fn actions_that_the_scope_leaves_out_count(rt: HostRuntime) -> Result<(), Fail> {
+    let alloc = rt.alloc();
+    let view = survey_of_action(alloc, "view")?;
+    assert_eq!(rt; view.passes(), true);
+    assert_eq!(rt; view.is_impossible(), false);
+    assert_eq!(rt; view.applicable_environments(), 1);
+    assert_eq!(rt; view.required_level(), Some(EntityDerefLevel::from(1)));
+    let unknown = survey_of_action(alloc, "unknown")?;
+    assert_eq!(rt; unknown.passes(), true);
+    assert_eq!(rt; unknown.is_impossible(), true);
+    assert_eq!(rt; unknown.applicable_environments(), 0);
+    assert_eq!(rt; unknown.level_errors(alloc, 0)?.len(), 1);
+    assert_eq!(rt; unknown.required_level(), Some(EntityDerefLevel::from(1)));
+    Ok(())
+}

@@ -1,0 +1,82 @@
+// What is in what, over any number of steps.
+use cedar_reading::{Notation, schema_declarations};
+use cedar_types::base::EntityUID;
+use std::alloc::Global;
+use std::collections::BTreeSet;
+use std::test::Fail;
+
+/// Schemas, and of each type and each action what is in it.
+const SCHEMAS: [(&str, &str); 8] = [
+    ("entity A;", "A:"),
+    ("entity A in A;", "A: A"),
+    (
+        "entity A in B; entity B in C; entity C;",
+        "A:; B: A; C: A B",
+    ),
+    (
+        "entity C in B; entity A; entity B in A; entity D in [A, B];",
+        "C:; A: B C D; B: C D; D:",
+    ),
+    (
+        "entity A in B; entity B in [A, C]; entity C; entity D in A;",
+        "A: A B D; B: A B D; C: A B D; D:",
+    ),
+    (
+        "entity A, B in [C, D]; entity C in D; entity D in C; entity E in [E, E];",
+        "A:; B:; C: A B C D; D: A B C D; E: E",
+    ),
+    (
+        "action a in [b]; action b in c; action c in [b, d]; action d, e;",
+        "a:; b: a b c; c: a b c; d: a b c; e:",
+    ),
+    (
+        "namespace N { entity A in [B]; entity B; } entity C in N::A;",
+        "N::A: C; N::B: C N::A; C:",
+    ),
+];
+
+#[test]
+fn descendants(rt: HostRuntime) -> Result<(), Fail> {
+    for (text, wanted) in &SCHEMAS {
+        let said = descendants_in(rt.alloc(), text)?;
+        assert_eq!(rt; said.as_str(), *wanted, "for {text}");
+    }
+    Ok(())
+}
+
+/// Of each type and each action of a schema what is in it.
+fn descendants_in(alloc: Global, text: &str) -> Result<String, Fail> {
+    let declared = schema_declarations(alloc, text, Notation::Schema)?;
+    let mut said = String::new(alloc);
+    for own in &declared.entity_types {
+        push_name(&mut said)?;
+        write!(said, "{}:", own.name)?;
+        for other in &own.descendants {
+            write!(said, " {other}")?;
+        }
+    }
+    for own in &declared.actions {
+        push_name(&mut said)?;
+        push_actions(&mut said, &own.name, &own.descendants)?;
+    }
+    Ok(said)
+}
+
+fn push_name(said: &mut String) -> Result<(), Fail> {
+    if !said.is_empty() {
+        said.push_str("; ")?;
+    }
+    Ok(())
+}
+
+fn push_actions(
+    said: &mut String,
+    own: &EntityUID,
+    others: &BTreeSet<EntityUID>,
+) -> Result<(), Fail> {
+    write!(said, "{}:", own.eid)?;
+    for other in others {
+        write!(said, " {}", other.eid)?;
+    }
+    Ok(())
+}
