@@ -18,15 +18,36 @@ WHY = {
     "hole": "is a hole",
     "out": "is never committed",
     "shown": "this code stands in no file",
+    "file": "is no file of the repository",
+    "heading": "is no heading of",
+    "made": "run scripts/pages.py",
+    "maker": "no script makes",
 }
 # What would be a fault in this file stands in pieces.
 PAPERS = "pap" + "ers"
 PARAMETER = "T" + "1"
 CRATE = f"//! A crate.\n#![tactic(auto)]\n\npub fn same<{PARAMETER}>(it: {PARAMETER}) -> {PARAMETER} {{\n    it\n}}\n"
+# What scripts/rows.py makes of the one row below.
+ROWS = """
+| Schema | What it declares |
+|---|---|
+
+| Row | Schema | Asked | About | Expected | What it shows |
+|---|---|---|---|---|---|
+| 1 | S1 | check | `true` | Success | One. |
+
+| Word in capitals | Text that it stands for |
+|---|---|
+
+"""
 GOOD = {
     "HANDLES": "Handles allowed: none.\n",
     "LICENSE": f"Section 4 of these {PAPERS}.\n",
-    "README.md": "Row 10 prints `row 10: ok`, as in RFC 76.\nTake crates/tmp/ out of it; 0xD4, T15 and R2D2 are no citations.\n```rust\nlet shown = 1;\n```\n",
+    "README.md": "Row 10 prints `row 10: ok`, as in RFC 76.\nTake crates/tmp/ out of it; 0xD4, T15 and R2D2 are no citations.\n```rust\nlet shown = 1;\n```\n"
+    "[Rows](docs/ROWS.md#the-rows), [these](docs/ROWS.md), \"The rows\", [a folder](docs), `[no](link)`.\n",
+    "docs/ROWS.md": f"# The rows\n<!-- made: rows -->\n{ROWS}<!-- end -->\n",
+    "crates/cedar_rows/src/rows/listed.rt": 'name: "1", row: Steps(conditions::ONE, &[])\n',
+    "crates/cedar_rows/src/rows/conditions.rt": '/// One.\npub const ONE: &str = r#"\n? S1 check: true\nSuccess\n"#;\n',
     "crates.txt": "demo:\n",
     "crates/demo/src/lib.rt": CRATE,
     "crates/demo/src/page.rt": "// A page.\nlet shown = 1;\n",
@@ -75,6 +96,11 @@ FILES = [
     ("a program with its tactics in a comment", "tactic", *changed("crates/app/src/main.rt", "// #![tactic(auto)]\n")),
     ("a hole", "hole", *changed("crates/demo/proofs/Lib.antt", "-- why?\nit = ?\n", 2)),
     ("a hole as an argument", "hole", *changed("crates/demo/specs/Lib.antt", "it = ap f (?)\n")),
+    ("a link to no file", "file", *note("see [it](GONE.md)")),
+    ("a link to no heading", "heading", *note("see [it](ROWS.md#the-columns)")),
+    ("a section that is named and is not there", "heading", *note('see [it](ROWS.md),\n"The columns"')),
+    ("a page that is made of other sources", "made", {"crates/cedar_rows/src/rows/conditions.rt": ""}, "docs/ROWS.md:2:"),
+    ("a page of a script that there is not", "maker", *note("<!-- made: tables -->\n<!-- end -->")),
     ("what was built", "out", *changed("crates/demo/out/demo.rlib", "x\n")),
 ]
 MESSAGES = [
@@ -110,7 +136,7 @@ def said_of(folder):
 def is_refused(folder, where, why):
     """Whether the check refuses the repository with one line, which says where and why."""
     status, lines = said_of(folder)
-    well = status == 1 and len(lines) == 2 and lines[0].startswith(where) and WHY[why] in lines[0] and lines[1] == "7 passed, 1 failed"
+    well = status == 1 and len(lines) == 2 and lines[0].startswith(where) and WHY[why] in lines[0] and lines[1] == "9 passed, 1 failed"
     return well, lines
 
 
@@ -119,7 +145,7 @@ def outcomes():
     with tempfile.TemporaryDirectory() as folder:
         repository(folder, GOOD)
         status, lines = said_of(folder)
-        yield "a good repository", status == 0 and lines == ["8 passed, 0 failed"], lines
+        yield "a good repository", status == 0 and lines == ["10 passed, 0 failed"], lines
     for name, why, files, where in FILES:
         with tempfile.TemporaryDirectory() as folder:
             repository(folder, GOOD | files)
