@@ -170,8 +170,8 @@ def sentence(files):
     rules = [path for path in reach(files)[0] if re.search(r"/specs/(Rules|Infer|Levels)\b", path)]
     kind = "none of them a rule of typing or of levels" if not rules else "rules of typing or of levels among them"
     return [
-        f"What the promise says is {sum(by_subject.values()):,} of {there:,} lines of definitions, {kind},",
-        f"and none of {proofs:,} lines of proofs (`scripts/trusted.py`).",
+        f"Who relies on it has to believe {sum(by_subject.values()):,} of {there:,} lines of definitions, {kind}. None of the",
+        f"{proofs:,} lines of proofs is among them. `scripts/trusted.py` lists them; what else is trusted stands below.",
     ]
 
 

@@ -1,4 +1,4 @@
-//! Validates two policies and prints a report on each. The README shows this file whole.
+//! Validates two policies and prints a report on each. The README shows its end.
 #![tactic(auto)]
 
 use cedar_embedding::policy_sets::WrittenPolicy;
