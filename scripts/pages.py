@@ -10,11 +10,20 @@ import sys
 from pathlib import Path
 
 import claims
+import files as listings
 import rows
 import trusted
 
 TOP = Path(__file__).resolve().parent.parent
-MAKERS = {"rows": rows.table, "claims": claims.table, "trusted": trusted.table, "promise": trusted.sentence}
+MAKERS = {
+    "rows": rows.table,
+    "claims": claims.table,
+    "trusted": trusted.table,
+    "promise": trusted.sentence,
+    "crates": listings.crates,
+    "files": listings.listed,
+    "errors": listings.errors,
+}
 MADE = re.compile(r"^<!-- made: (\w+) -->\n(.*?)^<!-- end -->$", re.M | re.S)
 PAGE = re.compile(r"[^/]+\.md|docs/[^/]+\.md")
 

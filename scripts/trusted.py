@@ -151,6 +151,11 @@ def counted(files):
     return by_subject, there, proofs
 
 
+def rounded(count):
+    """A count in hundreds, so that not every edit of a proof makes the pages stale."""
+    return f"{round(count, -2):,}"
+
+
 def table(files):
     """What THEOREMS shows."""
     by_subject, there, proofs = counted(files)
@@ -159,8 +164,8 @@ def table(files):
         "| Definitions | Lines |",
         "|---|---|",
         *rows,
-        f"| together | {sum(by_subject.values()):,} of {there:,} |",
-        f"| proofs, which nobody has to read | 0 of {proofs:,} |",
+        f"| together | {sum(by_subject.values()):,} of some {rounded(there)} |",
+        f"| proofs, which nobody has to read | 0 of some {rounded(proofs)} |",
     ]
 
 
@@ -170,8 +175,9 @@ def sentence(files):
     rules = [path for path in reach(files)[0] if re.search(r"/specs/(Rules|Infer|Levels)\b", path)]
     kind = "none of them a rule of typing or of levels" if not rules else "rules of typing or of levels among them"
     return [
-        f"Who relies on it has to believe {sum(by_subject.values()):,} of {there:,} lines of definitions, {kind}. None of the",
-        f"{proofs:,} lines of proofs is among them. `scripts/trusted.py` lists them; what else is trusted stands below.",
+        f"Who relies on it has to believe {sum(by_subject.values()):,} of some {rounded(there)} lines of definitions, {kind}.",
+        f"None of the {rounded(proofs)} lines of proofs is among them. `scripts/trusted.py` lists them; what else is trusted",
+        "stands below.",
     ]
 
 
