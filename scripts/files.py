@@ -1,5 +1,5 @@
 #!/usr/bin/env python3
-"""The crates, the files of the libraries, and the errors, as tables of their own comments: scripts/files.py prints them.
+"""The crates, the files of the libraries, faults and errors, as tables of their own comments: scripts/files.py prints them.
 
 docs/ARCHITECTURE.md, docs/FILES.md and docs/PROFILE.md show them; scripts/pages.py writes them there.
 """
@@ -14,6 +14,12 @@ COMMENT = re.compile(r"^(?://!|//|--) ?(.*)$")
 ERROR = re.compile(
     r'((?:/// [^\n]*\n)+)#\[derive[^\n]*\n#\[error\("for policy `\{policy_id\}`, (.*?)"([^"\n]*(?:"[^"\n]*"[^"\n]*)?)\)\]\npub struct (\w+)'
 )
+
+FAULTS = (
+    ("a table", "crates/cedar_types/src/base/expressions/extensions.rt", "ExtensionTableError"),
+    ("a schema", "crates/cedar_types/src/base/schema/errors.rt", "SchemaError"),
+)
+VARIANT = re.compile(r'/// ([^\n]*)\n    #\[error\("(\w+)"\)\]')
 
 
 def cell(text):
@@ -86,6 +92,16 @@ def errors(files):
     return lines
 
 
+def faults(files):
+    """What PROFILE shows of schemas and of tables of functions: each fault, in the order in which they count."""
+    lines = ["| Refused | For | What is wrong |", "|---|---|---|"]
+    for refused, path, enum in FAULTS:
+        body = re.search(rf"pub enum {enum} \{{\n(.*?)\n\}}", files.get(path, ""), re.S)
+        for wrong, name in VARIANT.findall(body[1] if body else ""):
+            lines.append(f"| {refused} | `{name}` | {cell(wrong)} |")
+    return lines
+
+
 def texts_of(function, text):
     """The texts that a function answers."""
     body = re.search(rf"fn {function}\b.*?\n    \}}\n", text, re.S)
@@ -95,7 +111,7 @@ def texts_of(function, text):
 def main():
     paths = [TOP / "crates.txt", *(path for path in TOP.glob("crates/*/*/**/*") if path.suffix in (".rt", ".antt"))]
     files = {str(path.relative_to(TOP)): path.read_text() for path in paths if "/out/" not in str(path)}
-    print("\n".join([*crates(files), "", *listed(files), "", *errors(files)]))
+    print("\n".join([*crates(files), "", *listed(files), "", *faults(files), "", *errors(files)]))
     return 0
 
 

@@ -22,6 +22,7 @@ MAKERS = {
     "promise": trusted.sentence,
     "crates": listings.crates,
     "files": listings.listed,
+    "faults": listings.faults,
     "errors": listings.errors,
 }
 MADE = re.compile(r"^<!-- made: (\w+) -->\n(.*?)^<!-- end -->$", re.M | re.S)
