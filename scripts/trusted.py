@@ -171,13 +171,12 @@ def table(files):
 
 def sentence(files):
     """What the README says."""
-    by_subject, there, proofs = counted(files)
+    by_subject, there, _ = counted(files)
     rules = [path for path in reach(files)[0] if re.search(r"/specs/(Rules|Infer|Levels)\b", path)]
     kind = "none of them a rule of typing or of levels" if not rules else "rules of typing or of levels among them"
     return [
-        f"Who relies on it has to believe {sum(by_subject.values()):,} of some {rounded(there)} lines of definitions, {kind}.",
-        f"None of the {rounded(proofs)} lines of proofs is among them. `scripts/trusted.py` lists them; what else is trusted",
-        "stands below.",
+        f"Who relies on it has to believe {sum(by_subject.values()):,} of some {rounded(there)} lines of definitions, {kind}",
+        "(`scripts/trusted.py` lists them). What else is trusted stands below.",
     ]
 
 
