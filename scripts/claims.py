@@ -1,9 +1,10 @@
 #!/usr/bin/env python3
 """Each public call of which something is proved, by crate, which docs/CLAIMS.md shows: scripts/claims.py prints the tables.
 
-Of a call they have the first paragraph of its comment, and each clause with the definitions that it cites: propositions, whose
-names begin with a capital, or where there is none what the clause says its answer to be. scripts/pages.py writes the tables
-into the page, and scripts/check_text refuses a page that has others.
+Of a call that promises something they have the first paragraph of its comment, and each clause with the definitions that it
+cites: propositions, whose names begin with a capital, or where there is none what the clause says its answer to be. Calls that
+have one clause without a name, and answer the value of a definition, are listed by file. scripts/pages.py writes the tables into
+the page, and scripts/check_text refuses a page that has others.
 """
 import re
 import sys
@@ -105,18 +106,33 @@ def calls_in(text):
             yield owner, function["name"], comment_above(lines, number), clauses
 
 
+def is_promise(clauses):
+    """Whether the clauses of a call have names, or cite propositions: not of one whose answer is a definition's value."""
+    return "*" in clauses or re.search(r"`[A-Z]", clauses)
+
+
 def table_of(crate, files):
-    """The table of a crate, or nothing."""
+    """The tables of a crate, or nothing: a row for each call that promises something, and for the others one for each file."""
     texts = {path: text for path, text in files.items() if path.startswith(f"crates/{crate}/src/") and path.endswith(".rt")}
     names = public_names(texts)
-    rows = []
+    promises, exact = [], {}
     for path, text in sorted(texts.items()):
+        place = path.partition("/src/")[2].removesuffix(".rt")
         for owner, name, comment, clauses in calls_in(text):
-            if (owner or name) in names:
-                call = f"{owner}::{name}" if owner else name
-                place = path.partition("/src/")[2].removesuffix(".rt")
-                rows.append(f"| `{call}` | {cell(comment)} | {cell(clauses)} | {place} |")
-    return [f"### `{crate}`", "", "| Call | What it is for | Clauses | File of `src/` |", "|---|---|---|---|", *rows, ""] if rows else []
+            call = f"`{owner}::{name}`" if owner else f"`{name}`"
+            if (owner or name) not in names:
+                continue
+            if is_promise(clauses):
+                promises.append(f"| {call} | {cell(comment)} | {cell(clauses)} | {place} |")
+            else:
+                exact.setdefault(place, {})[call] = None
+    lines = []
+    if promises:
+        lines += ["| Call | What it is for | Clauses | File of `src/` |", "|---|---|---|---|", *promises, ""]
+    if exact:
+        lines += ["| File of `src/` | Calls that answer exactly what their comment and their clause say |", "|---|---|"]
+        lines += [f"| {place} | {', '.join(calls)} |" for place, calls in exact.items()] + [""]
+    return [f"### `{crate}`", "", *lines] if lines else []
 
 
 def cell(text):

@@ -1,7 +1,8 @@
 #!/usr/bin/env python3
 """The crates, the files of the libraries, faults and errors, as tables of their own comments: scripts/files.py prints them.
 
-docs/ARCHITECTURE.md, docs/FILES.md and docs/PROFILE.md show them; scripts/pages.py writes them there.
+docs/ARCHITECTURE.md shows the crates and docs/PROFILE.md the faults and errors; scripts/pages.py writes them there. The files are
+printed alone.
 """
 import re
 import sys
@@ -65,7 +66,7 @@ def crates(files):
 
 
 def listed(files):
-    """What FILES shows: each file of the libraries that says what it has."""
+    """Each file of the crates that have definitions, with the first sentence of its comment."""
     lines = []
     for crate, _ in crates_of(files):
         paths = [path for folder in FOLDERS for path in sorted(files) if path.startswith(f"crates/{crate}/{folder}/")]

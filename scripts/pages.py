@@ -21,7 +21,6 @@ MAKERS = {
     "trusted": trusted.table,
     "promise": trusted.sentence,
     "crates": listings.crates,
-    "files": listings.listed,
     "faults": listings.faults,
     "errors": listings.errors,
 }
