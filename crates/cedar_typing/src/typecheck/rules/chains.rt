@@ -88,11 +88,11 @@ impl<'a> Progress<'a> {
     fn end(self, alloc: Global) -> Result<Decision<'a>, AllocError>
         ensures { IfOk result (λ d. decision_of d ≡ end_of_chain (progress_of self.entry)) }
     {
-        let all_true = self.all_true;
-        let earned = set_of(alloc, self.earned)?;
-        if all_true {
+        if self.all_true {
+            let earned = set_of(alloc, self.earned)?;
             return Ok(Decision::Gives(CedarType::Bool(BoolType::True), earned));
         }
+        let earned = set_of(alloc, self.earned)?;
         Ok(Decision::Gives(any_bool(), earned))
     }
 }
