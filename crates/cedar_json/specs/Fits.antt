@@ -1,0 +1,24 @@
+-- Where the parts of a value stand, and how deep it is.
+use Rattle.std.specs.Prelude.{ℕ, ◌-◌, ◌<◌, ◌≤◌, ⊤}
+use Rattle.cedar_json.specs.Tree.{Tree, tree, Form, object, array, text, integer, boolean, Items, no_items, item, Members, no_members, member}
+
+abbrev mutual
+  -- The value stands between these two bytes, each part inside what it is a part of. At most so many objects and arrays stand
+  -- inside each other.
+  pub FitsIn : ℕ → ℕ → ℕ → Tree → Type 0
+  FitsIn depth low high (tree start stop form) = (low ≤ start) × (start ≤ stop) × (stop ≤ high) × FormFits depth start stop form
+
+  pub FormFits : ℕ → ℕ → ℕ → Form → Type 0
+  FormFits depth low high (object ms) = (0 < depth) × MembersFit (depth - 1) low high ms
+  FormFits depth low high (array is) = (0 < depth) × ItemsFit (depth - 1) low high is
+  FormFits depth low high (text x) = ⊤
+  FormFits depth low high (integer z) = ⊤
+  FormFits depth low high (boolean b) = ⊤
+
+  pub ItemsFit : ℕ → ℕ → ℕ → Items → Type 0
+  ItemsFit depth low high no_items = ⊤
+  ItemsFit depth low high (item x is) = FitsIn depth low high x × ItemsFit depth low high is
+
+  pub MembersFit : ℕ → ℕ → ℕ → Members → Type 0
+  MembersFit depth low high no_members = ⊤
+  MembersFit depth low high (member k start stop x ms) = (low ≤ start) × (start ≤ stop) × (stop ≤ high) × FitsIn depth low high x × MembersFit depth low high ms
