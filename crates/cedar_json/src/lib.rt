@@ -1,17 +1,27 @@
-//! Texts of JSON as trees of values, each with its place, or the first fault of a text and where it stands.
+//! Texts of JSON as trees of values, each with its place, or the first fault of a text and where it stands; and what the forms of
+//! Cedar in JSON say: schemas as texts in Cedar's own syntax, and policies as trees.
 #![tactic(auto)]
 
 mod cursor;
 mod faults;
+mod forms;
 mod literals;
+mod names;
 mod numbers;
 mod objects;
+mod policies;
+mod schemas;
 mod steps;
 mod texts;
+mod translations;
 mod values;
 mod whole;
 
 pub use faults::{Fault, ReadError};
+pub use forms::{FormError, FormFault};
+pub use policies::{Policies, ReadPolicy};
+pub use schemas::schema_text;
 pub use steps::MAX_LENGTH;
+pub use translations::Translation;
 pub use values::{Key, MAX_DEPTH, Value, ValueKind};
 pub use whole::value_alone;

@@ -1,0 +1,14 @@
+// Policies in Cedar's form of JSON, as the trees that are validated. Each node has the place of its part of the text.
+mod binaries;
+mod constraints;
+mod entities;
+mod expressions;
+mod leaves;
+mod literals;
+mod operators;
+mod patterns;
+mod sets;
+mod templates;
+
+pub use sets::Policies;
+pub use templates::ReadPolicy;

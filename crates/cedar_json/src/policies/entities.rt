@@ -1,0 +1,101 @@
+// Ids of entities, and what the slots of a template are bound to.
+use crate::forms::{FormError, FormFault, Object, expected, said_by};
+use crate::names::is_name;
+use crate::values::Value;
+use cedar_types::base::{EntityReference, EntityType, EntityUID, Loc, Name, SlotId};
+use std::alloc::Global;
+
+/// Reads a name.
+pub fn name_of(alloc: Global, value: &Value) -> Result<Name, FormError> {
+    name_at(alloc, said_by(value)?, value.place)
+}
+
+/// The name that stands at this place.
+pub fn name_at(alloc: Global, said: &str, place: Loc) -> Result<Name, FormError> {
+    if !is_name(said) {
+        return Err(FormError::At(place.start, FormFault::Name));
+    }
+    let mut path = Vec::new(alloc);
+    for word in said.split("::") {
+        path.push(word)?;
+    }
+    let last = path.pop().unwrap_or("");
+    Ok(Name::new(alloc, last, path.as_slice())?)
+}
+
+/// Reads the name of an entity type.
+pub fn entity_type(alloc: Global, value: &Value) -> Result<EntityType, FormError> {
+    Ok(EntityType::new(name_of(alloc, value)?, Some(value.place)))
+}
+
+/// Reads an id: its type and its eid, perhaps in an object of the one key `__entity`.
+pub fn entity_uid(alloc: Global, value: &Value) -> Result<EntityUID, FormError> {
+    let whole = Object::of(value)?;
+    let object = match whole.get("__entity") {
+        Some(inner) => {
+            whole.allow(&["__entity"])?;
+            Object::of(inner)?
+        }
+        None => whole,
+    };
+    object.allow(&["type", "id"])?;
+    let own_type = entity_type(alloc, object.need("type")?)?;
+    let eid = said_by(object.need("id")?)?;
+    Ok(EntityUID::from_components(alloc, own_type, eid, Some(value.place))?)
+}
+
+/// What the slots of a policy are bound to.
+#[derive(Drop)]
+pub enum Slots {
+    /// The policy is a template, or has no slots.
+    Open,
+    /// It is a link, of which these values stand at this place.
+    Bound(Loc, Option<EntityUID>, Option<EntityUID>),
+}
+
+impl Slots {
+    /// Reads what a link binds the slots to.
+    pub fn of_link(alloc: Global, values: &Value) -> Result<Slots, FormError> {
+        let object = Object::of(values)?;
+        object.allow(&["?principal", "?resource"])?;
+        let principal = bound(alloc, object.get("?principal"))?;
+        let resource = bound(alloc, object.get("?resource"))?;
+        Ok(Slots::Bound(values.place, principal, resource))
+    }
+
+    /// What a slot is bound to, or the slot of a template. It fails where a link does not bind it.
+    pub fn reference(&self, slot: SlotId) -> Result<EntityReference, FormError> {
+        let (place, found) = match (self, slot) {
+            (Slots::Open, _) => return Ok(EntityReference::Slot),
+            (Slots::Bound(place, principal, _), SlotId::Principal) => (*place, principal),
+            (Slots::Bound(place, _, resource), SlotId::Resource) => (*place, resource),
+        };
+        match found {
+            Some(uid) => Ok(EntityReference::EUID(uid.clone()?)),
+            None => Err(FormError::At(place.start, FormFault::Missing(shown_slot(slot)))),
+        }
+    }
+}
+
+fn bound(alloc: Global, value: Option<&Value>) -> Result<Option<EntityUID>, FormError> {
+    match value {
+        Some(value) => Ok(Some(entity_uid(alloc, value)?)),
+        None => Ok(None),
+    }
+}
+
+fn shown_slot(slot: SlotId) -> &'static str {
+    match slot {
+        SlotId::Principal => "?principal",
+        SlotId::Resource => "?resource",
+    }
+}
+
+/// Reads a slot.
+pub fn slot_of(value: &Value) -> Result<SlotId, FormError> {
+    match said_by(value)? {
+        "?principal" => Ok(SlotId::Principal),
+        "?resource" => Ok(SlotId::Resource),
+        _ => Err(expected(value, "`?principal` or `?resource`")),
+    }
+}

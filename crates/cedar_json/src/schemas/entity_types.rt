@@ -1,0 +1,65 @@
+// Declarations of entity types.
+use crate::forms::{FormError, Object, check_annotations, items_of, said_by};
+use crate::schemas::declared::Declared;
+use crate::schemas::meanings::{Spaces, put_entity_types};
+use crate::schemas::types::{put_shape, put_type};
+use crate::translations::Translation;
+use crate::values::{Key, MAX_DEPTH, Value};
+use std::rc::RcStr;
+
+/// Writes the declaration of an entity type.
+pub fn put_entity_type(
+    out: &mut Translation,
+    declared: &Declared<'_>,
+    namespace: &RcStr,
+    key: &Key,
+    body: Object<'_>,
+) -> Result<(), FormError> {
+    check_annotations(body)?;
+    out.put("entity ")?;
+    out.put_from(key.place, key.name.as_str())?;
+    if let Some(ids) = body.get("enum") {
+        body.allow(&["enum", "annotations"])?;
+        put_ids(out, ids)?;
+    } else {
+        body.allow(&["memberOfTypes", "shape", "tags", "annotations"])?;
+        put_standard(out, declared, namespace, body)?;
+    }
+    out.put(";\n")
+}
+
+/// Writes the ids of an enumerated type.
+fn put_ids(out: &mut Translation, ids: &Value) -> Result<(), FormError> {
+    out.put_from(ids.place, " enum [")?;
+    for id in items_of(ids)? {
+        out.put_quoted(id.place, said_by(id)?)?;
+        out.put(", ")?;
+    }
+    out.put("]")
+}
+
+/// Writes what a type is in, its attributes and its tags, each of which may be missing.
+fn put_standard(
+    out: &mut Translation,
+    declared: &Declared<'_>,
+    namespace: &RcStr,
+    body: Object<'_>,
+) -> Result<(), FormError> {
+    if let Some(parents) = body.get("memberOfTypes") {
+        out.put_from(parents.place, " in ")?;
+        put_entity_types(out, items_of(parents)?)?;
+    }
+    if let Some(shape) = body.get("shape") {
+        out.put_from(shape.place, " = ")?;
+        put_shape(out, declared, namespace, shape, MAX_DEPTH)?;
+    }
+    if let Some(tags) = body.get("tags") {
+        out.put_from(tags.place, " tags ")?;
+        let spaces = Spaces {
+            written: namespace.clone()?,
+            declared: namespace.clone()?,
+        };
+        put_type(out, declared, &spaces, tags, MAX_DEPTH)?;
+    }
+    Ok(())
+}

@@ -1,0 +1,114 @@
+// What the names of types mean.
+use crate::forms::{FormError, FormFault, said_by};
+use crate::names::{basename_of, is_name};
+use crate::schemas::declared::{Declared, within};
+use crate::translations::Translation;
+use crate::values::Value;
+use std::alloc::AllocError;
+use std::rc::RcStr;
+
+/// What a name is said to be of.
+#[derive(Clone, Copy, PartialEq, Eq, Debug)]
+pub enum NameOf {
+    EntityType,
+    CommonType,
+    /// A common type, or where there is none an entity type.
+    Either,
+}
+
+/// What a name means, by its whole name.
+#[derive(PartialEq, Eq, Debug, Drop)]
+pub enum Meaning {
+    EntityType(String),
+    CommonType(String),
+    /// It is not declared.
+    Nothing,
+}
+
+/// Where a part of a schema is written, and where it was declared: the body of a common type may be written in another
+/// namespace.
+#[derive(Drop)]
+pub struct Spaces {
+    pub written: RcStr,
+    pub declared: RcStr,
+}
+
+/// What a name means in a namespace: without a path what is declared there, else what has this very name.
+pub fn meaning_of(
+    declared: &Declared<'_>,
+    namespace: &str,
+    name: &str,
+    of: NameOf,
+) -> Result<Meaning, AllocError> {
+    if !name.contains("::") {
+        let own = within(declared.alloc, namespace, name)?;
+        let meant = declared_as(declared, own, of);
+        if meant != Meaning::Nothing {
+            return Ok(meant);
+        }
+    }
+    Ok(declared_as(declared, String::from_str(declared.alloc, name)?, of))
+}
+
+/// What is declared by this whole name.
+fn declared_as(declared: &Declared<'_>, name: String, of: NameOf) -> Meaning {
+    if of != NameOf::EntityType && declared.common_types.contains_key(&name) {
+        return Meaning::CommonType(name);
+    }
+    if of != NameOf::CommonType && declared.entity_types.contains(&name) {
+        return Meaning::EntityType(name);
+    }
+    Meaning::Nothing
+}
+
+/// Writes the name of a type, so that Cedar's syntax gives it the meaning that it has in JSON.
+pub fn put_type_name(
+    out: &mut Translation,
+    declared: &Declared<'_>,
+    spaces: &Spaces,
+    value: &Value,
+    of: NameOf,
+) -> Result<(), FormError> {
+    let name = said_by(value)?;
+    let start = value.place.start;
+    if !is_name(name) {
+        return Err(FormError::At(start, FormFault::Name));
+    }
+    let meant = meaning_of(declared, spaces.declared.as_str(), name, of)?;
+    if meant == Meaning::Nothing && has_to_be_declared(name, of) {
+        return Err(FormError::At(start, FormFault::Undeclared));
+    }
+    let whole = match &meant {
+        Meaning::EntityType(whole) | Meaning::CommonType(whole) => whole.as_str(),
+        Meaning::Nothing => name,
+    };
+    let written = meaning_of(declared, spaces.written.as_str(), whole, NameOf::Either)?;
+    if written != meant {
+        return Err(FormError::At(start, FormFault::Hidden));
+    }
+    out.put_from(value.place, whole)
+}
+
+/// Whether a name that nothing declares is a fault here. Others are left to what reads the text: names of the language, those of
+/// the types of actions, and where either may be meant those that nothing has.
+fn has_to_be_declared(name: &str, of: NameOf) -> bool {
+    match of {
+        NameOf::EntityType => basename_of(name) != "Action",
+        NameOf::CommonType => !name.starts_with("__cedar::"),
+        NameOf::Either => false,
+    }
+}
+
+/// Writes names of entity types, in brackets.
+pub fn put_entity_types(out: &mut Translation, types: &[Value]) -> Result<(), FormError> {
+    out.put("[")?;
+    for value in types {
+        let name = said_by(value)?;
+        if !is_name(name) {
+            return Err(FormError::At(value.place.start, FormFault::Name));
+        }
+        out.put_from(value.place, name)?;
+        out.put(", ")?;
+    }
+    out.put("]")
+}

@@ -1,0 +1,184 @@
+// Types. Each call goes one step deeper into the value, up to `MAX_DEPTH`.
+use crate::forms::{FormError, FormFault, Object, check_annotations, expected, said_by, truth_of};
+use crate::names::{is_name, path_of};
+use crate::schemas::declared::Declared;
+use crate::schemas::meanings::{Meaning, NameOf, Spaces, meaning_of, put_type_name};
+use crate::translations::Translation;
+use crate::values::{Key, Value};
+use std::rc::RcStr;
+
+/// Writes a type.
+#[cycle(types)]
+pub fn put_type(
+    out: &mut Translation,
+    declared: &Declared<'_>,
+    spaces: &Spaces,
+    value: &Value,
+    left: usize,
+) -> Result<(), FormError> {
+    let Some(left) = left.checked_sub(1) else {
+        return Err(FormError::At(value.place.start, FormFault::TooDeep));
+    };
+    let object = Object::of(value)?;
+    check_annotations(object)?;
+    let named = object.need("type")?;
+    match said_by(named)? {
+        "Record" => put_record(out, declared, spaces, object, left),
+        "Set" => {
+            object.allow(&["type", "element", "annotations", "required"])?;
+            out.put_from(named.place, "Set<")?;
+            put_type(out, declared, spaces, object.need("element")?, left)?;
+            out.put(">")
+        }
+        _ => put_plain_type(out, declared, spaces, object, named),
+    }
+}
+
+/// Writes a record: its attributes in braces.
+#[cycle(types)]
+pub fn put_record(
+    out: &mut Translation,
+    declared: &Declared<'_>,
+    spaces: &Spaces,
+    object: Object<'_>,
+    left: usize,
+) -> Result<(), FormError> {
+    let Some(left) = left.checked_sub(1) else {
+        return Err(FormError::At(object.place.start, FormFault::TooDeep));
+    };
+    object.allow(&[
+        "type",
+        "attributes",
+        "additionalAttributes",
+        "annotations",
+        "required",
+    ])?;
+    check_closed(object)?;
+    out.put_from(object.place, "{")?;
+    if let Some(attributes) = object.get("attributes") {
+        for (key, value) in Object::of(attributes)?.entries {
+            put_key(out, key, value)?;
+            put_type(out, declared, spaces, value, left)?;
+            out.put(", ")?;
+        }
+    }
+    out.put_from(object.place, "}")
+}
+
+/// Fails where a record may have further attributes.
+fn check_closed(object: Object<'_>) -> Result<(), FormError> {
+    match object.get("additionalAttributes") {
+        Some(value) if truth_of(value)? => {
+            Err(FormError::At(value.place.start, FormFault::OpenRecord))
+        }
+        _ => Ok(()),
+    }
+}
+
+/// Writes the key of an attribute, and the mark of one that is not required.
+fn put_key(out: &mut Translation, key: &Key, value: &Value) -> Result<(), FormError> {
+    out.put_quoted(key.place, key.name.as_str())?;
+    let is_required = match Object::of(value)?.get("required") {
+        Some(required) => truth_of(required)?,
+        None => true,
+    };
+    out.put(if is_required { ": " } else { "?: " })
+}
+
+/// Writes a type without parts.
+fn put_plain_type(
+    out: &mut Translation,
+    declared: &Declared<'_>,
+    spaces: &Spaces,
+    object: Object<'_>,
+    named: &Value,
+) -> Result<(), FormError> {
+    let kind = said_by(named)?;
+    if matches!(kind, "Entity" | "EntityOrCommon" | "Extension") {
+        object.allow(&["type", "name", "annotations", "required"])?;
+    } else {
+        object.allow(&["type", "annotations", "required"])?;
+    }
+    match kind {
+        "Long" => out.put_from(named.place, "__cedar::Long"),
+        "String" => out.put_from(named.place, "__cedar::String"),
+        "Boolean" | "Bool" => out.put_from(named.place, "__cedar::Bool"),
+        "Extension" => put_extension(out, object.need("name")?),
+        "Entity" => {
+            put_type_name(
+                out,
+                declared,
+                spaces,
+                object.need("name")?,
+                NameOf::EntityType,
+            )
+        }
+        "EntityOrCommon" => {
+            put_type_name(out, declared, spaces, object.need("name")?, NameOf::Either)
+        }
+        _ => put_type_name(out, declared, spaces, named, NameOf::CommonType),
+    }
+}
+
+/// Writes the extension type of this name.
+fn put_extension(out: &mut Translation, named: &Value) -> Result<(), FormError> {
+    let name = said_by(named)?;
+    if !is_name(name) {
+        return Err(FormError::At(named.place.start, FormFault::Name));
+    }
+    out.put_from(named.place, "__cedar::")?;
+    out.put(name)
+}
+
+/// Writes the attributes of an entity type, which have to be a record. A common type that is one is written in its place, since
+/// Cedar's syntax has no name there.
+pub fn put_shape(
+    out: &mut Translation,
+    declared: &Declared<'_>,
+    namespace: &RcStr,
+    shape: &Value,
+    left: usize,
+) -> Result<(), FormError> {
+    let mut space = namespace.clone()?;
+    let mut current = shape;
+    for _ in 0..declared.common_types.len().saturating_add(1) {
+        let object = Object::of(current)?;
+        check_annotations(object)?;
+        let named = object.need("type")?;
+        if said_by(named)? == "Record" {
+            let spaces = Spaces {
+                written: namespace.clone()?,
+                declared: space,
+            };
+            return put_record(out, declared, &spaces, object, left);
+        }
+        let whole = common_type(declared, space.as_str(), object, named)?;
+        space = RcStr::from_str(declared.alloc, path_of(whole.as_str()))?;
+        current = match declared.common_types.get(&whole) {
+            Some(body) => *body,
+            None => return Err(expected(named, "a record")),
+        };
+    }
+    Err(FormError::At(shape.place.start, FormFault::Circular))
+}
+
+/// The whole name of the common type that stands for a shape.
+fn common_type(
+    declared: &Declared<'_>,
+    namespace: &str,
+    object: Object<'_>,
+    named: &Value,
+) -> Result<String, FormError> {
+    let (name, of) = match said_by(named)? {
+        "EntityOrCommon" => (object.need("name")?, NameOf::Either),
+        "Entity" | "Set" | "Extension" | "Long" | "String" | "Boolean" | "Bool" => {
+            return Err(expected(named, "a record"));
+        }
+        _ => (named, NameOf::CommonType),
+    };
+    match meaning_of(declared, namespace, said_by(name)?, of)? {
+        Meaning::CommonType(whole) => Ok(whole),
+        Meaning::EntityType(_) => Err(expected(name, "a record")),
+        Meaning::Nothing => Err(FormError::At(name.place.start, FormFault::Undeclared)),
+    }
+}
