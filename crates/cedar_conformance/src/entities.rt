@@ -1,0 +1,93 @@
+// Entities as a program has them.
+ghost use Rattle.std.specs.Prelude.{◌≡◌, [], ◌∷◌, ◌++◌, IfOk, OnOk, OnErr, option_map};
+ghost use Rattle.cedar_types.specs.Names.{uid_of};
+ghost use Rattle.cedar_types.specs.Values.Stores.{entity_at};
+ghost use Rattle.cedar_conformance.specs.Entities.{entity_of, store_of, stored_all, IsSameStore};
+
+use crate::values::Record;
+use cedar_types::base::EntityUID;
+use std::alloc::{AllocError, Global};
+use std::collections::{BTreeMap, BTreeSet};
+
+/// What is stored of an entity.
+#[derive(Debug, Drop)]
+pub struct Entity {
+    pub attributes: Record,
+    /// Whatever the entity is in, at any distance.
+    pub ancestors: BTreeSet<EntityUID>,
+    pub tags: Record,
+}
+
+impl Entity {
+    /// An entity without attributes, ancestors and tags.
+    pub fn bare(alloc: Global) -> Entity {
+        Entity {
+            attributes: BTreeMap::new(alloc),
+            ancestors: BTreeSet::new(alloc),
+            tags: BTreeMap::new(alloc),
+        }
+    }
+}
+
+/// Entities by their ids. Of several entries of one id the first counts.
+#[derive(Debug, Drop)]
+pub struct Entities {
+    pub(crate) entries: BTreeMap<EntityUID, Entity>,
+}
+
+impl Entities {
+    /// No entities.
+    pub fn new(alloc: Global) -> Entities
+        ensures { store_of result ≡ [] }
+    {
+        Entities {
+            entries: BTreeMap::new(alloc),
+        }
+    }
+
+    /// The entities of these entries, of which the first of an id counts.
+    pub fn from_list(
+        alloc: Global,
+        listed: Vec<(EntityUID, Entity)>,
+    ) -> Result<Entities, AllocError>
+        ensures { IfOk result (λ e. IsSameStore (store_of e) (stored_all listed.items)) }
+    {
+        let mut all = Entities::new(alloc);
+        for (id, entity) in listed {
+            all.add(id, entity)?;
+        }
+        Ok(all)
+    }
+
+    /// Adds an entity behind those that are there, and answers whether it counts: whether there was none of its id. Where
+    /// memory is refused, nothing changes.
+    pub fn add(&mut self, id: EntityUID, entity: Entity) -> Result<bool, AllocError>
+        ensures ok { OnOk result (IsSameStore (store_of self.new)
+            (store_of self.old ++ (uid_of id, entity_of entity) ∷ [])) }
+        ensures err { OnErr result (store_of self.new ≡ store_of self.old) }
+    {
+        if self.entries.contains_key(&id) {
+            return Ok(false);
+        }
+        self.entries.insert(id, entity)?;
+        Ok(true)
+    }
+
+    /// What is stored of the entity of this id.
+    pub fn get(&self, id: &EntityUID) -> Option<&Entity>
+        ensures { option_map (λ e. entity_of e.now) result
+            ≡ entity_at (store_of self.now) (uid_of id.now) }
+    {
+        self.entries.get(id)
+    }
+
+    /// How many entities there are.
+    pub fn len(&self) -> usize {
+        self.entries.len()
+    }
+
+    /// Whether there are none.
+    pub fn is_empty(&self) -> bool {
+        self.entries.is_empty()
+    }
+}

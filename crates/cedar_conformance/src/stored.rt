@@ -1,0 +1,170 @@
+// Whether what is stored of an entity is as a schema says.
+ghost use Rattle.std.specs.Prelude.{◌≡◌, ◌&&◌, ◌↔◌, Some, IfOk, IsOk, option_map};
+ghost use Rattle.std.specs.List.{list_all};
+ghost use Rattle.cedar_types.specs.Names.{type_of, uid_of};
+ghost use Rattle.cedar_types.specs.Schemas.Contents.{schema_of};
+ghost use Rattle.cedar_types.specs.Schemas.Declarations.{uids_of};
+ghost use Rattle.cedar_types.specs.Schemas.{type_named};
+ghost use Rattle.cedar_types.specs.Types.{ty_of, attributes_of};
+ghost use Rattle.cedar_types.specs.Values.Stores.{FitsDeclaration};
+ghost use Rattle.cedar_conformance.specs.Answers.{finds_none};
+ghost use Rattle.cedar_conformance.specs.Entities.{entity_of};
+ghost use Rattle.cedar_conformance.specs.StoreTests.{tags_fit, ancestor_fits, is_bare, fits_standard, fits_declaration};
+ghost use Rattle.cedar_conformance.specs.Tests.{all_entries, has_type};
+ghost use Rattle.cedar_conformance.specs.Values.{record_of};
+
+use crate::actions::find_in_action;
+use crate::entities::Entity;
+use crate::entity_faults::EntityProblem;
+use crate::faults::{Step, ValueFault};
+use crate::sets::{has_no_ids, is_among_types, is_empty};
+use crate::typed::{find_fault, find_in_record};
+use crate::values::Record;
+use cedar_types::base::{
+    CedarType, EntityUID, OpenTag, StandardValidatorEntityType, ValidatorEntityTypeKind,
+    ValidatorSchema,
+};
+use std::alloc::{AllocError, Global};
+use std::collections::BTreeSet;
+
+/// Whether what is stored of the entity of this id is as the schema says; else how it is not, first. Of an entity of a type
+/// with declared attributes: it has only those and all that are required, each of its type, tags of their type if there is
+/// one, and may be in what it is in. One of an enumerated type has nothing, and of a type that is declared elsewhere nothing is
+/// asked. An action is declared, and has its declared ancestors alone. Where memory is refused, the answer is an `AllocError`.
+pub fn check_entity(
+    alloc: Global,
+    schema: &ValidatorSchema,
+    id: &EntityUID,
+    entity: &Entity,
+) -> Result<Result<(), EntityProblem>, AllocError>
+    ensures { IfOk result (λ r. IsOk r ↔ FitsDeclaration (schema_of schema.now) (uid_of id.now)
+        (type_named (schema_of schema.now).types (uid_of id.now).entity_type)
+        (entity_of entity.now)) }
+{
+    match find_in_entity(alloc, schema, id, entity)? {
+        None => Ok(Ok(())),
+        Some(problem) => Ok(Err(problem)),
+    }
+}
+
+pub(crate) fn find_in_entity(
+    alloc: Global,
+    schema: &ValidatorSchema,
+    id: &EntityUID,
+    entity: &Entity,
+) -> Result<Option<EntityProblem>, AllocError>
+    ensures { IfOk result (λ o. finds_none o
+        ≡ fits_declaration (schema_of schema.now) (uid_of id.now)
+        (type_named (schema_of schema.now).types (uid_of id.now).entity_type)
+        (entity_of entity.now)) }
+{
+    match schema.get_entity_type(&id.entity_type) {
+        None => find_in_action(alloc, schema, id, entity),
+        Some(declared) => match &declared.kind {
+            ValidatorEntityTypeKind::Standard(standard) => {
+                find_in_standard(alloc, schema, id, standard, entity)
+            }
+            ValidatorEntityTypeKind::Enum(_) => Ok(find_in_bare(entity)),
+            ValidatorEntityTypeKind::External => Ok(None),
+        },
+    }
+}
+
+fn find_in_standard(
+    alloc: Global,
+    schema: &ValidatorSchema,
+    id: &EntityUID,
+    standard: &StandardValidatorEntityType,
+    entity: &Entity,
+) -> Result<Option<EntityProblem>, AllocError>
+    ensures { IfOk result (λ o. finds_none o
+        ≡ fits_standard (schema_of schema.now).types (type_of id.now.entity_type)
+        (attributes_of standard.now.attributes) (option_map ty_of standard.now.tags)
+        (entity_of entity.now)) }
+{
+    let closed = OpenTag::ClosedAttributes;
+    if let Some(fault) = find_in_record(alloc, &standard.attributes, closed, &entity.attributes)? {
+        return Ok(Some(EntityProblem::Attribute(fault)));
+    }
+    if let Some(problem) = find_in_tags(alloc, &standard.tags, &entity.tags)? {
+        return Ok(Some(problem));
+    }
+    find_in_ancestors(schema, id, &entity.ancestors)
+}
+
+fn find_in_tags(
+    alloc: Global,
+    tags: &Option<CedarType>,
+    entries: &Record,
+) -> Result<Option<EntityProblem>, AllocError>
+    ensures { IfOk result (λ o.
+        finds_none o ≡ tags_fit (option_map ty_of tags.now) (record_of entries.now)) }
+{
+    match tags {
+        Some(ty) => match find_in_typed_tags(alloc, ty, entries)? {
+            Some(fault) => Ok(Some(EntityProblem::Tag(fault))),
+            None => Ok(None),
+        },
+        None if is_empty(entries) => Ok(None),
+        None => Ok(Some(EntityProblem::UndeclaredTags)),
+    }
+}
+
+fn find_in_typed_tags(
+    alloc: Global,
+    ty: &CedarType,
+    entries: &Record,
+) -> Result<Option<ValueFault>, AllocError>
+    ensures { IfOk result (λ o.
+        finds_none o ≡ all_entries (has_type (ty_of ty.now)) (record_of entries.now)) }
+{
+    for (name, value) in entries.iter() {
+        if let Some(fault) = find_fault(alloc, ty, value)? {
+            return Ok(Some(fault.below(Step::Tag(name.clone()?))?));
+        }
+    }
+    Ok(None)
+}
+
+/// The first ancestor in whose type the entity's may not be.
+fn find_in_ancestors(
+    schema: &ValidatorSchema,
+    id: &EntityUID,
+    ancestors: &BTreeSet<EntityUID>,
+) -> Result<Option<EntityProblem>, AllocError>
+    ensures { IfOk result (λ o. finds_none o
+        ≡ list_all (ancestor_fits (schema_of schema.now).types (type_of id.now.entity_type))
+        (uids_of ancestors.now)) }
+{
+    for ancestor in ancestors.iter() {
+        if !may_be_in(schema, id, ancestor) {
+            return Ok(Some(EntityProblem::Ancestor(ancestor.clone()?)));
+        }
+    }
+    Ok(None)
+}
+
+fn may_be_in(schema: &ValidatorSchema, id: &EntityUID, ancestor: &EntityUID) -> bool
+    ensures { result ≡ ancestor_fits (schema_of schema.now).types
+        (type_of id.now.entity_type) (uid_of ancestor.now) }
+{
+    match schema.get_entity_type(&ancestor.entity_type) {
+        Some(declared) => is_among_types(&declared.descendants, &id.entity_type),
+        None => false,
+    }
+}
+
+/// What is stored of an entity of which nothing may be.
+fn find_in_bare(entity: &Entity) -> Option<EntityProblem>
+    ensures { finds_none result ≡ is_bare (entity_of entity.now) }
+{
+    if !is_empty(&entity.attributes) {
+        Some(EntityProblem::HasAttributes)
+    } else if !has_no_ids(&entity.ancestors) {
+        Some(EntityProblem::HasAncestors)
+    } else if !is_empty(&entity.tags) {
+        Some(EntityProblem::HasTags)
+    } else {
+        None
+    }
+}

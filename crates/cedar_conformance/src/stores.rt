@@ -1,0 +1,114 @@
+// Whether entities are as a schema says.
+ghost use Rattle.std.specs.Prelude.{◌≡◌, ◌&&◌, ◌↔◌, IfOk, IsOk, OnOk};
+ghost use Rattle.std.specs.List.{list_all};
+ghost use Rattle.std.specs.Option.{is_some};
+ghost use Rattle.cedar_types.specs.Names.{uid_of};
+ghost use Rattle.cedar_types.specs.Schemas.Contents.{schema_of};
+ghost use Rattle.cedar_types.specs.Values.Stores.{ConformingStore, entity_at};
+ghost use Rattle.cedar_conformance.specs.Answers.{finds_none, lists_none};
+ghost use Rattle.cedar_conformance.specs.Entities.{store_of};
+ghost use Rattle.cedar_conformance.specs.StoreTests.{fits_schema, store_fits, IsApart};
+
+use crate::entities::Entities;
+use crate::entity_faults::{EntityFault, EntityProblem, add_found};
+use crate::stored::find_in_entity;
+use cedar_types::base::{EntityUID, ValidatorSchema};
+use std::alloc::{AllocError, Global};
+
+/// How many entities are looked for that are not as a schema says.
+pub const MAX_FAULTS: usize = 100;
+
+/// Whether each of the entities is as the schema says, and each declared action is among them. Else the entities of which
+/// that is not so, in the order of their ids, and then the actions that are missing: each with its first fault, and at most
+/// `MAX_FAULTS`. Where memory is refused, the answer is an `AllocError`.
+pub fn check_entities(
+    alloc: Global,
+    schema: &ValidatorSchema,
+    entities: &Entities,
+) -> Result<Result<(), Vec<EntityFault>>, AllocError>
+    ensures { IfOk result (λ r.
+        IsOk r ↔ ConformingStore (schema_of schema.now) (store_of entities.now)) }
+{
+    entities_are_apart(entities);
+    let faults = find_in_store(alloc, schema, entities)?;
+    if faults.is_empty() {
+        Ok(Ok(()))
+    } else {
+        Ok(Err(faults))
+    }
+}
+
+/// Each entity is stored once.
+fn entities_are_apart(entities: &Entities)
+    ensures { IsApart (store_of entities.now) }
+{
+    let _count = entities.entries.len();
+}
+
+fn find_in_store(
+    alloc: Global,
+    schema: &ValidatorSchema,
+    entities: &Entities,
+) -> Result<Vec<EntityFault>, AllocError>
+    ensures { IfOk result (λ v.
+        lists_none v.items ≡ store_fits (schema_of schema.now) (store_of entities.now)) }
+{
+    let mut faults = Vec::new(alloc);
+    add_unfit(alloc, &mut faults, schema, entities)?;
+    add_missing_actions(alloc, &mut faults, schema, entities)?;
+    Ok(faults)
+}
+
+/// Adds the entities that are not as the schema says.
+fn add_unfit(
+    alloc: Global,
+    faults: &mut Vec<EntityFault>,
+    schema: &ValidatorSchema,
+    entities: &Entities,
+) -> Result<(), AllocError>
+    ensures { OnOk result (lists_none faults.new.items ≡ (lists_none faults.old.items
+        && list_all (fits_schema (schema_of schema.now)) (store_of entities.now))) }
+{
+    for (id, entity) in entities.entries.iter() {
+        if faults.len() >= MAX_FAULTS {
+            return Ok(());
+        }
+        let found = find_in_entity(alloc, schema, id, entity)?;
+        add_found(faults, id, found)?;
+    }
+    Ok(())
+}
+
+/// Adds the declared actions that are not there.
+fn add_missing_actions(
+    alloc: Global,
+    faults: &mut Vec<EntityFault>,
+    schema: &ValidatorSchema,
+    entities: &Entities,
+) -> Result<(), AllocError>
+    ensures { OnOk result (lists_none faults.new.items ≡ (lists_none faults.old.items
+        && list_all (λ a. is_some (entity_at (store_of entities.now) a.name))
+        (schema_of schema.now).actions)) }
+{
+    let actions = schema.action_ids(alloc)?;
+    for action in &actions {
+        if faults.len() >= MAX_FAULTS {
+            return Ok(());
+        }
+        add_found(
+            faults,
+            &action.name,
+            find_missing_action(entities, &action.name),
+        )?;
+    }
+    Ok(())
+}
+
+fn find_missing_action(entities: &Entities, action: &EntityUID) -> Option<EntityProblem>
+    ensures { finds_none result ≡ is_some (entity_at (store_of entities.now) (uid_of action.now)) }
+{
+    match entities.get(action) {
+        Some(_entity) => None,
+        None => Some(EntityProblem::MissingAction),
+    }
+}
