@@ -1,8 +1,11 @@
+pub mod CopiedRecords
 pub mod DeclaredActions
 pub mod DeclaredTypes
 pub mod EntityStores
 pub mod Lists
 pub mod Outcomes
 pub mod Records
+pub mod RequestDecisions
+pub mod Slots
 pub mod StoreDecisions
 pub mod TypeTests

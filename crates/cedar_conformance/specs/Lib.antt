@@ -1,5 +1,9 @@
 pub mod Answers
 pub mod Entities
+pub mod PolicyTests
+pub mod Premises
+pub mod RequestTests
+pub mod Requests
 pub mod StoreTests
 pub mod Tests
 pub mod Values

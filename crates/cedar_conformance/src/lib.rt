@@ -3,21 +3,17 @@
 #![tactic(auto)]
 
 mod actions;
+mod copies;
 pub mod entities;
 pub mod entity_faults;
 pub mod faults;
+pub mod policies;
+pub mod premises;
+pub mod requests;
+pub mod schemas;
 mod sets;
+mod shown_values;
 pub mod stored;
 pub mod stores;
 mod typed;
 pub mod values;
-
-#[cfg(test)]
-mod tests {
-    use crate::values::Value;
-
-    #[test]
-    fn longs(rt: HostRuntime) {
-        assert_eq!(rt; Value::Long(1).is_long(), true);
-    }
-}

@@ -1,10 +1,12 @@
 // Values, as a program has them.
-ghost use Rattle.std.specs.Prelude.{◌≡◌, option_map};
+ghost use Rattle.std.specs.Prelude.{◌≡◌, option_map, IfOk};
+ghost use Rattle.cedar_types.specs.Values.{VString, VExtension};
 ghost use Rattle.cedar_types.specs.Names.{path_of, uid_of};
 ghost use Rattle.cedar_conformance.specs.Values.{value_of, record_of, values_of};
 ghost use Rattle.cedar_conformance.specs.Tests.{bool_in, is_long, is_string, entity_in, set_in, record_in, extension_in};
 
 use cedar_types::base::{EntityUID, Name};
+use std::alloc::{AllocError, Global};
 use std::collections::BTreeMap;
 use std::rc::RcStr;
 
@@ -12,7 +14,9 @@ use std::rc::RcStr;
 pub type Record = BTreeMap<RcStr, Value>;
 
 /// What an attribute, a tag or a context can be. To drop a value that is nested deep takes a deep stack.
-#[derive(Debug)]
+///
+/// The order of values is the order of their kinds here, and within a kind that of what they hold, sets by their lists.
+#[derive(PartialEq, Eq, PartialOrd, Ord, Debug)]
 pub enum Value {
     /// A truth value.
     Bool(bool),
@@ -49,6 +53,21 @@ impl Drop for Value {
 }
 
 impl Value {
+    /// The text.
+    pub fn string(alloc: Global, text: &str) -> Result<Value, AllocError>
+        ensures { IfOk result (λ v. value_of v ≡ VString text.now) }
+    {
+        Ok(Value::String(RcStr::from_str(alloc, text)?))
+    }
+
+    /// The value of this extension type for which the text stands. Whether the type has such a value is not asked.
+    pub fn extension(alloc: Global, type_name: Name, text: &str) -> Result<Value, AllocError>
+        ensures { IfOk result (λ v. value_of v ≡ VExtension (path_of type_name) text.now) }
+    {
+        let text = RcStr::from_str(alloc, text)?;
+        Ok(Value::Extension { type_name, text })
+    }
+
     /// The truth value, if it is one.
     pub fn as_bool(&self) -> Option<bool>
         ensures { result ≡ bool_in (value_of self.now) }

@@ -1,0 +1,195 @@
+// What the promises ask of a policy and of its links.
+ghost use Rattle.std.specs.Prelude.{◌≡◌, false, ◌↔◌, IfOk, IsOk, option_map, is_some};
+ghost use Rattle.std.specs.List.{list_any};
+ghost use Rattle.cedar_types.specs.Expressions.Parts.{subexpressions};
+ghost use Rattle.cedar_types.specs.Expressions.View.{written};
+ghost use Rattle.cedar_types.specs.Templates.{template_of, condition_of};
+ghost use Rattle.cedar_typing.specs.Composition.{SlotsInScopeAlone};
+ghost use Rattle.cedar_typing.specs.Evaluation.Conformance.{SlotsBound};
+ghost use Rattle.cedar_typing.specs.Silence.{is_unknown, HasNoUnknowns};
+ghost use Rattle.cedar_typing.specs.Soundness.Policies.{IsWellFormed};
+ghost use Rattle.cedar_conformance.specs.Answers.{finds_none};
+ghost use Rattle.cedar_conformance.specs.PolicyTests.{slots_of, rest_has_unknown, mentions_any_slot, rest_mentions_slot, slot_fits, slots_fit, policy_fits};
+
+use cedar_types::base::{Expr, ExprKind, SlotEnv, SlotId, Template};
+use std::alloc::{AllocError, Global};
+use std::fmt;
+
+/// Why a policy with these links is not well-formed: the first of these that is so.
+#[derive(Clone, Copy, Debug, PartialEq, Eq)]
+pub enum PolicyFault {
+    /// Its condition has an unknown.
+    Unknown,
+    /// A slot stands outside the scope.
+    SlotOutsideScope,
+    /// This slot occurs, and is not bound.
+    UnboundSlot(SlotId),
+}
+
+impl fmt::Display for PolicyFault {
+    fn fmt<W: fmt::Write>(&self, f: &mut fmt::Formatter<W>) -> fmt::Result {
+        match self {
+            PolicyFault::Unknown => write!(f, "the condition has an unknown"),
+            PolicyFault::SlotOutsideScope => write!(f, "a slot stands outside the scope"),
+            PolicyFault::UnboundSlot(SlotId::Principal) => write!(f, "?principal is not bound"),
+            PolicyFault::UnboundSlot(SlotId::Resource) => write!(f, "?resource is not bound"),
+        }
+    }
+}
+
+/// Whether the policy has no unknowns, its slots stand in the scope alone, and each that occurs is bound. Else the first
+/// fault. Where memory is refused, the answer is an `AllocError`.
+pub fn check_policy(
+    alloc: Global,
+    template: &Template,
+    values: &SlotEnv,
+) -> Result<Result<(), PolicyFault>, AllocError>
+    ensures { IfOk result (λ r.
+        IsOk r ↔ IsWellFormed (template_of template.now) (slots_of values.now)) }
+{
+    match find_in_policy(alloc, template, values)? {
+        None => Ok(Ok(())),
+        Some(fault) => Ok(Err(fault)),
+    }
+}
+
+fn find_in_policy(
+    alloc: Global,
+    template: &Template,
+    values: &SlotEnv,
+) -> Result<Option<PolicyFault>, AllocError>
+    ensures { IfOk result (λ o.
+        finds_none o ≡ policy_fits (template_of template.now) (slots_of values.now)) }
+{
+    if rest_has_unknown(alloc, &template.non_scope_constraints)? {
+        return Ok(Some(PolicyFault::Unknown));
+    }
+    if rest_mentions_slot(alloc, &template.non_scope_constraints)? {
+        return Ok(Some(PolicyFault::SlotOutsideScope));
+    }
+    match find_unbound(alloc, template, values)? {
+        Some(slot) => Ok(Some(PolicyFault::UnboundSlot(slot))),
+        None => Ok(None),
+    }
+}
+
+/// Whether each slot that occurs in the template is bound; else the first that is not. Where memory is refused, the answer
+/// is an `AllocError`.
+pub fn check_slots(
+    alloc: Global,
+    template: &Template,
+    values: &SlotEnv,
+) -> Result<Result<(), SlotId>, AllocError>
+    ensures { IfOk result (λ r.
+        IsOk r ↔ SlotsBound (slots_of values.now) (condition_of (template_of template.now))) }
+{
+    match find_unbound(alloc, template, values)? {
+        None => Ok(Ok(())),
+        Some(slot) => Ok(Err(slot)),
+    }
+}
+
+fn find_unbound(
+    alloc: Global,
+    template: &Template,
+    values: &SlotEnv,
+) -> Result<Option<SlotId>, AllocError>
+    ensures { IfOk result (λ o.
+        finds_none o ≡ slots_fit (template_of template.now) (slots_of values.now)) }
+{
+    if !slot_fits(alloc, template, values, SlotId::Principal)? {
+        return Ok(Some(SlotId::Principal));
+    }
+    if !slot_fits(alloc, template, values, SlotId::Resource)? {
+        return Ok(Some(SlotId::Resource));
+    }
+    Ok(None)
+}
+
+fn slot_fits(
+    alloc: Global,
+    template: &Template,
+    values: &SlotEnv,
+    slot: SlotId,
+) -> Result<bool, AllocError>
+    ensures { IfOk result (λ b.
+        b ≡ slot_fits slot (template_of template.now) (slots_of values.now)) }
+{
+    let occurs = template.mentions_slot(alloc, slot)?;
+    Ok(!occurs || is_bound(values, slot))
+}
+
+fn is_bound(values: &SlotEnv, slot: SlotId) -> bool
+    ensures { result ≡ is_some (slots_of values.now slot) }
+{
+    values.contains_key(&slot)
+}
+
+/// Whether a part of the template's condition, at any depth, is an unknown. It does not recurse. Where memory is refused,
+/// the answer is an `AllocError`.
+pub fn has_unknowns(alloc: Global, template: &Template) -> Result<bool, AllocError>
+    ensures { IfOk result (λ b.
+        (b ≡ false) ↔ HasNoUnknowns (condition_of (template_of template.now))) }
+{
+    let has_unknown = rest_has_unknown(alloc, &template.non_scope_constraints)?;
+    Ok(has_unknown)
+}
+
+fn rest_has_unknown(alloc: Global, rest: &Option<Expr>) -> Result<bool, AllocError>
+    ensures { IfOk result (λ b. b ≡ rest_has_unknown (option_map written rest.now)) }
+{
+    match rest {
+        Some(rest) => has_unknown(alloc, rest),
+        None => Ok(false),
+    }
+}
+
+fn has_unknown(alloc: Global, expr: &Expr) -> Result<bool, AllocError>
+    ensures { IfOk result (λ b. b ≡ list_any is_unknown (subexpressions (written expr.now))) }
+{
+    for part in expr.subexpressions(alloc)? {
+        if is_unknown(part?) {
+            return Ok(true);
+        }
+    }
+    Ok(false)
+}
+
+/// Whether the expression is itself an unknown.
+fn is_unknown(expr: &Expr) -> bool
+    ensures { result ≡ is_unknown (written expr.now) }
+{
+    match &expr.kind {
+        ExprKind::Unknown(_) => true,
+        _ => false,
+    }
+}
+
+/// Whether a slot occurs outside the template's scope. It does not recurse. Where memory is refused, the answer is an
+/// `AllocError`.
+pub fn has_slots_outside_scope(alloc: Global, template: &Template) -> Result<bool, AllocError>
+    ensures { IfOk result (λ b. (b ≡ false) ↔ SlotsInScopeAlone (template_of template.now)) }
+{
+    let has_slot = rest_mentions_slot(alloc, &template.non_scope_constraints)?;
+    Ok(has_slot)
+}
+
+fn rest_mentions_slot(alloc: Global, rest: &Option<Expr>) -> Result<bool, AllocError>
+    ensures { IfOk result (λ b. b ≡ rest_mentions_slot (option_map written rest.now)) }
+{
+    match rest {
+        Some(rest) => mentions_any_slot(alloc, rest),
+        None => Ok(false),
+    }
+}
+
+fn mentions_any_slot(alloc: Global, expr: &Expr) -> Result<bool, AllocError>
+    ensures { IfOk result (λ b. b ≡ mentions_any_slot (written expr.now)) }
+{
+    let has_principal = expr.mentions_slot(alloc, SlotId::Principal)?;
+    if has_principal {
+        return Ok(true);
+    }
+    let has_resource = expr.mentions_slot(alloc, SlotId::Resource)?;
+    Ok(has_resource)
+}

@@ -1,0 +1,180 @@
+// Requests, and whether one conforms to a schema.
+ghost use Rattle.std.specs.Prelude.{◌≡◌, false, ◌↔◌, Some, IfOk, IsOk};
+ghost use Rattle.cedar_types.specs.Schemas.Contents.{schema_of};
+ghost use Rattle.cedar_types.specs.Schemas.Declarations.{application};
+ghost use Rattle.cedar_types.specs.Names.{type_of, uid_of};
+ghost use Rattle.cedar_types.specs.Types.{ty_of, kind_of};
+ghost use Rattle.cedar_types.specs.Values.{VRecord};
+ghost use Rattle.cedar_typing.specs.Evaluation.Conformance.{ConformingRequest};
+ghost use Rattle.cedar_conformance.specs.Answers.{finds_none};
+ghost use Rattle.cedar_conformance.specs.Requests.{request_of};
+ghost use Rattle.cedar_conformance.specs.RequestTests.{request_fits, application_fits};
+ghost use Rattle.cedar_conformance.specs.Tests.{has_type};
+ghost use Rattle.cedar_conformance.specs.Values.{record_of};
+
+use crate::faults::{Mismatch, ValueFault, ValueKind};
+use crate::sets::is_among_types;
+use crate::typed::find_in_record;
+use crate::values::Record;
+use cedar_types::base::{
+    CedarType, EntityKind, EntityType, EntityUID, ValidatorApplySpec, ValidatorSchema,
+};
+use std::alloc::{AllocError, Global};
+use std::fmt;
+
+/// Who asks to do what with what, and the context.
+#[derive(Debug, Drop)]
+pub struct Request {
+    pub principal: EntityUID,
+    pub action: EntityUID,
+    pub resource: EntityUID,
+    pub context: Record,
+}
+
+/// Why a request does not conform: the first of these that is so.
+#[derive(Debug, PartialEq, Eq, Drop)]
+pub enum RequestFault {
+    /// The action is not declared.
+    UndeclaredAction(EntityUID),
+    /// The action is declared elsewhere, so it is not known what it applies to.
+    ExternalAction(EntityUID),
+    /// The action does not apply to principals of this type.
+    PrincipalType(EntityType),
+    /// The action does not apply to resources of this type.
+    ResourceType(EntityType),
+    /// The context is not as the action's type of it says.
+    Context(ValueFault),
+}
+
+impl fmt::Display for RequestFault {
+    fn fmt<W: fmt::Write>(&self, f: &mut fmt::Formatter<W>) -> fmt::Result {
+        match self {
+            RequestFault::UndeclaredAction(action) => {
+                write!(f, "action: {action} is not declared")
+            }
+            RequestFault::ExternalAction(action) => {
+                write!(f, "action: it is not known what {action} applies to")
+            }
+            RequestFault::PrincipalType(found) => {
+                write!(f, "principal: the action does not apply to {found}")
+            }
+            RequestFault::ResourceType(found) => {
+                write!(f, "resource: the action does not apply to {found}")
+            }
+            RequestFault::Context(fault) => write!(f, "context{fault}"),
+        }
+    }
+}
+
+/// Whether the request is one of those that the schema allows: it is about an action that is declared, entities of types that
+/// the action applies to, and a context of the action's type. Else the first fault. Whether there are such entities is not
+/// asked. Where memory for a fault is refused, the answer is an `AllocError`.
+pub fn check_request(
+    alloc: Global,
+    schema: &ValidatorSchema,
+    request: &Request,
+) -> Result<Result<(), RequestFault>, AllocError>
+    ensures { IfOk result (λ r.
+        IsOk r ↔ ConformingRequest (schema_of schema.now) (request_of request.now)) }
+{
+    match find_in_request(alloc, schema, request)? {
+        None => Ok(Ok(())),
+        Some(fault) => Ok(Err(fault)),
+    }
+}
+
+fn find_in_request(
+    alloc: Global,
+    schema: &ValidatorSchema,
+    request: &Request,
+) -> Result<Option<RequestFault>, AllocError>
+    ensures { IfOk result (λ o.
+        finds_none o ≡ request_fits (schema_of schema.now) (uid_of request.now.principal)
+        (uid_of request.now.action) (uid_of request.now.resource)
+        (record_of request.now.context)) }
+{
+    let Some(action) = schema.get_action_id(&request.action) else {
+        let undeclared = request.action.clone()?;
+        return Ok(Some(RequestFault::UndeclaredAction(undeclared)));
+    };
+    match action.defined() {
+        Some(applies_to) => find_in_application(alloc, applies_to, request),
+        None => Ok(Some(RequestFault::ExternalAction(request.action.clone()?))),
+    }
+}
+
+fn find_in_application(
+    alloc: Global,
+    applies_to: &ValidatorApplySpec,
+    request: &Request,
+) -> Result<Option<RequestFault>, AllocError>
+    ensures { IfOk result (λ o. finds_none o
+        ≡ application_fits (Some (application applies_to.now)) (type_of request.now.principal.entity_type)
+        (type_of request.now.resource.entity_type) (record_of request.now.context)) }
+{
+    if !is_among_types(
+        &applies_to.principal_apply_spec,
+        &request.principal.entity_type,
+    ) {
+        let found = request.principal.entity_type.clone()?;
+        return Ok(Some(RequestFault::PrincipalType(found)));
+    }
+    if !is_among_types(
+        &applies_to.resource_apply_spec,
+        &request.resource.entity_type,
+    ) {
+        let found = request.resource.entity_type.clone()?;
+        return Ok(Some(RequestFault::ResourceType(found)));
+    }
+    match find_in_context(alloc, &applies_to.context, &request.context)? {
+        None => Ok(None),
+        Some(fault) => Ok(Some(RequestFault::Context(fault))),
+    }
+}
+
+/// Where the context is not as its type says.
+fn find_in_context(
+    alloc: Global,
+    ty: &CedarType,
+    context: &Record,
+) -> Result<Option<ValueFault>, AllocError>
+    ensures { IfOk result (λ o.
+        finds_none o ≡ has_type (ty_of ty.now) (VRecord (record_of context.now))) }
+{
+    match ty {
+        CedarType::Record {
+            attributes,
+            is_open,
+        } => find_in_record(alloc, attributes, *is_open, context),
+        CedarType::Entity(kind) => {
+            entities_are_no_records(kind, context);
+            no_record(alloc, ty)
+        }
+        CedarType::Never => no_record(alloc, ty),
+        CedarType::Bool(_) => no_record(alloc, ty),
+        CedarType::Long => no_record(alloc, ty),
+        CedarType::String => no_record(alloc, ty),
+        CedarType::Set(_) => no_record(alloc, ty),
+        CedarType::AnySet => no_record(alloc, ty),
+        CedarType::Extension(_) => no_record(alloc, ty),
+    }
+}
+
+/// A record has no type of entities.
+fn entities_are_no_records(kind: &EntityKind, context: &Record)
+    ensures { has_type (kind_of kind.now) (VRecord (record_of context.now)) ≡ false }
+{
+    match kind {
+        EntityKind::Entity(_) => {}
+        EntityKind::AnyEntity => {}
+    }
+}
+
+/// That a record is of another type than this.
+fn no_record(alloc: Global, ty: &CedarType) -> Result<Option<ValueFault>, AllocError>
+    ensures { IfOk result (λ o. finds_none o ≡ false) }
+{
+    let expected = ty.clone()?;
+    let found = ValueKind::Record;
+    Ok(Some(ValueFault::here(alloc, Mismatch::WrongType { expected, found })))
+}
