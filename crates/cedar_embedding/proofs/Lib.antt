@@ -1,9 +1,0 @@
-mod AddedIds
-mod TypedConditions
-mod LoadedOutcomes
-mod LoadedSlices
-mod Passes
-mod Promises
-mod Reported
-mod SameResponses
-mod Rounds

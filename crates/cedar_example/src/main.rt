@@ -1,15 +1,15 @@
 //! Validates two policies and prints a report on each. The README shows its end.
 #![tactic(auto)]
 
-use cedar_embedding::policy_sets::WrittenPolicy;
-use cedar_embedding::safety::SoundMode;
-use cedar_embedding::slices::validate_for_slices;
+use cedar_host::policy_sets::WrittenPolicy;
+use cedar_host::safety::SoundMode;
+use cedar_host::slices::validate_for_slices;
 use cedar_typechecker::base::*;
 use cedar_typechecker::rbac::Validator;
 use std::alloc::{AllocError, Global};
 use std::collections::BTreeSet;
 use std::io;
-use std::rc::Rc;
+use std::rc::{Rc, RcStr};
 use thiserror::Error;
 
 /// Why the report is not printed whole.
@@ -75,7 +75,7 @@ fn policy(alloc: Global, id: &str, condition: Expr) -> Result<WrittenPolicy, All
     Ok(WrittenPolicy {
         effect: Effect::Permit,
         template,
-        text: String::new(alloc),
+        text: RcStr::from_str(alloc, "")?,
     })
 }
 

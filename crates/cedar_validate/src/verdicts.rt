@@ -1,8 +1,8 @@
 // What is said of a policy.
 use crate::environments::environments_shown;
-use cedar_embedding::policy_sets::{Findings, validate};
-use cedar_embedding::safety::SoundMode;
-use cedar_embedding::slices::validate_within;
+use cedar_host::policy_sets::{Findings, validate};
+use cedar_host::safety::SoundMode;
+use cedar_host::slices::validate_within;
 use cedar_typechecker::rbac::Validator;
 use cedar_typechecker::survey::Environments;
 use cedar_types::base::{

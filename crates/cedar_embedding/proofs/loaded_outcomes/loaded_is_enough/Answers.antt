@@ -1,5 +1,0 @@
-use Rattle.cedar_embedding.proofs.LoadedOutcomes.{loaded_give_the_same, loaded_respond_the_same}
-use Rattle.cedar_embedding.proofs.loaded_outcomes.loaded_is_enough.Goals as goal
-
-pub returns : goal.returns
-returns c = record { outcomes = loaded_give_the_same; responses = loaded_respond_the_same }

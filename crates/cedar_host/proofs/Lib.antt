@@ -1,0 +1,13 @@
+mod AddedIds
+mod Distinct
+pub mod HandedIn
+mod TypedConditions
+mod LoadedOutcomes
+mod LoadedSlices
+mod Passes
+mod Promises
+mod Repeats
+mod Reported
+mod SameResponses
+mod SetLevels
+mod FoundInRounds

@@ -1,0 +1,40 @@
+-- Reports, one after another: each is on its policy, and says no more than was found.
+use Rattle.std.proofs.Common.{◌≡◌, ℕ, ◌+◌, ◌<◌, Bool, true, List, [], ◌∷◌, ◌++◌, map, take, length, All, get_or, sym, ap, subst, ◌∙◌}
+use Rattle.std.proofs.lemmas.List.{map_push, take_more}
+use Rattle.std.proofs.lemmas.List.Elements.{All-push}
+use Rattle.cedar_types.specs.Templates.{PlainTemplate, template_of}
+use Rattle.cedar_typing.specs.Soundness.Policies.{Basis}
+use Rattle.cedar_host.specs.declared.reports.PolicyReport.{PolicyReport}
+use Rattle.cedar_host.specs.Safety.{PassesEverywhere, DoesNotGoWrong, IsNeverTrue, IsRight}
+
+-- one more report is on one more policy
+pub one_more_each :
+    {R P : Type 0} (about : R → P) (policies : List P) (i : ℕ) (policy : P) (old new : List R)
+    (said : R) → new ≡ old ++ said ∷ [] → map about old ≡ take i policies → about said ≡ policy
+    → i < length policies → policy ≡ get_or policies i policy
+    → map about new ≡ take (i + 1) policies
+one_more_each about policies i policy old new said pushed each of_policy below is =
+    ap (map about) pushed
+    ∙ map_push about old said
+    ∙ (λ j. each j ++ of_policy j ∷ [])
+    ∙ ap (λ p. take i policies ++ p ∷ []) is
+    ∙ sym (take_more policies i policy below)
+
+-- and says what all say
+pub one_more_right : {R : Type 0} (P : R → Type 0) (old new : List R) (said : R)
+    → new ≡ old ++ said ∷ [] → All P old → P said → All P new
+one_more_right P old new said pushed all right =
+    subst (All P) (sym pushed) (All-push P old said all right)
+
+-- a report that says of a template what was found in it
+pub right_report : (b : Basis) (r : PolicyReport) (t : PlainTemplate) (accepted impossible : Bool)
+    → template_of r.policy.now.template ≡ t
+    → r.is_accepted ≡ accepted → r.is_impossible ≡ impossible
+    → (accepted ≡ true → PassesEverywhere b t) → (accepted ≡ true → DoesNotGoWrong b t)
+    → (impossible ≡ true → IsNeverTrue b t) → IsRight b r
+right_report b r t accepted impossible same of_accepted of_impossible checked safe never_true =
+    record {
+      checked = λ h. subst (PassesEverywhere b) (sym same) (checked (sym of_accepted ∙ h));
+      safe = λ h. subst (DoesNotGoWrong b) (sym same) (safe (sym of_accepted ∙ h));
+      never_true = λ h. subst (IsNeverTrue b) (sym same) (never_true (sym of_impossible ∙ h));
+    }

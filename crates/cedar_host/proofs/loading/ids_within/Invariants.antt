@@ -1,0 +1,12 @@
+use Rattle.std.proofs.Common.{◌≡◌, ℕ, suc, map}
+use Rattle.cedar_types.specs.Names.{uid_of}
+use Rattle.cedar_types.specs.Schemas.Declarations.{uids_of}
+use Rattle.cedar_host.proofs.FoundInRounds.{IsRound}
+use Rattle.cedar_host.proofs.loading.ids_within.Given as goal
+
+-- one step is done by the first ids, and each further one by a round
+abbrev pub invariant-loop-step : goal.invariant-loop-step
+invariant-loop-step g l =
+    (k : ℕ) × (l._step ≡ suc k)
+    × IsRound (g.E.Entities.answered l.entities) (map uid_of l.start) k (uids_of l.ids)
+    (map uid_of l.newest.items)

@@ -1,0 +1,14 @@
+use Rattle.std.proofs.Common.{refl}
+use Rattle.cedar_host.proofs.responses.examples_of_responses.Goals as goal
+
+pub returns : goal.returns
+returns c = record {
+  none = refl;
+  not_permitted = refl;
+  permitted = refl;
+  not_forbidden = refl;
+  forbidden = refl;
+  forbidden_first = refl;
+  failing_permit = refl;
+  failing_forbid = refl;
+}

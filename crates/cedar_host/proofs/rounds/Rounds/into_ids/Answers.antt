@@ -1,0 +1,6 @@
+use Rattle.std.proofs.Common.{refl}
+use Rattle.cedar_host.proofs.HandedIn.{find_slices}
+use Rattle.cedar_host.proofs.rounds.Rounds.into_ids.Goals as goal
+
+pub returns : goal.returns
+returns c = record { slices = find_slices c.args.self _ refl }

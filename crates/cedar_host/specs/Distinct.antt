@@ -1,0 +1,8 @@
+-- Lists in which nothing comes twice.
+use Rattle.std.specs.Prelude.{List, [], ◌∷◌}
+use Rattle.cedar_typing.specs.Evaluation.Conformance.{IsOneOf}
+
+-- each comes once
+abbrev pub AreDistinct : {A : Type 0} → List A → Type 0
+AreDistinct [] = Unit {0}
+AreDistinct (x ∷ xs) = (IsOneOf x xs → ⊥) × AreDistinct xs

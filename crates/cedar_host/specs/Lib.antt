@@ -1,0 +1,11 @@
+pub mod Conditions
+pub mod Distinct
+pub mod LoadedOutcomes
+pub mod Loading
+pub mod Repeats
+pub mod ResponseExamples
+pub mod Responses
+pub mod Rounds
+pub mod Safety
+pub mod SetLevels
+pub mod Slices

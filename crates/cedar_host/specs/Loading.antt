@@ -1,0 +1,58 @@
+-- What a host loads for a slice: the ids within some steps of a request, and a store with the
+-- entries of these.
+use Rattle.std.specs.Prelude.{◌≡◌, ◌⊎◌, ℕ, zero, suc, List, [], ◌++◌}
+use Rattle.std.specs.List.{flat_map}
+use Rattle.cedar_types.specs.Names.{Uid}
+use Rattle.cedar_types.specs.Values.Stores.{Store, entity_at}
+use Rattle.cedar_typechecker.specs.Slices.Reach.{reach, IsPartOf, HoldsSlice}
+use Rattle.cedar_typing.specs.Evaluation.Conformance.{IsOneOf}
+use Rattle.cedar_typing.specs.Evaluation.World.{Request}
+
+-- each of the first ids is one of the second
+abbrev pub AreAmong : List Uid → List Uid → Type 0
+AreAmong us vs = (u : Uid) → IsOneOf u us → IsOneOf u vs
+
+-- the same ids, in any order and however often
+pub record AreSame (us vs : List Uid) : Type 0 where
+  pub all : AreAmong us vs
+  pub only : AreAmong vs us
+
+-- ---- steps, by the ids that a host answers of each id
+
+-- what is reached in n steps: in none the ids of the start, in one more what is answered of those
+-- that were reached before
+abbrev pub ids_at : (Uid → List Uid) → List Uid → ℕ → List Uid
+ids_at answered start zero = start
+ids_at answered start (suc n) = flat_map answered (ids_at answered start n)
+
+-- what is reached in fewer than n steps
+abbrev pub ids_below : (Uid → List Uid) → List Uid → ℕ → List Uid
+ids_below answered start zero = []
+ids_below answered start (suc n) = ids_below answered start n ++ ids_at answered start n
+
+-- ---- what is loaded
+
+-- a part of a store that has of each of these ids what the store has
+pub record IsLoaded (store : Store) (ids : List Uid) (part : Store) : Type 0 where
+  pub of_store : IsPartOf part store
+  pub of_ids : (u : Uid) → IsOneOf u ids → entity_at part u ≡ entity_at store u
+
+-- of each request whose own ids are of the start, what is loaded has the slice of n steps
+abbrev pub LoadsSlices : Store → List Uid → ℕ → List Uid → Type 0
+LoadsSlices store start n ids =
+    (r : Request) → AreAmong (reach r store 0) start
+    → (part : Store) → IsLoaded store ids part → HoldsSlice r store n part
+
+-- ---- while it is found
+
+-- these are added to a set, which had the old ids and has the new ones: all of both, and besides the
+-- old ones only what was added, which is of these
+pub record AddsNew (old these new added : List Uid) : Type 0 where
+  pub kept : AreAmong old new
+  pub there : AreAmong these new
+  pub only : (u : Uid) → IsOneOf u new → IsOneOf u old ⊎ IsOneOf u added
+  pub of_these : AreAmong added these
+
+-- none of the first ids is one of the second
+abbrev pub AreNew : List Uid → List Uid → Type 0
+AreNew us vs = (u : Uid) → IsOneOf u us → IsOneOf u vs → ⊥

@@ -1,0 +1,45 @@
+-- What an authoriser answers of some policies, by the outcome of each.
+use Rattle.std.specs.Prelude.{◌≡◌, true, false, List, [], ◌∷◌, None, codes}
+use Rattle.cedar_types.specs.declared.base.templates.effects.Effect.{Effect}
+use Rattle.cedar_types.specs.declared.base.templates.effects.Effect.TheVariants.{Permit, Forbid}
+use Rattle.cedar_types.specs.Names.{Text}
+use Rattle.cedar_typing.specs.Evaluation.Outcomes.{Test, Says, Stops}
+use Rattle.cedar_typing.specs.Evaluation.World.{Failure, MissingEntity, Overflow}
+use Rattle.cedar_typing.specs.Examples.Expressions.{true_lit}
+use Rattle.cedar_typing.specs.Examples.PolicySoundness.{policy_when}
+use Rattle.cedar_host.specs.Responses.{LinkedPolicy, Answer, PolicyError, Decision, allow, deny, Response, response_to}
+
+-- a permit and a forbid with their outcomes: what they ask does not matter here
+abbrev pub named : Effect → Text → LinkedPolicy
+named e n = record { name = n; effect = e; template = policy_when true_lit; slots = λ x. None }
+
+abbrev pub permits : Test → Answer
+permits o = record { policy = named Permit (codes "p"); test = o }
+
+abbrev pub forbids : Test → Answer
+forbids o = record { policy = named Forbid (codes "f"); test = o }
+
+abbrev pub answered : Decision → List Text → List PolicyError → Response
+answered d by es = record { decision = d; determining = by; erring = es }
+
+abbrev pub error_of : Text → Failure → PolicyError
+error_of n f = record { policy = n; failure = f }
+
+pub record ResponseExamples : Type 0 where
+  -- without a policy, and where no permit is satisfied, a request is denied
+  pub none : response_to [] ≡ answered deny [] []
+  pub not_permitted : response_to (permits (Says false) ∷ []) ≡ answered deny [] []
+  -- a satisfied permit allows it
+  pub permitted : response_to (permits (Says true) ∷ []) ≡ answered allow (codes "p" ∷ []) []
+  pub not_forbidden : response_to (permits (Says true) ∷ forbids (Says false) ∷ [])
+      ≡ answered allow (codes "p" ∷ []) []
+  -- a satisfied forbid denies it, wherever it stands, and determines that alone
+  pub forbidden : response_to (permits (Says true) ∷ forbids (Says true) ∷ [])
+      ≡ answered deny (codes "f" ∷ []) []
+  pub forbidden_first : response_to (forbids (Says true) ∷ permits (Says true) ∷ [])
+      ≡ answered deny (codes "f" ∷ []) []
+  -- a permit that fails does not allow, and a forbid that fails does not deny: both err
+  pub failing_permit : response_to (permits (Stops MissingEntity) ∷ [])
+      ≡ answered deny [] (error_of (codes "p") MissingEntity ∷ [])
+  pub failing_forbid : response_to (permits (Says true) ∷ forbids (Stops Overflow) ∷ [])
+      ≡ answered allow (codes "p" ∷ []) (error_of (codes "f") Overflow ∷ [])

@@ -1,0 +1,14 @@
+//! What a host of policies calls: it validates a set of policies, for whole stores or for slices, finds
+//! the entities of a slice, and takes the typed conditions of a policy. Each call has its promise beside
+//! it.
+#![tactic(auto)]
+
+pub mod conditions;
+pub mod loaded_outcomes;
+pub mod loading;
+pub mod policy_sets;
+pub mod reports;
+pub mod responses;
+pub mod rounds;
+pub mod safety;
+pub mod slices;

@@ -1,0 +1,115 @@
+//! Which entities a slice has, and how a host finds them: entity by entity, in rounds.
+ghost use Rattle.std.specs.Prelude.{◌≡◌, ◌++◌, IfOk, OnOk, map, List};
+ghost use Rattle.std.specs.List.{flat_map};
+ghost use Rattle.cedar_types.specs.Schemas.Declarations.{uids_of};
+ghost use Rattle.cedar_types.specs.Names.{Uid, uid_of};
+ghost use Rattle.cedar_types.specs.Values.Stores.{Store, entity_at};
+ghost use Rattle.cedar_typechecker.specs.Slices.Reach.{ids_of};
+ghost use Rattle.cedar_host.specs.Distinct.{AreDistinct};
+ghost use Rattle.cedar_host.specs.Loading.{AreAmong, AreSame, AreNew, ids_below, LoadsSlices, AddsNew};
+
+use cedar_types::base::EntityUID;
+use std::alloc::{AllocError, Global};
+use std::collections::BTreeSet;
+
+/// The entities of a host.
+pub trait Entities {
+    // the store that they are
+    ghost store: { Self → Store };
+
+    // what is answered of an id
+    ghost answered: { Self → Uid → List Uid };
+
+    /// The ids inside the attributes and the tags of this entity, at any depth and in any order; none,
+    /// where there is no such entity. An answer may have more, and what these hold is then found too.
+    /// Where memory is refused, it is an `AllocError`.
+    fn held(&self, alloc: Global, id: &EntityUID) -> Result<Vec<EntityUID>, AllocError>
+        ensures { IfOk result (λ held. map uid_of held.items ≡ answered self.now (uid_of id.now)) };
+
+    // no id is left out that the store has there
+    ghost complete: { (s : Self) (u : Uid) →
+        AreAmong (ids_of (entity_at (store s) u)) (answered s u) };
+}
+
+/// The ids of the entities that a slice of `steps` steps has, of each request whose own ids are among
+/// these: its principal, its action, its resource, and the ids inside its context.
+///
+/// They are found in rounds, of which there are fewer than `steps`, and fewer still where a round
+/// finds nothing new. No entity is asked twice for what it holds, and those of the last step are not
+/// asked. Of several equal ids the first is answered, with its place. Where memory is refused, the
+/// answer is an `AllocError`.
+pub fn ids_within<E: Entities>(
+    alloc: Global,
+    entities: &E,
+    start: &[EntityUID],
+    steps: u32,
+) -> Result<BTreeSet<EntityUID>, AllocError>
+    ensures exact { IfOk result (λ ids. AreSame
+        (ids_below (E.answered entities.now) (map uid_of start.now) steps) (uids_of ids)) }
+    ensures slices { IfOk result (λ ids.
+        LoadsSlices (E.store entities.now) (map uid_of start.now) steps (uids_of ids)) }
+{
+    let mut ids = BTreeSet::new(alloc);
+    if steps == 0 {
+        return Ok(ids);
+    }
+    let mut newest = add_new(alloc, &mut ids, start)?;
+    for _step in 1..steps {
+        if newest.is_empty() {
+            return Ok(ids);
+        }
+        newest = add_held(alloc, &mut ids, entities, &newest)?;
+    }
+    Ok(ids)
+}
+
+/// Adds what each of these holds to the ids, and answers those that were not there. What an entity holds is added before the
+/// next is asked, so that repeats among what they hold take no memory.
+fn add_held<E: Entities>(
+    alloc: Global,
+    ids: &mut BTreeSet<EntityUID>,
+    entities: &E,
+    holders: &[EntityUID],
+) -> Result<Vec<EntityUID>, AllocError>
+    ensures { IfOk result (λ added. AddsNew (uids_of ids.old)
+        (flat_map (E.answered entities.now) (map uid_of holders.now))
+        (uids_of ids.new) (map uid_of added.items)) }
+{
+    let mut added = Vec::new(alloc);
+    for holder in holders {
+        let held = entities.held(alloc, holder)?;
+        let more = add_new(alloc, ids, &held)?;
+        append(&mut added, more)?;
+    }
+    Ok(added)
+}
+
+fn append(all: &mut Vec<EntityUID>, more: Vec<EntityUID>) -> Result<(), AllocError>
+    ensures { OnOk result (
+        map uid_of all.new.items ≡ map uid_of all.old.items ++ map uid_of more.items) }
+{
+    for id in more {
+        all.push(id)?;
+    }
+    Ok(())
+}
+
+/// Adds these to the ids, and answers those that were not there.
+pub(crate) fn add_new(
+    alloc: Global,
+    ids: &mut BTreeSet<EntityUID>,
+    these: &[EntityUID],
+) -> Result<Vec<EntityUID>, AllocError>
+    ensures adds { IfOk result (λ added. AddsNew (uids_of ids.old) (map uid_of these.now)
+        (uids_of ids.new) (map uid_of added.items)) }
+    ensures fresh { IfOk result (λ added. AreNew (map uid_of added.items) (uids_of ids.old)) }
+    ensures distinct { IfOk result (λ added. AreDistinct (map uid_of added.items)) }
+{
+    let mut added = Vec::new(alloc);
+    for id in these {
+        if ids.insert(id.clone()?)? {
+            added.push(id.clone()?)?;
+        }
+    }
+    Ok(added)
+}

@@ -1,0 +1,199 @@
+//! A host that validates a set of policies.
+ghost use Rattle.std.specs.Prelude.{◌≡◌, true, [], map, option_map, All, IfOk};
+ghost use Rattle.cedar_types.specs.Names.{text_of};
+ghost use Rattle.cedar_types.specs.Schemas.Contents.{schema_of};
+ghost use Rattle.cedar_types.specs.Templates.{template_of};
+ghost use Rattle.cedar_typing.specs.Soundness.Policies.{IsNamedBySchema};
+ghost use Rattle.cedar_typechecker.specs.Levels.Required.{IsRequiredLevel};
+ghost use Rattle.cedar_typechecker.specs.Passes.{errors_left};
+ghost use Rattle.cedar_typechecker.specs.Surveys.{passes_of, impossible_of, required_of};
+ghost use Rattle.cedar_typechecker.specs.ValidatorViews.{schema_in};
+ghost use Rattle.cedar_host.specs.Repeats.{AreRepeats, id_in};
+ghost use Rattle.cedar_host.specs.Safety.{basis_in, PassesEverywhere, DoesNotGoWrong};
+ghost use Rattle.cedar_host.specs.Safety.{IsNeverTrue, IsRight};
+
+use crate::reports::{PolicyReport, report};
+use crate::safety::SoundMode;
+use cedar_typechecker::rbac::{LiteralErrors, Validator};
+use cedar_typechecker::survey::{Environments, Survey};
+use cedar_types::base::{
+    ArgumentCheck, Effect, EntityDerefLevel, PolicyID, Template, ValidationError, ValidationMode,
+    ValidationWarning, ValidatorSchema,
+};
+use std::alloc::{AllocError, Global};
+use std::collections::{BTreeMap, BTreeSet};
+use std::rc::RcStr;
+
+/// A policy, and the text that its places are in: that of a whole file too, which its policies share.
+#[derive(Debug, Drop)]
+pub struct WrittenPolicy {
+    /// What it does where it is satisfied: validation does not ask for it, and an authoriser does.
+    pub effect: Effect,
+    pub template: Template,
+    pub text: RcStr,
+}
+
+/// What validation finds in a policy.
+#[derive(Debug, Drop)]
+pub struct Findings {
+    /// Whether each name and id is the schema's, and no environment refuses the policy.
+    pub is_accepted: bool,
+    /// Whether it is false in each environment, so that it never applies.
+    pub is_impossible: bool,
+    /// The errors in order, each with the environments in which typing finds it: none, of what is not
+    /// found by typing.
+    pub errors: BTreeMap<ValidationError, Environments>,
+    /// That no action fits the scope, and that the policy is impossible.
+    pub warnings: Vec<ValidationWarning>,
+    /// In how many environments the policy may apply: in which its check is not irrelevant, or finds an
+    /// error.
+    pub applicable_environments: u64,
+    /// The least steps at which it has no level error; `None` where there is no such number.
+    pub level: Option<EntityDerefLevel>,
+}
+
+/// A report on each policy of the set, checked in this mode. Those that are accepted do not go wrong,
+/// and those that are impossible are never true. Where memory is refused, the answer is an `AllocError`.
+pub fn validate_set<'a, C: ArgumentCheck>(
+    alloc: Global,
+    validator: &Validator<'_, C>,
+    mode: SoundMode,
+    policies: &'a [WrittenPolicy],
+) -> Result<Vec<PolicyReport<'a>>, AllocError>
+    ensures each { IfOk result (λ reports. map (λ r. r.policy.now) reports.items ≡ policies.now) }
+    ensures right { IfOk result (λ reports.
+        All (IsRight (basis_in mode C.refusal validator.now)) reports.items) }
+{
+    let mut reports = Vec::with_capacity(alloc, policies.len())?;
+    for policy in policies {
+        let findings = validate(alloc, validator, mode, &policy.template)?;
+        reports.push(report(alloc, policy, findings)?)?;
+    }
+    Ok(reports)
+}
+
+/// The ids that a policy of a set shares with an earlier one, in the order of the set. Findings name policies by their ids, so a
+/// host that shows them, or links policies by their ids, refuses such a set. Where memory is refused, the answer is an
+/// `AllocError`.
+pub fn repeated_ids(alloc: Global, policies: &[WrittenPolicy]) -> Result<Vec<PolicyID>, AllocError>
+    ensures { IfOk result (λ repeated.
+        AreRepeats (map id_in policies.now) (map (λ i. text_of i.text) repeated.items)) }
+{
+    let mut seen = BTreeSet::new(alloc);
+    let mut repeated = Vec::new(alloc);
+    for policy in policies {
+        let id = &policy.template.id;
+        if !seen.insert(id.text.clone()?)? {
+            repeated.push(id.clone()?)?;
+        }
+    }
+    Ok(repeated)
+}
+
+/// What is found in a policy: the types, actions and ids that the schema does not have, what typing
+/// finds in all environments, in this mode, and whether no action fits the scope. Where memory is
+/// refused, the answer is an `AllocError`.
+pub fn validate<C: ArgumentCheck>(
+    alloc: Global,
+    validator: &Validator<'_, C>,
+    mode: SoundMode,
+    policy: &Template,
+) -> Result<Findings, AllocError>
+    ensures checked { IfOk result (λ found. found.is_accepted ≡ true
+        → PassesEverywhere (basis_in mode C.refusal validator.now) (template_of policy.now)) }
+    ensures safe { IfOk result (λ found. found.is_accepted ≡ true
+        → DoesNotGoWrong (basis_in mode C.refusal validator.now) (template_of policy.now)) }
+    ensures never_true { IfOk result (λ found. found.is_impossible ≡ true
+        → IsNeverTrue (basis_in mode C.refusal validator.now) (template_of policy.now)) }
+    ensures level { IfOk result (λ found.
+        IsRequiredLevel (basis_in mode C.refusal validator.now) (template_of policy.now)
+        (option_map (λ l. l.level) found.level)) }
+{
+    let survey = validator.survey(alloc, policy, ValidationMode::from(mode))?;
+    let findings = find(alloc, validator, policy, survey)?;
+    Ok(findings)
+}
+
+/// What is found in a policy, by its survey.
+pub(crate) fn find<C: ArgumentCheck>(
+    alloc: Global,
+    validator: &Validator<'_, C>,
+    policy: &Template,
+    survey: Survey,
+) -> Result<Findings, AllocError>
+    ensures named { IfOk result (λ found. found.is_accepted ≡ true
+        → IsNamedBySchema (schema_of (schema_in validator.now)) (template_of policy.now)) }
+    ensures passes { IfOk result (λ found. found.is_accepted ≡ true → passes_of survey ≡ true) }
+    ensures impossible { IfOk result (λ found. found.is_impossible ≡ impossible_of survey) }
+    ensures level { IfOk result (λ found.
+        option_map (λ l. l.level) found.level ≡ required_of survey) }
+{
+    let passes = survey.passes();
+    let is_impossible = survey.is_impossible();
+    let applicable_environments = survey.applicable_environments();
+    let level = survey.required_level();
+    let warnings = find_warnings(alloc, validator, policy, is_impossible)?;
+    let mut errors = survey.into_errors();
+    let is_named = is_named(alloc, validator.schema(), policy, &mut errors)?;
+    Ok(Findings {
+        is_accepted: is_named & passes,
+        is_impossible,
+        errors,
+        warnings,
+        applicable_environments,
+        level,
+    })
+}
+
+/// That no action fits the scope, and that the policy is impossible.
+fn find_warnings<C: ArgumentCheck>(
+    alloc: Global,
+    validator: &Validator<'_, C>,
+    policy: &Template,
+    is_impossible: bool,
+) -> Result<Vec<ValidationWarning>, AllocError> {
+    let mut warnings = Vec::new(alloc);
+    if let Err(warning) = validator.validate_template_action_application(alloc, policy)? {
+        warnings.push(warning)?;
+    }
+    if is_impossible {
+        let id = policy.id.clone()?;
+        warnings.push(ValidationWarning::impossible_policy(policy.loc, id))?;
+    }
+    Ok(warnings)
+}
+
+/// Whether each type, action and id that a policy names is the schema's. What is not is added.
+fn is_named(
+    alloc: Global,
+    schema: &ValidatorSchema,
+    policy: &Template,
+    errors: &mut BTreeMap<ValidationError, Environments>,
+) -> Result<bool, AllocError>
+    ensures { IfOk result (λ named. named ≡ true
+        → IsNamedBySchema (schema_of schema.now) (template_of policy.now)) }
+{
+    let types = Validator::validate_entity_types(alloc, schema, policy);
+    let knows_types = is_empty(alloc, types, errors)?;
+    let actions = Validator::validate_action_ids(alloc, schema, policy);
+    let knows_actions = is_empty(alloc, actions, errors)?;
+    let members = Validator::validate_enum_entity(alloc, schema, policy);
+    let knows_members = is_empty(alloc, members, errors)?;
+    Ok(knows_types & knows_actions & knows_members)
+}
+
+/// Whether a pass finds nothing. What it finds is added.
+fn is_empty(
+    alloc: Global,
+    found: LiteralErrors<'_>,
+    errors: &mut BTreeMap<ValidationError, Environments>,
+) -> Result<bool, AllocError>
+    ensures { IfOk result (λ empty. empty ≡ true → errors_left found.entry ≡ []) }
+{
+    let mut empty = true;
+    for error in found {
+        errors.insert(error?, Environments::none(alloc))?;
+        empty = false;
+    }
+    Ok(empty)
+}

@@ -1,0 +1,233 @@
+//! What a host says of a policy, and what it may keep of that when the policy has gone.
+ghost use Rattle.std.specs.Prelude.{◌≡◌, IfOk};
+ghost use Rattle.cedar_types.specs.Names.{text_of};
+
+use crate::policy_sets::{Findings, WrittenPolicy};
+use cedar_typechecker::survey::Environments;
+use cedar_types::base::{
+    Effect, Escaped, Loc, OneLine, PolicyID, ValidationError, ValidationWarning,
+};
+use std::alloc::{AllocError, Global};
+use std::collections::BTreeMap;
+use std::fmt;
+
+/// What may have failed where there is no error.
+const UNEXPLAINED: &str = "no error says why: an unknown, or too deep a nesting";
+
+/// What is wrong with a policy. It is shown as its line.
+#[derive(Debug, Drop)]
+pub struct PolicyError {
+    /// Where that stands in the policy's text, if it is known.
+    pub place: Option<Loc>,
+    /// What is wrong, on one line, without the policy's id.
+    pub message: String,
+    /// The same behind the place, what stands there, and the policy's id.
+    pub line: String,
+    /// The error itself; `None` of a policy that is refused without one.
+    pub error: Option<ValidationError>,
+    /// The environments in which typing finds it: none, of what is not found by typing.
+    pub environments: Environments,
+}
+
+impl fmt::Display for PolicyError {
+    fn fmt<W: fmt::Write>(&self, f: &mut fmt::Formatter<W>) -> fmt::Result {
+        write!(f, "{}", self.line)
+    }
+}
+
+/// What may be a slip in a policy. It is shown as its line.
+#[derive(Debug, Drop)]
+pub struct PolicyWarning {
+    /// Where that stands in the policy's text, if it is known.
+    pub place: Option<Loc>,
+    /// What may be a slip, on one line, without the policy's id.
+    pub message: String,
+    /// The same behind the policy's id.
+    pub line: String,
+    pub warning: ValidationWarning,
+}
+
+impl fmt::Display for PolicyWarning {
+    fn fmt<W: fmt::Write>(&self, f: &mut fmt::Formatter<W>) -> fmt::Result {
+        write!(f, "{}", self.line)
+    }
+}
+
+/// What the host says of a policy.
+#[derive(Debug, Drop)]
+pub struct PolicyReport<'a> {
+    pub policy: &'a WrittenPolicy,
+    pub is_accepted: bool,
+    pub is_impossible: bool,
+    /// Its errors in the order of their places, first those without one. Of several that are shown alike there is one.
+    pub errors: Vec<PolicyError>,
+    /// Its warnings in the same order.
+    pub warnings: Vec<PolicyWarning>,
+}
+
+/// The same without the policy.
+#[derive(Debug, Drop)]
+pub struct KeptReport {
+    pub policy: PolicyID,
+    pub effect: Effect,
+    pub is_accepted: bool,
+    pub is_impossible: bool,
+    pub errors: Vec<PolicyError>,
+    pub warnings: Vec<PolicyWarning>,
+}
+
+impl PolicyReport<'_> {
+    /// What a host may keep when the policy has gone. Where memory is refused, the answer is an `AllocError`.
+    pub fn keep(self) -> Result<KeptReport, AllocError>
+        ensures policy { IfOk result (λ kept.
+            text_of kept.policy.text ≡ text_of self.entry.policy.now.template.id.text) }
+        ensures accepted { IfOk result (λ kept. kept.is_accepted ≡ self.entry.is_accepted) }
+        ensures impossible { IfOk result (λ kept. kept.is_impossible ≡ self.entry.is_impossible) }
+    {
+        Ok(KeptReport {
+            policy: self.policy.template.id.clone()?,
+            effect: self.policy.effect,
+            is_accepted: self.is_accepted,
+            is_impossible: self.is_impossible,
+            errors: self.errors,
+            warnings: self.warnings,
+        })
+    }
+}
+
+/// By what findings are ordered: the place, and what is shown there.
+#[derive(PartialEq, Eq, PartialOrd, Ord, Drop)]
+struct Order {
+    place: Option<Loc>,
+    line: String,
+}
+
+/// What the host says of a policy in which this was found. One that is refused has an error at least.
+pub(crate) fn report<'a>(
+    alloc: Global,
+    policy: &'a WrittenPolicy,
+    findings: Findings,
+) -> Result<PolicyReport<'a>, AllocError>
+    ensures policy { IfOk result (λ r. r.policy ≡ policy.entry) }
+    ensures accepted { IfOk result (λ r. r.is_accepted ≡ findings.is_accepted) }
+    ensures impossible { IfOk result (λ r. r.is_impossible ≡ findings.is_impossible) }
+{
+    let is_accepted = findings.is_accepted;
+    let is_impossible = findings.is_impossible;
+    let warnings = warnings(alloc, policy, findings.warnings)?;
+    let mut errors = errors(alloc, policy, findings.errors)?;
+    if !is_accepted && errors.is_empty() {
+        errors.push(unexplained(alloc, &policy.template.id)?)?;
+    }
+    Ok(PolicyReport {
+        policy,
+        is_accepted,
+        is_impossible,
+        errors,
+        warnings,
+    })
+}
+
+/// The errors in the order of their places.
+fn errors(
+    alloc: Global,
+    policy: &WrittenPolicy,
+    found: BTreeMap<ValidationError, Environments>,
+) -> Result<Vec<PolicyError>, AllocError> {
+    let mut ordered = BTreeMap::new(alloc);
+    for (error, environments) in found {
+        let shown = shown_error(alloc, policy, error, environments)?;
+        let line = shown.line.clone()?;
+        let place = shown.place;
+        ordered.insert(Order { place, line }, shown)?;
+    }
+    in_order(alloc, ordered)
+}
+
+/// The warnings in the order of their places.
+fn warnings(
+    alloc: Global,
+    policy: &WrittenPolicy,
+    found: Vec<ValidationWarning>,
+) -> Result<Vec<PolicyWarning>, AllocError> {
+    let mut ordered = BTreeMap::new(alloc);
+    for warning in found {
+        let shown = shown_warning(alloc, &policy.template.id, warning)?;
+        let line = shown.line.clone()?;
+        let place = shown.place;
+        ordered.insert(Order { place, line }, shown)?;
+    }
+    in_order(alloc, ordered)
+}
+
+/// What a map holds, in the order of its keys.
+fn in_order<T: Drop>(alloc: Global, ordered: BTreeMap<Order, T>) -> Result<Vec<T>, AllocError> {
+    let mut all = Vec::new(alloc);
+    for (_order, one) in ordered {
+        all.push(one)?;
+    }
+    Ok(all)
+}
+
+/// An error as it is shown: its place, what stands there, and what is wrong.
+fn shown_error(
+    alloc: Global,
+    policy: &WrittenPolicy,
+    error: ValidationError,
+    environments: Environments,
+) -> Result<PolicyError, AllocError> {
+    let said = error.to_string(alloc)?;
+    let place = error.source_loc();
+    let message = message(alloc, &policy.template.id, &said)?;
+    let line = line(alloc, &policy.text, place, &said)?;
+    Ok(PolicyError {
+        place,
+        message,
+        line,
+        error: Some(error),
+        environments,
+    })
+}
+
+fn shown_warning(
+    alloc: Global,
+    policy: &PolicyID,
+    warning: ValidationWarning,
+) -> Result<PolicyWarning, AllocError> {
+    let said = warning.to_string(alloc)?;
+    Ok(PolicyWarning {
+        place: warning.source_loc(),
+        message: message(alloc, policy, &said)?,
+        line: line(alloc, "", None, &said)?,
+        warning,
+    })
+}
+
+/// A text on one line, without the policy's id, with which the texts of errors and warnings begin.
+fn message(alloc: Global, policy: &PolicyID, said: &str) -> Result<String, AllocError> {
+    let prefix = format!(in alloc; "for policy `{policy}`, ")?;
+    let own = said.strip_prefix(prefix.as_str()).unwrap_or(said);
+    format!(in alloc; "{}", OneLine(own))
+}
+
+/// A text on one line, behind the place that it is about and what stands there.
+fn line(alloc: Global, text: &str, place: Option<Loc>, said: &str) -> Result<String, AllocError> {
+    let said = OneLine(said);
+    let Some(Loc { start, end }) = place else {
+        return format!(in alloc; "{said}");
+    };
+    let part = OneLine(text.get(start..end).unwrap_or(""));
+    format!(in alloc; "{start}..{end} `{part}`: {said}")
+}
+
+/// What is said of a policy that is refused without an error.
+fn unexplained(alloc: Global, policy: &PolicyID) -> Result<PolicyError, AllocError> {
+    let id = Escaped(policy.text.as_str());
+    Ok(PolicyError {
+        place: None,
+        message: String::from_str(alloc, UNEXPLAINED)?,
+        line: format!(in alloc; "for policy `{id}`, {UNEXPLAINED}")?,
+        error: None,
+        environments: Environments::none(alloc),
+    })
+}

@@ -1,0 +1,70 @@
+//! The modes of a host, and what the promise of a check gives to it.
+ghost use Rattle.std.specs.Prelude.{◌≡◌, true, IfOk};
+ghost use Rattle.cedar_types.specs.Environments.RequestEnvs.{env_of};
+ghost use Rattle.cedar_types.specs.Templates.{template_of};
+ghost use Rattle.cedar_typing.specs.Views.Checks.{basis_of};
+ghost use Rattle.cedar_host.specs.Safety.{basis_in, IsSafeToEvaluate};
+
+use cedar_typechecker::rbac::Validator;
+use cedar_types::base::{ArgumentCheck, Template, ValidationMode};
+use cedar_types::types::request_env::RequestEnv;
+use cedar_typing::typecheck::{PolicyCheck, Typechecker};
+use std::alloc::{AllocError, Global};
+
+/// A mode in which validation promises something of evaluation. Partial, of which nothing is promised,
+/// is none of them.
+#[derive(Clone, Copy, PartialEq, Eq, Debug)]
+pub enum SoundMode {
+    /// Types that meet have to agree.
+    Strict,
+    /// Entity types that meet unite, and records that meet keep what they share.
+    Permissive,
+}
+
+impl From<SoundMode> for ValidationMode {
+    ghost use Rattle.std.specs.Prelude.{◌≡◌};
+    ghost use Rattle.cedar_host.specs.Safety.{validation_mode};
+
+    ghost from_gives = { λ mode m. m ≡ validation_mode mode };
+
+    fn from(mode: SoundMode) -> ValidationMode {
+        match mode {
+            SoundMode::Strict => ValidationMode::Strict,
+            SoundMode::Permissive => ValidationMode::Permissive,
+        }
+    }
+}
+
+/// What types policies by a validator's schema and functions, in this mode.
+pub(crate) fn typechecker_in<'a, C: ArgumentCheck>(
+    validator: &'a Validator<'_, C>,
+    mode: SoundMode,
+) -> Typechecker<'a, C>
+    ensures { basis_of C.refusal result ≡ basis_in mode C.refusal validator.now }
+{
+    let schema = validator.schema();
+    let extensions = validator.extensions();
+    Typechecker::new(schema, extensions, ValidationMode::from(mode))
+}
+
+/// Whether a policy is a success in this environment of the schema. Where it is, its evaluation on
+/// what conforms does not go wrong. Where memory is refused, the answer is an `AllocError`.
+pub fn is_safe_in<C: ArgumentCheck>(
+    alloc: Global,
+    validator: &Validator<'_, C>,
+    mode: SoundMode,
+    policy: &Template,
+    env: &RequestEnv<'_>,
+) -> Result<bool, AllocError>
+    ensures { IfOk result (λ safe. safe ≡ true
+        → IsSafeToEvaluate (basis_in mode C.refusal validator.now)
+        (template_of policy.now) (env_of env.now)) }
+{
+    let typechecker = typechecker_in(validator, mode);
+    let check = typechecker.typecheck_by_single_request_env(alloc, policy, env)?;
+    match check {
+        PolicyCheck::Success(_typed) => Ok(true),
+        PolicyCheck::Irrelevant(_errors, _typed) => Ok(false),
+        PolicyCheck::Fail(_errors) => Ok(false),
+    }
+}

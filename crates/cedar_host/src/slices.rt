@@ -1,0 +1,116 @@
+//! A host that validates policies for the slices that it loads.
+ghost use Rattle.std.specs.Prelude.{◌≡◌, true, map, option_map, All, IfOk};
+ghost use Rattle.cedar_types.specs.Templates.{template_of};
+ghost use Rattle.cedar_typechecker.specs.Levels.Required.{IsRequiredLevel};
+ghost use Rattle.cedar_host.specs.Responses.{HaveSameResponses};
+ghost use Rattle.cedar_host.specs.Safety.{basis_in, PassesEverywhere, DoesNotGoWrong};
+ghost use Rattle.cedar_host.specs.Safety.{IsNeverTrue};
+ghost use Rattle.cedar_host.specs.SetLevels.{IsLevelOfAll, level_in};
+ghost use Rattle.cedar_host.specs.Slices.{NeedsSliceAlone, IsRightForSlices};
+
+use crate::policy_sets::{Findings, WrittenPolicy, find};
+use crate::reports::{PolicyReport, report};
+use crate::safety::SoundMode;
+use cedar_typechecker::rbac::Validator;
+use cedar_typechecker::survey::Environments;
+use cedar_types::base::{
+    ArgumentCheck, EntityDerefLevel, Template, ValidationError, ValidationMode,
+};
+use std::alloc::{AllocError, Global};
+use std::collections::{BTreeMap, BTreeSet};
+
+/// What the host says of a policy that it evaluates over slices.
+#[derive(Debug, Drop)]
+pub struct SliceReport<'a> {
+    /// The report as of any policy; it is accepted only where it needs no more than the slice.
+    pub report: PolicyReport<'a>,
+    /// The least steps at which it has no level error; `None` where there is no such number.
+    pub level: Option<EntityDerefLevel>,
+}
+
+/// A report on each policy of the set, checked in this mode, for slices of `steps` steps. Those that
+/// are accepted do not go wrong and need the slice alone, and those that are impossible are never
+/// true. So an authoriser that has the accepted ones, each under a name, with an effect and with its
+/// slots bound, answers a request over such a slice as over the whole store (clause `responses`). Where
+/// memory is refused, the answer is an `AllocError`.
+pub fn validate_for_slices<'a, C: ArgumentCheck>(
+    alloc: Global,
+    validator: &Validator<'_, C>,
+    mode: SoundMode,
+    steps: u32,
+    policies: &'a [WrittenPolicy],
+) -> Result<Vec<SliceReport<'a>>, AllocError>
+    ensures each { IfOk result (λ reports.
+        map (λ r. r.report.policy.now) reports.items ≡ policies.now) }
+    ensures right { IfOk result (λ reports.
+        All (IsRightForSlices (basis_in mode C.refusal validator.now) steps) reports.items) }
+    ensures responses { IfOk result (λ reports.
+        HaveSameResponses (basis_in mode C.refusal validator.now) steps reports.items) }
+{
+    let mut reports = Vec::with_capacity(alloc, policies.len())?;
+    for policy in policies {
+        let found = validate_within(alloc, validator, mode, steps, &policy.template)?;
+        let level = found.level;
+        let own = report(alloc, policy, found)?;
+        reports.push(SliceReport { report: own, level })?;
+    }
+    Ok(reports)
+}
+
+/// The least steps at which no policy of these reports has a level error; `None` where there is no such number.
+pub fn level_of(reports: &[SliceReport<'_>]) -> Option<EntityDerefLevel>
+    ensures { IsLevelOfAll (map level_in reports.now) (option_map (λ l. l.level) result) }
+{
+    let mut greatest = 0;
+    for report in reports {
+        let Some(level) = report.level else {
+            return None;
+        };
+        if greatest < level.level {
+            greatest = level.level;
+        }
+    }
+    Some(EntityDerefLevel { level: greatest })
+}
+
+/// What is found in a policy, and where it dereferences more than `steps` entities, one after another.
+/// Each environment is typed once. Where memory is refused, the answer is an `AllocError`.
+pub fn validate_within<C: ArgumentCheck>(
+    alloc: Global,
+    validator: &Validator<'_, C>,
+    mode: SoundMode,
+    steps: u32,
+    policy: &Template,
+) -> Result<Findings, AllocError>
+    ensures checked { IfOk result (λ found. found.is_accepted ≡ true
+        → PassesEverywhere (basis_in mode C.refusal validator.now) (template_of policy.now)) }
+    ensures safe { IfOk result (λ found. found.is_accepted ≡ true
+        → DoesNotGoWrong (basis_in mode C.refusal validator.now) (template_of policy.now)) }
+    ensures sliced { IfOk result (λ found. found.is_accepted ≡ true
+        → NeedsSliceAlone (basis_in mode C.refusal validator.now) (template_of policy.now) steps) }
+    ensures never_true { IfOk result (λ found. found.is_impossible ≡ true
+        → IsNeverTrue (basis_in mode C.refusal validator.now) (template_of policy.now)) }
+    ensures level { IfOk result (λ found.
+        IsRequiredLevel (basis_in mode C.refusal validator.now) (template_of policy.now)
+        (option_map (λ l. l.level) found.level)) }
+{
+    let survey = validator.survey(alloc, policy, ValidationMode::from(mode))?;
+    let exceeding = survey.level_errors(alloc, steps)?;
+    let is_within = exceeding.is_empty();
+    let mut findings = find(alloc, validator, policy, survey)?;
+    add_all(alloc, &mut findings.errors, exceeding)?;
+    findings.is_accepted &= is_within;
+    Ok(findings)
+}
+
+/// Adds errors that typing does not find.
+fn add_all(
+    alloc: Global,
+    errors: &mut BTreeMap<ValidationError, Environments>,
+    found: BTreeSet<ValidationError>,
+) -> Result<(), AllocError> {
+    for error in found {
+        errors.insert(error, Environments::none(alloc))?;
+    }
+    Ok(())
+}

@@ -1,0 +1,24 @@
+//! What the host says of a set of policies, in which environments one is safe, its typed conditions,
+//! and what a host that loads slices says and finds. They stand apart, since a crate with tests is
+//! proved twice.
+#![tactic(auto)]
+
+#[cfg(test)]
+mod conditions;
+#[cfg(test)]
+mod enumerated;
+#[cfg(test)]
+mod loading;
+pub mod memory;
+#[cfg(test)]
+mod policy_sets;
+#[cfg(test)]
+mod reports;
+#[cfg(test)]
+mod rounds;
+#[cfg(test)]
+mod safety;
+#[cfg(test)]
+mod slices;
+#[cfg(test)]
+mod wanted;

@@ -1,0 +1,103 @@
+// Which ids a host finds in a small store, and how often it asks for what an entity holds.
+use crate::memory::{Linked, Memory};
+use cedar_host::loading::ids_within;
+use cedar_types::base::{EntityType, EntityUID, Name};
+use std::alloc::{AllocError, Global};
+use std::cell::Cell;
+use std::collections::BTreeSet;
+use std::process::Abort;
+use std::test::Fail;
+
+fn user(alloc: Global, eid: &str) -> Result<EntityUID, AllocError> {
+    let users = EntityType::from(Name::unqualified_name(alloc, "User")?);
+    EntityUID::from_components(alloc, users, eid, None)
+}
+
+/// Users of these ids.
+pub fn users(alloc: Global, eids: &[&str]) -> Result<Vec<EntityUID>, AllocError> {
+    let mut users = Vec::new(alloc);
+    for eid in eids {
+        users.push(user(alloc, eid)?)?;
+    }
+    Ok(users)
+}
+
+/// An entity of this id, which is linked to these.
+fn linked(alloc: Global, eid: &str, links: &[&str]) -> Result<Linked, AllocError> {
+    let links = users(alloc, links)?;
+    let id = user(alloc, eid)?;
+    Ok(Linked { id, links })
+}
+
+/// `ann` is linked to `bob` and `cal`, these to `dan`, he to `ann` and to `gil`, who is not stored; `eve`
+/// to `fay`.
+const LINKS: [(&str, &[&str]); 6] = [
+    ("ann", &["bob", "cal"]),
+    ("bob", &["dan"]),
+    ("cal", &["dan", "cal"]),
+    ("dan", &["ann", "gil"]),
+    ("eve", &["fay"]),
+    ("fay", &[]),
+];
+
+/// The store that has these, and was not asked yet.
+pub fn memory(alloc: Global) -> Result<Memory, AllocError> {
+    let mut entities = Vec::new(alloc);
+    for (eid, links) in LINKS {
+        entities.push(linked(alloc, eid, links)?)?;
+    }
+    let asked = Cell::new(0);
+    Ok(Memory { entities, asked })
+}
+
+/// What is found within so many steps of `ann`, and how often the store is asked.
+const WANTED: [(u32, &[&str], i64); 6] = [
+    (0, &[], 0),
+    (1, &["ann"], 0),
+    (2, &["ann", "bob", "cal"], 1),
+    (3, &["ann", "bob", "cal", "dan"], 3),
+    (4, &["ann", "bob", "cal", "dan", "gil"], 4),
+    (u32::MAX, &["ann", "bob", "cal", "dan", "gil"], 5),
+];
+
+/// The ids within so many steps of `ann`, which is named twice.
+fn found(alloc: Global, memory: &Memory, steps: u32) -> Result<BTreeSet<EntityUID>, AllocError> {
+    let start = users(alloc, &["ann", "ann"])?;
+    ids_within(alloc, memory, &start, steps)
+}
+
+/// That these are the ids.
+pub fn are_users(
+    rt: &impl Abort,
+    alloc: Global,
+    ids: &BTreeSet<EntityUID>,
+    eids: &[&str],
+) -> Result<(), AllocError> {
+    assert_eq!(rt; ids.len(), eids.len());
+    for eid in eids {
+        assert!(rt; ids.contains(&user(alloc, eid)?));
+    }
+    Ok(())
+}
+
+/// That these are found within so many steps, and how often the store is asked.
+fn are_found(
+    rt: &impl Abort,
+    alloc: Global,
+    steps: u32,
+    wanted: &[&str],
+    asked: i64,
+) -> Result<(), AllocError> {
+    let memory = memory(alloc)?;
+    are_users(rt, alloc, &found(alloc, &memory, steps)?, wanted)?;
+    assert_eq!(rt; memory.asked.get(), asked);
+    Ok(())
+}
+
+#[test]
+fn what_is_reached_is_found_and_no_entity_asked_twice(rt: HostRuntime) -> Result<(), Fail> {
+    for (steps, wanted, asked) in WANTED {
+        are_found(&rt, rt.alloc(), steps, wanted, asked)?;
+    }
+    Ok(())
+}

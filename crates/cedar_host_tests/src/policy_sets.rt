@@ -1,0 +1,297 @@
+// What the host says of a set of policies.
+use crate::wanted::{ACCEPTED, Want, add, is_said, of_an_unknown};
+use cedar_embedding::functions::{RefusesEmptyAddress, ip, is_in_range};
+use cedar_embedding::policies::{
+    APPROVED_SHARING, BY_A_DOCUMENT, FROM_NOWHERE, FROM_RANGE, HAUNTED, MISSPELT, OF_EITHER,
+    OF_ONE_USER, UNGUARDED, approved_sharing, by_a_document, from_nowhere, from_range, haunted,
+    misspelt, of_either, of_one_user, permit_when, unguarded,
+};
+use cedar_embedding::schemas::documents;
+use cedar_host::policy_sets::{WrittenPolicy, validate_set};
+use cedar_host::safety::SoundMode;
+use cedar_typechecker::rbac::Validator;
+use cedar_types::base::{
+    Expr, ExtensionSchemas, Literal, SchemaError, Template, ValidationMode, Var,
+};
+use cedar_typing::typecheck::Typechecker;
+use std::alloc::{AllocError, Global};
+use std::collections::{BTreeSet, HashSet};
+use std::process::Abort;
+use std::test::Fail;
+
+const IMPOSSIBLE_0: &str =
+    "for policy `policy0`, policy is impossible: it evaluates to false for every valid request";
+
+const IMPOSSIBLE_2: &str =
+    "for policy `policy2`, policy is impossible: it evaluates to false for every valid request";
+
+const IMPOSSIBLE_5: &str =
+    "for policy `policy5`, policy is impossible: it evaluates to false for every valid request";
+
+const UNFIT_5: &str =
+    "for policy `policy5`, unable to find an applicable action given the policy scope constraints";
+
+/// Each policy with its text and an id of its own.
+fn policies(alloc: Global) -> Result<Vec<WrittenPolicy>, AllocError> {
+    let mut policies = Vec::new(alloc);
+    let all = &mut policies;
+    add(
+        alloc,
+        all,
+        "policy0",
+        approved_sharing(alloc)?,
+        APPROVED_SHARING,
+    )?;
+    add(alloc, all, "policy1", unguarded(alloc)?, UNGUARDED)?;
+    add(alloc, all, "policy2", misspelt(alloc)?, MISSPELT)?;
+    add(alloc, all, "policy3", haunted(alloc)?, HAUNTED)?;
+    add(alloc, all, "policy4", of_one_user(alloc)?, OF_ONE_USER)?;
+    add(alloc, all, "policy5", by_a_document(alloc)?, BY_A_DOCUMENT)?;
+    add(alloc, all, "policy6", of_either(alloc)?, OF_EITHER)?;
+    Ok(policies)
+}
+
+const UNGUARDED_WANTED: Want = Want {
+    is_accepted: false,
+    is_impossible: false,
+    errors: &[
+        "43..56 `principal.vip`: for policy `policy1`, \
+         access to optional attribute `vip` on `User` is not guarded",
+    ],
+    warnings: &[],
+};
+
+const MISSPELT_WANTED: Want = Want {
+    is_accepted: true,
+    is_impossible: true,
+    errors: &[],
+    warnings: &[IMPOSSIBLE_2],
+};
+
+const HAUNTED_WANTED: Want = Want {
+    is_accepted: false,
+    is_impossible: false,
+    errors: &["74..79 `Ghost`: for policy `policy3`, unrecognized entity type `Ghost`"],
+    warnings: &[],
+};
+
+const UNFIT_WANTED: Want = Want {
+    is_accepted: true,
+    is_impossible: true,
+    errors: &[],
+    warnings: &[IMPOSSIBLE_5, UNFIT_5],
+};
+
+/// Of the last one in Strict.
+const DISAGREES: Want = Want {
+    is_accepted: false,
+    is_impossible: false,
+    errors: &[
+        "44..93 `if principal has vip then principal else resource`: for policy `policy6`, \
+         the types `Document`, `User` are not compatible",
+    ],
+    warnings: &[],
+};
+
+const IN_STRICT: &[Want] = &[
+    ACCEPTED,
+    UNGUARDED_WANTED,
+    MISSPELT_WANTED,
+    HAUNTED_WANTED,
+    ACCEPTED,
+    UNFIT_WANTED,
+    DISAGREES,
+];
+
+const IN_PERMISSIVE: &[Want] = &[
+    ACCEPTED,
+    UNGUARDED_WANTED,
+    MISSPELT_WANTED,
+    HAUNTED_WANTED,
+    ACCEPTED,
+    UNFIT_WANTED,
+    ACCEPTED,
+];
+
+/// That these are said of the policies in this mode, by the schema of documents and these functions.
+fn are_said(
+    rt: &impl Abort,
+    alloc: Global,
+    extensions: &ExtensionSchemas,
+    mode: SoundMode,
+    policies: &[WrittenPolicy],
+    wanted: &[Want],
+) -> Result<(), SchemaError> {
+    let validator = Validator::new(documents(alloc)?, extensions);
+    let reports = validate_set(alloc, &validator, mode, policies)?;
+    assert_eq!(rt; reports.len(), wanted.len());
+    for (report, want) in reports.iter().zip(wanted) {
+        is_said(rt, report, want);
+    }
+    Ok(())
+}
+
+/// Of the whole set in this mode.
+fn are_said_of_all(
+    rt: &impl Abort,
+    alloc: Global,
+    mode: SoundMode,
+    wanted: &[Want],
+) -> Result<(), SchemaError> {
+    let policies = policies(alloc)?;
+    let extensions = ExtensionSchemas::default(alloc);
+    are_said(rt, alloc, &extensions, mode, &policies, wanted)
+}
+
+#[test]
+fn each_policy_of_a_set_has_its_report(rt: HostRuntime) -> Result<(), Fail> {
+    Ok(are_said_of_all(&rt, rt.alloc(), SoundMode::Strict, IN_STRICT)?)
+}
+
+#[test]
+fn in_permissive_a_policy_may_unite_types(rt: HostRuntime) -> Result<(), Fail> {
+    Ok(are_said_of_all(&rt, rt.alloc(), SoundMode::Permissive, IN_PERMISSIVE)?)
+}
+
+/// That the check alone passes a policy, and finds nothing.
+fn is_silent(
+    rt: &impl Abort,
+    alloc: Global,
+    checker: &Typechecker<'_>,
+    policy: &Template,
+) -> Result<(), AllocError> {
+    let mut errors = HashSet::new(alloc);
+    let mut warnings = HashSet::new(alloc);
+    assert!(rt; checker.typecheck_policy(alloc, policy, &mut errors, &mut warnings)?);
+    assert!(rt; errors.is_empty());
+    assert!(rt; warnings.is_empty());
+    Ok(())
+}
+
+#[test]
+fn the_check_alone_passes_what_names_an_unknown_type(rt: HostRuntime) -> Result<(), Fail> {
+    let alloc = rt.alloc();
+    let extensions = ExtensionSchemas::default(alloc);
+    let schema = documents(alloc)?;
+    let checker = Typechecker::new(&schema, &extensions, ValidationMode::Strict);
+    is_silent(&rt, alloc, &checker, &haunted(alloc)?)?;
+    Ok(())
+}
+
+/// The set of this policy alone, with this text.
+fn alone(alloc: Global, policy: Template, text: &str) -> Result<Vec<WrittenPolicy>, AllocError> {
+    let mut policies = Vec::new(alloc);
+    add(alloc, &mut policies, "policy0", policy, text)?;
+    Ok(policies)
+}
+
+/// Of a policy alone, by a table with `ip`, whose check is made here, and `isInRange`.
+fn is_said_alone(
+    rt: &impl Abort,
+    alloc: Global,
+    policy: Template,
+    text: &str,
+    wanted: &[Want; 1],
+) -> Result<(), Fail> {
+    let policies = alone(alloc, policy, text)?;
+    let mut functions = Vec::new(alloc);
+    functions.push(ip(alloc, Box::new(alloc, RefusesEmptyAddress { alloc })?)?)?;
+    functions.push(is_in_range(alloc)?)?;
+    let extensions = ExtensionSchemas::new(functions, BTreeSet::new(alloc))?;
+    Ok(are_said(rt, alloc, &extensions, SoundMode::Strict, &policies, wanted)?)
+}
+
+#[test]
+fn a_policy_may_call_functions_of_the_table(rt: HostRuntime) -> Result<(), Fail> {
+    let alloc = rt.alloc();
+    is_said_alone(&rt, alloc, from_range(alloc)?, FROM_RANGE, &[ACCEPTED])
+}
+
+const OF_EMPTY_ADDRESS: Want = Want {
+    is_accepted: false,
+    is_impossible: false,
+    errors: &["71..77 `ip(\"\")`: for policy `policy0`, invalid argument: empty address"],
+    warnings: &[],
+};
+
+#[test]
+fn what_a_check_refuses_is_refused_at_its_place(rt: HostRuntime) -> Result<(), Fail> {
+    let alloc = rt.alloc();
+    is_said_alone(
+        &rt,
+        alloc,
+        from_nowhere(alloc)?,
+        FROM_NOWHERE,
+        &[OF_EMPTY_ADDRESS],
+    )
+}
+
+const UNGUARDED_AND_FALSE: Want = Want {
+    is_accepted: false,
+    is_impossible: true,
+    errors: &["for policy `policy0`, access to optional attribute `vip` on `User` is not guarded"],
+    warnings: &[IMPOSSIBLE_0],
+};
+
+/// `principal.vip && false`
+fn unguarded_and_false(alloc: Global) -> Result<Template, AllocError> {
+    let access = Expr::get_attr(alloc, Expr::var(Var::Principal), "vip")?;
+    let condition = Expr::and(alloc, access, Expr::val(Literal::from(false)))?;
+    permit_when(alloc, "", condition)
+}
+
+#[test]
+fn an_error_counts_where_a_policy_is_impossible_too(rt: HostRuntime) -> Result<(), Fail> {
+    let alloc = rt.alloc();
+    is_said_alone(
+        &rt,
+        alloc,
+        unguarded_and_false(alloc)?,
+        "",
+        &[UNGUARDED_AND_FALSE],
+    )
+}
+
+const UNEXPLAINED: Want = Want {
+    is_accepted: false,
+    is_impossible: false,
+    errors: &["for policy `policy0`, no error says why: an unknown, or too deep a nesting"],
+    warnings: &[],
+};
+
+#[test]
+fn a_policy_that_is_refused_without_an_error_has_a_line(rt: HostRuntime) -> Result<(), Fail> {
+    let alloc = rt.alloc();
+    is_said_alone(&rt, alloc, of_an_unknown(alloc)?, "", &[UNEXPLAINED])
+}
+
+const OF_A_FORGED_NAME: Want = Want {
+    is_accepted: false,
+    is_impossible: false,
+    errors: &[
+        "for policy `policy0`, attribute `x`\\nfor policy `policy1`, \\u{202e}` does not exist on `User`",
+    ],
+    warnings: &[],
+};
+
+/// An access to an attribute with a line break in its name.
+fn of_a_forged_name(alloc: Global) -> Result<Template, AllocError> {
+    let attr = "x`\nfor policy `policy1`, \u{202e}";
+    permit_when(
+        alloc,
+        "",
+        Expr::get_attr(alloc, Expr::var(Var::Principal), attr)?,
+    )
+}
+
+#[test]
+fn a_name_with_a_line_break_begins_no_line(rt: HostRuntime) -> Result<(), Fail> {
+    let alloc = rt.alloc();
+    is_said_alone(
+        &rt,
+        alloc,
+        of_a_forged_name(alloc)?,
+        "",
+        &[OF_A_FORGED_NAME],
+    )
+}

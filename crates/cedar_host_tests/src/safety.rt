@@ -1,0 +1,84 @@
+// In how many environments a policy is safe.
+use cedar_embedding::functions::{RefusesEmptyAddress, ip, is_in_range};
+use cedar_embedding::policies::{approved_sharing, from_nowhere, from_range, of_either, unguarded};
+use cedar_embedding::schemas::documents;
+use cedar_host::safety::{SoundMode, is_safe_in};
+use cedar_typechecker::rbac::Validator;
+use cedar_types::base::{ExtensionSchemas, SchemaError, Template, ValidationMode};
+use std::alloc::{AllocError, Global};
+use std::collections::BTreeSet;
+use std::process::Abort;
+use std::test::Fail;
+
+/// In how many environments of the schema the policy is safe.
+fn safe_environments(
+    alloc: Global,
+    validator: &Validator<'_>,
+    mode: SoundMode,
+    policy: &Template,
+) -> Result<usize, AllocError> {
+    let mut safe: usize = 0;
+    for env in validator
+        .schema()
+        .unlinked_request_envs(ValidationMode::from(mode))
+    {
+        if is_safe_in(alloc, validator, mode, policy, &env)? {
+            safe = safe.saturating_add(1);
+        }
+    }
+    Ok(safe)
+}
+
+/// That a policy is safe in so many environments in Strict, and in so many in Permissive, by the schema of documents.
+fn is_safe_in_so_many(
+    rt: &impl Abort,
+    alloc: Global,
+    extensions: &ExtensionSchemas,
+    policy: &Template,
+    wanted: [usize; 2],
+) -> Result<(), SchemaError> {
+    let validator = Validator::new(documents(alloc)?, extensions);
+    let [in_strict, in_permissive] = wanted;
+    let strict = safe_environments(alloc, &validator, SoundMode::Strict, policy)?;
+    let permissive = safe_environments(alloc, &validator, SoundMode::Permissive, policy)?;
+    assert_eq!(rt; strict, in_strict);
+    assert_eq!(rt; permissive, in_permissive);
+    Ok(())
+}
+
+#[test]
+fn a_policy_is_safe_where_it_is_a_success(rt: HostRuntime) -> Result<(), Fail> {
+    let alloc = rt.alloc();
+    let extensions = ExtensionSchemas::default(alloc);
+    is_safe_in_so_many(&rt, alloc, &extensions, &approved_sharing(alloc)?, [1, 1])?;
+    is_safe_in_so_many(&rt, alloc, &extensions, &unguarded(alloc)?, [0, 0])?;
+    Ok(())
+}
+
+#[test]
+fn types_unite_in_permissive_alone(rt: HostRuntime) -> Result<(), Fail> {
+    let alloc = rt.alloc();
+    let extensions = ExtensionSchemas::default(alloc);
+    is_safe_in_so_many(&rt, alloc, &extensions, &of_either(alloc)?, [0, 2])?;
+    Ok(())
+}
+
+/// That one is safe whose check refuses nothing, and one that it refuses is not.
+fn calls_are_safe_in(
+    rt: &impl Abort,
+    alloc: Global,
+    extensions: &ExtensionSchemas,
+) -> Result<(), SchemaError> {
+    is_safe_in_so_many(rt, alloc, extensions, &from_range(alloc)?, [2, 2])?;
+    is_safe_in_so_many(rt, alloc, extensions, &from_nowhere(alloc)?, [0, 0])
+}
+
+#[test]
+fn a_policy_that_calls_functions_is_safe(rt: HostRuntime) -> Result<(), Fail> {
+    let alloc = rt.alloc();
+    let mut functions = Vec::new(alloc);
+    functions.push(ip(alloc, Box::new(alloc, RefusesEmptyAddress { alloc })?)?)?;
+    functions.push(is_in_range(alloc)?)?;
+    let extensions = ExtensionSchemas::new(functions, BTreeSet::new(alloc))?;
+    Ok(calls_are_safe_in(&rt, alloc, &extensions)?)
+}
