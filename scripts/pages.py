@@ -9,6 +9,7 @@ import subprocess
 import sys
 from pathlib import Path
 
+import api
 import claims
 import files as listings
 import rows
@@ -23,6 +24,7 @@ MAKERS = {
     "crates": listings.crates,
     "faults": listings.faults,
     "errors": listings.errors,
+    "calls": api.listing,
 }
 MADE = re.compile(r"^<!-- made: (\w+) -->\n(.*?)^<!-- end -->$", re.M | re.S)
 PAGE = re.compile(r"[^/]+\.md|docs/[^/]+\.md")
