@@ -11,6 +11,7 @@ import signal
 import subprocess
 import sys
 import tempfile
+import urllib.parse
 from pathlib import Path
 
 TOP = Path(__file__).resolve().parent.parent
@@ -116,6 +117,11 @@ def placed(words, room):
     return names, files, words_of
 
 
+def reference_to(word):
+    """The name of a file as the program writes it in SARIF."""
+    return ("file://" if word.startswith("/") else "") + urllib.parse.quote(word, safe="-._~/")
+
+
 def with_words(line, words_of):
     """A line of the output, with the files called as they were."""
     for name, word in words_of.items():
@@ -124,6 +130,7 @@ def with_words(line, words_of):
         if line.startswith(f"{name}:"):
             return word + line[len(name):]
         line = line.replace(f'"file":"{name}"', f'"file":"{word}"', 1)
+        line = line.replace(f'"uri":"{name}"', f'"uri":"{reference_to(word)}"', 1)
     return line
 
 
@@ -176,7 +183,7 @@ def misused(words):
             word.encode()
         except UnicodeEncodeError:
             return "a word of the command line is no text in UTF-8"
-        if os.path.isdir(word) and before not in ("--mode", "--level"):
+        if os.path.isdir(word) and before not in ("--mode", "--level", "--format"):
             return f"{word!r} is a folder"
         before = word
     return None

@@ -21,6 +21,7 @@ import time
 from pathlib import Path
 
 import validate
+from validation_hints import HINT_SCHEMA, HINTS
 
 TOP = Path(__file__).resolve().parent.parent
 PROGRAM = TOP / "crates" / "cedar_validate" / "out" / "cedar_validate"
@@ -32,16 +33,30 @@ action view appliesTo { principal: User, resource: File, context: { n: Long } };
 """
 SCOPE = "permit(principal, action, resource)"
 LARGE = 10_000_000
+USAGE = "[--mode strict|permissive|partial] [--level N] [--deny-warnings] [--format lines|json|sarif]"
 # Words, the exit status, and what the program says on standard output or, where that is empty, on standard error.
 CALLS = (
-    (["--help"], 0, "usage: cedar-validate [--mode strict|permissive|partial] [--level N] [--json] SCHEMA POLICY..\nValidates the policies"),
+    (["--help"], 0, f"usage: cedar-validate {USAGE} SCHEMA POLICY..\nValidates the policies"),
     ([], 2, "cedar-validate: a schema and at least one file of policies are wanted\nusage: "),
     (["--modes", "strict", "s", "p"], 2, "cedar-validate: there is no option `--modes`\nusage: "),
     (["--mode", "loose", "s", "p"], 2, "cedar-validate: `--mode` takes `strict`, `permissive` or `partial`\nusage: "),
     (["--level", "-1", "s", "p"], 2, "cedar-validate: `--level` takes a number from 0 to 4294967295\nusage: "),
     (["-", "-"], 2, "cedar-validate: standard input, `-`, can be read once\nusage: "),
     (["missing", "p"], 2, "missing: fault: cannot be read: No such file or directory (os error 2)\n"),
-    (["--json", "missing", "p"], 2, '{"kind":"fault","file":"missing","text":"cannot be read: No such file or directory (os error 2)"}\n'),
+    (["--json", "missing", "p"], 2, '{"kind":"fault","file":"missing","code":"file","text":"cannot be read: No such file or directory (os error 2)"}\n'),
+    (["--schema", "s", "--schema=t", "p"], 0, "p:1:1: policy `policy0`: accepted, level 1\npolicies: 1"),
+    (["p", "--schema", "s"], 0, "p:1:1: policy `policy0`: accepted, level 1\npolicies: 1"),
+    (["--schema", "t", "--schema", "s", "--schema", "u", "p"], 2, "u:2:6: fault: a type that is not declared: `Nope`\n  , b: Nope"),
+    (["--schema", "s"], 2, "cedar-validate: a schema and at least one file of policies are wanted\nusage: "),
+    (["s", "p", "--schema"], 2, "cedar-validate: `--schema` takes a file\nusage: "),
+    (["--format=xml", "s", "p"], 2, "cedar-validate: `--format` takes `lines`, `json` or `sarif`\nusage: "),
+    (["--format", "json", "s", "p"], 0, '{"kind":"policy","file":"p","line":1,"column":1,"end_line":1,"end_column":64,"id":"policy0","accepted":true,"level":1}\n'
+     '{"kind":"summary","policies":1,"accepted":1,"refused":0,"warnings":0,"faults":0,"level":1}\n'),
+    (["--deny-warnings", "s", "p"], 0, "p:1:1: policy `policy0`: accepted, level 1\npolicies: 1, accepted: 1, refused: 0, warnings: 0, faults: 0, level 1\n"),
+    (["s", "w"], 0, "w:1:1: policy `policy0`: accepted, level 0\n"),
+    (["--deny-warnings", "s", "w"], 1, "w:1:1: policy `policy0`: accepted, level 0\n"),
+    (["s", "w", "--json", "--deny-warnings"], 1, '{"kind":"policy","file":"w"'),
+    (["s", "w", "missing", "--deny-warnings"], 2, "w:1:1: policy"),
     (["s", "."], 2, ".: fault: cannot be read: Is a directory (os error 21)\npolicies: 0"),
     (["s", "-"], 0, "policies: 0, accepted: 0, refused: 0, warnings: 0, faults: 0\n"),
     (["s", "-h"], 0, "usage: cedar-validate "),
@@ -85,7 +100,25 @@ POLICIES = (
     ('"' + "\\" * LARGE, 2, "p:1:1: fault: `permit` or `forbid` is expected"),
     ("/" * (1 + (1 << 26)), 2, "p:1:1: fault: the text is longer than 64 MiB"),
     (when("principal.age > - 9223372036854775808 && - - 5 > -\n// five\n5"), 0, "p:1:1: policy `policy0`: accepted, level 1"),
-    (when("principal.age > - 9223372036854775809"), 2, "p:1:60: fault: a number that does not fit 64 bits, where `-` is read"),
+    (when("principal.age > - 9223372036854775809"), 2, "p:1:60: fault: a number that does not fit 64 bits, where `- 9223372036854775809` is read"),
+    ("permit(principal, action is Action, resource);", 2, "p:1:26: fault: `,` is expected, where `is` is read; behind `action` stand `==` and `in` alone, and a condition may"),
+    (when("true && if true then true else true"), 2, "p:1:52: fault: an expression is expected, where `if` is read; an `if` that is a part of something else stands in"),
+    (when('isIpv4(ip("10.0.0.1"))'), 2, 'p:1:44: fault: `isIpv4` is a method: `ip("10.0.0.1").isIpv4()`'),
+    (when('"2024-01-01".datetime() == datetime("2024-01-01")'), 2, 'p:1:44: fault: `datetime` is a function: `datetime("2024-01-01")`'),
+    (when('ip("10.0.0.1").isInRange(ip("10.0.0.0/8"))'), 0, "p:1:1: policy `policy0`: accepted, level 0"),
+    (SCOPE.replace("action", 'action == Action::"vew"') + ";", 1, "policies: 1, accepted: 0, refused: 1, warnings: 0, faults: 0"),
+    (SCOPE.replace("principal", "principal is Usr") + ";", 1, "policies: 1, accepted: 0, refused: 1, warnings: 0, faults: 0"),
+    (when("principal is Usr"), 1, "policies: 1, accepted: 0, refused: 1, warnings: 0, faults: 0"),
+    (SCOPE.replace("principal", "principal is File") + " when { resource is Usr };", 1, "policies: 1, accepted: 0, refused: 1, warnings: 1, faults: 0"),
+    (when("context.n > 1 && principal is File"), 0, "p:1:61: warning: policy is impossible: it evaluates to false for every valid request; this part is never true"),
+    ('permit(principal == File::"a", action, resource) when { context.n > 1 };', 0, "p:1:1: warning: policy is impossible: it evaluates to false for every valid request"),
+    ("permit(principal is File, action, resource);", 0, "p:1:1: warning: unable to find an applicable action given the policy scope constraints; no action applies to "
+     "a principal of the type `File`"),
+    ('permit(principal, action == Action::"view", resource == User::"a");', 0, "p:1:1: warning: unable to find an applicable action given the policy "
+     "scope constraints; `Action::\"view\"` applies to no resource of the type `User`"),
+    (GOOD + when("principal.boss.boss.age > 1") + when("principal.x"), 1, "policies: 3, accepted: 2, refused: 1, warnings: 0, faults: 0, level 3"),
+    (when('User::"a".age > 1') + GOOD, 0, "policies: 2, accepted: 2, refused: 0, warnings: 0, faults: 0, no level is enough"),
+    (when("principal.x"), 1, "policies: 1, accepted: 0, refused: 1, warnings: 0, faults: 0"),
     (when("resource::owner == principal"), 2, "p:1:44: fault: an expression is expected, where `resource` is read"),
     (when("true::x"), 2, "p:1:44: fault: an expression is expected, where `true` is read"),
     ('permit(principal == User "a", action, resource);', 2, "p:1:26: fault: `::` is expected, where `\"a\"` is read"),
@@ -142,12 +175,68 @@ SCHEMAS = (
     (SCHEMA + "entity A { b: B }; entity B; type B = Long;", 0, "p:1:1: policy `policy0`: accepted, level 1"),
     ("namespace N { entity Long; }\n" + SCHEMA, 0, "p:1:1: policy `policy0`: accepted, level 1"),
     ("namespace N { entity String; entity A { a: String, b: __cedar::String }; }\n" + SCHEMA, 0, "p:1:1: policy `policy0`: accepted"),
+    ("entity A; type T = A; action a appliesTo { principal: T, resource: A };", 2, "s:1:55: fault: a type that is not declared: `T`; it is the name of a common type, and of no entity type"),
     ("type T = Set<U>; type U = T;", 2, "s:1:14: fault: nested too deep, as a type that contains itself is"),
     ("type T0 = Long; " + "".join(f"type T{i + 1} = {{a: T{i}, b: T{i}}}; " for i in range(99)), 2, "s:1:"),
     ("".join(f"entity T{i} {{ a: T{i * 7 % 10_000} }};\n" for i in range(10_000)) + SCHEMA, 0, "p:1:1: policy `policy0`: accepted"),
     ("".join(f"entity T{i} in [T{i + 1}];\n" for i in range(20_000)) + "entity T20000;", 2, "s:1449:8: fault: too many descendants"),
     (SCHEMA + f"entity {', '.join(f'A{i}' for i in range(1100))} in [{', '.join(f'A{i}' for i in range(1100))}];", 2, "s:4:8: fault: too many descendants"),
 )
+
+
+def hints_differ(program):
+    """The conditions against which something else is said than is wanted, and what is said."""
+    with tempfile.TemporaryDirectory() as room:
+        written(Path(room, "s"), HINT_SCHEMA)
+        policies = [f'permit(principal, action == Action::"view", resource) when {{ {condition} }};' for condition, _ in HINTS]
+        written(Path(room, "p"), "\n".join(policies))
+        done = subprocess.run([str(program), "s", "p"], cwd=room, stdin=subprocess.DEVNULL, capture_output=True, text=True, timeout=SECONDS)
+    for number, (condition, wanted) in enumerate(HINTS, 1):
+        found = [line.split(": ", 2)[1:] for line in done.stdout.splitlines() if line.startswith(f"p:{number}:")]
+        said = [it[1] for it in found if it[0] in ("error", "warning")]
+        yield condition, None if said == wanted else said
+
+
+def many_types_differ(program):
+    """What is wrong with what is said of one mistake on 150 types; None where nothing is."""
+    names = [f"T{number:03}" for number in range(150)]
+    schema = "".join(f"entity {name} {{ isPublic: Bool }};\n" for name in names)
+    schema += f"action view appliesTo {{ principal: T000, resource: [{', '.join(names)}] }};\n"
+    wanted = ["p:1:1: policy `policy0`: refused", "p:1:44: error: attribute `isPubic` does not exist on `T000`; did you mean `isPublic`?",
+              "  " + when("resource.isPubic").strip(), " " * 45 + "^" * 16]
+    wanted += [f"  the same for {name}" for name in ("T001", "T002", "T003", "T004", "145 more types")]
+    wanted += ["policies: 1, accepted: 0, refused: 1, warnings: 0, faults: 0"]
+    with tempfile.TemporaryDirectory() as room:
+        written(Path(room, "s"), schema)
+        written(Path(room, "p"), when("resource.isPubic"))
+        done = subprocess.run([str(program), "s", "p"], cwd=room, stdin=subprocess.DEVNULL, capture_output=True, text=True, timeout=SECONDS)
+    return None if done.stdout.splitlines() == wanted else done.stdout
+
+
+def sarif_differs(program):
+    """What is wrong with what is written as SARIF; None where nothing is."""
+    with tempfile.TemporaryDirectory() as room:
+        written(Path(room, "s"), SCHEMA)
+        written(Path(room, "a b:c"), when("principal.x") + "\n" + GOOD + "permit(;\n")
+        words = [str(program), "--format", "sarif", "s", "a b:c", "missing"]
+        done = subprocess.run(words, cwd=room, stdin=subprocess.DEVNULL, capture_output=True, text=True, timeout=SECONDS)
+        broken = subprocess.run([*words[:3], "missing", "p"], cwd=room, stdin=subprocess.DEVNULL, capture_output=True, text=True, timeout=SECONDS)
+    [run], [other] = json.loads(done.stdout)["runs"], json.loads(broken.stdout)["runs"]
+    found = [(it["ruleId"], it["level"], it["message"]["text"], it["locations"]) for it in run["results"]]
+    file = {"uri": "a%20b%3Ac"}
+    wanted = [
+        ("unknown-attribute", "error", "policy `policy0`: attribute `x` does not exist on `User`", [
+            {"physicalLocation": {"artifactLocation": file, "region": {"startLine": 1, "startColumn": 44, "endLine": 1, "endColumn": 55}}}]),
+        ("fault", "error", "`principal` is expected, where `;` is read", [
+            {"physicalLocation": {"artifactLocation": file, "region": {"startLine": 4, "startColumn": 8, "endLine": 4, "endColumn": 9}}}]),
+        ("file", "error", "cannot be read: No such file or directory (os error 2)", [{"physicalLocation": {"artifactLocation": {"uri": "missing"}}}]),
+    ]
+    rules = [it["id"] for it in run["tool"]["driver"]["rules"]]
+    are_known = {it[0] for it in found} <= set(rules) and len(set(rules)) == len(rules)
+    ends = [(done.returncode, run["invocations"][0]["executionSuccessful"], len(run["results"])), (broken.returncode, other["invocations"][0]["executionSuccessful"], len(other["results"]))]
+    if found == wanted and are_known and ends == [(2, False, 3), (2, False, 1)]:
+        return None
+    return f"{found}, {ends}"
 
 
 def rows(path):
@@ -249,6 +338,9 @@ def runs(program):
         both = Path(room, "s"), Path(room, "p")
         for path, text in zip(both, (SCHEMA, GOOD)):
             written(path, text)
+        written(Path(room, "t"), "entity Other in [User]; // the last line is not ended")
+        written(Path(room, "u"), "entity Bad { a: Other\n, b: Nope };")
+        written(Path(room, "w"), 'permit(principal == File::"a", action, resource);')
         for words, status, wanted in CALLS:
             yield words, ended(program, room, words, status, wanted, False)
         for path, texts, kept in ((both[1], POLICIES, GOOD), (both[0], SCHEMAS, SCHEMA)):
@@ -288,8 +380,10 @@ def copies_differ():
         names, files, words_of = validate.placed(called, room)
         os.chdir(here)
     back = [validate.with_words(f"{name}:1:1: fault", words_of) for name in names]
+    uris = [validate.with_words(f'{{"uri":"{name}"}}', words_of) for name in names]
+    are_named = uris[2] == '{"uri":"a/../a/x"}' and uris[3] == f'{{"uri":"file://{room}/a/x"}}' and uris[4] == '{"uri":"a/y%3Dz"}'
     are_apart = not set(names) & {"stdin", "stdout", "program"}
-    if are_apart and len(set(names)) == len(names) and len(files) == 8 and back == [f"{word}:1:1: fault" for word in called]:
+    if are_apart and are_named and len(set(names)) == len(names) and len(files) == 8 and back == [f"{word}:1:1: fault" for word in called]:
         return None
     return f"{names}, {files}, {back}"
 
@@ -355,11 +449,12 @@ def main(words):
                 else:
                     failed += 1
                     print(f"{path.name}: {case['about']}: {column}: {case[column]!r} is wanted, not {said_of}")
-    difference = copies_differ()
-    passed += difference is None
-    failed += difference is not None
-    if difference is not None:
-        print(f"scripts/validate.py: {difference}")
+    others = [("scripts/validate.py", copies_differ()), ("one mistake of 150 types", many_types_differ(program)), ("SARIF", sarif_differs(program))]
+    for what, difference in [*others, *hints_differ(program)]:
+        passed += difference is None
+        failed += difference is not None
+        if difference is not None:
+            print(f"{what}: {difference}")
     for what, difference in ends_of_script():
         passed += difference is None
         failed += difference is not None

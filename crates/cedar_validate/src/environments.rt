@@ -3,26 +3,51 @@ use cedar_typechecker::survey::{Environment, Environments};
 use cedar_types::base::EntityType;
 use std::alloc::{AllocError, Global};
 
-/// The environments of an error that does not come in all that the policy may apply in: the first few, and how many more there
-/// are. None of one that comes in all of these, and of one that no check of an environment finds.
-pub fn environments_shown(
-    alloc: Global,
-    environments: &Environments,
-    applicable: u64,
-) -> Result<Vec<String>, AllocError> {
-    let mut shown = Vec::new(alloc);
-    if environments.count >= applicable {
-        return Ok(shown);
+/// How many environments are shown.
+const MAX_SHOWN: usize = 5;
+
+/// The environments of what does not come in all that the policy may apply in: the first few, and how many more there are.
+#[derive(Drop)]
+pub struct ShownEnvironments {
+    count: u64,
+    shown: Vec<String>,
+}
+
+impl ShownEnvironments {
+    /// None.
+    pub fn new(alloc: Global) -> ShownEnvironments {
+        ShownEnvironments {
+            count: 0,
+            shown: Vec::new(alloc),
+        }
     }
-    let mut others = environments.count;
-    for environment in &environments.listed {
-        shown.push(environment_shown(alloc, environment)?)?;
-        others = others.saturating_sub(1);
+
+    /// Adds those of an error.
+    pub fn add(&mut self, alloc: Global, environments: &Environments) -> Result<(), AllocError> {
+        self.count = self.count.saturating_add(environments.count);
+        for environment in &environments.listed {
+            if self.shown.len() < MAX_SHOWN {
+                self.shown.push(environment_shown(alloc, environment)?)?;
+            }
+        }
+        Ok(())
     }
-    if others > 0 {
-        shown.push(format!(in alloc; "{others} more")?)?;
+
+    /// What is shown: nothing where these are all that the policy may apply in, or none.
+    pub fn finish(self, alloc: Global, applicable: u64) -> Result<Vec<String>, AllocError> {
+        let ShownEnvironments { count, mut shown } = self;
+        if count >= applicable {
+            return Ok(Vec::new(alloc));
+        }
+        let mut others = count;
+        for _ in &shown {
+            others = others.saturating_sub(1);
+        }
+        if others > 0 {
+            shown.push(format!(in alloc; "{others} more")?)?;
+        }
+        Ok(shown)
     }
-    Ok(shown)
 }
 
 /// The action with the types of the principal and of the resource, and those that slots are linked to.

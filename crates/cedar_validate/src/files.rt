@@ -3,9 +3,9 @@ use crate::progress::Progress;
 use crate::verdicts::{Rules, judge};
 use cedar_reading::{Policies, ReadError, ReadPolicy};
 use cedar_types::base::Template;
-use cedar_validation::faults::{TextFault, Written, forbidden_part, read_fault};
-use cedar_validation::marks::warnings_of_marks;
-use cedar_validation::reports::{Report, push_missing};
+use cedar_validation::faults::{TextFault, Written, read_fault};
+use cedar_validation::forbidden_parts::forbidden_part;
+use cedar_validation::reports::{Form, Report, push_missing};
 use cedar_validation::sources::{Content, Source, read};
 use cedar_validation::tallies::Tally;
 use std::alloc::{AllocError, Global};
@@ -22,7 +22,7 @@ const REST: &str = "100 faults, so the rest of the file is not read";
 /// The text of a file. Where it cannot be had, why is written, and the answer is `None`.
 pub fn read_text<R: Files + AllocGlobal + Input, O: Write>(
     rt: &R,
-    is_json: bool,
+    form: &mut Form,
     name: &str,
     out: &mut O,
 ) -> io::Result<Option<String>> {
@@ -31,9 +31,9 @@ pub fn read_text<R: Files + AllocGlobal + Input, O: Write>(
         Ok(Content::Text(text)) => return Ok(Some(text)),
         Ok(Content::Broken(front, fault)) => {
             let text = front.as_str();
-            shown_break(alloc, is_json, Source { name, text }, &fault)?
+            shown_break(alloc, form, Source { name, text }, &fault)?
         }
-        Err(error) => shown_lack(alloc, is_json, name, &error)?,
+        Err(error) => shown_lack(alloc, form, name, &error)?,
     };
     out.write_all(shown.as_bytes())?;
     Ok(None)
@@ -42,32 +42,34 @@ pub fn read_text<R: Files + AllocGlobal + Input, O: Write>(
 /// How a fault is shown behind the front of a file, which is a text.
 fn shown_break(
     alloc: Global,
-    is_json: bool,
+    form: &mut Form,
     front: Source<'_>,
     fault: &TextFault,
 ) -> Result<String, AllocError> {
     let mut shown = String::new(alloc);
-    Report::new(alloc, is_json, front).push_fault(&mut shown, fault)?;
+    let mut report = Report::new(alloc, *form, front);
+    report.push_fault(&mut shown, fault)?;
+    *form = report.form();
     Ok(shown)
 }
 
 /// How it is shown that a file cannot be had.
 fn shown_lack(
     alloc: Global,
-    is_json: bool,
+    form: &mut Form,
     name: &str,
     error: &io::Error,
 ) -> Result<String, AllocError> {
     let why = format!(in alloc; "cannot be read: {error}")?;
     let mut shown = String::new(alloc);
-    push_missing(&mut shown, is_json, name, why.as_str())?;
+    push_missing(&mut shown, form, name, why.as_str())?;
     Ok(shown)
 }
 
 /// Validates the policies of a file.
 pub fn validate_file<R: Files + AllocGlobal + Input, O: Write, T: Write>(
     rt: &R,
-    is_json: bool,
+    form: &mut Form,
     rules: &Rules<'_>,
     name: &str,
     tally: &mut Tally,
@@ -75,18 +77,19 @@ pub fn validate_file<R: Files + AllocGlobal + Input, O: Write, T: Write>(
     out: &mut O,
 ) -> io::Result<()> {
     let alloc = rt.alloc();
-    let Some(text) = read_text(rt, is_json, name, out)? else {
+    let Some(text) = read_text(rt, form, name, out)? else {
         tally.add_fault();
         return Ok(());
     };
     let text = text.as_str();
-    let mut report = Report::new(alloc, is_json, Source { name, text });
+    let mut report = Report::new(alloc, *form, Source { name, text });
     let is_whole = validate_text(alloc, rules, text, &mut report, tally, progress, out)?;
+    *form = report.form();
     progress.clear();
     if !is_whole {
         tally.add_fault();
         let mut shown = String::new(alloc);
-        push_missing(&mut shown, is_json, name, REST)?;
+        push_missing(&mut shown, form, name, REST)?;
         out.write_all(shown.as_bytes())?;
     }
     Ok(())
@@ -121,7 +124,7 @@ fn validate_text<O: Write, T: Write>(
             return Ok(false);
         }
         let shown = match policy_or_fault(alloc, text, read)? {
-            Ok(policy) => shown_policy(alloc, rules, &policy, report, tally)?,
+            Ok(policy) => shown_policy(alloc, rules, text, &policy, report, tally)?,
             Err(fault) => shown_fault(alloc, report, tally, &fault)?,
         };
         out.write_all(shown.as_bytes())?;
@@ -140,7 +143,7 @@ fn policy_or_fault(
         Ok(read) => read.template,
         Err(error) => return Ok(Err(read_fault(alloc, Written::Policies, text, error)?)),
     };
-    match forbidden_part(alloc, &policy)? {
+    match forbidden_part(alloc, text, &policy)? {
         None => Ok(Ok(policy)),
         Some(fault) => Ok(Err(fault)),
     }
@@ -163,16 +166,14 @@ fn shown_fault(
 fn shown_policy(
     alloc: Global,
     rules: &Rules<'_>,
+    text: &str,
     policy: &Template,
     report: &mut Report<'_>,
     tally: &mut Tally,
 ) -> Result<String, AllocError> {
     let mut shown = String::new(alloc);
-    let mut said = judge(alloc, rules, policy)?;
-    said.add_warnings(warnings_of_marks(alloc, policy)?)?;
-    if let Some(other) = report.take_id(alloc, policy)? {
-        said.refuse_id(alloc, policy, other)?;
-    }
+    let same_id = report.take_id(alloc, policy)?;
+    let said = judge(alloc, rules, text, policy, same_id)?;
     tally.add(&said);
     report.push_policy(&mut shown, policy, &said)?;
     Ok(shown)

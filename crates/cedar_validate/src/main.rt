@@ -1,11 +1,14 @@
 //! Validates the policies of files by a schema: `cedar-validate SCHEMA POLICY..`.
 #![tactic(auto)]
 
+mod causes;
 mod environments;
 mod files;
+mod impossible;
 mod progress;
 mod run;
 mod verdicts;
+mod wording;
 
 use cedar_types::base::{ArgumentCheck, ExtensionSchemas};
 use cedar_validation::constructors::RefusesEmptyText;

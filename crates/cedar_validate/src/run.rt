@@ -7,7 +7,9 @@ use cedar_typechecker::rbac::Validator;
 use cedar_types::base::{ExtensionSchemas, ValidatorSchema};
 use cedar_validation::arguments::{Arguments, Asked, read_arguments};
 use cedar_validation::faults::{TextFault, schema_fault, shadowing_fault};
-use cedar_validation::reports::{Report, push_tally};
+use cedar_validation::formats::Format;
+use cedar_validation::reports::{Form, Report, push_beginning, push_tally};
+use cedar_validation::schema_texts::SchemaTexts;
 use cedar_validation::sources::Source;
 use cedar_validation::tallies::Tally;
 use std::alloc::{AllocError, Global};
@@ -16,7 +18,7 @@ use std::io::Write;
 use std::rt::Files;
 
 const USAGE: &str = "usage: cedar-validate [--mode strict|permissive|partial] [--level N] \
-     [--json] SCHEMA POLICY..\n";
+     [--deny-warnings] [--format lines|json|sarif] SCHEMA POLICY..\n";
 
 const VERSION: &str = "cedar-validate 0.1.0\n";
 
@@ -25,7 +27,12 @@ Validates the policies of some files by a schema, and says what is wrong and whe
 
   --mode MODE   strict (without this option), permissive or partial
   --level N     how many entities a policy may dereference, one after another
-  --json        an object of JSON for each line
+  --deny-warnings  a warning counts for the exit status as a refused policy does
+  --format FORM lines for people (without this option), json, which is an object a line,
+                or sarif, one object that code hosts show beside the lines
+  --json        the same as --format json
+  --schema FILE a file of the schema; it can stand several times, and then each file that is
+                named without it is one of policies
   -h, --help    this text
   --version     the version of the program
   --            what comes behind it is a file, whatever it begins with
@@ -33,8 +40,8 @@ Validates the policies of some files by a schema, and says what is wrong and whe
 
   cedar-validate --level 1 photos.cedarschema share.cedar
 
-The exit status is 0 where all policies are accepted, 1 where some are refused, and 2
-where a file cannot be read or understood.
+The exit status is 0 where all policies are accepted, 1 where some are refused, or have
+a warning and --deny-warnings is given, and 2 where a file cannot be read or understood.
 ";
 
 /// Does what the words ask for, and answers the exit status: 0 where all policies are accepted, 1 where some are refused, 2 where
@@ -93,8 +100,12 @@ fn validate_files<R: Files + AllocGlobal + Input, O: Write, T: Write>(
     progress: &mut Progress<T>,
     out: &mut O,
 ) -> io::Result<u8> {
-    let Some(schema) = read_schema(rt, arguments, out)? else {
-        return Ok(2);
+    let mut form = Form::new(arguments.format);
+    let mut shown = String::new(rt.alloc());
+    push_beginning(&mut shown, form)?;
+    out.write_all(shown.as_bytes())?;
+    let Some(schema) = read_schema(rt, arguments, &mut form, out)? else {
+        return end_without_schema(rt.alloc(), form, out);
     };
     let validator = Validator::new(schema, extensions);
     let rules = Rules {
@@ -102,40 +113,72 @@ fn validate_files<R: Files + AllocGlobal + Input, O: Write, T: Write>(
         mode: arguments.mode,
         level: arguments.level,
     };
-    let is_json = arguments.is_json;
     let mut tally = Tally::default();
     for name in &arguments.policies {
         let name = name.as_str();
-        validate_file(rt, is_json, &rules, name, &mut tally, progress, out)?;
+        validate_file(rt, &mut form, &rules, name, &mut tally, progress, out)?;
     }
     let mut shown = String::new(rt.alloc());
-    push_tally(&mut shown, is_json, tally)?;
+    push_tally(&mut shown, form, tally)?;
     out.write_all(shown.as_bytes())?;
-    Ok(tally.status())
+    Ok(tally.status(arguments.denies_warnings))
+}
+
+/// Ends what is written where there is no schema: lines and objects have no counts then.
+fn end_without_schema<O: Write>(alloc: Global, form: Form, out: &mut O) -> io::Result<u8> {
+    let mut tally = Tally::default();
+    tally.add_fault();
+    if form.format == Format::Sarif {
+        let mut shown = String::new(alloc);
+        push_tally(&mut shown, form, tally)?;
+        out.write_all(shown.as_bytes())?;
+    }
+    Ok(tally.status(false))
 }
 
 /// The schema. Where there is none, why is written, and the answer is `None`.
 fn read_schema<R: Files + AllocGlobal + Input, O: Write>(
     rt: &R,
     arguments: &Arguments,
+    form: &mut Form,
     out: &mut O,
 ) -> io::Result<Option<ValidatorSchema>> {
     let alloc = rt.alloc();
-    let name = arguments.schema.as_str();
-    let Some(text) = read_text(rt, arguments.is_json, name, out)? else {
-        return Ok(None);
-    };
-    let text = text.as_str();
-    let fault = match schema_or_fault(alloc, text)? {
+    let mut texts = SchemaTexts::new(alloc);
+    for name in &arguments.schemas {
+        let Some(text) = read_text(rt, form, name.as_str(), out)? else {
+            return Ok(None);
+        };
+        texts.add(text.as_str())?;
+    }
+    let fault = match schema_or_fault(alloc, texts.text())? {
         Ok(schema) => return Ok(Some(schema)),
         Err(fault) => fault,
     };
-    let source = Source { name, text };
-    let mut shown = String::new(alloc);
-    let mut report = Report::new(alloc, arguments.is_json, source);
-    report.push_fault(&mut shown, &fault)?;
+    let shown = shown_fault(alloc, &arguments.schemas, &texts, form, fault)?;
     out.write_all(shown.as_bytes())?;
     Ok(None)
+}
+
+/// How a fault of a schema is shown, in the file that it stands in.
+fn shown_fault(
+    alloc: Global,
+    names: &Vec<String>,
+    texts: &SchemaTexts,
+    form: &mut Form,
+    fault: TextFault,
+) -> Result<String, AllocError> {
+    let mut shown = String::new(alloc);
+    let (number, fault) = texts.own_fault(alloc, fault)?;
+    let name = match names.get(number) {
+        Some(name) => name.as_str(),
+        None => "",
+    };
+    let text = texts.text_of(number);
+    let mut report = Report::new(alloc, *form, Source { name, text });
+    report.push_fault(&mut shown, &fault)?;
+    *form = report.form();
+    Ok(shown)
 }
 
 /// The schema that a text declares, or the fault that it has.

@@ -1,14 +1,18 @@
 // What is said of a policy.
-use crate::environments::environments_shown;
+use crate::causes::{Cause, Found};
+use crate::impossible::false_part;
+use crate::wording::{About, first_findings};
 use cedar_host::policy_sets::{Findings, validate};
 use cedar_host::safety::SoundMode;
 use cedar_host::slices::validate_within;
+use cedar_reading::Position;
 use cedar_typechecker::rbac::Validator;
 use cedar_typechecker::survey::Environments;
 use cedar_types::base::{
-    ArgumentCheck, Template, ValidationError, ValidationMode, ValidationWarning,
+    ArgumentCheck, Loc, Template, ValidationError, ValidationMode, ValidationWarning,
 };
-use cedar_validation::findings::{Finding, Requirement, Severity, Verdict};
+use cedar_validation::findings::{Requirement, Severity, Verdict};
+use cedar_validation::marks::marked_parts;
 use cedar_validation::unread_texts::add_unread_texts;
 use std::alloc::{AllocError, Global};
 use std::collections::{BTreeMap, HashSet};
@@ -31,21 +35,51 @@ pub struct Rules<'a, C = Box<dyn ArgumentCheck>> {
 
 /// What is said of a policy. Where it is accepted in Strict or in Permissive, it does not go wrong, and needs no more than the
 /// slice of the level, if there is one: the contracts of `validate` and `validate_within` say so. It fails where memory is
-/// refused.
+/// refused. A policy whose id another one has, at this position of the file, is refused.
 pub fn judge<C: ArgumentCheck>(
     alloc: Global,
     rules: &Rules<'_, C>,
+    text: &str,
     policy: &Template,
+    same_id: Option<Position>,
 ) -> Result<Verdict, AllocError> {
     let mut found = find(alloc, rules, policy)?;
     if add_unread(alloc, policy, &mut found.errors)? {
         found.is_accepted = false;
     }
+    let about = About {
+        schema: rules.validator.schema(),
+        policy,
+        text,
+        applicable: found.applicable_environments,
+    };
+    let mut causes = causes_of_warnings(alloc, rules, &found, policy)?;
+    add_errors(rules.mode, &found, policy, &mut causes)?;
+    add_marks(alloc, policy, &mut causes)?;
+    if let Some(other) = same_id {
+        let place = place_of(policy);
+        let cause = Cause::SameId(other);
+        causes.push(Found { place, cause })?;
+    }
+    let warnings = warnings_in(causes.as_slice());
+    let (findings, others) = first_findings(alloc, about, causes)?;
     Ok(Verdict {
-        is_accepted: found.is_accepted,
+        is_accepted: found.is_accepted && same_id.is_none(),
         requirement: requirement(rules.mode, &found),
-        findings: findings_shown(alloc, rules.mode, &found, policy)?,
+        findings,
+        others,
+        warnings,
     })
+}
+
+fn warnings_in(causes: &[Found<'_>]) -> u64 {
+    let mut warnings = 0u64;
+    for it in causes {
+        if it.severity() == Severity::Warning {
+            warnings = warnings.saturating_add(1);
+        }
+    }
+    warnings
 }
 
 /// Adds the texts of extension functions that do not read, and answers whether there is one.
@@ -107,28 +141,100 @@ fn find_in_partial<C: ArgumentCheck>(
     })
 }
 
-/// The findings in order. A policy that is refused has an error at least.
-fn findings_shown(
+fn place_of(policy: &Template) -> Loc {
+    policy.loc.unwrap_or(Loc { start: 0, end: 0 })
+}
+
+/// The warnings that do not follow from errors.
+fn causes_of_warnings<'a, C: ArgumentCheck>(
     alloc: Global,
-    mode: ValidationMode,
-    found: &Findings,
+    rules: &Rules<'_, C>,
+    found: &'a Findings,
     policy: &Template,
-) -> Result<Vec<Finding>, AllocError> {
-    let mut shown = Vec::new(alloc);
+) -> Result<Vec<Found<'a>>, AllocError> {
+    let mut causes = Vec::new(alloc);
     for warning in &found.warnings {
-        shown.push(Finding::of_warning(alloc, policy, warning)?)?;
+        if follows(warning, &found.errors, policy) {
+            continue;
+        }
+        let false_part = match warning {
+            ValidationWarning::ImpossiblePolicy(_) => false_part(alloc, rules, policy)?,
+            ValidationWarning::InvalidActionApplication(_) => None,
+        };
+        let own = warning.source_loc().unwrap_or(place_of(policy));
+        let (place, cause) = match false_part {
+            Some(place) => (place, Cause::FalsePart(warning)),
+            None => (own, Cause::Warning(warning)),
+        };
+        causes.push(Found { place, cause })?;
     }
+    Ok(causes)
+}
+
+/// Adds the errors. A policy that is refused has one at least.
+fn add_errors<'a>(
+    mode: ValidationMode,
+    found: &'a Findings,
+    policy: &Template,
+    causes: &mut Vec<Found<'a>>,
+) -> Result<(), AllocError> {
+    let own = place_of(policy);
     for (error, environments) in found.errors.iter() {
-        let applicable = found.applicable_environments;
-        let environments = environments_shown(alloc, environments, applicable)?;
-        shown.push(Finding::of_error(alloc, policy, error, environments)?)?;
+        let place = error.source_loc().unwrap_or(own);
+        let cause = Cause::Error(error, environments);
+        causes.push(Found { place, cause })?;
     }
     if found.errors.is_empty() && !found.is_accepted {
-        let why = why_unexplained(mode);
-        shown.push(Finding::new(alloc, policy, Severity::Error, None, why)?)?;
+        let cause = Cause::Unexplained(why_unexplained(mode));
+        causes.push(Found { place: own, cause })?;
     }
-    shown.sort()?;
-    Ok(shown)
+    Ok(())
+}
+
+/// Adds the texts with marks of direction.
+fn add_marks(
+    alloc: Global,
+    policy: &Template,
+    causes: &mut Vec<Found<'_>>,
+) -> Result<(), AllocError> {
+    for it in marked_parts(alloc, policy)? {
+        let place = it.place.unwrap_or(place_of(policy));
+        let cause = Cause::Marks(it.text);
+        causes.push(Found { place, cause })?;
+    }
+    Ok(())
+}
+
+/// Whether a warning follows from a name that the schema does not have: nothing is of a type that is not declared, and no action
+/// fits a scope that names one.
+fn follows(
+    warning: &ValidationWarning,
+    errors: &BTreeMap<ValidationError, Environments>,
+    policy: &Template,
+) -> bool {
+    let mut unknown = errors.keys().filter(|error| is_unknown_name(error));
+    match warning {
+        ValidationWarning::ImpossiblePolicy(_) => unknown.next().is_some(),
+        ValidationWarning::InvalidActionApplication(_) => {
+            unknown.any(|error| is_in_scope(error, policy))
+        }
+    }
+}
+
+fn is_unknown_name(error: &ValidationError) -> bool {
+    matches!(
+        error,
+        ValidationError::UnrecognizedEntityType(_) | ValidationError::UnrecognizedActionId(_)
+    )
+}
+
+/// Whether an error stands before the conditions of its policy.
+fn is_in_scope(error: &ValidationError, policy: &Template) -> bool {
+    let condition = policy.non_scope_constraints.as_ref();
+    match (error.source_loc(), condition.and_then(|it| it.loc)) {
+        (Some(place), Some(condition)) => place.start < condition.start,
+        _ => true,
+    }
 }
 
 /// Why a policy can be refused without an error.

@@ -1,5 +1,6 @@
 //! The words that the program is called with.
 use crate::escapes::Shown;
+use crate::formats::Format;
 use cedar_types::base::ValidationMode;
 use std::alloc::{AllocError, Global};
 use thiserror::Error;
@@ -10,9 +11,11 @@ pub struct Arguments {
     pub mode: ValidationMode,
     /// How many entities a policy may dereference, one after another; any number without it.
     pub level: Option<u32>,
-    /// Whether each line that is printed is an object of JSON.
-    pub is_json: bool,
-    pub schema: String,
+    pub format: Format,
+    /// Whether a warning counts for the exit status as a refused policy does.
+    pub denies_warnings: bool,
+    /// The files of the schema, one at least.
+    pub schemas: Vec<String>,
     pub policies: Vec<String>,
 }
 
@@ -35,6 +38,10 @@ pub enum Misuse {
     Level,
     #[error("`--level` is for the modes `strict` and `permissive`")]
     LevelInPartial,
+    #[error("`--format` takes `lines`, `json` or `sarif`")]
+    Format,
+    #[error("`--schema` takes a file")]
+    Schema,
     #[error("a schema and at least one file of policies are wanted")]
     TooFewFiles,
     #[error("standard input, `-`, can be read once")]
@@ -55,7 +62,7 @@ pub fn read_arguments(
             return Ok(Err(misuse));
         }
     }
-    Ok(read.finish())
+    read.finish()
 }
 
 /// What comes next.
@@ -64,6 +71,8 @@ enum Next {
     Any,
     Mode,
     Level,
+    Format,
+    Schema,
     /// A file, behind `--`.
     File,
 }
@@ -73,7 +82,9 @@ enum Next {
 struct Reading {
     mode: ValidationMode,
     level: Option<u32>,
-    is_json: bool,
+    format: Format,
+    denies_warnings: bool,
+    schemas: Vec<String>,
     files: Vec<String>,
     next: Next,
 }
@@ -83,7 +94,9 @@ impl Reading {
         Reading {
             mode: ValidationMode::Strict,
             level: None,
-            is_json: false,
+            format: Format::Lines,
+            denies_warnings: false,
+            schemas: Vec::new(alloc),
             files: Vec::new(alloc),
             next: Next::Any,
         }
@@ -104,6 +117,12 @@ impl Reading {
         match self.next {
             Next::Mode => Ok(self.take_mode(word.as_str())),
             Next::Level => Ok(self.take_level(word.as_str())),
+            Next::Format => Ok(self.take_format(word.as_str())),
+            Next::Schema => {
+                self.next = Next::Any;
+                self.schemas.push(word.clone()?)?;
+                Ok(None)
+            }
             Next::Any => self.take_option_or_file(word),
             Next::File => {
                 self.files.push(word.clone()?)?;
@@ -134,12 +153,31 @@ impl Reading {
         }
     }
 
+    fn take_format(&mut self, word: &str) -> Option<Misuse> {
+        self.next = Next::Any;
+        match Format::named(word) {
+            Some(format) => {
+                self.format = format;
+                None
+            }
+            None => Some(Misuse::Format),
+        }
+    }
+
     fn take_option_or_file(&mut self, word: &String) -> Result<Option<Misuse>, AllocError> {
         match word.as_str() {
             "--mode" => self.next = Next::Mode,
             "--level" => self.next = Next::Level,
-            "--json" => self.is_json = true,
+            "--format" => self.next = Next::Format,
+            "--schema" => self.next = Next::Schema,
+            "--json" => self.format = Format::Objects,
+            "--deny-warnings" => self.denies_warnings = true,
             "--" => self.next = Next::File,
+            text if text.starts_with("--schema=") => {
+                let name = text.strip_prefix("--schema=").unwrap_or("");
+                let alloc = *self.files.allocator();
+                self.schemas.push(String::from_str(alloc, name)?)?;
+            }
             text if is_with_value(text) => return Ok(self.take_with_value(text)),
             text if text.len() > 1 && text.starts_with("-") => {
                 return Ok(Some(Misuse::UnknownOption(word.clone()?)));
@@ -154,46 +192,55 @@ impl Reading {
         match word.split_once('=') {
             Some(("--mode", mode)) => self.take_mode(mode),
             Some(("--level", level)) => self.take_level(level),
+            Some(("--format", format)) => self.take_format(format),
             _ => None,
         }
     }
 
-    fn finish(self) -> Result<Asked, Misuse> {
+    fn finish(self) -> Result<Result<Asked, Misuse>, AllocError> {
         let Reading {
             mode,
             level,
-            is_json,
+            format,
+            denies_warnings,
+            mut schemas,
             mut files,
             next,
         } = self;
         match next {
-            Next::Mode => return Err(Misuse::Mode),
-            Next::Level => return Err(Misuse::Level),
+            Next::Mode => return Ok(Err(Misuse::Mode)),
+            Next::Level => return Ok(Err(Misuse::Level)),
+            Next::Format => return Ok(Err(Misuse::Format)),
+            Next::Schema => return Ok(Err(Misuse::Schema)),
             Next::Any | Next::File => {}
         }
         if mode == ValidationMode::Partial && level.is_some() {
-            return Err(Misuse::LevelInPartial);
+            return Ok(Err(Misuse::LevelInPartial));
         }
-        if files.len() < 2 {
-            return Err(Misuse::TooFewFiles);
+        if schemas.is_empty() && !files.is_empty() {
+            schemas.push(files.remove(0))?;
         }
-        if inputs_in(files.as_slice()) > 1 {
-            return Err(Misuse::InputTwice);
+        if schemas.is_empty() || files.is_empty() {
+            return Ok(Err(Misuse::TooFewFiles));
         }
-        let schema = files.remove(0);
-        Ok(Asked::Validation(Arguments {
+        let inputs = inputs_in(schemas.as_slice()).saturating_add(inputs_in(files.as_slice()));
+        if inputs > 1 {
+            return Ok(Err(Misuse::InputTwice));
+        }
+        Ok(Ok(Asked::Validation(Arguments {
             mode,
             level,
-            is_json,
-            schema,
+            format,
+            denies_warnings,
+            schemas,
             policies: files,
-        }))
+        })))
     }
 }
 
 /// Whether a word is an option with its value.
 fn is_with_value(word: &str) -> bool {
-    word.starts_with("--mode=") || word.starts_with("--level=")
+    word.starts_with("--mode=") || word.starts_with("--level=") || word.starts_with("--format=")
 }
 
 /// How often standard input is named.

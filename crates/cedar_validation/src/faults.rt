@@ -1,8 +1,9 @@
 //! What is wrong with texts that cannot be read, in words.
+use crate::fault_hints::{hint, is_alias};
 use cedar_reading::{
     Fault, ReadError, RefusedName, SchemaReadError, refused_name, shadowing_name, token_text,
 };
-use cedar_types::base::{Expr, ExprKind, Loc, SchemaError, Template};
+use cedar_types::base::{Loc, SchemaError};
 use std::alloc::{AllocError, Global};
 use thiserror::Error;
 
@@ -12,6 +13,9 @@ const MAX_SHOWN: usize = 40;
 /// What may help behind a text in quotes of several lines.
 const LONG_TEXT: &str = "; the text in quotes before it began on another line: it may have \
      lost its end there";
+
+/// What may help behind a name that is not that of an entity type.
+const ALIAS: &str = "; it is the name of a common type, and of no entity type";
 
 /// What is wrong with a text, and where.
 #[derive(Debug, Drop, Error)]
@@ -30,7 +34,7 @@ pub enum Written {
 
 /// What is wrong at a place, for people.
 #[derive(Clone, Copy, Debug, Error)]
-enum Trouble {
+pub(crate) enum Trouble {
     #[error("nested too deep: 800 brackets and operators are read inside each other, or 800 links of a chain")]
     TooDeep,
     #[error("nested too deep, as a type that contains itself is")]
@@ -65,11 +69,17 @@ pub fn read_fault(
         ReadError::At(start, fault) => (start, fault),
     };
     let token = token_text(text, start);
-    let read = beginning(token);
+    let read = match token {
+        "-" => beginning(negative_number(text, start)),
+        _ => beginning(token),
+    };
     let trouble = trouble_of(written, fault, token);
     let mut said = trouble_text(alloc, written, trouble, read)?;
     if is_behind_long_text(text, start) {
         said.push_str(LONG_TEXT)?;
+    }
+    if fault == Fault::Undeclared && is_alias(text, read) {
+        said.push_str(ALIAS)?;
     }
     Ok(TextFault {
         place: Loc {
@@ -78,6 +88,19 @@ pub fn read_fault(
         },
         text: said,
     })
+}
+
+/// The number that begins with the minus at this byte, as far as it stands on one line; else the minus alone.
+fn negative_number(text: &str, start: usize) -> &str {
+    let rest = text.get(start..).unwrap_or("");
+    let inside = rest.strip_prefix('-').unwrap_or("");
+    let digits = inside.trim_start();
+    let others = digits.trim_start_matches(|c: char| c.is_ascii_digit());
+    if others.len() == digits.len() {
+        return "-";
+    }
+    let size = rest.len().saturating_sub(others.len());
+    rest.get(..size).unwrap_or("-")
 }
 
 /// Whether a text in quotes ends right before this byte, and began on another line.
@@ -125,82 +148,6 @@ fn trouble_text(
     Ok(said)
 }
 
-/// What may help where something else is expected.
-fn hint(written: Written, trouble: Trouble, read: &str) -> &'static str {
-    let is_expected = matches!(
-        trouble,
-        Trouble::Missing(_) | Trouble::Other(Fault::Expected(_))
-    );
-    match (written, read) {
-        (_, "'") => "; texts stand in double quotes",
-        (Written::Schema, "permit" | "forbid") => {
-            "; the schema is the first file, and policies come behind it"
-        }
-        (Written::Schema, _) if is_expected => hint_in_schema(trouble, read),
-        (Written::Policies, "entity" | "namespace" | "type") => {
-            "; the schema is the first file, and policies come behind it"
-        }
-        (Written::Policies, _) if is_expected => hint_in_policy(trouble, read),
-        _ => "",
-    }
-}
-
-/// What may help in a policy.
-fn hint_in_policy(trouble: Trouble, read: &str) -> &'static str {
-    match read {
-        "=" => "; `==` compares",
-        "&" | "and" | "AND" => "; `&&` stands between conditions that both have to hold",
-        "|" | "or" | "OR" => "; `||` stands between conditions of which one has to hold",
-        "not" | "NOT" => "; `!` negates",
-        "True" | "TRUE" => "; `true` is written small",
-        "False" | "FALSE" => "; `false` is written small",
-        "null" | "nil" | "None" => "; nothing is null: `has` asks whether an attribute is there",
-        ":" => "; `::` stands between the parts of a name",
-        _ if is_name(trouble, read) => {
-            "; there are `principal`, `action`, `resource`, `context`, and ids such as `User::\"ann\"`"
-        }
-        _ => hint_by_place(trouble, read),
-    }
-}
-
-/// What may help where this is read, by what is expected there.
-fn hint_by_place(trouble: Trouble, read: &str) -> &'static str {
-    let is_text = read.starts_with('"');
-    match (trouble, read) {
-        (Trouble::Other(Fault::Expected("`permit` or `forbid`")), "{" | "[") => {
-            "; policies in JSON are not read"
-        }
-        (Trouble::Other(Fault::Expected("a name")), "[") => {
-            "; only behind `action in` may a list stand"
-        }
-        (Trouble::Other(Fault::Expected("a name")), _) if is_text => {
-            "; an id has its type before it, as `User::\"ann\"`"
-        }
-        (Trouble::Missing("}" | ")"), "==" | "!=" | "<" | "<=" | ">" | ">=") => {
-            "; one comparison does not follow another: `&&` joins two"
-        }
-        _ => "",
-    }
-}
-
-/// What may help in a schema.
-fn hint_in_schema(trouble: Trouble, read: &str) -> &'static str {
-    match (trouble, read) {
-        (_, "{") => "; schemas in JSON are not read",
-        (_, "?") => "; the `?` stands behind an attribute, as in `a?: Long`",
-        (Trouble::Other(Fault::Expected("a name")), "[") => "; a type of sets is `Set<..>`",
-        _ => "",
-    }
-}
-
-/// Whether a name is read in the place of an expression.
-fn is_name(trouble: Trouble, read: &str) -> bool {
-    let is_word = read.starts_with(|c: char| c.is_alphabetic());
-    is_word
-        && matches!(trouble, Trouble::Other(Fault::Expected("an expression")))
-        && !matches!(read, "then" | "else" | "in" | "is" | "has" | "like")
-}
-
 /// The beginning of what was read, of one line.
 fn beginning(text: &str) -> &str {
     let line = text.lines().next().unwrap_or("");
@@ -220,7 +167,15 @@ pub fn schema_fault(
         SchemaReadError::Read(error) => read_fault(alloc, Written::Schema, text, error),
         SchemaReadError::Refused(fault) => {
             let name = refused_name(alloc, text, &fault)?;
-            refusal(alloc, text, refusal_text(&fault), name)
+            let alias = match (&fault, &name) {
+                (SchemaError::UnknownType, Some(it)) => is_alias(text, it.name.as_str()),
+                _ => false,
+            };
+            let mut refused = refusal(alloc, text, refusal_text(&fault), name)?;
+            if alias {
+                refused.text.push_str(ALIAS)?;
+            }
+            Ok(refused)
         }
     }
 }
@@ -270,36 +225,5 @@ fn refusal_text(fault: &SchemaError) -> &'static str {
         SchemaError::VagueType => "the context of an action has to be a record",
         SchemaError::DescendantsNotClosed => "what is in what is not closed",
         SchemaError::Memory(_) => "memory was refused",
-    }
-}
-
-/// What stands in a condition and may not: a slot, or an unknown. Validation promises nothing of policies with these.
-pub fn forbidden_part(alloc: Global, policy: &Template) -> Result<Option<TextFault>, AllocError> {
-    let Some(condition) = &policy.non_scope_constraints else {
-        return Ok(None);
-    };
-    for item in condition.subexpressions(alloc)? {
-        if let Some(fault) = fault_of_part(alloc, item?)? {
-            return Ok(Some(fault));
-        }
-    }
-    Ok(None)
-}
-
-fn fault_of_part(alloc: Global, part: &Expr) -> Result<Option<TextFault>, AllocError> {
-    let Some(text) = why_forbidden(part) else {
-        return Ok(None);
-    };
-    Ok(Some(TextFault {
-        place: part.loc.unwrap_or(Loc { start: 0, end: 0 }),
-        text: String::from_str(alloc, text)?,
-    }))
-}
-
-fn why_forbidden(part: &Expr) -> Option<&'static str> {
-    match &part.kind {
-        ExprKind::Slot(_) => Some("a slot can stand in the scope alone, before the conditions"),
-        ExprKind::Unknown(_) => Some("an unknown has no value"),
-        _ => None,
     }
 }

@@ -1,8 +1,6 @@
 //! What is said of a policy.
-use cedar_reading::Position;
-use cedar_types::base::{
-    EntityDerefLevel, Loc, PolicyID, Template, ValidationError, ValidationWarning,
-};
+use crate::codes::Code;
+use cedar_types::base::{EntityDerefLevel, Loc, PolicyID, Template};
 use std::alloc::{AllocError, Global};
 
 /// What a finding says of the policy.
@@ -21,20 +19,42 @@ pub struct Finding {
     pub end: usize,
     pub severity: Severity,
     pub text: String,
-    /// What may help, behind a `; `; empty where that is not known.
-    pub hint: &'static str,
+    /// What may help; empty where that is not known.
+    pub hint: String,
+    /// The other types of which the same is said at the same place: the first few, and how many more there are.
+    pub also: Vec<String>,
     /// The environments that an error comes in, where it does not come in all; else none.
     pub environments: Vec<String>,
+    pub code: Code,
 }
 
-/// How many entities a policy dereferences, one after another.
+/// How many entities a policy or a set of policies dereferences, one after another.
 #[derive(Clone, Copy)]
 pub enum Requirement {
-    /// It is not said of a policy whose check fails.
+    /// It is not said of a policy whose check fails, nor of a set of such policies.
     Unsaid,
     /// No number is enough.
     NoLevel,
     Level(EntityDerefLevel),
+}
+
+impl Default for Requirement {
+    fn default() -> Requirement {
+        Requirement::Unsaid
+    }
+}
+
+impl Requirement {
+    /// What two policies need together.
+    pub fn joined(self, other: Requirement) -> Requirement {
+        match (self, other) {
+            (Requirement::NoLevel, _) | (_, Requirement::NoLevel) => Requirement::NoLevel,
+            (Requirement::Unsaid, it) | (it, Requirement::Unsaid) => it,
+            (Requirement::Level(one), Requirement::Level(two)) => {
+                Requirement::Level(if one.level < two.level { two } else { one })
+            }
+        }
+    }
 }
 
 /// What is said of a policy.
@@ -42,45 +62,22 @@ pub enum Requirement {
 pub struct Verdict {
     pub is_accepted: bool,
     pub requirement: Requirement,
-    /// In ascending order, each once.
+    /// The first findings, in ascending order, each once.
     pub findings: Vec<Finding>,
-}
-
-impl Verdict {
-    /// Adds warnings. The policy stays accepted, if it was.
-    pub fn add_warnings(&mut self, warnings: Vec<Finding>) -> Result<(), AllocError> {
-        if warnings.is_empty() {
-            return Ok(());
-        }
-        for warning in warnings {
-            self.findings.push(warning)?;
-        }
-        self.findings.sort()
-    }
-
-    /// Refuses the policy, as another one has its id. This says where.
-    pub fn refuse_id(
-        &mut self,
-        alloc: Global,
-        policy: &Template,
-        other: Position,
-    ) -> Result<(), AllocError> {
-        let Position { line, column } = other;
-        let why = format!(in alloc; "the policy at {line}:{column} of this file has the same id")?;
-        let finding = Finding::new(alloc, policy, Severity::Error, None, why.as_str())?;
-        self.is_accepted = false;
-        self.findings.push(finding)?;
-        self.findings.sort()
-    }
+    /// How many more there are.
+    pub others: usize,
+    /// How many warnings there are among all.
+    pub warnings: u64,
 }
 
 impl Finding {
-    /// The finding of this text in a policy, without environments: at this place, or where there is none at that of the policy.
+    /// The finding of this text in a policy, with nothing else: at this place, or where there is none at that of the policy.
     /// Of a text that begins with the policy's id, as those of errors do, it has the rest.
     pub fn new(
         alloc: Global,
         policy: &Template,
         severity: Severity,
+        code: Code,
         place: Option<Loc>,
         text: &str,
     ) -> Result<Finding, AllocError> {
@@ -90,70 +87,11 @@ impl Finding {
             end,
             severity,
             text: own_text(alloc, &policy.id, text)?,
-            hint: "",
+            hint: String::new(alloc),
+            also: Vec::new(alloc),
             environments: Vec::new(alloc),
+            code,
         })
-    }
-
-    /// An error in a policy, with the environments that are listed.
-    pub fn of_error(
-        alloc: Global,
-        policy: &Template,
-        error: &ValidationError,
-        environments: Vec<String>,
-    ) -> Result<Finding, AllocError> {
-        let text = error.to_string(alloc)?;
-        let place = error.source_loc();
-        let mut finding = Finding::new(alloc, policy, Severity::Error, place, text.as_str())?;
-        finding.hint = hint_for_error(error);
-        finding.environments = environments;
-        Ok(finding)
-    }
-
-    /// A warning of a policy.
-    pub fn of_warning(
-        alloc: Global,
-        policy: &Template,
-        warning: &ValidationWarning,
-    ) -> Result<Finding, AllocError> {
-        let text = warning.to_string(alloc)?;
-        let place = warning.source_loc();
-        let mut finding = Finding::new(alloc, policy, Severity::Warning, place, text.as_str())?;
-        finding.hint = hint_for_warning(warning);
-        Ok(finding)
-    }
-}
-
-/// What may help against an error.
-fn hint_for_error(error: &ValidationError) -> &'static str {
-    match error {
-        ValidationError::UnsafeOptionalAttributeAccess(_) => {
-            "; `has` may guard it, as in `a has b && a.b`"
-        }
-        ValidationError::UnsafeTagAccess(_) => {
-            "; `hasTag` may guard it, as in `a.hasTag(\"b\") && a.getTag(\"b\")`"
-        }
-        ValidationError::NonLitExtConstructor(_) => {
-            "; such a call takes a text in quotes, as in `ip(\"10.0.0.1\")`"
-        }
-        ValidationError::UndefinedFunction(_) => {
-            "; there are `contains`, `containsAll`, `containsAny`, `isEmpty`, `hasTag`, `getTag`, \
-             and the functions of the extensions"
-        }
-        _ => "",
-    }
-}
-
-/// What may help against a warning.
-fn hint_for_warning(warning: &ValidationWarning) -> &'static str {
-    let ValidationWarning::InvalidActionApplication(found) = warning else {
-        return "";
-    };
-    match (found.would_in_fix_principal, found.would_in_fix_resource) {
-        (false, false) => "",
-        (true, false) => "; `in` in place of `==` may help, at the principal",
-        (false, true) => "; `in` in place of `==` may help, at the resource",
-        (true, true) => "; `in` in place of `==` may help, at the principal and at the resource",
     }
 }
 

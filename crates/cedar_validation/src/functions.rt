@@ -4,7 +4,7 @@ use std::alloc::{AllocError, Global};
 use std::collections::BTreeSet;
 
 /// Each function that makes an extension value of a text: its name, the type of what it makes, and that of its argument.
-const CONSTRUCTORS: [&str; 4] = [
+pub(crate) const CONSTRUCTORS: [&str; 4] = [
     "ip ipaddr String",
     "decimal decimal String",
     "datetime datetime String",
@@ -15,7 +15,7 @@ const CONSTRUCTORS: [&str; 4] = [
 pub const CONSTRUCTOR_COUNT: usize = CONSTRUCTORS.len();
 
 /// Each other function in the same way.
-const OTHERS: [&str; 18] = [
+pub(crate) const OTHERS: [&str; 18] = [
     "isIpv4 Bool ipaddr",
     "isIpv6 Bool ipaddr",
     "isLoopback Bool ipaddr",
@@ -35,6 +35,21 @@ const OTHERS: [&str; 18] = [
     "toHours Long duration",
     "toDays Long duration",
 ];
+
+/// Whether a function makes an extension value of a text. In a policy it is called as a function.
+pub(crate) fn is_constructor(name: &str) -> bool {
+    CONSTRUCTORS.iter().any(|line| has_name(line, name))
+}
+
+/// Whether a function is another one of the extensions. In a policy it is called as a method.
+pub(crate) fn is_method(name: &str) -> bool {
+    OTHERS.iter().any(|line| has_name(line, name))
+}
+
+/// Whether a line is that of the function of this name.
+fn has_name(line: &str, name: &str) -> bool {
+    line.split(' ').next() == Some(name)
+}
 
 /// The functions, of which those that make a value of a text have these checks, one each.
 pub fn functions(

@@ -9,11 +9,13 @@ use cedar_types::base::Loc;
 use std::alloc::AllocError;
 use std::fmt;
 
-/// A place of a file: `FILE:LINE:COLUMN`.
+/// A place of a file. It is shown as `FILE:LINE:COLUMN`, by its beginning.
 #[derive(Clone, Copy)]
 pub struct Place<'a> {
     pub file: &'a str,
     pub at: Position,
+    /// The position right behind it.
+    pub end: Position,
 }
 
 impl fmt::Display for Place<'_> {
@@ -38,7 +40,12 @@ pub fn push_policy(
         "refused"
     };
     write!(out, "{place}: policy `{id}`: {outcome}")?;
-    match verdict.requirement {
+    push_requirement(out, verdict.requirement)
+}
+
+/// Adds what is needed, and ends the line.
+fn push_requirement(out: &mut String, requirement: Requirement) -> Result<(), AllocError> {
+    match requirement {
         Requirement::Unsaid => out.push_str("\n"),
         Requirement::NoLevel => out.push_str(", no level is enough\n"),
         Requirement::Level(level) => writeln!(out, ", level {level}"),
@@ -57,8 +64,16 @@ pub fn push_finding(
     let start = finding.start;
     let end = finding.end;
     let excerpt = Excerpt::new(text, Loc { start, end });
-    let hint = finding.hint;
-    write!(out, "{place}: {severity}: {said}{hint}\n{excerpt}")?;
+    write!(out, "{place}: {severity}: {said}")?;
+    if !finding.hint.is_empty() {
+        let hint = Shown(finding.hint.as_str());
+        write!(out, "; {hint}")?;
+    }
+    write!(out, "\n{excerpt}")?;
+    for other in &finding.also {
+        let other = Shown(other.as_str());
+        writeln!(out, "  the same for {other}")?;
+    }
     for environment in &finding.environments {
         let environment = Shown(environment.as_str());
         writeln!(out, "  only for {environment}")?;
@@ -106,10 +121,12 @@ pub fn push_tally(out: &mut String, tally: Tally) -> Result<(), AllocError> {
         refused,
         warnings,
         faults,
+        requirement,
     } = tally;
     write!(
         out,
         "policies: {policies}, accepted: {accepted}, refused: {refused}"
     )?;
-    writeln!(out, ", warnings: {warnings}, faults: {faults}")
+    write!(out, ", warnings: {warnings}, faults: {faults}")?;
+    push_requirement(out, requirement)
 }

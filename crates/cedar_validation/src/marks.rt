@@ -1,5 +1,4 @@
 //! Marks of direction in the ids and texts of a policy: what is shown there can stand in another order than it is compared in.
-use crate::findings::{Finding, Severity};
 use cedar_types::base::{Expr, ExprKind, Literal, Loc, PatternElem, Template};
 use std::alloc::{AllocError, Global};
 
@@ -10,42 +9,42 @@ const ID: &str = "an id with marks of direction, which may be shown in another o
 
 const ATTRIBUTE: &str = "an attribute with marks of direction, which may be shown in another order";
 
-/// A warning for each text, id and attribute of a policy that has marks of direction.
-pub fn warnings_of_marks(alloc: Global, policy: &Template) -> Result<Vec<Finding>, AllocError> {
-    let mut warnings = Vec::new(alloc);
+/// A text, an id or an attribute with such marks.
+#[derive(Clone, Copy)]
+pub struct Marked {
+    pub place: Option<Loc>,
+    /// What is said of it.
+    pub text: &'static str,
+}
+
+/// Each text, id and attribute of a policy that has marks of direction.
+pub fn marked_parts(alloc: Global, policy: &Template) -> Result<Vec<Marked>, AllocError> {
+    let mut marked = Vec::new(alloc);
     for uid in policy.policy_entity_uids(alloc)? {
         if has_marks(uid.eid.as_str()) {
-            warnings.push(warning(alloc, policy, uid.loc, ID)?)?;
+            let place = uid.loc;
+            marked.push(Marked { place, text: ID })?;
         }
     }
     if let Some(condition) = &policy.non_scope_constraints {
-        add_warnings_of_parts(alloc, policy, condition, &mut warnings)?;
+        add_marked_parts(alloc, condition, &mut marked)?;
     }
-    Ok(warnings)
+    Ok(marked)
 }
 
-fn add_warnings_of_parts(
+fn add_marked_parts(
     alloc: Global,
-    policy: &Template,
     condition: &Expr,
-    warnings: &mut Vec<Finding>,
+    marked: &mut Vec<Marked>,
 ) -> Result<(), AllocError> {
     for item in condition.subexpressions(alloc)? {
         let part = item?;
         if let Some(text) = marked_text(part) {
-            warnings.push(warning(alloc, policy, part.loc, text)?)?;
+            let place = part.loc;
+            marked.push(Marked { place, text })?;
         }
     }
     Ok(())
-}
-
-fn warning(
-    alloc: Global,
-    policy: &Template,
-    place: Option<Loc>,
-    text: &str,
-) -> Result<Finding, AllocError> {
-    Finding::new(alloc, policy, Severity::Warning, place, text)
 }
 
 /// What is said of a part, if its own text or one of its own attributes has marks of direction.

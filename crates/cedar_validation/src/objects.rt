@@ -1,4 +1,5 @@
 //! The same as objects of JSON, one a line.
+use crate::codes::Code;
 use crate::escapes::Quoted;
 use crate::faults::TextFault;
 use crate::findings::{Finding, Requirement, Verdict};
@@ -14,7 +15,9 @@ fn push_place(out: &mut String, kind: &str, place: Place<'_>) -> Result<(), Allo
     write!(
         out,
         "{{\"kind\":\"{kind}\",\"file\":{file},\"line\":{line},\"column\":{column}"
-    )
+    )?;
+    let Position { line, column } = place.end;
+    write!(out, ",\"end_line\":{line},\"end_column\":{column}")
 }
 
 /// Adds the object of a policy.
@@ -28,7 +31,12 @@ pub fn push_policy(
     let id = Quoted(id);
     let accepted = verdict.is_accepted;
     write!(out, ",\"id\":{id},\"accepted\":{accepted}")?;
-    match verdict.requirement {
+    push_requirement(out, verdict.requirement)
+}
+
+/// Adds what is needed, and ends the object.
+fn push_requirement(out: &mut String, requirement: Requirement) -> Result<(), AllocError> {
+    match requirement {
         Requirement::Unsaid => out.push_str("}\n"),
         Requirement::NoLevel => out.push_str(",\"level\":null}\n"),
         Requirement::Level(level) => writeln!(out, ",\"level\":{level}}}"),
@@ -43,24 +51,34 @@ pub fn push_finding(
     finding: &Finding,
 ) -> Result<(), AllocError> {
     push_place(out, severity_text(finding.severity), place)?;
+    let code = finding.code.text();
     let id = Quoted(id);
     let text = Quoted(finding.text.as_str());
-    write!(out, ",\"id\":{id},\"text\":{text}")?;
-    if let Some(hint) = finding.hint.strip_prefix("; ") {
-        let hint = Quoted(hint);
+    write!(out, ",\"code\":\"{code}\",\"id\":{id},\"text\":{text}")?;
+    if !finding.hint.is_empty() {
+        let hint = Quoted(finding.hint.as_str());
         write!(out, ",\"hint\":{hint}")?;
     }
-    out.push_str(",\"only\":[")?;
+    if !finding.also.is_empty() {
+        push_list(out, "also", &finding.also)?;
+    }
+    push_list(out, "only", &finding.environments)?;
+    out.push_str("}\n")
+}
+
+/// Adds a member of this name, a list of texts.
+fn push_list(out: &mut String, name: &str, texts: &Vec<String>) -> Result<(), AllocError> {
+    write!(out, ",\"{name}\":[")?;
     let mut is_first = true;
-    for environment in &finding.environments {
+    for text in texts {
         if !is_first {
             out.push_str(",")?;
         }
         is_first = false;
-        let environment = Quoted(environment.as_str());
-        write!(out, "{environment}")?;
+        let text = Quoted(text.as_str());
+        write!(out, "{text}")?;
     }
-    out.push_str("]}\n")
+    out.push_str("]")
 }
 
 /// Adds the object of the policy of this id that has so many findings more than are shown.
@@ -78,15 +96,18 @@ pub fn push_rest(
 /// Adds the object of a fault of a text.
 pub fn push_fault(out: &mut String, place: Place<'_>, fault: &TextFault) -> Result<(), AllocError> {
     push_place(out, "fault", place)?;
+    let code = Code::Fault.text();
     let text = Quoted(fault.text.as_str());
-    writeln!(out, ",\"text\":{text}}}")
+    writeln!(out, ",\"code\":\"{code}\",\"text\":{text}}}")
 }
 
 /// Adds the object of a file that cannot be had.
 pub fn push_missing(out: &mut String, file: &str, why: &str) -> Result<(), AllocError> {
     let file = Quoted(file);
     let why = Quoted(why);
-    writeln!(out, "{{\"kind\":\"fault\",\"file\":{file},\"text\":{why}}}")
+    let code = Code::File.text();
+    write!(out, "{{\"kind\":\"fault\",\"file\":{file}")?;
+    writeln!(out, ",\"code\":\"{code}\",\"text\":{why}}}")
 }
 
 /// Adds the last object.
@@ -97,13 +118,15 @@ pub fn push_tally(out: &mut String, tally: Tally) -> Result<(), AllocError> {
         refused,
         warnings,
         faults,
+        requirement,
     } = tally;
     write!(
         out,
         "{{\"kind\":\"summary\",\"policies\":{policies},\"accepted\":{accepted}"
     )?;
-    writeln!(
+    write!(
         out,
-        ",\"refused\":{refused},\"warnings\":{warnings},\"faults\":{faults}}}"
-    )
+        ",\"refused\":{refused},\"warnings\":{warnings},\"faults\":{faults}"
+    )?;
+    push_requirement(out, requirement)
 }

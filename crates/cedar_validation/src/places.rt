@@ -34,6 +34,16 @@ impl<'a> Places<'a> {
         self.position = position;
         position
     }
+
+    /// The same of a byte that stands behind the one that was asked for last, and is not remembered: so the next may stand before it.
+    pub fn position_behind(&self, byte: usize) -> Position {
+        let passed = self.text.get(self.at..byte).unwrap_or("");
+        let mut position = self.position;
+        for c in passed.chars() {
+            position = behind(position, c);
+        }
+        position
+    }
 }
 
 /// The position behind a character.

@@ -1,23 +1,47 @@
 //! What is found in a file, in the form that is asked for.
 use crate::faults::TextFault;
 use crate::findings::{Finding, Verdict};
+use crate::formats::Format;
 use crate::lines::{self, Place};
-use crate::objects;
 use crate::places::Places;
 use crate::sources::Source;
 use crate::tallies::Tally;
+use crate::{objects, sarif};
 use cedar_reading::Position;
 use cedar_types::base::{Loc, Template};
 use std::alloc::{AllocError, Global};
 use std::collections::BTreeMap;
 
-/// How many findings of a policy are shown.
-const MAX_FINDINGS: usize = 100;
+/// The form in which all is written, and what of it depends on what was written before.
+#[derive(Clone, Copy)]
+pub struct Form {
+    pub format: Format,
+    /// Whether a finding or a fault was written: those of SARIF have a comma between them.
+    pub has_results: bool,
+}
+
+impl Form {
+    /// Of this format, where nothing is written yet.
+    pub fn new(format: Format) -> Form {
+        Form {
+            format,
+            has_results: false,
+        }
+    }
+
+    /// Whether what is written now is the first finding or fault.
+    fn begins(&mut self) -> bool {
+        let is_first = !self.has_results;
+        self.has_results = true;
+        is_first
+    }
+}
 
 /// Shows what is found in a file.
 #[derive(Drop)]
 pub struct Report<'a> {
-    is_json: bool,
+    alloc: Global,
+    form: Form,
     source: Source<'a>,
     places: Places<'a>,
     /// Where policies stand, by their ids.
@@ -25,14 +49,20 @@ pub struct Report<'a> {
 }
 
 impl<'a> Report<'a> {
-    /// For this file, as objects of JSON or as lines.
-    pub fn new(alloc: Global, is_json: bool, source: Source<'a>) -> Report<'a> {
+    /// For this file, in this form.
+    pub fn new(alloc: Global, form: Form, source: Source<'a>) -> Report<'a> {
         Report {
-            is_json,
+            alloc,
+            form,
             source,
             places: Places::new(source.text),
             ids: BTreeMap::new(alloc),
         }
+    }
+
+    /// The form in which what comes next is written.
+    pub fn form(&self) -> Form {
+        self.form
     }
 
     /// Takes note of the id of a policy. Where the one before stands that has it, if there is one.
@@ -52,10 +82,17 @@ impl<'a> Report<'a> {
         Ok(None)
     }
 
-    fn place(&mut self, byte: usize) -> Place<'a> {
+    /// A place of the text. Lines do not show where it ends.
+    fn place(&mut self, place: Loc) -> Place<'a> {
+        let at = self.places.position(place.start);
+        let end = match self.form.format {
+            Format::Lines => at,
+            Format::Objects | Format::Sarif => self.places.position_behind(place.end),
+        };
         Place {
             file: self.source.name,
-            at: self.places.position(byte),
+            at,
+            end,
         }
     }
 
@@ -66,34 +103,36 @@ impl<'a> Report<'a> {
         policy: &Template,
         verdict: &Verdict,
     ) -> Result<(), AllocError> {
-        let Loc { start, .. } = policy.loc.unwrap_or(Loc { start: 0, end: 0 });
-        let place = self.place(start);
+        let place = self.place(policy.loc.unwrap_or(Loc { start: 0, end: 0 }));
         let id = policy.id.text.as_str();
-        if self.is_json {
-            objects::push_policy(out, place, id, verdict)?;
-        } else {
-            lines::push_policy(out, place, id, verdict)?;
+        match self.form.format {
+            Format::Lines => lines::push_policy(out, place, id, verdict)?,
+            Format::Objects => objects::push_policy(out, place, id, verdict)?,
+            Format::Sarif => {}
         }
-        for finding in verdict.findings.iter().take(MAX_FINDINGS) {
+        for finding in &verdict.findings {
             self.push_finding(out, id, finding)?;
         }
-        match verdict.findings.len().checked_sub(MAX_FINDINGS) {
-            None | Some(0) => Ok(()),
-            Some(count) => self.push_rest(out, place, id, count),
+        if verdict.others == 0 {
+            return Ok(());
         }
+        self.push_rest(out, place, id, verdict.others)
     }
 
     fn push_rest(
-        &self,
+        &mut self,
         out: &mut String,
         place: Place<'_>,
         id: &str,
         count: usize,
     ) -> Result<(), AllocError> {
-        if self.is_json {
-            objects::push_rest(out, place, id, count)
-        } else {
-            lines::push_rest(out, place, count)
+        match self.form.format {
+            Format::Lines => lines::push_rest(out, place, count),
+            Format::Objects => objects::push_rest(out, place, id, count),
+            Format::Sarif => {
+                let is_first = self.form.begins();
+                sarif::push_rest(self.alloc, out, is_first, place, id, count)
+            }
         }
     }
 
@@ -103,44 +142,64 @@ impl<'a> Report<'a> {
         id: &str,
         finding: &Finding,
     ) -> Result<(), AllocError> {
-        let place = self.place(finding.start);
-        if self.is_json {
-            objects::push_finding(out, place, id, finding)
-        } else {
-            lines::push_finding(out, place, self.source.text, finding)
+        let place = self.place(Loc {
+            start: finding.start,
+            end: finding.end,
+        });
+        match self.form.format {
+            Format::Lines => lines::push_finding(out, place, self.source.text, finding),
+            Format::Objects => objects::push_finding(out, place, id, finding),
+            Format::Sarif => {
+                let is_first = self.form.begins();
+                sarif::push_finding(self.alloc, out, is_first, place, id, finding)
+            }
         }
     }
 
     /// Adds a fault of the text.
     pub fn push_fault(&mut self, out: &mut String, fault: &TextFault) -> Result<(), AllocError> {
-        let place = self.place(fault.place.start);
-        if self.is_json {
-            objects::push_fault(out, place, fault)
-        } else {
-            lines::push_fault(out, place, self.source.text, fault)
+        let place = self.place(fault.place);
+        match self.form.format {
+            Format::Lines => lines::push_fault(out, place, self.source.text, fault),
+            Format::Objects => objects::push_fault(out, place, fault),
+            Format::Sarif => {
+                let is_first = self.form.begins();
+                sarif::push_fault(out, is_first, place, fault)
+            }
         }
+    }
+}
+
+/// Adds what stands before all.
+pub fn push_beginning(out: &mut String, form: Form) -> Result<(), AllocError> {
+    match form.format {
+        Format::Lines | Format::Objects => Ok(()),
+        Format::Sarif => sarif::push_beginning(out),
     }
 }
 
 /// Adds a file that cannot be had.
 pub fn push_missing(
     out: &mut String,
-    is_json: bool,
+    form: &mut Form,
     file: &str,
     why: &str,
 ) -> Result<(), AllocError> {
-    if is_json {
-        objects::push_missing(out, file, why)
-    } else {
-        lines::push_missing(out, file, why)
+    match form.format {
+        Format::Lines => lines::push_missing(out, file, why),
+        Format::Objects => objects::push_missing(out, file, why),
+        Format::Sarif => {
+            let is_first = form.begins();
+            sarif::push_missing(out, is_first, file, why)
+        }
     }
 }
 
 /// Adds the counts of all.
-pub fn push_tally(out: &mut String, is_json: bool, tally: Tally) -> Result<(), AllocError> {
-    if is_json {
-        objects::push_tally(out, tally)
-    } else {
-        lines::push_tally(out, tally)
+pub fn push_tally(out: &mut String, form: Form, tally: Tally) -> Result<(), AllocError> {
+    match form.format {
+        Format::Lines => lines::push_tally(out, tally),
+        Format::Objects => objects::push_tally(out, tally),
+        Format::Sarif => sarif::push_end(out, tally),
     }
 }

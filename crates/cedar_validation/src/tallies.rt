@@ -1,7 +1,8 @@
 //! Counts of what was found.
-use crate::findings::{Severity, Verdict};
+use crate::findings::{Requirement, Verdict};
 
-/// How many policies were read, accepted and refused, and how many warnings and faults there are.
+/// How many policies were read, accepted and refused, how many warnings and faults there are, and what all policies need together
+/// whose level is known.
 #[derive(Clone, Copy, Default)]
 pub struct Tally {
     pub policies: u64,
@@ -9,6 +10,7 @@ pub struct Tally {
     pub refused: u64,
     pub warnings: u64,
     pub faults: u64,
+    pub requirement: Requirement,
 }
 
 impl Tally {
@@ -20,11 +22,8 @@ impl Tally {
         } else {
             self.refused = self.refused.saturating_add(1);
         }
-        for finding in &verdict.findings {
-            if finding.severity == Severity::Warning {
-                self.warnings = self.warnings.saturating_add(1);
-            }
-        }
+        self.warnings = self.warnings.saturating_add(verdict.warnings);
+        self.requirement = self.requirement.joined(verdict.requirement);
     }
 
     /// Counts a fault.
@@ -32,11 +31,12 @@ impl Tally {
         self.faults = self.faults.saturating_add(1);
     }
 
-    /// The exit status: 2 where there is a fault, else 1 where a policy is refused, else 0.
-    pub fn status(&self) -> u8 {
+    /// The exit status: 2 where there is a fault, else 1 where a policy is refused, or where there is a warning and warnings are
+    /// denied, else 0.
+    pub fn status(&self, denies_warnings: bool) -> u8 {
         if self.faults > 0 {
             2
-        } else if self.refused > 0 {
+        } else if self.refused > 0 || denies_warnings && self.warnings > 0 {
             1
         } else {
             0

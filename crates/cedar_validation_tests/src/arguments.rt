@@ -1,11 +1,41 @@
 // What the words of a command line ask for.
 use cedar_types::base::ValidationMode;
 use cedar_validation::arguments::{Asked, read_arguments};
+use cedar_validation::formats::Format;
 use std::alloc::{AllocError, Global};
 use std::test::Fail;
 
 /// Command lines, and what they ask for or what is wrong with them.
-const LINES: [(&str, &str); 27] = [
+const LINES: [(&str, &str); 38] = [
+    (
+        "--schema s p --schema=t q",
+        "strict, no level, lines: s, t, p, q, 2 schemas",
+    ),
+    ("p --schema s", "strict, no level, lines: s, p"),
+    (
+        "--schema s",
+        "a schema and at least one file of policies are wanted",
+    ),
+    ("p --schema", "`--schema` takes a file"),
+    ("--schema - p -", "standard input, `-`, can be read once"),
+    (
+        "--format sarif s p --deny-warnings",
+        "strict, no level, no warnings, sarif: s, p",
+    ),
+    ("--format=json s p", "strict, no level, objects: s, p"),
+    ("--json --format lines s p", "strict, no level, lines: s, p"),
+    (
+        "--format xml s p",
+        "`--format` takes `lines`, `json` or `sarif`",
+    ),
+    (
+        "s p --format",
+        "`--format` takes `lines`, `json` or `sarif`",
+    ),
+    (
+        "--deny-warnings=1 s p",
+        "there is no option `--deny-warnings=1`",
+    ),
     ("s p", "strict, no level, lines: s, p"),
     ("--json s - q", "strict, no level, objects: s, -, q"),
     (
@@ -85,15 +115,24 @@ fn shown(alloc: Global, line: &str) -> Result<String, AllocError> {
         Some(level) => write!(said, ", level {level}")?,
         None => said.push_str(", no level")?,
     }
-    said.push_str(if arguments.is_json {
-        ", objects: "
-    } else {
-        ", lines: "
+    if arguments.denies_warnings {
+        said.push_str(", no warnings")?;
+    }
+    said.push_str(match arguments.format {
+        Format::Lines => ", lines: ",
+        Format::Objects => ", objects: ",
+        Format::Sarif => ", sarif: ",
     })?;
-    said.push_str(arguments.schema.as_str())?;
-    for name in &arguments.policies {
-        said.push_str(", ")?;
+    let mut is_first = true;
+    for name in arguments.schemas.iter().chain(arguments.policies.iter()) {
+        if !is_first {
+            said.push_str(", ")?;
+        }
+        is_first = false;
         said.push_str(name.as_str())?;
+    }
+    if arguments.schemas.len() > 1 {
+        write!(said, ", {} schemas", arguments.schemas.len())?;
     }
     Ok(said)
 }

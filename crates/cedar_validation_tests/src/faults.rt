@@ -8,7 +8,7 @@ use std::test::Fail;
 const BEFORE: &str = "permit(principal, action, resource)\nwhen { ";
 
 /// Conditions behind `BEFORE`, with the rest of the text.
-const CONDITIONS: [(&str, &str); 25] = [
+const CONDITIONS: [(&str, &str); 26] = [
     (
         "user.a };",
         "2:8: an expression is expected, where `user` is read; there are `principal`, `action`, \
@@ -88,8 +88,12 @@ const CONDITIONS: [(&str, &str); 25] = [
     ),
     (
         "true && if true then true else true };",
-        "2:16: an expression is expected, where `if` is read; there are `principal`, `action`, \
-         `resource`, `context`, and ids such as `User::\"ann\"`",
+        "2:16: an expression is expected, where `if` is read; an `if` that is a part of something \
+         else stands in parentheses",
+    ),
+    (
+        "1 > -9223372036854775809 };",
+        "2:12: a number that does not fit 64 bits, where `-9223372036854775809` is read",
     ),
     (
         "principal has a == true };",

@@ -21,4 +21,8 @@ mod objects;
 #[cfg(test)]
 mod reports;
 #[cfg(test)]
+mod schema_texts;
+#[cfg(test)]
+mod similar;
+#[cfg(test)]
 mod sources;

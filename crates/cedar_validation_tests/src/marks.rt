@@ -1,6 +1,6 @@
 // Marks of direction in policies.
 use cedar_reading::Policies;
-use cedar_validation::marks::warnings_of_marks;
+use cedar_validation::marks::marked_parts;
 use std::alloc::Global;
 use std::test::Fail;
 
@@ -63,8 +63,8 @@ fn warnings_of(alloc: Global, text: &str) -> Result<String, Fail> {
     let mut said = String::new(alloc);
     let mut policies = Policies::new(alloc, text)?;
     if let Some(read) = policies.next_policy() {
-        for warning in warnings_of_marks(alloc, &read?.template)? {
-            said.push_str(warning.text.as_str())?;
+        for marked in marked_parts(alloc, &read?.template)? {
+            said.push_str(marked.text)?;
             said.push_str(";")?;
         }
     }

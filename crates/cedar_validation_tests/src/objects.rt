@@ -1,6 +1,7 @@
 // The objects of JSON, in which nothing that others wrote ends a text or a line.
 use cedar_reading::Position;
 use cedar_types::base::{EntityDerefLevel, Loc};
+use cedar_validation::codes::Code;
 use cedar_validation::faults::TextFault;
 use cedar_validation::findings::{Finding, Requirement, Severity, Verdict};
 use cedar_validation::lines::Place;
@@ -12,12 +13,13 @@ use std::test::Fail;
 const PLACE: Place<'static> = Place {
     file: "a\"",
     at: Position { line: 3, column: 7 },
+    end: Position { line: 4, column: 1 },
 };
 
 const POLICIES: &str = r#"
-{"kind":"policy","file":"a\"","line":3,"column":7,"id":"x\u000ay","accepted":false}
-{"kind":"policy","file":"a\"","line":3,"column":7,"id":"\\","accepted":true,"level":null}
-{"kind":"policy","file":"a\"","line":3,"column":7,"id":"\\","accepted":true,"level":2}
+{"kind":"policy","file":"a\"","line":3,"column":7,"end_line":4,"end_column":1,"id":"x\u000ay","accepted":false}
+{"kind":"policy","file":"a\"","line":3,"column":7,"end_line":4,"end_column":1,"id":"\\","accepted":true,"level":null}
+{"kind":"policy","file":"a\"","line":3,"column":7,"end_line":4,"end_column":1,"id":"\\","accepted":true,"level":2}
 "#;
 
 #[test]
@@ -34,6 +36,8 @@ fn policies(rt: HostRuntime) -> Result<(), Fail> {
             is_accepted,
             requirement,
             findings: Vec::new(alloc),
+            others: 0,
+            warnings: 0,
         };
         objects::push_policy(&mut out, PLACE, id, &verdict)?;
     }
@@ -42,11 +46,11 @@ fn policies(rt: HostRuntime) -> Result<(), Fail> {
 }
 
 const FINDINGS: &str = r#"
-{"kind":"error","file":"a\"","line":3,"column":7,"id":"i","text":"\u202e","hint":"ask \"x\"","only":["h","t\u0009"]}
-{"kind":"warning","file":"a\"","line":3,"column":7,"id":"i","text":"\u202e","only":[]}
-{"kind":"fault","file":"a\"","line":3,"column":7,"text":"`;` is expected"}
-{"kind":"fault","file":"\u001b","text":"none"}
-{"kind":"summary","policies":1,"accepted":2,"refused":3,"warnings":4,"faults":5}
+{"kind":"error","file":"a\"","line":3,"column":7,"end_line":4,"end_column":1,"code":"direction","id":"i","text":"\u202e","hint":"ask \"x\"","also":["A"],"only":["h","t\u0009"]}
+{"kind":"warning","file":"a\"","line":3,"column":7,"end_line":4,"end_column":1,"code":"direction","id":"i","text":"\u202e","only":[]}
+{"kind":"fault","file":"a\"","line":3,"column":7,"end_line":4,"end_column":1,"code":"fault","text":"`;` is expected"}
+{"kind":"fault","file":"\u001b","code":"file","text":"none"}
+{"kind":"summary","policies":1,"accepted":2,"refused":3,"warnings":4,"faults":5,"level":6}
 "#;
 
 #[test]
@@ -73,6 +77,7 @@ fn findings_and_faults(rt: HostRuntime) -> Result<(), Fail> {
         refused: 3,
         warnings: 4,
         faults: 5,
+        requirement: Requirement::Level(EntityDerefLevel { level: 6 }),
     };
     objects::push_tally(&mut out, tally)?;
     assert_eq!(rt; out.as_str(), FINDINGS.trim_start());
@@ -84,16 +89,20 @@ fn finding(
     severity: Severity,
     environments: Vec<String>,
 ) -> Result<Finding, AllocError> {
+    let mut also = Vec::new(alloc);
+    let mut hint = String::new(alloc);
+    if !environments.is_empty() {
+        also.push(String::from_str(alloc, "A")?)?;
+        hint.push_str("ask \"x\"")?;
+    }
     Ok(Finding {
         start: 0,
         end: 1,
         severity,
         text: String::from_str(alloc, "\u{202e}")?,
-        hint: if environments.is_empty() {
-            ""
-        } else {
-            "; ask \"x\""
-        },
+        hint,
+        also,
         environments,
+        code: Code::Direction,
     })
 }

@@ -1,0 +1,130 @@
+// What is found in a policy, before it is put into words.
+use cedar_reading::Position;
+use cedar_typechecker::survey::Environments;
+use cedar_types::base::{CedarType, Loc, ValidationError, ValidationWarning};
+use cedar_validation::codes::Code;
+use cedar_validation::findings::Severity;
+use std::alloc::{AllocError, Global};
+
+/// What is found.
+#[derive(Clone, Copy)]
+pub enum Cause<'a> {
+    Error(&'a ValidationError, &'a Environments),
+    Warning(&'a ValidationWarning),
+    /// A policy is impossible, as the part at the place is false.
+    FalsePart(&'a ValidationWarning),
+    /// A text with marks of direction.
+    Marks(&'static str),
+    /// It is refused without an error: why.
+    Unexplained(&'static str),
+    /// Another policy has its id, at this position of the file.
+    SameId(Position),
+}
+
+/// What is found, and where.
+#[derive(Clone, Copy)]
+pub struct Found<'a> {
+    pub place: Loc,
+    pub cause: Cause<'a>,
+}
+
+/// Where what is found stands among the others.
+#[derive(Clone, Copy, PartialEq, Eq, PartialOrd, Ord)]
+pub struct Rank {
+    start: usize,
+    end: usize,
+    severity: Severity,
+}
+
+impl Found<'_> {
+    pub fn severity(&self) -> Severity {
+        match self.cause {
+            Cause::Error(_, _) | Cause::Unexplained(_) | Cause::SameId(_) => Severity::Error,
+            Cause::Warning(_) | Cause::FalsePart(_) | Cause::Marks(_) => Severity::Warning,
+        }
+    }
+
+    pub fn code(&self) -> Code {
+        match self.cause {
+            Cause::Error(error, _) => Code::of_error(error),
+            Cause::Warning(warning) | Cause::FalsePart(warning) => Code::of_warning(warning),
+            Cause::Marks(_) => Code::Direction,
+            Cause::Unexplained(_) => Code::Unchecked,
+            Cause::SameId(_) => Code::SameId,
+        }
+    }
+
+    pub fn rank(&self) -> Rank {
+        let Loc { start, end } = self.place;
+        Rank {
+            start,
+            end,
+            severity: self.severity(),
+        }
+    }
+
+    /// Whether two errors are one mistake: the same is wrong at the same place, and the types alone are others.
+    pub fn is_same_mistake(&self, other: &Found<'_>) -> bool {
+        match (self.cause, other.cause) {
+            (Cause::Error(one, _), Cause::Error(two, _)) => {
+                self.place == other.place && is_same_but_for_types(one, two)
+            }
+            _ => false,
+        }
+    }
+}
+
+/// Whether two errors at one place differ in nothing but types.
+fn is_same_but_for_types(one: &ValidationError, two: &ValidationError) -> bool {
+    match (one, two) {
+        (
+            ValidationError::UnsafeAttributeAccess(one),
+            ValidationError::UnsafeAttributeAccess(two),
+        ) => one.attr == two.attr && one.may_exist == two.may_exist,
+        (
+            ValidationError::UnsafeOptionalAttributeAccess(one),
+            ValidationError::UnsafeOptionalAttributeAccess(two),
+        ) => one.attr == two.attr,
+        (ValidationError::UnsafeTagAccess(_), ValidationError::UnsafeTagAccess(_)) => true,
+        (ValidationError::NoTagsAllowed(_), ValidationError::NoTagsAllowed(_)) => true,
+        (ValidationError::UnexpectedType(one), ValidationError::UnexpectedType(two)) => {
+            one.expected == two.expected
+        }
+        (ValidationError::IncompatibleTypes(one), ValidationError::IncompatibleTypes(two)) => {
+            one.context == two.context
+        }
+        _ => false,
+    }
+}
+
+/// The types of an error that stands with others for one mistake, as they are shown.
+pub fn types_shown(alloc: Global, error: &ValidationError) -> Result<String, AllocError> {
+    match error {
+        ValidationError::UnsafeAttributeAccess(found) => shown(alloc, &found.accessed_type),
+        ValidationError::UnsafeOptionalAttributeAccess(found) => shown(alloc, &found.accessed_type),
+        ValidationError::UnexpectedType(found) => shown(alloc, &found.actual),
+        ValidationError::UnsafeTagAccess(found) => match &found.entity_ty {
+            Some(types) => types.to_string(alloc),
+            None => String::from_str(alloc, "entity"),
+        },
+        ValidationError::NoTagsAllowed(found) => match &found.entity_ty {
+            Some(entity_type) => entity_type.to_string(alloc),
+            None => String::from_str(alloc, "entity"),
+        },
+        ValidationError::IncompatibleTypes(found) => {
+            let mut said = String::new(alloc);
+            for ty in found.types.iter() {
+                if !said.is_empty() {
+                    said.push_str(", ")?;
+                }
+                write!(said, "{ty}")?;
+            }
+            Ok(said)
+        }
+        _ => Ok(String::new(alloc)),
+    }
+}
+
+fn shown(alloc: Global, ty: &CedarType) -> Result<String, AllocError> {
+    ty.to_string(alloc)
+}

@@ -1,0 +1,78 @@
+//! What Cedar's own parser refuses in conditions, though it can be read: slots, unknowns, and functions that are called as
+//! methods, or methods as functions.
+use crate::faults::TextFault;
+use crate::functions::{is_constructor, is_method};
+use crate::parts::text_at;
+use cedar_types::base::{Expr, ExprKind, Loc, Template};
+use std::alloc::{AllocError, Global};
+
+/// What stands in a condition of this text and may not. Validation promises nothing of policies with slots or unknowns there.
+pub fn forbidden_part(
+    alloc: Global,
+    text: &str,
+    policy: &Template,
+) -> Result<Option<TextFault>, AllocError> {
+    let Some(condition) = &policy.non_scope_constraints else {
+        return Ok(None);
+    };
+    for item in condition.subexpressions(alloc)? {
+        let part = item?;
+        if let Some(said) = why_forbidden(alloc, text, part)? {
+            return Ok(Some(TextFault {
+                place: part.loc.unwrap_or(Loc { start: 0, end: 0 }),
+                text: said,
+            }));
+        }
+    }
+    Ok(None)
+}
+
+fn why_forbidden(alloc: Global, text: &str, part: &Expr) -> Result<Option<String>, AllocError> {
+    let said = match &part.kind {
+        ExprKind::Slot(_) => "a slot can stand in the scope alone, before the conditions",
+        ExprKind::Unknown(_) => "an unknown has no value",
+        ExprKind::ExtensionFunctionApp(name, arguments) if name.path.is_empty() => {
+            return called_otherwise(alloc, text, part.loc, name.basename.as_str(), arguments);
+        }
+        _ => return Ok(None),
+    };
+    Ok(Some(String::from_str(alloc, said)?))
+}
+
+/// How a function is called, where it is called as a method, and a method where it is called as a function.
+fn called_otherwise(
+    alloc: Global,
+    text: &str,
+    place: Option<Loc>,
+    name: &str,
+    arguments: &Vec<Expr>,
+) -> Result<Option<String>, AllocError> {
+    let Some(first) = arguments.first() else {
+        return Ok(None);
+    };
+    let shown = text_at(text, first.loc).unwrap_or("a");
+    if is_called_as_function(text, place, name) {
+        if is_method(name) {
+            let dots = if arguments.len() > 1 { ".." } else { "" };
+            let said = format!(in alloc; "`{name}` is a method: `{shown}.{name}({dots})`")?;
+            return Ok(Some(said));
+        }
+    } else if is_constructor(name) {
+        return Ok(Some(format!(in alloc; "`{name}` is a function: `{name}({shown})`")?));
+    }
+    Ok(None)
+}
+
+/// Whether the name of a call stands before all of its arguments.
+fn is_called_as_function(text: &str, place: Option<Loc>, name: &str) -> bool {
+    let Some(place) = place else {
+        return true;
+    };
+    match text
+        .get(place.start..)
+        .and_then(|rest| rest.strip_prefix(name))
+    {
+        Some(rest) => rest.trim_start().starts_with('('),
+        None => false,
+    }
+}

@@ -1,0 +1,127 @@
+// Functions that there are not.
+use crate::functions::{CONSTRUCTORS, OTHERS};
+use crate::parts::{arguments_at, text_at};
+use crate::similar::Search;
+use cedar_types::base::{Expr, ExprKind, Literal, Template, UndefinedFunction};
+use std::alloc::{AllocError, Global};
+
+/// The methods of the language itself.
+const METHODS: [&str; 6] = [
+    "contains",
+    "containsAll",
+    "containsAny",
+    "isEmpty",
+    "hasTag",
+    "getTag",
+];
+
+/// All that can be called.
+const ALL: &str = "there are `contains`, `containsAll`, `containsAny`, `isEmpty`, `hasTag`, \
+     `getTag`, and the functions of the extensions";
+
+/// That a name is one of a method, which function or method is nearest, or what there is in place of others.
+pub fn hint_for_function(
+    alloc: Global,
+    policy: &Template,
+    text: &str,
+    found: &UndefinedFunction,
+) -> Result<String, AllocError> {
+    let name = found.name.basename.as_str();
+    let arguments = arguments_at(alloc, policy, found.source_loc)?.unwrap_or(&[]);
+    if METHODS.contains(&name) {
+        return hint_for_method(alloc, text, name, arguments);
+    }
+    if let Some(hint) = hint_for_text(alloc, text, name, arguments)? {
+        return Ok(hint);
+    }
+    if let "size" | "length" | "len" | "count" = name {
+        return String::from_str(
+            alloc,
+            "there are no sizes; `.isEmpty()` asks whether a set has no elements",
+        );
+    }
+    match nearest_name(alloc, name)? {
+        Some(nearest) => format!(in alloc; "did you mean `{nearest}`?"),
+        None => String::from_str(alloc, ALL),
+    }
+}
+
+/// How a method is called on these arguments.
+fn hint_for_method(
+    alloc: Global,
+    text: &str,
+    name: &str,
+    arguments: &[Expr],
+) -> Result<String, AllocError> {
+    let mut shown = arguments.iter().map(|argument| text_at(text, argument.loc));
+    let (base, argument) = (shown.next().flatten(), shown.next().flatten());
+    match (base, argument) {
+        (Some(base), Some(argument)) if name != "isEmpty" => {
+            format!(in alloc; "it is a method: `{base}.{name}({argument})`")
+        }
+        (Some(base), _) if name == "isEmpty" => {
+            format!(in alloc; "it is a method: `{base}.isEmpty()`")
+        }
+        _ if name == "isEmpty" => String::from_str(alloc, "it is a method, as in `a.isEmpty()`"),
+        _ => format!(in alloc; "it is a method, as in `a.{name}(b)`"),
+    }
+}
+
+/// What looks into a text as a function of this name does elsewhere.
+fn hint_for_text(
+    alloc: Global,
+    text: &str,
+    name: &str,
+    arguments: &[Expr],
+) -> Result<Option<String>, AllocError> {
+    let (front, back) = match name {
+        "startsWith" | "starts_with" | "hasPrefix" => ("", "*"),
+        "endsWith" | "ends_with" | "hasSuffix" => ("*", ""),
+        _ => return Ok(None),
+    };
+    let [base, part] = arguments else {
+        return Ok(None);
+    };
+    let ExprKind::Lit(Literal::String(said)) = &part.kind else {
+        return Ok(None);
+    };
+    let base = text_at(text, base.loc).unwrap_or("a");
+    let said = if is_plain(said.as_str()) {
+        said.as_str()
+    } else {
+        "b"
+    };
+    let hint = format!(in alloc;
+        "`like` looks into a text: `{base} like \"{front}{said}{back}\"`"
+    )?;
+    Ok(Some(hint))
+}
+
+/// Whether a text stands in a pattern as it is.
+pub fn is_plain(text: &str) -> bool {
+    !text.contains('"') && !text.contains('\\') && !text.contains('*')
+}
+
+/// The name of a function or a method that is nearest.
+fn nearest_name(alloc: Global, unknown: &str) -> Result<Option<&'static str>, AllocError> {
+    let mut search = Search::new(alloc, unknown)?;
+    let mut nearest = None;
+    for name in METHODS {
+        if search.is_nearer(name, false)? {
+            nearest = Some(name);
+        }
+    }
+    for line in CONSTRUCTORS {
+        let name = line.split(' ').next().unwrap_or("");
+        if search.is_nearer(name, false)? {
+            nearest = Some(name);
+        }
+    }
+    for line in OTHERS {
+        let name = line.split(' ').next().unwrap_or("");
+        if search.is_nearer(name, false)? {
+            nearest = Some(name);
+        }
+    }
+    Ok(nearest)
+}

@@ -1,0 +1,103 @@
+//! Parts of a condition, and what stands at their places in the text.
+use cedar_types::base::{BinaryOp, Expr, ExprKind, Loc, Template};
+use std::alloc::{AllocError, Global};
+
+/// How many bytes a text has at most that is shown as an example.
+const MAX_SHOWN: usize = 80;
+
+/// An operator and its two operands.
+#[derive(Clone, Copy)]
+pub struct Operation<'a> {
+    pub operator: BinaryOp,
+    pub left: &'a Expr,
+    pub right: &'a Expr,
+}
+
+/// What stands at a place, if it is one short line.
+pub fn text_at(text: &str, place: Option<Loc>) -> Option<&str> {
+    let place = place?;
+    let part = text.get(place.start..place.end)?;
+    let is_plain = part.len() <= MAX_SHOWN && !part.contains('\n') && !part.contains("//");
+    (is_plain && !part.is_empty()).then_some(part)
+}
+
+/// The operation on two operands that stands at a place, if there is one.
+pub fn operation_at(
+    alloc: Global,
+    policy: &Template,
+    place: Option<Loc>,
+) -> Result<Option<Operation<'_>>, AllocError> {
+    let Some(condition) = &policy.non_scope_constraints else {
+        return Ok(None);
+    };
+    for item in condition.subexpressions(alloc)? {
+        let part = item?;
+        if part.loc == place {
+            if let Some(found) = operation_in(part) {
+                return Ok(Some(found));
+            }
+        }
+    }
+    Ok(None)
+}
+
+/// The operation that a part is, if it is one on two operands.
+pub fn operation_in(part: &Expr) -> Option<Operation<'_>> {
+    match &part.kind {
+        ExprKind::BinaryApp(operator, left, right) => Some(Operation {
+            operator: *operator,
+            left,
+            right,
+        }),
+        _ => None,
+    }
+}
+
+/// The arguments of the call that stands at a place, if there is one.
+pub fn arguments_at(
+    alloc: Global,
+    policy: &Template,
+    place: Option<Loc>,
+) -> Result<Option<&[Expr]>, AllocError> {
+    let Some(condition) = &policy.non_scope_constraints else {
+        return Ok(None);
+    };
+    for item in condition.subexpressions(alloc)? {
+        let part = item?;
+        if part.loc == place {
+            if let ExprKind::ExtensionFunctionApp(_, arguments) = &part.kind {
+                return Ok(Some(arguments.as_slice()));
+            }
+        }
+    }
+    Ok(None)
+}
+
+/// The part of a condition that has the part at a place as one of its operands, if there is one.
+pub fn part_around(
+    alloc: Global,
+    policy: &Template,
+    place: Option<Loc>,
+) -> Result<Option<&Expr>, AllocError> {
+    let Some(condition) = &policy.non_scope_constraints else {
+        return Ok(None);
+    };
+    for item in condition.subexpressions(alloc)? {
+        let part = item?;
+        if part.loc != place && has_operand_at(part, place) {
+            return Ok(Some(part));
+        }
+    }
+    Ok(None)
+}
+
+/// Whether an operand of a part stands at a place.
+fn has_operand_at(part: &Expr, place: Option<Loc>) -> bool {
+    match &part.kind {
+        ExprKind::BinaryApp(_, left, right) => left.loc == place || right.loc == place,
+        ExprKind::UnaryApp(_, operand) => operand.loc == place,
+        ExprKind::HasAttr(base, _) => base.loc == place,
+        ExprKind::Like(operand, _) => operand.loc == place,
+        _ => false,
+    }
+}

@@ -1,0 +1,80 @@
+// How many slips lead from one name to another, and which name is nearest.
+use cedar_validation::similar::{Search, distance};
+use std::alloc::{AllocError, Global};
+use std::test::Fail;
+
+/// Two names, and the slips between them.
+const PAIRS: [(&str, &str, usize); 12] = [
+    ("", "", 0),
+    ("", "abc", 3),
+    ("abc", "", 3),
+    ("owner", "owner", 0),
+    ("owner", "Owner", 0),
+    ("isPubic", "isPublic", 1),
+    ("veiw", "view", 1),
+    ("vew", "view", 1),
+    ("viiew", "view", 1),
+    ("vaew", "view", 1),
+    ("ca", "abc", 3),
+    ("kitten", "sitting", 3),
+];
+
+#[test]
+fn distances(rt: HostRuntime) -> Result<(), Fail> {
+    for (one, two, wanted) in &PAIRS {
+        let there = slips(rt.alloc(), one, two)?;
+        assert_eq!(rt; there, *wanted, "for {one} and {two}");
+        let back = slips(rt.alloc(), two, one)?;
+        assert_eq!(rt; back, *wanted, "for {two} and {one}");
+    }
+    Ok(())
+}
+
+fn slips(alloc: Global, one: &str, two: &str) -> Result<usize, AllocError> {
+    let mut from = Vec::new(alloc);
+    for c in one.chars() {
+        from.push(c)?;
+    }
+    let mut to = Vec::new(alloc);
+    for c in two.chars() {
+        to.push(c)?;
+    }
+    distance(alloc, from.as_slice(), to.as_slice())
+}
+
+/// A name that is not there, names that are, and the nearest of these.
+const SEARCHES: [(&str, &str, &str); 8] = [
+    ("isPubic", "owner isPublic isPubl", "isPublic"),
+    ("hom", "age home name", "home"),
+    ("a", "b c", ""),
+    ("a", "A", "A"),
+    ("x", "", ""),
+    ("name", "owner boss", ""),
+    ("readers", "reader writers", "reader"),
+    ("view", "veiw viow", "veiw"),
+];
+
+#[test]
+fn nearest(rt: HostRuntime) -> Result<(), Fail> {
+    for (unknown, names, wanted) in &SEARCHES {
+        let mut search = Search::new(rt.alloc(), unknown)?;
+        let mut nearest = "";
+        for name in names.split(' ') {
+            if search.is_nearer(name, false)? {
+                nearest = name;
+            }
+        }
+        assert_eq!(rt; nearest, *wanted, "for {unknown}");
+    }
+    Ok(())
+}
+
+#[test]
+fn where_else_does_not_differ(rt: HostRuntime) -> Result<(), Fail> {
+    let mut search = Search::new(rt.alloc(), "User")?;
+    assert_eq!(rt; search.is_nearer("User", true)?, true);
+    assert_eq!(rt; search.is_nearer("User", true)?, false);
+    assert_eq!(rt; search.is_nearer("User", false)?, true);
+    assert_eq!(rt; search.is_nearer("Uses", false)?, false);
+    Ok(())
+}
