@@ -90,7 +90,7 @@ fn is_for_expression(trouble: Trouble) -> bool {
 
 /// Whether a schema seems to declare a common type of this name, in some namespace.
 pub(crate) fn is_alias(schema: &str, name: &str) -> bool {
-    let mut before = "";
+    let mut is_behind_type = false;
     let name = match name.rsplit_once("::") {
         Some((_, name)) => name,
         None => name,
@@ -100,10 +100,10 @@ pub(crate) fn is_alias(schema: &str, name: &str) -> bool {
             Some((own, _)) => own,
             None => word,
         };
-        if before == "type" && own == name {
+        if is_behind_type && own == name {
             return true;
         }
-        before = word;
+        is_behind_type = word == "type";
     }
     false
 }
