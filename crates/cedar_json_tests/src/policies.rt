@@ -430,21 +430,26 @@ fn places(rt: HostRuntime) -> Result<(), Fail> {
     let json =
         r#"{"p": {"effect": "permit", "principal": {"op": "All"}, "action": {"op": "All"}, "resource": {"op": "All"}, "conditions": [{"kind": "when", "body": {"!": {"arg": {"Value": true}}}}]}}"#;
     let root = value_alone(alloc, json)?;
-    let read = match Policies::new(alloc, &root)?.next_policy() {
-        Some(read) => read?,
-        None => return Ok(()),
-    };
-    assert_eq!(rt; read.template.loc, Some(Loc { start: 1, end: 181 }));
-    let place = read
-        .template
-        .non_scope_constraints
-        .and_then(|rest| rest.loc);
-    assert_eq!(rt;
-        place,
+    let mut policies = Policies::new(alloc, &root)?;
+    let mut places = Vec::new(alloc);
+    if let Some(read) = policies.next_policy() {
+        let ReadPolicy {
+            effect: _,
+            template,
+        } = read?;
+        places.push(template.loc)?;
+        if let Some(rest) = &template.non_scope_constraints {
+            places.push(rest.loc)?;
+        }
+    }
+    // the policy from its key on, and the condition
+    let wanted = [
+        Some(Loc { start: 1, end: 181 }),
         Some(Loc {
             start: 147,
-            end: 178
-        })
-    );
+            end: 178,
+        }),
+    ];
+    assert_eq!(rt; places.as_slice(), wanted.as_slice());
     Ok(())
 }
