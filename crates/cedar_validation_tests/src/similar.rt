@@ -57,16 +57,22 @@ const SEARCHES: [(&str, &str, &str); 8] = [
 #[test]
 fn nearest(rt: HostRuntime) -> Result<(), Fail> {
     for (unknown, names, wanted) in &SEARCHES {
-        let mut search = Search::new(rt.alloc(), unknown)?;
-        let mut nearest = "";
-        for name in names.split(' ') {
-            if search.is_nearer(name, false)? {
-                nearest = name;
-            }
-        }
-        assert_eq!(rt; nearest, *wanted, "for {unknown}");
+        let found = nearest_of(rt.alloc(), unknown, names)?;
+        assert_eq!(rt; found.as_str(), *wanted, "for {unknown}");
     }
     Ok(())
+}
+
+fn nearest_of(alloc: Global, unknown: &str, names: &str) -> Result<String, AllocError> {
+    let mut search = Search::new(alloc, unknown)?;
+    let mut nearest = String::new(alloc);
+    for name in names.split(' ') {
+        if search.is_nearer(name, false)? {
+            nearest.clear();
+            nearest.push_str(name)?;
+        }
+    }
+    Ok(nearest)
 }
 
 #[test]
