@@ -45,6 +45,36 @@ fn an_expression_comes_before_its_parts_and_the_last_part_first(
     Ok(())
 }
 
+/// The variable that an expression is, if it is one.
+fn variable(expr: &Expr) -> Option<Var> {
+    match expr.kind {
+        ExprKind::Var(variable) => Some(variable),
+        _ => None,
+    }
+}
+
+/// Whether the parts are the test, the branch that it chooses and the other one, and theirs are not among them.
+fn are_direct(parts: &Vec<&Expr>) -> bool {
+    parts.len() == 3
+        && variable(parts[0]).is_none()
+        && variable(parts[1]) == Some(Var::Action)
+        && variable(parts[2]) == Some(Var::Principal)
+}
+
+#[test]
+fn the_parts_of_an_if_are_its_test_and_then_its_branches(rt: HostRuntime) -> Result<(), Fail> {
+    let alloc = rt.alloc();
+    let test = Expr::not(alloc, Expr::var(Var::Context))?;
+    let whole = Expr::ite(
+        alloc,
+        test,
+        Expr::var(Var::Action),
+        Expr::var(Var::Principal),
+    )?;
+    assert!(rt; are_direct(&whole.parts(alloc)?));
+    Ok(())
+}
+
 /// `true` under this many negations, made from the inside out.
 fn negated(alloc: Global, depth: usize) -> Result<Expr, AllocError> {
     let mut whole = Expr::val(Literal::from(true));

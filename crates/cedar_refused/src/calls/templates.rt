@@ -16,6 +16,7 @@ pub enum OfTemplate {
     Slot,
     SlotOfCondition,
     Subexpressions,
+    Parts,
 }
 
 /// Asks it of the template of this text.
@@ -50,6 +51,7 @@ fn of_template(
             let walk = whole.subexpressions(alloc);
             ended(alloc, walk.map(|_| ()), &whole)
         }
+        OfTemplate::Parts => ended(alloc, whole.parts(alloc), &whole),
     }
 }
 
@@ -66,7 +68,7 @@ impl Tried for OfTemplate {
 }
 
 /// Questions about a template.
-pub const TEMPLATES: [(OfTemplate, &str); 7] = [
+pub const TEMPLATES: [(OfTemplate, &str); 8] = [
     (
         OfTemplate::Condition,
         r#"
@@ -95,4 +97,5 @@ Template::condition, with slots | Slot | UNKNOWN
         OfTemplate::Subexpressions,
         "Expr::subexpressions | () | NAMED",
     ),
+    (OfTemplate::Parts, "Expr::parts | IsEmpty | NAMED"),
 ];

@@ -122,6 +122,21 @@ fn push_fields<'a, T>(
 }
 
 impl<T> Expr<T> {
+    /// The direct parts of this expression, from the first to the last: the operands, the test and then the branches of an `if`,
+    /// the arguments of a call, the elements of a set, the values of a record by ascending keys. A literal, a variable, a slot
+    /// and an unknown have none.
+    ///
+    /// In a typed expression an `if` that its test decides has one branch twice, which `level_validate::only_branch` of
+    /// `cedar_typechecker` gives. Where memory for the list is refused, the answer is an `AllocError`.
+    pub fn parts(&self, alloc: Global) -> Result<Vec<&Expr<T>>, AllocError>
+        ensures { IfOk result (λ ps.
+            map (λ e. written e.now) ps.items ≡ parts (written self.now)) }
+    {
+        let mut found = Vec::new(alloc);
+        push_parts(&mut found, self)?;
+        Ok(found)
+    }
+
     /// This expression and all its parts, each before its own parts.
     ///
     /// It does not recurse. An `AllocError` comes where memory for what is still to visit is refused, here or from the
