@@ -7,3 +7,4 @@ pub mod Faults
 pub mod KeptEnvironments
 pub mod Closures
 pub mod References
+pub mod ListedAttributes

@@ -13,6 +13,7 @@ use std::rc::RcStr;
 pub enum Lookup {
     Bound,
     Attribute,
+    Attributes,
     Literal,
     Reference,
     ChainCost,
@@ -33,6 +34,15 @@ fn attribute(alloc: Global, text: &str, number: u16) -> Result<Outcome, AllocErr
     let attr = RcStr::from_str(alloc, "owner")?;
     refuse(alloc, number);
     let found = CedarType::lookup_attribute_type(alloc, &schema, &types.0, &attr);
+    ended(alloc, found, &types)
+}
+
+/// Asks for all attributes of the first of the types of this text.
+fn attributes(alloc: Global, text: &str, number: u16) -> Result<Outcome, AllocError> {
+    let schema = schema_of(alloc, OWNERS)?;
+    let types = two_types(alloc, text)?;
+    refuse(alloc, number);
+    let found = types.0.attributes(alloc, &schema);
     ended(alloc, found, &types)
 }
 
@@ -73,6 +83,7 @@ impl Tried for Lookup {
         match self {
             Lookup::Bound => bound_of_entities(alloc, number),
             Lookup::Attribute => attribute(alloc, text, number),
+            Lookup::Attributes => attributes(alloc, text, number),
             Lookup::Literal => literal(alloc, text, number),
             Lookup::Reference => reference(alloc, text, number),
             Lookup::ChainCost => chain_cost(alloc, text, number),
@@ -81,7 +92,7 @@ impl Tried for Lookup {
 }
 
 /// What is looked up, by what it is looked up for.
-pub const LOOKUPS: [(Lookup, &str); 5] = [
+pub const LOOKUPS: [(Lookup, &str); 6] = [
     (Lookup::Bound, "EntityLUB::least_upper_bound | Photo"),
     (
         Lookup::Attribute,
@@ -89,6 +100,15 @@ pub const LOOKUPS: [(Lookup, &str); 5] = [
 CedarType::lookup_attribute_type, of several types | Photo | User|Photo
 - CedarType::lookup_attribute_type | User | Photo
 - CedarType::lookup_attribute_type, of a record | User | {owner: Set<User>}
+"#,
+    ),
+    (
+        Lookup::Attributes,
+        r#"
+CedarType::attributes, of several types | owner | User|Photo
+CedarType::attributes, of no attributes | attrs | Long
+- CedarType::attributes | owner | Photo
+- CedarType::attributes, of a record | owner | {owner: Set<User>}
 "#,
     ),
     (

@@ -1,12 +1,14 @@
 -- What a type tells of attributes, of tags and of entity literals, in a schema.
-use Rattle.std.specs.Prelude.{Bool, true, false, ◌&&◌, ◌||◌, List, [], ◌∷◌, Option, Some, None, option_map, is_some, fold, if◌then◌else◌}
+use Rattle.std.specs.Prelude.{◌≡◌, Bool, true, false, ◌&&◌, ◌||◌, List, [], ◌∷◌, Option, Some, None, option_map, is_some, fold, if◌then◌else◌}
 use Rattle.std.specs.List.{list_any, flat_map}
 use Rattle.cedar_types.specs.Names.{Text, Path, Uid, is_action_path}
 use Rattle.cedar_types.specs.Types.{ty_of, Ty, TNever, TBool, TLong, TString, TSet, TAnySet, TRecord, TEntity, TAnyEntity, TExtension}
-use Rattle.cedar_types.specs.Types.Bounds.{find_attr, lub}
+use Rattle.cedar_types.specs.Types.{Attrs, no_attrs}
+use Rattle.cedar_types.specs.Types.Bounds.{find_attr, lub, common_attrs}
 use Rattle.cedar_types.specs.Types.Order.{in_order}
 use Rattle.cedar_types.specs.Schemas.{TypeKind, StandardKind, EnumKind, ExternalKind, DeclaredType, Schema, type_named, declares_type}
 use Rattle.cedar_types.specs.Schemas.{declares_action, is_open_type}
+use Rattle.cedar_types.specs.Schemas.Formed.{has_formed_types}
 use Rattle.cedar_types.specs.declared.base.types.AttributeType.{AttributeType}
 use Rattle.cedar_types.specs.declared.base.types.ValidationMode.TheVariants.{Permissive}
 
@@ -55,6 +57,50 @@ attribute_type s (TRecord xs o) a = find_attr a xs
 attribute_type s (TEntity ps) a = types_attribute s.types a ps
 attribute_type s TAnyEntity a = None
 attribute_type s (TExtension n) a = None
+
+-- ---- all attributes of a type
+
+-- those that a kind of types declares
+abbrev pub kind_attributes : TypeKind → Attrs
+kind_attributes (StandardKind attrs tags) = attrs
+kind_attributes (EnumKind ids) = no_attrs
+kind_attributes ExternalKind = no_attrs
+
+abbrev pub declared_kind_attributes : Option DeclaredType → Attrs
+declared_kind_attributes None = no_attrs
+declared_kind_attributes (Some t) = kind_attributes t.kind
+
+-- those that the type of this name declares
+abbrev pub declared_attributes : List DeclaredType → Path → Attrs
+declared_attributes ts p = declared_kind_attributes (type_named ts p)
+
+-- those that all of the types declare, from the first on, with the bounds of their types in Permissive
+abbrev pub types_attributes : List DeclaredType → List Path → Attrs
+types_attributes ts [] = no_attrs
+types_attributes ts (p ∷ ps) =
+    fold (λ found q. common_attrs Permissive found (declared_attributes ts q))
+    (declared_attributes ts p) ps
+
+-- the attributes of a type: a record's own, and what all of some entity types declare; no other type has any
+abbrev pub attributes_in : Schema → Ty → Attrs
+attributes_in s TNever = no_attrs
+attributes_in s (TBool k) = no_attrs
+attributes_in s TLong = no_attrs
+attributes_in s TString = no_attrs
+attributes_in s (TSet t) = no_attrs
+attributes_in s TAnySet = no_attrs
+attributes_in s (TRecord xs o) = xs
+attributes_in s (TEntity ps) = types_attributes s.types ps
+attributes_in s TAnyEntity = no_attrs
+attributes_in s (TExtension n) = no_attrs
+
+-- they have of each name what is looked up by it, where the types of the schema are well-formed
+abbrev pub AttributesAreLookedUp : Type 0
+AttributesAreLookedUp =
+    (s : Schema) (t : Ty) (a : Text) → has_formed_types s ≡ true
+    → find_attr a (attributes_in s t) ≡ attribute_type s t a
+
+-- ---- what a value may have
 
 -- a type declares the attribute, or nothing is known of the type
 abbrev pub may_declare : List DeclaredType → Text → Path → Bool

@@ -5,6 +5,7 @@ ghost use Rattle.cedar_types.specs.Types.{ty_of, lub_of, attributes_of, attr_nam
 ghost use Rattle.cedar_types.specs.Names.Ascending.{has_members, texts_ascending, paths_ascending};
 ghost use Rattle.cedar_types.specs.Types.Order.{ty_cmp};
 ghost use Rattle.cedar_types.specs.Types.BoundLaws.{BoundIsIdempotent, BoundIsSymmetric, BoundIsUpper, BoundKeepsForm, SubtypingIsReflexive, SubtypingIsTransitive, SubtypeIsByBound};
+ghost use Rattle.cedar_types.specs.Types.Lookups.{AttributesAreLookedUp};
 ghost use Rattle.cedar_types.specs.declared.base.types.entity_sets.EntityLUB.{EntityLUB};
 
 use crate::base::types::{Attributes, CedarType};
@@ -95,4 +96,10 @@ pub fn attributes_are_well_formed(attributes: &Attributes)
 pub fn entity_sets_are_well_formed()
     ensures members { (s : EntityLUB) → has_members (lub_of s) ≡ true }
     ensures ascend { (s : EntityLUB) → paths_ascending (lub_of s) ≡ true }
+{}
+
+/// The attributes of a type have of each name what is looked up by it, by a schema whose types are well-formed, as those of
+/// every schema of the program are.
+pub fn listed_attributes()
+    ensures { AttributesAreLookedUp }
 {}

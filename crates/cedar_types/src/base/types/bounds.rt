@@ -2,6 +2,7 @@
 ghost use Rattle.std.specs.Prelude.{◌≡◌, IfOk, option_map};
 ghost use Rattle.cedar_types.specs.Types.{ty_of, attributes_of, entries_of, TRecord, is_open_tag};
 ghost use Rattle.cedar_types.specs.Types.Bounds.{lub, lub_by, apart_lub, set_lub, both_attrs, common_attrs, record_lub};
+ghost use Rattle.cedar_types.specs.declared.base.types.ValidationMode.TheVariants.{Permissive};
 
 use crate::base::types::flat_bounds::{
     any_entity_bound, any_set_bound, bool_bound, entity_bound, is_never, is_same, is_strict,
@@ -210,4 +211,19 @@ fn common_attributes(
         }
     }
     Ok(all)
+}
+
+impl Attributes {
+    /// The attributes of both that have a bound in Permissive, each required where both require it.
+    pub(crate) fn in_common(
+        alloc: Global,
+        xs: &Attributes,
+        ys: &Attributes,
+    ) -> Result<Attributes, AllocError>
+        ensures { IfOk result (λ zs. attributes_of zs
+            ≡ common_attrs Permissive (attributes_of xs.now) (attributes_of ys.now)) }
+    {
+        let all = common_attributes(alloc, xs, ys, ValidationMode::Permissive)?;
+        Attributes::with_attributes(alloc, all)
+    }
 }
