@@ -5,8 +5,8 @@ use cedar_host::policy_sets::{WrittenPolicy, validate_set};
 use cedar_host::safety::SoundMode;
 use cedar_typechecker::rbac::Validator;
 use cedar_types::base::{
-    EntityType, EntityUID, Expr, ExtensionSchemas, Literal, Name, SchemaError, Template,
-    ValidatorEntityType, ValidatorEntityTypeKind, ValidatorSchema,
+    EntityType, EntityUID, EnumChoices, Expr, ExtensionSchemas, Literal, Name, SchemaError,
+    Template, ValidatorEntityType, ValidatorEntityTypeKind, ValidatorSchema,
 };
 use std::alloc::{AllocError, Global};
 use std::collections::BTreeSet;
@@ -46,7 +46,7 @@ fn types(alloc: Global) -> Result<Vec<ValidatorEntityType>, AllocError> {
     let status = ValidatorEntityType {
         name: status(alloc)?,
         descendants: BTreeSet::new(alloc),
-        kind: ValidatorEntityTypeKind::Enum(members),
+        kind: ValidatorEntityTypeKind::Enum(EnumChoices::new(alloc, members)?),
     };
     Ok(vec![in alloc; status]?)
 }

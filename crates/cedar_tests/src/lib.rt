@@ -7,6 +7,8 @@ mod attributes;
 #[cfg(test)]
 mod capabilities;
 #[cfg(test)]
+mod choices;
+#[cfg(test)]
 mod collisions;
 #[cfg(test)]
 mod error_texts;

@@ -8,3 +8,4 @@ pub mod KeptEnvironments
 pub mod Closures
 pub mod References
 pub mod ListedAttributes
+pub mod Choices

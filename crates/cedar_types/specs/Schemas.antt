@@ -8,6 +8,7 @@ use Rattle.cedar_types.specs.declared.base.types.BoolType.{BoolType}
 use Rattle.cedar_types.specs.declared.base.types.BoolType.TheVariants.{AnyBool, True, False}
 use Rattle.cedar_types.specs.declared.base.schema.errors.SchemaError.{SchemaError}
 use Rattle.cedar_types.specs.declared.base.schema.errors.SchemaError.TheVariants.{DuplicateEntityType, DuplicateAction, ActionTypeDeclared, NotAnActionType, EmptyEnum, UnknownType, UnknownActionDescendant, VagueType, DescendantsNotClosed}
+pub mod Choices
 pub mod Declarations
 pub mod Formed
 pub mod Closures

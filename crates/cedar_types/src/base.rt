@@ -38,6 +38,7 @@ pub use names::policy_ids::PolicyID;
 pub use names::slots::{SlotEnv, SlotId};
 pub use schema::ValidatorSchema;
 pub use schema::actions::{ValidatorActionId, ValidatorActionKind, ValidatorApplySpec};
+pub use schema::choices::EnumChoices;
 pub use schema::entity_types::{
     StandardValidatorEntityType, ValidatorEntityType, ValidatorEntityTypeKind,
 };

@@ -3,8 +3,8 @@ use crate::faults::{Fault, ReadError};
 use crate::schemas::declarations::Declarations;
 use crate::schemas::descendants::{Family, MAX_DESCENDANTS};
 use cedar_types::base::{
-    StandardValidatorEntityType, ValidatorActionId, ValidatorActionKind, ValidatorApplySpec,
-    ValidatorEntityType, ValidatorEntityTypeKind,
+    EnumChoices, StandardValidatorEntityType, ValidatorActionId, ValidatorActionKind,
+    ValidatorApplySpec, ValidatorEntityType, ValidatorEntityTypeKind,
 };
 use std::alloc::{AllocError, Global};
 
@@ -24,7 +24,7 @@ pub fn closed_types(
             types.push(ValidatorEntityType {
                 name: own.name.clone()?,
                 descendants,
-                kind: copy_of_kind(&declaration.kind)?,
+                kind: copy_of_kind(alloc, &declaration.kind)?,
             })?;
         }
     }
@@ -41,7 +41,10 @@ fn counted(before: usize, more: usize, start: usize) -> Result<usize, ReadError>
     }
 }
 
-fn copy_of_kind(kind: &ValidatorEntityTypeKind) -> Result<ValidatorEntityTypeKind, AllocError> {
+fn copy_of_kind(
+    alloc: Global,
+    kind: &ValidatorEntityTypeKind,
+) -> Result<ValidatorEntityTypeKind, AllocError> {
     match kind {
         ValidatorEntityTypeKind::Standard(standard) => Ok(ValidatorEntityTypeKind::Standard(
             StandardValidatorEntityType {
@@ -49,9 +52,19 @@ fn copy_of_kind(kind: &ValidatorEntityTypeKind) -> Result<ValidatorEntityTypeKin
                 tags: standard.tags.clone()?,
             },
         )),
-        ValidatorEntityTypeKind::Enum(ids) => Ok(ValidatorEntityTypeKind::Enum(ids.clone()?)),
+        ValidatorEntityTypeKind::Enum(ids) => {
+            Ok(ValidatorEntityTypeKind::Enum(copy_of_ids(alloc, ids)?))
+        }
         ValidatorEntityTypeKind::External => Ok(ValidatorEntityTypeKind::External),
     }
+}
+
+fn copy_of_ids(alloc: Global, ids: &EnumChoices) -> Result<EnumChoices, AllocError> {
+    let mut copies = Vec::new(alloc);
+    for id in ids.as_slice() {
+        copies.push(id.clone()?)?;
+    }
+    EnumChoices::new(alloc, copies)
 }
 
 /// The declared actions. It fails where too many are in others.

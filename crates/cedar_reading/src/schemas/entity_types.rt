@@ -9,7 +9,7 @@ use crate::schemas::reserved::free_word;
 use crate::schemas::types::{attributes, cedar_type};
 use crate::texts::text;
 use cedar_types::base::{
-    Attributes, EntityType, StandardValidatorEntityType, ValidatorEntityTypeKind,
+    Attributes, EntityType, EnumChoices, StandardValidatorEntityType, ValidatorEntityTypeKind,
 };
 use std::collections::BTreeMap;
 use std::rc::RcStr;
@@ -89,7 +89,7 @@ fn own_types(
 }
 
 /// Reads the ids of an enumerated type.
-fn ids(cursor: &mut Cursor<'_>) -> Result<Vec<RcStr>, ReadError> {
+fn ids(cursor: &mut Cursor<'_>) -> Result<EnumChoices, ReadError> {
     cursor.expect("[")?;
     let mut ids = Vec::new(cursor.alloc);
     for _ in 0..cursor.most_left() {
@@ -99,7 +99,7 @@ fn ids(cursor: &mut Cursor<'_>) -> Result<Vec<RcStr>, ReadError> {
         let id = text(cursor)?;
         ids.push(RcStr::from_str(cursor.alloc, id.as_str())?)?;
     }
-    Ok(ids)
+    Ok(EnumChoices::new(cursor.alloc, ids)?)
 }
 
 /// Reads the name of an entity type, or any number of them in brackets.

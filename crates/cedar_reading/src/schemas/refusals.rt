@@ -103,7 +103,7 @@ fn without_ids(
 
 fn has_no_ids(kind: &ValidatorEntityTypeKind) -> bool {
     match kind {
-        ValidatorEntityTypeKind::Enum(ids) => ids.is_empty(),
+        ValidatorEntityTypeKind::Enum(ids) => ids.as_slice().is_empty(),
         _ => false,
     }
 }

@@ -12,7 +12,6 @@ ghost use Rattle.cedar_types.specs.Schemas.Contents.{schema_of};
 ghost use Rattle.cedar_types.specs.Templates.{template_of};
 ghost use Rattle.cedar_typechecker.specs.Passes.{own_finding, type_finding, action_finding, member_finding, errors_to_come, errors_left, errors_are_over};
 
-use crate::rbac::members::has_id;
 use crate::rbac::validator::Validator;
 use cedar_types::base::{
     EntityType, EntityUID, Mention, Mentions, Template, ValidationError, ValidatorEntityTypeKind,
@@ -240,7 +239,7 @@ fn excludes(kind: &ValidatorEntityTypeKind, uid: &EntityUID) -> bool
     ensures { result ≡ excludes (type_kind kind.now) (text_of uid.now.eid) }
 {
     match kind {
-        ValidatorEntityTypeKind::Enum(ids) => !has_id(ids, &uid.eid),
+        ValidatorEntityTypeKind::Enum(ids) => !ids.contains(&uid.eid),
         ValidatorEntityTypeKind::Standard(_) => false,
         ValidatorEntityTypeKind::External => false,
     }

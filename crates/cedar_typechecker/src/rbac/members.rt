@@ -1,14 +1,13 @@
 // Members of sets of entity types, and of lists of ids.
 ghost use Rattle.std.specs.Prelude.{◌≡◌, map};
 ghost use Rattle.std.specs.List.{list_any};
-ghost use Rattle.cedar_types.specs.Names.{text_of, text_eq, type_of, path_eq};
+ghost use Rattle.cedar_types.specs.Names.{type_of, path_eq};
 ghost use Rattle.cedar_types.specs.Schemas.Contents.{schema_of};
 ghost use Rattle.cedar_types.specs.Schemas.{is_among, descendants_of};
 ghost use Rattle.cedar_types.specs.Types.{types_of};
 
 use cedar_types::base::{EntityType, ValidatorSchema};
 use std::collections::BTreeSet;
-use std::rc::RcStr;
 
 /// Whether two entity types have one name.
 pub(crate) fn is_same_type(left: &EntityType, right: &EntityType) -> bool
@@ -64,11 +63,4 @@ pub(crate) fn has_declared_below(
         }
     }
     false
-}
-
-/// Whether an enumeration has this id.
-pub(crate) fn has_id(ids: &[RcStr], id: &RcStr) -> bool
-    ensures { result ≡ list_any (text_eq (text_of id.now)) (map text_of ids.now) }
-{
-    ids.iter().any(|own| id == own)
 }

@@ -1,8 +1,9 @@
 -- The declarations of a schema as plain data.
 use Rattle.std.specs.Prelude.{List, Option, Some, None, map, option_map}
 use Rattle.std.specs.BTreeSet.{BTreeSet}
-use Rattle.cedar_types.specs.Names.{Uid, text_of, type_of, uid_of}
+use Rattle.cedar_types.specs.Names.{Uid, type_of, uid_of}
 use Rattle.cedar_types.specs.Types.{types_of, ty_of, attributes_of}
+use Rattle.cedar_types.specs.Schemas.Choices.{choices_of}
 use Rattle.cedar_types.specs.Schemas.{TypeKind, StandardKind, EnumKind, ExternalKind, DeclaredType, Application, DeclaredAction, Schema}
 use Rattle.cedar_types.specs.declared.base.names.entities.EntityUID.{EntityUID}
 use Rattle.cedar_types.specs.declared.base.schema.entity_types.ValidatorEntityType.{ValidatorEntityType}
@@ -15,7 +16,7 @@ use Rattle.cedar_types.specs.declared.base.schema.actions.ValidatorActionKind.Th
 
 abbrev pub type_kind : ValidatorEntityTypeKind → TypeKind
 type_kind (Standard s) = StandardKind (attributes_of s.attributes) (option_map ty_of s.tags)
-type_kind (Enum ids) = EnumKind (map text_of ids.items)
+type_kind (Enum ids) = EnumKind (choices_of ids)
 type_kind External = ExternalKind
 
 abbrev pub declared_type : ValidatorEntityType → DeclaredType

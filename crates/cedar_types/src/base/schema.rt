@@ -8,6 +8,7 @@ ghost use Rattle.cedar_types.specs.Environments.{declared_env, environments_of};
 mod action_tables;
 pub(crate) mod actions;
 mod attributes;
+pub(crate) mod choices;
 mod closures;
 pub(crate) mod entity_types;
 mod environments;

@@ -69,19 +69,19 @@ pub fn hint_for_id(
     };
     let mut search = Search::new(alloc, unknown.eid.as_str())?;
     let mut nearest = None;
-    for id in ids {
+    for id in ids.as_slice() {
         if search.is_nearer(id.as_str(), false)? {
             nearest = Some(id);
         }
     }
     match nearest {
         Some(id) => format!(in alloc; "did you mean `{}::\"{id}\"`?", unknown.entity_type),
-        None => ids_listed(alloc, ids),
+        None => ids_listed(alloc, ids.as_slice()),
     }
 }
 
 /// The first ids, and how many more there are.
-fn ids_listed(alloc: Global, ids: &Vec<RcStr>) -> Result<String, AllocError> {
+fn ids_listed(alloc: Global, ids: &[RcStr]) -> Result<String, AllocError> {
     let mut said = String::from_str(alloc, "there are ")?;
     let mut is_first = true;
     for id in ids.iter().take(MAX_LISTED) {

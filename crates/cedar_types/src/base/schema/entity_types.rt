@@ -1,8 +1,8 @@
 // The entity types that a schema declares.
 use crate::base::names::entities::EntityType;
+use crate::base::schema::choices::EnumChoices;
 use crate::base::types::{Attributes, CedarType};
 use std::collections::BTreeSet;
-use std::rc::RcStr;
 
 /// An entity type that a schema declares.
 #[derive(Debug, Drop)]
@@ -19,7 +19,7 @@ pub enum ValidatorEntityTypeKind {
     /// Its attributes are declared, and the type of its tags, if it may have any.
     Standard(StandardValidatorEntityType),
     /// The ids that its entities have, and no others.
-    Enum(Vec<RcStr>),
+    Enum(EnumChoices),
     /// Declared elsewhere: neither attributes nor tags are known.
     External,
 }

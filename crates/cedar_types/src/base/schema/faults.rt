@@ -76,7 +76,7 @@ fn has_no_members(kind: &ValidatorEntityTypeKind) -> bool
 {
     match kind {
         ValidatorEntityTypeKind::Standard(_) => false,
-        ValidatorEntityTypeKind::Enum(members) => members.len() == 0,
+        ValidatorEntityTypeKind::Enum(members) => members.listed.len() == 0,
         ValidatorEntityTypeKind::External => false,
     }
 }

@@ -1,0 +1,11 @@
+use Rattle.std.proofs.Common.{◌≡◌, ◌||◌, map, drop}
+use Rattle.std.specs.List.{list_any}
+use Rattle.cedar_types.specs.Names.{Text, text_of, text_eq}
+use Rattle.cedar_types.proofs.base.schema.choices.texts_among.Given as goal
+
+-- what is there, with what is left, is all
+abbrev pub invariant-loop-text : goal.invariant-loop-text
+invariant-loop-text l =
+    (t : Text) → (list_any (text_eq t) (map text_of l.known.keys)
+    || list_any (text_eq t) (map text_of (drop l.text-index l.texts)))
+    ≡ list_any (text_eq t) (map text_of l.fn.texts)
