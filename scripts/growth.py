@@ -6,9 +6,11 @@ some more of the same kind, so that reading the policy is taken away. Chains of 
 `has` with the access that it allows. They stand in parentheses, in halves of halves, since a policy may be nested 400 deep,
 and so do 64 to 4,096 accesses to a required attribute, which need no guard. A chain of accesses, and one `has` with 10 to
 380 attributes, are longer expressions. Of guards and an eighth as many others, the two sets are joined. Chains of `has` on
-bases that differ in one number of a test have many capabilities that are alike but there. A set has 10 to 1,000 entities of
-one type, or 100 to 1,600 of as many types, which unite in Permissive. The last figure is that of the benchmark's policy. It
-needs valgrind, and is no part of the gate.
+bases that differ in one number of a test have many capabilities that are alike but there. Guards of which each is on the
+attribute that the one before tests have nodes that grow with the square of their number. A set has 10 to 1,000 entities of
+one type, or 100 to 1,600 of as many types, which unite in Permissive, and so do sets of one entity each. Of an enumerated type
+whose ids are named once each, in one set or in a policy for every ten, the whole run is counted, which reads them too. The last
+figure is that of the benchmark's policy. It needs valgrind, and is no part of the gate.
 """
 import sys
 import tempfile
@@ -23,6 +25,10 @@ STEPS = (10, 50, 100, 200, 380)
 JOINED = (512, 2048, 8192)
 MEMBERS = (10, 100, 1000)
 UNIONS = (100, 400, 1600)
+NESTED = (25, 50, 100, 200)
+IDS = (1000, 4000, 16000)
+# As many ids as one of many policies names.
+NAMED = 10
 BASES = (10, 20, 40, 80)
 # As many attributes as a chain on such a base has.
 CHAIN = 50
@@ -40,11 +46,11 @@ def schema(attributes, environments, others):
     return "\n".join(lines) + "\n"
 
 
-def instructions(program, room, text, condition, mode):
-    """How many instructions the program takes for one case by this schema."""
+def instructions(program, room, text, conditions, column, answer):
+    """How many instructions the program takes for a case of each condition by this schema."""
     Path(room, "schema.txt").write_text(text, encoding="utf8")
-    rows = ["schema\tschema.txt", f"policy\t{mode} policy"]
-    rows += [f"permit(principal, action, resource) when {{ {condition} }};\ttrue"]
+    rows = ["schema\tschema.txt", f"policy\t{column}"]
+    rows += [f"permit(principal, action, resource) when {{ {it} }};\t{answer}" for it in conditions]
     Path(room, "case.tsv").write_text("\n".join(rows) + "\n", encoding="utf8")
     words = ["valgrind", "--tool=cachegrind", "--cache-sim=no", "--cachegrind-out-file=/dev/null"]
     said = benchmark.ran([*words, str(program), "case.tsv"], room)
@@ -53,7 +59,8 @@ def instructions(program, room, text, condition, mode):
 
 def for_each(program, room, attributes, condition, others=0, mode="strict"):
     """The instructions of a check in one environment."""
-    counts = [instructions(program, room, schema(attributes, n, others), condition, mode) for n in (1, 1 + MORE)]
+    texts = [schema(attributes, n, others) for n in (1, 1 + MORE)]
+    counts = [instructions(program, room, text, [condition], f"{mode} policy", "true") for text in texts]
     return (counts[1] - counts[0]) / MORE
 
 
@@ -78,10 +85,22 @@ def conjunction(length):
 
 
 def measure(program, room, what, sizes, attributes, condition, others=lambda _: 0, mode="strict"):
+    """Prints the instructions of a check in one environment at each size."""
+    count = lambda size: for_each(program, room, attributes(size), condition(size), others(size), mode)
+    show(what, sizes, count)
+
+
+def measure_ids(program, room, what, conditions):
+    """Prints the instructions of a run that looks for wrong ids of an enumerated type, at each number of ids."""
+    count = lambda size: instructions(program, room, with_ids(size), conditions(size), "enumerated", "")
+    show(what, IDS, count)
+
+
+def show(what, sizes, count_of):
     """Prints the instructions at each size, and how many times those of the size before they are."""
     last = None
     for size in sizes:
-        count = for_each(program, room, attributes(size), condition(size), others(size), mode)
+        count = count_of(size)
         growth = f", {count / last:.2f} times as many for {size / before:.2f} times the length" if last else ""
         print(f"{what}, {size}: {count:,.0f} instructions{growth}", flush=True)
         last, before = count, size
@@ -119,11 +138,45 @@ def of_many_types(length):
     return f'[{members}, P::"a"].contains(principal)'
 
 
+def of_sets_of_many_types(length):
+    """A set of so many sets, each of an entity of a type of its own."""
+    members = ", ".join(f'[T{i}::"a"]' for i in range(length))
+    return f'[{members}, [P::"a"]].contains([principal])'
+
+
+def nested_guards(length):
+    """So many guards, each on the attribute that the one before tests."""
+    return in_halves(["principal" + ".a" * i + " has a" for i in range(length)])
+
+
+def with_ids(count):
+    """The text of a schema with an enumerated type of so many ids."""
+    listed = ", ".join(f'"e{i}"' for i in range(count))
+    return schema(["ok: Bool"], 1, 0) + f"entity E enum [{listed}];\n"
+
+
+def named(ids):
+    """A condition that names these ids."""
+    listed = ", ".join(f'E::"e{i}"' for i in ids)
+    return f"[{listed}].isEmpty()"
+
+
+def ids_in_one_set(count):
+    """One condition that names each id."""
+    return [named(range(count))]
+
+
+def ids_in_many_policies(count):
+    """Conditions that name some ids each, and all of them each id once."""
+    return [named(range(at, at + NAMED)) for at in range(0, count, NAMED)]
+
+
 def benchmark_policy(program, room):
     """The instructions of the benchmark's policy in one environment."""
     policy = " && ".join(f"({it})" for it in benchmark.CONDITIONS * 4)
     sizes = (benchmark.SMALL, benchmark.LARGE)
-    counts = [instructions(program, room, benchmark.schema(n), it, "strict") for n in sizes for it in ("true", policy)]
+    asked = [(n, it) for n in sizes for it in ("true", policy)]
+    counts = [instructions(program, room, benchmark.schema(n), [it], "strict policy", "true") for n, it in asked]
     environments = (benchmark.LARGE - benchmark.SMALL) * benchmark.TYPES**2
     return ((counts[3] - counts[2]) - (counts[1] - counts[0])) / environments
 
@@ -143,6 +196,10 @@ def main(words):
         measure(program, room, "entity literals in a set", MEMBERS, lambda _: ["ok: Bool"], literals)
         types = dict(others=lambda size: size, mode="permissive")
         measure(program, room, "entity types in a union", UNIONS, lambda _: ["ok: Bool"], of_many_types, **types)
+        measure(program, room, "entity types in sets that unite", UNIONS, lambda _: ["ok: Bool"], of_sets_of_many_types, **types)
+        measure(program, room, "guards, each on what the one before tests", NESTED, lambda _: ["a?: P"], nested_guards)
+        measure_ids(program, room, "ids of an enumerated type in a set", ids_in_one_set)
+        measure_ids(program, room, f"ids of an enumerated type, {NAMED} in a policy", ids_in_many_policies)
         print(f"the benchmark's policy: {benchmark_policy(program, room):,.0f} instructions")
 
 
