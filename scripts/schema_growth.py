@@ -2,12 +2,13 @@
 """What a schema's check, and its reading, take for descendants of descendants: scripts/schema_growth.py [PROGRAM].
 
 Types, or actions, stand in a line, each in the one before, so that n of them declare n (n - 1) / 2 descendants; or each is in
-all, so that n of them declare n n. Counted are the instructions of the check alone, by callgrind, and of finding the
-descendants in a text alone; printed are they, what they are for each declared descendant, and how many times as many there
-are where n doubles and the declared descendants are four times as many. A line passes where that is less than LIMIT. Three
-layers, in which each member of a layer is in each of the one above, have figures alone: of them no set shows what another
-has, so each is looked at. The last line counts the lines that pass and those that do not. PROGRAM is cedar_cases, by default
-the one that rt ci built. It needs valgrind, and is no part of the gate.
+all, so that n of them declare n n. Counted are the instructions of the check alone, by callgrind, and what a whole run takes
+beyond that by the same declarations without what they are in: the reading of those names, the search for descendants, and
+the check. No function is named for that, since a compiler may inline any. Printed are they, what they are for each declared
+descendant, and how many times as many there are where n doubles and the declared descendants are four times as many. A line
+passes where that is less than LIMIT. Three layers, in which each member of a layer is in each of the one above, have figures
+alone: of them no set shows what another has, so each is looked at. The last line counts the lines that pass and those that do
+not. PROGRAM is cedar_cases, by default the one that rt ci built. It needs valgrind, and is no part of the gate.
 """
 import re
 import subprocess
@@ -20,8 +21,9 @@ from benchmark import program_to_count
 SIZES = (30, 60, 120)
 LIMIT = 5.6
 CHECKS = ("closures::are_types_closed", "closures::are_actions_closed")
-READING = ("closed::closed_types", "closed::closed_actions")
 COLLECTED = re.compile(r"Collected\s*:\s*(\d+)")
+# In place of a function: what memberships add to the whole.
+WHOLE = None
 
 
 def line(n):
@@ -38,6 +40,11 @@ def layers(n):
     """Three layers, each member in all of the layer above."""
     third = n // 3
     return [list(range((i // third - 1) * third, i // third * third)) if i >= third else [] for i in range(3 * third)]
+
+
+def apart(n):
+    """None in any."""
+    return [[] for _ in range(n)]
 
 
 def dense(n):
@@ -73,11 +80,12 @@ def actions(parents):
 
 
 def instructions(program, room, rows, check):
-    """How many instructions the check of descendants takes."""
+    """How many instructions this function takes, or the whole run where it is none."""
     Path(room, "schema.txt").write_text("\n".join(rows) + "\n", encoding="utf8")
     case = ["schema\tschema.txt", "policy\tstrict policy", "permit(principal, action, resource);\ttrue"]
     Path(room, "case.tsv").write_text("\n".join(case) + "\n", encoding="utf8")
-    words = ["valgrind", "--tool=callgrind", "--callgrind-out-file=/dev/null", f"--toggle-collect=*{check}*"]
+    words = ["valgrind", "--tool=callgrind", "--callgrind-out-file=/dev/null"]
+    words += [f"--toggle-collect=*{check}*"] if check else []
     done = subprocess.run([*words, str(program), "case.tsv"], cwd=room, stdin=subprocess.DEVNULL, capture_output=True, text=True)
     if done.returncode:
         sys.exit(f"{program} ended with status {done.returncode}: {done.stdout[-300:]}{done.stderr[-300:]}")
@@ -87,15 +95,21 @@ def instructions(program, room, rows, check):
     return count
 
 
+def of_memberships(program, room, schema, parents, check):
+    """How many instructions the check of these memberships takes, or what they add to the whole."""
+    count = instructions(program, room, schema(parents), check)
+    return count if check else count - instructions(program, room, schema(apart(len(parents))), check)
+
+
 def main(words):
     program = program_to_count(words)
     passed = failed = 0
     counted = [("check of types", types, CHECKS[0], (line, line_back, layers)), ("check of actions", actions, CHECKS[1], (line, line_back, layers))]
-    counted += [("reading of types", types, READING[0], (line, line_back, dense, layers)), ("reading of actions", actions, READING[1], (line, dense))]
+    counted += [("memberships of types", types, WHOLE, (line, line_back, dense, layers)), ("memberships of actions", actions, WHOLE, (line, dense))]
     with tempfile.TemporaryDirectory() as room:
         for name, schema, function, shapes in counted:
             for shape in shapes:
-                counts = [instructions(program, room, schema(shape(n)), function) for n in SIZES]
+                counts = [of_memberships(program, room, schema, shape(n), function) for n in SIZES]
                 growth = [b / a for a, b in zip(counts, counts[1:])]
                 each = counts[-1] / declared(shape(SIZES[-1]))
                 times = " and ".join(f"{it:.1f}" for it in growth)
