@@ -213,6 +213,23 @@ def many_types_differ(program):
     return None if done.stdout.splitlines() == wanted else done.stdout
 
 
+def false_parts_differ(program):
+    """What is wrong with what is said of a policy that other parts make impossible in other environments; None where nothing is."""
+    schema = SCHEMA + "entity Page; action list appliesTo { principal: User, resource: [File, Page], context: { n: Long } };\n"
+    policy = when("if resource is File then context has m else context has k")
+    words = "warning: policy is impossible: it evaluates to false for every valid request; this part is never true"
+    wanted = ["p:1:1: policy `policy0`: accepted, level 0"]
+    for column, environments in ((69, ('Action::"list" by User on File', 'Action::"view" by User on File')), (88, ('Action::"list" by User on Page',))):
+        wanted += [f"p:1:{column}: {words}", "  " + policy.strip(), " " * (column + 1) + "^" * 13]
+        wanted += [f"  only for {it}" for it in environments]
+    wanted += ["policies: 1, accepted: 1, refused: 0, warnings: 2, faults: 0, level 0"]
+    with tempfile.TemporaryDirectory() as room:
+        written(Path(room, "s"), schema)
+        written(Path(room, "p"), policy)
+        done = subprocess.run([str(program), "s", "p"], cwd=room, stdin=subprocess.DEVNULL, capture_output=True, text=True, timeout=SECONDS)
+    return None if sorted(done.stdout.splitlines()) == sorted(wanted) else done.stdout
+
+
 def sarif_differs(program):
     """What is wrong with what is written as SARIF; None where nothing is."""
     with tempfile.TemporaryDirectory() as room:
@@ -449,7 +466,8 @@ def main(words):
                 else:
                     failed += 1
                     print(f"{path.name}: {case['about']}: {column}: {case[column]!r} is wanted, not {said_of}")
-    others = [("scripts/validate.py", copies_differ()), ("one mistake of 150 types", many_types_differ(program)), ("SARIF", sarif_differs(program))]
+    others = [("scripts/validate.py", copies_differ()), ("one mistake of 150 types", many_types_differ(program)),
+              ("two false parts", false_parts_differ(program)), ("SARIF", sarif_differs(program))]
     for what, difference in [*others, *hints_differ(program)]:
         passed += difference is None
         failed += difference is not None

@@ -1,4 +1,5 @@
 // What is found in a policy, before it is put into words.
+use crate::impossible::FalsePart;
 use cedar_reading::Position;
 use cedar_typechecker::survey::Environments;
 use cedar_types::base::{CedarType, Loc, ValidationError, ValidationWarning};
@@ -11,8 +12,8 @@ use std::alloc::{AllocError, Global};
 pub enum Cause<'a> {
     Error(&'a ValidationError, &'a Environments),
     Warning(&'a ValidationWarning),
-    /// A policy is impossible, as the part at the place is false.
-    FalsePart(&'a ValidationWarning),
+    /// A policy is impossible, as this part is false.
+    FalsePart(&'a ValidationWarning, &'a FalsePart),
     /// A text with marks of direction.
     Marks(&'static str),
     /// It is refused without an error: why.
@@ -40,14 +41,14 @@ impl Found<'_> {
     pub fn severity(&self) -> Severity {
         match self.cause {
             Cause::Error(_, _) | Cause::Unexplained(_) | Cause::SameId(_) => Severity::Error,
-            Cause::Warning(_) | Cause::FalsePart(_) | Cause::Marks(_) => Severity::Warning,
+            Cause::Warning(_) | Cause::FalsePart(_, _) | Cause::Marks(_) => Severity::Warning,
         }
     }
 
     pub fn code(&self) -> Code {
         match self.cause {
             Cause::Error(error, _) => Code::of_error(error),
-            Cause::Warning(warning) | Cause::FalsePart(warning) => Code::of_warning(warning),
+            Cause::Warning(warning) | Cause::FalsePart(warning, _) => Code::of_warning(warning),
             Cause::Marks(_) => Code::Direction,
             Cause::Unexplained(_) => Code::Unchecked,
             Cause::SameId(_) => Code::SameId,

@@ -1,8 +1,9 @@
 // Why a policy is impossible.
 use crate::verdicts::Rules;
+use cedar_typechecker::survey::{Environment, Environments};
 use cedar_typechecker::typecheck::{PolicyCheck, Typechecker};
 use cedar_types::base::{
-    ActionConstraint, ArgumentCheck, BoolType, CedarType, Expr, ExprKind, Loc, Template,
+    ActionConstraint, ArgumentCheck, BoolType, CedarType, EntityType, Expr, ExprKind, Loc, Template,
 };
 use cedar_types::types::request_env::RequestEnv;
 use std::alloc::{AllocError, Global};
@@ -10,22 +11,35 @@ use std::alloc::{AllocError, Global};
 /// How many environments are looked at. A policy with more is not explained.
 const MAX_CHECKS: usize = 200;
 
+/// How many parts are named. A policy with more is not explained.
+const MAX_PARTS: usize = 5;
+
+/// How many environments of a part are listed.
+const MAX_LISTED: usize = 5;
+
 /// How many parts may stand inside each other: more than typing goes down.
 const MAX_DEPTH: usize = 1000;
 
 type Typed = Expr<Option<CedarType>>;
 
-/// The smallest part of the conditions that is false in each environment that the scope admits, if it is the same in all of them.
-/// Where the scope admits none, there is no such part.
-pub fn false_part<C: ArgumentCheck>(
+/// A part of a condition that is false, and the environments in which it is; none where it is so in all that the scope admits.
+#[derive(Drop)]
+pub struct FalsePart {
+    pub place: Loc,
+    pub environments: Environments,
+}
+
+/// The smallest parts of the conditions that are false, of each environment that the scope admits. Where the scope admits
+/// none, or in one of them no part stands anywhere, there are none.
+pub fn false_parts<C: ArgumentCheck>(
     alloc: Global,
     rules: &Rules<'_, C>,
     policy: &Template,
-) -> Result<Option<Loc>, AllocError> {
+) -> Result<Vec<FalsePart>, AllocError> {
     let schema = rules.validator.schema();
     let typechecker = Typechecker::new(schema, rules.validator.extensions(), rules.mode);
     let mut checks = typechecker.typecheck_by_request_env(alloc, policy)?;
-    let mut common = None;
+    let mut parts = Vec::new(alloc);
     let mut count = 0usize;
     for _ in 0..u32::MAX {
         let Some(env) = checks.next_env()? else {
@@ -35,7 +49,7 @@ pub fn false_part<C: ArgumentCheck>(
             continue;
         }
         if count >= MAX_CHECKS {
-            return Ok(None);
+            return Ok(Vec::new(alloc));
         }
         count = count.saturating_add(1);
         let place = false_place(checks.check(&env)?);
@@ -43,12 +57,77 @@ pub fn false_part<C: ArgumentCheck>(
             // the scope does not admit the environment
             continue;
         }
-        if place.is_none() || common.is_some() && common != place {
-            return Ok(None);
+        if !add_part(alloc, &mut parts, place, &env)? {
+            return Ok(Vec::new(alloc));
         }
-        common = place;
     }
-    Ok(common)
+    forget_only_environments(alloc, &mut parts);
+    Ok(parts)
+}
+
+/// Adds an environment to the part at this place, unless there is none or one too many.
+fn add_part(
+    alloc: Global,
+    parts: &mut Vec<FalsePart>,
+    place: Option<Loc>,
+    env: &RequestEnv<'_>,
+) -> Result<bool, AllocError> {
+    let Some(place) = place else {
+        return Ok(false);
+    };
+    for part in parts.iter_mut() {
+        if part.place == place {
+            add_environment(alloc, &mut part.environments, env)?;
+            return Ok(true);
+        }
+    }
+    if parts.len() >= MAX_PARTS {
+        return Ok(false);
+    }
+    let mut environments = Environments::none(alloc);
+    add_environment(alloc, &mut environments, env)?;
+    parts.push(FalsePart {
+        place,
+        environments,
+    })?;
+    Ok(true)
+}
+
+fn add_environment(
+    alloc: Global,
+    environments: &mut Environments,
+    env: &RequestEnv<'_>,
+) -> Result<(), AllocError> {
+    environments.count = environments.count.saturating_add(1);
+    if environments.listed.len() >= MAX_LISTED {
+        return Ok(());
+    }
+    let request = env.to_request_type(alloc)?;
+    let principal_slot = copy(env.principal_slot())?;
+    let resource_slot = copy(env.resource_slot())?;
+    environments.listed.push(Environment {
+        request,
+        principal_slot,
+        resource_slot,
+    })?;
+    Ok(())
+}
+
+fn copy(ty: Option<&EntityType>) -> Result<Option<EntityType>, AllocError> {
+    match ty {
+        Some(ty) => Ok(Some(ty.clone()?)),
+        None => Ok(None),
+    }
+}
+
+/// Where there is one part, it is false in all environments that the scope admits.
+fn forget_only_environments(alloc: Global, parts: &mut Vec<FalsePart>) {
+    if parts.len() > 1 {
+        return;
+    }
+    for part in parts.iter_mut() {
+        part.environments = Environments::none(alloc);
+    }
 }
 
 /// Whether an environment may be one of the actions of a scope.

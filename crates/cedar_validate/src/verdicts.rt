@@ -1,6 +1,6 @@
 // What is said of a policy.
 use crate::causes::{Cause, Found};
-use crate::impossible::false_part;
+use crate::impossible::{FalsePart, false_parts};
 use crate::wording::{About, first_findings};
 use cedar_host::policy_sets::{Findings, validate};
 use cedar_host::safety::SoundMode;
@@ -53,7 +53,8 @@ pub fn judge<C: ArgumentCheck>(
         text,
         applicable: found.applicable_environments,
     };
-    let mut causes = causes_of_warnings(alloc, rules, &found, policy)?;
+    let parts = find_false_parts(alloc, rules, &found, policy)?;
+    let mut causes = causes_of_warnings(alloc, &found, parts.as_slice(), policy)?;
     add_errors(rules.mode, &found, policy, &mut causes)?;
     add_marks(alloc, policy, &mut causes)?;
     if let Some(other) = same_id {
@@ -145,11 +146,27 @@ fn place_of(policy: &Template) -> Loc {
     policy.loc.unwrap_or(Loc { start: 0, end: 0 })
 }
 
-/// The warnings that do not follow from errors.
-fn causes_of_warnings<'a, C: ArgumentCheck>(
+/// Why a policy is impossible, where that does not follow from errors.
+fn find_false_parts<C: ArgumentCheck>(
     alloc: Global,
     rules: &Rules<'_, C>,
+    found: &Findings,
+    policy: &Template,
+) -> Result<Vec<FalsePart>, AllocError> {
+    for warning in &found.warnings {
+        let is_impossible = matches!(warning, ValidationWarning::ImpossiblePolicy(_));
+        if is_impossible && !follows(warning, &found.errors, policy) {
+            return false_parts(alloc, rules, policy);
+        }
+    }
+    Ok(Vec::new(alloc))
+}
+
+/// The warnings that do not follow from errors: that a policy is impossible at each part that is false.
+fn causes_of_warnings<'a>(
+    alloc: Global,
     found: &'a Findings,
+    parts: &'a [FalsePart],
     policy: &Template,
 ) -> Result<Vec<Found<'a>>, AllocError> {
     let mut causes = Vec::new(alloc);
@@ -157,16 +174,22 @@ fn causes_of_warnings<'a, C: ArgumentCheck>(
         if follows(warning, &found.errors, policy) {
             continue;
         }
-        let false_part = match warning {
-            ValidationWarning::ImpossiblePolicy(_) => false_part(alloc, rules, policy)?,
-            ValidationWarning::InvalidActionApplication(_) => None,
+        let parts = match warning {
+            ValidationWarning::ImpossiblePolicy(_) => parts,
+            ValidationWarning::InvalidActionApplication(_) => &[],
         };
-        let own = warning.source_loc().unwrap_or(place_of(policy));
-        let (place, cause) = match false_part {
-            Some(place) => (place, Cause::FalsePart(warning)),
-            None => (own, Cause::Warning(warning)),
-        };
-        causes.push(Found { place, cause })?;
+        if parts.is_empty() {
+            let place = warning.source_loc().unwrap_or(place_of(policy));
+            let cause = Cause::Warning(warning);
+            causes.push(Found { place, cause })?;
+        }
+        for part in parts {
+            let cause = Cause::FalsePart(warning, part);
+            causes.push(Found {
+                place: part.place,
+                cause,
+            })?;
+        }
     }
     Ok(causes)
 }

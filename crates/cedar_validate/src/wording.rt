@@ -103,7 +103,7 @@ fn finding_of(
 fn text_of(alloc: Global, cause: Cause<'_>) -> Result<String, AllocError> {
     match cause {
         Cause::Error(error, _) => error.to_string(alloc),
-        Cause::Warning(warning) | Cause::FalsePart(warning) => warning.to_string(alloc),
+        Cause::Warning(warning) | Cause::FalsePart(warning, _) => warning.to_string(alloc),
         Cause::Marks(text) | Cause::Unexplained(text) => String::from_str(alloc, text),
         Cause::SameId(Position { line, column }) => {
             format!(in alloc; "the policy at {line}:{column} of this file has the same id")
@@ -117,7 +117,7 @@ fn hint(alloc: Global, about: About<'_>, cause: Cause<'_>) -> Result<String, All
             hint_for_error(alloc, about.schema, about.policy, about.text, error)
         }
         Cause::Warning(warning) => hint_for_warning(alloc, about.schema, about.policy, warning),
-        Cause::FalsePart(_) => String::from_str(alloc, "this part is never true"),
+        Cause::FalsePart(_, _) => String::from_str(alloc, "this part is never true"),
         Cause::Marks(_) | Cause::Unexplained(_) | Cause::SameId(_) => Ok(String::new(alloc)),
     }
 }
@@ -137,16 +137,23 @@ fn types_of(alloc: Global, errors: &[Found<'_>]) -> Result<Vec<String>, AllocErr
     Ok(types)
 }
 
+/// The environments of a mistake, or of a part that is false: of one the policy may apply in none.
 fn environments_of(
     alloc: Global,
     applicable: u64,
     mistake: &[Found<'_>],
 ) -> Result<Vec<String>, AllocError> {
     let mut all = ShownEnvironments::new(alloc);
+    let mut most = applicable;
     for it in mistake {
-        if let Cause::Error(_, environments) = it.cause {
-            all.add(alloc, environments)?;
+        match it.cause {
+            Cause::Error(_, environments) => all.add(alloc, environments)?,
+            Cause::FalsePart(_, part) => {
+                all.add(alloc, &part.environments)?;
+                most = u64::MAX;
+            }
+            Cause::Warning(_) | Cause::Marks(_) | Cause::Unexplained(_) | Cause::SameId(_) => {}
         }
     }
-    all.finish(alloc, applicable)
+    all.finish(alloc, most)
 }
