@@ -1,6 +1,7 @@
 //! The words that the program is called with.
 use crate::escapes::Shown;
 use crate::formats::Format;
+use crate::syntaxes::Syntax;
 use cedar_types::base::ValidationMode;
 use std::alloc::{AllocError, Global};
 use thiserror::Error;
@@ -12,6 +13,8 @@ pub struct Arguments {
     /// How many entities a policy may dereference, one after another; any number without it.
     pub level: Option<u32>,
     pub format: Format,
+    /// The syntax of all files, where their first characters do not tell it.
+    pub syntax: Option<Syntax>,
     /// Whether a warning counts for the exit status as a refused policy does.
     pub denies_warnings: bool,
     /// The files of the schema, one at least.
@@ -40,6 +43,8 @@ pub enum Misuse {
     LevelInPartial,
     #[error("`--format` takes `lines`, `json` or `sarif`")]
     Format,
+    #[error("`--input` takes `text` or `json`")]
+    Input,
     #[error("`--schema` takes a file")]
     Schema,
     #[error("a schema and at least one file of policies are wanted")]
@@ -72,6 +77,7 @@ enum Next {
     Mode,
     Level,
     Format,
+    Input,
     Schema,
     /// A file, behind `--`.
     File,
@@ -83,6 +89,7 @@ struct Reading {
     mode: ValidationMode,
     level: Option<u32>,
     format: Format,
+    syntax: Option<Syntax>,
     denies_warnings: bool,
     schemas: Vec<String>,
     files: Vec<String>,
@@ -95,6 +102,7 @@ impl Reading {
             mode: ValidationMode::Strict,
             level: None,
             format: Format::Lines,
+            syntax: None,
             denies_warnings: false,
             schemas: Vec::new(alloc),
             files: Vec::new(alloc),
@@ -118,6 +126,7 @@ impl Reading {
             Next::Mode => Ok(self.take_mode(word.as_str())),
             Next::Level => Ok(self.take_level(word.as_str())),
             Next::Format => Ok(self.take_format(word.as_str())),
+            Next::Input => Ok(self.take_input(word.as_str())),
             Next::Schema => {
                 self.next = Next::Any;
                 self.schemas.push(word.clone()?)?;
@@ -164,11 +173,21 @@ impl Reading {
         }
     }
 
+    fn take_input(&mut self, word: &str) -> Option<Misuse> {
+        self.next = Next::Any;
+        self.syntax = Syntax::named(word);
+        match self.syntax {
+            Some(_) => None,
+            None => Some(Misuse::Input),
+        }
+    }
+
     fn take_option_or_file(&mut self, word: &String) -> Result<Option<Misuse>, AllocError> {
         match word.as_str() {
             "--mode" => self.next = Next::Mode,
             "--level" => self.next = Next::Level,
             "--format" => self.next = Next::Format,
+            "--input" => self.next = Next::Input,
             "--schema" => self.next = Next::Schema,
             "--json" => self.format = Format::Objects,
             "--deny-warnings" => self.denies_warnings = true,
@@ -193,6 +212,7 @@ impl Reading {
             Some(("--mode", mode)) => self.take_mode(mode),
             Some(("--level", level)) => self.take_level(level),
             Some(("--format", format)) => self.take_format(format),
+            Some(("--input", syntax)) => self.take_input(syntax),
             _ => None,
         }
     }
@@ -202,6 +222,7 @@ impl Reading {
             mode,
             level,
             format,
+            syntax,
             denies_warnings,
             mut schemas,
             mut files,
@@ -211,6 +232,7 @@ impl Reading {
             Next::Mode => return Ok(Err(Misuse::Mode)),
             Next::Level => return Ok(Err(Misuse::Level)),
             Next::Format => return Ok(Err(Misuse::Format)),
+            Next::Input => return Ok(Err(Misuse::Input)),
             Next::Schema => return Ok(Err(Misuse::Schema)),
             Next::Any | Next::File => {}
         }
@@ -231,6 +253,7 @@ impl Reading {
             mode,
             level,
             format,
+            syntax,
             denies_warnings,
             schemas,
             policies: files,
@@ -240,7 +263,10 @@ impl Reading {
 
 /// Whether a word is an option with its value.
 fn is_with_value(word: &str) -> bool {
-    word.starts_with("--mode=") || word.starts_with("--level=") || word.starts_with("--format=")
+    match word.split_once('=') {
+        Some((option, _)) => matches!(option, "--mode" | "--level" | "--format" | "--input"),
+        None => false,
+    }
 }
 
 /// How often standard input is named.

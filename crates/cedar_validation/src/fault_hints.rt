@@ -2,6 +2,9 @@
 use crate::faults::{Trouble, Written};
 use cedar_reading::Fault;
 
+/// What may help where JSON is read as Cedar's own syntax.
+const JSON: &str = "; JSON is read where a file begins with it, or by `--input json`";
+
 /// What may help where something else is expected.
 pub(crate) fn hint(written: Written, trouble: Trouble, read: &str) -> &'static str {
     let is_expected = matches!(
@@ -47,9 +50,7 @@ fn hint_in_policy(trouble: Trouble, read: &str) -> &'static str {
 fn hint_by_place(trouble: Trouble, read: &str) -> &'static str {
     let is_text = read.starts_with('"');
     match (trouble, read) {
-        (Trouble::Other(Fault::Expected("`permit` or `forbid`")), "{" | "[") => {
-            "; policies in JSON are not read"
-        }
+        (Trouble::Other(Fault::Expected("`permit` or `forbid`")), "{" | "[") => JSON,
         (Trouble::Other(Fault::Expected("a name")), "[") => {
             "; only behind `action in` may a list stand"
         }
@@ -69,7 +70,7 @@ fn hint_by_place(trouble: Trouble, read: &str) -> &'static str {
 /// What may help in a schema.
 fn hint_in_schema(trouble: Trouble, read: &str) -> &'static str {
     match (trouble, read) {
-        (_, "{") => "; schemas in JSON are not read",
+        (_, "{") => JSON,
         (_, "?") => "; the `?` stands behind an attribute, as in `a?: Long`",
         (Trouble::Other(Fault::Expected("a name")), "[") => "; a type of sets is `Set<..>`",
         _ => "",

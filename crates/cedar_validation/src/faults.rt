@@ -149,7 +149,7 @@ fn trouble_text(
 }
 
 /// The beginning of what was read, of one line.
-fn beginning(text: &str) -> &str {
+pub(crate) fn beginning(text: &str) -> &str {
     let line = text.lines().next().unwrap_or("");
     match line.char_indices().nth(MAX_SHOWN) {
         Some((size, _)) => line.get(..size).unwrap_or(""),

@@ -1,31 +1,61 @@
-//! Lines and columns of bytes that are asked for in ascending order, or nearly so.
+//! Lines and columns of bytes that are asked for in ascending order, or nearly so; or in any order, with an index.
 use cedar_reading::Position;
+use std::alloc::{AllocError, Global};
 
-/// Finds where the bytes of a text stand. Going on in the text costs what lies between, and going back starts anew.
+/// How many bytes lie between two marks of an index, or up to three more.
+const STEP: usize = 4096;
+
+/// Finds where the bytes of a text stand. Going on in the text costs what lies between. Going back starts anew, or at the mark
+/// before, where there is an index.
 #[derive(Drop)]
 pub struct Places<'a> {
     text: &'a str,
+    at: usize,
+    position: Position,
+    /// Where the first character at or behind each multiple of `STEP` stands, if there is an index.
+    marks: Vec<Mark>,
+}
+
+/// Where a byte stands.
+#[derive(Clone, Copy)]
+struct Mark {
     at: usize,
     position: Position,
 }
 
 impl<'a> Places<'a> {
     /// At the beginning of this text.
-    pub fn new(text: &'a str) -> Places<'a> {
+    pub fn new(alloc: Global, text: &'a str) -> Places<'a> {
         Places {
             text,
             at: 0,
-            position: Position { line: 1, column: 1 },
+            position: BEGINNING,
+            marks: Vec::new(alloc),
         }
+    }
+
+    /// Makes an index, in one reading of the text.
+    pub fn index(&mut self) -> Result<(), AllocError> {
+        let mut position = BEGINNING;
+        let mut next = 0usize;
+        for (at, c) in self.text.char_indices() {
+            if at >= next {
+                self.marks.push(Mark { at, position })?;
+                next = next.saturating_add(STEP);
+            }
+            position = behind(position, c);
+        }
+        Ok(())
     }
 
     /// Where this byte stands. A line ends with `\n`, and a column counts characters, a tab as one.
     pub fn position(&mut self, byte: usize) -> Position {
-        let text = self.text;
-        if byte < self.at {
-            *self = Places::new(text);
+        let mark = self.mark_before(byte);
+        if byte < self.at || self.at < mark.at {
+            self.at = mark.at;
+            self.position = mark.position;
         }
-        let passed = text.get(self.at..byte).unwrap_or("");
+        let passed = self.text.get(self.at..byte).unwrap_or("");
         let mut position = self.position;
         for c in passed.chars() {
             position = behind(position, c);
@@ -33,6 +63,21 @@ impl<'a> Places<'a> {
         self.at = byte;
         self.position = position;
         position
+    }
+
+    /// The last mark up to this byte: the beginning of the text where there is none.
+    fn mark_before(&self, byte: usize) -> Mark {
+        let number = byte / STEP;
+        for number in [number, number.saturating_sub(1)] {
+            match self.marks.get(number) {
+                Some(mark) if mark.at <= byte => return *mark,
+                _ => {}
+            }
+        }
+        Mark {
+            at: 0,
+            position: BEGINNING,
+        }
     }
 
     /// The same of a byte that stands behind the one that was asked for last, and is not remembered: so the next may stand before it.
@@ -45,6 +90,9 @@ impl<'a> Places<'a> {
         position
     }
 }
+
+/// Where a text begins.
+const BEGINNING: Position = Position { line: 1, column: 1 };
 
 /// The position behind a character.
 fn behind(position: Position, c: char) -> Position {

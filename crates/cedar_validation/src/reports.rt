@@ -55,9 +55,14 @@ impl<'a> Report<'a> {
             alloc,
             form,
             source,
-            places: Places::new(source.text),
+            places: Places::new(alloc, source.text),
             ids: BTreeMap::new(alloc),
         }
+    }
+
+    /// Makes ready for findings that do not come in the order of the text, as those of links do.
+    pub fn index_places(&mut self) -> Result<(), AllocError> {
+        self.places.index()
     }
 
     /// The form in which what comes next is written.

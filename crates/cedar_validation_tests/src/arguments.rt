@@ -2,11 +2,12 @@
 use cedar_types::base::ValidationMode;
 use cedar_validation::arguments::{Asked, read_arguments};
 use cedar_validation::formats::Format;
+use cedar_validation::syntaxes::Syntax;
 use std::alloc::{AllocError, Global};
 use std::test::Fail;
 
 /// Command lines, and what they ask for or what is wrong with them.
-const LINES: [(&str, &str); 38] = [
+const LINES: [(&str, &str); 43] = [
     (
         "--schema s p --schema=t q",
         "strict, no level, lines: s, t, p, q, 2 schemas",
@@ -36,6 +37,14 @@ const LINES: [(&str, &str); 38] = [
         "--deny-warnings=1 s p",
         "there is no option `--deny-warnings=1`",
     ),
+    ("--input json s p", "strict, no level, in json, lines: s, p"),
+    ("s --input=text p", "strict, no level, in text, lines: s, p"),
+    (
+        "--input text --json --input json s p",
+        "strict, no level, in json, objects: s, p",
+    ),
+    ("--input sarif s p", "`--input` takes `text` or `json`"),
+    ("s p --input", "`--input` takes `text` or `json`"),
     ("s p", "strict, no level, lines: s, p"),
     ("--json s - q", "strict, no level, objects: s, -, q"),
     (
@@ -118,6 +127,11 @@ fn shown(alloc: Global, line: &str) -> Result<String, AllocError> {
     if arguments.denies_warnings {
         said.push_str(", no warnings")?;
     }
+    said.push_str(match arguments.syntax {
+        None => "",
+        Some(Syntax::Cedar) => ", in text",
+        Some(Syntax::Json) => ", in json",
+    })?;
     said.push_str(match arguments.format {
         Format::Lines => ", lines: ",
         Format::Objects => ", objects: ",

@@ -285,7 +285,8 @@ const SCHEMAS: [(&str, &str); 22] = [
     ),
     (
         "{\"\": {}}",
-        "1:1: a declaration is expected, where `{` is read; schemas in JSON are not read",
+        "1:1: a declaration is expected, where `{` is read; JSON is read where a file begins with \
+         it, or by `--input json`",
     ),
     (
         "permit(principal, action, resource);",

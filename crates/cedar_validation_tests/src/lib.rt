@@ -13,11 +13,15 @@ mod excerpts;
 #[cfg(test)]
 mod faults;
 #[cfg(test)]
+mod json_faults;
+#[cfg(test)]
 mod marks;
 #[cfg(test)]
 mod memberships;
 #[cfg(test)]
 mod objects;
+#[cfg(test)]
+mod places;
 #[cfg(test)]
 mod reports;
 #[cfg(test)]
@@ -26,3 +30,5 @@ mod schema_texts;
 mod similar;
 #[cfg(test)]
 mod sources;
+#[cfg(test)]
+mod syntaxes;

@@ -1,0 +1,30 @@
+//! The syntaxes that schemas and policies are written in.
+
+/// In which syntax a text is written.
+#[derive(Clone, Copy, PartialEq, Eq, Debug)]
+pub enum Syntax {
+    /// Cedar's own.
+    Cedar,
+    /// Cedar's forms of JSON.
+    Json,
+}
+
+impl Syntax {
+    /// The syntax of this name, if there is one.
+    pub fn named(word: &str) -> Option<Syntax> {
+        match word {
+            "text" => Some(Syntax::Cedar),
+            "json" => Some(Syntax::Json),
+            _ => None,
+        }
+    }
+
+    /// The syntax of a text. JSON begins with a brace or a bracket, perhaps behind blanks, and nothing of Cedar's own syntax does.
+    pub fn of(text: &str) -> Syntax {
+        if text.trim_start().starts_with(['{', '[']) {
+            Syntax::Json
+        } else {
+            Syntax::Cedar
+        }
+    }
+}
