@@ -1,12 +1,14 @@
 // What is done with a file.
+use crate::policies::Policies;
 use crate::progress::Progress;
 use crate::verdicts::{Rules, judge};
-use cedar_reading::{Policies, ReadError, ReadPolicy};
+use cedar_json::{FormError, value_alone};
 use cedar_types::base::Template;
-use cedar_validation::faults::{TextFault, Written, read_fault};
-use cedar_validation::forbidden_parts::forbidden_part;
+use cedar_validation::faults::{TextFault, Written};
+use cedar_validation::json_faults::form_fault;
 use cedar_validation::reports::{Form, Report, push_missing};
 use cedar_validation::sources::{Content, Source, read};
+use cedar_validation::syntaxes::Syntax;
 use cedar_validation::tallies::Tally;
 use std::alloc::{AllocError, Global};
 use std::io;
@@ -95,7 +97,7 @@ pub fn validate_file<R: Files + AllocGlobal + Input, O: Write, T: Write>(
     Ok(())
 }
 
-/// Validates the policies of a text, one after another. Whether all of it was read.
+/// Validates the policies of a text in either syntax. Whether all of it was read.
 fn validate_text<O: Write, T: Write>(
     alloc: Global,
     rules: &Rules<'_>,
@@ -105,48 +107,72 @@ fn validate_text<O: Write, T: Write>(
     progress: &mut Progress<T>,
     out: &mut O,
 ) -> io::Result<bool> {
-    let mut policies = match Policies::new(alloc, text) {
-        Ok(policies) => policies,
+    if rules.syntax.unwrap_or(Syntax::of(text)) == Syntax::Json {
+        return validate_json(alloc, rules, text, report, tally, progress, out);
+    }
+    let read = Policies::of_text(alloc, text)?;
+    validate_policies(alloc, rules, read, report, tally, progress, out)
+}
+
+/// Validates the policies of a text of JSON. Whether all of it was read.
+fn validate_json<O: Write, T: Write>(
+    alloc: Global,
+    rules: &Rules<'_>,
+    text: &str,
+    report: &mut Report<'_>,
+    tally: &mut Tally,
+    progress: &mut Progress<T>,
+    out: &mut O,
+) -> io::Result<bool> {
+    report.index_places()?;
+    match value_alone(alloc, text) {
+        Ok(root) => {
+            let read = Policies::of_json(alloc, text, &root)?;
+            validate_policies(alloc, rules, read, report, tally, progress, out)
+        }
         Err(error) => {
-            let fault = read_fault(alloc, Written::Policies, text, error)?;
+            let error = FormError::from(error);
+            let fault = form_fault(alloc, Written::Policies, text, error)?;
+            validate_policies(alloc, rules, Err(fault), report, tally, progress, out)
+        }
+    }
+}
+
+/// Validates policies, one after another, or shows the fault that the file has as a whole. Whether all of it was read.
+fn validate_policies<O: Write, T: Write>(
+    alloc: Global,
+    rules: &Rules<'_>,
+    read: Result<Policies<'_>, TextFault>,
+    report: &mut Report<'_>,
+    tally: &mut Tally,
+    progress: &mut Progress<T>,
+    out: &mut O,
+) -> io::Result<bool> {
+    let mut policies = match read {
+        Ok(policies) => policies,
+        Err(fault) => {
             let shown = shown_fault(alloc, report, tally, &fault)?;
             out.write_all(shown.as_bytes())?;
             return Ok(true);
         }
     };
     let most = tally.faults.saturating_add(MAX_FAULTS);
-    // each policy has a token at least
-    for _ in 0..text.len() {
-        let Some(read) = policies.next_policy() else {
+    let examples = policies.examples();
+    for _ in 0..policies.most() {
+        let Some(next) = policies.next_policy(alloc)? else {
             break;
         };
         if tally.faults >= most {
             return Ok(false);
         }
-        let shown = match policy_or_fault(alloc, text, read)? {
-            Ok(policy) => shown_policy(alloc, rules, text, &policy, report, tally)?,
+        let shown = match next {
+            Ok(policy) => shown_policy(alloc, rules, examples, &policy, report, tally)?,
             Err(fault) => shown_fault(alloc, report, tally, &fault)?,
         };
         out.write_all(shown.as_bytes())?;
         progress.show(tally.policies);
     }
     Ok(true)
-}
-
-/// The policy that was read, or the fault that it has.
-fn policy_or_fault(
-    alloc: Global,
-    text: &str,
-    read: Result<ReadPolicy, ReadError>,
-) -> Result<Result<Template, TextFault>, AllocError> {
-    let policy = match read {
-        Ok(read) => read.template,
-        Err(error) => return Ok(Err(read_fault(alloc, Written::Policies, text, error)?)),
-    };
-    match forbidden_part(alloc, text, &policy)? {
-        None => Ok(Ok(policy)),
-        Some(fault) => Ok(Err(fault)),
-    }
 }
 
 /// Counts a fault, and answers how it is shown.
@@ -166,14 +192,14 @@ fn shown_fault(
 fn shown_policy(
     alloc: Global,
     rules: &Rules<'_>,
-    text: &str,
+    examples: &str,
     policy: &Template,
     report: &mut Report<'_>,
     tally: &mut Tally,
 ) -> Result<String, AllocError> {
     let mut shown = String::new(alloc);
     let same_id = report.take_id(alloc, policy)?;
-    let said = judge(alloc, rules, text, policy, same_id)?;
+    let said = judge(alloc, rules, examples, policy, same_id)?;
     tally.add(&said);
     report.push_policy(&mut shown, policy, &said)?;
     Ok(shown)

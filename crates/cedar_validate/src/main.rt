@@ -5,6 +5,8 @@ mod causes;
 mod environments;
 mod files;
 mod impossible;
+mod json_schemas;
+mod policies;
 mod progress;
 mod run;
 mod verdicts;

@@ -1,5 +1,6 @@
 // What the program does, over any files and any writers.
 use crate::files::{read_text, validate_file};
+use crate::json_schemas::read_json_schema;
 use crate::progress::Progress;
 use crate::verdicts::Rules;
 use cedar_reading::schema;
@@ -11,6 +12,7 @@ use cedar_validation::formats::Format;
 use cedar_validation::reports::{Form, Report, push_beginning, push_tally};
 use cedar_validation::schema_texts::SchemaTexts;
 use cedar_validation::sources::Source;
+use cedar_validation::syntaxes::Syntax;
 use cedar_validation::tallies::Tally;
 use std::alloc::{AllocError, Global};
 use std::io;
@@ -18,7 +20,7 @@ use std::io::Write;
 use std::rt::Files;
 
 const USAGE: &str = "usage: cedar-validate [--mode strict|permissive|partial] [--level N] \
-     [--deny-warnings] [--format lines|json|sarif] SCHEMA POLICY..\n";
+     [--deny-warnings] [--format lines|json|sarif] [--input text|json] SCHEMA POLICY..\n";
 
 const VERSION: &str = "cedar-validate 0.1.0\n";
 
@@ -31,6 +33,8 @@ Validates the policies of some files by a schema, and says what is wrong and whe
   --format FORM lines for people (without this option), json, which is an object a line,
                 or sarif, one object that code hosts show beside the lines
   --json        the same as --format json
+  --input FORM  text or json: how all files are written; without this option a file is JSON
+                where it begins with { or [
   --schema FILE a file of the schema; it can stand several times, and then each file that is
                 named without it is one of policies
   -h, --help    this text
@@ -112,6 +116,7 @@ fn validate_files<R: Files + AllocGlobal + Input, O: Write, T: Write>(
         validator: &validator,
         mode: arguments.mode,
         level: arguments.level,
+        syntax: arguments.syntax,
     };
     let mut tally = Tally::default();
     for name in &arguments.policies {
@@ -149,7 +154,13 @@ fn read_schema<R: Files + AllocGlobal + Input, O: Write>(
         let Some(text) = read_text(rt, form, name.as_str(), out)? else {
             return Ok(None);
         };
-        texts.add(text.as_str())?;
+        let text = text.as_str();
+        if arguments.syntax.unwrap_or(Syntax::of(text)) == Syntax::Json {
+            let name = name.as_str();
+            let is_alone = arguments.schemas.len() == 1;
+            return read_json_schema(alloc, form, Source { name, text }, is_alone, out);
+        }
+        texts.add(text)?;
     }
     let fault = match schema_or_fault(alloc, texts.text())? {
         Ok(schema) => return Ok(Some(schema)),
@@ -182,7 +193,7 @@ fn shown_fault(
 }
 
 /// The schema that a text declares, or the fault that it has.
-fn schema_or_fault(
+pub fn schema_or_fault(
     alloc: Global,
     text: &str,
 ) -> Result<Result<ValidatorSchema, TextFault>, AllocError> {

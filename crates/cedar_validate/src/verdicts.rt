@@ -13,6 +13,7 @@ use cedar_types::base::{
 };
 use cedar_validation::findings::{Requirement, Severity, Verdict};
 use cedar_validation::marks::marked_parts;
+use cedar_validation::syntaxes::Syntax;
 use cedar_validation::unread_texts::add_unread_texts;
 use std::alloc::{AllocError, Global};
 use std::collections::{BTreeMap, HashSet};
@@ -31,11 +32,13 @@ pub struct Rules<'a, C = Box<dyn ArgumentCheck>> {
     pub validator: &'a Validator<'a, C>,
     pub mode: ValidationMode,
     pub level: Option<u32>,
+    /// The syntax of all files, where their first characters do not tell it.
+    pub syntax: Option<Syntax>,
 }
 
 /// What is said of a policy. Where it is accepted in Strict or in Permissive, it does not go wrong, and needs no more than the
 /// slice of the level, if there is one: the contracts of `validate` and `validate_within` say so. It fails where memory is
-/// refused. A policy whose id another one has, at this position of the file, is refused.
+/// refused. A policy whose id another one has, at this position of the file, is refused. Hints take their examples from the text.
 pub fn judge<C: ArgumentCheck>(
     alloc: Global,
     rules: &Rules<'_, C>,
@@ -251,11 +254,13 @@ fn is_unknown_name(error: &ValidationError) -> bool {
     )
 }
 
-/// Whether an error stands before the conditions of its policy.
+/// Whether an error stands outside the conditions of its policy.
 fn is_in_scope(error: &ValidationError, policy: &Template) -> bool {
     let condition = policy.non_scope_constraints.as_ref();
     match (error.source_loc(), condition.and_then(|it| it.loc)) {
-        (Some(place), Some(condition)) => place.start < condition.start,
+        (Some(place), Some(condition)) => {
+            place.start < condition.start || condition.end <= place.start
+        }
         _ => true,
     }
 }

@@ -18,7 +18,7 @@ const MAX_ALSO: usize = 4;
 pub struct About<'a> {
     pub schema: &'a ValidatorSchema,
     pub policy: &'a Template,
-    /// The text that the policy is read from.
+    /// The text that hints take their examples from.
     pub text: &'a str,
     /// In how many environments it may apply.
     pub applicable: u64,

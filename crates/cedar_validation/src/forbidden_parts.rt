@@ -6,10 +6,11 @@ use crate::parts::text_at;
 use cedar_types::base::{Expr, ExprKind, Loc, Template};
 use std::alloc::{AllocError, Global};
 
-/// What stands in a condition of this text and may not. Validation promises nothing of policies with slots or unknowns there.
+/// What stands in a condition and may not. Validation promises nothing of policies with slots or unknowns there. How functions
+/// are called is seen in the text; of JSON there is none, since it calls all of them alike.
 pub fn forbidden_part(
     alloc: Global,
-    text: &str,
+    text: Option<&str>,
     policy: &Template,
 ) -> Result<Option<TextFault>, AllocError> {
     let Some(condition) = &policy.non_scope_constraints else {
@@ -27,11 +28,18 @@ pub fn forbidden_part(
     Ok(None)
 }
 
-fn why_forbidden(alloc: Global, text: &str, part: &Expr) -> Result<Option<String>, AllocError> {
+fn why_forbidden(
+    alloc: Global,
+    text: Option<&str>,
+    part: &Expr,
+) -> Result<Option<String>, AllocError> {
     let said = match &part.kind {
         ExprKind::Slot(_) => "a slot can stand in the scope alone, before the conditions",
         ExprKind::Unknown(_) => "an unknown has no value",
         ExprKind::ExtensionFunctionApp(name, arguments) if name.path.is_empty() => {
+            let Some(text) = text else {
+                return Ok(None);
+            };
             return called_otherwise(alloc, text, part.loc, name.basename.as_str(), arguments);
         }
         _ => return Ok(None),
