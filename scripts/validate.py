@@ -183,7 +183,7 @@ def misused(words):
             word.encode()
         except UnicodeEncodeError:
             return "a word of the command line is no text in UTF-8"
-        if os.path.isdir(word) and before not in ("--mode", "--level", "--format"):
+        if os.path.isdir(word) and before not in ("--mode", "--level", "--format", "--input"):
             return f"{word!r} is a folder"
         before = word
     return None

@@ -22,6 +22,7 @@ from pathlib import Path
 
 import validate
 from validation_hints import HINT_SCHEMA, HINTS
+from validation_json import RUNS, TEAM, TEN, TEN_TALLY
 
 TOP = Path(__file__).resolve().parent.parent
 PROGRAM = TOP / "crates" / "cedar_validate" / "out" / "cedar_validate"
@@ -33,7 +34,7 @@ action view appliesTo { principal: User, resource: File, context: { n: Long } };
 """
 SCOPE = "permit(principal, action, resource)"
 LARGE = 10_000_000
-USAGE = "[--mode strict|permissive|partial] [--level N] [--deny-warnings] [--format lines|json|sarif]"
+USAGE = "[--mode strict|permissive|partial] [--level N] [--deny-warnings] [--format lines|json|sarif] [--input text|json]"
 # Words, the exit status, and what the program says on standard output or, where that is empty, on standard error.
 CALLS = (
     (["--help"], 0, f"usage: cedar-validate {USAGE} SCHEMA POLICY..\nValidates the policies"),
@@ -50,6 +51,7 @@ CALLS = (
     (["--schema", "s"], 2, "cedar-validate: a schema and at least one file of policies are wanted\nusage: "),
     (["s", "p", "--schema"], 2, "cedar-validate: `--schema` takes a file\nusage: "),
     (["--format=xml", "s", "p"], 2, "cedar-validate: `--format` takes `lines`, `json` or `sarif`\nusage: "),
+    (["--input=xml", "s", "p"], 2, "cedar-validate: `--input` takes `text` or `json`\nusage: "),
     (["--format", "json", "s", "p"], 0, '{"kind":"policy","file":"p","line":1,"column":1,"end_line":1,"end_column":64,"id":"policy0","accepted":true,"level":1}\n'
      '{"kind":"summary","policies":1,"accepted":1,"refused":0,"warnings":0,"faults":0,"level":1}\n'),
     (["--deny-warnings", "s", "p"], 0, "p:1:1: policy `policy0`: accepted, level 1\npolicies: 1, accepted: 1, refused: 0, warnings: 0, faults: 0, level 1\n"),
@@ -147,7 +149,7 @@ POLICIES = (
     (f"{SCOPE} wen {{ true; true }};\n{GOOD}", 2, "p:1:37: fault: `when`, `unless` or `;` is expected, where `wen` is read"),
     (f"{SCOPE} when {{ true }}", 2, "p:1:50: fault: `when`, `unless` or `;` is expected, where the text ends"),
     (2 * 'permit(principal == User::"a, action, resource);\n', 2, "p:2:28: fault: `,` is expected, where `a` is read; the text in quotes before"),
-    ('[{"effect": "permit"}]', 2, "p:1:1: fault: `permit` or `forbid` is expected, where `[` is read; policies in JSON are not read"),
+    (GOOD + '[{"effect": "permit"}]', 2, "p:2:1: fault: `permit` or `forbid` is expected, where `[` is read; JSON is read where a file begins with it"),
     (f"{SCOPE};\n// harmless\rforbid(principal, action, resource);\n", 0, "policies: 2, accepted: 2, refused: 0, warnings: 0, faults: 0"),
     ('@id("a")' + GOOD + GOOD + '@id("a")' + GOOD, 1, "p:3:1: error: the policy at 1:1 of this file has the same id"),
 )
@@ -182,6 +184,55 @@ SCHEMAS = (
     ("".join(f"entity T{i} in [T{i + 1}];\n" for i in range(20_000)) + "entity T20000;", 2, "s:1449:8: fault: too many descendants"),
     (SCHEMA + f"entity {', '.join(f'A{i}' for i in range(1100))} in [{', '.join(f'A{i}' for i in range(1100))}];", 2, "s:4:8: fault: too many descendants"),
 )
+
+
+def placed(text):
+    """A text without the marks in it, and the line and the column of each, by what names it."""
+    parts = text.split("§")
+    found = {}
+    for number in range(1, len(parts)):
+        before = "".join(parts[:number])
+        found[f"@{number - 1:X}"] = f"{before.count(chr(10)) + 1}:{len(before) - (before.rfind(chr(10)) + 1) + 1}"
+    return "".join(parts), found
+
+
+def with_places(line, places):
+    """A line that is wanted, with its places."""
+    for name, place in places.items():
+        line = line.replace(name, place)
+    return line
+
+
+def json_differs(program, words, files, status, wanted):
+    """What is said in a run over these files, where it is not what is wanted; else None. Lines of the texts do not count."""
+    given, places = b"", {}
+    with tempfile.TemporaryDirectory() as room:
+        for name, text in files.items():
+            text, found = placed(text)
+            places.update(found)
+            if name == "-":
+                given = text.encode()
+            else:
+                written(Path(room, name), text)
+        done = subprocess.run([str(program), *words], cwd=room, input=given, capture_output=True, timeout=SECONDS)
+    said = [line for line in done.stdout.decode().splitlines() if not line.startswith("  ")]
+    if done.returncode == status and said == [with_places(line, places) for line in wanted]:
+        return None
+    return f"status {done.returncode}: {said} {done.stderr.decode()}"[:2000]
+
+
+def json_runs(program):
+    """What differs in each run over JSON; None where nothing does."""
+    for words, files, status, wanted in RUNS:
+        yield (words, wanted), json_differs(program, words, files, status, wanted)
+    # ten policies by id, each on a line: what is said of one stands at its line, or at the mark in it
+    lines, wanted = [], []
+    for number, (own, policy, said) in enumerate(TEN, 2):
+        policy, found = placed(f' "{own}": {policy}')
+        lines.append(policy)
+        at = found.get("@0", "1:1").split(":")[1]
+        wanted += [it.replace("#:", f"p:{number}:2:").replace("@:", f"p:{number}:{at}:") for it in said]
+    yield "ten policies", json_differs(program, ["s", "p"], {"s": TEAM, "p": "{\n" + ",\n".join(lines) + "\n}"}, 1, [*wanted, TEN_TALLY])
 
 
 def hints_differ(program):
@@ -473,6 +524,11 @@ def main(words):
         failed += difference is not None
         if difference is not None:
             print(f"{what}: {difference}")
+    for what, difference in json_runs(program):
+        passed += difference is None
+        failed += difference is not None
+        if difference is not None:
+            print(f"JSON: {what}: {difference}")
     for what, difference in ends_of_script():
         passed += difference is None
         failed += difference is not None
