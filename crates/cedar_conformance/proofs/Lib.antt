@@ -3,6 +3,7 @@ pub mod DeclaredActions
 pub mod DeclaredTypes
 pub mod EntityStores
 pub mod Lists
+pub mod MetPremises
 pub mod Outcomes
 pub mod Records
 pub mod RequestDecisions

@@ -1,5 +1,5 @@
 -- What a host owes to the promises, on what it has.
-use Rattle.std.specs.Prelude.{◌≡◌}
+use Rattle.std.specs.Prelude.{◌≡◌, true, false}
 use Rattle.std.specs.BTreeMap.{BTreeMap}
 use Rattle.cedar_types.specs.Schemas.Contents.{schema_of}
 use Rattle.cedar_types.specs.Templates.{template_of}
@@ -8,13 +8,16 @@ use Rattle.cedar_types.specs.declared.base.names.slots.SlotId.{SlotId}
 use Rattle.cedar_types.specs.declared.base.schema.ValidatorSchema.{ValidatorSchema}
 use Rattle.cedar_types.specs.declared.base.templates.Template.{Template}
 use Rattle.cedar_types.specs.declared.base.types.ValidationMode.{ValidationMode}
-use Rattle.cedar_typing.specs.Evaluation.Conformance.{KeepsTable}
+use Rattle.cedar_types.specs.Values.Stores.{ConformingStore}
+use Rattle.cedar_typing.specs.Evaluation.Conformance.{ConformingRequest, KeepsTable, has_external}
 use Rattle.cedar_typing.specs.Evaluation.World.{World}
 use Rattle.cedar_typing.specs.Soundness.Policies.{Basis, IsClosedIn, IsWellFormed, IsConforming}
 use Rattle.cedar_conformance.specs.Entities.{store_of}
 use Rattle.cedar_conformance.specs.PolicyTests.{slots_of}
 use Rattle.cedar_conformance.specs.Requests.{request_of}
 use Rattle.cedar_conformance.specs.declared.entities.Entities.{Entities}
+use Rattle.cedar_conformance.specs.declared.premises.PremiseFault.{PremiseFault}
+use Rattle.cedar_conformance.specs.declared.premises.PremiseFault.TheVariants as fault
 use Rattle.cedar_conformance.specs.declared.requests.Request.{Request}
 
 -- the world has this request and these entities
@@ -40,3 +43,34 @@ pub record ArePremises (schema : ValidatorSchema) (template : Template)
   pub closed : SchemaIsClosed schema
   pub well_formed : IsWellFormed (template_of template) (slots_of values)
   pub conforming : DataConforms schema request entities
+
+-- ---- the first that is not met
+
+-- of the request and the entities: the request does not conform; or it does, and the entities do
+-- not
+abbrev pub IsFirstOfData : PremiseFault → ValidatorSchema → Request → Entities → Type 0
+IsFirstOfData fault.External schema request entities = ⊥
+IsFirstOfData (fault.Policy f) schema request entities = ⊥
+IsFirstOfData (fault.Request f) schema request entities =
+    ConformingRequest (schema_of schema) (request_of request) → ⊥
+IsFirstOfData (fault.Entities fs) schema request entities =
+    ConformingRequest (schema_of schema) (request_of request)
+    × (ConformingStore (schema_of schema) (store_of entities) → ⊥)
+
+-- of all: the schema is not closed; or it is, and the policy with its links is not well-formed; or it
+-- is too, and the request or the entities do not conform
+abbrev pub IsFirstUnmet : PremiseFault → ValidatorSchema → Template → BTreeMap SlotId EntityUID
+    → Request → Entities → Type 0
+IsFirstUnmet fault.External schema template values request entities =
+    has_external (schema_of schema) ≡ true
+IsFirstUnmet (fault.Policy f) schema template values request entities =
+    (has_external (schema_of schema) ≡ false)
+    × (IsWellFormed (template_of template) (slots_of values) → ⊥)
+IsFirstUnmet (fault.Request f) schema template values request entities =
+    (has_external (schema_of schema) ≡ false)
+    × IsWellFormed (template_of template) (slots_of values)
+    × IsFirstOfData (fault.Request f) schema request entities
+IsFirstUnmet (fault.Entities fs) schema template values request entities =
+    (has_external (schema_of schema) ≡ false)
+    × IsWellFormed (template_of template) (slots_of values)
+    × IsFirstOfData (fault.Entities fs) schema request entities

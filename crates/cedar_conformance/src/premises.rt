@@ -1,6 +1,14 @@
 // All that the promises of validation ask of a host, in one call.
-ghost use Rattle.std.specs.Prelude.{IfOk, IsOk};
-ghost use Rattle.cedar_conformance.specs.Premises.{ArePremises, DataConforms};
+ghost use Rattle.std.specs.Prelude.{◌≡◌, false, ◌↔◌, IfOk, IfErr, IsOk};
+ghost use Rattle.cedar_types.specs.Schemas.Contents.{schema_of};
+ghost use Rattle.cedar_types.specs.Templates.{template_of};
+ghost use Rattle.cedar_types.specs.Values.Stores.{ConformingStore};
+ghost use Rattle.cedar_typing.specs.Evaluation.Conformance.{ConformingRequest, has_external};
+ghost use Rattle.cedar_typing.specs.Soundness.Policies.{IsWellFormed};
+ghost use Rattle.cedar_conformance.specs.Entities.{store_of};
+ghost use Rattle.cedar_conformance.specs.PolicyTests.{slots_of};
+ghost use Rattle.cedar_conformance.specs.Premises.{ArePremises, DataConforms, IsFirstOfData, IsFirstUnmet};
+ghost use Rattle.cedar_conformance.specs.Requests.{request_of};
 
 use crate::entities::Entities;
 use crate::entity_faults::EntityFault;
@@ -24,29 +32,52 @@ pub enum PremiseFault {
     Entities(Vec<EntityFault>),
 }
 
-/// A request and entities with which the promises of validation hold, of any policy: a world that has them conforms by the
-/// schema, if only its extension functions keep the table. Else the request's fault, or those of the entities. Where memory
-/// is refused, the answer is an `AllocError`.
+/// Whether the promises of validation hold with this request and these entities, of any policy: a world that has them
+/// conforms by the schema, if only its extension functions keep the table. It answers Ok exactly where that is so (clause
+/// `exact`). Else the request's fault, or, where the request conforms, those of the entities (clause `first`). Where memory is
+/// refused, the answer is an `AllocError`.
 pub fn check_data(
     alloc: Global,
     schema: &ValidatorSchema,
     request: &Request,
     entities: &Entities,
 ) -> Result<Result<(), PremiseFault>, AllocError>
-    ensures { IfOk result (λ r. IsOk r → DataConforms schema.now request.now entities.now) }
+    ensures exact { IfOk result (λ r.
+        IsOk r ↔ DataConforms schema.now request.now entities.now) }
+    ensures first { IfOk result (λ r.
+        IfErr r (λ f. IsFirstOfData f schema.now request.now entities.now)) }
 {
-    if let Err(fault) = check_request(alloc, schema, request)? {
-        return Ok(Err(PremiseFault::Request(fault)));
+    match check_request(alloc, schema, request)? {
+        Ok(()) => {
+            let checked = check_stored(alloc, schema, entities)?;
+            Ok(checked)
+        }
+        Err(fault) => Ok(Err(PremiseFault::Request(fault))),
     }
-    if let Err(faults) = check_entities(alloc, schema, entities)? {
-        return Ok(Err(PremiseFault::Entities(faults)));
+}
+
+/// The entities alone, behind a request that conforms.
+fn check_stored(
+    alloc: Global,
+    schema: &ValidatorSchema,
+    entities: &Entities,
+) -> Result<Result<(), PremiseFault>, AllocError>
+    ensures exact { IfOk result (λ r.
+        IsOk r ↔ ConformingStore (schema_of schema.now) (store_of entities.now)) }
+    ensures first { IfOk result (λ r. IfErr r (λ f. (request : _)
+        → ConformingRequest (schema_of schema.now) (request_of request)
+        → IsFirstOfData f schema.now request entities.now)) }
+{
+    match check_entities(alloc, schema, entities)? {
+        Ok(()) => Ok(Ok(())),
+        Err(faults) => Ok(Err(PremiseFault::Entities(faults))),
     }
-    Ok(Ok(()))
 }
 
 /// Whether all premises of the promises of validation are met, on a schema, a policy with its links, a request and entities.
-/// Nothing is left to be believed but that the extension functions keep their table. Where memory is refused, the answer is
-/// an `AllocError`.
+/// Nothing is left to be believed but that the extension functions keep their table. It answers Ok exactly where they are met
+/// (clause `exact`). Else it tells of the first that is not, in the order of `PremiseFault`: those before it are met (clause
+/// `first`). Where memory is refused, the answer is an `AllocError`.
 pub fn check_premises(
     alloc: Global,
     schema: &ValidatorSchema,
@@ -55,15 +86,39 @@ pub fn check_premises(
     request: &Request,
     entities: &Entities,
 ) -> Result<Result<(), PremiseFault>, AllocError>
-    ensures { IfOk result (λ r.
-        IsOk r → ArePremises schema.now template.now values.now request.now entities.now) }
+    ensures exact { IfOk result (λ r.
+        IsOk r ↔ ArePremises schema.now template.now values.now request.now entities.now) }
+    ensures first { IfOk result (λ r. IfErr r (λ f.
+        IsFirstUnmet f schema.now template.now values.now request.now entities.now)) }
 {
-    if has_external(alloc, schema)? {
+    let is_external = has_external(alloc, schema)?;
+    if is_external {
         return Ok(Err(PremiseFault::External));
     }
-    if let Err(fault) = check_policy(alloc, template, values)? {
-        return Ok(Err(PremiseFault::Policy(fault)));
-    }
-    let checked = check_data(alloc, schema, request, entities)?;
+    let checked = check_closed(alloc, schema, template, values, request, entities)?;
     Ok(checked)
+}
+
+/// All but the schema, behind one that is closed.
+fn check_closed(
+    alloc: Global,
+    schema: &ValidatorSchema,
+    template: &Template,
+    values: &SlotEnv,
+    request: &Request,
+    entities: &Entities,
+) -> Result<Result<(), PremiseFault>, AllocError>
+    ensures exact { IfOk result (λ r. IsOk r
+        ↔ (IsWellFormed (template_of template.now) (slots_of values.now)
+        × DataConforms schema.now request.now entities.now)) }
+    ensures first { IfOk result (λ r. IfErr r (λ f. has_external (schema_of schema.now) ≡ false
+        → IsFirstUnmet f schema.now template.now values.now request.now entities.now)) }
+{
+    match check_policy(alloc, template, values)? {
+        Ok(()) => {
+            let checked = check_data(alloc, schema, request, entities)?;
+            Ok(checked)
+        }
+        Err(fault) => Ok(Err(PremiseFault::Policy(fault))),
+    }
 }
