@@ -1,4 +1,5 @@
 mod AddedIds
+mod Admitted
 mod Distinct
 pub mod HandedIn
 mod TypedConditions

@@ -1,3 +1,4 @@
+pub mod Admission
 pub mod Conditions
 pub mod Distinct
 pub mod LoadedOutcomes

@@ -1,8 +1,9 @@
-//! What a host of policies calls: it validates a set of policies, for whole stores or for slices, finds
-//! the entities of a slice, and takes the typed conditions of a policy. Each call has its promise beside
-//! it.
+//! What a host of policies calls: it validates a set of policies, for whole stores or for slices, lets
+//! them in with a request and entities, finds the entities of a slice, and takes the typed conditions of
+//! a policy. Each call has its promise beside it.
 #![tactic(auto)]
 
+pub mod admission;
 pub mod conditions;
 pub mod loaded_outcomes;
 pub mod loading;
