@@ -10,3 +10,4 @@ pub mod Rounds
 pub mod Safety
 pub mod SetLevels
 pub mod Slices
+pub mod Texts

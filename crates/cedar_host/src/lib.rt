@@ -1,10 +1,12 @@
 //! What a host of policies calls: it validates a set of policies, for whole stores or for slices, lets
 //! them in with a request and entities, finds the entities of a slice, and takes the typed conditions of
-//! a policy. Each call has its promise beside it.
+//! a policy. Each call has its promise beside it. The extension functions of Cedar are here too, with a
+//! check of their texts.
 #![tactic(auto)]
 
 pub mod admission;
 pub mod conditions;
+pub mod extensions;
 pub mod loaded_outcomes;
 pub mod loading;
 pub mod policy_sets;

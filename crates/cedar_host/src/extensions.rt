@@ -1,0 +1,2 @@
+//! The extension functions of Cedar: which texts they read.
+pub mod texts;
