@@ -1,2 +1,5 @@
-//! The extension functions of Cedar: which texts they read.
+//! The extension functions of Cedar, and which texts they read.
+pub mod checks;
+pub mod functions;
 pub mod texts;
+pub mod unread_texts;
