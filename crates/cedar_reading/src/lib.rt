@@ -28,6 +28,6 @@ pub use schemas::{
     Notation, RefusedName, SchemaDeclarations, SchemaReadError, refused_name, schema,
     schema_as_given, schema_declarations, shadowing_name,
 };
-pub use scopes::{condition, policy, scope_alone, uid_alone, whole_policy};
+pub use scopes::{condition, name_alone, policy, scope_alone, uid_alone, whole_policy};
 pub use shown_types::type_alone;
 pub use tokens::token_text;

@@ -2,10 +2,10 @@
 use crate::cursor::Cursor;
 use crate::expressions::expression;
 use crate::faults::{Fault, ReadError};
-use crate::names::{entity_type, entity_uid};
+use crate::names::{entity_type, entity_uid, placed_name};
 use cedar_types::base::{
-    ActionConstraint, Effect, EntityReference, EntityUID, Expr, PolicyID, PrincipalConstraint,
-    PrincipalOrResourceConstraint, ResourceConstraint, Template,
+    ActionConstraint, Effect, EntityReference, EntityUID, Expr, Name, PolicyID,
+    PrincipalConstraint, PrincipalOrResourceConstraint, ResourceConstraint, Template,
 };
 use std::alloc::{AllocError, Global};
 
@@ -140,7 +140,19 @@ pub fn scope_alone(alloc: Global, text: &str) -> Result<Scope, ReadError> {
     Ok(read)
 }
 
-/// Reads a text that is an id and nothing else.
+/// Reads a text that is a name and nothing else, words with `::` between them: `User` or `Acme::User`. It has no place.
+///
+/// It fails where the text cannot be read, also where it is an id, and where memory is refused.
+pub fn name_alone(alloc: Global, text: &str) -> Result<Name, ReadError> {
+    let mut cursor = Cursor::new(alloc, text)?;
+    let read = placed_name(&mut cursor)?;
+    finish(&cursor)?;
+    Ok(read.name)
+}
+
+/// Reads a text that is an id and nothing else: `User::"alice"`.
+///
+/// It fails where the text cannot be read, also where it is a name alone, and where memory is refused.
 pub fn uid_alone(alloc: Global, text: &str) -> Result<EntityUID, ReadError> {
     let mut cursor = Cursor::new(alloc, text)?;
     let read = entity_uid(&mut cursor)?;

@@ -19,6 +19,8 @@ mod marks;
 #[cfg(test)]
 mod memberships;
 #[cfg(test)]
+mod names;
+#[cfg(test)]
 mod objects;
 #[cfg(test)]
 mod places;
