@@ -185,6 +185,48 @@ SCHEMAS = (
     (SCHEMA + f"entity {', '.join(f'A{i}' for i in range(1100))} in [{', '.join(f'A{i}' for i in range(1100))}];", 2, "s:4:8: fault: too many descendants"),
 )
 
+# A schema with ten faults, and what is said of them.
+FAULTY_SCHEMA = """entity User in Grop {
+  name: Strng,
+  name: Long,
+  boss: Usr
+};
+entity User;
+entity Kind enum [];
+entity Broken { a Long };
+entity Uses { b: Broken, c: Gone };
+type T = { t: T };
+action view in [gone];
+"""
+SCHEMA_FAULTS = (
+    ("1:16", "a name that is not declared, where `Grop` is read"),
+    ("2:9", "a type that is not declared: `Strng`"),
+    ("3:3", "the same key twice, where `name` is read"),
+    ("4:9", "a type that is not declared: `Usr`"),
+    ("6:8", "an entity type is declared twice: `User`"),
+    ("7:8", "an enumerated type has no ids: `Kind`"),
+    ("8:19", "`:` is expected, where `Long` is read"),
+    ("9:29", "a type that is not declared: `Gone`"),
+    ("10:15", "nested too deep, as a type that contains itself is, where `T` is read"),
+    ("11:17", "a name that is not declared, where `gone` is read"),
+)
+
+
+def schema_faults_differ(program):
+    """What is wrong with what is said of a schema with ten faults, in each format; None where nothing is."""
+    with tempfile.TemporaryDirectory() as room:
+        written(Path(room, "s"), FAULTY_SCHEMA)
+        written(Path(room, "p"), GOOD)
+        words = [[str(program), "--format", it, "s", "p"] for it in ("lines", "json", "sarif")]
+        done = [subprocess.run(it, cwd=room, stdin=subprocess.DEVNULL, capture_output=True, text=True, timeout=SECONDS) for it in words]
+    lines = [line for line in done[0].stdout.splitlines() if line.startswith("s:")]
+    objects = [json.loads(line) for line in done[1].stdout.splitlines()]
+    results = [(it["locations"][0]["physicalLocation"]["region"], it["message"]["text"]) for it in json.loads(done[2].stdout)["runs"][0]["results"]]
+    found = [lines, [f"s:{it['line']}:{it['column']}: {it['kind']}: {it['text']}" for it in objects],
+             [f"s:{at['startLine']}:{at['startColumn']}: fault: {text}" for at, text in results]]
+    wanted = [f"s:{place}: fault: {text}" for place, text in SCHEMA_FAULTS]
+    return None if found == [wanted] * 3 and {it.returncode for it in done} == {2} else found
+
 
 def placed(text):
     """A text without the marks in it, and the line and the column of each, by what names it."""
@@ -518,7 +560,8 @@ def main(words):
                     failed += 1
                     print(f"{path.name}: {case['about']}: {column}: {case[column]!r} is wanted, not {said_of}")
     others = [("scripts/validate.py", copies_differ()), ("one mistake of 150 types", many_types_differ(program)),
-              ("two false parts", false_parts_differ(program)), ("SARIF", sarif_differs(program))]
+              ("two false parts", false_parts_differ(program)), ("ten faults of a schema", schema_faults_differ(program)),
+              ("SARIF", sarif_differs(program))]
     for what, difference in [*others, *hints_differ(program)]:
         passed += difference is None
         failed += difference is not None

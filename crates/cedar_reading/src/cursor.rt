@@ -1,5 +1,6 @@
 // A place in a text that is read from left to right.
 use crate::faults::{Fault, ReadError};
+use crate::notes::Notes;
 use crate::tokens::{Token, TokenKind, token_from};
 use cedar_types::base::Loc;
 use std::alloc::Global;
@@ -27,11 +28,22 @@ pub struct Cursor<'a> {
     tokens: usize,
     /// Where the last operand ended that stands in the tree twice.
     copied: usize,
+    /// The faults behind which reading goes on.
+    pub notes: Notes,
 }
 
 impl<'a> Cursor<'a> {
     /// At the beginning of the text. It fails where the text is too long.
     pub fn new(alloc: Global, text: &'a str) -> Result<Cursor<'a>, ReadError> {
+        Cursor::begin(alloc, text, false)
+    }
+
+    /// At the beginning of the text, to go on behind faults. It fails where the text is too long.
+    pub fn noting(alloc: Global, text: &'a str) -> Result<Cursor<'a>, ReadError> {
+        Cursor::begin(alloc, text, true)
+    }
+
+    fn begin(alloc: Global, text: &'a str, takes_notes: bool) -> Result<Cursor<'a>, ReadError> {
         if text.len() > MAX_LENGTH {
             return Err(ReadError::At(0, Fault::TooLong));
         }
@@ -42,10 +54,17 @@ impl<'a> Cursor<'a> {
             end: 0,
             tokens: 0,
             copied: 0,
+            notes: Notes::new(alloc, takes_notes),
         })
     }
 
-    /// The same text from another byte on.
+    /// Goes on from another byte.
+    pub fn move_to(&mut self, start: usize) {
+        self.next = token_from(self.text, start);
+        self.end = start;
+    }
+
+    /// The same text from another byte on. It fails at the first fault.
     pub fn at(&self, start: usize) -> Cursor<'a> {
         Cursor {
             alloc: self.alloc,
@@ -54,6 +73,7 @@ impl<'a> Cursor<'a> {
             end: start,
             tokens: self.tokens,
             copied: self.copied,
+            notes: Notes::new(self.alloc, false),
         }
     }
 
@@ -61,10 +81,15 @@ impl<'a> Cursor<'a> {
     /// and again.
     pub fn count(&mut self, other: &Cursor<'_>) -> Result<(), ReadError> {
         self.tokens = other.tokens;
-        if self.tokens > self.text.len().saturating_add(MAX_REPEATED) {
+        if self.has_repeated_much() {
             return Err(self.fault(Fault::TooLarge));
         }
         Ok(())
+    }
+
+    /// Whether more was read than the text and what may be read again.
+    pub fn has_repeated_much(&self) -> bool {
+        self.tokens > self.text.len().saturating_add(MAX_REPEATED)
     }
 
     /// Whether an operand may stand in the tree twice: if nothing in it does.

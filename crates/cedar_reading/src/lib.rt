@@ -9,6 +9,7 @@ mod expressions;
 mod faults;
 mod members;
 mod names;
+mod notes;
 mod open_parts;
 mod operators;
 mod parts;
@@ -25,8 +26,8 @@ pub use faults::{Fault, ReadError};
 pub use policies::{Policies, ReadPolicy};
 pub use positions::Position;
 pub use schemas::{
-    Notation, RefusedName, SchemaDeclarations, SchemaReadError, refused_name, schema,
-    schema_as_given, schema_declarations, shadowing_name,
+    Notation, RefusedName, SchemaDeclarations, SchemaFault, SchemaReadError, refused_name, schema,
+    schema_as_given, schema_declarations, schema_faults, shadowing_name,
 };
 pub use scopes::{condition, name_alone, policy, scope_alone, uid_alone, whole_policy};
 pub use shown_types::type_alone;

@@ -1,19 +1,24 @@
 // Schemas, as Cedar's own syntax has them.
 mod actions;
+mod all_faults;
 mod blocks;
 mod closed;
+mod cycles;
 mod declarations;
 mod descendants;
 mod entity_types;
 mod groups;
 mod lists;
 mod meanings;
+mod recovery;
 mod refusals;
 mod reserved;
 mod shadows;
 mod types;
+mod unsure;
 
 use crate::faults::ReadError;
+pub use all_faults::{SchemaFault, schema_faults};
 use blocks::all_declarations;
 use cedar_types::base::{SchemaError, ValidatorActionId, ValidatorEntityType, ValidatorSchema};
 use closed::{closed_actions, closed_types};

@@ -7,7 +7,7 @@ use cedar_reading::schema;
 use cedar_typechecker::rbac::Validator;
 use cedar_types::base::{ExtensionSchemas, ValidatorSchema};
 use cedar_validation::arguments::{Arguments, Asked, read_arguments};
-use cedar_validation::faults::{TextFault, schema_fault, shadowing_fault};
+use cedar_validation::faults::{TextFault, all_schema_faults, schema_fault, shadowing_fault};
 use cedar_validation::formats::Format;
 use cedar_validation::reports::{Form, Report, push_beginning, push_tally};
 use cedar_validation::schema_texts::SchemaTexts;
@@ -162,12 +162,14 @@ fn read_schema<R: Files + AllocGlobal + Input, O: Write>(
         }
         texts.add(text)?;
     }
-    let fault = match schema_or_fault(alloc, texts.text())? {
+    let first = match schema_or_fault(alloc, texts.text())? {
         Ok(schema) => return Ok(Some(schema)),
         Err(fault) => fault,
     };
-    let shown = shown_fault(alloc, &arguments.schemas, &texts, form, fault)?;
-    out.write_all(shown.as_bytes())?;
+    for fault in all_schema_faults(alloc, texts.text(), first)? {
+        let shown = shown_fault(alloc, &arguments.schemas, &texts, form, fault)?;
+        out.write_all(shown.as_bytes())?;
+    }
     Ok(None)
 }
 

@@ -1,7 +1,8 @@
 //! What is wrong with texts that cannot be read, in words.
 use crate::fault_hints::{hint, is_alias};
 use cedar_reading::{
-    Fault, ReadError, RefusedName, SchemaReadError, refused_name, shadowing_name, token_text,
+    Fault, ReadError, RefusedName, SchemaFault, SchemaReadError, refused_name, schema_faults,
+    shadowing_name, token_text,
 };
 use cedar_types::base::{Loc, SchemaError};
 use std::alloc::{AllocError, Global};
@@ -16,6 +17,9 @@ const LONG_TEXT: &str = "; the text in quotes before it began on another line: i
 
 /// What may help behind a name that is not that of an entity type.
 const ALIAS: &str = "; it is the name of a common type, and of no entity type";
+
+/// What is wrong with a name that `shadowing_name` finds.
+const HIDES: &str = "a name of a namespace that hides one outside of namespaces";
 
 /// What is wrong with a text, and where.
 #[derive(Debug, Drop, Error)]
@@ -167,16 +171,52 @@ pub fn schema_fault(
         SchemaReadError::Read(error) => read_fault(alloc, Written::Schema, text, error),
         SchemaReadError::Refused(fault) => {
             let name = refused_name(alloc, text, &fault)?;
-            let alias = match (&fault, &name) {
-                (SchemaError::UnknownType, Some(it)) => is_alias(text, it.name.as_str()),
-                _ => false,
-            };
-            let mut refused = refusal(alloc, text, refusal_text(&fault), name)?;
-            if alias {
-                refused.text.push_str(ALIAS)?;
-            }
-            Ok(refused)
+            refused_fault(alloc, text, &fault, name)
         }
+    }
+}
+
+/// Why a schema is refused, for this name.
+fn refused_fault(
+    alloc: Global,
+    text: &str,
+    fault: &SchemaError,
+    name: Option<RefusedName>,
+) -> Result<TextFault, AllocError> {
+    let alias = match (fault, &name) {
+        (SchemaError::UnknownType, Some(it)) => is_alias(text, it.name.as_str()),
+        _ => false,
+    };
+    let mut refused = refusal(alloc, text, refusal_text(fault), name)?;
+    if alias {
+        refused.text.push_str(ALIAS)?;
+    }
+    Ok(refused)
+}
+
+/// The faults of a schema's text, by place, the first hundred; `first` alone, which is one of it, where none can be told.
+pub fn all_schema_faults(
+    alloc: Global,
+    text: &str,
+    first: TextFault,
+) -> Result<Vec<TextFault>, AllocError> {
+    let mut told = Vec::new(alloc);
+    for fault in schema_faults(alloc, text)? {
+        told.push(told_fault(alloc, text, fault)?)?;
+    }
+    if told.is_empty() {
+        told.push(first)?;
+    }
+    Ok(told)
+}
+
+fn told_fault(alloc: Global, text: &str, fault: SchemaFault) -> Result<TextFault, AllocError> {
+    match fault {
+        SchemaFault::Read(start, fault) => {
+            read_fault(alloc, Written::Schema, text, ReadError::At(start, fault))
+        }
+        SchemaFault::Refused(fault, name) => refused_fault(alloc, text, &fault, Some(name)),
+        SchemaFault::Hides(name) => refusal(alloc, text, HIDES, Some(name)),
     }
 }
 
@@ -184,10 +224,7 @@ pub fn schema_fault(
 pub fn shadowing_fault(alloc: Global, text: &str) -> Result<Option<TextFault>, AllocError> {
     match shadowing_name(alloc, text)? {
         None => Ok(None),
-        name => {
-            let why = "a name of a namespace that hides one outside of namespaces";
-            Ok(Some(refusal(alloc, text, why, name)?))
-        }
+        name => Ok(Some(refusal(alloc, text, HIDES, name)?)),
     }
 }
 

@@ -242,7 +242,7 @@ fn nesting(rt: HostRuntime) -> Result<(), Fail> {
 }
 
 /// Schemas.
-const SCHEMAS: [(&str, &str); 22] = [
+pub const SCHEMAS: [(&str, &str); 22] = [
     (
         "entity A { a: Long b: Long };",
         "1:20: `,` or `}` is expected, where `b` is read",
@@ -371,7 +371,8 @@ fn fault_of_schema(alloc: Global, text: &str) -> Result<String, AllocError> {
     }
 }
 
-fn shown(alloc: Global, text: &str, fault: &TextFault) -> Result<String, AllocError> {
+/// A fault of a text, and its line and column.
+pub fn shown(alloc: Global, text: &str, fault: &TextFault) -> Result<String, AllocError> {
     let Position { line, column } = Position::in_text(text, fault.place.start);
     format!(in alloc; "{line}:{column}: {fault}")
 }

@@ -27,6 +27,8 @@ mod places;
 #[cfg(test)]
 mod reports;
 #[cfg(test)]
+mod schema_faults;
+#[cfg(test)]
 mod schema_texts;
 #[cfg(test)]
 mod similar;

@@ -3,6 +3,7 @@ use crate::cursor::{Cursor, MAX_NESTING};
 use crate::faults::{Fault, ReadError};
 use crate::members::key;
 use crate::names::placed_name;
+use crate::notes::Met;
 use crate::schemas::declarations::{Declaration, Placed};
 use crate::schemas::entity_types::one_or_more_types;
 use crate::schemas::lists::{Listing, one_or_in_brackets};
@@ -196,7 +197,7 @@ fn part_of_application(
             cursor.expect(":")?;
             let start = cursor.start();
             let context = cedar_type(cursor, names, MAX_NESTING)?;
-            names.check_context(&context, start)?;
+            names.check_context(cursor, &context, start)?;
             read.context = Some(context);
         }
         "principal" | "resource" | "context" => {
@@ -242,14 +243,15 @@ fn applied_types(
 ) -> Result<BTreeSet<EntityType>, ReadError> {
     cursor.expect(variable)?;
     cursor.expect(":")?;
-    let fault = cursor.fault(Fault::Expected("at least one type"));
+    let start = cursor.start();
     let mut types = BTreeSet::new(cursor.alloc);
     for read in one_or_more_types(cursor, names)? {
         types.insert(read.name)?;
     }
     // an action that applies to nothing has no `appliesTo`
     if types.is_empty() && !names.are_as_given() {
-        return Err(fault);
+        let none = Met::Fault(Fault::Expected("at least one type"));
+        cursor.notes.meet(start, none)?;
     }
     Ok(types)
 }

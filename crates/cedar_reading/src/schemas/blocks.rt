@@ -2,10 +2,12 @@
 use crate::annotations::annotations;
 use crate::cursor::{Cursor, MAX_NESTING};
 use crate::faults::{Fault, ReadError};
+use crate::notes::Met;
 use crate::schemas::actions::{action_declaration, external_actions};
 use crate::schemas::declarations::{Alias, Declarations};
 use crate::schemas::entity_types::{entity_declaration, external_types};
 use crate::schemas::meanings::{Names, Notation};
+use crate::schemas::recovery::{go_on_behind, go_on_inside};
 use crate::schemas::reserved::{free_alias, free_word};
 use crate::schemas::types::cedar_type;
 use cedar_types::base::Name;
@@ -13,19 +15,38 @@ use cedar_types::base::Name;
 /// Reads the declarations of a text, whose names mean this outside of namespaces.
 pub fn all_declarations(text: &str, outside: Names<'_>) -> Result<Declarations, ReadError> {
     let mut cursor = Cursor::new(outside.alloc, text)?;
+    declarations_behind(&mut cursor, outside)
+}
+
+/// Reads the declarations from here on. Where faults are noted, those without a fault.
+pub fn declarations_behind(
+    cursor: &mut Cursor<'_>,
+    outside: Names<'_>,
+) -> Result<Declarations, ReadError> {
     let mut read = Declarations::new(outside.alloc);
     for _ in 0..cursor.most_left() {
         if cursor.is_at_end() {
             break;
         }
-        annotations(&mut cursor)?;
-        if cursor.takes("namespace") {
-            namespace(&mut cursor, outside, &mut read)?;
-        } else {
-            declaration(&mut cursor, &outside, &mut read)?;
-        }
+        let start = cursor.start();
+        let block = block(cursor, outside, &mut read);
+        go_on_behind(cursor, start, block, &mut read.unsure)?;
     }
     Ok(read)
+}
+
+/// Reads a namespace, or a declaration outside of namespaces.
+fn block(
+    cursor: &mut Cursor<'_>,
+    outside: Names<'_>,
+    read: &mut Declarations,
+) -> Result<(), ReadError> {
+    annotations(cursor)?;
+    if cursor.takes("namespace") {
+        namespace(cursor, outside, read)
+    } else {
+        declaration(cursor, &outside, read)
+    }
 }
 
 /// Reads a namespace behind its first word.
@@ -34,20 +55,40 @@ fn namespace(
     outside: Names<'_>,
     read: &mut Declarations,
 ) -> Result<(), ReadError> {
-    let path = path(cursor, outside.notation)?;
+    let path = match head(cursor, outside.notation) {
+        Ok(path) => path,
+        Err(error) => {
+            if !go_on_inside(cursor, error, &mut read.unsure)? {
+                return Ok(());
+            }
+            Vec::new(outside.alloc)
+        }
+    };
     let names = Names {
         namespace: path.as_slice(),
         ..outside
     };
-    cursor.expect("{")?;
     for _ in 0..cursor.most_left() {
         if cursor.takes("}") {
             break;
         }
-        declaration(cursor, &names, read)?;
+        let is_last = cursor.is_at_end();
+        let start = cursor.start();
+        let declaration = declaration(cursor, &names, read);
+        go_on_behind(cursor, start, declaration, &mut read.unsure)?;
+        if is_last {
+            break;
+        }
     }
     cursor.takes(";");
     Ok(())
+}
+
+/// Reads the name of a namespace, and the brace behind it.
+fn head<'a>(cursor: &mut Cursor<'a>, notation: Notation) -> Result<Vec<&'a str>, ReadError> {
+    let path = path(cursor, notation)?;
+    cursor.expect("{")?;
+    Ok(path)
 }
 
 /// Reads words with `::` between them.
@@ -104,21 +145,25 @@ fn alias_declaration(
     names: &Names<'_>,
     read: &mut Declarations,
 ) -> Result<(), ReadError> {
-    let fault = cursor.fault(Fault::SameName);
     let own_start = cursor.start();
     let word = free_alias(cursor, names.notation)?;
     let name = Name::new(cursor.alloc, word, names.namespace)?;
-    if read.alias(&name).is_some() {
-        return Err(fault);
+    let is_there = read.alias(&name).is_some();
+    if is_there {
+        cursor.notes.meet(own_start, Met::Fault(Fault::SameName))?;
     }
     cursor.expect("=")?;
     let start = cursor.start();
+    cursor.notes.read_alias(Some(own_start));
     cedar_type(cursor, names, MAX_NESTING)?;
+    cursor.notes.read_alias(None);
     cursor.expect(";")?;
-    read.add_alias(Alias {
-        name,
-        own_start,
-        start,
-    })?;
+    if !is_there {
+        read.add_alias(Alias {
+            name,
+            own_start,
+            start,
+        })?;
+    }
     Ok(())
 }

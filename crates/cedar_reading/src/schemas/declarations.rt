@@ -1,5 +1,6 @@
 // The declarations that were read of a schema's text.
 use crate::faults::{Fault, ReadError};
+use crate::schemas::unsure::UnsureNames;
 use cedar_types::base::{
     EntityType, EntityUID, Name, ValidatorActionKind, ValidatorEntityTypeKind,
 };
@@ -46,6 +47,8 @@ pub struct Declarations {
     pub aliases: BTreeMap<Name, Alias>,
     pub entity_types: Vec<TypeDeclaration>,
     pub actions: Vec<ActionDeclaration>,
+    /// What declarations with a fault may declare.
+    pub unsure: UnsureNames,
     /// The names that all of them declare.
     type_names: BTreeSet<EntityType>,
     action_names: BTreeSet<EntityUID>,
@@ -58,6 +61,7 @@ impl Declarations {
             aliases: BTreeMap::new(alloc),
             entity_types: Vec::new(alloc),
             actions: Vec::new(alloc),
+            unsure: UnsureNames::new(alloc),
             type_names: BTreeSet::new(alloc),
             action_names: BTreeSet::new(alloc),
         }
@@ -94,9 +98,30 @@ impl Declarations {
         self.type_names.contains(name)
     }
 
+    /// Whether this entity type is declared, or may be.
+    pub fn may_have_type(&self, name: &EntityType) -> bool {
+        self.has_type(name) || self.unsure.has(&name.name.basename)
+    }
+
     /// Whether this action is declared.
     pub fn has_action(&self, name: &EntityUID) -> bool {
         self.action_names.contains(name)
+    }
+
+    /// Where the parents stand that are not declared, nor may be.
+    pub fn unknown_parents(&self, alloc: Global) -> Result<Vec<usize>, AllocError> {
+        let mut starts = Vec::new(alloc);
+        for parent in self.entity_types.iter().flat_map(|d| d.parents.iter()) {
+            if !self.may_have_type(&parent.name) {
+                starts.push(parent.start)?;
+            }
+        }
+        for parent in self.actions.iter().flat_map(|d| d.parents.iter()) {
+            if !self.has_action(&parent.name) && !self.unsure.has(&parent.name.eid) {
+                starts.push(parent.start)?;
+            }
+        }
+        Ok(starts)
     }
 
     /// Fails where a parent is not declared, with the place of the first.

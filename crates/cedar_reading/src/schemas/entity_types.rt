@@ -115,7 +115,7 @@ pub fn one_or_more_types(
         }
         let start = cursor.start();
         let name = names.entity_type(placed_name(cursor)?.name)?;
-        names.check_known(&name, start)?;
+        names.check_known(cursor, &name, start)?;
         types.push(Placed { name, start })?;
     }
     Ok(types)

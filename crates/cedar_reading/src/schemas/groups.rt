@@ -172,6 +172,11 @@ impl Groups {
     }
 }
 
+/// The group of each number: numbers that are in each other have the same.
+pub fn group_of_each(graph: &Graph) -> Result<Vec<Option<usize>>, AllocError> {
+    Ok(grouped(graph)?.of)
+}
+
 /// The groups of a graph, without what is below each.
 fn grouped(graph: &Graph) -> Result<Groups, AllocError> {
     let count = graph.children.len();

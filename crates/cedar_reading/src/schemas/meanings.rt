@@ -1,5 +1,7 @@
 // What the names of a schema's text mean. None has a place: places are those of a policy's text.
-use crate::faults::{Fault, ReadError};
+use crate::cursor::Cursor;
+use crate::faults::ReadError;
+use crate::notes::Met;
 use crate::schemas::declarations::{Alias, Declarations};
 use cedar_types::base::{CedarType, EntityType, EntityUID, Name};
 use std::alloc::{AllocError, Global};
@@ -58,18 +60,28 @@ impl<'a> Names<'a> {
         Ok(self.declared.alias(name))
     }
 
-    /// Fails at the entity type that stands at this byte, if it has to be known and is not.
-    pub fn check_known(&self, named: &EntityType, start: usize) -> Result<(), ReadError> {
-        if self.have_to_be_known && !named.is_action() && !self.declared.has_type(named) {
-            return Err(ReadError::At(start, Fault::Undeclared));
+    /// Meets a fault at the entity type that stands at this byte, if it has to be known and is not.
+    pub fn check_known(
+        &self,
+        cursor: &mut Cursor<'_>,
+        named: &EntityType,
+        start: usize,
+    ) -> Result<(), ReadError> {
+        if self.have_to_be_known && !named.is_action() && !self.declared.may_have_type(named) {
+            return cursor.notes.meet(start, Met::UnknownType);
         }
         Ok(())
     }
 
-    /// Fails at the type of a context that stands at this byte, if names have to be known and it is no record.
-    pub fn check_context(&self, context: &CedarType, start: usize) -> Result<(), ReadError> {
+    /// Meets a fault at the type of a context that stands at this byte, if names have to be known and it is no record.
+    pub fn check_context(
+        &self,
+        cursor: &mut Cursor<'_>,
+        context: &CedarType,
+        start: usize,
+    ) -> Result<(), ReadError> {
         if self.have_to_be_known && !matches!(context, CedarType::Record { .. }) {
-            return Err(ReadError::At(start, Fault::Expected("a record")));
+            return cursor.notes.meet(start, Met::VagueContext);
         }
         Ok(())
     }

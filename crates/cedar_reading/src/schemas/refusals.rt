@@ -2,6 +2,7 @@
 use crate::cursor::Cursor;
 use crate::faults::ReadError;
 use crate::names::placed_name;
+use crate::schemas::all_faults::SchemaFault;
 use crate::schemas::blocks::all_declarations;
 use crate::schemas::declarations::{Declaration, Declarations, Placed};
 use crate::schemas::declarations_of;
@@ -59,13 +60,18 @@ fn shown<N: fmt::Display>(
     alloc: Global,
     found: Option<&Placed<N>>,
 ) -> Result<Option<RefusedName>, AllocError> {
-    let Some(found) = found else {
-        return Ok(None);
-    };
-    Ok(Some(RefusedName {
-        name: found.name.to_string(alloc)?,
-        start: found.start,
-    }))
+    match found {
+        Some(found) => Ok(Some(refused(alloc, found)?)),
+        None => Ok(None),
+    }
+}
+
+/// A name as it is shown.
+pub fn refused<N: fmt::Display>(alloc: Global, own: &Placed<N>) -> Result<RefusedName, AllocError> {
+    Ok(RefusedName {
+        name: own.name.to_string(alloc)?,
+        start: own.start,
+    })
 }
 
 /// The first name that is declared for a second time.
@@ -73,13 +79,22 @@ fn repeated<N: Ord, K>(
     alloc: Global,
     declared: &[Declaration<N, K>],
 ) -> Result<Option<&Placed<N>>, AllocError> {
+    Ok(repetitions(alloc, declared)?.first().copied())
+}
+
+/// The names that are declared again.
+fn repetitions<N: Ord, K>(
+    alloc: Global,
+    declared: &[Declaration<N, K>],
+) -> Result<Vec<&Placed<N>>, AllocError> {
     let mut before = BTreeSet::new(alloc);
+    let mut found = Vec::new(alloc);
     for own in declared.iter().flat_map(|d| d.names.iter()) {
         if !before.insert(&own.name)? {
-            return Ok(Some(own));
+            found.push(own)?;
         }
     }
-    Ok(None)
+    Ok(found)
 }
 
 /// The first declared type that has the name of a type of actions.
@@ -99,6 +114,48 @@ fn without_ids(
         .iter()
         .find(|d| has_no_ids(&d.kind))
         .and_then(|d| d.names.first())
+}
+
+/// Adds for each of these names that the schema is refused for it.
+pub fn add_refusals(
+    alloc: Global,
+    read: &Declarations,
+    faults: &mut Vec<SchemaFault>,
+) -> Result<(), AllocError> {
+    for own in &repetitions(alloc, read.entity_types.as_slice())? {
+        let name = refused(alloc, own)?;
+        faults.push(SchemaFault::Refused(SchemaError::DuplicateEntityType, name))?;
+    }
+    for own in &repetitions(alloc, read.actions.as_slice())? {
+        let name = refused(alloc, own)?;
+        faults.push(SchemaFault::Refused(SchemaError::DuplicateAction, name))?;
+    }
+    for declaration in &read.entity_types {
+        add_refusals_of_type(alloc, declaration, faults)?;
+    }
+    Ok(())
+}
+
+/// Adds the names of a declaration that are those of types of actions, and its first name if it has no ids.
+fn add_refusals_of_type(
+    alloc: Global,
+    declaration: &Declaration<EntityType, ValidatorEntityTypeKind>,
+    faults: &mut Vec<SchemaFault>,
+) -> Result<(), AllocError> {
+    for own in &declaration.names {
+        if own.name.is_action() {
+            let name = refused(alloc, own)?;
+            faults.push(SchemaFault::Refused(SchemaError::ActionTypeDeclared, name))?;
+        }
+    }
+    match declaration.names.first() {
+        Some(own) if has_no_ids(&declaration.kind) => {
+            let name = refused(alloc, own)?;
+            faults.push(SchemaFault::Refused(SchemaError::EmptyEnum, name))?;
+            Ok(())
+        }
+        _ => Ok(()),
+    }
 }
 
 fn has_no_ids(kind: &ValidatorEntityTypeKind) -> bool {

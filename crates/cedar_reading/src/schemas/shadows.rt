@@ -1,9 +1,9 @@
 // Names of namespaces that hide names outside of namespaces.
 use crate::faults::ReadError;
-use crate::schemas::declarations::{Declarations, Placed};
+use crate::schemas::declarations::Declarations;
 use crate::schemas::declarations_of;
 use crate::schemas::meanings::Notation;
-use crate::schemas::refusals::RefusedName;
+use crate::schemas::refusals::{RefusedName, refused};
 use cedar_types::base::Name;
 use std::alloc::{AllocError, Global};
 use std::collections::BTreeSet;
@@ -17,14 +17,24 @@ pub fn shadowing_name(alloc: Global, text: &str) -> Result<Option<RefusedName>, 
         Err(ReadError::Memory(error)) => return Err(error),
         Err(ReadError::At(_, _)) => return Ok(None),
     };
-    if let Some(name) = shadowing_type(alloc, &read)? {
-        return Ok(Some(name));
+    let mut names = hiding_types(alloc, &read)?.into_iter();
+    match names.next() {
+        Some(name) => Ok(Some(name)),
+        None => Ok(hiding_actions(alloc, &read)?.into_iter().next()),
     }
-    shadowing_action(alloc, &read)
 }
 
-/// The first entity type or alias of a namespace whose last part is the name of one outside.
-fn shadowing_type(alloc: Global, read: &Declarations) -> Result<Option<RefusedName>, AllocError> {
+/// All such names of what was read: those of types by place, and behind them those of actions.
+pub fn hiding_names(alloc: Global, read: &Declarations) -> Result<Vec<RefusedName>, AllocError> {
+    let mut names = hiding_types(alloc, read)?;
+    for name in hiding_actions(alloc, read)? {
+        names.push(name)?;
+    }
+    Ok(names)
+}
+
+/// The entity types and aliases of namespaces whose last part is the name of one outside, by place.
+fn hiding_types(alloc: Global, read: &Declarations) -> Result<Vec<RefusedName>, AllocError> {
     let mut outside = BTreeSet::new(alloc);
     let mut inside = Vec::new(alloc);
     for own in read.entity_types.iter().flat_map(|d| d.names.iter()) {
@@ -34,16 +44,17 @@ fn shadowing_type(alloc: Global, read: &Declarations) -> Result<Option<RefusedNa
         sort_out(&alias.name, alias.own_start, &mut outside, &mut inside)?;
     }
     inside.sort()?;
+    let mut found = Vec::new(alloc);
     for (start, name) in &inside {
         if outside.contains(&name.basename.as_str()) {
             let name = name.to_string(alloc)?;
-            return Ok(Some(RefusedName {
+            found.push(RefusedName {
                 name,
                 start: *start,
-            }));
+            })?;
         }
     }
-    Ok(None)
+    Ok(found)
 }
 
 /// Adds the last part of a name to those outside of namespaces, or the name to those inside.
@@ -61,24 +72,20 @@ fn sort_out<'a>(
     Ok(())
 }
 
-/// The first action of a namespace whose id is that of one outside.
-fn shadowing_action(alloc: Global, read: &Declarations) -> Result<Option<RefusedName>, AllocError> {
+/// The actions of namespaces whose id is that of one outside, in the order of the text.
+fn hiding_actions(alloc: Global, read: &Declarations) -> Result<Vec<RefusedName>, AllocError> {
     let mut outside = BTreeSet::new(alloc);
     for own in read.actions.iter().flat_map(|d| d.names.iter()) {
         if own.name.entity_type.name.path.is_empty() {
             outside.insert(own.name.eid.as_str())?;
         }
     }
+    let mut found = Vec::new(alloc);
     for own in read.actions.iter().flat_map(|d| d.names.iter()) {
         let is_inside = !own.name.entity_type.name.path.is_empty();
         if is_inside && outside.contains(&own.name.eid.as_str()) {
-            let Placed { name, start } = own;
-            let name = name.to_string(alloc)?;
-            return Ok(Some(RefusedName {
-                name,
-                start: *start,
-            }));
+            found.push(refused(alloc, own)?)?;
         }
     }
-    Ok(None)
+    Ok(found)
 }

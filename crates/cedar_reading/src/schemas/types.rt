@@ -4,6 +4,7 @@ use crate::cursor::Cursor;
 use crate::faults::{Fault, ReadError};
 use crate::members::key;
 use crate::names::{is_extension, placed_name};
+use crate::notes::Met;
 use crate::schemas::declarations::Alias;
 use crate::schemas::meanings::Names;
 use crate::shown_types::shown_type;
@@ -78,7 +79,7 @@ pub fn attributes(
         let attr_type = cedar_type(cursor, names, left)?;
         let attribute = AttributeType::new(attr_type, is_required);
         if attrs.insert(key, attribute)?.is_some() {
-            return Err(ReadError::At(start, Fault::SameKey));
+            cursor.notes.meet(start, Met::Fault(Fault::SameKey))?;
         }
         if !cursor.takes(",") {
             let all = behind_attribute(cursor);
@@ -111,8 +112,11 @@ fn named_type(
     let start = cursor.start();
     let name = placed_name(cursor)?.name;
     match names.alias(&name)? {
-        Some(alias) => aliased(cursor, names, alias, left),
-        None => type_of_name(cursor.alloc, names, name, start),
+        Some(alias) => {
+            cursor.notes.use_alias(start, alias.own_start)?;
+            aliased(cursor, names, alias, left)
+        }
+        None => type_of_name(cursor, names, name, start),
     }
 }
 
@@ -133,9 +137,31 @@ fn aliased(
         ..*names
     };
     let mut declaration = cursor.at(alias.start);
+    if cursor.notes.are_taken() {
+        if declaration.is_at("{") || cursor.has_repeated_much() {
+            return Ok(unsure_type(cursor.alloc)?);
+        }
+        let read = cedar_type(&mut declaration, &names, left);
+        let _ = cursor.count(&declaration);
+        return or_unsure(cursor.alloc, read);
+    }
     let read = cedar_type(&mut declaration, &names, left)?;
     cursor.count(&declaration)?;
     Ok(read)
+}
+
+/// What was read of an alias, whose faults are noted where it is declared.
+fn or_unsure(alloc: Global, read: Result<CedarType, ReadError>) -> Result<CedarType, ReadError> {
+    match read {
+        Err(ReadError::At(_, _)) => Ok(unsure_type(alloc)?),
+        other => other,
+    }
+}
+
+/// A type in the place of one that is not known: a record, which may stand anywhere.
+fn unsure_type(alloc: Global) -> Result<CedarType, AllocError> {
+    let attributes = Attributes::with_attributes(alloc, BTreeMap::new(alloc))?;
+    Ok(CedarType::record_with_attributes(attributes, OpenTag::ClosedAttributes))
 }
 
 fn words(alloc: Global, path: &[RcStr]) -> Result<Vec<&str>, AllocError> {
@@ -148,20 +174,22 @@ fn words(alloc: Global, path: &[RcStr]) -> Result<Vec<&str>, AllocError> {
 
 /// The type of a name that is no alias, and that stands at this byte.
 fn type_of_name(
-    alloc: Global,
+    cursor: &mut Cursor<'_>,
     names: &Names<'_>,
     name: Name,
     start: usize,
 ) -> Result<CedarType, ReadError> {
+    let alloc = cursor.alloc;
     if let Some(own) = name_of_language(alloc, &name)? {
-        return type_of_language(alloc, own, start);
+        return type_of_language(cursor, own, start);
     }
     let meant = names.entity_type(name)?;
     let is_declared = names.declared.has_type(&meant);
     match undeclared_type(alloc, &meant.name)? {
         Some(own) if !is_declared => Ok(own),
+        _ if names.declared.unsure.has(&meant.name.basename) => Ok(unsure_type(alloc)?),
         _ => {
-            names.check_known(&meant, start)?;
+            names.check_known(cursor, &meant, start)?;
             Ok(CedarType::named_entity_reference(alloc, meant)?)
         }
     }
@@ -179,10 +207,17 @@ fn name_of_language(alloc: Global, name: &Name) -> Result<Option<Name>, AllocErr
 }
 
 /// The primitive or extension type of this name, whatever is declared.
-fn type_of_language(alloc: Global, name: Name, start: usize) -> Result<CedarType, ReadError> {
-    match undeclared_type(alloc, &name)? {
+fn type_of_language(
+    cursor: &mut Cursor<'_>,
+    name: Name,
+    start: usize,
+) -> Result<CedarType, ReadError> {
+    match undeclared_type(cursor.alloc, &name)? {
         Some(own) => Ok(own),
-        None => Err(ReadError::At(start, Fault::Undeclared)),
+        None => {
+            cursor.notes.meet(start, Met::Fault(Fault::Undeclared))?;
+            Ok(unsure_type(cursor.alloc)?)
+        }
     }
 }
 

@@ -1,0 +1,123 @@
+// All faults of a schema's text.
+use crate::cursor::Cursor;
+use crate::faults::{Fault, ReadError};
+use crate::names::placed_name;
+use crate::notes::Met;
+use crate::schemas::blocks::declarations_behind;
+use crate::schemas::cycles::alias_cycles;
+use crate::schemas::declarations::Declarations;
+use crate::schemas::meanings::{Names, Notation};
+use crate::schemas::refusals::{RefusedName, add_refusals};
+use crate::schemas::shadows::hiding_names;
+use cedar_types::base::SchemaError;
+use std::alloc::{AllocError, Global};
+
+/// How many faults of a text are told.
+const MAX_FAULTS: usize = 100;
+
+/// A fault of a schema's text.
+#[derive(Debug, Drop)]
+pub enum SchemaFault {
+    /// What stands at this byte cannot be read, or names what is not declared.
+    Read(usize, Fault),
+    /// For this name `ValidatorSchema::new` refuses what is declared.
+    Refused(SchemaError, RefusedName),
+    /// This name of a namespace hides one outside of namespaces.
+    Hides(RefusedName),
+}
+
+impl SchemaFault {
+    /// The byte at which it stands.
+    pub fn start(&self) -> usize {
+        match self {
+            SchemaFault::Read(start, _) => *start,
+            SchemaFault::Refused(_, name) | SchemaFault::Hides(name) => name.start,
+        }
+    }
+}
+
+/// The faults of a schema's text by place, the first hundred, at each place one; none may be found though `schema` finds one.
+///
+/// Behind a fault that shows where another word is expected reading goes on at the next declaration. What such a declaration
+/// may declare counts as declared. Not looked for are a type that is too deep or too large for its aliases alone, and too
+/// many descendants.
+pub fn schema_faults(alloc: Global, text: &str) -> Result<Vec<SchemaFault>, AllocError> {
+    match unsorted_faults(alloc, text) {
+        Ok(faults) => first_by_place(alloc, faults),
+        Err(ReadError::Memory(error)) => Err(error),
+        Err(ReadError::At(start, fault)) => Ok(vec![in alloc; SchemaFault::Read(start, fault)]?),
+    }
+}
+
+/// The faults, by place, and at each place the first of them.
+fn first_by_place(
+    alloc: Global,
+    mut faults: Vec<SchemaFault>,
+) -> Result<Vec<SchemaFault>, AllocError> {
+    faults.sort_by_key(|fault| fault.start())?;
+    let mut kept = Vec::new(alloc);
+    let mut last = None;
+    for fault in faults {
+        let start = Some(fault.start());
+        if kept.len() < MAX_FAULTS && start != last {
+            last = start;
+            kept.push(fault)?;
+        }
+    }
+    Ok(kept)
+}
+
+/// The faults of a text, in any order.
+fn unsorted_faults(alloc: Global, text: &str) -> Result<Vec<SchemaFault>, ReadError> {
+    // what is declared has to be known before names are looked up
+    let nothing = Declarations::new(alloc);
+    let outside = Names::outside(alloc, &nothing, Notation::Schema);
+    let declared = declarations_behind(&mut Cursor::noting(alloc, text)?, outside)?;
+    let names = Names {
+        have_to_be_known: true,
+        ..Names::outside(alloc, &declared, Notation::Schema)
+    };
+    let mut cursor = Cursor::noting(alloc, text)?;
+    let read = declarations_behind(&mut cursor, names)?;
+    let mut faults = Vec::new(alloc);
+    for start in read.unknown_parents(alloc)? {
+        faults.push(SchemaFault::Read(start, Fault::Undeclared))?;
+    }
+    add_met(&cursor, &mut faults)?;
+    for start in alias_cycles(alloc, &read, cursor.notes.uses())? {
+        faults.push(SchemaFault::Read(start, Fault::TooDeep))?;
+    }
+    if !read.unsure.are_all() {
+        add_refusals(alloc, &read, &mut faults)?;
+        for name in hiding_names(alloc, &read)? {
+            faults.push(SchemaFault::Hides(name))?;
+        }
+    }
+    Ok(faults)
+}
+
+/// Adds the faults that reading met.
+fn add_met(cursor: &Cursor<'_>, faults: &mut Vec<SchemaFault>) -> Result<(), ReadError> {
+    for (start, met) in cursor.notes.met() {
+        let fault = match met {
+            Met::Fault(fault) => SchemaFault::Read(*start, *fault),
+            Met::UnknownType => {
+                SchemaFault::Refused(SchemaError::UnknownType, name_at(cursor, *start)?)
+            }
+            Met::VagueContext => {
+                SchemaFault::Refused(SchemaError::VagueType, name_at(cursor, *start)?)
+            }
+        };
+        faults.push(fault)?;
+    }
+    Ok(())
+}
+
+/// The name at a byte, as it is written.
+fn name_at(cursor: &Cursor<'_>, start: usize) -> Result<RefusedName, ReadError> {
+    let read = placed_name(&mut cursor.at(start))?;
+    Ok(RefusedName {
+        name: read.name.to_string(cursor.alloc)?,
+        start,
+    })
+}
