@@ -1,8 +1,7 @@
-//! Samples of what a host makes, to read and to copy: a schema, some policies, extension functions with a
-//! check of their arguments, and a loader. What a host calls stands in `cedar_host`.
+//! Samples of what a host makes, to read and to copy: a schema, some policies, and a loader. What a host calls
+//! stands in `cedar_host`.
 #![tactic(auto)]
 
-pub mod functions;
 pub mod in_rounds;
 pub mod policies;
 pub mod schemas;

@@ -8,6 +8,8 @@ mod conditions;
 #[cfg(test)]
 mod enumerated;
 #[cfg(test)]
+mod extensions;
+#[cfg(test)]
 mod loading;
 pub mod memory;
 #[cfg(test)]

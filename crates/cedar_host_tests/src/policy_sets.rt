@@ -1,12 +1,13 @@
 // What the host says of a set of policies.
 use crate::wanted::{ACCEPTED, Want, add, is_said, of_an_unknown};
-use cedar_embedding::functions::{RefusesEmptyAddress, ip, is_in_range};
 use cedar_embedding::policies::{
     APPROVED_SHARING, BY_A_DOCUMENT, FROM_NOWHERE, FROM_RANGE, HAUNTED, MISSPELT, OF_EITHER,
     OF_ONE_USER, UNGUARDED, approved_sharing, by_a_document, from_nowhere, from_range, haunted,
     misspelt, of_either, of_one_user, permit_when, unguarded,
 };
 use cedar_embedding::schemas::documents;
+use cedar_host::extensions::checks::Constructor;
+use cedar_host::extensions::functions::{Checks, functions, overloaded_types};
 use cedar_host::policy_sets::{WrittenPolicy, validate_set};
 use cedar_host::safety::SoundMode;
 use cedar_typechecker::rbac::Validator;
@@ -15,7 +16,7 @@ use cedar_types::base::{
 };
 use cedar_typing::typecheck::Typechecker;
 use std::alloc::{AllocError, Global};
-use std::collections::{BTreeSet, HashSet};
+use std::collections::HashSet;
 use std::process::Abort;
 use std::test::Fail;
 
@@ -185,7 +186,7 @@ fn alone(alloc: Global, policy: Template, text: &str) -> Result<Vec<WrittenPolic
     Ok(policies)
 }
 
-/// Of a policy alone, by a table with `ip`, whose check is made here, and `isInRange`.
+/// Of a policy alone, by a table of Cedar's functions, whose checks are made here.
 fn is_said_alone(
     rt: &impl Abort,
     alloc: Global,
@@ -194,10 +195,13 @@ fn is_said_alone(
     wanted: &[Want; 1],
 ) -> Result<(), Fail> {
     let policies = alone(alloc, policy, text)?;
-    let mut functions = Vec::new(alloc);
-    functions.push(ip(alloc, Box::new(alloc, RefusesEmptyAddress { alloc })?)?)?;
-    functions.push(is_in_range(alloc)?)?;
-    let extensions = ExtensionSchemas::new(functions, BTreeSet::new(alloc))?;
+    let checks = Checks {
+        ip: Box::new(alloc, Constructor::Ip.check(alloc))?,
+        decimal: Box::new(alloc, Constructor::Decimal.check(alloc))?,
+        datetime: Box::new(alloc, Constructor::Datetime.check(alloc))?,
+        duration: Box::new(alloc, Constructor::Duration.check(alloc))?,
+    };
+    let extensions = ExtensionSchemas::new(functions(alloc, checks)?, overloaded_types(alloc)?)?;
     Ok(are_said(rt, alloc, &extensions, SoundMode::Strict, &policies, wanted)?)
 }
 
@@ -210,7 +214,7 @@ fn a_policy_may_call_functions_of_the_table(rt: HostRuntime) -> Result<(), Fail>
 const OF_EMPTY_ADDRESS: Want = Want {
     is_accepted: false,
     is_impossible: false,
-    errors: &["71..77 `ip(\"\")`: for policy `policy0`, invalid argument: empty address"],
+    errors: &["71..77 `ip(\"\")`: for policy `policy0`, invalid argument: the text is empty"],
     warnings: &[],
 };
 

@@ -12,9 +12,9 @@ mod run;
 mod verdicts;
 mod wording;
 
-use cedar_types::base::{ArgumentCheck, ExtensionSchemas};
-use cedar_validation::constructors::RefusesEmptyText;
-use cedar_validation::functions::{CONSTRUCTOR_COUNT, functions, overloaded_types};
+use cedar_host::extensions::checks::Constructor;
+use cedar_host::extensions::functions::{Checks, functions, overloaded_types};
+use cedar_types::base::ExtensionSchemas;
 use progress::Progress;
 use run::run;
 use std::env;
@@ -43,16 +43,20 @@ fn main(rt: HostRuntime) -> ExitCode {
             return cannot_begin(&mut err, NO_MEMORY);
         };
     }
-    let mut checks = Vec::new(alloc);
-    for _ in 0..CONSTRUCTOR_COUNT {
-        let Ok(check) = Box::new(alloc, RefusesEmptyText { alloc }) else {
-            return cannot_begin(&mut err, NO_MEMORY);
-        };
-        let check: Box<dyn ArgumentCheck> = check;
-        let Ok(()) = checks.push(check) else {
-            return cannot_begin(&mut err, NO_MEMORY);
-        };
-    }
+    let (Ok(ip), Ok(decimal), Ok(datetime), Ok(duration)) = (
+        Box::new(alloc, Constructor::Ip.check(alloc)),
+        Box::new(alloc, Constructor::Decimal.check(alloc)),
+        Box::new(alloc, Constructor::Datetime.check(alloc)),
+        Box::new(alloc, Constructor::Duration.check(alloc)),
+    ) else {
+        return cannot_begin(&mut err, NO_MEMORY);
+    };
+    let checks = Checks {
+        ip,
+        decimal,
+        datetime,
+        duration,
+    };
     let (Ok(functions), Ok(overloaded)) = (functions(alloc, checks), overloaded_types(alloc)) else {
         return cannot_begin(&mut err, NO_MEMORY);
     };

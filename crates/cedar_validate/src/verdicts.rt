@@ -2,6 +2,7 @@
 use crate::causes::{Cause, Found};
 use crate::impossible::{FalsePart, false_parts};
 use crate::wording::{About, first_findings};
+use cedar_host::extensions::unread_texts::add_unread_texts;
 use cedar_host::policy_sets::{Findings, validate};
 use cedar_host::safety::SoundMode;
 use cedar_host::slices::validate_within;
@@ -14,7 +15,6 @@ use cedar_types::base::{
 use cedar_validation::findings::{Requirement, Severity, Verdict};
 use cedar_validation::marks::marked_parts;
 use cedar_validation::syntaxes::Syntax;
-use cedar_validation::unread_texts::add_unread_texts;
 use std::alloc::{AllocError, Global};
 use std::collections::{BTreeMap, HashSet};
 

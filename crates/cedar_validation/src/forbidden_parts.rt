@@ -1,8 +1,8 @@
 //! What Cedar's own parser refuses in conditions, though it can be read: slots, unknowns, and functions that are called as
 //! methods, or methods as functions.
 use crate::faults::TextFault;
-use crate::functions::{is_constructor, is_method};
 use crate::parts::text_at;
+use cedar_host::extensions::functions::{is_constructor, is_method};
 use cedar_types::base::{Expr, ExprKind, Loc, Template};
 use std::alloc::{AllocError, Global};
 

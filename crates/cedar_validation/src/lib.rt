@@ -1,19 +1,16 @@
-//! What a person asks of a schema and of policies in files: arguments, texts, tables of
-//! functions, and how findings are shown.
+//! What a person asks of a schema and of policies in files: arguments, texts, and how findings are
+//! shown.
 #![tactic(auto)]
 
 pub mod arguments;
 pub mod codes;
-pub mod constructors;
 pub mod escapes;
 pub mod excerpts;
-pub mod extension_texts;
 mod fault_hints;
 pub mod faults;
 pub mod findings;
 pub mod forbidden_parts;
 pub mod formats;
-pub mod functions;
 pub mod hints;
 pub mod json_faults;
 pub mod lines;
@@ -28,4 +25,3 @@ pub mod similar;
 pub mod sources;
 pub mod syntaxes;
 pub mod tallies;
-pub mod unread_texts;

@@ -1,7 +1,7 @@
 // Functions that there are not.
-use crate::functions::{CONSTRUCTORS, OTHERS};
 use crate::parts::{arguments_at, text_at};
 use crate::similar::Search;
+use cedar_host::extensions::functions::{CONSTRUCTORS, OTHERS};
 use cedar_types::base::{Expr, ExprKind, Literal, Template, UndefinedFunction};
 use std::alloc::{AllocError, Global};
 

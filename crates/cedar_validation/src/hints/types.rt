@@ -1,8 +1,8 @@
 // Types that are not the wanted ones, or do not agree.
-use crate::extension_texts::is_read_by;
 use crate::hints::calls::is_plain;
 use crate::hints::records::difference;
 use crate::parts::{Operation, operation_at, operation_in, part_around, text_at};
+use cedar_host::extensions::checks::Constructor;
 use cedar_types::base::{
     BinaryOp, CedarType, EntityKind, Expr, ExprKind, IncompatibleTypes, Literal, LubContext,
     Template, UnexpectedType,
@@ -165,9 +165,10 @@ fn hint_for_comparison(
     actual: &CedarType,
 ) -> Result<String, AllocError> {
     if let ExprKind::Lit(Literal::String(said)) = &operand.kind {
-        for function in ["datetime", "duration"] {
-            if is_read_by(function, said.as_str()) {
-                return format!(in alloc; "a time is written `{function}(\"{said}\")`");
+        for function in [Constructor::Datetime, Constructor::Duration] {
+            if function.reads(said.as_str()) {
+                let name = function.name();
+                return format!(in alloc; "a time is written `{name}(\"{said}\")`");
             }
         }
         if said.parse::<i64>().is_ok() {
