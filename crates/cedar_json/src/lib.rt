@@ -18,8 +18,8 @@ mod values;
 mod whole;
 
 pub use faults::{Fault, ReadError};
-pub use forms::{FormError, FormFault};
-pub use policies::{Policies, ReadPolicy};
+pub use forms::{FormError, FormFault, Object, expected, items_of, said_by};
+pub use policies::{Policies, ReadPolicy, entity_uid};
 pub use schemas::schema_text;
 pub use steps::MAX_LENGTH;
 pub use translations::Translation;

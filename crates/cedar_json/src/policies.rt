@@ -10,5 +10,6 @@ mod patterns;
 mod sets;
 mod templates;
 
+pub use entities::entity_uid;
 pub use sets::Policies;
 pub use templates::ReadPolicy;
