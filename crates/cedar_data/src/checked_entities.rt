@@ -1,0 +1,135 @@
+// Lists of entities, checked by a schema.
+ghost use Rattle.std.specs.Prelude.{IfOk, IfSome};
+ghost use Rattle.cedar_types.specs.Schemas.Contents.{schema_of};
+ghost use Rattle.cedar_types.specs.Values.Stores.{ConformingStore};
+ghost use Rattle.cedar_conformance.specs.Entities.{store_of};
+
+use crate::closures::{Ancestors, add_ancestors};
+use crate::collected::{Collected, ExtensionText, Faults};
+use crate::faults::{DataError, Problem};
+use crate::listed::{List, Listed};
+use crate::unfit::add_unfit;
+use cedar_conformance::entities::{Entities, Entity};
+use cedar_conformance::entity_faults::EntityFault;
+use cedar_conformance::stores::check_entities;
+use cedar_json::value_alone;
+use cedar_types::base::{Loc, ValidatorSchema};
+use std::alloc::{AllocError, Global};
+use std::collections::{BTreeMap, BTreeSet};
+
+/// What a text of entities gives.
+#[derive(Debug, Drop)]
+pub struct CheckedEntities {
+    /// The entities of the text, and the declared actions that it does not list, where there is no mistake: all are as the
+    /// schema says.
+    pub conforming: Option<Entities>,
+    /// How many entities could be read.
+    pub count: usize,
+    /// The mistakes.
+    pub faults: Faults,
+    /// The texts that constructors of extension values are given. Whether these can read them is not asked.
+    pub texts: Vec<ExtensionText>,
+}
+
+/// Reads a list of entities in Cedar's form of JSON, and checks them by a schema. Of each entity `parents` has what it is in
+/// directly, and its ancestors are what is reached by these. The answer is an error where the text is no JSON that is read, or
+/// where memory is refused.
+pub fn check_entities_text(
+    alloc: Global,
+    schema: &ValidatorSchema,
+    text: &str,
+) -> Result<CheckedEntities, DataError>
+    ensures { IfOk result (λ c. IfSome c.conforming (λ e.
+        ConformingStore (schema_of schema.now) (store_of e))) }
+{
+    let value = value_alone(alloc, text)?;
+    let mut collected = Collected::new(alloc, schema);
+    let mut list = List::read(&mut collected, &value)?;
+    let declared = declared_ancestors(alloc, schema)?;
+    add_ancestors(&mut collected, &mut list, &declared)?;
+    add_unfit(&mut collected, &list)?;
+    let Collected {
+        mut faults,
+        texts,
+        ..
+    } = collected;
+    let count = list.entries.len();
+    let entities = stored(alloc, list, declared)?;
+    let conforming = keep_conforming(alloc, schema, entities, &mut faults)?;
+    faults.sort()?;
+    Ok(CheckedEntities {
+        conforming,
+        count,
+        faults,
+        texts,
+    })
+}
+
+/// The entities, where they are as the schema says and have no other mistake. What is said of them is listed, where no mistake
+/// is.
+fn keep_conforming(
+    alloc: Global,
+    schema: &ValidatorSchema,
+    entities: Entities,
+    faults: &mut Faults,
+) -> Result<Option<Entities>, AllocError>
+    ensures { IfOk result (λ o. IfSome o (λ e.
+        ConformingStore (schema_of schema.now) (store_of e))) }
+{
+    match check_entities(alloc, schema, &entities)? {
+        Ok(()) if faults.is_empty() => Ok(Some(entities)),
+        Ok(()) => Ok(None),
+        Err(found) => {
+            add_unseen(faults, found)?;
+            Ok(None)
+        }
+    }
+}
+
+/// What the declared actions are in, whatever the distance.
+fn declared_ancestors(alloc: Global, schema: &ValidatorSchema) -> Result<Ancestors, AllocError> {
+    let mut declared = BTreeMap::new(alloc);
+    let actions = schema.action_ids(alloc)?;
+    for action in &actions {
+        drop(declared.insert(action.name.clone()?, BTreeSet::new(alloc))?);
+    }
+    for action in &actions {
+        for below in action.descendants.iter() {
+            if let Some(ancestors) = declared.get_mut(below) {
+                ancestors.insert(action.name.clone()?)?;
+            }
+        }
+    }
+    Ok(declared)
+}
+
+/// The entities of a list, and the declared actions that it lacks.
+fn stored(alloc: Global, list: List<'_>, declared: Ancestors) -> Result<Entities, AllocError> {
+    let mut entities = Entities::new(alloc);
+    let List { entries, places: _ } = list;
+    for listed in entries {
+        let Listed { id, entity, .. } = listed;
+        entities.add(id, entity)?;
+    }
+    for (id, ancestors) in declared {
+        let action = Entity {
+            attributes: BTreeMap::new(alloc),
+            ancestors,
+            tags: BTreeMap::new(alloc),
+        };
+        entities.add(id, action)?;
+    }
+    Ok(entities)
+}
+
+/// Lists what is said of entities as a whole, where nothing else was found.
+fn add_unseen(faults: &mut Faults, found: Vec<EntityFault>) -> Result<(), AllocError> {
+    if !faults.is_empty() {
+        return Ok(());
+    }
+    let place = Loc { start: 0, end: 0 };
+    for fault in found {
+        faults.add(place, Problem::Entity(fault))?;
+    }
+    Ok(())
+}

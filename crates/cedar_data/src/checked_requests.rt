@@ -1,0 +1,278 @@
+// Requests, checked by a schema.
+ghost use Rattle.std.specs.Prelude.{IfOk, IfSome};
+ghost use Rattle.cedar_types.specs.Schemas.Contents.{schema_of};
+ghost use Rattle.cedar_typing.specs.Evaluation.Conformance.{ConformingRequest};
+ghost use Rattle.cedar_conformance.specs.Requests.{request_of};
+
+use crate::collected::{Collected, ExtensionText, Faults};
+use crate::faults::{DataError, Problem};
+use crate::mismatches::Mismatches;
+use crate::values::{Types, read_record};
+use cedar_conformance::requests::{Request, RequestFault, check_request};
+use cedar_conformance::values::Record;
+use cedar_json::{FormFault, Object, Value, ValueKind, entity_uid, value_alone};
+use cedar_reading::{ReadError, uid_alone};
+use cedar_types::base::{
+    Attributes, CedarType, EntityUID, Loc, OpenTag, ValidatorApplySpec, ValidatorSchema,
+};
+use std::alloc::{AllocError, Global};
+use std::collections::BTreeMap;
+
+/// The keys of a request.
+const KEYS: [&str; 4] = ["principal", "action", "resource", "context"];
+
+/// What a text of a request gives.
+#[derive(Debug, Drop)]
+pub struct CheckedRequest {
+    /// The request, where there is no mistake: it is one of those that the schema allows.
+    pub conforming: Option<Request>,
+    /// The mistakes.
+    pub faults: Faults,
+    /// The texts that constructors of extension values are given. Whether these can read them is not asked.
+    pub texts: Vec<ExtensionText>,
+}
+
+/// Reads a request in Cedar's form of JSON, and checks it by a schema. An id is an object of `type` and `id`, or a text as in a
+/// policy. The answer is an error where the text is no JSON that is read, or where memory is refused.
+pub fn check_request_text(
+    alloc: Global,
+    schema: &ValidatorSchema,
+    text: &str,
+) -> Result<CheckedRequest, DataError>
+    ensures { IfOk result (λ c. IfSome c.conforming (λ r.
+        ConformingRequest (schema_of schema.now) (request_of r))) }
+{
+    let value = value_alone(alloc, text)?;
+    let mut collected = Collected::new(alloc, schema);
+    let object = Object::of(&value);
+    let conforming = match collected.keep(object)? {
+        Some(object) => read_conforming(schema, &mut collected, object)?,
+        None => None,
+    };
+    let Collected {
+        mut faults,
+        texts,
+        ..
+    } = collected;
+    faults.sort()?;
+    Ok(CheckedRequest {
+        conforming,
+        faults,
+        texts,
+    })
+}
+
+/// Reads a request, and answers it where the schema allows it and it has no mistake.
+fn read_conforming(
+    schema: &ValidatorSchema,
+    collected: &mut Collected<'_>,
+    object: Object<'_>,
+) -> Result<Option<Request>, AllocError>
+    ensures { IfOk result (λ o. IfSome o (λ r.
+        ConformingRequest (schema_of schema.now) (request_of r))) }
+{
+    let Some(request) = read_request(collected, object)? else {
+        return Ok(None);
+    };
+    match check_request(collected.alloc, schema, &request)? {
+        Ok(()) if collected.faults.is_empty() => Ok(Some(request)),
+        Ok(()) => Ok(None),
+        Err(fault) => {
+            add_unfit(schema, collected, &request, object, fault)?;
+            Ok(None)
+        }
+    }
+}
+
+/// Reads a request. Where one of its parts is missing or has another form, there is none.
+fn read_request(
+    collected: &mut Collected<'_>,
+    object: Object<'_>,
+) -> Result<Option<Request>, AllocError> {
+    for (key, _) in object.entries {
+        if !KEYS.iter().any(|own| *own == key.name.as_str()) {
+            let problem = Problem::Form(FormFault::UnknownKey);
+            collected.faults.add(key.place, problem)?;
+        }
+    }
+    let principal = read_id(collected, object, "principal")?;
+    let action = read_id(collected, object, "action")?;
+    let resource = read_id(collected, object, "resource")?;
+    let schema = collected.schema;
+    let attributes = match &action {
+        Some(action) => context_attributes(schema, action),
+        None => None,
+    };
+    let context = read_context(collected, object, attributes)?;
+    match (principal, action, resource, context) {
+        (Some(principal), Some(action), Some(resource), Some(context)) => Ok(Some(Request {
+            principal,
+            action,
+            resource,
+            context,
+        })),
+        _ => Ok(None),
+    }
+}
+
+fn read_id(
+    collected: &mut Collected<'_>,
+    object: Object<'_>,
+    key: &'static str,
+) -> Result<Option<EntityUID>, AllocError> {
+    let value = object.need(key);
+    let Some(value) = collected.keep(value)? else {
+        return Ok(None);
+    };
+    let id = match &value.kind {
+        ValueKind::Text(text) => id_in_text(collected, value, text.as_str())?,
+        _ => {
+            let id = entity_uid(collected.alloc, value);
+            collected.keep(id)?
+        }
+    };
+    if let Some(id) = &id {
+        collected.check_id(value.place, id)?;
+    }
+    Ok(id)
+}
+
+/// The id that a text says as in a policy.
+fn id_in_text(
+    collected: &mut Collected<'_>,
+    value: &Value,
+    text: &str,
+) -> Result<Option<EntityUID>, AllocError> {
+    match uid_alone(collected.alloc, text) {
+        Ok(id) => Ok(Some(id)),
+        Err(ReadError::Memory(error)) => Err(error),
+        Err(ReadError::At(_, _)) => {
+            let problem = Problem::Form(FormFault::Expected("an id, as `User::\"alice\"`,"));
+            collected.faults.add(value.place, problem)?;
+            Ok(None)
+        }
+    }
+}
+
+fn read_context(
+    collected: &mut Collected<'_>,
+    object: Object<'_>,
+    attributes: Option<&Attributes>,
+) -> Result<Option<Record>, AllocError> {
+    let context = object.need("context");
+    let Some(context) = collected.keep(context)? else {
+        return Ok(None);
+    };
+    let entries = Object::of(context);
+    let Some(entries) = collected.keep(entries)? else {
+        return Ok(None);
+    };
+    let types = match attributes {
+        Some(attributes) => Types::Attributes(attributes),
+        None => Types::Unknown,
+    };
+    Ok(Some(read_record(collected, entries, types)?))
+}
+
+/// The attributes of the context that a declared action has.
+fn context_attributes<'a>(
+    schema: &'a ValidatorSchema,
+    action: &EntityUID,
+) -> Option<&'a Attributes> {
+    let applies_to = schema.get_action_id(action)?.defined()?;
+    let context: &CedarType = &applies_to.context;
+    match context {
+        CedarType::Record { attributes, .. } => Some(attributes),
+        _ => None,
+    }
+}
+
+/// Lists the mistakes of a request that is none of those that the schema allows, at least its first one.
+fn add_unfit(
+    schema: &ValidatorSchema,
+    collected: &mut Collected<'_>,
+    request: &Request,
+    object: Object<'_>,
+    fault: RequestFault,
+) -> Result<(), AllocError> {
+    let declared = schema.get_action_id(&request.action);
+    if let Some(applies_to) = declared.and_then(|action| action.defined()) {
+        add_unfit_types(collected, request, object, applies_to)?;
+        add_in_context(collected, request, object, applies_to)?;
+    }
+    if collected.faults.is_empty() {
+        let place = place_at(object, key_of(&fault));
+        collected.faults.add(place, Problem::Request(fault))?;
+    }
+    Ok(())
+}
+
+/// Lists that the action applies to no principal and to no resource of these types.
+fn add_unfit_types(
+    collected: &mut Collected<'_>,
+    request: &Request,
+    object: Object<'_>,
+    applies_to: &ValidatorApplySpec,
+) -> Result<(), AllocError> {
+    let principal = &request.principal.entity_type;
+    if !applies_to.principal_apply_spec.contains(principal) {
+        let fault = RequestFault::PrincipalType(principal.clone()?);
+        let place = place_at(object, "principal");
+        collected.faults.add(place, Problem::Request(fault))?;
+    }
+    let resource = &request.resource.entity_type;
+    if !applies_to.resource_apply_spec.contains(resource) {
+        let fault = RequestFault::ResourceType(resource.clone()?);
+        let place = place_at(object, "resource");
+        collected.faults.add(place, Problem::Request(fault))?;
+    }
+    Ok(())
+}
+
+/// Lists the mistakes of a context.
+fn add_in_context(
+    collected: &mut Collected<'_>,
+    request: &Request,
+    object: Object<'_>,
+    applies_to: &ValidatorApplySpec,
+) -> Result<(), AllocError> {
+    let Some(entries) = context_in(object) else {
+        return Ok(());
+    };
+    let context: &CedarType = &applies_to.context;
+    match context {
+        CedarType::Record {
+            attributes,
+            is_open,
+        } => {
+            let alloc = collected.alloc;
+            let is_open: OpenTag = *is_open;
+            let mut found = Mismatches::new(alloc, &mut collected.faults, None);
+            found.add_in_record(attributes, is_open, &request.context, entries)
+        }
+        _ => Ok(()),
+    }
+}
+
+fn context_in(object: Object<'_>) -> Option<Object<'_>> {
+    Object::of(object.get("context")?).ok()
+}
+
+/// The key at which a request has a mistake.
+fn key_of(fault: &RequestFault) -> &'static str {
+    match fault {
+        RequestFault::UndeclaredAction(_) => "action",
+        RequestFault::ExternalAction(_) => "action",
+        RequestFault::PrincipalType(_) => "principal",
+        RequestFault::ResourceType(_) => "resource",
+        RequestFault::Context(_) => "context",
+    }
+}
+
+/// Where the value of a key stands.
+fn place_at(object: Object<'_>, key: &str) -> Loc {
+    match object.get(key) {
+        Some(value) => value.place,
+        None => object.place,
+    }
+}

@@ -1,0 +1,226 @@
+// The ancestors of listed entities: whatever is reached by parents.
+use crate::collected::Collected;
+use crate::faults::Problem;
+use crate::listed::{List, Listed, Parent};
+use cedar_types::base::{EntityUID, Loc};
+use std::alloc::{AllocError, Global};
+use std::collections::{BTreeMap, BTreeSet};
+
+/// How many ancestors the entities of a text may have, all together.
+pub const MAX_ANCESTORS: usize = 4_000_000;
+
+/// Ids by ids.
+pub(crate) type Ancestors = BTreeMap<EntityUID, BTreeSet<EntityUID>>;
+
+/// Gives each entity of a list its ancestors. Actions that are not listed have those that are declared. Entities that are in a
+/// circle, or below one, get none, and each circle is listed as a mistake.
+pub(crate) fn add_ancestors(
+    collected: &mut Collected<'_>,
+    list: &mut List<'_>,
+    declared: &Ancestors,
+) -> Result<(), AllocError> {
+    let mut order = Order::new(collected.alloc, list)?;
+    let mut room = MAX_ANCESTORS;
+    for _ in 0..list.entries.len() {
+        let Some(at) = order.next()? else {
+            break;
+        };
+        let ancestors = ancestors_of(collected.alloc, list, declared, at)?;
+        let Some(left) = room.checked_sub(ancestors.len()) else {
+            return add_excess(collected, list, at);
+        };
+        room = left;
+        if let Some(listed) = list.entries.get_mut(at) {
+            listed.entity.ancestors = ancestors;
+        }
+    }
+    add_cycles(collected, list, &order)
+}
+
+/// Lists that there are too many ancestors, at the entity where that is seen.
+fn add_excess(collected: &mut Collected<'_>, list: &List<'_>, at: usize) -> Result<(), AllocError> {
+    let place = match list.entries.get(at) {
+        Some(listed) => listed.place,
+        None => Loc { start: 0, end: 0 },
+    };
+    collected.faults.add(place, Problem::TooManyAncestors)
+}
+
+/// The parents of an entity, and what these are in.
+fn ancestors_of(
+    alloc: Global,
+    list: &List<'_>,
+    declared: &Ancestors,
+    at: usize,
+) -> Result<BTreeSet<EntityUID>, AllocError> {
+    let mut ancestors = BTreeSet::new(alloc);
+    let Some(listed) = list.entries.get(at) else {
+        return Ok(ancestors);
+    };
+    for parent in &listed.parents {
+        ancestors.insert(parent.id.clone()?)?;
+        let above = match list.get(&parent.id) {
+            Some(own) => Some(&own.entity.ancestors),
+            None => declared.get(&parent.id),
+        };
+        if let Some(above) = above {
+            for id in above.iter() {
+                ancestors.insert(id.clone()?)?;
+            }
+        }
+    }
+    Ok(ancestors)
+}
+
+/// The entities of a list, each after the listed ones that it is in.
+#[derive(Drop)]
+struct Order {
+    /// Of each entity those that have it as a parent.
+    children: Vec<Vec<usize>>,
+    /// How many parents of each entity did not come yet.
+    waiting: Vec<usize>,
+    ready: Vec<usize>,
+}
+
+impl Order {
+    /// All are still to come.
+    fn new(alloc: Global, list: &List<'_>) -> Result<Order, AllocError> {
+        let mut order = Order {
+            children: Vec::with_capacity(alloc, list.entries.len())?,
+            waiting: Vec::with_capacity(alloc, list.entries.len())?,
+            ready: Vec::new(alloc),
+        };
+        for _ in &list.entries {
+            order.children.push(Vec::new(alloc))?;
+        }
+        for (at, listed) in list.entries.iter().enumerate() {
+            let mut count = 0usize;
+            for parent in &listed.parents {
+                if let Some(above) = list.places.get(&parent.id) {
+                    count = count.saturating_add(1);
+                    order.add_child(*above, at)?;
+                }
+            }
+            order.waiting.push(count)?;
+            if count == 0 {
+                order.ready.push(at)?;
+            }
+        }
+        Ok(order)
+    }
+
+    fn add_child(&mut self, above: usize, at: usize) -> Result<(), AllocError> {
+        if let Some(children) = self.children.get_mut(above) {
+            children.push(at)?;
+        }
+        Ok(())
+    }
+
+    /// The next one, if one is ready.
+    fn next(&mut self) -> Result<Option<usize>, AllocError> {
+        let Some(at) = self.ready.pop() else {
+            return Ok(None);
+        };
+        if let Some(children) = self.children.get(at) {
+            for child in children {
+                if let Some(waiting) = self.waiting.get_mut(*child) {
+                    *waiting = waiting.saturating_sub(1);
+                    if *waiting == 0 {
+                        self.ready.push(*child)?;
+                    }
+                }
+            }
+        }
+        Ok(Some(at))
+    }
+
+    /// Whether an entity did not come.
+    fn is_left(&self, at: usize) -> bool {
+        self.waiting.get(at).copied().unwrap_or(0) > 0
+    }
+
+    /// A parent of an entity that did not come either, and where it stands in the list. Each entity that is left has one.
+    fn parent_left<'a>(
+        &self,
+        list: &List<'_>,
+        listed: &'a Listed<'_>,
+    ) -> Option<(&'a Parent, usize)> {
+        for parent in &listed.parents {
+            if let Some(above) = list.places.get(&parent.id) {
+                if self.is_left(*above) {
+                    return Some((parent, *above));
+                }
+            }
+        }
+        None
+    }
+}
+
+/// Lists circles: each entity that did not come leads to one.
+fn add_cycles(
+    collected: &mut Collected<'_>,
+    list: &List<'_>,
+    order: &Order,
+) -> Result<(), AllocError> {
+    let mut seen = BTreeMap::new(collected.alloc);
+    for start in 0..list.entries.len() {
+        if order.is_left(start) && !seen.contains_key(&start) {
+            if let Some(at) = find_repeated(list, order, &mut seen, start)? {
+                add_cycle(collected, list, order, at)?;
+            }
+        }
+    }
+    Ok(())
+}
+
+/// Goes from an entity from parent to parent, up to one that was seen before: that one, if it was seen on this way.
+fn find_repeated(
+    list: &List<'_>,
+    order: &Order,
+    seen: &mut BTreeMap<usize, usize>,
+    start: usize,
+) -> Result<Option<usize>, AllocError> {
+    let mut at = start;
+    for _ in 0..=list.entries.len() {
+        if let Some(way) = seen.get(&at) {
+            return Ok((*way == start).then_some(at));
+        }
+        drop(seen.insert(at, start)?);
+        let Some(listed) = list.entries.get(at) else {
+            return Ok(None);
+        };
+        let Some((_, above)) = order.parent_left(list, listed) else {
+            return Ok(None);
+        };
+        at = above;
+    }
+    Ok(None)
+}
+
+/// Lists the circle that goes through an entity, where that names its parent.
+fn add_cycle(
+    collected: &mut Collected<'_>,
+    list: &List<'_>,
+    order: &Order,
+    start: usize,
+) -> Result<(), AllocError> {
+    let mut ids = Vec::new(collected.alloc);
+    let mut place = None;
+    let mut at = start;
+    for _ in 0..list.entries.len() {
+        let Some(listed) = list.entries.get(at) else {
+            break;
+        };
+        let Some((parent, above)) = order.parent_left(list, listed) else {
+            break;
+        };
+        ids.push(listed.id.clone()?)?;
+        place = place.or(Some(parent.place));
+        at = above;
+        if at == start {
+            break;
+        }
+    }
+    let place = place.unwrap_or(Loc { start: 0, end: 0 });
+    collected.faults.add(place, Problem::Cycle(ids))
+}

@@ -1,0 +1,122 @@
+// What is found while data is read and checked.
+use crate::faults::{DataFault, Problem};
+use cedar_json::FormError;
+use cedar_types::base::{EntityUID, Loc, ValidatorEntityTypeKind, ValidatorSchema};
+use std::alloc::{AllocError, Global};
+use std::rc::RcStr;
+
+/// How many mistakes of a text are listed.
+pub const MAX_FAULTS: usize = 100;
+
+/// The mistakes of a text: those that were found first, and whether there are more.
+#[derive(Debug, Drop)]
+pub struct Faults {
+    listed: Vec<DataFault>,
+    has_more: bool,
+}
+
+impl Faults {
+    /// None so far.
+    pub fn new(alloc: Global) -> Faults {
+        Faults {
+            listed: Vec::new(alloc),
+            has_more: false,
+        }
+    }
+
+    /// The mistakes, at most `MAX_FAULTS`, in the order of their places once all are found.
+    pub fn listed(&self) -> &[DataFault] {
+        self.listed.as_slice()
+    }
+
+    /// Whether there are more than are listed.
+    pub fn has_more(&self) -> bool {
+        self.has_more
+    }
+
+    /// Whether there is none.
+    pub fn is_empty(&self) -> bool {
+        self.listed.is_empty()
+    }
+
+    /// Adds a mistake. Where memory is refused, nothing changes.
+    pub(crate) fn add(&mut self, place: Loc, problem: Problem) -> Result<(), AllocError> {
+        if self.listed.len() >= MAX_FAULTS {
+            self.has_more = true;
+            return Ok(());
+        }
+        self.listed.push(DataFault { place, problem })?;
+        Ok(())
+    }
+
+    /// Orders the mistakes by their places.
+    pub(crate) fn sort(&mut self) -> Result<(), AllocError> {
+        self.listed.sort_by_key(|it| (it.place.start, it.place.end))
+    }
+}
+
+/// A text that a constructor of extension values is given, and where it stands.
+#[derive(Debug, Drop)]
+pub struct ExtensionText {
+    pub place: Loc,
+    /// The name of the constructor.
+    pub function: &'static str,
+    pub text: RcStr,
+}
+
+/// What data is read by, and what was found so far.
+#[derive(Drop)]
+pub(crate) struct Collected<'a> {
+    pub(crate) alloc: Global,
+    pub(crate) schema: &'a ValidatorSchema,
+    pub(crate) faults: Faults,
+    pub(crate) texts: Vec<ExtensionText>,
+}
+
+impl<'a> Collected<'a> {
+    /// Nothing so far.
+    pub(crate) fn new(alloc: Global, schema: &'a ValidatorSchema) -> Collected<'a> {
+        Collected {
+            alloc,
+            schema,
+            faults: Faults::new(alloc),
+            texts: Vec::new(alloc),
+        }
+    }
+
+    /// What was read, or `None` where it has another form than it has to have, which is listed then.
+    pub(crate) fn keep<T: Drop>(
+        &mut self,
+        read: Result<T, FormError>,
+    ) -> Result<Option<T>, AllocError> {
+        match read {
+            Ok(value) => Ok(Some(value)),
+            Err(FormError::Memory(error)) => Err(error),
+            Err(FormError::At(start, fault)) => {
+                self.faults
+                    .add(Loc { start, end: start }, Problem::Form(fault))?;
+                Ok(None)
+            }
+        }
+    }
+
+    /// Lists an id that its type, which is enumerated, does not have.
+    pub(crate) fn check_id(&mut self, place: Loc, id: &EntityUID) -> Result<(), AllocError> {
+        if is_unknown_id(self.schema, id) {
+            self.faults.add(place, Problem::UnknownId(id.clone()?))?;
+        }
+        Ok(())
+    }
+}
+
+/// Whether the type of an id is enumerated, and does not have it.
+fn is_unknown_id(schema: &ValidatorSchema, id: &EntityUID) -> bool {
+    let Some(declared) = schema.get_entity_type(&id.entity_type) else {
+        return false;
+    };
+    match &declared.kind {
+        ValidatorEntityTypeKind::Enum(ids) => !ids.iter().any(|own| own == &id.eid),
+        ValidatorEntityTypeKind::Standard(_) => false,
+        ValidatorEntityTypeKind::External => false,
+    }
+}

@@ -1,0 +1,131 @@
+// What is wrong with data, and where.
+use cedar_conformance::entity_faults::EntityFault;
+use cedar_conformance::faults::{Mismatch, Step};
+use cedar_conformance::requests::RequestFault;
+use cedar_json::{Fault, FormFault, ReadError};
+use cedar_types::base::{EntityUID, Loc};
+use std::alloc::{AllocError, AllocFailed};
+use std::fmt;
+use thiserror::Error;
+
+/// Whose value has a mistake.
+#[derive(Debug, Drop)]
+pub enum Owner {
+    /// The entity of this id, by its attributes or tags.
+    Entity(EntityUID),
+    /// The context of a request.
+    Context,
+}
+
+impl fmt::Display for Owner {
+    fn fmt<W: fmt::Write>(&self, f: &mut fmt::Formatter<W>) -> fmt::Result {
+        match self {
+            Owner::Entity(id) => write!(f, "{id}"),
+            Owner::Context => write!(f, "context"),
+        }
+    }
+}
+
+/// What is wrong at a place of data.
+#[derive(Debug, Drop)]
+pub enum Problem {
+    /// The part is not of the form that it has to have there.
+    Form(FormFault),
+    /// A value is not as the schema says, at the end of these steps from its owner.
+    Value(Owner, Vec<Step>, Mismatch),
+    /// An entity is not as the schema says, in another way than by a value.
+    Entity(EntityFault),
+    /// A request is not one of those that the schema allows, in another way than by its context.
+    Request(RequestFault),
+    /// The type of this id is enumerated, and does not have it.
+    UnknownId(EntityUID),
+    /// The entity of this id is listed before, at this place.
+    SameId(EntityUID, Loc),
+    /// Each of these entities has the next one as a parent, and the last one has the first.
+    Cycle(Vec<EntityUID>),
+    /// All entities together have more than `MAX_ANCESTORS` ancestors.
+    TooManyAncestors,
+}
+
+impl fmt::Display for Problem {
+    fn fmt<W: fmt::Write>(&self, f: &mut fmt::Formatter<W>) -> fmt::Result {
+        match self {
+            Problem::Form(fault) => write!(f, "{fault}"),
+            Problem::Value(owner, steps, mismatch) => {
+                write!(f, "{owner}")?;
+                for step in steps {
+                    write!(f, "{step}")?;
+                }
+                write!(f, ": {mismatch}")
+            }
+            Problem::Entity(fault) => write!(f, "{fault}"),
+            Problem::Request(fault) => write!(f, "{fault}"),
+            Problem::UnknownId(id) => {
+                write!(
+                    f,
+                    "{id}: the type `{}` does not have this id",
+                    id.entity_type
+                )
+            }
+            Problem::SameId(id, _) => write!(f, "{id}: it is listed twice"),
+            Problem::Cycle(ids) => write_cycle(f, ids),
+            Problem::TooManyAncestors => write!(f, "the entities have too many ancestors"),
+        }
+    }
+}
+
+/// How many entities of a cycle are named.
+const MAX_NAMED: usize = 5;
+
+/// Names the first entities of a cycle, and the first again at its end.
+fn write_cycle<W: fmt::Write>(f: &mut fmt::Formatter<W>, ids: &Vec<EntityUID>) -> fmt::Result {
+    write!(f, "parents in a circle: ")?;
+    for id in ids.iter().take(MAX_NAMED) {
+        write!(f, "{id} in ")?;
+    }
+    let others = ids.len().saturating_sub(MAX_NAMED);
+    if others > 0 {
+        write!(f, "{others} others in ")?;
+    }
+    match ids.first() {
+        Some(first) => write!(f, "{first}"),
+        None => Ok(()),
+    }
+}
+
+/// A mistake in data, and the part of the text that has it.
+#[derive(Debug, Drop)]
+pub struct DataFault {
+    pub place: Loc,
+    pub problem: Problem,
+}
+
+/// Why a text is no data: it is no JSON that is read, by its first fault and at which byte it stands; or memory was refused.
+#[derive(Debug, Drop, Error)]
+pub enum DataError {
+    #[error("memory was refused")]
+    Memory(AllocError),
+    #[error("at byte {0}: {1}")]
+    At(usize, Fault),
+}
+
+impl From<AllocError> for DataError {
+    fn from(error: AllocError) -> DataError {
+        DataError::Memory(error)
+    }
+}
+
+impl<T: Drop> From<AllocFailed<T>> for DataError {
+    fn from(error: AllocFailed<T>) -> DataError {
+        DataError::Memory(AllocError::from(error))
+    }
+}
+
+impl From<ReadError> for DataError {
+    fn from(error: ReadError) -> DataError {
+        match error {
+            ReadError::Memory(error) => DataError::Memory(error),
+            ReadError::At(start, fault) => DataError::At(start, fault),
+        }
+    }
+}

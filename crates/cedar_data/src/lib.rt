@@ -1,0 +1,19 @@
+//! Entities and requests in Cedar's forms of JSON, as values that a schema checks, and each of their
+//! mistakes with the part of the text that has it.
+#![tactic(auto)]
+
+mod checked_entities;
+mod checked_requests;
+mod closures;
+mod collected;
+mod faults;
+mod listed;
+mod mismatches;
+mod unfit;
+mod values;
+
+pub use checked_entities::{CheckedEntities, check_entities_text};
+pub use checked_requests::{CheckedRequest, check_request_text};
+pub use closures::MAX_ANCESTORS;
+pub use collected::{ExtensionText, Faults, MAX_FAULTS};
+pub use faults::{DataError, DataFault, Owner, Problem};

@@ -1,0 +1,168 @@
+// The mistakes of entities that are not as a schema says.
+use crate::collected::Collected;
+use crate::faults::Problem;
+use crate::listed::{List, Listed, attribute_types, tag_types};
+use crate::mismatches::Mismatches;
+use crate::values::Types;
+use cedar_conformance::entity_faults::{EntityFault, EntityProblem};
+use cedar_conformance::stored::check_entity;
+use cedar_json::Object;
+use cedar_types::base::{EntityUID, Loc, OpenTag, ValidatorSchema};
+use std::alloc::AllocError;
+
+/// Lists the mistakes of the entities that are not as the schema says.
+pub(crate) fn add_unfit(collected: &mut Collected<'_>, list: &List<'_>) -> Result<(), AllocError> {
+    for listed in &list.entries {
+        if collected.faults.has_more() {
+            return Ok(());
+        }
+        let checked = check_entity(
+            collected.alloc,
+            collected.schema,
+            &listed.id,
+            &listed.entity,
+        )?;
+        if let Err(problem) = checked {
+            add_problems(collected, listed, problem)?;
+        }
+    }
+    Ok(())
+}
+
+/// Lists the mistakes of an entity whose first one this is.
+fn add_problems(
+    collected: &mut Collected<'_>,
+    listed: &Listed<'_>,
+    problem: EntityProblem,
+) -> Result<(), AllocError> {
+    match &problem {
+        EntityProblem::Attribute(_)
+        | EntityProblem::Tag(_)
+        | EntityProblem::UndeclaredTags
+        | EntityProblem::Ancestor(_) => {
+            add_in_attributes(collected, listed)?;
+            add_in_tags(collected, listed)?;
+            add_in_parents(collected, listed)
+        }
+        EntityProblem::UndeclaredAncestor(_) => add_in_action(collected, listed, problem),
+        _ => {
+            let place = place_of(listed, &problem);
+            add_problem(collected, listed, place, problem)
+        }
+    }
+}
+
+fn add_problem(
+    collected: &mut Collected<'_>,
+    listed: &Listed<'_>,
+    place: Loc,
+    problem: EntityProblem,
+) -> Result<(), AllocError> {
+    let id = listed.id.clone()?;
+    let problem = Problem::Entity(EntityFault { id, problem });
+    collected.faults.add(place, problem)
+}
+
+/// Where an entity is not as the schema says.
+fn place_of(listed: &Listed<'_>, problem: &EntityProblem) -> Loc {
+    match problem {
+        EntityProblem::HasAttributes => place_of_key(listed, "attrs"),
+        EntityProblem::HasTags => place_of_key(listed, "tags"),
+        EntityProblem::UndeclaredTags => place_of_key(listed, "tags"),
+        EntityProblem::HasAncestors => place_of_key(listed, "parents"),
+        EntityProblem::MissingAncestor(_) => place_of_key(listed, "parents"),
+        _ => listed.place,
+    }
+}
+
+/// Where a key of an entity stands, or else its id.
+fn place_of_key(listed: &Listed<'_>, name: &str) -> Loc {
+    for (key, _) in listed.object.entries {
+        if key.name.as_str() == name {
+            return key.place;
+        }
+    }
+    listed.place
+}
+
+fn add_in_attributes(collected: &mut Collected<'_>, listed: &Listed<'_>) -> Result<(), AllocError> {
+    let Some(object) = object_at(listed.object, "attrs") else {
+        return Ok(());
+    };
+    let Types::Attributes(attributes) = attribute_types(collected.schema, &listed.id) else {
+        return Ok(());
+    };
+    let fields = &listed.entity.attributes;
+    let closed = OpenTag::ClosedAttributes;
+    let alloc = collected.alloc;
+    let mut found = Mismatches::new(alloc, &mut collected.faults, Some(&listed.id));
+    found.add_in_record(attributes, closed, fields, object)
+}
+
+fn add_in_tags(collected: &mut Collected<'_>, listed: &Listed<'_>) -> Result<(), AllocError> {
+    let Some(object) = object_at(listed.object, "tags") else {
+        return Ok(());
+    };
+    let tags = &listed.entity.tags;
+    if let Types::Tags(ty) = tag_types(collected.schema, &listed.id) {
+        let alloc = collected.alloc;
+        let mut found = Mismatches::new(alloc, &mut collected.faults, Some(&listed.id));
+        return found.add_in_tags(ty, tags, object);
+    }
+    if tags.is_empty() {
+        return Ok(());
+    }
+    let place = place_of_key(listed, "tags");
+    add_problem(collected, listed, place, EntityProblem::UndeclaredTags)
+}
+
+/// The object at a key, if there is one.
+fn object_at<'a>(object: Object<'a>, name: &str) -> Option<Object<'a>> {
+    Object::of(object.get(name)?).ok()
+}
+
+/// Lists the parents that an entity of this type may not have. An ancestor that is none of them is its parent's mistake.
+fn add_in_parents(collected: &mut Collected<'_>, listed: &Listed<'_>) -> Result<(), AllocError> {
+    for parent in &listed.parents {
+        if !may_be_in(collected.schema, &listed.id, &parent.id) {
+            let problem = EntityProblem::Ancestor(parent.id.clone()?);
+            add_problem(collected, listed, parent.place, problem)?;
+        }
+    }
+    Ok(())
+}
+
+fn may_be_in(schema: &ValidatorSchema, id: &EntityUID, parent: &EntityUID) -> bool {
+    match schema.get_entity_type(&parent.entity_type) {
+        Some(declared) => declared.descendants.contains(&id.entity_type),
+        None => false,
+    }
+}
+
+/// Lists the parents that an action is not declared to be in. Where each is declared, the mistake that this is stays.
+fn add_in_action(
+    collected: &mut Collected<'_>,
+    listed: &Listed<'_>,
+    problem: EntityProblem,
+) -> Result<(), AllocError> {
+    let mut is_found = false;
+    for parent in &listed.parents {
+        if !is_declared_in(collected.schema, &listed.id, &parent.id) {
+            let undeclared = EntityProblem::UndeclaredAncestor(parent.id.clone()?);
+            add_problem(collected, listed, parent.place, undeclared)?;
+            is_found = true;
+        }
+    }
+    if is_found {
+        return Ok(());
+    }
+    let place = place_of_key(listed, "parents");
+    add_problem(collected, listed, place, problem)
+}
+
+fn is_declared_in(schema: &ValidatorSchema, id: &EntityUID, parent: &EntityUID) -> bool {
+    match schema.get_action_id(parent) {
+        Some(action) => action.descendants.contains(id),
+        None => false,
+    }
+}

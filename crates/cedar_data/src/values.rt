@@ -1,0 +1,256 @@
+// Values of JSON as the values that they say. The type that the schema has for a value decides between its forms: without one an
+// object is a record, unless its key is `__entity` or `__extn`.
+use crate::collected::{Collected, ExtensionText};
+use cedar_conformance::values::{Record, Value};
+use cedar_json::{FormError, FormFault, Key, Object, ValueKind, entity_uid, expected, said_by};
+use cedar_types::base::{AttributeType, Attributes, CedarType, Name};
+use std::alloc::AllocError;
+use std::collections::BTreeMap;
+use std::rc::RcStr;
+
+/// What the constructors of extension values are called, each with the type of its values.
+const CONSTRUCTORS: [(&str, &str); 4] = [
+    ("ip", "ipaddr"),
+    ("decimal", "decimal"),
+    ("datetime", "datetime"),
+    ("duration", "duration"),
+];
+
+/// What is expected in place of the name of another function.
+const CONSTRUCTOR: &str = "`ip`, `decimal`, `datetime` or `duration`";
+
+/// Reads a value, of which the schema has this type.
+#[cycle(read_values)]
+pub(crate) fn read_value(
+    value: &cedar_json::Value,
+    collected: &mut Collected<'_>,
+    ty: Option<&CedarType>,
+) -> Result<Value, FormError> {
+    match &value.kind {
+        ValueKind::Boolean(truth) => Ok(Value::Bool(*truth)),
+        ValueKind::Integer(number) => Ok(Value::Long(*number)),
+        ValueKind::Text(text) => text_or_extension(collected, value, text, ty),
+        ValueKind::Array(items) => read_set(items, collected, element_type(ty)),
+        ValueKind::Object(entries) => match object_form(value, ty)? {
+            ObjectForm::Entity => read_entity(collected, value),
+            ObjectForm::Call(call) => read_call(collected, call),
+            ObjectForm::Record => read_fields(entries, collected, attributes_in(ty)),
+        },
+    }
+}
+
+/// Reads the members of a set.
+#[cycle(read_values)]
+fn read_set(
+    items: &Vec<cedar_json::Value>,
+    collected: &mut Collected<'_>,
+    ty: Option<&CedarType>,
+) -> Result<Value, FormError> {
+    let mut members = Vec::with_capacity(collected.alloc, items.len())?;
+    for item in items {
+        members.push(read_value(item, collected, ty)?)?;
+    }
+    Ok(Value::Set(members))
+}
+
+/// Reads the entries of a record.
+#[cycle(read_values)]
+fn read_fields(
+    entries: &Vec<(Key, cedar_json::Value)>,
+    collected: &mut Collected<'_>,
+    attributes: Option<&Attributes>,
+) -> Result<Value, FormError> {
+    let mut fields = BTreeMap::new(collected.alloc);
+    for (key, value) in entries {
+        let field = read_value(value, collected, type_of_attribute(attributes, &key.name))?;
+        drop(fields.insert(key.name.clone()?, field)?);
+    }
+    Ok(Value::Record(fields))
+}
+
+/// Reads the entries of an object as a record, and lists those that have another form than they have to have.
+pub(crate) fn read_record(
+    collected: &mut Collected<'_>,
+    object: Object<'_>,
+    types: Types<'_>,
+) -> Result<Record, AllocError> {
+    let mut fields = BTreeMap::new(collected.alloc);
+    for (key, value) in object.entries {
+        let read = read_value(value, collected, types.of(&key.name));
+        if let Some(field) = collected.keep(read)? {
+            drop(fields.insert(key.name.clone()?, field)?);
+        }
+    }
+    Ok(fields)
+}
+
+/// The types that the entries of a record have by the schema.
+#[derive(Clone, Copy)]
+pub(crate) enum Types<'a> {
+    /// They are not known.
+    Unknown,
+    /// Each of its own.
+    Attributes(&'a Attributes),
+    /// All the same.
+    Tags(&'a CedarType),
+}
+
+impl<'a> Types<'a> {
+    fn of(self, name: &RcStr) -> Option<&'a CedarType> {
+        match self {
+            Types::Unknown => None,
+            Types::Attributes(attributes) => type_of_attribute(Some(attributes), name),
+            Types::Tags(ty) => Some(ty),
+        }
+    }
+}
+
+/// What an object says.
+#[derive(Clone, Copy)]
+enum ObjectForm<'a> {
+    Entity,
+    /// The call of a constructor.
+    Call(Object<'a>),
+    Record,
+}
+
+/// What an object says where a value of this type belongs.
+fn object_form<'a>(
+    value: &'a cedar_json::Value,
+    ty: Option<&CedarType>,
+) -> Result<ObjectForm<'a>, FormError> {
+    let object = Object::of(value)?;
+    if let Some(inner) = object.get("__expr") {
+        return Err(expected(
+            inner,
+            "a value in place of `__expr`, which Cedar no longer reads",
+        ));
+    }
+    if object.get("__entity").is_some() {
+        return Ok(ObjectForm::Entity);
+    }
+    if let Some(call) = object.get("__extn") {
+        object.allow(&["__extn"])?;
+        return Ok(ObjectForm::Call(Object::of(call)?));
+    }
+    let is_id = object.get("type").is_some() || object.get("id").is_some();
+    let is_call = object.get("fn").is_some();
+    match ty {
+        Some(CedarType::Entity(_)) if is_id => Ok(ObjectForm::Entity),
+        Some(CedarType::Extension(_)) if is_call => Ok(ObjectForm::Call(object)),
+        _ => Ok(ObjectForm::Record),
+    }
+}
+
+/// Reads the id of an entity.
+fn read_entity(
+    collected: &mut Collected<'_>,
+    value: &cedar_json::Value,
+) -> Result<Value, FormError> {
+    let id = entity_uid(collected.alloc, value)?;
+    collected.check_id(value.place, &id)?;
+    Ok(Value::EntityUID(id))
+}
+
+/// Reads a call of a constructor of extension values, on a text as `arg`, or as the one item of `args`.
+fn read_call(collected: &mut Collected<'_>, call: Object<'_>) -> Result<Value, FormError> {
+    call.allow(&["fn", "arg", "args"])?;
+    let function = call.need("fn")?;
+    let Some((function, type_name)) = constructor(said_by(function)?) else {
+        return Err(expected(function, CONSTRUCTOR));
+    };
+    let argument = argument_of(call)?;
+    let text = RcStr::from_str(collected.alloc, said_by(argument)?)?;
+    collected.texts.push(ExtensionText {
+        place: argument.place,
+        function,
+        text: text.clone()?,
+    })?;
+    let type_name = Name::unqualified_name(collected.alloc, type_name)?;
+    Ok(Value::Extension { type_name, text })
+}
+
+/// What a constructor is called on.
+fn argument_of(call: Object<'_>) -> Result<&cedar_json::Value, FormError> {
+    let Some(arguments) = call.get("args") else {
+        return call.need("arg");
+    };
+    match &arguments.kind {
+        ValueKind::Array(items) => match items.as_slice() {
+            [argument] if call.get("arg").is_none() => Ok(argument),
+            _ => Err(expected(arguments, "one argument")),
+        },
+        _ => Err(expected(arguments, "a list")),
+    }
+}
+
+/// The constructor of this name, with the type of its values.
+fn constructor(name: &str) -> Option<(&'static str, &'static str)> {
+    for (function, type_name) in CONSTRUCTORS {
+        if function == name {
+            return Some((function, type_name));
+        }
+    }
+    None
+}
+
+/// The constructor of the values of this type.
+fn constructor_of(name: &Name) -> Option<&'static str> {
+    if !name.path.is_empty() {
+        return None;
+    }
+    for (function, type_name) in CONSTRUCTORS {
+        if type_name == name.basename.as_str() {
+            return Some(function);
+        }
+    }
+    None
+}
+
+/// What a text says: the value of an extension type where one belongs, and else itself.
+fn text_or_extension(
+    collected: &mut Collected<'_>,
+    value: &cedar_json::Value,
+    text: &RcStr,
+    ty: Option<&CedarType>,
+) -> Result<Value, FormError> {
+    let Some(CedarType::Extension(name)) = ty else {
+        return Ok(Value::String(text.clone()?));
+    };
+    if let Some(function) = constructor_of(name) {
+        collected.texts.push(ExtensionText {
+            place: value.place,
+            function,
+            text: text.clone()?,
+        })?;
+    }
+    let type_name: &Name = name;
+    Ok(Value::Extension {
+        type_name: type_name.clone()?,
+        text: text.clone()?,
+    })
+}
+
+/// The type of the members of a set of this type, if it is known.
+fn element_type(ty: Option<&CedarType>) -> Option<&CedarType> {
+    match ty {
+        Some(CedarType::Set(element)) => Some(element),
+        _ => None,
+    }
+}
+
+/// The attributes of a record of this type, if they are known.
+fn attributes_in(ty: Option<&CedarType>) -> Option<&Attributes> {
+    match ty {
+        Some(CedarType::Record { attributes, .. }) => Some(attributes),
+        _ => None,
+    }
+}
+
+fn type_of_attribute<'a>(
+    attributes: Option<&'a Attributes>,
+    name: &RcStr,
+) -> Option<&'a CedarType> {
+    let found: Option<&AttributeType> = attributes?.get_attr(name);
+    Some(&found?.attr_type)
+}
