@@ -1,0 +1,112 @@
+// Texts that are no JSON, or no list of entities.
+use crate::shown::entities_shown;
+use std::alloc::Global;
+use std::process::Abort;
+use std::test::Fail;
+
+/// Each text has the mistakes that stand beside it.
+fn check(rt: &impl Abort, alloc: Global, cases: &[(&str, &str)]) -> Result<(), Fail> {
+    for (text, wanted) in cases {
+        let shown = entities_shown(alloc, text)?;
+        assert_eq!(rt; shown.as_str(), *wanted, "{text}");
+    }
+    Ok(())
+}
+
+#[test]
+fn broken_texts(rt: HostRuntime) -> Result<(), Fail> {
+    let cases = [
+        ("", "0 a value is expected\n"),
+        ("[", "1 a value is expected\n"),
+        ("[] x", "3 the end is expected\n"),
+        (r#"[{"uid": null}]"#, "9 `null` has no meaning here\n"),
+        (r#"[{"uid": 1.5}]"#, "10 a number with a fraction\n"),
+        (
+            r#"[{"uid": 9223372036854775808}]"#,
+            "9 a number out of range\n",
+        ),
+        (r#"[{"uid": 1, "uid": 2}]"#, "12 the same key twice\n"),
+        (r#"["\ud800"]"#, "2 half of a surrogate pair\n"),
+    ];
+    check(&rt, rt.alloc(), &cases)
+}
+
+#[test]
+fn other_shapes(rt: HostRuntime) -> Result<(), Fail> {
+    let cases = [
+        ("{}", " | a list is expected\n"),
+        ("[3]", " | an object is expected\n"),
+        ("[{}]", " | the key `uid` is missing\n"),
+        (
+            r#"[{"uid": "User::\"a\"", "attrs": {}, "parents": []}]"#,
+            " | an object is expected\n",
+        ),
+        (
+            r#"[{"uid": {"type": "Org"}, "attrs": {}, "parents": []}]"#,
+            " | the key `id` is missing\n",
+        ),
+        (
+            r#"[{"uid": {"type": "Org:", "id": "o"}, "attrs": {}, "parents": []}]"#,
+            " | a name is expected, as words with `::` between them\n",
+        ),
+        (
+            r#"[{"uid": {"type": "Org", "id": 3}, "attrs": {}, "parents": []}]"#,
+            " | a text is expected\n",
+        ),
+        (
+            r#"[{"uid": {"type": "Org", "id": "o"}}]"#,
+            " | the key `attrs` is missing\n | the key `parents` is missing\n",
+        ),
+        (
+            r#"[{"uid": {"type": "Org", "id": "o"}, "attrs": [], "parents": {}}]"#,
+            " | an object is expected\n | a list is expected\n",
+        ),
+        (
+            r#"[{"uid": {"type": "Org", "id": "o"}, "attrs": {}, "parents": [], "tag": {}}]"#,
+            "\"tag\" | a key that has no meaning here\n",
+        ),
+    ];
+    check(&rt, rt.alloc(), &cases)
+}
+
+#[test]
+fn other_values(rt: HostRuntime) -> Result<(), Fail> {
+    let alloc = rt.alloc();
+    let cases = [
+        (
+            r#"{"__entity": {"type": "User", "id": "a"}, "x": 1}"#,
+            " | a key that has no meaning here\n",
+        ),
+        (r#"{"__entity": "User"}"#, " | an object is expected\n"),
+        (
+            r#"{"__expr": "1"}"#,
+            " | a value in place of `__expr`, which Cedar no longer reads is expected\n",
+        ),
+        (
+            r#"{"__extn": {"fn": "ipp", "arg": "1"}}"#,
+            " | `ip`, `decimal`, `datetime` or `duration` is expected\n",
+        ),
+        (
+            r#"{"__extn": {"fn": "ip"}}"#,
+            " | the key `arg` is missing\n",
+        ),
+        (
+            r#"{"__extn": {"fn": "ip", "args": ["1", "2"]}}"#,
+            " | one argument is expected\n",
+        ),
+        (
+            r#"{"__extn": {"fn": "ip", "arg": 3}}"#,
+            " | a text is expected\n",
+        ),
+        (r#"{"type": "User"}"#, " | the key `id` is missing\n"),
+    ];
+    for (value, wanted) in &cases {
+        let user = "\"uid\": {\"type\": \"User\", \"id\": \"a\"}, \"parents\": []";
+        let text = format!(in alloc;
+            "[{{{user}, \"attrs\": {{\"name\": \"A\", \"boss\": {value}}}}}]"
+        )?;
+        let shown = entities_shown(alloc, text.as_str())?;
+        assert_eq!(&rt; shown.as_str(), *wanted, "{value}");
+    }
+    Ok(())
+}

@@ -1,0 +1,13 @@
+//! Which mistakes texts of entities and of requests have, and where. The tests stand apart, since a crate with tests is proved twice.
+#![tactic(auto)]
+
+#[cfg(test)]
+mod entities;
+#[cfg(test)]
+mod forms;
+#[cfg(test)]
+mod parents;
+#[cfg(test)]
+mod requests;
+#[cfg(test)]
+mod shown;

@@ -1,0 +1,168 @@
+// What entities are in.
+use crate::shown::{ancestors_shown, entities_shown};
+use std::alloc::Global;
+use std::process::Abort;
+use std::test::Fail;
+
+/// An entity of a list is written as its type, its id, and the types and ids of its parents. Each list has the mistakes that
+/// stand beside it.
+fn check(rt: &impl Abort, alloc: Global, cases: &[(&[&[(&str, &str)]], &str)]) -> Result<(), Fail> {
+    for (entities, wanted) in cases {
+        let mut text = String::from_str(alloc, "[")?;
+        for entity in *entities {
+            let mut separator = "";
+            for (entity_type, id) in *entity {
+                if separator.is_empty() {
+                    write!(
+                        text,
+                        "{{\"attrs\":{{}},\"uid\":{{\"type\":\"{entity_type}\",\"id\":\"{id}\"}},\"parents\":["
+                    )?;
+                    separator = " ";
+                } else {
+                    write!(
+                        text,
+                        "{separator}{{\"type\":\"{entity_type}\",\"id\":\"{id}\"}}"
+                    )?;
+                    separator = ",";
+                }
+            }
+            text.push_str("]},")?;
+        }
+        let listed = text.strip_suffix(',').unwrap_or("[");
+        let whole = format!(in alloc; "{listed}]")?;
+        let shown = entities_shown(alloc, whole.as_str())?;
+        assert_eq!(rt; shown.as_str(), *wanted, "{whole}");
+    }
+    Ok(())
+}
+
+#[test]
+fn good_parents(rt: HostRuntime) -> Result<(), Fail> {
+    let chain: [&[(&str, &str)]; 3] = [
+        &[("Group", "a"), ("Group", "b")],
+        &[("Group", "b"), ("Group", "c")],
+        &[("Group", "c"), ("Org", "o"), ("Group", "d")],
+    ];
+    let diamond: [&[(&str, &str)]; 3] = [
+        &[("Group", "a"), ("Group", "b"), ("Group", "c")],
+        &[("Group", "b"), ("Org", "o")],
+        &[("Group", "c"), ("Org", "o")],
+    ];
+    let twice: [&[(&str, &str)]; 1] = [&[("Group", "a"), ("Group", "b"), ("Group", "b")]];
+    let cases: [(&[&[(&str, &str)]], &str); 3] = [(&chain, ""), (&diamond, ""), (&twice, "")];
+    check(&rt, rt.alloc(), &cases)
+}
+
+#[test]
+fn circles(rt: HostRuntime) -> Result<(), Fail> {
+    let own: [&[(&str, &str)]; 1] = [&[("Group", "a"), ("Group", "a")]];
+    let two: [&[(&str, &str)]; 2] = [
+        &[("Group", "a"), ("Group", "b")],
+        &[("Group", "b"), ("Org", "o"), ("Group", "a")],
+    ];
+    let below: [&[(&str, &str)]; 3] = [
+        &[("Group", "x"), ("Group", "a")],
+        &[("Group", "a"), ("Group", "b")],
+        &[("Group", "b"), ("Group", "a")],
+    ];
+    let apart: [&[(&str, &str)]; 3] = [
+        &[("Group", "a"), ("Group", "a")],
+        &[("Group", "b"), ("Org", "o")],
+        &[("Group", "c"), ("Group", "c")],
+    ];
+    let cases: [(&[&[(&str, &str)]], &str); 4] = [
+        (
+            &own,
+            "{\"type\":\"Group\",\"id\":\"a\"} | parents in a circle: Group::\"a\" in Group::\"a\"\n",
+        ),
+        (
+            &two,
+            "{\"type\":\"Group\",\"id\":\"b\"} | parents in a circle: Group::\"a\" in Group::\"b\" in Group::\"a\"\n",
+        ),
+        (
+            &below,
+            "{\"type\":\"Group\",\"id\":\"b\"} | parents in a circle: Group::\"a\" in Group::\"b\" in Group::\"a\"\n",
+        ),
+        (
+            &apart,
+            "{\"type\":\"Group\",\"id\":\"a\"} | parents in a circle: Group::\"a\" in Group::\"a\"\n{\"type\":\"Group\",\"id\":\"c\"} | parents in a circle: Group::\"c\" in Group::\"c\"\n",
+        ),
+    ];
+    check(&rt, rt.alloc(), &cases)
+}
+
+#[test]
+fn other_parents(rt: HostRuntime) -> Result<(), Fail> {
+    let types: [&[(&str, &str)]; 1] = [&[("Org", "o"), ("Group", "a")]];
+    let above: [&[(&str, &str)]; 3] = [
+        &[("Group", "a"), ("Group", "b")],
+        &[("Group", "b"), ("Color", "red")],
+        &[("Group", "c"), ("Group", "b")],
+    ];
+    let unknown: [&[(&str, &str)]; 1] = [&[("Group", "a"), ("Color", "blue")]];
+    let listed_twice: [&[(&str, &str)]; 2] = [&[("Org", "o")], &[("Org", "o")]];
+    let cases: [(&[&[(&str, &str)]], &str); 4] = [
+        (
+            &types,
+            "{\"type\":\"Group\",\"id\":\"a\"} | Org::\"o\": it may not be in Group::\"a\"\n",
+        ),
+        (
+            &above,
+            "{\"type\":\"Color\",\"id\":\"red\"} | Group::\"b\": it may not be in Color::\"red\"\n",
+        ),
+        (
+            &unknown,
+            "{\"type\":\"Color\",\"id\":\"blue\"} | Color::\"blue\": the type `Color` does not have this id\n{\"type\":\"Color\",\"id\":\"blue\"} | Group::\"a\": it may not be in Color::\"blue\"\n",
+        ),
+        (
+            &listed_twice,
+            "{\"type\":\"Org\",\"id\":\"o\"} | Org::\"o\": it is listed twice\n",
+        ),
+    ];
+    check(&rt, rt.alloc(), &cases)
+}
+
+/// Of a hundred and one mistakes a hundred are shown.
+#[test]
+fn many_mistakes(rt: HostRuntime) -> Result<(), Fail> {
+    let alloc = rt.alloc();
+    for (count, is_cut) in [(100, false), (101, true)] {
+        let mut text = String::from_str(alloc, "[")?;
+        for number in 0..count {
+            let separator = if number == 0 { "" } else { "," };
+            write!(text, "{separator}{number}")?;
+        }
+        text.push_str("]")?;
+        let shown = entities_shown(alloc, text.as_str())?;
+        assert_eq!(&rt; shown.as_str().ends_with("more\n"), is_cut);
+        let lines = shown.as_str().lines().count();
+        assert_eq!(&rt; lines, if is_cut { 101 } else { 100 });
+    }
+    Ok(())
+}
+
+/// What an entity is in by way of others is stored with it, and so are the actions that are declared.
+#[test]
+fn stored_ancestors(rt: HostRuntime) -> Result<(), Fail> {
+    let text = r#"[
+        {"uid": {"type": "User", "id": "u"}, "attrs": {"name": "U"}, "parents": [{"type": "Group", "id": "b"}]},
+        {"uid": {"type": "Group", "id": "a"}, "attrs": {}, "parents": [{"type": "Org", "id": "o"}]},
+        {"uid": {"type": "Group", "id": "b"}, "attrs": {}, "parents": [{"type": "Group", "id": "a"}, {"type": "Group", "id": "c"}]}
+    ]"#;
+    let cases = [
+        (
+            "User::\"u\"",
+            "Group::\"a\" Group::\"b\" Group::\"c\" Org::\"o\" ",
+        ),
+        ("Group::\"a\"", "Org::\"o\" "),
+        ("Group::\"b\"", "Group::\"a\" Group::\"c\" Org::\"o\" "),
+        ("Action::\"view\"", "Action::\"read\" Action::\"write\" "),
+        ("Action::\"write\"", ""),
+        ("Group::\"c\"", "not stored"),
+    ];
+    for (id, wanted) in &cases {
+        let shown = ancestors_shown(rt.alloc(), text, id)?;
+        assert_eq!(&rt; shown.as_str(), *wanted, "{id}");
+    }
+    Ok(())
+}
