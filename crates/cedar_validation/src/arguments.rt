@@ -1,10 +1,9 @@
 //! The words that the program is called with.
-use crate::escapes::Shown;
 use crate::formats::Format;
+pub use crate::misuses::Misuse;
 use crate::syntaxes::Syntax;
 use cedar_types::base::ValidationMode;
 use std::alloc::{AllocError, Global};
-use thiserror::Error;
 
 /// What is to be validated, and how.
 #[derive(Drop)]
@@ -19,7 +18,12 @@ pub struct Arguments {
     pub denies_warnings: bool,
     /// The files of the schema, one at least.
     pub schemas: Vec<String>,
+    /// The files of policies. There is one at least, unless there is data.
     pub policies: Vec<String>,
+    /// The file of entities, if they are to be checked.
+    pub entities: Option<String>,
+    /// The file of a request, if it is to be checked.
+    pub request: Option<String>,
 }
 
 /// What the words ask for.
@@ -28,29 +32,6 @@ pub enum Asked {
     Help,
     Version,
     Validation(Arguments),
-}
-
-/// What is wrong with the words.
-#[derive(Debug, Drop, Error)]
-pub enum Misuse {
-    #[error("there is no option `{}`", Shown(.0.as_str()))]
-    UnknownOption(String),
-    #[error("`--mode` takes `strict`, `permissive` or `partial`")]
-    Mode,
-    #[error("`--level` takes a number from 0 to 4294967295")]
-    Level,
-    #[error("`--level` is for the modes `strict` and `permissive`")]
-    LevelInPartial,
-    #[error("`--format` takes `lines`, `json` or `sarif`")]
-    Format,
-    #[error("`--input` takes `text` or `json`")]
-    Input,
-    #[error("`--schema` takes a file")]
-    Schema,
-    #[error("a schema and at least one file of policies are wanted")]
-    TooFewFiles,
-    #[error("standard input, `-`, can be read once")]
-    InputTwice,
 }
 
 /// What is asked for by these words, or what is wrong with them. It fails where memory is refused.
@@ -79,6 +60,8 @@ enum Next {
     Format,
     Input,
     Schema,
+    Entities,
+    Request,
     /// A file, behind `--`.
     File,
 }
@@ -92,6 +75,8 @@ struct Reading {
     syntax: Option<Syntax>,
     denies_warnings: bool,
     schemas: Vec<String>,
+    entities: Option<String>,
+    request: Option<String>,
     files: Vec<String>,
     next: Next,
 }
@@ -105,6 +90,8 @@ impl Reading {
             syntax: None,
             denies_warnings: false,
             schemas: Vec::new(alloc),
+            entities: None,
+            request: None,
             files: Vec::new(alloc),
             next: Next::Any,
         }
@@ -132,6 +119,8 @@ impl Reading {
                 self.schemas.push(word.clone()?)?;
                 Ok(None)
             }
+            Next::Entities => Ok(self.take_entities(word.clone()?)),
+            Next::Request => Ok(self.take_request(word.clone()?)),
             Next::Any => self.take_option_or_file(word),
             Next::File => {
                 self.files.push(word.clone()?)?;
@@ -182,6 +171,24 @@ impl Reading {
         }
     }
 
+    fn take_entities(&mut self, name: String) -> Option<Misuse> {
+        self.next = Next::Any;
+        if self.entities.is_some() {
+            return Some(Misuse::Entities);
+        }
+        self.entities = Some(name);
+        None
+    }
+
+    fn take_request(&mut self, name: String) -> Option<Misuse> {
+        self.next = Next::Any;
+        if self.request.is_some() {
+            return Some(Misuse::Request);
+        }
+        self.request = Some(name);
+        None
+    }
+
     fn take_option_or_file(&mut self, word: &String) -> Result<Option<Misuse>, AllocError> {
         match word.as_str() {
             "--mode" => self.next = Next::Mode,
@@ -189,14 +196,12 @@ impl Reading {
             "--format" => self.next = Next::Format,
             "--input" => self.next = Next::Input,
             "--schema" => self.next = Next::Schema,
+            "--entities" => self.next = Next::Entities,
+            "--request" => self.next = Next::Request,
             "--json" => self.format = Format::Objects,
             "--deny-warnings" => self.denies_warnings = true,
             "--" => self.next = Next::File,
-            text if text.starts_with("--schema=") => {
-                let name = text.strip_prefix("--schema=").unwrap_or("");
-                let alloc = *self.files.allocator();
-                self.schemas.push(String::from_str(alloc, name)?)?;
-            }
+            text if is_with_file(text) => return self.take_with_file(text),
             text if is_with_value(text) => return Ok(self.take_with_value(text)),
             text if text.len() > 1 && text.starts_with("-") => {
                 return Ok(Some(Misuse::UnknownOption(word.clone()?)));
@@ -217,6 +222,22 @@ impl Reading {
         }
     }
 
+    /// Reads an option and the file behind a `=`.
+    fn take_with_file(&mut self, word: &str) -> Result<Option<Misuse>, AllocError> {
+        let Some((option, name)) = word.split_once('=') else {
+            return Ok(None);
+        };
+        let name = String::from_str(*self.files.allocator(), name)?;
+        match option {
+            "--entities" => Ok(self.take_entities(name)),
+            "--request" => Ok(self.take_request(name)),
+            _ => {
+                self.schemas.push(name)?;
+                Ok(None)
+            }
+        }
+    }
+
     fn finish(self) -> Result<Result<Asked, Misuse>, AllocError> {
         let Reading {
             mode,
@@ -225,16 +246,13 @@ impl Reading {
             syntax,
             denies_warnings,
             mut schemas,
+            entities,
+            request,
             mut files,
             next,
         } = self;
-        match next {
-            Next::Mode => return Ok(Err(Misuse::Mode)),
-            Next::Level => return Ok(Err(Misuse::Level)),
-            Next::Format => return Ok(Err(Misuse::Format)),
-            Next::Input => return Ok(Err(Misuse::Input)),
-            Next::Schema => return Ok(Err(Misuse::Schema)),
-            Next::Any | Next::File => {}
+        if let Some(misuse) = lacking(next) {
+            return Ok(Err(misuse));
         }
         if mode == ValidationMode::Partial && level.is_some() {
             return Ok(Err(Misuse::LevelInPartial));
@@ -242,10 +260,14 @@ impl Reading {
         if schemas.is_empty() && !files.is_empty() {
             schemas.push(files.remove(0))?;
         }
-        if schemas.is_empty() || files.is_empty() {
+        let has_data = entities.is_some() || request.is_some();
+        if schemas.is_empty() || files.is_empty() && !has_data {
             return Ok(Err(Misuse::TooFewFiles));
         }
-        let inputs = inputs_in(schemas.as_slice()).saturating_add(inputs_in(files.as_slice()));
+        let inputs = inputs_in(schemas.as_slice())
+            .saturating_add(inputs_in(files.as_slice()))
+            .saturating_add(usize::from(is_input(&entities)))
+            .saturating_add(usize::from(is_input(&request)));
         if inputs > 1 {
             return Ok(Err(Misuse::InputTwice));
         }
@@ -257,8 +279,31 @@ impl Reading {
             denies_warnings,
             schemas,
             policies: files,
+            entities,
+            request,
         })))
     }
+}
+
+/// What is wrong with words that end where this should come.
+fn lacking(next: Next) -> Option<Misuse> {
+    match next {
+        Next::Mode => Some(Misuse::Mode),
+        Next::Level => Some(Misuse::Level),
+        Next::Format => Some(Misuse::Format),
+        Next::Input => Some(Misuse::Input),
+        Next::Schema => Some(Misuse::Schema),
+        Next::Entities => Some(Misuse::Entities),
+        Next::Request => Some(Misuse::Request),
+        Next::Any | Next::File => None,
+    }
+}
+
+/// Whether a word is an option with its file.
+fn is_with_file(word: &str) -> bool {
+    word.starts_with("--schema=")
+        || word.starts_with("--entities=")
+        || word.starts_with("--request=")
 }
 
 /// Whether a word is an option with its value.
@@ -272,4 +317,9 @@ fn is_with_value(word: &str) -> bool {
 /// How often standard input is named.
 fn inputs_in(files: &[String]) -> usize {
     files.iter().filter(|name| name.as_str() == "-").count()
+}
+
+/// Whether a file is standard input.
+fn is_input(file: &Option<String>) -> bool {
+    file.as_ref().is_some_and(|name| name.as_str() == "-")
 }

@@ -4,6 +4,7 @@
 
 pub mod arguments;
 pub mod codes;
+pub mod data_findings;
 pub mod escapes;
 pub mod excerpts;
 mod fault_hints;
@@ -15,6 +16,7 @@ pub mod hints;
 pub mod json_faults;
 pub mod lines;
 pub mod marks;
+mod misuses;
 pub mod objects;
 mod parts;
 pub mod places;

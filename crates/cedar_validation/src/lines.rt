@@ -1,9 +1,10 @@
 //! What is found, as lines for people.
+use crate::data_findings::DataFinding;
 use crate::escapes::{Shown, ShownId};
 use crate::excerpts::Excerpt;
 use crate::faults::TextFault;
 use crate::findings::{Finding, Requirement, Severity, Verdict};
-use crate::tallies::Tally;
+use crate::tallies::{DataTally, Tally};
 use cedar_reading::Position;
 use cedar_types::base::Loc;
 use std::alloc::AllocError;
@@ -106,6 +107,23 @@ pub fn push_fault(
     write!(out, "{place}: fault: {said}\n{excerpt}")
 }
 
+/// Adds the lines of a mistake in data that this text is.
+pub fn push_data(
+    out: &mut String,
+    place: Place<'_>,
+    text: &str,
+    finding: &DataFinding,
+) -> Result<(), AllocError> {
+    let said = Shown(finding.text.as_str());
+    let excerpt = Excerpt::new(text, finding.place);
+    write!(out, "{place}: error: {said}")?;
+    if !finding.hint.is_empty() {
+        let hint = Shown(finding.hint.as_str());
+        write!(out, "; {hint}")?;
+    }
+    write!(out, "\n{excerpt}")
+}
+
 /// Adds the line of a file that cannot be had.
 pub fn push_missing(out: &mut String, file: &str, why: &str) -> Result<(), AllocError> {
     let file = Shown(file);
@@ -122,11 +140,20 @@ pub fn push_tally(out: &mut String, tally: Tally) -> Result<(), AllocError> {
         warnings,
         faults,
         requirement,
+        data,
     } = tally;
     write!(
         out,
         "policies: {policies}, accepted: {accepted}, refused: {refused}"
     )?;
     write!(out, ", warnings: {warnings}, faults: {faults}")?;
+    if data.is_asked {
+        let DataTally {
+            entities,
+            errors,
+            ..
+        } = data;
+        write!(out, ", entities: {entities}, errors in data: {errors}")?;
+    }
     push_requirement(out, requirement)
 }

@@ -1,10 +1,11 @@
 //! The same as objects of JSON, one a line.
 use crate::codes::Code;
+use crate::data_findings::DataFinding;
 use crate::escapes::Quoted;
 use crate::faults::TextFault;
 use crate::findings::{Finding, Requirement, Verdict};
 use crate::lines::{Place, severity_text};
-use crate::tallies::Tally;
+use crate::tallies::{DataTally, Tally};
 use cedar_reading::Position;
 use std::alloc::AllocError;
 
@@ -101,6 +102,23 @@ pub fn push_fault(out: &mut String, place: Place<'_>, fault: &TextFault) -> Resu
     writeln!(out, ",\"code\":\"{code}\",\"text\":{text}}}")
 }
 
+/// Adds the object of a mistake in data.
+pub fn push_data(
+    out: &mut String,
+    place: Place<'_>,
+    finding: &DataFinding,
+) -> Result<(), AllocError> {
+    push_place(out, "data", place)?;
+    let code = finding.code.text();
+    let text = Quoted(finding.text.as_str());
+    write!(out, ",\"code\":\"{code}\",\"text\":{text}")?;
+    if !finding.hint.is_empty() {
+        let hint = Quoted(finding.hint.as_str());
+        write!(out, ",\"hint\":{hint}")?;
+    }
+    out.push_str("}\n")
+}
+
 /// Adds the object of a file that cannot be had.
 pub fn push_missing(out: &mut String, file: &str, why: &str) -> Result<(), AllocError> {
     let file = Quoted(file);
@@ -119,6 +137,7 @@ pub fn push_tally(out: &mut String, tally: Tally) -> Result<(), AllocError> {
         warnings,
         faults,
         requirement,
+        data,
     } = tally;
     write!(
         out,
@@ -128,5 +147,13 @@ pub fn push_tally(out: &mut String, tally: Tally) -> Result<(), AllocError> {
         out,
         ",\"refused\":{refused},\"warnings\":{warnings},\"faults\":{faults}"
     )?;
+    if data.is_asked {
+        let DataTally {
+            entities,
+            errors,
+            ..
+        } = data;
+        write!(out, ",\"entities\":{entities},\"data_errors\":{errors}")?;
+    }
     push_requirement(out, requirement)
 }

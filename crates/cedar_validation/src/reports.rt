@@ -1,4 +1,5 @@
 //! What is found in a file, in the form that is asked for.
+use crate::data_findings::DataFinding;
 use crate::faults::TextFault;
 use crate::findings::{Finding, Verdict};
 use crate::formats::Format;
@@ -157,6 +158,24 @@ impl<'a> Report<'a> {
             Format::Sarif => {
                 let is_first = self.form.begins();
                 sarif::push_finding(self.alloc, out, is_first, place, id, finding)
+            }
+        }
+    }
+
+    /// Where a byte of the text stands.
+    pub fn position_of(&mut self, byte: usize) -> Position {
+        self.places.position(byte)
+    }
+
+    /// Adds a mistake in data.
+    pub fn push_data(&mut self, out: &mut String, finding: &DataFinding) -> Result<(), AllocError> {
+        let place = self.place(finding.place);
+        match self.form.format {
+            Format::Lines => lines::push_data(out, place, self.source.text, finding),
+            Format::Objects => objects::push_data(out, place, finding),
+            Format::Sarif => {
+                let is_first = self.form.begins();
+                sarif::push_data(self.alloc, out, is_first, place, finding)
             }
         }
     }

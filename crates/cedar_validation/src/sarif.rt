@@ -1,5 +1,6 @@
 //! The same as SARIF 2.1.0, one object of JSON for all: what code hosts show beside the lines.
 use crate::codes::{CODES, Code};
+use crate::data_findings::DataFinding;
 use crate::escapes::Quoted;
 use crate::faults::TextFault;
 use crate::findings::{Finding, Severity};
@@ -142,6 +143,27 @@ pub fn push_fault(
         severity: Severity::Error,
     };
     push_kind(out, is_first, kind, fault.text.as_str())?;
+    push_place(out, place)
+}
+
+/// Adds the result of a mistake in data.
+pub fn push_data(
+    alloc: Global,
+    out: &mut String,
+    is_first: bool,
+    place: Place<'_>,
+    finding: &DataFinding,
+) -> Result<(), AllocError> {
+    let mut said = String::from_str(alloc, finding.text.as_str())?;
+    if !finding.hint.is_empty() {
+        let hint = finding.hint.as_str();
+        write!(said, "; {hint}")?;
+    }
+    let kind = Kind {
+        code: finding.code,
+        severity: Severity::Error,
+    };
+    push_kind(out, is_first, kind, said.as_str())?;
     push_place(out, place)
 }
 

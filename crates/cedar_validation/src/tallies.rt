@@ -11,6 +11,27 @@ pub struct Tally {
     pub warnings: u64,
     pub faults: u64,
     pub requirement: Requirement,
+    pub data: DataTally,
+}
+
+/// Whether data is checked, how many entities were read, and how many mistakes data has.
+#[derive(Clone, Copy, Default)]
+pub struct DataTally {
+    pub is_asked: bool,
+    pub entities: u64,
+    pub errors: u64,
+}
+
+impl DataTally {
+    /// Counts an entity.
+    pub fn add_entity(&mut self) {
+        self.entities = self.entities.saturating_add(1);
+    }
+
+    /// Counts a mistake.
+    pub fn add_error(&mut self) {
+        self.errors = self.errors.saturating_add(1);
+    }
 }
 
 impl Tally {
@@ -31,12 +52,12 @@ impl Tally {
         self.faults = self.faults.saturating_add(1);
     }
 
-    /// The exit status: 2 where there is a fault, else 1 where a policy is refused, or where there is a warning and warnings are
-    /// denied, else 0.
+    /// The exit status: 2 where there is a fault, else 1 where a policy is refused or data has a mistake, or where there is a
+    /// warning and warnings are denied, else 0.
     pub fn status(&self, denies_warnings: bool) -> u8 {
         if self.faults > 0 {
             2
-        } else if self.refused > 0 || denies_warnings && self.warnings > 0 {
+        } else if self.refused > 0 || self.data.errors > 0 || denies_warnings && self.warnings > 0 {
             1
         } else {
             0

@@ -7,7 +7,7 @@ use std::alloc::{AllocError, Global};
 use std::test::Fail;
 
 /// Command lines, and what they ask for or what is wrong with them.
-const LINES: [(&str, &str); 43] = [
+const LINES: [(&str, &str); 53] = [
     (
         "--schema s p --schema=t q",
         "strict, no level, lines: s, t, p, q, 2 schemas",
@@ -96,6 +96,34 @@ const LINES: [(&str, &str); 43] = [
         "--level 1 --mode partial s p",
         "`--level` is for the modes `strict` and `permissive`",
     ),
+    ("--entities e s", "strict, no level, lines: s, entities e"),
+    (
+        "s --request q p --entities=e --json",
+        "strict, no level, objects: s, p, entities e, request q",
+    ),
+    (
+        "--schema s --request=q",
+        "strict, no level, lines: s, request q",
+    ),
+    (
+        "--entities e",
+        "a schema and at least one file of policies are wanted",
+    ),
+    ("s --entities", "`--entities` takes a file, once"),
+    (
+        "s --entities e --entities e",
+        "`--entities` takes a file, once",
+    ),
+    ("s p --request", "`--request` takes a file, once"),
+    (
+        "s --request=q --request r",
+        "`--request` takes a file, once",
+    ),
+    (
+        "s --entities - --request -",
+        "standard input, `-`, can be read once",
+    ),
+    ("--entity e s p", "there is no option `--entity`"),
 ];
 
 #[test]
@@ -147,6 +175,12 @@ fn shown(alloc: Global, line: &str) -> Result<String, AllocError> {
     }
     if arguments.schemas.len() > 1 {
         write!(said, ", {} schemas", arguments.schemas.len())?;
+    }
+    if let Some(name) = &arguments.entities {
+        write!(said, ", entities {name}")?;
+    }
+    if let Some(name) = &arguments.request {
+        write!(said, ", request {name}")?;
     }
     Ok(said)
 }

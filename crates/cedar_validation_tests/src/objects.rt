@@ -2,11 +2,12 @@
 use cedar_reading::Position;
 use cedar_types::base::{EntityDerefLevel, Loc};
 use cedar_validation::codes::Code;
+use cedar_validation::data_findings::DataFinding;
 use cedar_validation::faults::TextFault;
 use cedar_validation::findings::{Finding, Requirement, Severity, Verdict};
 use cedar_validation::lines::Place;
 use cedar_validation::objects;
-use cedar_validation::tallies::Tally;
+use cedar_validation::tallies::{DataTally, Tally};
 use std::alloc::{AllocError, Global};
 use std::test::Fail;
 
@@ -78,6 +79,7 @@ fn findings_and_faults(rt: HostRuntime) -> Result<(), Fail> {
         warnings: 4,
         faults: 5,
         requirement: Requirement::Level(EntityDerefLevel { level: 6 }),
+        data: DataTally::default(),
     };
     objects::push_tally(&mut out, tally)?;
     assert_eq!(rt; out.as_str(), FINDINGS.trim_start());
@@ -105,4 +107,34 @@ fn finding(
         environments,
         code: Code::Direction,
     })
+}
+
+/// The objects of a mistake in data, and of the counts where data is checked.
+const DATA: &str = r#"
+{"kind":"data","file":"a\"","line":3,"column":7,"end_line":4,"end_column":1,"code":"data-type","text":"a \"b\"","hint":"c"}
+{"kind":"summary","policies":0,"accepted":0,"refused":0,"warnings":0,"faults":0,"entities":1,"data_errors":2}
+"#;
+
+#[test]
+fn data_as_objects(rt: HostRuntime) -> Result<(), Fail> {
+    let alloc = rt.alloc();
+    let mut out = String::new(alloc);
+    let finding = DataFinding {
+        place: Loc { start: 0, end: 1 },
+        code: Code::DataType,
+        text: String::from_str(alloc, "a \"b\"")?,
+        hint: String::from_str(alloc, "c")?,
+    };
+    objects::push_data(&mut out, PLACE, &finding)?;
+    let mut tally = Tally::default();
+    tally.data.is_asked = true;
+    tally.data.add_entity();
+    tally.data.add_error();
+    tally.data.add_error();
+    objects::push_tally(&mut out, tally)?;
+    assert_eq!(rt; out.as_str(), DATA.trim_start());
+    assert_eq!(rt; tally.status(false), 1);
+    tally.add_fault();
+    assert_eq!(rt; tally.status(false), 2);
+    Ok(())
 }
