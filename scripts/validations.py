@@ -21,6 +21,7 @@ import time
 from pathlib import Path
 
 import validate
+from validation_data import DATA, DATA_SCHEMA, GOOD_ENTITIES, GOOD_REQUEST
 from validation_hints import HINT_SCHEMA, HINTS
 from validation_json import RUNS, TEAM, TEN, TEN_TALLY
 
@@ -34,7 +35,7 @@ action view appliesTo { principal: User, resource: File, context: { n: Long } };
 """
 SCOPE = "permit(principal, action, resource)"
 LARGE = 10_000_000
-USAGE = "[--mode strict|permissive|partial] [--level N] [--deny-warnings] [--format lines|json|sarif] [--input text|json]"
+USAGE = "[--mode strict|permissive|partial] [--level N] [--deny-warnings] [--format lines|json|sarif] [--input text|json] [--entities FILE] [--request FILE]"
 # Words, the exit status, and what the program says on standard output or, where that is empty, on standard error.
 CALLS = (
     (["--help"], 0, f"usage: cedar-validate {USAGE} SCHEMA POLICY..\nValidates the policies"),
@@ -50,6 +51,10 @@ CALLS = (
     (["--schema", "t", "--schema", "s", "--schema", "u", "p"], 2, "u:2:6: fault: a type that is not declared: `Nope`\n  , b: Nope"),
     (["--schema", "s"], 2, "cedar-validate: a schema and at least one file of policies are wanted\nusage: "),
     (["s", "p", "--schema"], 2, "cedar-validate: `--schema` takes a file\nusage: "),
+    (["--entities", "missing", "s"], 2, "missing: fault: cannot be read: No such file or directory (os error 2)\npolicies: 0"),
+    (["--entities", "e", "--entities=e", "s"], 2, "cedar-validate: `--entities` takes a file, once\nusage: "),
+    (["--entities", "-", "--request", "-", "s"], 2, "cedar-validate: standard input, `-`, can be read once\nusage: "),
+    (["s", "--request"], 2, "cedar-validate: `--request` takes a file, once\nusage: "),
     (["--format=xml", "s", "p"], 2, "cedar-validate: `--format` takes `lines`, `json` or `sarif`\nusage: "),
     (["--input=xml", "s", "p"], 2, "cedar-validate: `--input` takes `text` or `json`\nusage: "),
     (["--format", "json", "s", "p"], 0, '{"kind":"policy","file":"p","line":1,"column":1,"end_line":1,"end_column":64,"id":"policy0","accepted":true,"level":1}\n'
@@ -323,6 +328,42 @@ def false_parts_differ(program):
     return None if sorted(done.stdout.splitlines()) == sorted(wanted) else done.stdout
 
 
+def data_differs(program):
+    """The entities and requests of which something else is said than is wanted, and what is said."""
+    for entities, request, status, wanted in DATA:
+        with tempfile.TemporaryDirectory() as room:
+            words = [str(program)]
+            for name, option, text in (("e", "--entities", entities), ("q", "--request", request)):
+                if text is not None:
+                    written(Path(room, name), text)
+                    words += [option, name]
+            written(Path(room, "s"), DATA_SCHEMA)
+            done = subprocess.run([*words, "s"], cwd=room, stdin=subprocess.DEVNULL, capture_output=True, text=True, timeout=SECONDS)
+        said = [line for line in done.stdout.splitlines() if line.startswith(("e:", "q:", "policies:"))]
+        is_right = done.returncode == status and said == wanted
+        yield f"{wanted[0]}", None if is_right else f"status {done.returncode}: {done.stdout[:3000]}{done.stderr}"
+
+
+def data_in_forms_differs(program):
+    """What is wrong with what is said of data with a policy, as objects and as SARIF; None where nothing is."""
+    with tempfile.TemporaryDirectory() as room:
+        for name, text in (("s", DATA_SCHEMA), ("p", f"{SCOPE};"), ("e", GOOD_ENTITIES.replace('"age": 30', '"age": "x"')), ("q", GOOD_REQUEST)):
+            written(Path(room, name), text)
+        words = [str(program), "--entities", "e", "--request=q", "s", "p"]
+        objects, sarif = (subprocess.run([*words, "--format", it], cwd=room, stdin=subprocess.DEVNULL, capture_output=True, text=True, timeout=SECONDS)
+                          for it in ("json", "sarif"))
+    text = 'User::"alice".age: expected Long, found String'
+    wanted = [
+        {"kind": "data", "file": "e", "line": 3, "column": 40, "end_line": 3, "end_column": 43, "code": "data-type", "text": text},
+        {"kind": "summary", "policies": 1, "accepted": 1, "refused": 0, "warnings": 0, "faults": 0, "entities": 3, "data_errors": 1, "level": 0}]
+    [run] = json.loads(sarif.stdout)["runs"]
+    results = [(it["ruleId"], it["level"], it["message"]["text"]) for it in run["results"]]
+    are_known = {it["ruleId"] for it in run["results"]} <= {it["id"] for it in run["tool"]["driver"]["rules"]}
+    found = [json.loads(line) for line in objects.stdout.splitlines()][1:]
+    is_right = found == wanted and results == [("data-type", "error", text)] and are_known and (objects.returncode, sarif.returncode) == (1, 1)
+    return None if is_right else f"{objects.stdout}{sarif.stdout}"
+
+
 def sarif_differs(program):
     """What is wrong with what is written as SARIF; None where nothing is."""
     with tempfile.TemporaryDirectory() as room:
@@ -561,8 +602,8 @@ def main(words):
                     print(f"{path.name}: {case['about']}: {column}: {case[column]!r} is wanted, not {said_of}")
     others = [("scripts/validate.py", copies_differ()), ("one mistake of 150 types", many_types_differ(program)),
               ("two false parts", false_parts_differ(program)), ("ten faults of a schema", schema_faults_differ(program)),
-              ("SARIF", sarif_differs(program))]
-    for what, difference in [*others, *hints_differ(program)]:
+              ("SARIF", sarif_differs(program)), ("data", data_in_forms_differs(program))]
+    for what, difference in [*others, *hints_differ(program), *data_differs(program)]:
         passed += difference is None
         failed += difference is not None
         if difference is not None:

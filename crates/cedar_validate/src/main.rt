@@ -2,8 +2,10 @@
 #![tactic(auto)]
 
 mod causes;
+mod data;
 mod environments;
 mod files;
+mod hints_of_data;
 mod impossible;
 mod json_schemas;
 mod policies;

@@ -1,4 +1,5 @@
 // What the program does, over any files and any writers.
+use crate::data::validate_data;
 use crate::files::{read_text, validate_file};
 use crate::json_schemas::read_json_schema;
 use crate::progress::Progress;
@@ -20,12 +21,14 @@ use std::io::Write;
 use std::rt::Files;
 
 const USAGE: &str = "usage: cedar-validate [--mode strict|permissive|partial] [--level N] \
-     [--deny-warnings] [--format lines|json|sarif] [--input text|json] SCHEMA POLICY..\n";
+     [--deny-warnings] [--format lines|json|sarif] [--input text|json] [--entities FILE] \
+     [--request FILE] SCHEMA POLICY..\n";
 
 const VERSION: &str = "cedar-validate 0.1.0\n";
 
 const HELP: &str = "\
 Validates the policies of some files by a schema, and says what is wrong and where.
+With --entities or --request it checks data by the schema too, or alone.
 
   --mode MODE   strict (without this option), permissive or partial
   --level N     how many entities a policy may dereference, one after another
@@ -37,6 +40,8 @@ Validates the policies of some files by a schema, and says what is wrong and whe
                 where it begins with { or [
   --schema FILE a file of the schema; it can stand several times, and then each file that is
                 named without it is one of policies
+  --entities FILE  a list of entities in JSON; policies may be left out then
+  --request FILE   a request in JSON: principal, action, resource and context
   -h, --help    this text
   --version     the version of the program
   --            what comes behind it is a file, whatever it begins with
@@ -44,8 +49,11 @@ Validates the policies of some files by a schema, and says what is wrong and whe
 
   cedar-validate --level 1 photos.cedarschema share.cedar
 
-The exit status is 0 where all policies are accepted, 1 where some are refused, or have
-a warning and --deny-warnings is given, and 2 where a file cannot be read or understood.
+  cedar-validate --entities entities.json --request request.json photos.cedarschema
+
+The exit status is 0 where all policies are accepted and all data is as the schema says,
+1 where some are not, or have a warning and --deny-warnings is given, and 2 where a file
+cannot be read or understood.
 ";
 
 /// Does what the words ask for, and answers the exit status: 0 where all policies are accepted, 1 where some are refused, 2 where
@@ -96,7 +104,7 @@ fn answer<R: Files + AllocGlobal + Input, O: Write, E: Write, T: Write>(
     }
 }
 
-/// Validates the policies of all files.
+/// Validates the policies of all files, and checks data.
 fn validate_files<R: Files + AllocGlobal + Input, O: Write, T: Write>(
     rt: &R,
     arguments: &Arguments,
@@ -123,6 +131,14 @@ fn validate_files<R: Files + AllocGlobal + Input, O: Write, T: Write>(
         let name = name.as_str();
         validate_file(rt, &mut form, &rules, name, &mut tally, progress, out)?;
     }
+    validate_data(
+        rt,
+        &mut form,
+        validator.schema(),
+        arguments,
+        &mut tally,
+        out,
+    )?;
     let mut shown = String::new(rt.alloc());
     push_tally(&mut shown, form, tally)?;
     out.write_all(shown.as_bytes())?;
