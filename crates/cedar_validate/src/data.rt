@@ -7,12 +7,12 @@ use cedar_conformance::requests::RequestFault;
 use cedar_data::{
     DataError, DataFault, ExtensionText, Faults, Problem, check_entities_text, check_request_text,
 };
+use cedar_host::extensions::checks::Constructor;
 use cedar_reading::Position;
 use cedar_types::base::{Loc, ValidatorSchema};
 use cedar_validation::arguments::Arguments;
 use cedar_validation::codes::Code;
 use cedar_validation::data_findings::DataFinding;
-use cedar_validation::extension_texts::is_read_by;
 use cedar_validation::faults::TextFault;
 use cedar_validation::reports::{Form, Report};
 use cedar_validation::sources::Source;
@@ -109,6 +109,14 @@ fn found_in_request(
     })
 }
 
+/// Whether the function that is named with a text makes a value of it.
+fn is_read(text: &ExtensionText) -> bool {
+    match Constructor::from_name(text.function) {
+        Some(function) => function.reads(text.text.as_str()),
+        None => true,
+    }
+}
+
 /// Counts what is found in a file, and answers how it is shown.
 fn shown_data(
     alloc: Global,
@@ -160,7 +168,7 @@ fn push_found(
         findings.push(finding_of(alloc, report, schema, fault)?)?;
     }
     for text in &found.texts {
-        if !is_read_by(text.function, text.text.as_str()) {
+        if !is_read(text) {
             findings.push(unread(alloc, text)?)?;
         }
     }
