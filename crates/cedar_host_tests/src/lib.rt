@@ -4,6 +4,8 @@
 #![tactic(auto)]
 
 #[cfg(test)]
+mod admission;
+#[cfg(test)]
 mod conditions;
 #[cfg(test)]
 mod enumerated;
