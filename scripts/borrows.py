@@ -55,10 +55,10 @@ def fault_of(piece, room, lines):
         ran = subprocess.run(["rt", "try", "--test"], cwd=folder, stdin=subprocess.DEVNULL, capture_output=True, text=True, timeout=SECONDS)
     except subprocess.TimeoutExpired:
         return f"no answer within {SECONDS} seconds"
-    said = ran.stdout + ran.stderr
-    errors = ERROR.findall(said)
+    output = ran.stdout + ran.stderr
+    errors = ERROR.findall(output)
     well = ran.returncode == 0 and not errors if wanted == "accepted" else errors == [("src/piece.rt", code)]
-    return None if well else f"it should be {wanted}\n{said[-1500:]}"
+    return None if well else f"it should be {wanted}\n{output[-1500:]}"
 
 
 def main():

@@ -36,7 +36,7 @@ STEP = re.compile(r" *(\d+) s  (\w+)(: its tests are)? (proved|NOT PROVED)")
 UNSEEN = "?"
 
 
-def said(*words):
+def output_of(*words):
     """What a command prints, on one line."""
     try:
         done = subprocess.run(words, cwd=TOP, stdin=subprocess.DEVNULL, capture_output=True, text=True)
@@ -54,17 +54,17 @@ def gigabytes(text):
 def known_before():
     memory = Path("/proc/meminfo")
     return [
-        said("git", "describe", "--always", "--dirty", "--exclude", "*"),
+        output_of("git", "describe", "--always", "--dirty", "--exclude", "*"),
         time.strftime("%Y-%m-%d", time.gmtime()),
         str(len(os.sched_getaffinity(0))),
         gigabytes(memory.read_text()) if memory.is_file() else UNSEEN,
-        said("rt", "version"),
+        output_of("rt", "version"),
     ]
 
 
 def begun_of(folder, since):
     """The seconds after which rt ci began with a crate, by its folder out/."""
-    born = said("stat", "--format=%W", folder)
+    born = output_of("stat", "--format=%W", folder)
     return int(born) - since if born.isdigit() and int(born) >= since else None
 
 

@@ -102,18 +102,18 @@ def installations():
         validate.is_built = lambda: False
         validate.prove = lambda: False
         status, out, error = ended([f"{folder}"])
-        said = f"scripts/install: proving {len(validate.needed())} crates, one after another: cedar_types "
-        yield "no proof", status == 70 and not out and said in error and not list(folder.iterdir())
+        line = f"scripts/install: proving {len(validate.needed())} crates, one after another: cedar_types "
+        yield "no proof", status == 70 and not out and line in error and not list(folder.iterdir())
         validate.prove = lambda: program.write_text("new") > 0
         status, out, error = ended([f"{folder}"])
-        yield "a proof", (status, out) == (0, f"installed {target}, which is proved\n") and said in error
+        yield "a proof", (status, out) == (0, f"installed {target}, which is proved\n") and line in error
         yield "a folder that is not on the PATH", error.endswith(f"{folder} is not on the PATH\n")
         yield "the program", target.read_text() == "new" and target.stat().st_mode & 0o777 == 0o755
         yield "nothing else", list(folder.iterdir()) == [target]
         validate.is_built = lambda: True
         program.write_text("newer")
         status, out, error = ended([f"{folder}"])
-        yield "a program that stands", status == 0 and said not in error and target.read_text() == "newer"
+        yield "a program that stands", status == 0 and line not in error and target.read_text() == "newer"
         os.environ["HOME"] = room
         yield "no folder named", ended([])[0] == 0 and Path(room, ".local", "bin", install.NAME).read_text() == "newer"
         target.unlink()

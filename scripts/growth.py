@@ -53,8 +53,8 @@ def instructions(program, room, text, conditions, column, answer):
     rows += [f"permit(principal, action, resource) when {{ {it} }};\t{answer}" for it in conditions]
     Path(room, "case.tsv").write_text("\n".join(rows) + "\n", encoding="utf8")
     words = ["valgrind", "--tool=cachegrind", "--cache-sim=no", "--cachegrind-out-file=/dev/null"]
-    said = benchmark.ran([*words, str(program), "case.tsv"], room)
-    return int(benchmark.FIGURE.search(said)[1].replace(",", ""))
+    printed = benchmark.ran([*words, str(program), "case.tsv"], room)
+    return int(benchmark.FIGURE.search(printed)[1].replace(",", ""))
 
 
 def for_each(program, room, attributes, condition, others=0, mode="strict"):

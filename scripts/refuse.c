@@ -79,9 +79,9 @@ static int shrinks(void *block, size n) {
     return room > 24 && n + 16 <= room;
 }
 
-static void forbid(const char *said, size length) {
+static void forbid(const char *message, size length) {
     if (!at_work) return;
-    write(2, said, length);
+    write(2, message, length);
     _exit(3);
 }
 #define FORBID(name) forbid(name " was called while memory is refused\n", sizeof(name " was called while memory is refused\n") - 1)

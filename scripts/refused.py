@@ -129,11 +129,11 @@ def rows(program, made):
         return None if is_well else f"the first row alone at growth {number}: another answer"
 
     with ThreadPoolExecutor(os.cpu_count()) as pool:
-        said = [*pool.map(run_all, row_runs(growths)), *pool.map(run_first, range(1, growths[0] + 1))]
-    faults = [one for one in said if one]
+        answers = [*pool.map(run_all, row_runs(growths)), *pool.map(run_first, range(1, growths[0] + 1))]
+    faults = [one for one in answers if one]
     whole = sum(n <= MOST_GROWTHS for n in growths)
-    print(f"rows: each growth of {whole} rows, {SAMPLES + 1} growths of each of {len(lines) - whole}: {len(said)} runs")
-    return len(said) - len(faults), faults
+    print(f"rows: each growth of {whole} rows, {SAMPLES + 1} growths of each of {len(lines) - whole}: {len(answers)} runs")
+    return len(answers) - len(faults), faults
 
 
 def main(words):

@@ -145,15 +145,15 @@ def tried(words, room):
     except (OSError, ValueError):
         pass
     status, out, err = run(["rt", "try", *data, "--", *names], given, stdout=subprocess.PIPE, stderr=subprocess.PIPE)
-    said = err.decode(errors="replace")
+    messages = err.decode(errors="replace")
     sys.stdout.write("".join(f"{with_words(line, words_of)}\n" for line in out.decode(errors="replace").splitlines()))
-    if "\nrun=ended " in f"\n{said}":
-        own = [line for line in said.splitlines() if not line.startswith(("checked: ended", "interpreted: ended", "run=ended"))]
+    if "\nrun=ended " in f"\n{messages}":
+        own = [line for line in messages.splitlines() if not line.startswith(("checked: ended", "interpreted: ended", "run=ended"))]
         sys.stderr.write("".join(f"{with_words(line, words_of)}\n" for line in own))
         return status
-    sys.stderr.write(said)
+    sys.stderr.write(messages)
     for mark, why in LIMITS:
-        if mark in said:
+        if mark in messages:
             say(f"{why}: scripts/validate --proved has no such limit")
             break
     return FAILED

@@ -1,4 +1,4 @@
-"""What cedar-validate says of entities and of a request: the data of scripts/validations.py."""
+"""What cedar-validate says of entities and of a request: the data of scripts/application_cases.py."""
 
 # A schema, entities, a request, the exit status, and what is said: each line with a place, and the last one.
 DATA_SCHEMA = """type Address = { street: String, zip: Long };

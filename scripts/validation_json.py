@@ -1,4 +1,4 @@
-"""What cedar-validate says of schemas and policies in JSON: the data of scripts/validations.py.
+"""What cedar-validate says of schemas and policies in JSON: the data of scripts/application_cases.py.
 
 In a text a `§`, which is taken away, marks a place. What is wanted says `@0` for the line and the column of its first mark, `@1`
 for those of the second, and so on.

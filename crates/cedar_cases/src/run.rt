@@ -1,6 +1,6 @@
 // What the program does, over any files and any two writers.
 use crate::cases::{
-    CaseFile, FileFault, Rules, Tally, fault_of_columns, notation_of, run_cases, run_refusals,
+    Basis, CaseCounts, CaseFile, FileFault, fault_of_columns, notation_of, run_cases, run_refusals,
 };
 use crate::tables::Tables;
 use cedar_reading::{
@@ -80,13 +80,13 @@ fn run_file<R: Files + AllocGlobal, O: Write>(
     };
     let extensions = tables.where_ordered(file.has_ordered_addresses);
     let validator = Validator::new(schema, extensions);
-    let rules = Rules {
+    let basis = Basis {
         validator: &validator,
         extensions,
     };
-    let tally = run_cases(alloc, name, &file, rules, out)?;
-    write_tally(out, name, tally)?;
-    Ok(tally.wrong == 0)
+    let counts = run_cases(alloc, name, &file, basis, out)?;
+    write_counts(out, name, counts)?;
+    Ok(counts.wrong == 0)
 }
 
 /// Runs the cases of a file that have their own declarations, and answers whether all agree.
@@ -101,13 +101,13 @@ fn run_schemas<O: Write>(
         write_file_fault(out, name, fault)?;
         return Ok(false);
     }
-    let tally = run_refusals(alloc, name, text, notation, out)?;
-    write_tally(out, name, tally)?;
-    Ok(tally.wrong == 0)
+    let counts = run_refusals(alloc, name, text, notation, out)?;
+    write_counts(out, name, counts)?;
+    Ok(counts.wrong == 0)
 }
 
-fn write_tally<O: Write>(out: &mut O, name: &str, tally: Tally) -> io::Result<()> {
-    writeln!(out, "{name}: {} ran, {} differ", tally.ran, tally.wrong)
+fn write_counts<O: Write>(out: &mut O, name: &str, counts: CaseCounts) -> io::Result<()> {
+    writeln!(out, "{name}: {} ran, {} differ", counts.ran, counts.wrong)
 }
 
 /// The text of a file. Where it cannot be had, that is written, and the answer is `None`.

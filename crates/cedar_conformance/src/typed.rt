@@ -29,14 +29,14 @@ pub(crate) fn find_fault(
 {
     match ty {
         CedarType::Never => wrong_type(alloc, ty, value),
-        CedarType::Bool(kind) => found_unless(alloc, bool_fits(*kind, value), ty, value),
-        CedarType::Long => found_unless(alloc, value.is_long(), ty, value),
-        CedarType::String => found_unless(alloc, value.is_string(), ty, value),
+        CedarType::Bool(kind) => fault_unless(alloc, bool_fits(*kind, value), ty, value),
+        CedarType::Long => fault_unless(alloc, value.is_long(), ty, value),
+        CedarType::String => fault_unless(alloc, value.is_string(), ty, value),
         CedarType::Set(element) => match value.as_set() {
             Some(members) => find_in_members(alloc, element, members),
             None => wrong_type(alloc, ty, value),
         },
-        CedarType::AnySet => found_unless(alloc, value.as_set().is_some(), ty, value),
+        CedarType::AnySet => fault_unless(alloc, value.as_set().is_some(), ty, value),
         CedarType::Record {
             attributes,
             is_open,
@@ -44,8 +44,8 @@ pub(crate) fn find_fault(
             Some(entries) => find_in_record(alloc, attributes, *is_open, entries),
             None => wrong_type(alloc, ty, value),
         },
-        CedarType::Entity(kind) => found_unless(alloc, entity_fits(kind, value), ty, value),
-        CedarType::Extension(name) => found_unless(alloc, extension_fits(name, value), ty, value),
+        CedarType::Entity(kind) => fault_unless(alloc, entity_fits(kind, value), ty, value),
+        CedarType::Extension(name) => fault_unless(alloc, extension_fits(name, value), ty, value),
     }
 }
 
@@ -160,7 +160,7 @@ fn is_declared(attributes: &Attributes, name: &RcStr) -> bool
 }
 
 /// No fault if it fits, and else that the value is of another type.
-fn found_unless(
+fn fault_unless(
     alloc: Global,
     fits: bool,
     ty: &CedarType,

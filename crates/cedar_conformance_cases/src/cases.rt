@@ -68,7 +68,7 @@ fn conforms(alloc: Global) -> Result<String, AllocError> {
 }
 
 /// What is shown of a check.
-fn shown<F: fmt::Display + Drop>(
+fn show<F: fmt::Display + Drop>(
     alloc: Global,
     checked: Result<(), F>,
 ) -> Result<String, AllocError> {
@@ -106,7 +106,7 @@ fn request_answer(
         return unreadable(alloc);
     };
     let checked = check_request(alloc, schema, &request)?;
-    shown(alloc, checked)
+    show(alloc, checked)
 }
 
 fn entity_answer(
@@ -122,10 +122,10 @@ fn entity_answer(
         return unreadable(alloc);
     };
     let checked = check_entity(alloc, schema, &id, &entity)?;
-    shown_problem(alloc, &id, checked)
+    show_problem(alloc, &id, checked)
 }
 
-fn shown_problem(
+fn show_problem(
     alloc: Global,
     id: &EntityUID,
     checked: Result<(), EntityProblem>,
@@ -150,12 +150,12 @@ fn entities_answer(
     };
     match check_entities(alloc, schema, &entities)? {
         Ok(()) => conforms(alloc),
-        Err(faults) => shown_all(alloc, &faults),
+        Err(faults) => show_all(alloc, &faults),
     }
 }
 
 /// The faults, with a stroke between them.
-fn shown_all(alloc: Global, faults: &[EntityFault]) -> Result<String, AllocError> {
+fn show_all(alloc: Global, faults: &[EntityFault]) -> Result<String, AllocError> {
     let mut text = String::new(alloc);
     for fault in faults {
         if !text.is_empty() {
@@ -179,16 +179,16 @@ fn policy_answer(
     let Ok(values) = slots_of(alloc, principal, resource) else {
         return unreadable(alloc);
     };
-    checked_policy(alloc, &template, &values)
+    run_policy_check(alloc, &template, &values)
 }
 
-fn checked_policy(
+fn run_policy_check(
     alloc: Global,
     template: &Template,
     values: &SlotEnv,
 ) -> Result<String, AllocError> {
     let checked = check_policy(alloc, template, values)?;
-    shown(alloc, checked)
+    show(alloc, checked)
 }
 
 fn slots_of(alloc: Global, principal: &str, resource: &str) -> Result<SlotEnv, ReadError> {

@@ -11,7 +11,7 @@ use std::{fs, io};
 
 /// How many cases ended how.
 #[derive(Clone, Copy, Debug)]
-struct Tally {
+struct CaseCounts {
     ran: usize,
     wrong: usize,
 }
@@ -32,19 +32,19 @@ fn run(rt: &HostRuntime) -> io::Result<bool> {
         println!(rt; "the schema cannot be read")?;
         return Ok(false);
     };
-    let mut tally = Tally { ran: 0, wrong: 0 };
+    let mut counts = CaseCounts { ran: 0, wrong: 0 };
     for line in cases.as_str().lines() {
         if line.is_empty() || line.starts_with('#') {
             continue;
         }
-        tally.ran = tally.ran.saturating_add(1);
+        counts.ran = counts.ran.saturating_add(1);
         let answer = run_case(alloc, &schema, line)?;
         if !agrees(rt, line, &answer)? {
-            tally.wrong = tally.wrong.saturating_add(1);
+            counts.wrong = counts.wrong.saturating_add(1);
         }
     }
-    println!(rt; "{} ran, {} differ", tally.ran, tally.wrong)?;
-    Ok(tally.wrong == 0)
+    println!(rt; "{} ran, {} differ", counts.ran, counts.wrong)?;
+    Ok(counts.wrong == 0)
 }
 
 /// Whether a case agrees; one that does not is written.

@@ -115,7 +115,7 @@ fn is_unknown_id(schema: &ValidatorSchema, id: &EntityUID) -> bool {
         return false;
     };
     match &declared.kind {
-        ValidatorEntityTypeKind::Enum(ids) => !ids.iter().any(|own| own == &id.eid),
+        ValidatorEntityTypeKind::Enum(ids) => !ids.contains(&id.eid),
         ValidatorEntityTypeKind::Standard(_) => false,
         ValidatorEntityTypeKind::External => false,
     }

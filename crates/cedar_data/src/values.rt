@@ -2,7 +2,7 @@
 // object is a record, unless its key is `__entity` or `__extn`.
 use crate::collected::{Collected, ExtensionText};
 use cedar_conformance::values::{Record, Value};
-use cedar_json::{FormError, FormFault, Key, Object, ValueKind, entity_uid, expected, said_by};
+use cedar_json::{FormError, FormFault, Key, Object, ValueKind, entity_uid, expected, text_of};
 use cedar_types::base::{AttributeType, Attributes, CedarType, Name};
 use std::alloc::AllocError;
 use std::collections::BTreeMap;
@@ -156,11 +156,11 @@ fn read_entity(
 fn read_call(collected: &mut Collected<'_>, call: Object<'_>) -> Result<Value, FormError> {
     call.allow(&["fn", "arg", "args"])?;
     let function = call.need("fn")?;
-    let Some((function, type_name)) = constructor(said_by(function)?) else {
+    let Some((function, type_name)) = constructor(text_of(function)?) else {
         return Err(expected(function, CONSTRUCTOR));
     };
     let argument = argument_of(call)?;
-    let text = RcStr::from_str(collected.alloc, said_by(argument)?)?;
+    let text = RcStr::from_str(collected.alloc, text_of(argument)?)?;
     collected.texts.push(ExtensionText {
         place: argument.place,
         function,

@@ -95,10 +95,10 @@ fn main(rt: HostRuntime) -> Result<(), ReportError> {
     let extensions = ExtensionSchemas::default(alloc);
     let validator = Validator::new(schema(alloc)?, &extensions);
     let steps = 1;
-    for said in &validate_for_slices(alloc, &validator, SoundMode::Strict, steps, &policies)? {
-        let id = &said.report.policy.template.id;
-        println!(rt; "{id} is accepted: {}", said.report.is_accepted)?;
-        for error in &said.report.errors {
+    for answer in &validate_for_slices(alloc, &validator, SoundMode::Strict, steps, &policies)? {
+        let id = &answer.report.policy.template.id;
+        println!(rt; "{id} is accepted: {}", answer.report.is_accepted)?;
+        for error in &answer.report.errors {
             println!(rt; "    {error}")?;
         }
     }

@@ -1,5 +1,5 @@
 // What a step asks, as its first line says it.
-use crate::schemas::schema_named;
+use crate::schemas::schema_by_name;
 use cedar_types::base::ValidationMode;
 
 /// The first line of a step: `S1 Strict check: principal.bool`.
@@ -71,9 +71,9 @@ impl<'a> Question<'a> {
             None => (subject, None),
         };
         Some(Question {
-            schema: schema_named(schema)?,
+            schema: schema_by_name(schema)?,
             table,
-            subject: Subject::named(subject)?,
+            subject: Subject::by_name(subject)?,
             bound,
             text,
         })
@@ -81,13 +81,13 @@ impl<'a> Question<'a> {
 }
 
 impl Subject {
-    fn named(name: &str) -> Option<Subject> {
+    fn by_name(name: &str) -> Option<Subject> {
         if let Some((mode, level)) = name.split_once(" level ") {
             let level = level.parse::<u32>().ok()?;
-            return Some(Subject::Level(mode_named(mode)?, level));
+            return Some(Subject::Level(mode_by_name(mode)?, level));
         }
         if let Some(mode) = name.strip_suffix(" required level") {
-            return Some(Subject::RequiredLevel(mode_named(mode)?));
+            return Some(Subject::RequiredLevel(mode_by_name(mode)?));
         }
         match name {
             "Strict check" => Some(Subject::Check(ValidationMode::Strict)),
@@ -111,7 +111,7 @@ impl Subject {
     }
 }
 
-fn mode_named(name: &str) -> Option<ValidationMode> {
+fn mode_by_name(name: &str) -> Option<ValidationMode> {
     match name {
         "Strict" => Some(ValidationMode::Strict),
         "Permissive" => Some(ValidationMode::Permissive),

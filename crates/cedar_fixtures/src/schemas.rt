@@ -1,7 +1,7 @@
 // The schemas that the rows stand on.
 
 /// The text of the schema of this name. `None` where there is none.
-pub fn schema_named(name: &str) -> Option<&'static str> {
+pub fn schema_by_name(name: &str) -> Option<&'static str> {
     match name {
         "S0" => Some(""),
         "S1" => Some(PHOTOS),

@@ -10,21 +10,21 @@ use Rattle.cedar_host.specs.Safety.{PassesEverywhere, DoesNotGoWrong, IsNeverTru
 -- one more report is on one more policy
 pub one_more_each :
     {R P : Type 0} (about : R → P) (policies : List P) (i : ℕ) (policy : P) (old new : List R)
-    (said : R) → new ≡ old ++ said ∷ [] → map about old ≡ take i policies → about said ≡ policy
+    (answer : R) → new ≡ old ++ answer ∷ [] → map about old ≡ take i policies → about answer ≡ policy
     → i < length policies → policy ≡ get_or policies i policy
     → map about new ≡ take (i + 1) policies
-one_more_each about policies i policy old new said pushed each of_policy below is =
+one_more_each about policies i policy old new answer pushed each of_policy below is =
     ap (map about) pushed
-    ∙ map_push about old said
+    ∙ map_push about old answer
     ∙ (λ j. each j ++ of_policy j ∷ [])
     ∙ ap (λ p. take i policies ++ p ∷ []) is
     ∙ sym (take_more policies i policy below)
 
 -- and says what all say
-pub one_more_right : {R : Type 0} (P : R → Type 0) (old new : List R) (said : R)
-    → new ≡ old ++ said ∷ [] → All P old → P said → All P new
-one_more_right P old new said pushed all right =
-    subst (All P) (sym pushed) (All-push P old said all right)
+pub one_more_right : {R : Type 0} (P : R → Type 0) (old new : List R) (answer : R)
+    → new ≡ old ++ answer ∷ [] → All P old → P answer → All P new
+one_more_right P old new answer pushed all right =
+    subst (All P) (sym pushed) (All-push P old answer all right)
 
 -- a report that says of a template what was found in it
 pub right_report : (b : Basis) (r : PolicyReport) (t : PlainTemplate) (accepted impossible : Bool)

@@ -29,8 +29,8 @@ validation_mode SoundMode.Strict = ValidationMode.Strict
 validation_mode SoundMode.Permissive = ValidationMode.Permissive
 
 -- the schema and the extension functions of its validator, and the mode that it asked for
-abbrev pub basis_in : {C : Type 0} → SoundMode → (C → Refusals) → Validator C → Basis
-basis_in mode meaning v = record {
+abbrev pub sound_basis : {C : Type 0} → SoundMode → (C → Refusals) → Validator C → Basis
+sound_basis mode meaning v = record {
   schema = schema_of (schema_in v);
   mode = validation_mode mode;
   table = record {

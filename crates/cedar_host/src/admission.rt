@@ -8,7 +8,7 @@ ghost use Rattle.cedar_conformance.specs.PolicyTests.{slots_of, policy_fits};
 ghost use Rattle.cedar_conformance.specs.Premises.{ArePremises, DataConforms};
 ghost use Rattle.cedar_host.specs.Admission.{AreAdmitted, AllEvaluateSafely, AllEvaluateInSlices, EvaluatesInSlices};
 ghost use Rattle.cedar_host.specs.Admission.{IsReady, is_ready, template_in, slots_in};
-ghost use Rattle.cedar_host.specs.Safety.{basis_in};
+ghost use Rattle.cedar_host.specs.Safety.{sound_basis};
 
 use crate::reports::PolicyReport;
 use crate::safety::SoundMode;
@@ -186,7 +186,7 @@ pub fn validate_and_admit<C: ArgumentCheck>(
     entities: &Entities,
 ) -> Result<Result<(), AdmissionFault>, AllocError>
     ensures { IfOk result (λ r. IsOk r
-        → EvaluatesInSlices (basis_in mode C.refusal validator.now) steps request.now entities.now
+        → EvaluatesInSlices (sound_basis mode C.refusal validator.now) steps request.now entities.now
         (template_of policy.now.template.now) (slots_of policy.now.values.now)) }
 {
     let found = validate_within(alloc, validator, mode, steps, policy.template)?;

@@ -9,7 +9,7 @@ ghost use Rattle.cedar_typechecker.specs.Passes.{errors_left};
 ghost use Rattle.cedar_typechecker.specs.Surveys.{passes_of, impossible_of, required_of};
 ghost use Rattle.cedar_typechecker.specs.ValidatorViews.{schema_in};
 ghost use Rattle.cedar_host.specs.Repeats.{AreRepeats, id_in};
-ghost use Rattle.cedar_host.specs.Safety.{basis_in, PassesEverywhere, DoesNotGoWrong};
+ghost use Rattle.cedar_host.specs.Safety.{sound_basis, PassesEverywhere, DoesNotGoWrong};
 ghost use Rattle.cedar_host.specs.Safety.{IsNeverTrue, IsRight};
 
 use crate::reports::{PolicyReport, report};
@@ -62,7 +62,7 @@ pub fn validate_set<'a, C: ArgumentCheck>(
 ) -> Result<Vec<PolicyReport<'a>>, AllocError>
     ensures each { IfOk result (λ reports. map (λ r. r.policy.now) reports.items ≡ policies.now) }
     ensures right { IfOk result (λ reports.
-        All (IsRight (basis_in mode C.refusal validator.now)) reports.items) }
+        All (IsRight (sound_basis mode C.refusal validator.now)) reports.items) }
 {
     let mut reports = Vec::with_capacity(alloc, policies.len())?;
     for policy in policies {
@@ -100,13 +100,13 @@ pub fn validate<C: ArgumentCheck>(
     policy: &Template,
 ) -> Result<Findings, AllocError>
     ensures checked { IfOk result (λ found. found.is_accepted ≡ true
-        → PassesEverywhere (basis_in mode C.refusal validator.now) (template_of policy.now)) }
+        → PassesEverywhere (sound_basis mode C.refusal validator.now) (template_of policy.now)) }
     ensures safe { IfOk result (λ found. found.is_accepted ≡ true
-        → DoesNotGoWrong (basis_in mode C.refusal validator.now) (template_of policy.now)) }
+        → DoesNotGoWrong (sound_basis mode C.refusal validator.now) (template_of policy.now)) }
     ensures never_true { IfOk result (λ found. found.is_impossible ≡ true
-        → IsNeverTrue (basis_in mode C.refusal validator.now) (template_of policy.now)) }
+        → IsNeverTrue (sound_basis mode C.refusal validator.now) (template_of policy.now)) }
     ensures level { IfOk result (λ found.
-        IsRequiredLevel (basis_in mode C.refusal validator.now) (template_of policy.now)
+        IsRequiredLevel (sound_basis mode C.refusal validator.now) (template_of policy.now)
         (option_map (λ l. l.level) found.level)) }
 {
     let survey = validator.survey(alloc, policy, ValidationMode::from(mode))?;

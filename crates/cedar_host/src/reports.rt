@@ -117,7 +117,7 @@ pub(crate) fn report<'a>(
     let warnings = warnings(alloc, policy, findings.warnings)?;
     let mut errors = errors(alloc, policy, findings.errors)?;
     if !is_accepted && errors.is_empty() {
-        errors.push(unexplained(alloc, &policy.template.id)?)?;
+        errors.push(unexplained_error(alloc, &policy.template.id)?)?;
     }
     Ok(PolicyReport {
         policy,
@@ -136,7 +136,7 @@ fn errors(
 ) -> Result<Vec<PolicyError>, AllocError> {
     let mut ordered = BTreeMap::new(alloc);
     for (error, environments) in found {
-        let shown = shown_error(alloc, policy, error, environments)?;
+        let shown = render_error(alloc, policy, error, environments)?;
         let line = shown.line.clone()?;
         let place = shown.place;
         ordered.insert(Order { place, line }, shown)?;
@@ -152,7 +152,7 @@ fn warnings(
 ) -> Result<Vec<PolicyWarning>, AllocError> {
     let mut ordered = BTreeMap::new(alloc);
     for warning in found {
-        let shown = shown_warning(alloc, &policy.template.id, warning)?;
+        let shown = render_warning(alloc, &policy.template.id, warning)?;
         let line = shown.line.clone()?;
         let place = shown.place;
         ordered.insert(Order { place, line }, shown)?;
@@ -170,16 +170,16 @@ fn in_order<T: Drop>(alloc: Global, ordered: BTreeMap<Order, T>) -> Result<Vec<T
 }
 
 /// An error as it is shown: its place, what stands there, and what is wrong.
-fn shown_error(
+fn render_error(
     alloc: Global,
     policy: &WrittenPolicy,
     error: ValidationError,
     environments: Environments,
 ) -> Result<PolicyError, AllocError> {
-    let said = error.to_string(alloc)?;
+    let shown = error.to_string(alloc)?;
     let place = error.source_loc();
-    let message = message(alloc, &policy.template.id, &said)?;
-    let line = line(alloc, &policy.text, place, &said)?;
+    let message = message(alloc, &policy.template.id, &shown)?;
+    let line = line(alloc, &policy.text, place, &shown)?;
     Ok(PolicyError {
         place,
         message,
@@ -189,39 +189,39 @@ fn shown_error(
     })
 }
 
-fn shown_warning(
+fn render_warning(
     alloc: Global,
     policy: &PolicyID,
     warning: ValidationWarning,
 ) -> Result<PolicyWarning, AllocError> {
-    let said = warning.to_string(alloc)?;
+    let shown = warning.to_string(alloc)?;
     Ok(PolicyWarning {
         place: warning.source_loc(),
-        message: message(alloc, policy, &said)?,
-        line: line(alloc, "", None, &said)?,
+        message: message(alloc, policy, &shown)?,
+        line: line(alloc, "", None, &shown)?,
         warning,
     })
 }
 
 /// A text on one line, without the policy's id, with which the texts of errors and warnings begin.
-fn message(alloc: Global, policy: &PolicyID, said: &str) -> Result<String, AllocError> {
+fn message(alloc: Global, policy: &PolicyID, shown: &str) -> Result<String, AllocError> {
     let prefix = format!(in alloc; "for policy `{policy}`, ")?;
-    let own = said.strip_prefix(prefix.as_str()).unwrap_or(said);
+    let own = shown.strip_prefix(prefix.as_str()).unwrap_or(shown);
     format!(in alloc; "{}", OneLine(own))
 }
 
 /// A text on one line, behind the place that it is about and what stands there.
-fn line(alloc: Global, text: &str, place: Option<Loc>, said: &str) -> Result<String, AllocError> {
-    let said = OneLine(said);
+fn line(alloc: Global, text: &str, place: Option<Loc>, shown: &str) -> Result<String, AllocError> {
+    let shown = OneLine(shown);
     let Some(Loc { start, end }) = place else {
-        return format!(in alloc; "{said}");
+        return format!(in alloc; "{shown}");
     };
     let part = OneLine(text.get(start..end).unwrap_or(""));
-    format!(in alloc; "{start}..{end} `{part}`: {said}")
+    format!(in alloc; "{start}..{end} `{part}`: {shown}")
 }
 
 /// What is said of a policy that is refused without an error.
-fn unexplained(alloc: Global, policy: &PolicyID) -> Result<PolicyError, AllocError> {
+fn unexplained_error(alloc: Global, policy: &PolicyID) -> Result<PolicyError, AllocError> {
     let id = Escaped(policy.text.as_str());
     Ok(PolicyError {
         place: None,

@@ -3,7 +3,7 @@ ghost use Rattle.std.specs.Prelude.{◌≡◌, true, IfOk};
 ghost use Rattle.cedar_types.specs.Environments.RequestEnvs.{env_of};
 ghost use Rattle.cedar_types.specs.Templates.{template_of};
 ghost use Rattle.cedar_typing.specs.Views.Checks.{basis_of};
-ghost use Rattle.cedar_host.specs.Safety.{basis_in, IsSafeToEvaluate};
+ghost use Rattle.cedar_host.specs.Safety.{sound_basis, IsSafeToEvaluate};
 
 use cedar_typechecker::rbac::Validator;
 use cedar_types::base::{ArgumentCheck, Template, ValidationMode};
@@ -40,7 +40,7 @@ pub(crate) fn typechecker_in<'a, C: ArgumentCheck>(
     validator: &'a Validator<'_, C>,
     mode: SoundMode,
 ) -> Typechecker<'a, C>
-    ensures { basis_of C.refusal result ≡ basis_in mode C.refusal validator.now }
+    ensures { basis_of C.refusal result ≡ sound_basis mode C.refusal validator.now }
 {
     let schema = validator.schema();
     let extensions = validator.extensions();
@@ -57,7 +57,7 @@ pub fn is_safe_in<C: ArgumentCheck>(
     env: &RequestEnv<'_>,
 ) -> Result<bool, AllocError>
     ensures { IfOk result (λ safe. safe ≡ true
-        → IsSafeToEvaluate (basis_in mode C.refusal validator.now)
+        → IsSafeToEvaluate (sound_basis mode C.refusal validator.now)
         (template_of policy.now) (env_of env.now)) }
 {
     let typechecker = typechecker_in(validator, mode);

@@ -3,7 +3,7 @@ ghost use Rattle.std.specs.Prelude.{◌≡◌, true, map, option_map, All, IfOk}
 ghost use Rattle.cedar_types.specs.Templates.{template_of};
 ghost use Rattle.cedar_typechecker.specs.Levels.Required.{IsRequiredLevel};
 ghost use Rattle.cedar_host.specs.Responses.{HaveSameResponses};
-ghost use Rattle.cedar_host.specs.Safety.{basis_in, PassesEverywhere, DoesNotGoWrong};
+ghost use Rattle.cedar_host.specs.Safety.{sound_basis, PassesEverywhere, DoesNotGoWrong};
 ghost use Rattle.cedar_host.specs.Safety.{IsNeverTrue};
 ghost use Rattle.cedar_host.specs.SetLevels.{IsLevelOfAll, level_in};
 ghost use Rattle.cedar_host.specs.Slices.{NeedsSliceAlone, IsRightForSlices};
@@ -43,9 +43,9 @@ pub fn validate_for_slices<'a, C: ArgumentCheck>(
     ensures each { IfOk result (λ reports.
         map (λ r. r.report.policy.now) reports.items ≡ policies.now) }
     ensures right { IfOk result (λ reports.
-        All (IsRightForSlices (basis_in mode C.refusal validator.now) steps) reports.items) }
+        All (IsRightForSlices (sound_basis mode C.refusal validator.now) steps) reports.items) }
     ensures responses { IfOk result (λ reports.
-        HaveSameResponses (basis_in mode C.refusal validator.now) steps reports.items) }
+        HaveSameResponses (sound_basis mode C.refusal validator.now) steps reports.items) }
 {
     let mut reports = Vec::with_capacity(alloc, policies.len())?;
     for policy in policies {
@@ -83,15 +83,15 @@ pub fn validate_within<C: ArgumentCheck>(
     policy: &Template,
 ) -> Result<Findings, AllocError>
     ensures checked { IfOk result (λ found. found.is_accepted ≡ true
-        → PassesEverywhere (basis_in mode C.refusal validator.now) (template_of policy.now)) }
+        → PassesEverywhere (sound_basis mode C.refusal validator.now) (template_of policy.now)) }
     ensures safe { IfOk result (λ found. found.is_accepted ≡ true
-        → DoesNotGoWrong (basis_in mode C.refusal validator.now) (template_of policy.now)) }
+        → DoesNotGoWrong (sound_basis mode C.refusal validator.now) (template_of policy.now)) }
     ensures sliced { IfOk result (λ found. found.is_accepted ≡ true
-        → NeedsSliceAlone (basis_in mode C.refusal validator.now) (template_of policy.now) steps) }
+        → NeedsSliceAlone (sound_basis mode C.refusal validator.now) (template_of policy.now) steps) }
     ensures never_true { IfOk result (λ found. found.is_impossible ≡ true
-        → IsNeverTrue (basis_in mode C.refusal validator.now) (template_of policy.now)) }
+        → IsNeverTrue (sound_basis mode C.refusal validator.now) (template_of policy.now)) }
     ensures level { IfOk result (λ found.
-        IsRequiredLevel (basis_in mode C.refusal validator.now) (template_of policy.now)
+        IsRequiredLevel (sound_basis mode C.refusal validator.now) (template_of policy.now)
         (option_map (λ l. l.level) found.level)) }
 {
     let survey = validator.survey(alloc, policy, ValidationMode::from(mode))?;

@@ -82,9 +82,9 @@ fn admitted(
     let reports = validate_for_slices(alloc, &validator, SoundMode::Strict, 1, &policies)?;
     let values: SlotEnv = BTreeMap::new(alloc);
     let mut linked = Vec::new(alloc);
-    for said in &reports {
+    for it in &reports {
         linked.push(LinkedReport {
-            report: &said.report,
+            report: &it.report,
             values: &values,
         })?;
     }
@@ -97,22 +97,22 @@ fn admitted(
 fn what_conforms_is_let_in(rt: HostRuntime) -> Result<(), Fail> {
     let alloc = rt.alloc();
     let alice = id(alloc, "User", "alice")?;
-    let said = admitted(alloc, by_its_contact(alloc)?, alice)?;
-    assert_eq!(rt; said, Ok(()));
+    let answer = admitted(alloc, by_its_contact(alloc)?, alice)?;
+    assert_eq!(rt; answer, Ok(()));
     Ok(())
 }
 
 #[test]
 fn a_request_that_does_not_conform_is_not_let_in(rt: HostRuntime) -> Result<(), Fail> {
     let alloc = rt.alloc();
-    let said = admitted(
+    let answer = admitted(
         alloc,
         by_its_contact(alloc)?,
         id(alloc, "Document", "plan")?,
     )?;
     let found = EntityType::from(Name::unqualified_name(alloc, "Document")?);
     let fault = PremiseFault::Request(RequestFault::PrincipalType(found));
-    assert_eq!(rt; said, Err(AdmissionFault::Premise(fault)));
+    assert_eq!(rt; answer, Err(AdmissionFault::Premise(fault)));
     Ok(())
 }
 
@@ -142,9 +142,9 @@ fn is_refused(
     template: &Template,
     steps: u32,
 ) -> Result<(), SchemaError> {
-    let said = validated(alloc, template, steps)?;
+    let answer = validated(alloc, template, steps)?;
     let id = template.id.clone()?;
-    assert_eq!(rt; said, Err(AdmissionFault::NotAccepted(id)));
+    assert_eq!(rt; answer, Err(AdmissionFault::NotAccepted(id)));
     Ok(())
 }
 

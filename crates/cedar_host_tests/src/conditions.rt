@@ -10,7 +10,7 @@ use std::alloc::{AllocError, Global};
 use std::test::Fail;
 
 /// The action of the environment, and whether the condition is False there.
-fn shown(alloc: Global, condition: &TypedCondition<'_>) -> Result<String, AllocError> {
+fn show(alloc: Global, condition: &TypedCondition<'_>) -> Result<String, AllocError> {
     let action = match condition.env.action_entity_uid() {
         None => "any",
         Some(action) => action.eid.as_str(),
@@ -33,7 +33,7 @@ fn all_shown(
     };
     let mut lines = Vec::new(alloc);
     for condition in &conditions {
-        lines.push(shown(alloc, condition)?)?;
+        lines.push(show(alloc, condition)?)?;
     }
     lines.sort()?;
     Ok(Some(lines))

@@ -23,7 +23,7 @@ pub fn users(alloc: Global, eids: &[&str]) -> Result<Vec<EntityUID>, AllocError>
 }
 
 /// An entity of this id, which is linked to these.
-fn linked(alloc: Global, eid: &str, links: &[&str]) -> Result<Linked, AllocError> {
+fn link(alloc: Global, eid: &str, links: &[&str]) -> Result<Linked, AllocError> {
     let links = users(alloc, links)?;
     let id = user(alloc, eid)?;
     Ok(Linked { id, links })
@@ -44,7 +44,7 @@ const LINKS: [(&str, &[&str]); 6] = [
 pub fn memory(alloc: Global) -> Result<Memory, AllocError> {
     let mut entities = Vec::new(alloc);
     for (eid, links) in LINKS {
-        entities.push(linked(alloc, eid, links)?)?;
+        entities.push(link(alloc, eid, links)?)?;
     }
     let asked = Cell::new(0);
     Ok(Memory { entities, asked })
@@ -61,7 +61,7 @@ const WANTED: [(u32, &[&str], i64); 6] = [
 ];
 
 /// The ids within so many steps of `ann`, which is named twice.
-fn found(alloc: Global, memory: &Memory, steps: u32) -> Result<BTreeSet<EntityUID>, AllocError> {
+fn find(alloc: Global, memory: &Memory, steps: u32) -> Result<BTreeSet<EntityUID>, AllocError> {
     let start = users(alloc, &["ann", "ann"])?;
     ids_within(alloc, memory, &start, steps)
 }
@@ -89,7 +89,7 @@ fn are_found(
     asked: i64,
 ) -> Result<(), AllocError> {
     let memory = memory(alloc)?;
-    are_users(rt, alloc, &found(alloc, &memory, steps)?, wanted)?;
+    are_users(rt, alloc, &find(alloc, &memory, steps)?, wanted)?;
     assert_eq!(rt; memory.asked.get(), asked);
     Ok(())
 }

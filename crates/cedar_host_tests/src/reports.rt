@@ -31,7 +31,7 @@ fn twice_unguarded(alloc: Global) -> Result<Template, AllocError> {
 }
 
 /// What is kept of the report on this policy alone, when the policy has gone.
-fn kept(alloc: Global, policy: Template) -> Result<Vec<KeptReport>, SchemaError> {
+fn keep(alloc: Global, policy: Template) -> Result<Vec<KeptReport>, SchemaError> {
     let mut policies = Vec::new(alloc);
     add(alloc, &mut policies, "policy0", policy, "")?;
     let extensions = ExtensionSchemas::default(alloc);
@@ -51,7 +51,7 @@ fn keep_all(alloc: Global, reports: Vec<PolicyReport<'_>>) -> Result<Vec<KeptRep
 #[test]
 fn errors_are_typed_and_in_order_of_place(rt: HostRuntime) -> Result<(), Fail> {
     let alloc = rt.alloc();
-    let kept = kept(alloc, twice_unguarded(alloc)?)?;
+    let kept = keep(alloc, twice_unguarded(alloc)?)?;
     assert_eq!(rt; kept.len(), 1);
     for report in &kept {
         is_twice_unguarded(&rt, report);
@@ -82,7 +82,7 @@ fn is_twice_unguarded(rt: &impl Abort, report: &KeptReport) {
 }
 
 /// Policies of these ids.
-fn named(alloc: Global, ids: &[&str]) -> Result<Vec<WrittenPolicy>, AllocError> {
+fn policies_with_ids(alloc: Global, ids: &[&str]) -> Result<Vec<WrittenPolicy>, AllocError> {
     let mut policies = Vec::new(alloc);
     for id in ids {
         add(alloc, &mut policies, id, unguarded(alloc)?, "")?;
@@ -97,7 +97,7 @@ fn are_repeated(
     ids: &[&str],
     wanted: &[&str],
 ) -> Result<(), AllocError> {
-    let repeated = repeated_ids(alloc, &named(alloc, ids)?)?;
+    let repeated = repeated_ids(alloc, &policies_with_ids(alloc, ids)?)?;
     assert_eq!(rt; repeated.len(), wanted.len());
     for (id, want) in repeated.iter().zip(wanted) {
         assert_eq!(rt; id.text.as_str(), *want);

@@ -145,8 +145,8 @@ fn are_said(
     let policies = policies(alloc)?;
     let reports = validate_for_slices(alloc, validator, mode, steps, &policies)?;
     assert_eq!(rt; reports.len(), wanted.len());
-    for (said, want) in reports.iter().zip(wanted) {
-        is_said(rt, &said.report, want);
+    for (answer, want) in reports.iter().zip(wanted) {
+        is_said(rt, &answer.report, want);
     }
     Ok(())
 }

@@ -149,7 +149,7 @@ pub fn items_of(value: &Value) -> Result<&[Value], FormError> {
 }
 
 /// What the text says that a value has to be.
-pub fn said_by(value: &Value) -> Result<&str, FormError> {
+pub fn text_of(value: &Value) -> Result<&str, FormError> {
     match &value.kind {
         ValueKind::Text(text) => Ok(text.as_str()),
         _ => Err(expected(value, "a text")),
@@ -170,7 +170,7 @@ pub fn check_annotations(object: Object<'_>) -> Result<(), FormError> {
         return Ok(());
     };
     for (_, value) in Object::of(annotations)?.entries {
-        said_by(value)?;
+        text_of(value)?;
     }
     Ok(())
 }

@@ -18,7 +18,7 @@ mod values;
 mod whole;
 
 pub use faults::{Fault, ReadError};
-pub use forms::{FormError, FormFault, Object, expected, items_of, said_by};
+pub use forms::{FormError, FormFault, Object, expected, items_of, text_of};
 pub use policies::{Policies, ReadPolicy, entity_uid};
 pub use schemas::schema_text;
 pub use steps::MAX_LENGTH;

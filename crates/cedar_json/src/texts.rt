@@ -15,9 +15,9 @@ pub fn text(cursor: &mut Cursor<'_>) -> Result<RcStr, ReadError>
     ensures err { IfErr result (λ e. IsFaultWithin (length cursor.old.text.now) e) }
 {
     match content(cursor.alloc, cursor.rest())? {
-        Ok((said, size)) => {
+        Ok((plain, size)) => {
             cursor.pass(size);
-            Ok(RcStr::from_string(said)?)
+            Ok(RcStr::from_string(plain)?)
         }
         Err((fault, at)) => {
             cursor.pass(at);
@@ -32,29 +32,29 @@ fn content(
     alloc: Global,
     text: &str,
 ) -> Result<Result<(String, usize), (Fault, usize)>, AllocError> {
-    let mut said = String::new(alloc);
+    let mut plain = String::new(alloc);
     let mut escape = Escape::Outside;
     let mut begin = 0;
     for (at, c) in text.char_indices().skip(1) {
         if escape == Escape::Outside {
             begin = at;
             if c == '"' {
-                return Ok(Ok((said, at.saturating_add(1))));
+                return Ok(Ok((plain, at.saturating_add(1))));
             }
         }
         let (next, part) = match step(escape, c) {
             Ok(passed) => passed,
             Err(fault) => return Ok(Err((fault, begin))),
         };
-        push_part(&mut said, part)?;
+        push_part(&mut plain, part)?;
         escape = next;
     }
     Ok(Err((Fault::Unclosed, 0)))
 }
 
-fn push_part(said: &mut String, part: Option<char>) -> Result<(), AllocError> {
+fn push_part(plain: &mut String, part: Option<char>) -> Result<(), AllocError> {
     if let Some(c) = part {
-        said.push(c)?;
+        plain.push(c)?;
     }
     Ok(())
 }

@@ -1,5 +1,5 @@
 // Policies of JSON: their conditions and scopes as trees, or their faults.
-use crate::marked::marked;
+use crate::marked::split_at_mark;
 use crate::trees::push_expr;
 use cedar_json::{FormError, Policies, ReadPolicy, value_alone};
 use cedar_types::base::{
@@ -363,7 +363,7 @@ fn faults_in_conditions(rt: HostRuntime) -> Result<(), Fail> {
 
 /// A text has this fault at the mark in it.
 fn check_marked(rt: &impl Abort, alloc: Global, text: &str, fault: &str) -> Result<(), Fail> {
-    let (json, at) = marked(alloc, text)?;
+    let (json, at) = split_at_mark(alloc, text)?;
     let given = answer(alloc, json.as_str())?;
     let place = format!(in alloc; "{at} {fault}")?;
     let given = given.as_str().trim_end_matches(';');

@@ -192,7 +192,7 @@ fn objects(rt: HostRuntime) -> Result<(), Fail> {
 }
 
 /// So many brackets, and what stands in them.
-fn nested(alloc: Global, opening: &str, closing: &str, depth: usize) -> Result<String, Fail> {
+fn nest(alloc: Global, opening: &str, closing: &str, depth: usize) -> Result<String, Fail> {
     let mut text = String::new(alloc);
     for _ in 0..depth {
         text.push_str(opening)?;
@@ -208,14 +208,14 @@ fn nested(alloc: Global, opening: &str, closing: &str, depth: usize) -> Result<S
 fn depth(rt: HostRuntime) -> Result<(), Fail> {
     let alloc = rt.alloc();
     for (opening, closing, size) in [("[", "]", 1), ("{\"a\":", "}", 5)] {
-        let most = nested(alloc, opening, closing, 400)?;
+        let most = nest(alloc, opening, closing, 400)?;
         let given = answer(alloc, most.as_str())?;
         assert!(rt; given.starts_with("0-"));
-        let more = nested(alloc, opening, closing, 401)?;
+        let more = nest(alloc, opening, closing, 401)?;
         let given = answer(alloc, more.as_str())?;
         let wanted = format!(in alloc; "{} TooDeep", 400 * size)?;
         assert_eq!(rt; given.as_str(), wanted.as_str());
-        let many = nested(alloc, opening, closing, 100_000)?;
+        let many = nest(alloc, opening, closing, 100_000)?;
         let given = answer(alloc, many.as_str())?;
         assert_eq!(rt; given.as_str(), wanted.as_str());
     }

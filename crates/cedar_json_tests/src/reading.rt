@@ -1,5 +1,5 @@
 // Schemas of JSON, read in Cedar's own syntax: what they declare, and the places of their faults in the text of JSON.
-use crate::marked::marked;
+use crate::marked::split_at_mark;
 use cedar_json::{FormError, schema_text};
 use cedar_reading::{
     ReadError, RefusedName, SchemaReadError, refused_name, schema, shadowing_name,
@@ -143,7 +143,7 @@ fn faults(rt: HostRuntime) -> Result<(), Fail> {
             "Shadowing",
         ),
     ] {
-        let (json, at) = marked(alloc, text)?;
+        let (json, at) = split_at_mark(alloc, text)?;
         let given = answer(alloc, json.as_str())?;
         let wanted = format!(in alloc; "{at} {fault}")?;
         assert_eq!(rt; given.as_str(), wanted.as_str(), "{text}");

@@ -1,5 +1,5 @@
 // Schemas of JSON in Cedar's own syntax, and their faults.
-use crate::marked::marked;
+use crate::marked::split_at_mark;
 use cedar_json::{FormError, schema_text};
 use cedar_types::base::Loc;
 use std::alloc::{AllocError, Global};
@@ -27,7 +27,7 @@ fn check(rt: &impl Abort, alloc: Global, cases: &[(&str, &str)]) -> Result<(), F
 /// Each schema has this fault at the mark in it.
 fn check_faults(rt: &impl Abort, alloc: Global, cases: &[(&str, &str)]) -> Result<(), Fail> {
     for (text, fault) in cases {
-        let (json, at) = marked(alloc, text)?;
+        let (json, at) = split_at_mark(alloc, text)?;
         let given = answer(alloc, json.as_str())?;
         let wanted = format!(in alloc; "{at} {fault}")?;
         assert_eq!(rt; given.as_str(), wanted.as_str(), "{text}");

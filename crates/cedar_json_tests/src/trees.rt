@@ -6,7 +6,7 @@ use std::alloc::AllocError;
 pub fn push_expr(out: &mut String, expr: &Expr) -> Result<(), AllocError> {
     match &expr.kind {
         ExprKind::Lit(literal) => push_literal(out, literal),
-        ExprKind::Var(variable) => out.push_str(shown_variable(*variable)),
+        ExprKind::Var(variable) => out.push_str(show_variable(*variable)),
         ExprKind::Slot(SlotId::Principal) => out.push_str("?principal"),
         ExprKind::Slot(SlotId::Resource) => out.push_str("?resource"),
         ExprKind::Unknown(name) => write!(out, "unknown:{name}"),
@@ -38,12 +38,12 @@ pub fn push_expr(out: &mut String, expr: &Expr) -> Result<(), AllocError> {
             out.push(')')
         }
         ExprKind::UnaryApp(operator, operand) => {
-            write!(out, "({} ", shown_unary(*operator))?;
+            write!(out, "({} ", show_unary(*operator))?;
             push_expr(out, operand)?;
             out.push(')')
         }
         ExprKind::BinaryApp(operator, left, right) => {
-            write!(out, "({} ", shown_binary(*operator))?;
+            write!(out, "({} ", show_binary(*operator))?;
             push_expr(out, left)?;
             out.push(' ')?;
             push_expr(out, right)?;
@@ -127,7 +127,7 @@ fn push_pattern(out: &mut String, pattern: &[PatternElem]) -> Result<(), AllocEr
     Ok(())
 }
 
-fn shown_variable(variable: Var) -> &'static str {
+fn show_variable(variable: Var) -> &'static str {
     match variable {
         Var::Principal => "principal",
         Var::Action => "action",
@@ -136,7 +136,7 @@ fn shown_variable(variable: Var) -> &'static str {
     }
 }
 
-fn shown_unary(operator: UnaryOp) -> &'static str {
+fn show_unary(operator: UnaryOp) -> &'static str {
     match operator {
         UnaryOp::Not => "not",
         UnaryOp::Neg => "neg",
@@ -144,7 +144,7 @@ fn shown_unary(operator: UnaryOp) -> &'static str {
     }
 }
 
-fn shown_binary(operator: BinaryOp) -> &'static str {
+fn show_binary(operator: BinaryOp) -> &'static str {
     match operator {
         BinaryOp::Eq => "==",
         BinaryOp::Less => "<",

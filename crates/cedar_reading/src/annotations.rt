@@ -12,7 +12,7 @@ pub fn annotations(cursor: &mut Cursor<'_>) -> Result<Option<String>, ReadError>
             break;
         }
         let is_id = cursor.word()? == "id";
-        let value = annotated(cursor)?;
+        let value = annotation_value(cursor)?;
         if is_id {
             id = Some(value);
         }
@@ -21,7 +21,7 @@ pub fn annotations(cursor: &mut Cursor<'_>) -> Result<Option<String>, ReadError>
 }
 
 /// Reads the value of an annotation, which is empty where there is none.
-fn annotated(cursor: &mut Cursor<'_>) -> Result<String, ReadError> {
+fn annotation_value(cursor: &mut Cursor<'_>) -> Result<String, ReadError> {
     if !cursor.takes("(") {
         return Ok(String::new(cursor.alloc));
     }

@@ -7,7 +7,7 @@ use std::alloc::Global;
 
 /// How deep the parts of a text may stand inside each other: of an expression its nodes, and also the brackets and operators
 /// that are begun at a place; of a type the steps of the grammar.
-pub const MAX_NESTING: usize = 800;
+pub const MAX_GRAMMAR_STEPS: usize = 800;
 
 /// How many bytes a text may have.
 pub const MAX_LENGTH: usize = 1 << 26;

@@ -1,7 +1,7 @@
 // Expressions, as Cedar writes them. What is begun stands in a list, and not on the stack: so the stack does not grow with what
 // the text nests, parentheses included.
 use crate::brackets::{Fields, List, ListOf};
-use crate::cursor::{Cursor, MAX_NESTING};
+use crate::cursor::{Cursor, MAX_GRAMMAR_STEPS};
 use crate::faults::{Fault, ReadError};
 use crate::members::{Beginning, beginning_with_word, has, literal, negative_number, slot};
 use crate::names::entity_type;
@@ -15,7 +15,7 @@ use crate::tokens::TokenKind;
 use cedar_types::base::Expr;
 use std::rc::RcStr;
 
-/// Reads an expression. At most `MAX_NESTING` nodes stand inside each other in it, and at most as many brackets and operators
+/// Reads an expression. At most `MAX_GRAMMAR_STEPS` nodes stand inside each other in it, and at most as many brackets and operators
 /// are begun at any place.
 pub fn expression(cursor: &mut Cursor<'_>) -> Result<Part, ReadError> {
     let mut open = Vec::new(cursor.alloc);
@@ -33,14 +33,14 @@ pub fn expression(cursor: &mut Cursor<'_>) -> Result<Part, ReadError> {
 
 /// Reads the beginning of an operand: a whole one, or what begins one. It fails where too much is begun.
 fn operand(cursor: &mut Cursor<'_>, open: &mut Vec<Open>) -> Result<Next, ReadError> {
-    if open.len() >= MAX_NESTING {
+    if open.len() >= MAX_GRAMMAR_STEPS {
         return Err(cursor.fault(Fault::TooDeep));
     }
     let start = cursor.start();
     let token = cursor.peek();
     match token.kind {
-        TokenKind::Mark => marked(cursor, open, token.text, start),
-        TokenKind::Word => named(cursor, open, start),
+        TokenKind::Mark => begin_with_mark(cursor, open, token.text, start),
+        TokenKind::Word => begin_with_word(cursor, open, start),
         _ => {
             let whole = literal(cursor)?;
             Ok(Next::Behind(leaf_since(cursor, start, whole), Level::Member))
@@ -49,7 +49,7 @@ fn operand(cursor: &mut Cursor<'_>, open: &mut Vec<Open>) -> Result<Next, ReadEr
 }
 
 /// Reads the beginning of an operand that begins with this mark.
-fn marked(
+fn begin_with_mark(
     cursor: &mut Cursor<'_>,
     open: &mut Vec<Open>,
     mark: &str,
@@ -101,7 +101,11 @@ fn behind_minus(
 }
 
 /// Reads the beginning of an operand that begins with a word. An `if` may only begin a whole expression.
-fn named(cursor: &mut Cursor<'_>, open: &mut Vec<Open>, start: usize) -> Result<Next, ReadError> {
+fn begin_with_word(
+    cursor: &mut Cursor<'_>,
+    open: &mut Vec<Open>,
+    start: usize,
+) -> Result<Next, ReadError> {
     if innermost_level(open) == Level::Whole && cursor.takes("if") {
         return begin(open, Open::Test(start));
     }

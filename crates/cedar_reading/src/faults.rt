@@ -5,7 +5,7 @@ use thiserror::Error;
 /// What is wrong at a place of a text.
 #[derive(Clone, Copy, PartialEq, Eq, Debug, Error)]
 pub enum Fault {
-    /// Parts stand inside each other more than `MAX_NESTING` times.
+    /// Parts stand inside each other more than `MAX_GRAMMAR_STEPS` times.
     #[error("nested too deep")]
     TooDeep,
     /// The text is longer than `MAX_LENGTH`.

@@ -1,5 +1,5 @@
 // The forms of expressions that have no grammar of their own.
-use crate::cursor::{Cursor, MAX_NESTING};
+use crate::cursor::{Cursor, MAX_GRAMMAR_STEPS};
 use crate::faults::{Fault, ReadError};
 use crate::names::{placed_name, uid_of};
 use crate::operators::method;
@@ -64,9 +64,9 @@ pub fn literal(cursor: &mut Cursor<'_>) -> Result<Expr, ReadError> {
             long(token.text, token.place.start)
         }
         TokenKind::Text => {
-            let said = text(cursor)?;
-            let said = RcStr::from_str(cursor.alloc, said.as_str())?;
-            Ok(Expr::val(Literal::String(said)))
+            let content = text(cursor)?;
+            let content = RcStr::from_str(cursor.alloc, content.as_str())?;
+            Ok(Expr::val(Literal::String(content)))
         }
         TokenKind::Unknown => Err(cursor.fault(Fault::Text)),
         _ => Err(cursor.fault(Fault::Expected("an expression"))),
@@ -77,8 +77,8 @@ pub fn literal(cursor: &mut Cursor<'_>) -> Result<Expr, ReadError> {
 pub fn negative_number(cursor: &mut Cursor<'_>, start: usize) -> Result<Expr, ReadError> {
     let alloc = cursor.alloc;
     let digits = cursor.take().text;
-    let said = format!(in alloc; "-{digits}")?;
-    long(said.as_str(), start)
+    let content = format!(in alloc; "-{digits}")?;
+    long(content.as_str(), start)
 }
 
 /// The number that this text says, which begins at this byte.
@@ -95,8 +95,8 @@ pub fn key(cursor: &mut Cursor<'_>) -> Result<RcStr, ReadError> {
     if cursor.peek().kind == TokenKind::Word {
         return Ok(RcStr::from_str(alloc, cursor.word()?)?);
     }
-    let said = text(cursor)?;
-    Ok(RcStr::from_str(alloc, said.as_str())?)
+    let content = text(cursor)?;
+    Ok(RcStr::from_str(alloc, content.as_str())?)
 }
 
 /// Reads what stands behind `has`: one attribute, or several with points between them.
@@ -114,7 +114,7 @@ pub fn has(cursor: &mut Cursor<'_>, base: Expr) -> Result<Expr, ReadError> {
 fn further_attributes(cursor: &mut Cursor<'_>) -> Result<Vec<RcStr>, ReadError> {
     let mut attributes = Vec::new(cursor.alloc);
     // each is a test of what those before it lead to
-    for _ in 0..MAX_NESTING {
+    for _ in 0..MAX_GRAMMAR_STEPS {
         if !cursor.takes(".") {
             return Ok(attributes);
         }
@@ -140,7 +140,7 @@ pub fn call(alloc: Global, start: usize, name: Name, args: Vec<Expr>) -> Result<
 /// The text of a literal that is one.
 fn string_in(expr: &Expr) -> Option<&str> {
     match &expr.kind {
-        ExprKind::Lit(Literal::String(said)) => Some(said.as_str()),
+        ExprKind::Lit(Literal::String(content)) => Some(content.as_str()),
         _ => None,
     }
 }

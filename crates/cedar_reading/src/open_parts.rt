@@ -2,7 +2,7 @@
 use crate::brackets::{Fields, Key, List};
 use crate::cursor::Cursor;
 use crate::faults::ReadError;
-use crate::operators::{Connective, Level, is_in, joined, nodes_within};
+use crate::operators::{Connective, Level, is_in, join, nodes_within};
 use crate::parts::{Part, in_parentheses, part_since};
 use cedar_types::base::{EntityType, Expr};
 
@@ -63,11 +63,11 @@ pub fn innermost_level(open: &[Open]) -> Level {
 pub fn close(cursor: &mut Cursor<'_>, open: &mut Vec<Open>, part: Part) -> Result<Next, ReadError> {
     match open.pop() {
         None => Ok(Next::End(part)),
-        Some(Open::Prefix(prefix, start)) => prefixed(cursor, prefix, start, part),
+        Some(Open::Prefix(prefix, start)) => close_prefix(cursor, prefix, start, part),
         Some(Open::Between(level, connective, left)) => {
             between(cursor, level, connective, left, part)
         }
-        Some(Open::Within(entity_type, left)) => within(cursor, entity_type, left, part),
+        Some(Open::Within(entity_type, left)) => close_within(cursor, entity_type, left, part),
         Some(Open::Test(start)) => {
             cursor.expect("then")?;
             begin(open, Open::Chosen(start, part))
@@ -86,7 +86,7 @@ pub fn close(cursor: &mut Cursor<'_>, open: &mut Vec<Open>, part: Part) -> Resul
     }
 }
 
-fn prefixed(
+fn close_prefix(
     cursor: &Cursor<'_>,
     prefix: Prefix,
     start: usize,
@@ -114,7 +114,7 @@ fn between(
         .max(right.depth)
         .saturating_add(nodes_within(connective));
     let place = cursor.since(start);
-    let whole = joined(cursor.alloc, place, connective, left.expr, right.expr)?;
+    let whole = join(cursor.alloc, place, connective, left.expr, right.expr)?;
     let whole = part_since(cursor, start, depth, whole)?;
     let follows = if level == Level::Relation {
         Level::And
@@ -124,7 +124,7 @@ fn between(
     Ok(Next::Behind(whole, follows))
 }
 
-fn within(
+fn close_within(
     cursor: &Cursor<'_>,
     entity_type: EntityType,
     left: Part,

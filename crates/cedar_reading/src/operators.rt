@@ -94,7 +94,7 @@ fn word(text: &str) -> Option<(Level, Operator)> {
 }
 
 /// Both operands with what stands between them. The whole stands at this place, also where it is negated.
-pub fn joined(
+pub fn join(
     alloc: Global,
     place: Loc,
     connective: Connective,

@@ -1,5 +1,5 @@
 // Expressions that were read, with the text that they cover.
-use crate::cursor::{Cursor, MAX_NESTING};
+use crate::cursor::{Cursor, MAX_GRAMMAR_STEPS};
 use crate::faults::{Fault, ReadError};
 use cedar_types::base::{Expr, Loc};
 
@@ -10,7 +10,7 @@ pub struct Part {
     pub expr: Expr,
     /// What was read of the text, parentheses included.
     pub covers: Loc,
-    /// How many nodes stand inside each other, itself included: at most `MAX_NESTING`.
+    /// How many nodes stand inside each other, itself included: at most `MAX_GRAMMAR_STEPS`.
     pub depth: usize,
 }
 
@@ -33,7 +33,7 @@ pub fn part_since(
     expr: Expr,
 ) -> Result<Part, ReadError> {
     let depth = inner.saturating_add(1);
-    if depth > MAX_NESTING {
+    if depth > MAX_GRAMMAR_STEPS {
         return Err(cursor.fault(Fault::TooDeep));
     }
     let covers = cursor.since(start);

@@ -1,6 +1,6 @@
 // The policies of a file, one after another.
 use crate::annotations::annotations;
-use crate::cursor::{Cursor, MAX_NESTING};
+use crate::cursor::{Cursor, MAX_GRAMMAR_STEPS};
 use crate::expressions::expression;
 use crate::faults::{Fault, ReadError};
 use crate::parts::{Part, part_since};
@@ -51,8 +51,8 @@ impl<'a> Policies<'a> {
 /// Reads a policy, before which there are so many.
 fn policy(cursor: &mut Cursor<'_>, number: usize) -> Result<ReadPolicy, ReadError> {
     let start = cursor.start();
-    let said = annotations(cursor)?;
-    let id = policy_id(cursor.alloc, said, number)?;
+    let given = annotations(cursor)?;
+    let id = policy_id(cursor.alloc, given, number)?;
     let scope = read_scope(cursor)?;
     check_actions(&scope.action)?;
     let rest = conditions(cursor)?;
@@ -92,9 +92,9 @@ fn start_of(place: Option<Loc>) -> usize {
     }
 }
 
-fn policy_id(alloc: Global, said: Option<String>, number: usize) -> Result<PolicyID, AllocError> {
-    let id = match said {
-        Some(said) => said,
+fn policy_id(alloc: Global, given: Option<String>, number: usize) -> Result<PolicyID, AllocError> {
+    let id = match given {
+        Some(given) => given,
         None => format!(in alloc; "policy{number}")?,
     };
     PolicyID::from_string(alloc, id.as_str())
@@ -105,7 +105,7 @@ fn conditions(cursor: &mut Cursor<'_>) -> Result<Option<Expr>, ReadError> {
     let start = cursor.start();
     let mut whole = None;
     // each condition nests those before it one deeper
-    for _ in 0..MAX_NESTING {
+    for _ in 0..MAX_GRAMMAR_STEPS {
         if !cursor.is_at("when") && !cursor.is_at("unless") {
             return Ok(whole.map(|part: Part| part.expr));
         }

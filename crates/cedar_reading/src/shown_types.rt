@@ -1,5 +1,5 @@
-// Types as they are shown. Each call goes one step deeper into the grammar, up to `MAX_NESTING`.
-use crate::cursor::{Cursor, MAX_NESTING};
+// Types as they are shown. Each call goes one step deeper into the grammar, up to `MAX_GRAMMAR_STEPS`.
+use crate::cursor::{Cursor, MAX_GRAMMAR_STEPS};
 use crate::faults::{Fault, ReadError};
 use crate::members::key;
 use crate::names::{is_extension, placed_name};
@@ -18,19 +18,19 @@ use std::collections::BTreeMap;
 /// not be declared. No name has a place. It fails where the text cannot be read, and where memory is refused.
 pub fn type_alone(alloc: Global, text: &str) -> Result<CedarType, ReadError> {
     let mut cursor = Cursor::new(alloc, text)?;
-    let read = shown_type(&mut cursor, MAX_NESTING)?;
+    let read = read_shown_type(&mut cursor, MAX_GRAMMAR_STEPS)?;
     finish(&cursor)?;
     Ok(read)
 }
 
 /// Reads a type.
 #[cycle(shown_types)]
-pub fn shown_type(cursor: &mut Cursor<'_>, left: usize) -> Result<CedarType, ReadError> {
+pub fn read_shown_type(cursor: &mut Cursor<'_>, left: usize) -> Result<CedarType, ReadError> {
     let Some(left) = left.checked_sub(1) else {
         return Err(cursor.fault(Fault::TooDeep));
     };
     if cursor.takes("{") {
-        return shown_record(cursor, left);
+        return read_shown_record(cursor, left);
     }
     if !cursor.takes("Set") {
         return named_type(cursor);
@@ -38,14 +38,14 @@ pub fn shown_type(cursor: &mut Cursor<'_>, left: usize) -> Result<CedarType, Rea
     if !cursor.takes("<") {
         return Ok(CedarType::any_set());
     }
-    let element = shown_type(cursor, left)?;
+    let element = read_shown_type(cursor, left)?;
     cursor.expect(">")?;
     Ok(CedarType::set(cursor.alloc, element)?)
 }
 
 /// Reads the attributes of a record behind its `{`, with commas between them, and the end of the record.
 #[cycle(shown_types)]
-fn shown_record(cursor: &mut Cursor<'_>, left: usize) -> Result<CedarType, ReadError> {
+fn read_shown_record(cursor: &mut Cursor<'_>, left: usize) -> Result<CedarType, ReadError> {
     let Some(left) = left.checked_sub(1) else {
         return Err(cursor.fault(Fault::TooDeep));
     };
@@ -60,7 +60,7 @@ fn shown_record(cursor: &mut Cursor<'_>, left: usize) -> Result<CedarType, ReadE
         let key = key(cursor)?;
         let is_required = !cursor.takes("?");
         cursor.expect(":")?;
-        let attr_type = shown_type(cursor, left)?;
+        let attr_type = read_shown_type(cursor, left)?;
         let attribute = AttributeType::new(attr_type, is_required);
         if attrs.insert(key, attribute)?.is_some() {
             return Err(ReadError::At(start, Fault::SameKey));
@@ -91,7 +91,7 @@ fn end_of_record(cursor: &mut Cursor<'_>) -> Result<Option<OpenTag>, ReadError> 
 fn named_type(cursor: &mut Cursor<'_>) -> Result<CedarType, ReadError> {
     let alloc = cursor.alloc;
     let first = placed_name(cursor)?.name;
-    if let Some(whole) = type_named(&first) {
+    if let Some(whole) = type_by_name(&first) {
         return Ok(whole);
     }
     if is_extension(&first) {
@@ -109,7 +109,7 @@ fn named_type(cursor: &mut Cursor<'_>) -> Result<CedarType, ReadError> {
 }
 
 /// The type of this name that is neither one of entities nor an extension type, if there is one.
-fn type_named(name: &Name) -> Option<CedarType> {
+fn type_by_name(name: &Name) -> Option<CedarType> {
     if !name.path.is_empty() {
         return None;
     }

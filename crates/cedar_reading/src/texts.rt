@@ -8,14 +8,14 @@ use std::alloc::Global;
 /// Reads a text in quotes: what it says.
 pub fn text(cursor: &mut Cursor<'_>) -> Result<String, ReadError> {
     let alloc = cursor.alloc;
-    let mut said = String::new(alloc);
+    let mut plain = String::new(alloc);
     for part in pattern(cursor)? {
         match part {
-            PatternElem::Char(c) => said.push(c)?,
-            PatternElem::Wildcard => said.push('*')?,
+            PatternElem::Char(c) => plain.push(c)?,
+            PatternElem::Wildcard => plain.push('*')?,
         }
     }
-    Ok(said)
+    Ok(plain)
 }
 
 /// Reads a pattern in quotes: a `*` is a wildcard, and `\*` the character.
@@ -35,7 +35,7 @@ pub fn pattern(cursor: &mut Cursor<'_>) -> Result<Vec<PatternElem>, ReadError> {
     if inner.contains('\r') {
         return Err(cursor.fault(Fault::CarriageReturn));
     }
-    let Some(parts) = unescaped(cursor.alloc, inner)? else {
+    let Some(parts) = unescape(cursor.alloc, inner)? else {
         return Err(cursor.fault(Fault::Text));
     };
     cursor.take();
@@ -43,7 +43,7 @@ pub fn pattern(cursor: &mut Cursor<'_>) -> Result<Vec<PatternElem>, ReadError> {
 }
 
 /// The characters of a text, its escapes replaced by what they stand for. `None` where an escape is none.
-fn unescaped(alloc: Global, text: &str) -> Result<Option<Vec<PatternElem>>, ReadError> {
+fn unescape(alloc: Global, text: &str) -> Result<Option<Vec<PatternElem>>, ReadError> {
     let mut parts = Vec::new(alloc);
     let mut escape = Escape::Outside;
     for c in text.chars() {
@@ -101,7 +101,7 @@ fn behind_backslash(c: char) -> Option<(Escape, Option<PatternElem>)> {
         '0' => '\0',
         _ => return None,
     };
-    Some(completed(meant))
+    Some(complete(meant))
 }
 
 /// One of two digits, whose value is below 128.
@@ -113,13 +113,13 @@ fn byte(value: u32, digits: u8, c: char) -> Option<(Escape, Option<PatternElem>)
     if value > 0x7f {
         return None;
     }
-    Some(completed(char::from_u32(value)?))
+    Some(complete(char::from_u32(value)?))
 }
 
 /// One of up to six digits, an underscore behind one, or the brace behind them.
 fn in_braces(value: u32, digits: u8, c: char) -> Option<(Escape, Option<PatternElem>)> {
     if c == '}' && digits > 0 {
-        return Some(completed(char::from_u32(value)?));
+        return Some(complete(char::from_u32(value)?));
     }
     if c == '_' && digits > 0 {
         return Some((Escape::Braces(value, digits), None));
@@ -137,6 +137,6 @@ fn with_digit(value: u32, c: char) -> Option<u32> {
     Some(value.saturating_mul(16).saturating_add(c.to_digit(16)?))
 }
 
-fn completed(c: char) -> (Escape, Option<PatternElem>) {
+fn complete(c: char) -> (Escape, Option<PatternElem>) {
     (Escape::Outside, Some(PatternElem::Char(c)))
 }

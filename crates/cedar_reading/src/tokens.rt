@@ -75,7 +75,7 @@ fn after_line(text: &str) -> &str {
 fn first_of(text: &str) -> (TokenKind, usize) {
     match text.chars().next() {
         None => (TokenKind::End, 0),
-        Some('"') => quoted(text),
+        Some('"') => scan_quoted(text),
         Some(c) if c.is_ascii_digit() => (TokenKind::Number, digits(text)),
         Some(c) if is_in_word(c) => (TokenKind::Word, word(text)),
         Some(c) => mark(text, c),
@@ -107,7 +107,7 @@ fn mark(text: &str, first: char) -> (TokenKind, usize) {
 }
 
 /// A text in quotes: a backslash takes the character behind it along.
-fn quoted(text: &str) -> (TokenKind, usize) {
+fn scan_quoted(text: &str) -> (TokenKind, usize) {
     let mut is_escaped = false;
     for (at, c) in text.char_indices().skip(1) {
         if is_escaped {

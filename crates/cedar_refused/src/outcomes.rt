@@ -16,7 +16,7 @@ pub struct Outcome {
 }
 
 /// Ends the refusal, and keeps what a call answered and what it was lent.
-pub fn ended<T: Debug + Drop, L: Debug>(
+pub fn finish<T: Debug + Drop, L: Debug>(
     alloc: Global,
     answer: Result<T, AllocError>,
     lent: &L,

@@ -6,7 +6,7 @@ use crate::calls::environments::{
     ChecksMaking, ChecksWalk, LinkedMaking, LinkedWalk, MODE, NextWalk, OneCheck, Walk,
 };
 use crate::calls::expressions::{MORE, ONE_OPERAND, TWO_OPERANDS};
-use crate::calls::lines::{Line, LineCall, Rules, Tried};
+use crate::calls::lines::{Basis, Line, LineCall, Probe};
 use crate::calls::lookups::LOOKUPS;
 use crate::calls::names::NAMES;
 use crate::calls::passes::{Pass, PassWalk};
@@ -20,7 +20,7 @@ use crate::calls::without_memory::{
 };
 use crate::refusals::{refuse, was_refused};
 use crate::samples::texts::{KNOWN, MANY, NAMED, ONE, SCHEMA, SUMS, UNKNOWN, policy, schema_of};
-use crate::sweep::{Call, NOTHING_REFUSED, TAKES_NONE, swept};
+use crate::sweep::{Call, NOTHING_REFUSED, TAKES_NONE, sweep};
 use crate::table::{CHECKS, POLICIES};
 use cedar_typechecker::rbac::Validator;
 use cedar_types::base::{ExtensionSchemas, ValidationMode};
@@ -43,42 +43,42 @@ pub fn report<W: Write>(
     };
     writeln!(out, "{listener}")?;
     let validator = Validator::new(schema_of(alloc, SCHEMA)?, extensions);
-    let rules = Rules {
+    let basis = Basis {
         validator: &validator,
         extensions,
     };
-    made_of_parts(alloc, rules, out)?;
-    about_schemas(alloc, rules, out)?;
-    write_table(alloc, rules, &CHECKS, out)?;
-    write_table(alloc, rules, &POLICIES, out)?;
-    walks(alloc, rules, out)?;
-    whole_checks(alloc, rules, out)?;
+    write_parts(alloc, basis, out)?;
+    about_schemas(alloc, basis, out)?;
+    write_table(alloc, basis, &CHECKS, out)?;
+    write_table(alloc, basis, &POLICIES, out)?;
+    walks(alloc, basis, out)?;
+    whole_checks(alloc, basis, out)?;
     all_passes(alloc, &validator, out)?;
     without_memory(alloc, &validator, out)
 }
 
 /// The tables of what is made of parts, and of copies.
-fn made_of_parts<W: Write>(alloc: Global, rules: Rules<'_>, out: &mut W) -> io::Result<()> {
-    write_table(alloc, rules, &TWO_OPERANDS, out)?;
-    write_table(alloc, rules, &ONE_OPERAND, out)?;
-    write_table(alloc, rules, &MORE, out)?;
-    write_table(alloc, rules, &NAMES, out)?;
-    write_table(alloc, rules, &TYPES, out)?;
-    write_table(alloc, rules, &COPIES, out)?;
-    write_table(alloc, rules, &SETS, out)?;
-    write_table(alloc, rules, &STEPS, out)?;
-    write_table(alloc, rules, &TAGS, out)?;
-    write_table(alloc, rules, &FOLLOW_UPS, out)
+fn write_parts<W: Write>(alloc: Global, basis: Basis<'_>, out: &mut W) -> io::Result<()> {
+    write_table(alloc, basis, &TWO_OPERANDS, out)?;
+    write_table(alloc, basis, &ONE_OPERAND, out)?;
+    write_table(alloc, basis, &MORE, out)?;
+    write_table(alloc, basis, &NAMES, out)?;
+    write_table(alloc, basis, &TYPES, out)?;
+    write_table(alloc, basis, &COPIES, out)?;
+    write_table(alloc, basis, &SETS, out)?;
+    write_table(alloc, basis, &STEPS, out)?;
+    write_table(alloc, basis, &TAGS, out)?;
+    write_table(alloc, basis, &FOLLOW_UPS, out)
 }
 
 /// The tables of what is asked of types, schemas, templates and environments.
-fn about_schemas<W: Write>(alloc: Global, rules: Rules<'_>, out: &mut W) -> io::Result<()> {
-    write_table(alloc, rules, &BOUNDS, out)?;
-    write_table(alloc, rules, &LOOKUPS, out)?;
-    write_table(alloc, rules, &SCHEMAS, out)?;
-    write_table(alloc, rules, &TEMPLATES, out)?;
-    write_table(alloc, rules, &ENVIRONMENTS, out)?;
-    write_table(alloc, rules, &UNDECLARED, out)
+fn about_schemas<W: Write>(alloc: Global, basis: Basis<'_>, out: &mut W) -> io::Result<()> {
+    write_table(alloc, basis, &BOUNDS, out)?;
+    write_table(alloc, basis, &LOOKUPS, out)?;
+    write_table(alloc, basis, &SCHEMAS, out)?;
+    write_table(alloc, basis, &TEMPLATES, out)?;
+    write_table(alloc, basis, &ENVIRONMENTS, out)?;
+    write_table(alloc, basis, &UNDECLARED, out)
 }
 
 fn write_sweep<C: Call, W: Write>(
@@ -87,51 +87,51 @@ fn write_sweep<C: Call, W: Write>(
     name: &str,
     call: &C,
 ) -> io::Result<()> {
-    let said = swept(alloc, call)?;
-    writeln!(out, "{name}: {said}")
+    let outcome = sweep(alloc, call)?;
+    writeln!(out, "{name}: {outcome}")
 }
 
 /// Writes what came of the lines of a table.
-fn write_table<T: Tried, W: Write>(
+fn write_table<T: Probe, W: Write>(
     alloc: Global,
-    rules: Rules<'_>,
+    basis: Basis<'_>,
     lines: &[(T, &str)],
     out: &mut W,
 ) -> io::Result<()> {
     for (call, block) in lines {
-        write_lines(alloc, rules, *call, block, out)?;
+        write_lines(alloc, basis, *call, block, out)?;
     }
     Ok(())
 }
 
 /// Writes what came of the lines of one call.
-fn write_lines<T: Tried, W: Write>(
+fn write_lines<T: Probe, W: Write>(
     alloc: Global,
-    rules: Rules<'_>,
+    basis: Basis<'_>,
     call: T,
     block: &str,
     out: &mut W,
 ) -> io::Result<()> {
     for line in block.trim().lines() {
         let line = Line::read(line);
-        let said = swept(alloc, &LineCall { rules, call, line })?;
+        let outcome = sweep(alloc, &LineCall { basis, call, line })?;
         let name = line.name;
-        match (line.takes_none, said.as_str() == NOTHING_REFUSED) {
+        match (line.takes_none, outcome.as_str() == NOTHING_REFUSED) {
             (true, true) => writeln!(out, "{name}: {TAKES_NONE}")?,
-            (true, false) => writeln!(out, "{name}: it takes memory, or {said}")?,
-            (false, _) => writeln!(out, "{name}: {said}")?,
+            (true, false) => writeln!(out, "{name}: it takes memory, or {outcome}")?,
+            (false, _) => writeln!(out, "{name}: {outcome}")?,
         }
     }
     Ok(())
 }
 
-fn walks<W: Write>(alloc: Global, rules: Rules<'_>, out: &mut W) -> io::Result<()> {
-    let schema = rules.validator.schema();
+fn walks<W: Write>(alloc: Global, basis: Basis<'_>, out: &mut W) -> io::Result<()> {
+    let schema = basis.validator.schema();
     let policy = policy(alloc, KNOWN)?;
     // each of two actions with the slot linked in two ways, and the undeclared ones
     let walk = Walk {
         schema,
-        checker: &Typechecker::new(schema, rules.extensions, MODE),
+        checker: &Typechecker::new(schema, basis.extensions, MODE),
         policy: &policy.template,
         environments: 5,
     };
@@ -153,9 +153,9 @@ fn walks<W: Write>(alloc: Global, rules: Rules<'_>, out: &mut W) -> io::Result<(
     write_sweep(alloc, out, "RequestEnvChecks::check", &OneCheck(walk))
 }
 
-fn whole_checks<W: Write>(alloc: Global, rules: Rules<'_>, out: &mut W) -> io::Result<()> {
-    let schema = rules.validator.schema();
-    let checker = Typechecker::new(schema, rules.extensions, ValidationMode::Strict);
+fn whole_checks<W: Write>(alloc: Global, basis: Basis<'_>, out: &mut W) -> io::Result<()> {
+    let schema = basis.validator.schema();
+    let checker = Typechecker::new(schema, basis.extensions, ValidationMode::Strict);
     whole_checks_by(alloc, &checker, out)
 }
 

@@ -35,7 +35,7 @@ pub const TAKES_NONE: &str = "no growth";
 const MOST: u16 = 20_000;
 
 /// What came of all attempts, in words.
-pub fn swept<C: Call>(alloc: Global, call: &C) -> Result<String, AllocError> {
+pub fn sweep<C: Call>(alloc: Global, call: &C) -> Result<String, AllocError> {
     let mut refused: u16 = 0;
     for number in 1..MOST {
         match call.attempt(alloc, number)? {
@@ -78,7 +78,7 @@ pub trait Question {
     fn ask(&self, alloc: Global) -> Result<Self::Answer, AllocError>;
 
     /// All of an answer.
-    fn shown(&self, alloc: Global, answer: Self::Answer) -> Result<String, AllocError>;
+    fn show(&self, alloc: Global, answer: Self::Answer) -> Result<String, AllocError>;
 }
 
 /// What comes of a question that is asked while the growth of this number is refused, and again with ample memory.
@@ -87,15 +87,15 @@ pub fn attempt_question<Q: Question>(
     question: &Q,
     number: u16,
 ) -> Result<Attempt, AllocError> {
-    let wanted = answered(alloc, question)?;
+    let wanted = answer_in_full(alloc, question)?;
     refuse(alloc, number);
     let answer = question.ask(alloc);
     let attempt = attempt_of(answer.is_ok(), was_refused(alloc));
     let is_as_ever = match answer {
-        Ok(answer) => question.shown(alloc, answer)? == wanted,
+        Ok(answer) => question.show(alloc, answer)? == wanted,
         Err(_) => true,
     };
-    let again = answered(alloc, question)?;
+    let again = answer_in_full(alloc, question)?;
     Ok(
         attempt
             .only_if(is_as_ever, ANOTHER_ANSWER)
@@ -104,7 +104,7 @@ pub fn attempt_question<Q: Question>(
 }
 
 /// The answer to a question with ample memory.
-fn answered<Q: Question>(alloc: Global, question: &Q) -> Result<String, AllocError> {
+fn answer_in_full<Q: Question>(alloc: Global, question: &Q) -> Result<String, AllocError> {
     let answer = question.ask(alloc)?;
-    question.shown(alloc, answer)
+    question.show(alloc, answer)
 }

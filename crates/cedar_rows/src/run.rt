@@ -52,13 +52,13 @@ pub fn run_among<R: Row, O: Write, E: Write>(
     ensures usage { result ≡ 2 → Appends (E.contents err.old) (E.contents err.new) USAGE.now }
     ensures ok_is_silent { result ≡ 0 → err.new ≡ err.old }
 {
-    match asked(rows, words) {
+    match select(rows, words) {
         Some(rows) => status_of(run_rows(alloc, rows, x1, x2, out)),
         None => print_usage(err),
     }
 }
 
-fn asked<'a, R>(rows: &'a [NamedRow<R>], words: &[String]) -> Option<&'a [NamedRow<R>]>
+fn select<'a, R>(rows: &'a [NamedRow<R>], words: &[String]) -> Option<&'a [NamedRow<R>]>
     ensures { option_copied result ≡ rows_asked rows.now words.now }
 {
     match words {

@@ -165,7 +165,7 @@ fn answer_to(alloc: Global, words: &[&str]) -> Result<Answer, Fail> {
 }
 
 /// The status of the samples, on writers of any kind.
-fn sampled<O: Write, E: Write>(
+fn run_samples<O: Write, E: Write>(
     alloc: Global,
     words: &[&str],
     out: &mut O,
@@ -181,7 +181,7 @@ fn sampled<O: Write, E: Write>(
 fn sample_answer(alloc: Global, words: &[&str]) -> Result<Answer, AllocError> {
     let mut out = Vec::new(alloc);
     let mut err = Vec::new(alloc);
-    let status = sampled(alloc, words, &mut out, &mut err)?;
+    let status = run_samples(alloc, words, &mut out, &mut err)?;
     Ok(Answer { status, out, err })
 }
 
@@ -268,7 +268,7 @@ fn a_failed_write_is_status_one(rt: HostRuntime) -> Result<(), Fail> {
     ] {
         let mut out = Failing { writes };
         let mut err = Failing { writes: 0 };
-        assert_eq!(rt; sampled(rt.alloc(), words, &mut out, &mut err)?, 1);
+        assert_eq!(rt; run_samples(rt.alloc(), words, &mut out, &mut err)?, 1);
     }
     Ok(())
 }

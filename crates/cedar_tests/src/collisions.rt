@@ -122,7 +122,7 @@ fn is_told<T: Entry + Drop>(
 }
 
 /// What these have to be.
-fn wanted(alloc: Global, left: u32, right: u32) -> Result<Vec<bool>, AllocError> {
+fn expected_answers(alloc: Global, left: u32, right: u32) -> Result<Vec<bool>, AllocError> {
     let mut answers = Vec::new(alloc);
     for picked in &[left, left | right, left & right, left] {
         for bit in &BITS {
@@ -176,7 +176,7 @@ fn answer_alike<T: Entry + Drop, U: Entry + Drop>(
     left: u32,
     right: u32,
 ) -> Result<bool, AllocError> {
-    let wanted = wanted(alloc, left, right)?;
+    let wanted = expected_answers(alloc, left, right)?;
     let is_so = is_told(alloc, all, (left, right), &wanted)?;
     Ok(is_told(alloc, colliding, (left, right), &wanted)? && is_so)
 }

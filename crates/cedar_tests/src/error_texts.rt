@@ -4,7 +4,7 @@ use cedar_types::base::{EntityDerefLevel, SchemaError, ValidationError};
 use std::alloc::{AllocError, Global};
 use std::test::Fail;
 
-fn said(alloc: Global, error: &ValidationError) -> Result<String, AllocError> {
+fn render(alloc: Global, error: &ValidationError) -> Result<String, AllocError> {
     error.to_string(alloc)
 }
 
@@ -14,7 +14,7 @@ fn no_tags(alloc: Global, name: Option<&str>) -> Result<String, AllocError> {
         Some(name) => Some(entity_type(alloc, name)?),
         None => None,
     };
-    said(
+    render(
         alloc,
         &ValidationError::no_tags_allowed(place(1), policy(alloc)?, owner),
     )
@@ -33,10 +33,10 @@ fn tags_are_not_allowed(rt: HostRuntime) -> Result<(), Fail> {
 }
 
 /// What is said where the highest level is needed and none is allowed.
-fn exceeded(alloc: Global) -> Result<String, AllocError> {
+fn render_level_error(alloc: Global) -> Result<String, AllocError> {
     let allowed = EntityDerefLevel::default();
     let needed = EntityDerefLevel::from(4294967295);
-    said(
+    render(
         alloc,
         &ValidationError::maximum_level_exceeded(place(1), policy(alloc)?, allowed, needed),
     )
@@ -46,7 +46,7 @@ fn exceeded(alloc: Global) -> Result<String, AllocError> {
 fn a_level_is_exceeded(rt: HostRuntime) -> Result<(), Fail> {
     let want =
         "for policy `policy0`, this policy requires level 4294967295, which exceeds the maximum allowed level (0)";
-    assert_text(&rt, exceeded(rt.alloc())?.as_str(), want);
+    assert_text(&rt, render_level_error(rt.alloc())?.as_str(), want);
     Ok(())
 }
 

@@ -16,7 +16,7 @@ fn a_forged_name_stays_in_its_quotes(rt: HostRuntime) -> Result<(), Fail> {
 }
 
 /// That there is no such attribute, with its name as it is.
-fn forged(alloc: Global) -> Result<String, AllocError> {
+fn forge(alloc: Global) -> Result<String, AllocError> {
     let attr = text(alloc, FORGED)?;
     let id = policy(alloc)?;
     ValidationError::unsafe_attribute_access(place(1), id, CedarType::Long, attr, false).to_string(
@@ -26,7 +26,7 @@ fn forged(alloc: Global) -> Result<String, AllocError> {
 
 /// The same in one line.
 fn forged_line(alloc: Global) -> Result<String, AllocError> {
-    let text = forged(alloc)?;
+    let text = forge(alloc)?;
     format!(in alloc; "{}", OneLine(text.as_str()))
 }
 

@@ -80,7 +80,7 @@ const FAULTS: &[(&[Described], Option<ExtensionTableError>)] = &[
     ),
 ];
 
-fn returned(alloc: Global, returns: Returns) -> Result<CedarType, AllocError> {
+fn result_type(alloc: Global, returns: Returns) -> Result<CedarType, AllocError> {
     match returns {
         Returns::Bool => Ok(CedarType::primitive_boolean()),
         Returns::Decimal => {
@@ -103,7 +103,7 @@ fn function(alloc: Global, described: &Described) -> Result<ExtensionFunctionTyp
         name: Name::unqualified_name(alloc, name)?,
         argument_types,
         is_variadic: matches!(takes, Takes::Many | Takes::ManyOfNoType),
-        return_type: returned(alloc, *returns)?,
+        return_type: result_type(alloc, *returns)?,
         check_arguments: None,
     })
 }

@@ -128,7 +128,7 @@ pub const PLAIN: Fields = Fields {
 };
 
 /// The same with another value of a field.
-fn changed(field: Field) -> Fields<'static> {
+fn change(field: Field) -> Fields<'static> {
     match field {
         Field::Place => Fields { place: 8, ..PLAIN },
         Field::Policy => Fields {
@@ -198,7 +198,7 @@ fn fields_count(alloc: Global, kind: Kind, own: &[Field]) -> Result<bool, AllocE
     let mut is_so = is_made(alloc, kind, PLAIN, &plain, true)?;
     for field in &FIELDS {
         let are_one = !counts(*field, own);
-        is_so = is_made(alloc, kind, changed(*field), &plain, are_one)? && is_so;
+        is_so = is_made(alloc, kind, change(*field), &plain, are_one)? && is_so;
     }
     Ok(is_so)
 }
@@ -229,7 +229,10 @@ fn errors_of_two_kinds_are_two(rt: HostRuntime) -> Result<(), Fail> {
     Ok(())
 }
 
-pub fn applied(alloc: Global, fields: Fields<'_>) -> Result<ValidationWarning, AllocError> {
+pub fn application_warning(
+    alloc: Global,
+    fields: Fields<'_>,
+) -> Result<ValidationWarning, AllocError> {
     Ok(application(fields, PolicyID::from_string(alloc, fields.policy)?))
 }
 
@@ -241,17 +244,22 @@ pub fn impossible(alloc: Global, fields: Fields<'_>) -> Result<ValidationWarning
 /// Whether what is said of an action is told from the same with another value of this field, and
 /// from what is said of a policy.
 fn is_told_of_actions(alloc: Global, field: Field) -> Result<bool, AllocError> {
-    let plain = applied(alloc, PLAIN)?;
+    let plain = application_warning(alloc, PLAIN)?;
     let are_one = !counts(field, &[Field::Number, Field::Flag]);
-    let is_so = is_said(alloc, applied(alloc, changed(field))?, &plain, are_one)?;
-    Ok(is_said(alloc, impossible(alloc, changed(field))?, &plain, false)? && is_so)
+    let is_so = is_said(
+        alloc,
+        application_warning(alloc, change(field))?,
+        &plain,
+        are_one,
+    )?;
+    Ok(is_said(alloc, impossible(alloc, change(field))?, &plain, false)? && is_so)
 }
 
 /// Whether what is said of a policy is told from the same with another value of this field.
 fn is_told_of_policies(alloc: Global, field: Field) -> Result<bool, AllocError> {
     let plain = impossible(alloc, PLAIN)?;
     let are_one = !counts(field, &[]);
-    is_said(alloc, impossible(alloc, changed(field))?, &plain, are_one)
+    is_said(alloc, impossible(alloc, change(field))?, &plain, are_one)
 }
 
 #[test]

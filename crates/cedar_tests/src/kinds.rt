@@ -93,7 +93,7 @@ fn no_member(
 }
 
 /// That an entity of the second name stands where one of the first is expected.
-fn unexpected(
+fn unexpected_type(
     alloc: Global,
     fields: Fields<'_>,
     id: PolicyID,
@@ -179,7 +179,7 @@ fn wrong_number(fields: Fields<'_>, id: PolicyID) -> ValidationError {
 }
 
 /// That the level is too high.
-fn exceeded(fields: Fields<'_>, id: PolicyID) -> ValidationError {
+fn level_error(fields: Fields<'_>, id: PolicyID) -> ValidationError {
     let allowed = EntityDerefLevel::from(u32::from(fields.flag));
     let needed = EntityDerefLevel::from(fields.number);
     ValidationError::maximum_level_exceeded(place(fields.place), id, allowed, needed)
@@ -193,7 +193,7 @@ pub fn error(alloc: Global, kind: Kind, fields: Fields<'_>) -> Result<Validation
         Kind::UnrecognizedEntityType => unknown_type(alloc, fields, id),
         Kind::UnrecognizedActionId => unknown_action(alloc, fields, id),
         Kind::InvalidEnumEntity => no_member(alloc, fields, id),
-        Kind::UnexpectedType => unexpected(alloc, fields, id),
+        Kind::UnexpectedType => unexpected_type(alloc, fields, id),
         Kind::IncompatibleTypes => incompatible(alloc, fields, id),
         Kind::UnsafeAttributeAccess => unsafe_attribute(alloc, fields, id),
         Kind::UnsafeOptionalAttributeAccess => unsafe_optional_attribute(alloc, fields, id),
@@ -202,7 +202,7 @@ pub fn error(alloc: Global, kind: Kind, fields: Fields<'_>) -> Result<Validation
         Kind::UndefinedFunction => no_function(alloc, fields, id),
         Kind::FunctionArgumentValidation => refused_argument(alloc, fields, id),
         Kind::WrongNumberArguments => Ok(wrong_number(fields, id)),
-        Kind::MaximumLevelExceeded => Ok(exceeded(fields, id)),
+        Kind::MaximumLevelExceeded => Ok(level_error(fields, id)),
         Kind::EmptySetForbidden => Ok(ValidationError::empty_set_forbidden(loc, id)),
         Kind::NonLitExtConstructor => Ok(ValidationError::non_lit_ext_constructor(loc, id)),
         Kind::InternalInvariantViolation => {

@@ -19,9 +19,9 @@ mod expressions;
 #[cfg(test)]
 mod extensions;
 #[cfg(test)]
-mod findings;
+mod finding_texts;
 #[cfg(test)]
-mod findings_said;
+mod findings;
 #[cfg(test)]
 mod kinds;
 #[cfg(test)]

@@ -9,14 +9,14 @@ use std::alloc::{AllocError, Global};
 use std::test::Fail;
 
 /// The type of this name at this place.
-fn named(alloc: Global, name: &str, at: usize) -> Result<EntityType, AllocError> {
+fn entity_type_at(alloc: Global, name: &str, at: usize) -> Result<EntityType, AllocError> {
     let name = Name::unqualified_name(alloc, name)?;
     Ok(EntityType::new(name, place(at)))
 }
 
 /// The id `a` of this type, the type at this place and the id at the next one.
 fn id(alloc: Global, name: &str, at: usize) -> Result<EntityUID, AllocError> {
-    let entity_type = named(alloc, name, at)?;
+    let entity_type = entity_type_at(alloc, name, at)?;
     EntityUID::from_components(alloc, entity_type, "a", place(at.saturating_add(1)))
 }
 
@@ -59,7 +59,7 @@ fn come(
 
 /// `principal is User in Group::"a"`.
 fn user_in_group(alloc: Global) -> Result<PrincipalConstraint, AllocError> {
-    let user = named(alloc, "User", 1)?;
+    let user = entity_type_at(alloc, "User", 1)?;
     Ok(PrincipalConstraint::is_entity_type_in(user, id(alloc, "Group", 3)?))
 }
 
@@ -68,8 +68,8 @@ fn user_in_group(alloc: Global) -> Result<PrincipalConstraint, AllocError> {
 fn whole(alloc: Global) -> Result<Box<Template>, AllocError> {
     let principal = user_in_group(alloc)?;
     let action = ActionConstraint::is_eq(id(alloc, "Action", 5)?);
-    let resource = ResourceConstraint::is_entity_type_in_slot(named(alloc, "Photo", 7)?);
-    let robot = named(alloc, "Robot", 9)?;
+    let resource = ResourceConstraint::is_entity_type_in_slot(entity_type_at(alloc, "Photo", 7)?);
+    let robot = entity_type_at(alloc, "Robot", 9)?;
     let rest = Expr::is_entity_type(alloc, Expr::var(Var::Principal), robot)?;
     let id = policy(alloc)?;
     boxed(
@@ -132,7 +132,11 @@ fn ids_and_types_are_listed(rt: HostRuntime) -> Result<(), Fail> {
 }
 
 /// The template of these constraints alone.
-fn scoped(id: PolicyID, principal: PrincipalConstraint, resource: ResourceConstraint) -> Template {
+fn template_of_scope(
+    id: PolicyID,
+    principal: PrincipalConstraint,
+    resource: ResourceConstraint,
+) -> Template {
     let action = ActionConstraint::any();
     Template::new(id, None, principal, action, resource, None)
 }
@@ -152,7 +156,7 @@ fn of_principal(alloc: Global) -> Result<Box<Template>, AllocError> {
     let principal = PrincipalConstraint::is_eq_slot();
     boxed(
         alloc,
-        scoped(policy(alloc)?, principal, ResourceConstraint::any()),
+        template_of_scope(policy(alloc)?, principal, ResourceConstraint::any()),
     )
 }
 
@@ -161,7 +165,7 @@ fn of_resource(alloc: Global) -> Result<Box<Template>, AllocError> {
     let resource = ResourceConstraint::is_in_slot();
     boxed(
         alloc,
-        scoped(policy(alloc)?, PrincipalConstraint::any(), resource),
+        template_of_scope(policy(alloc)?, PrincipalConstraint::any(), resource),
     )
 }
 

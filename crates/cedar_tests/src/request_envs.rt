@@ -8,7 +8,7 @@ use std::rc::Rc;
 use std::test::Fail;
 
 /// The action `view` with the types that it is asked for.
-fn asked(alloc: Global) -> Result<Box<UnlinkedRequestEnv>, AllocError> {
+fn view_env(alloc: Global) -> Result<Box<UnlinkedRequestEnv>, AllocError> {
     let context = Rc::new(alloc, CedarType::any_record(alloc)?)?;
     let asked = UnlinkedRequestEnv {
         context,
@@ -32,7 +32,7 @@ fn has_its_types(asked: &UnlinkedRequestEnv) -> bool {
 
 #[test]
 fn an_environment_has_its_parts(rt: HostRuntime) -> Result<(), Fail> {
-    assert!(rt; has_its_types(&*asked(rt.alloc())?));
+    assert!(rt; has_its_types(&*view_env(rt.alloc())?));
     Ok(())
 }
 
@@ -60,7 +60,7 @@ fn is_asked(alloc: Global, asked: &UnlinkedRequestEnv) -> Result<bool, AllocErro
 
 #[test]
 fn a_request_has_the_parts_of_its_environment(rt: HostRuntime) -> Result<(), Fail> {
-    let asked = asked(rt.alloc())?;
+    let asked = view_env(rt.alloc())?;
     assert!(rt; is_asked(rt.alloc(), &asked)?);
     Ok(())
 }
@@ -73,7 +73,7 @@ fn team(alloc: Global) -> Result<SlotEnv, AllocError> {
 }
 
 /// The environment with an album for `?resource`, and then with a team for `?principal`.
-fn linked<'a>(
+fn link_env<'a>(
     alloc: Global,
     asked: &'a UnlinkedRequestEnv,
 ) -> Result<Box<RequestEnv<'a>>, AllocError> {
@@ -90,13 +90,13 @@ fn has_slots(env: &RequestEnv<'_>, principal: &EntityType) -> bool {
 
 /// Whether the last of the two counts.
 fn last_counts(alloc: Global, asked: &UnlinkedRequestEnv) -> Result<bool, AllocError> {
-    let env = linked(alloc, asked)?;
+    let env = link_env(alloc, asked)?;
     Ok(has_slots(&env, &entity_type(alloc, "Team")?))
 }
 
 #[test]
 fn the_last_linking_counts_for_both_slots(rt: HostRuntime) -> Result<(), Fail> {
-    let asked = asked(rt.alloc())?;
+    let asked = view_env(rt.alloc())?;
     assert!(rt; last_counts(rt.alloc(), &asked)?);
     Ok(())
 }

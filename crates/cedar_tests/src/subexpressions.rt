@@ -76,7 +76,7 @@ fn the_parts_of_an_if_are_its_test_and_then_its_branches(rt: HostRuntime) -> Res
 }
 
 /// `true` under this many negations, made from the inside out.
-fn negated(alloc: Global, depth: usize) -> Result<Expr, AllocError> {
+fn negate(alloc: Global, depth: usize) -> Result<Expr, AllocError> {
     let mut whole = Expr::val(Literal::from(true));
     for _ in 0..depth {
         whole = Expr::not(alloc, whole)?;
@@ -96,7 +96,7 @@ fn take_apart(negations: Expr, depth: usize) {
 }
 
 /// How many parts there are, where the principal's slot is none of them.
-fn counted(alloc: Global, whole: &Expr) -> Result<Option<usize>, AllocError> {
+fn count_parts(alloc: Global, whole: &Expr) -> Result<Option<usize>, AllocError> {
     if whole.mentions_slot(alloc, SlotId::Principal)? {
         return Ok(None);
     }
@@ -105,8 +105,8 @@ fn counted(alloc: Global, whole: &Expr) -> Result<Option<usize>, AllocError> {
 
 #[test]
 fn a_hundred_thousand_negations_are_visited(rt: HostRuntime) -> Result<(), Fail> {
-    let whole = negated(rt.alloc(), DEPTH)?;
-    let found = counted(rt.alloc(), &whole);
+    let whole = negate(rt.alloc(), DEPTH)?;
+    let found = count_parts(rt.alloc(), &whole);
     take_apart(whole, DEPTH);
     assert_eq!(rt; found?, Some(DEPTH + 1));
     Ok(())

@@ -67,7 +67,7 @@ const IN_ORDER: &str =
     {..}, {a?: Long, ..}, {a?: Long}, {a: Long, ..}, {a?: String, ..}, a, a|b, b, entity, ext::ip, ";
 
 /// The texts of the types of each kind, in their order.
-fn shown_in_order(alloc: Global) -> Result<String, AllocError> {
+fn show_in_order(alloc: Global) -> Result<String, AllocError> {
     let types = types_in_order(alloc, of_each_kind(alloc)?)?;
     let mut shown = String::new(alloc);
     for ty in types.iter() {
@@ -84,7 +84,7 @@ fn equals_itself_and_is_below(first: &CedarType, second: &CedarType) -> bool {
 
 #[test]
 fn types_are_shown_in_their_order(rt: HostRuntime) -> Result<(), Fail> {
-    let shown = shown_in_order(rt.alloc())?;
+    let shown = show_in_order(rt.alloc())?;
     assert_text(&rt, shown.as_str(), IN_ORDER);
     assert!(rt; equals_itself_and_is_below(&CedarType::Long, &CedarType::AnySet));
     Ok(())

@@ -50,7 +50,7 @@ fn condition(alloc: Global, written: Written) -> Result<Expr, AllocError> {
         }
         Written::OfUnknown => Ok(Expr::val(Literal::from(true))),
         Written::Never => Ok(Expr::val(Literal::from(false))),
-        Written::Nested => nested(alloc),
+        Written::Nested => nest(alloc),
         Written::HasUser => {
             let user = AttrChain::new(alloc, "user", &[])?;
             Expr::extended_has_attr(alloc, Expr::var(Var::Principal), user)
@@ -62,7 +62,7 @@ fn condition(alloc: Global, written: Written) -> Result<Expr, AllocError> {
     }
 }
 
-fn nested(alloc: Global) -> Result<Expr, AllocError> {
+fn nest(alloc: Global) -> Result<Expr, AllocError> {
     let mut whole = Expr::get_attr(alloc, Expr::var(Var::Principal), "bool")?;
     for _ in 0..64 {
         let test = Expr::val(Literal::from(true));

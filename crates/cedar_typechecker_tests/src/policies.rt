@@ -27,7 +27,7 @@ fn policy(
 }
 
 /// The lines of all errors of a policy, and then those of all warnings.
-fn found(alloc: Global, policy: &Template, mode: ValidationMode) -> Result<String, Fail> {
+fn render_findings(alloc: Global, policy: &Template, mode: ValidationMode) -> Result<String, Fail> {
     let extensions = ExtensionSchemas::default(alloc);
     let validator = Validator::new(users_and_photos(alloc)?, &extensions);
     let (errors, warnings) = validator.validate_policy(alloc, policy, mode)?;
@@ -47,10 +47,13 @@ fn found(alloc: Global, policy: &Template, mode: ValidationMode) -> Result<Strin
 fn errors_and_warnings_of_a_policy_are_found(rt: HostRuntime) -> Result<(), Fail> {
     let alloc = rt.alloc();
     let any = policy(alloc, PrincipalConstraint::any(), "bool")?;
-    assert_eq!(rt; found(alloc, &any, ValidationMode::Strict)?.as_str(), "");
+    assert_eq!(rt;
+        render_findings(alloc, &any, ValidationMode::Strict)?.as_str(),
+        ""
+    );
     let wrong = policy(alloc, PrincipalConstraint::any(), "gone")?;
     assert_eq!(rt;
-        found(alloc, &wrong, ValidationMode::Strict)?.as_str(),
+        render_findings(alloc, &wrong, ValidationMode::Strict)?.as_str(),
         "for policy `p`, attribute `gone` does not exist on `User`\n"
     );
     let unknown = policy(
@@ -58,14 +61,14 @@ fn errors_and_warnings_of_a_policy_are_found(rt: HostRuntime) -> Result<(), Fail
         PrincipalConstraint::is_eq(uid(alloc, "Gone", "a")?),
         "bool",
     )?;
-    let lines = found(alloc, &unknown, ValidationMode::Strict)?;
+    let lines = render_findings(alloc, &unknown, ValidationMode::Strict)?;
     assert_eq!(rt;
         lines.as_str(),
         "for policy `p`, unrecognized entity type `Gone`\n\
         for policy `p`, unable to find an applicable action given the policy scope constraints\n"
     );
     assert_eq!(rt;
-        found(alloc, &unknown, ValidationMode::Partial)?.as_str(),
+        render_findings(alloc, &unknown, ValidationMode::Partial)?.as_str(),
         ""
     );
     Ok(())

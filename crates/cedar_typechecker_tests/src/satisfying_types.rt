@@ -1,5 +1,5 @@
 // The types that a constraint on the resource admits.
-use crate::names::{typed, uid};
+use crate::names::{entity_type_of, uid};
 use crate::schemas::users_and_files;
 use cedar_typechecker::base::{EntityType, ExtensionSchemas, ResourceConstraint};
 use cedar_typechecker::rbac::Validator;
@@ -26,13 +26,13 @@ fn constraint(alloc: Global, asked: Asked) -> Result<ResourceConstraint, AllocEr
         Asked::InSlot => Ok(ResourceConstraint::is_in_slot()),
         Asked::Eq(name) => Ok(ResourceConstraint::is_eq(uid(alloc, name, "a")?)),
         Asked::In(name) => Ok(ResourceConstraint::is_in(uid(alloc, name, "a")?)),
-        Asked::Is(name) => Ok(ResourceConstraint::is_entity_type(typed(alloc, name)?)),
+        Asked::Is(name) => Ok(ResourceConstraint::is_entity_type(entity_type_of(alloc, name)?)),
         Asked::IsInSlot(name) => {
-            Ok(ResourceConstraint::is_entity_type_in_slot(typed(alloc, name)?))
+            Ok(ResourceConstraint::is_entity_type_in_slot(entity_type_of(alloc, name)?))
         }
         Asked::IsIn(name, group) => {
             let group = uid(alloc, group, "a")?;
-            Ok(ResourceConstraint::is_entity_type_in(typed(alloc, name)?, group))
+            Ok(ResourceConstraint::is_entity_type_in(entity_type_of(alloc, name)?, group))
         }
     }
 }

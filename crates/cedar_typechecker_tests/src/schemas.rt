@@ -1,5 +1,5 @@
 // Small schemas.
-use crate::names::{typed, uid};
+use crate::names::{entity_type_of, uid};
 use cedar_typechecker::base::{
     AttributeType, Attributes, CedarType, EntityType, OpenTag, StandardValidatorEntityType,
     ValidatorActionId, ValidatorActionKind, ValidatorApplySpec, ValidatorEntityType,
@@ -13,7 +13,7 @@ use std::test::Fail;
 fn types(alloc: Global, names: &[&str]) -> Result<BTreeSet<EntityType>, AllocError> {
     let mut types = BTreeSet::new(alloc);
     for name in names {
-        types.insert(typed(alloc, name)?)?;
+        types.insert(entity_type_of(alloc, name)?)?;
     }
     Ok(types)
 }
@@ -25,7 +25,7 @@ fn external(
     descendants: &[&str],
 ) -> Result<ValidatorEntityType, AllocError> {
     Ok(ValidatorEntityType {
-        name: typed(alloc, name)?,
+        name: entity_type_of(alloc, name)?,
         descendants: types(alloc, descendants)?,
         kind: ValidatorEntityTypeKind::External,
     })
@@ -60,7 +60,7 @@ fn standard(
     attributes: Attributes,
 ) -> Result<ValidatorEntityType, AllocError> {
     Ok(ValidatorEntityType {
-        name: typed(alloc, name)?,
+        name: entity_type_of(alloc, name)?,
         descendants: BTreeSet::new(alloc),
         kind: ValidatorEntityTypeKind::Standard(StandardValidatorEntityType {
             attributes,
@@ -90,7 +90,7 @@ fn on_photos(
 
 /// Users, each with a `user` and a `bool`.
 fn users(alloc: Global) -> Result<ValidatorEntityType, AllocError> {
-    let user = CedarType::named_entity_reference(alloc, typed(alloc, "User")?)?;
+    let user = CedarType::named_entity_reference(alloc, entity_type_of(alloc, "User")?)?;
     let user = AttributeType::required_attribute(user);
     let boolean = AttributeType::required_attribute(CedarType::primitive_boolean());
     let of_users = vec![in alloc; ("user", user), ("bool", boolean)]?;

@@ -1,5 +1,5 @@
 // The survey of a policy.
-use crate::names::{typed, uid};
+use crate::names::{entity_type_of, uid};
 use crate::schemas::{users_and_photos, users_and_robots};
 use cedar_typechecker::base::{
     ActionConstraint, EntityDerefLevel, Expr, ExtensionSchemas, PolicyID, PrincipalConstraint,
@@ -53,9 +53,9 @@ fn an_error_has_its_environments(rt: HostRuntime) -> Result<(), Fail> {
     assert_eq!(rt; survey.is_impossible(), false);
     assert_eq!(rt; survey.applicable_environments(), 1);
     let viewed = RequestType {
-        principal: typed(alloc, "User")?,
+        principal: entity_type_of(alloc, "User")?,
         action: uid(alloc, "Action", "view")?,
-        resource: typed(alloc, "Photo")?,
+        resource: entity_type_of(alloc, "Photo")?,
     };
     let mut found: usize = 0;
     for (_error, environments) in survey.into_errors() {

@@ -5,25 +5,27 @@ use cedar_typing::typecheck::answer::TypecheckAnswer;
 use std::test::Fail;
 
 /// Whether the answer is a success, and whether what it has is typed as a long.
-fn told(answer: &TypecheckAnswer<'_>) -> (bool, bool) {
+fn describe(answer: &TypecheckAnswer<'_>) -> (bool, bool) {
     (answer.typechecked(), answer.contains_type(&CedarType::Long))
 }
 
 #[test]
 fn a_success_has_its_type(rt: HostRuntime) -> Result<(), Fail> {
     let alloc = rt.alloc();
-    assert!(rt; told(&TypecheckAnswer::success(alloc, long(alloc, 1)?)) == (true, true));
-    assert!(rt; told(&TypecheckAnswer::success(alloc, number(alloc, 3, None)?)) == (true, false));
+    assert!(rt; describe(&TypecheckAnswer::success(alloc, long(alloc, 1)?)) == (true, true));
+    assert!(rt;
+        describe(&TypecheckAnswer::success(alloc, number(alloc, 3, None)?)) == (true, false)
+    );
     let knowing = TypecheckAnswer::success_with_capability(long(alloc, 2)?, knowing(alloc, "x")?);
-    assert!(rt; told(&knowing) == (true, true));
+    assert!(rt; describe(&knowing) == (true, true));
     Ok(())
 }
 
 #[test]
 fn a_failure_has_its_type_and_a_limit_has_none(rt: HostRuntime) -> Result<(), Fail> {
     let alloc = rt.alloc();
-    assert!(rt; told(&TypecheckAnswer::fail(long(alloc, 4)?)) == (false, true));
-    assert!(rt; told(&TypecheckAnswer::RecursionLimit) == (false, false));
+    assert!(rt; describe(&TypecheckAnswer::fail(long(alloc, 4)?)) == (false, true));
+    assert!(rt; describe(&TypecheckAnswer::RecursionLimit) == (false, false));
     Ok(())
 }
 

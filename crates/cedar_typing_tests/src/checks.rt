@@ -35,12 +35,12 @@ pub fn permit_when(alloc: Global, condition: Expr) -> Result<Template, AllocErro
 }
 
 /// The check of a policy in Strict.
-pub fn checked_policy(alloc: Global, policy: &Template) -> Result<PolicyCheck, Fail> {
-    checked_in(alloc, policy, ValidationMode::Strict)
+pub fn check_policy(alloc: Global, policy: &Template) -> Result<PolicyCheck, Fail> {
+    check_in(alloc, policy, ValidationMode::Strict)
 }
 
 /// The check of a policy in a mode.
-pub fn checked_in(
+pub fn check_in(
     alloc: Global,
     policy: &Template,
     mode: ValidationMode,
@@ -48,11 +48,11 @@ pub fn checked_in(
     let Ok(schema) = schema(alloc, SCHEMA) else {
         return Err(Fail::from("a schema"));
     };
-    checked_by(alloc, &schema, policy, mode)
+    check_by(alloc, &schema, policy, mode)
 }
 
 /// The check of a policy in the first environment of a schema.
-fn checked_by(
+fn check_by(
     alloc: Global,
     schema: &ValidatorSchema,
     policy: &Template,
@@ -70,9 +70,9 @@ fn checked_by(
 }
 
 /// The check of `permit(principal, action, resource) when { condition }`.
-pub fn checked(alloc: Global, condition: Expr) -> Result<PolicyCheck, Fail> {
+pub fn check(alloc: Global, condition: Expr) -> Result<PolicyCheck, Fail> {
     let policy = permit_when(alloc, condition)?;
-    checked_policy(alloc, &policy)
+    check_policy(alloc, &policy)
 }
 
 /// What a check comes to, and the texts of its errors in ascending order.
@@ -96,18 +96,20 @@ fn with_errors(
     texts.sort()?;
     let mut shown = String::from_str(alloc, outcome)?;
     for text in &texts {
-        let said = text.as_str();
+        let message = text.as_str();
         write!(
             shown,
             "; {}",
-            said.strip_prefix("for policy `policy0`, ").unwrap_or(said)
+            message
+                .strip_prefix("for policy `policy0`, ")
+                .unwrap_or(message)
         )?;
     }
     Ok(shown)
 }
 
 /// `if .. { principal.ok } else { principal.ok }`.
-fn decided(alloc: Global, test: bool) -> Result<Expr, AllocError> {
+fn decide(alloc: Global, test: bool) -> Result<Expr, AllocError> {
     let yes = Expr::get_attr(alloc, Expr::var(Var::Principal), "ok")?;
     let no = Expr::get_attr(alloc, Expr::var(Var::Principal), "ok")?;
     Expr::ite(alloc, Expr::val(Literal::from(test)), yes, no)
@@ -132,7 +134,7 @@ fn have_one_tree(typed: &Expr<Option<CedarType>>) -> bool {
 fn under_a_test_that_decides_both_branches_are_one_tree(rt: HostRuntime) -> Result<(), Fail> {
     let alloc = rt.alloc();
     for test in [true, false] {
-        let PolicyCheck::Success(typed) = &checked(alloc, decided(alloc, test)?)? else {
+        let PolicyCheck::Success(typed) = &check(alloc, decide(alloc, test)?)? else {
             return Err(Fail::from("a success"));
         };
         assert!(rt; typed.loc == POLICY && have_one_tree(typed));

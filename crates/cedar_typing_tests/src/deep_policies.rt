@@ -1,5 +1,5 @@
 // A policy far deeper than the limit: it is answered, and nothing recurses beyond the limit.
-use crate::checks::{checked_policy, outcome, permit_when};
+use crate::checks::{check_policy, outcome, permit_when};
 use cedar_types::base::{Expr, ExprKind, Literal, Template};
 use std::alloc::{AllocError, Global};
 use std::test::Fail;
@@ -8,7 +8,7 @@ use std::test::Fail;
 const DEPTH: usize = 100_000;
 
 /// `true` under this many negations, made from the inside out.
-fn negated(alloc: Global, count: usize) -> Result<Expr, AllocError> {
+fn negate(alloc: Global, count: usize) -> Result<Expr, AllocError> {
     let mut whole = Expr::val(Literal::from(true));
     for _ in 0..count {
         whole = Expr::not(alloc, whole)?;
@@ -30,8 +30,8 @@ fn take_apart(negations: Expr, count: usize) {
 #[test]
 fn a_policy_of_100_000_negations_is_answered(rt: HostRuntime) -> Result<(), Fail> {
     let alloc = rt.alloc();
-    let policy = permit_when(alloc, negated(alloc, DEPTH)?)?;
-    let check = checked_policy(alloc, &policy);
+    let policy = permit_when(alloc, negate(alloc, DEPTH)?)?;
+    let check = check_policy(alloc, &policy);
     let Template {
         id: _id,
         loc: _loc,

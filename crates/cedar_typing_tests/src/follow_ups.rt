@@ -11,7 +11,7 @@ fn knowing_x<'a>(alloc: Global) -> Result<TypecheckAnswer<'a>, AllocError> {
 }
 
 /// The answer, which knows `y` in place of all else where it knows `x`.
-fn replaced<'a>(
+fn replace<'a>(
     alloc: Global,
     answer: TypecheckAnswer<'a>,
 ) -> Result<TypecheckAnswer<'a>, AllocError> {
@@ -38,27 +38,27 @@ fn is_knowing(alloc: Global, answer: &TypecheckAnswer<'_>, attr: &str) -> Result
 #[test]
 fn the_set_of_a_success_is_replaced(rt: HostRuntime) -> Result<(), Fail> {
     let alloc = rt.alloc();
-    let answer = replaced(alloc, knowing_x(alloc)?)?;
+    let answer = replace(alloc, knowing_x(alloc)?)?;
     assert!(rt; is_knowing(alloc, &answer, "y")? && !is_knowing(alloc, &answer, "x")?);
     Ok(())
 }
 
 /// The answer, with a set that memory is refused for.
-fn refused(answer: TypecheckAnswer<'_>) -> Result<TypecheckAnswer<'_>, AllocError> {
+fn refuse(answer: TypecheckAnswer<'_>) -> Result<TypecheckAnswer<'_>, AllocError> {
     answer.map_capability(|_| Err(AllocError))
 }
 
 #[test]
 fn only_a_success_has_a_set_to_replace(rt: HostRuntime) -> Result<(), Fail> {
     let alloc = rt.alloc();
-    assert!(rt; refused(TypecheckAnswer::success(alloc, long(alloc, 1)?)).is_err());
-    assert!(rt; refused(TypecheckAnswer::fail(long(alloc, 1)?)).is_ok());
-    assert!(rt; refused(TypecheckAnswer::RecursionLimit).is_ok());
+    assert!(rt; refuse(TypecheckAnswer::success(alloc, long(alloc, 1)?)).is_err());
+    assert!(rt; refuse(TypecheckAnswer::fail(long(alloc, 1)?)).is_ok());
+    assert!(rt; refuse(TypecheckAnswer::RecursionLimit).is_ok());
     Ok(())
 }
 
 /// Follows up with a string on a `7`, and with a limit on all else, where this is what is known of `x`.
-fn followed<'a>(
+fn follow_up<'a>(
     alloc: Global,
     answer: TypecheckAnswer<'a>,
     is_known: bool,
@@ -75,7 +75,7 @@ fn followed<'a>(
 #[test]
 fn a_success_hands_on_what_it_has(rt: HostRuntime) -> Result<(), Fail> {
     let alloc = rt.alloc();
-    let answer = followed(alloc, knowing_x(alloc)?, true)?;
+    let answer = follow_up(alloc, knowing_x(alloc)?, true)?;
     assert!(rt; answer.typechecked() && answer.contains_type(&CedarType::String));
     Ok(())
 }
@@ -83,7 +83,7 @@ fn a_success_hands_on_what_it_has(rt: HostRuntime) -> Result<(), Fail> {
 #[test]
 fn a_failure_hands_on_its_expression_and_stays_a_failure(rt: HostRuntime) -> Result<(), Fail> {
     let alloc = rt.alloc();
-    let answer = followed(alloc, TypecheckAnswer::fail(long(alloc, 7)?), false)?;
+    let answer = follow_up(alloc, TypecheckAnswer::fail(long(alloc, 7)?), false)?;
     assert!(rt; !answer.typechecked() && answer.contains_type(&CedarType::String));
     Ok(())
 }
@@ -91,7 +91,7 @@ fn a_failure_hands_on_its_expression_and_stays_a_failure(rt: HostRuntime) -> Res
 #[test]
 fn what_follows_may_be_a_limit(rt: HostRuntime) -> Result<(), Fail> {
     let alloc = rt.alloc();
-    let answer = followed(alloc, TypecheckAnswer::fail(long(alloc, 7)?), true)?;
+    let answer = follow_up(alloc, TypecheckAnswer::fail(long(alloc, 7)?), true)?;
     assert!(rt; is_limit(&answer));
     Ok(())
 }

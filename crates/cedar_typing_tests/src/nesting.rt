@@ -1,5 +1,5 @@
 // Checks of conditions that are nested as deep as allowed, and deeper.
-use crate::checks::{checked, checked_in, outcome, permit_when};
+use crate::checks::{check, check_in, outcome, permit_when};
 use cedar_reading::{ReadError, condition};
 use cedar_types::base::{AttrChain, Expr, ValidationMode, Var};
 use std::alloc::{AllocError, Global};
@@ -189,7 +189,7 @@ fn mode_that_differs(
 ) -> Result<Option<ValidationMode>, Fail> {
     let policy = permit_when(alloc, read(alloc, text)?)?;
     for mode in MODES {
-        let check = checked_in(alloc, &policy, mode)?;
+        let check = check_in(alloc, &policy, mode)?;
         if outcome(alloc, &check)?.as_str() != want {
             return Ok(Some(mode));
         }
@@ -265,7 +265,7 @@ fn has_bosses(alloc: Global) -> Result<Expr, AllocError> {
 
 #[test]
 fn a_chain_of_300_attributes_is_typed(rt: HostRuntime) -> Result<(), Fail> {
-    let check = checked(rt.alloc(), has_bosses(rt.alloc())?)?;
+    let check = check(rt.alloc(), has_bosses(rt.alloc())?)?;
     let found = outcome(rt.alloc(), &check)?;
     assert_eq!(rt; found.as_str(), "success");
     Ok(())

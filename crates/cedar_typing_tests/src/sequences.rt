@@ -47,7 +47,7 @@ impl<'a> Iterator for Answers<'a> {
 }
 
 /// The answers of these items, none of which is taken yet.
-fn taken_from<'a>(alloc: Global, items: &'a [Item], asked: &'a Cell<i64>) -> Answers<'a> {
+fn take_from<'a>(alloc: Global, items: &'a [Item], asked: &'a Cell<i64>) -> Answers<'a> {
     Answers {
         alloc,
         items,
@@ -83,9 +83,9 @@ fn add_handed(
 }
 
 /// Which answers these items hand on, how many items are asked for, and what the answer is.
-fn sequenced(alloc: Global, items: &[Item]) -> Result<String, AllocError> {
+fn run_sequence(alloc: Global, items: &[Item]) -> Result<String, AllocError> {
     let asked = Cell::new(0);
-    let answers = taken_from(alloc, items, &asked);
+    let answers = take_from(alloc, items, &asked);
     let mut shown = String::from_str(alloc, "not called")?;
     let answer = TypecheckAnswer::sequence_all_then_typecheck(alloc, answers, |handed| {
         shown = String::from_str(alloc, "called with")?;
@@ -128,7 +128,7 @@ fn answers_are_taken_until_the_first_limit(rt: HostRuntime) -> Result<(), Fail> 
             "not called; 2 asked for; refused",
         ),
     ] {
-        let found = sequenced(alloc, items)?;
+        let found = run_sequence(alloc, items)?;
         assert_eq!(rt; found.as_str(), want);
     }
     Ok(())
@@ -136,7 +136,7 @@ fn answers_are_taken_until_the_first_limit(rt: HostRuntime) -> Result<(), Fail> 
 
 /// Whether the answer is a limit, where a failure is followed by one.
 fn is_limit_after_failure(alloc: Global, asked: &Cell<i64>) -> Result<bool, AllocError> {
-    let failures = taken_from(alloc, &[Item::Failure], asked);
+    let failures = take_from(alloc, &[Item::Failure], asked);
     let answer = TypecheckAnswer::sequence_all_then_typecheck(
         alloc,
         failures,
@@ -147,7 +147,7 @@ fn is_limit_after_failure(alloc: Global, asked: &Cell<i64>) -> Result<bool, Allo
 
 /// Whether the answer is an error, where a limit is followed by one.
 fn is_error_after_limit(alloc: Global, asked: &Cell<i64>) -> bool {
-    let limits = taken_from(alloc, &[Item::Limit], asked);
+    let limits = take_from(alloc, &[Item::Limit], asked);
     TypecheckAnswer::sequence_all_then_typecheck(alloc, limits, |_| Err(AllocError)).is_err()
 }
 

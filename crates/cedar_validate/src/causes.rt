@@ -101,9 +101,12 @@ fn is_same_but_for_types(one: &ValidationError, two: &ValidationError) -> bool {
 /// The types of an error that stands with others for one mistake, as they are shown.
 pub fn types_shown(alloc: Global, error: &ValidationError) -> Result<String, AllocError> {
     match error {
-        ValidationError::UnsafeAttributeAccess(found) => shown(alloc, &found.accessed_type),
-        ValidationError::UnsafeOptionalAttributeAccess(found) => shown(alloc, &found.accessed_type),
-        ValidationError::UnexpectedType(found) => shown(alloc, &found.actual),
+        ValidationError::UnsafeAttributeAccess(found) => render_type(alloc, &found.accessed_type),
+        ValidationError::UnsafeOptionalAttributeAccess(found) => render_type(
+            alloc,
+            &found.accessed_type,
+        ),
+        ValidationError::UnexpectedType(found) => render_type(alloc, &found.actual),
         ValidationError::UnsafeTagAccess(found) => match &found.entity_ty {
             Some(types) => types.to_string(alloc),
             None => String::from_str(alloc, "entity"),
@@ -113,19 +116,19 @@ pub fn types_shown(alloc: Global, error: &ValidationError) -> Result<String, All
             None => String::from_str(alloc, "entity"),
         },
         ValidationError::IncompatibleTypes(found) => {
-            let mut said = String::new(alloc);
+            let mut types = String::new(alloc);
             for ty in found.types.iter() {
-                if !said.is_empty() {
-                    said.push_str(", ")?;
+                if !types.is_empty() {
+                    types.push_str(", ")?;
                 }
-                write!(said, "{ty}")?;
+                write!(types, "{ty}")?;
             }
-            Ok(said)
+            Ok(types)
         }
         _ => Ok(String::new(alloc)),
     }
 }
 
-fn shown(alloc: Global, ty: &CedarType) -> Result<String, AllocError> {
+fn render_type(alloc: Global, ty: &CedarType) -> Result<String, AllocError> {
     ty.to_string(alloc)
 }

@@ -16,7 +16,7 @@ use cedar_validation::data_findings::DataFinding;
 use cedar_validation::faults::TextFault;
 use cedar_validation::reports::{Form, Report};
 use cedar_validation::sources::Source;
-use cedar_validation::tallies::Tally;
+use cedar_validation::totals::Totals;
 use std::alloc::{AllocError, Global};
 use std::io;
 use std::io::Write;
@@ -42,25 +42,25 @@ pub fn validate_data<R: Files + AllocGlobal + Input, O: Write>(
     form: &mut Form,
     schema: &ValidatorSchema,
     arguments: &Arguments,
-    tally: &mut Tally,
+    totals: &mut Totals,
     out: &mut O,
 ) -> io::Result<()> {
     let alloc = rt.alloc();
     if let Some(name) = &arguments.entities {
         let name = name.as_str();
-        if let Some(text) = read_data(rt, form, name, tally, out)? {
+        if let Some(text) = read_data(rt, form, name, totals, out)? {
             let text = text.as_str();
             let found = found_in_entities(alloc, schema, text);
-            let shown = shown_data(alloc, form, schema, Source { name, text }, found, tally)?;
+            let shown = shown_data(alloc, form, schema, Source { name, text }, found, totals)?;
             out.write_all(shown.as_bytes())?;
         }
     }
     if let Some(name) = &arguments.request {
         let name = name.as_str();
-        if let Some(text) = read_data(rt, form, name, tally, out)? {
+        if let Some(text) = read_data(rt, form, name, totals, out)? {
             let text = text.as_str();
             let found = found_in_request(alloc, schema, text);
-            let shown = shown_data(alloc, form, schema, Source { name, text }, found, tally)?;
+            let shown = shown_data(alloc, form, schema, Source { name, text }, found, totals)?;
             out.write_all(shown.as_bytes())?;
         }
     }
@@ -72,13 +72,13 @@ fn read_data<R: Files + AllocGlobal + Input, O: Write>(
     rt: &R,
     form: &mut Form,
     name: &str,
-    tally: &mut Tally,
+    totals: &mut Totals,
     out: &mut O,
 ) -> io::Result<Option<String>> {
-    tally.data.is_asked = true;
+    totals.data.is_asked = true;
     let text = read_text(rt, form, name, out)?;
     if text.is_none() {
-        tally.add_fault();
+        totals.add_fault();
     }
     Ok(text)
 }
@@ -124,14 +124,14 @@ fn shown_data(
     schema: &ValidatorSchema,
     source: Source<'_>,
     found: Result<Found, DataError>,
-    tally: &mut Tally,
+    totals: &mut Totals,
 ) -> Result<String, AllocError> {
     let mut shown = String::new(alloc);
     let mut report = Report::new(alloc, *form, source);
     match found {
         Err(DataError::Memory(error)) => return Err(error),
         Err(DataError::At(start, fault)) => {
-            tally.add_fault();
+            totals.add_fault();
             let place = Loc { start, end: start };
             let text = format!(in alloc; "{fault}")?;
             report.push_fault(&mut shown, &TextFault { place, text })?;
@@ -143,7 +143,7 @@ fn shown_data(
             schema,
             source,
             &found,
-            tally,
+            totals,
         )?,
     }
     *form = report.form();
@@ -158,10 +158,10 @@ fn push_found(
     schema: &ValidatorSchema,
     source: Source<'_>,
     found: &Found,
-    tally: &mut Tally,
+    totals: &mut Totals,
 ) -> Result<(), AllocError> {
     for _ in 0..found.entities {
-        tally.data.add_entity();
+        totals.data.add_entity();
     }
     let mut findings = Vec::new(alloc);
     for fault in found.faults.listed() {
@@ -174,10 +174,10 @@ fn push_found(
     }
     findings.sort_by_key(|it| (it.place.start, it.place.end))?;
     for finding in findings.iter().take(MAX_SHOWN) {
-        push_finding(alloc, shown, report, finding, tally)?;
+        push_finding(alloc, shown, report, finding, totals)?;
     }
     if found.faults.has_more() || findings.len() > MAX_SHOWN {
-        tally.data.add_error();
+        totals.data.add_error();
         let more = more_than_shown(alloc, source.text)?;
         report.push_data(shown, &more)?;
     }
@@ -190,13 +190,13 @@ fn push_finding(
     shown: &mut String,
     report: &mut Report<'_>,
     finding: &DataFinding,
-    tally: &mut Tally,
+    totals: &mut Totals,
 ) -> Result<(), AllocError> {
     if finding.code != Code::Fault {
-        tally.data.add_error();
+        totals.data.add_error();
         return report.push_data(shown, finding);
     }
-    tally.add_fault();
+    totals.add_fault();
     let place = finding.place;
     let text = String::from_str(alloc, finding.text.as_str())?;
     report.push_fault(shown, &TextFault { place, text })
@@ -216,11 +216,11 @@ fn more_than_shown(alloc: Global, text: &str) -> Result<DataFinding, AllocError>
 /// A text that a constructor of extension values cannot read.
 fn unread(alloc: Global, text: &ExtensionText) -> Result<DataFinding, AllocError> {
     let function = text.function;
-    let said = &text.text;
+    let message = &text.text;
     Ok(DataFinding {
         place: text.place,
         code: Code::BadArgument,
-        text: format!(in alloc; "`{function}` cannot read `{said}`")?,
+        text: format!(in alloc; "`{function}` cannot read `{message}`")?,
         hint: String::new(alloc),
     })
 }

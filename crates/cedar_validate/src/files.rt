@@ -1,7 +1,7 @@
 // What is done with a file.
 use crate::policies::Policies;
 use crate::progress::Progress;
-use crate::verdicts::{Rules, judge};
+use crate::verdicts::{Settings, judge};
 use cedar_json::{FormError, value_alone};
 use cedar_types::base::Template;
 use cedar_validation::faults::{TextFault, Written};
@@ -9,7 +9,7 @@ use cedar_validation::json_faults::form_fault;
 use cedar_validation::reports::{Form, Report, push_missing};
 use cedar_validation::sources::{Content, Source, read};
 use cedar_validation::syntaxes::Syntax;
-use cedar_validation::tallies::Tally;
+use cedar_validation::totals::Totals;
 use std::alloc::{AllocError, Global};
 use std::io;
 use std::io::Write;
@@ -33,16 +33,16 @@ pub fn read_text<R: Files + AllocGlobal + Input, O: Write>(
         Ok(Content::Text(text)) => return Ok(Some(text)),
         Ok(Content::Broken(front, fault)) => {
             let text = front.as_str();
-            shown_break(alloc, form, Source { name, text }, &fault)?
+            render_break(alloc, form, Source { name, text }, &fault)?
         }
-        Err(error) => shown_lack(alloc, form, name, &error)?,
+        Err(error) => render_unreadable(alloc, form, name, &error)?,
     };
     out.write_all(shown.as_bytes())?;
     Ok(None)
 }
 
 /// How a fault is shown behind the front of a file, which is a text.
-fn shown_break(
+fn render_break(
     alloc: Global,
     form: &mut Form,
     front: Source<'_>,
@@ -56,7 +56,7 @@ fn shown_break(
 }
 
 /// How it is shown that a file cannot be had.
-fn shown_lack(
+fn render_unreadable(
     alloc: Global,
     form: &mut Form,
     name: &str,
@@ -72,24 +72,24 @@ fn shown_lack(
 pub fn validate_file<R: Files + AllocGlobal + Input, O: Write, T: Write>(
     rt: &R,
     form: &mut Form,
-    rules: &Rules<'_>,
+    settings: &Settings<'_>,
     name: &str,
-    tally: &mut Tally,
+    totals: &mut Totals,
     progress: &mut Progress<T>,
     out: &mut O,
 ) -> io::Result<()> {
     let alloc = rt.alloc();
     let Some(text) = read_text(rt, form, name, out)? else {
-        tally.add_fault();
+        totals.add_fault();
         return Ok(());
     };
     let text = text.as_str();
     let mut report = Report::new(alloc, *form, Source { name, text });
-    let is_whole = validate_text(alloc, rules, text, &mut report, tally, progress, out)?;
+    let is_whole = validate_text(alloc, settings, text, &mut report, totals, progress, out)?;
     *form = report.form();
     progress.clear();
     if !is_whole {
-        tally.add_fault();
+        totals.add_fault();
         let mut shown = String::new(alloc);
         push_missing(&mut shown, form, name, REST)?;
         out.write_all(shown.as_bytes())?;
@@ -100,27 +100,27 @@ pub fn validate_file<R: Files + AllocGlobal + Input, O: Write, T: Write>(
 /// Validates the policies of a text in either syntax. Whether all of it was read.
 fn validate_text<O: Write, T: Write>(
     alloc: Global,
-    rules: &Rules<'_>,
+    settings: &Settings<'_>,
     text: &str,
     report: &mut Report<'_>,
-    tally: &mut Tally,
+    totals: &mut Totals,
     progress: &mut Progress<T>,
     out: &mut O,
 ) -> io::Result<bool> {
-    if rules.syntax.unwrap_or(Syntax::of(text)) == Syntax::Json {
-        return validate_json(alloc, rules, text, report, tally, progress, out);
+    if settings.syntax.unwrap_or(Syntax::of(text)) == Syntax::Json {
+        return validate_json(alloc, settings, text, report, totals, progress, out);
     }
     let read = Policies::of_text(alloc, text)?;
-    validate_policies(alloc, rules, read, report, tally, progress, out)
+    validate_policies(alloc, settings, read, report, totals, progress, out)
 }
 
 /// Validates the policies of a text of JSON. Whether all of it was read.
 fn validate_json<O: Write, T: Write>(
     alloc: Global,
-    rules: &Rules<'_>,
+    settings: &Settings<'_>,
     text: &str,
     report: &mut Report<'_>,
-    tally: &mut Tally,
+    totals: &mut Totals,
     progress: &mut Progress<T>,
     out: &mut O,
 ) -> io::Result<bool> {
@@ -128,12 +128,12 @@ fn validate_json<O: Write, T: Write>(
     match value_alone(alloc, text) {
         Ok(root) => {
             let read = Policies::of_json(alloc, text, &root)?;
-            validate_policies(alloc, rules, read, report, tally, progress, out)
+            validate_policies(alloc, settings, read, report, totals, progress, out)
         }
         Err(error) => {
             let error = FormError::from(error);
             let fault = form_fault(alloc, Written::Policies, text, error)?;
-            validate_policies(alloc, rules, Err(fault), report, tally, progress, out)
+            validate_policies(alloc, settings, Err(fault), report, totals, progress, out)
         }
     }
 }
@@ -141,66 +141,66 @@ fn validate_json<O: Write, T: Write>(
 /// Validates policies, one after another, or shows the fault that the file has as a whole. Whether all of it was read.
 fn validate_policies<O: Write, T: Write>(
     alloc: Global,
-    rules: &Rules<'_>,
+    settings: &Settings<'_>,
     read: Result<Policies<'_>, TextFault>,
     report: &mut Report<'_>,
-    tally: &mut Tally,
+    totals: &mut Totals,
     progress: &mut Progress<T>,
     out: &mut O,
 ) -> io::Result<bool> {
     let mut policies = match read {
         Ok(policies) => policies,
         Err(fault) => {
-            let shown = shown_fault(alloc, report, tally, &fault)?;
+            let shown = render_fault(alloc, report, totals, &fault)?;
             out.write_all(shown.as_bytes())?;
             return Ok(true);
         }
     };
-    let most = tally.faults.saturating_add(MAX_FAULTS);
+    let most = totals.faults.saturating_add(MAX_FAULTS);
     let examples = policies.examples();
     for _ in 0..policies.most() {
         let Some(next) = policies.next_policy(alloc)? else {
             break;
         };
-        if tally.faults >= most {
+        if totals.faults >= most {
             return Ok(false);
         }
         let shown = match next {
-            Ok(policy) => shown_policy(alloc, rules, examples, &policy, report, tally)?,
-            Err(fault) => shown_fault(alloc, report, tally, &fault)?,
+            Ok(policy) => render_policy(alloc, settings, examples, &policy, report, totals)?,
+            Err(fault) => render_fault(alloc, report, totals, &fault)?,
         };
         out.write_all(shown.as_bytes())?;
-        progress.show(tally.policies);
+        progress.show(totals.policies);
     }
     Ok(true)
 }
 
 /// Counts a fault, and answers how it is shown.
-fn shown_fault(
+fn render_fault(
     alloc: Global,
     report: &mut Report<'_>,
-    tally: &mut Tally,
+    totals: &mut Totals,
     fault: &TextFault,
 ) -> Result<String, AllocError> {
     let mut shown = String::new(alloc);
-    tally.add_fault();
+    totals.add_fault();
     report.push_fault(&mut shown, fault)?;
     Ok(shown)
 }
 
 /// Validates and counts a policy, and answers how it is shown. Two policies of a file may not have the same id.
-fn shown_policy(
+fn render_policy(
     alloc: Global,
-    rules: &Rules<'_>,
+    settings: &Settings<'_>,
     examples: &str,
     policy: &Template,
     report: &mut Report<'_>,
-    tally: &mut Tally,
+    totals: &mut Totals,
 ) -> Result<String, AllocError> {
     let mut shown = String::new(alloc);
     let same_id = report.take_id(alloc, policy)?;
-    let said = judge(alloc, rules, examples, policy, same_id)?;
-    tally.add(&said);
-    report.push_policy(&mut shown, policy, &said)?;
+    let verdict = judge(alloc, settings, examples, policy, same_id)?;
+    totals.add(&verdict);
+    report.push_policy(&mut shown, policy, &verdict)?;
     Ok(shown)
 }

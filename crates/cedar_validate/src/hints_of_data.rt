@@ -33,14 +33,14 @@ fn similar_type(
 ) -> Result<String, AllocError> {
     let wanted = entity_type.to_string(alloc)?;
     let mut search = Search::new(alloc, wanted.as_str())?;
-    let mut said = String::new(alloc);
+    let mut message = String::new(alloc);
     for name in schema.entity_type_names(alloc)? {
         let name = name.to_string(alloc)?;
         if search.is_nearer(name.as_str(), false)? {
-            said = format!(in alloc; "did you mean `{name}`?")?;
+            message = format!(in alloc; "did you mean `{name}`?")?;
         }
     }
-    Ok(said)
+    Ok(message)
 }
 
 fn similar_action(
@@ -49,13 +49,13 @@ fn similar_action(
     action: &EntityUID,
 ) -> Result<String, AllocError> {
     let mut search = Search::new(alloc, action.eid.as_str())?;
-    let mut said = String::new(alloc);
+    let mut message = String::new(alloc);
     for declared in schema.action_ids(alloc)? {
         let name = &declared.name;
         let is_elsewhere = name.entity_type != action.entity_type;
         if search.is_nearer(name.eid.as_str(), is_elsewhere)? {
-            said = format!(in alloc; "did you mean `{name}`?")?;
+            message = format!(in alloc; "did you mean `{name}`?")?;
         }
     }
-    Ok(said)
+    Ok(message)
 }

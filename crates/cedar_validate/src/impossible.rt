@@ -1,5 +1,5 @@
 // Why a policy is impossible.
-use crate::verdicts::Rules;
+use crate::verdicts::Settings;
 use cedar_typechecker::survey::{Environment, Environments};
 use cedar_typechecker::typecheck::{PolicyCheck, Typechecker};
 use cedar_types::base::{
@@ -33,11 +33,11 @@ pub struct FalsePart {
 /// none, or in one of them no part stands anywhere, there are none.
 pub fn false_parts<C: ArgumentCheck>(
     alloc: Global,
-    rules: &Rules<'_, C>,
+    settings: &Settings<'_, C>,
     policy: &Template,
 ) -> Result<Vec<FalsePart>, AllocError> {
-    let schema = rules.validator.schema();
-    let typechecker = Typechecker::new(schema, rules.validator.extensions(), rules.mode);
+    let schema = settings.validator.schema();
+    let typechecker = Typechecker::new(schema, settings.validator.extensions(), settings.mode);
     let mut checks = typechecker.typecheck_by_request_env(alloc, policy)?;
     let mut parts = Vec::new(alloc);
     let mut count = 0usize;

@@ -3,18 +3,18 @@ use crate::data::validate_data;
 use crate::files::{read_text, validate_file};
 use crate::json_schemas::read_json_schema;
 use crate::progress::Progress;
-use crate::verdicts::Rules;
+use crate::verdicts::Settings;
 use cedar_reading::schema;
 use cedar_typechecker::rbac::Validator;
 use cedar_types::base::{ExtensionSchemas, ValidatorSchema};
 use cedar_validation::arguments::{Arguments, Asked, read_arguments};
 use cedar_validation::faults::{TextFault, all_schema_faults, schema_fault, shadowing_fault};
 use cedar_validation::formats::Format;
-use cedar_validation::reports::{Form, Report, push_beginning, push_tally};
+use cedar_validation::reports::{Form, Report, push_beginning, push_totals};
 use cedar_validation::schema_texts::SchemaTexts;
 use cedar_validation::sources::Source;
 use cedar_validation::syntaxes::Syntax;
-use cedar_validation::tallies::Tally;
+use cedar_validation::totals::Totals;
 use std::alloc::{AllocError, Global};
 use std::io;
 use std::io::Write;
@@ -120,41 +120,41 @@ fn validate_files<R: Files + AllocGlobal + Input, O: Write, T: Write>(
         return end_without_schema(rt.alloc(), form, out);
     };
     let validator = Validator::new(schema, extensions);
-    let rules = Rules {
+    let settings = Settings {
         validator: &validator,
         mode: arguments.mode,
         level: arguments.level,
         syntax: arguments.syntax,
     };
-    let mut tally = Tally::default();
+    let mut totals = Totals::default();
     for name in &arguments.policies {
         let name = name.as_str();
-        validate_file(rt, &mut form, &rules, name, &mut tally, progress, out)?;
+        validate_file(rt, &mut form, &settings, name, &mut totals, progress, out)?;
     }
     validate_data(
         rt,
         &mut form,
         validator.schema(),
         arguments,
-        &mut tally,
+        &mut totals,
         out,
     )?;
     let mut shown = String::new(rt.alloc());
-    push_tally(&mut shown, form, tally)?;
+    push_totals(&mut shown, form, totals)?;
     out.write_all(shown.as_bytes())?;
-    Ok(tally.status(arguments.denies_warnings))
+    Ok(totals.status(arguments.denies_warnings))
 }
 
 /// Ends what is written where there is no schema: lines and objects have no counts then.
 fn end_without_schema<O: Write>(alloc: Global, form: Form, out: &mut O) -> io::Result<u8> {
-    let mut tally = Tally::default();
-    tally.add_fault();
+    let mut totals = Totals::default();
+    totals.add_fault();
     if form.format == Format::Sarif {
         let mut shown = String::new(alloc);
-        push_tally(&mut shown, form, tally)?;
+        push_totals(&mut shown, form, totals)?;
         out.write_all(shown.as_bytes())?;
     }
-    Ok(tally.status(false))
+    Ok(totals.status(false))
 }
 
 /// The schema. Where there is none, why is written, and the answer is `None`.
@@ -183,14 +183,14 @@ fn read_schema<R: Files + AllocGlobal + Input, O: Write>(
         Err(fault) => fault,
     };
     for fault in all_schema_faults(alloc, texts.text(), first)? {
-        let shown = shown_fault(alloc, &arguments.schemas, &texts, form, fault)?;
+        let shown = render_fault(alloc, &arguments.schemas, &texts, form, fault)?;
         out.write_all(shown.as_bytes())?;
     }
     Ok(None)
 }
 
 /// How a fault of a schema is shown, in the file that it stands in.
-fn shown_fault(
+fn render_fault(
     alloc: Global,
     names: &Vec<String>,
     texts: &SchemaTexts,

@@ -28,7 +28,7 @@ const UNEXPLAINED: &str = "refused without an error: a part is nested too deep, 
 
 /// What policies are validated by.
 #[derive(Drop)]
-pub struct Rules<'a, C = Box<dyn ArgumentCheck>> {
+pub struct Settings<'a, C = Box<dyn ArgumentCheck>> {
     pub validator: &'a Validator<'a, C>,
     pub mode: ValidationMode,
     pub level: Option<u32>,
@@ -41,24 +41,24 @@ pub struct Rules<'a, C = Box<dyn ArgumentCheck>> {
 /// refused. A policy whose id another one has, at this position of the file, is refused. Hints take their examples from the text.
 pub fn judge<C: ArgumentCheck>(
     alloc: Global,
-    rules: &Rules<'_, C>,
+    settings: &Settings<'_, C>,
     text: &str,
     policy: &Template,
     same_id: Option<Position>,
 ) -> Result<Verdict, AllocError> {
-    let mut found = find(alloc, rules, policy)?;
+    let mut found = find(alloc, settings, policy)?;
     if add_unread(alloc, policy, &mut found.errors)? {
         found.is_accepted = false;
     }
     let about = About {
-        schema: rules.validator.schema(),
+        schema: settings.validator.schema(),
         policy,
         text,
         applicable: found.applicable_environments,
     };
-    let parts = find_false_parts(alloc, rules, &found, policy)?;
+    let parts = find_false_parts(alloc, settings, &found, policy)?;
     let mut causes = causes_of_warnings(alloc, &found, parts.as_slice(), policy)?;
-    add_errors(rules.mode, &found, policy, &mut causes)?;
+    add_errors(settings.mode, &found, policy, &mut causes)?;
     add_marks(alloc, policy, &mut causes)?;
     if let Some(other) = same_id {
         let place = place_of(policy);
@@ -69,7 +69,7 @@ pub fn judge<C: ArgumentCheck>(
     let (findings, others) = first_findings(alloc, about, causes)?;
     Ok(Verdict {
         is_accepted: found.is_accepted && same_id.is_none(),
-        requirement: requirement(rules.mode, &found),
+        requirement: requirement(settings.mode, &found),
         findings,
         others,
         warnings,
@@ -111,11 +111,11 @@ fn sound_mode(mode: ValidationMode) -> Option<SoundMode> {
 
 fn find<C: ArgumentCheck>(
     alloc: Global,
-    rules: &Rules<'_, C>,
+    settings: &Settings<'_, C>,
     policy: &Template,
 ) -> Result<Findings, AllocError> {
-    let validator = rules.validator;
-    match (sound_mode(rules.mode), rules.level) {
+    let validator = settings.validator;
+    match (sound_mode(settings.mode), settings.level) {
         (None, _) => find_in_partial(alloc, validator, policy),
         (Some(mode), None) => validate(alloc, validator, mode, policy),
         (Some(mode), Some(steps)) => validate_within(alloc, validator, mode, steps, policy),
@@ -152,14 +152,14 @@ fn place_of(policy: &Template) -> Loc {
 /// Why a policy is impossible, where that does not follow from errors.
 fn find_false_parts<C: ArgumentCheck>(
     alloc: Global,
-    rules: &Rules<'_, C>,
+    settings: &Settings<'_, C>,
     found: &Findings,
     policy: &Template,
 ) -> Result<Vec<FalsePart>, AllocError> {
     for warning in &found.warnings {
         let is_impossible = matches!(warning, ValidationWarning::ImpossiblePolicy(_));
         if is_impossible && !follows(warning, &found.errors, policy) {
-            return false_parts(alloc, rules, policy);
+            return false_parts(alloc, settings, policy);
         }
     }
     Ok(Vec::new(alloc))

@@ -153,7 +153,7 @@ impl Reading {
 
     fn take_format(&mut self, word: &str) -> Option<Misuse> {
         self.next = Next::Any;
-        match Format::named(word) {
+        match Format::by_name(word) {
             Some(format) => {
                 self.format = format;
                 None
@@ -164,7 +164,7 @@ impl Reading {
 
     fn take_input(&mut self, word: &str) -> Option<Misuse> {
         self.next = Next::Any;
-        self.syntax = Syntax::named(word);
+        self.syntax = Syntax::by_name(word);
         match self.syntax {
             Some(_) => None,
             None => Some(Misuse::Input),

@@ -80,11 +80,11 @@ fn write_escaped<W: fmt::Write>(f: &mut fmt::Formatter<W>, c: char) -> fmt::Resu
 
 /// Whether a character is a control character, a mark of direction, a line's end, takes no place of its own, or shows nothing.
 pub fn is_hidden(c: char) -> bool {
-    shown_width(c) > 1
+    display_width(c) > 1
 }
 
 /// How many places a character takes in what [`Shown`] shows.
-pub fn shown_width(c: char) -> usize {
+pub fn display_width(c: char) -> usize {
     match c {
         '"' | '\'' | '\\' => 1,
         _ if is_filler(c) => c.escape_unicode().count(),

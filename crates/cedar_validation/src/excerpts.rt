@@ -1,5 +1,5 @@
 //! The line of a place, with carets below it.
-use crate::escapes::{Shown, shown_width};
+use crate::escapes::{Shown, display_width};
 use cedar_types::base::Loc;
 use std::fmt;
 
@@ -98,7 +98,7 @@ impl fmt::Display for Blanks<'_> {
             if c == '\t' {
                 f.write_str("\t")?;
             } else {
-                repeat(f, " ", shown_width(c))?;
+                repeat(f, " ", display_width(c))?;
             }
         }
         Ok(())
@@ -118,7 +118,7 @@ impl fmt::Display for Carets<'_> {
             if c == '\t' {
                 f.write_str("\t")?;
             } else {
-                repeat(f, "^", shown_width(c))?;
+                repeat(f, "^", display_width(c))?;
             }
         }
         Ok(())

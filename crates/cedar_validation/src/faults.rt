@@ -78,19 +78,19 @@ pub fn read_fault(
         _ => beginning(token),
     };
     let trouble = trouble_of(written, fault, token);
-    let mut said = trouble_text(alloc, written, trouble, read)?;
+    let mut message = trouble_text(alloc, written, trouble, read)?;
     if is_behind_long_text(text, start) {
-        said.push_str(LONG_TEXT)?;
+        message.push_str(LONG_TEXT)?;
     }
     if fault == Fault::Undeclared && is_alias(text, read) {
-        said.push_str(ALIAS)?;
+        message.push_str(ALIAS)?;
     }
     Ok(TextFault {
         place: Loc {
             start,
             end: start.saturating_add(read.len()),
         },
-        text: said,
+        text: message,
     })
 }
 
@@ -114,7 +114,7 @@ fn is_behind_long_text(text: &str, start: usize) -> bool {
         return false;
     };
     match inside.rsplit_once('"') {
-        Some((_, said)) => said.contains('\n'),
+        Some((_, message)) => message.contains('\n'),
         None => false,
     }
 }
@@ -142,14 +142,14 @@ fn trouble_text(
     trouble: Trouble,
     read: &str,
 ) -> Result<String, AllocError> {
-    let mut said = trouble.to_string(alloc)?;
+    let mut message = trouble.to_string(alloc)?;
     if read.is_empty() {
-        said.push_str(", where the text ends")?;
+        message.push_str(", where the text ends")?;
     } else {
-        write!(said, ", where `{read}` is read")?;
+        write!(message, ", where `{read}` is read")?;
     }
-    said.push_str(hint(written, trouble, read))?;
-    Ok(said)
+    message.push_str(hint(written, trouble, read))?;
+    Ok(message)
 }
 
 /// The beginning of what was read, of one line.

@@ -46,7 +46,7 @@ impl Default for Requirement {
 
 impl Requirement {
     /// What two policies need together.
-    pub fn joined(self, other: Requirement) -> Requirement {
+    pub fn join(self, other: Requirement) -> Requirement {
         match (self, other) {
             (Requirement::NoLevel, _) | (_, Requirement::NoLevel) => Requirement::NoLevel,
             (Requirement::Unsaid, it) | (it, Requirement::Unsaid) => it,

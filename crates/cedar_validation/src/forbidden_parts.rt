@@ -18,10 +18,10 @@ pub fn forbidden_part(
     };
     for item in condition.subexpressions(alloc)? {
         let part = item?;
-        if let Some(said) = why_forbidden(alloc, text, part)? {
+        if let Some(message) = why_forbidden(alloc, text, part)? {
             return Ok(Some(TextFault {
                 place: part.loc.unwrap_or(Loc { start: 0, end: 0 }),
-                text: said,
+                text: message,
             }));
         }
     }
@@ -33,22 +33,22 @@ fn why_forbidden(
     text: Option<&str>,
     part: &Expr,
 ) -> Result<Option<String>, AllocError> {
-    let said = match &part.kind {
+    let message = match &part.kind {
         ExprKind::Slot(_) => "a slot can stand in the scope alone, before the conditions",
         ExprKind::Unknown(_) => "an unknown has no value",
         ExprKind::ExtensionFunctionApp(name, arguments) if name.path.is_empty() => {
             let Some(text) = text else {
                 return Ok(None);
             };
-            return called_otherwise(alloc, text, part.loc, name.basename.as_str(), arguments);
+            return explain_call(alloc, text, part.loc, name.basename.as_str(), arguments);
         }
         _ => return Ok(None),
     };
-    Ok(Some(String::from_str(alloc, said)?))
+    Ok(Some(String::from_str(alloc, message)?))
 }
 
 /// How a function is called, where it is called as a method, and a method where it is called as a function.
-fn called_otherwise(
+fn explain_call(
     alloc: Global,
     text: &str,
     place: Option<Loc>,
@@ -62,8 +62,8 @@ fn called_otherwise(
     if is_called_as_function(text, place, name) {
         if is_method(name) {
             let dots = if arguments.len() > 1 { ".." } else { "" };
-            let said = format!(in alloc; "`{name}` is a method: `{shown}.{name}({dots})`")?;
-            return Ok(Some(said));
+            let message = format!(in alloc; "`{name}` is a method: `{shown}.{name}({dots})`")?;
+            return Ok(Some(message));
         }
     } else if is_constructor(name) {
         return Ok(Some(format!(in alloc; "`{name}` is a function: `{name}({shown})`")?));

@@ -13,7 +13,7 @@ pub enum Format {
 
 impl Format {
     /// The format of this name, if there is one.
-    pub fn named(name: &str) -> Option<Format> {
+    pub fn by_name(name: &str) -> Option<Format> {
         match name {
             "lines" => Some(Format::Lines),
             "json" => Some(Format::Objects),

@@ -19,23 +19,23 @@ pub fn form_fault(
         FormError::At(start, fault) => (start, fault),
     };
     let token = token_at(text, start);
-    let mut said = fault.to_string(alloc)?;
+    let mut message = fault.to_string(alloc)?;
     match mention_of(fault) {
         Mention::Nothing => {}
         Mention::Name => {
             let name = token.trim_matches('"');
-            write!(said, ": `{name}`")?;
+            write!(message, ": `{name}`")?;
         }
-        Mention::Token if token.is_empty() => said.push_str(", where the text ends")?,
-        Mention::Token => write!(said, ", where `{token}` is read")?,
+        Mention::Token if token.is_empty() => message.push_str(", where the text ends")?,
+        Mention::Token => write!(message, ", where `{token}` is read")?,
     }
-    said.push_str(hint(written, text, start, fault, token))?;
+    message.push_str(hint(written, text, start, fault, token))?;
     Ok(TextFault {
         place: Loc {
             start,
             end: start.saturating_add(token.len()),
         },
-        text: said,
+        text: message,
     })
 }
 

@@ -26,4 +26,4 @@ pub mod schema_texts;
 pub mod similar;
 pub mod sources;
 pub mod syntaxes;
-pub mod tallies;
+pub mod totals;

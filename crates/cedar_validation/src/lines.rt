@@ -4,7 +4,7 @@ use crate::escapes::{Shown, ShownId};
 use crate::excerpts::Excerpt;
 use crate::faults::TextFault;
 use crate::findings::{Finding, Requirement, Severity, Verdict};
-use crate::tallies::{DataTally, Tally};
+use crate::totals::{DataTally, Totals};
 use cedar_reading::Position;
 use cedar_types::base::Loc;
 use std::alloc::AllocError;
@@ -60,12 +60,12 @@ pub fn push_finding(
     text: &str,
     finding: &Finding,
 ) -> Result<(), AllocError> {
-    let said = Shown(finding.text.as_str());
+    let message = Shown(finding.text.as_str());
     let severity = severity_text(finding.severity);
     let start = finding.start;
     let end = finding.end;
     let excerpt = Excerpt::new(text, Loc { start, end });
-    write!(out, "{place}: {severity}: {said}")?;
+    write!(out, "{place}: {severity}: {message}")?;
     if !finding.hint.is_empty() {
         let hint = Shown(finding.hint.as_str());
         write!(out, "; {hint}")?;
@@ -102,9 +102,9 @@ pub fn push_fault(
     text: &str,
     fault: &TextFault,
 ) -> Result<(), AllocError> {
-    let said = Shown(fault.text.as_str());
+    let message = Shown(fault.text.as_str());
     let excerpt = Excerpt::new(text, fault.place);
-    write!(out, "{place}: fault: {said}\n{excerpt}")
+    write!(out, "{place}: fault: {message}\n{excerpt}")
 }
 
 /// Adds the lines of a mistake in data that this text is.
@@ -114,9 +114,9 @@ pub fn push_data(
     text: &str,
     finding: &DataFinding,
 ) -> Result<(), AllocError> {
-    let said = Shown(finding.text.as_str());
+    let message = Shown(finding.text.as_str());
     let excerpt = Excerpt::new(text, finding.place);
-    write!(out, "{place}: error: {said}")?;
+    write!(out, "{place}: error: {message}")?;
     if !finding.hint.is_empty() {
         let hint = Shown(finding.hint.as_str());
         write!(out, "; {hint}")?;
@@ -132,8 +132,8 @@ pub fn push_missing(out: &mut String, file: &str, why: &str) -> Result<(), Alloc
 }
 
 /// Adds the last line.
-pub fn push_tally(out: &mut String, tally: Tally) -> Result<(), AllocError> {
-    let Tally {
+pub fn push_totals(out: &mut String, totals: Totals) -> Result<(), AllocError> {
+    let Totals {
         policies,
         accepted,
         refused,
@@ -141,7 +141,7 @@ pub fn push_tally(out: &mut String, tally: Tally) -> Result<(), AllocError> {
         faults,
         requirement,
         data,
-    } = tally;
+    } = totals;
     write!(
         out,
         "policies: {policies}, accepted: {accepted}, refused: {refused}"

@@ -5,7 +5,7 @@ use crate::escapes::Quoted;
 use crate::faults::TextFault;
 use crate::findings::{Finding, Requirement, Verdict};
 use crate::lines::{Place, severity_text};
-use crate::tallies::{DataTally, Tally};
+use crate::totals::{DataTally, Totals};
 use cedar_reading::Position;
 use std::alloc::AllocError;
 
@@ -129,8 +129,8 @@ pub fn push_missing(out: &mut String, file: &str, why: &str) -> Result<(), Alloc
 }
 
 /// Adds the last object.
-pub fn push_tally(out: &mut String, tally: Tally) -> Result<(), AllocError> {
-    let Tally {
+pub fn push_totals(out: &mut String, totals: Totals) -> Result<(), AllocError> {
+    let Totals {
         policies,
         accepted,
         refused,
@@ -138,7 +138,7 @@ pub fn push_tally(out: &mut String, tally: Tally) -> Result<(), AllocError> {
         faults,
         requirement,
         data,
-    } = tally;
+    } = totals;
     write!(
         out,
         "{{\"kind\":\"summary\",\"policies\":{policies},\"accepted\":{accepted}"

@@ -6,7 +6,7 @@ use crate::formats::Format;
 use crate::lines::{self, Place};
 use crate::places::Places;
 use crate::sources::Source;
-use crate::tallies::Tally;
+use crate::totals::Totals;
 use crate::{objects, sarif};
 use cedar_reading::Position;
 use cedar_types::base::{Loc, Template};
@@ -220,10 +220,10 @@ pub fn push_missing(
 }
 
 /// Adds the counts of all.
-pub fn push_tally(out: &mut String, form: Form, tally: Tally) -> Result<(), AllocError> {
+pub fn push_totals(out: &mut String, form: Form, totals: Totals) -> Result<(), AllocError> {
     match form.format {
-        Format::Lines => lines::push_tally(out, tally),
-        Format::Objects => objects::push_tally(out, tally),
-        Format::Sarif => sarif::push_end(out, tally),
+        Format::Lines => lines::push_totals(out, totals),
+        Format::Objects => objects::push_totals(out, totals),
+        Format::Sarif => sarif::push_end(out, totals),
     }
 }

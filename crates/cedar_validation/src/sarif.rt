@@ -5,7 +5,7 @@ use crate::escapes::Quoted;
 use crate::faults::TextFault;
 use crate::findings::{Finding, Severity};
 use crate::lines::Place;
-use crate::tallies::Tally;
+use crate::totals::Totals;
 use cedar_reading::Position;
 use std::alloc::{AllocError, Global};
 use std::fmt;
@@ -99,18 +99,18 @@ pub fn push_finding(
 /// What is found, with what may help, and where it is so.
 fn message(alloc: Global, id: &str, finding: &Finding) -> Result<String, AllocError> {
     let text = finding.text.as_str();
-    let mut said = format!(in alloc; "policy `{id}`: {text}")?;
+    let mut message = format!(in alloc; "policy `{id}`: {text}")?;
     if !finding.hint.is_empty() {
         let hint = finding.hint.as_str();
-        write!(said, "; {hint}")?;
+        write!(message, "; {hint}")?;
     }
     for other in &finding.also {
-        write!(said, "; the same for {other}")?;
+        write!(message, "; the same for {other}")?;
     }
     for environment in &finding.environments {
-        write!(said, "; only for {environment}")?;
+        write!(message, "; only for {environment}")?;
     }
-    Ok(said)
+    Ok(message)
 }
 
 /// Adds the result of the policy of this id that has so many findings more than are shown.
@@ -154,16 +154,16 @@ pub fn push_data(
     place: Place<'_>,
     finding: &DataFinding,
 ) -> Result<(), AllocError> {
-    let mut said = String::from_str(alloc, finding.text.as_str())?;
+    let mut message = String::from_str(alloc, finding.text.as_str())?;
     if !finding.hint.is_empty() {
         let hint = finding.hint.as_str();
-        write!(said, "; {hint}")?;
+        write!(message, "; {hint}")?;
     }
     let kind = Kind {
         code: finding.code,
         severity: Severity::Error,
     };
-    push_kind(out, is_first, kind, said.as_str())?;
+    push_kind(out, is_first, kind, message.as_str())?;
     push_place(out, place)
 }
 
@@ -184,14 +184,14 @@ pub fn push_missing(
 }
 
 /// Adds what stands behind the results: the counts of all, and whether all was read.
-pub fn push_end(out: &mut String, tally: Tally) -> Result<(), AllocError> {
-    let is_read = tally.faults == 0;
+pub fn push_end(out: &mut String, totals: Totals) -> Result<(), AllocError> {
+    let is_read = totals.faults == 0;
     write!(
         out,
         "],\n\"invocations\":[{{\"executionSuccessful\":{is_read}}}]"
     )?;
     out.push_str(",\"properties\":")?;
-    crate::objects::push_tally(out, tally)?;
+    crate::objects::push_totals(out, totals)?;
     out.push_str("}]}\n")
 }
 

@@ -11,7 +11,7 @@ pub enum Syntax {
 
 impl Syntax {
     /// The syntax of this name, if there is one.
-    pub fn named(word: &str) -> Option<Syntax> {
+    pub fn by_name(word: &str) -> Option<Syntax> {
         match word {
             "text" => Some(Syntax::Cedar),
             "json" => Some(Syntax::Json),

@@ -129,14 +129,14 @@ const LINES: [(&str, &str); 53] = [
 #[test]
 fn what_is_asked(rt: HostRuntime) -> Result<(), Fail> {
     for (line, wanted) in &LINES {
-        let said = shown(rt.alloc(), line)?;
-        assert_eq!(rt; said.as_str(), *wanted, "for {line}");
+        let got = describe(rt.alloc(), line)?;
+        assert_eq!(rt; got.as_str(), *wanted, "for {line}");
     }
     Ok(())
 }
 
 /// What a command line asks for, in words.
-fn shown(alloc: Global, line: &str) -> Result<String, AllocError> {
+fn describe(alloc: Global, line: &str) -> Result<String, AllocError> {
     let mut words = Vec::new(alloc);
     for word in line.split(' ') {
         words.push(String::from_str(alloc, word)?)?;
@@ -147,20 +147,20 @@ fn shown(alloc: Global, line: &str) -> Result<String, AllocError> {
         Ok(Asked::Version) => return String::from_str(alloc, "version"),
         Err(misuse) => return misuse.to_string(alloc),
     };
-    let mut said = String::from_str(alloc, mode_text(arguments.mode))?;
+    let mut got = String::from_str(alloc, mode_text(arguments.mode))?;
     match arguments.level {
-        Some(level) => write!(said, ", level {level}")?,
-        None => said.push_str(", no level")?,
+        Some(level) => write!(got, ", level {level}")?,
+        None => got.push_str(", no level")?,
     }
     if arguments.denies_warnings {
-        said.push_str(", no warnings")?;
+        got.push_str(", no warnings")?;
     }
-    said.push_str(match arguments.syntax {
+    got.push_str(match arguments.syntax {
         None => "",
         Some(Syntax::Cedar) => ", in text",
         Some(Syntax::Json) => ", in json",
     })?;
-    said.push_str(match arguments.format {
+    got.push_str(match arguments.format {
         Format::Lines => ", lines: ",
         Format::Objects => ", objects: ",
         Format::Sarif => ", sarif: ",
@@ -168,21 +168,21 @@ fn shown(alloc: Global, line: &str) -> Result<String, AllocError> {
     let mut is_first = true;
     for name in arguments.schemas.iter().chain(arguments.policies.iter()) {
         if !is_first {
-            said.push_str(", ")?;
+            got.push_str(", ")?;
         }
         is_first = false;
-        said.push_str(name.as_str())?;
+        got.push_str(name.as_str())?;
     }
     if arguments.schemas.len() > 1 {
-        write!(said, ", {} schemas", arguments.schemas.len())?;
+        write!(got, ", {} schemas", arguments.schemas.len())?;
     }
     if let Some(name) = &arguments.entities {
-        write!(said, ", entities {name}")?;
+        write!(got, ", entities {name}")?;
     }
     if let Some(name) = &arguments.request {
-        write!(said, ", request {name}")?;
+        write!(got, ", request {name}")?;
     }
-    Ok(said)
+    Ok(got)
 }
 
 fn mode_text(mode: ValidationMode) -> &'static str {

@@ -125,8 +125,8 @@ fn conditions(rt: HostRuntime) -> Result<(), Fail> {
     let alloc = rt.alloc();
     for (condition, wanted) in &CONDITIONS {
         let text = format!(in alloc; "{BEFORE}{condition}")?;
-        let said = fault_of_policy(alloc, text.as_str())?;
-        assert_eq!(rt; said.as_str(), *wanted, "for {condition}");
+        let got = fault_of_policy(alloc, text.as_str())?;
+        assert_eq!(rt; got.as_str(), *wanted, "for {condition}");
     }
     Ok(())
 }
@@ -188,8 +188,8 @@ const POLICIES: [(&str, &str); 13] = [
 #[test]
 fn policies(rt: HostRuntime) -> Result<(), Fail> {
     for (text, wanted) in &POLICIES {
-        let said = fault_of_policy(rt.alloc(), text)?;
-        assert_eq!(rt; said.as_str(), *wanted, "for {text}");
+        let got = fault_of_policy(rt.alloc(), text)?;
+        assert_eq!(rt; got.as_str(), *wanted, "for {text}");
     }
     Ok(())
 }
@@ -231,9 +231,9 @@ fn nesting(rt: HostRuntime) -> Result<(), Fail> {
             text.push_str(behind)?;
         }
         text.push_str(" };")?;
-        let said = fault_of_policy(alloc, text.as_str())?;
+        let got = fault_of_policy(alloc, text.as_str())?;
         assert_eq!(rt;
-            said.as_str(),
+            got.as_str(),
             *wanted,
             "for {count} times {before} .. {behind}"
         );
@@ -336,8 +336,8 @@ pub const SCHEMAS: [(&str, &str); 22] = [
 #[test]
 fn schemas(rt: HostRuntime) -> Result<(), Fail> {
     for (text, wanted) in &SCHEMAS {
-        let said = fault_of_schema(rt.alloc(), text)?;
-        assert_eq!(rt; said.as_str(), *wanted, "for {text}");
+        let got = fault_of_schema(rt.alloc(), text)?;
+        assert_eq!(rt; got.as_str(), *wanted, "for {text}");
     }
     Ok(())
 }
@@ -353,7 +353,7 @@ fn fault_of_policy(alloc: Global, text: &str) -> Result<String, AllocError> {
         Some(Ok(_policy)) => String::from_str(alloc, "no fault"),
         Some(Err(error)) => {
             let fault = read_fault(alloc, Written::Policies, text, error)?;
-            shown(alloc, text, &fault)
+            describe(alloc, text, &fault)
         }
     }
 }
@@ -362,17 +362,17 @@ fn fault_of_schema(alloc: Global, text: &str) -> Result<String, AllocError> {
     match schema(alloc, text) {
         Ok(_schema) => match shadowing_fault(alloc, text)? {
             None => String::from_str(alloc, "no fault"),
-            Some(fault) => shown(alloc, text, &fault),
+            Some(fault) => describe(alloc, text, &fault),
         },
         Err(error) => {
             let fault = schema_fault(alloc, text, error)?;
-            shown(alloc, text, &fault)
+            describe(alloc, text, &fault)
         }
     }
 }
 
 /// A fault of a text, and its line and column.
-pub fn shown(alloc: Global, text: &str, fault: &TextFault) -> Result<String, AllocError> {
+pub fn describe(alloc: Global, text: &str, fault: &TextFault) -> Result<String, AllocError> {
     let Position { line, column } = Position::in_text(text, fault.place.start);
     format!(in alloc; "{line}:{column}: {fault}")
 }

@@ -58,11 +58,11 @@ const POLICIES: [(&str, &str); 12] = [
 fn of_policies(rt: HostRuntime) -> Result<(), Fail> {
     let alloc = rt.alloc();
     for (json, wanted) in &POLICIES {
-        let said = match policies_fault(alloc, json) {
-            Some(error) => shown(alloc, Written::Policies, json, error)?,
+        let got = match policies_fault(alloc, json) {
+            Some(error) => describe(alloc, Written::Policies, json, error)?,
             None => String::new(alloc),
         };
-        assert_eq!(rt; said.as_str(), *wanted, "{json}");
+        assert_eq!(rt; got.as_str(), *wanted, "{json}");
     }
     Ok(())
 }
@@ -91,17 +91,17 @@ fn of_schemas(rt: HostRuntime) -> Result<(), Fail> {
              file, and policies come behind it",
         ),
     ] {
-        let said = match schema_text(alloc, json) {
+        let got = match schema_text(alloc, json) {
             Ok(_) => String::new(alloc),
-            Err(error) => shown(alloc, Written::Schema, json, error)?,
+            Err(error) => describe(alloc, Written::Schema, json, error)?,
         };
-        assert_eq!(rt; said.as_str(), wanted, "{json}");
+        assert_eq!(rt; got.as_str(), wanted, "{json}");
     }
     Ok(())
 }
 
 /// The place of a fault, up to the column behind it, and what is wrong.
-fn shown(alloc: Global, written: Written, json: &str, error: FormError) -> Result<String, Fail> {
+fn describe(alloc: Global, written: Written, json: &str, error: FormError) -> Result<String, Fail> {
     let TextFault { place, text } = form_fault(alloc, written, json, error)?;
     let Loc { start, end } = place;
     let Position { line, column } = Position::in_text(json, start);

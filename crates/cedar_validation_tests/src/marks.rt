@@ -52,21 +52,21 @@ const ATTRIBUTE_TWICE: &str =
 #[test]
 fn warnings(rt: HostRuntime) -> Result<(), Fail> {
     for (text, wanted) in &POLICIES {
-        let said = warnings_of(rt.alloc(), text)?;
-        assert_eq!(rt; said.as_str(), *wanted, "for {text}");
+        let got = warnings_of(rt.alloc(), text)?;
+        assert_eq!(rt; got.as_str(), *wanted, "for {text}");
     }
     Ok(())
 }
 
 /// The texts of a policy's warnings.
 fn warnings_of(alloc: Global, text: &str) -> Result<String, Fail> {
-    let mut said = String::new(alloc);
+    let mut got = String::new(alloc);
     let mut policies = Policies::new(alloc, text)?;
     if let Some(read) = policies.next_policy() {
         for marked in marked_parts(alloc, &read?.template)? {
-            said.push_str(marked.text)?;
-            said.push_str(";")?;
+            got.push_str(marked.text)?;
+            got.push_str(";")?;
         }
     }
-    Ok(said)
+    Ok(got)
 }

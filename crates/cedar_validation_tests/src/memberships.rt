@@ -38,8 +38,8 @@ const SCHEMAS: [(&str, &str); 8] = [
 #[test]
 fn descendants(rt: HostRuntime) -> Result<(), Fail> {
     for (text, wanted) in &SCHEMAS {
-        let said = descendants_in(rt.alloc(), text)?;
-        assert_eq!(rt; said.as_str(), *wanted, "for {text}");
+        let got = descendants_in(rt.alloc(), text)?;
+        assert_eq!(rt; got.as_str(), *wanted, "for {text}");
     }
     Ok(())
 }
@@ -47,36 +47,36 @@ fn descendants(rt: HostRuntime) -> Result<(), Fail> {
 /// Of each type and each action of a schema what is in it.
 fn descendants_in(alloc: Global, text: &str) -> Result<String, Fail> {
     let declared = schema_declarations(alloc, text, Notation::Schema)?;
-    let mut said = String::new(alloc);
+    let mut got = String::new(alloc);
     for own in &declared.entity_types {
-        push_name(&mut said)?;
-        write!(said, "{}:", own.name)?;
+        push_name(&mut got)?;
+        write!(got, "{}:", own.name)?;
         for other in &own.descendants {
-            write!(said, " {other}")?;
+            write!(got, " {other}")?;
         }
     }
     for own in &declared.actions {
-        push_name(&mut said)?;
-        push_actions(&mut said, &own.name, &own.descendants)?;
+        push_name(&mut got)?;
+        push_actions(&mut got, &own.name, &own.descendants)?;
     }
-    Ok(said)
+    Ok(got)
 }
 
-fn push_name(said: &mut String) -> Result<(), Fail> {
-    if !said.is_empty() {
-        said.push_str("; ")?;
+fn push_name(got: &mut String) -> Result<(), Fail> {
+    if !got.is_empty() {
+        got.push_str("; ")?;
     }
     Ok(())
 }
 
 fn push_actions(
-    said: &mut String,
+    got: &mut String,
     own: &EntityUID,
     others: &BTreeSet<EntityUID>,
 ) -> Result<(), Fail> {
-    write!(said, "{}:", own.eid)?;
+    write!(got, "{}:", own.eid)?;
     for other in others {
-        write!(said, " {}", other.eid)?;
+        write!(got, " {}", other.eid)?;
     }
     Ok(())
 }

@@ -7,7 +7,7 @@ use cedar_validation::faults::TextFault;
 use cedar_validation::findings::{Finding, Requirement, Severity, Verdict};
 use cedar_validation::lines::Place;
 use cedar_validation::objects;
-use cedar_validation::tallies::{DataTally, Tally};
+use cedar_validation::totals::{DataTally, Totals};
 use std::alloc::{AllocError, Global};
 use std::test::Fail;
 
@@ -72,7 +72,7 @@ fn findings_and_faults(rt: HostRuntime) -> Result<(), Fail> {
     };
     objects::push_fault(&mut out, PLACE, &fault)?;
     objects::push_missing(&mut out, "\u{1b}", "none")?;
-    let tally = Tally {
+    let totals = Totals {
         policies: 1,
         accepted: 2,
         refused: 3,
@@ -81,7 +81,7 @@ fn findings_and_faults(rt: HostRuntime) -> Result<(), Fail> {
         requirement: Requirement::Level(EntityDerefLevel { level: 6 }),
         data: DataTally::default(),
     };
-    objects::push_tally(&mut out, tally)?;
+    objects::push_totals(&mut out, totals)?;
     assert_eq!(rt; out.as_str(), FINDINGS.trim_start());
     Ok(())
 }
@@ -126,15 +126,15 @@ fn data_as_objects(rt: HostRuntime) -> Result<(), Fail> {
         hint: String::from_str(alloc, "c")?,
     };
     objects::push_data(&mut out, PLACE, &finding)?;
-    let mut tally = Tally::default();
-    tally.data.is_asked = true;
-    tally.data.add_entity();
-    tally.data.add_error();
-    tally.data.add_error();
-    objects::push_tally(&mut out, tally)?;
+    let mut totals = Totals::default();
+    totals.data.is_asked = true;
+    totals.data.add_entity();
+    totals.data.add_error();
+    totals.data.add_error();
+    objects::push_totals(&mut out, totals)?;
     assert_eq!(rt; out.as_str(), DATA.trim_start());
-    assert_eq!(rt; tally.status(false), 1);
-    tally.add_fault();
-    assert_eq!(rt; tally.status(false), 2);
+    assert_eq!(rt; totals.status(false), 1);
+    totals.add_fault();
+    assert_eq!(rt; totals.status(false), 2);
     Ok(())
 }

@@ -52,7 +52,7 @@ fn findings_and_how_many_more(rt: HostRuntime) -> Result<(), Fail> {
             r#"{"ruleId":"rest","level":"error","message":{"text":"policy `policy0`: 3 more findings"},"locations":[{"physicalLocation":{"artifactLocation":{"uri":"f"},"region":{"startLine":2,"startColumn":1,"endLine":2,"endColumn":37}}}]}"#,
         ),
     ] {
-        let shown = shown(alloc, count, others, format)?;
+        let shown = describe(alloc, count, others, format)?;
         assert_eq!(rt; shown.lines().count(), lines);
         assert_eq!(rt; shown.lines().next_back().unwrap_or(""), last);
     }
@@ -60,7 +60,7 @@ fn findings_and_how_many_more(rt: HostRuntime) -> Result<(), Fail> {
 }
 
 /// What is shown of a policy with so many findings, and so many more.
-fn shown(alloc: Global, count: usize, others: usize, format: Format) -> Result<String, Fail> {
+fn describe(alloc: Global, count: usize, others: usize, format: Format) -> Result<String, Fail> {
     let mut out = String::new(alloc);
     let source = Source {
         name: "f",

@@ -1,5 +1,5 @@
 // All faults of a schema at once.
-use crate::faults::{SCHEMAS, shown};
+use crate::faults::{SCHEMAS, describe};
 use cedar_types::base::Loc;
 use cedar_validation::faults::{TextFault, all_schema_faults};
 use std::alloc::{AllocError, Global};
@@ -91,8 +91,8 @@ const FAULTY: [(&str, &str); 10] = [
 #[test]
 fn several(rt: HostRuntime) -> Result<(), Fail> {
     for (text, wanted) in &FAULTY {
-        let said = all_of(rt.alloc(), text)?;
-        assert_eq!(rt; said.as_str(), *wanted, "for {text}");
+        let got = all_of(rt.alloc(), text)?;
+        assert_eq!(rt; got.as_str(), *wanted, "for {text}");
     }
     Ok(())
 }
@@ -110,8 +110,8 @@ fn one(rt: HostRuntime) -> Result<(), Fail> {
             }
             other => format!(in alloc; "{other}\n")?,
         };
-        let said = all_of(alloc, text)?;
-        assert_eq!(rt; said.as_str(), wanted.as_str(), "for {text}");
+        let got = all_of(alloc, text)?;
+        assert_eq!(rt; got.as_str(), wanted.as_str(), "for {text}");
     }
     Ok(())
 }
@@ -123,8 +123,8 @@ fn many(rt: HostRuntime) -> Result<(), Fail> {
     for _ in 0..60 {
         text.push_str("entity A { a: B } c; ")?;
     }
-    let said = all_of(rt.alloc(), text.as_str())?;
-    assert_eq!(rt; said.as_str().lines().count(), 100);
+    let got = all_of(rt.alloc(), text.as_str())?;
+    assert_eq!(rt; got.as_str().lines().count(), 100);
     Ok(())
 }
 
@@ -134,10 +134,10 @@ fn all_of(alloc: Global, text: &str) -> Result<String, AllocError> {
         place: Loc { start: 0, end: 0 },
         text: String::from_str(alloc, "the first")?,
     };
-    let mut said = String::new(alloc);
+    let mut got = String::new(alloc);
     for fault in &all_schema_faults(alloc, text, first)? {
-        said.push_str(shown(alloc, text, fault)?.as_str())?;
-        said.push_str("\n")?;
+        got.push_str(describe(alloc, text, fault)?.as_str())?;
+        got.push_str("\n")?;
     }
-    Ok(said)
+    Ok(got)
 }

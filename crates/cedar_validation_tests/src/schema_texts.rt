@@ -55,8 +55,8 @@ const SCHEMAS: [(&str, &str); 12] = [
 #[test]
 fn faults(rt: HostRuntime) -> Result<(), Fail> {
     for (texts, wanted) in &SCHEMAS {
-        let said = fault_of(rt.alloc(), texts)?;
-        assert_eq!(rt; said.as_str(), *wanted, "for {texts}");
+        let got = fault_of(rt.alloc(), texts)?;
+        assert_eq!(rt; got.as_str(), *wanted, "for {texts}");
     }
     Ok(())
 }

@@ -31,14 +31,14 @@ const FILES: [(&[u8], &str); 8] = [
 #[test]
 fn files(rt: HostRuntime) -> Result<(), Fail> {
     for (bytes, wanted) in &FILES {
-        let said = said(rt.alloc(), bytes)?;
-        assert_eq!(rt; said.as_str(), *wanted);
+        let got = describe(rt.alloc(), bytes)?;
+        assert_eq!(rt; got.as_str(), *wanted);
     }
     Ok(())
 }
 
 /// What these bytes say, or where and why they say nothing.
-fn said(alloc: Global, bytes: &[u8]) -> Result<String, AllocError> {
+fn describe(alloc: Global, bytes: &[u8]) -> Result<String, AllocError> {
     match content_of(alloc, bytes)? {
         Content::Text(text) => format!(in alloc; "text {text}"),
         Content::Broken(front, fault) => {

@@ -28,8 +28,8 @@ fn beginnings(rt: HostRuntime) -> Result<(), Fail> {
 
 #[test]
 fn names(rt: HostRuntime) -> Result<(), Fail> {
-    assert_eq!(rt; Syntax::named("text"), Some(Syntax::Cedar));
-    assert_eq!(rt; Syntax::named("json"), Some(Syntax::Json));
-    assert_eq!(rt; Syntax::named("JSON"), None);
+    assert_eq!(rt; Syntax::by_name("text"), Some(Syntax::Cedar));
+    assert_eq!(rt; Syntax::by_name("json"), Some(Syntax::Json));
+    assert_eq!(rt; Syntax::by_name("JSON"), None);
     Ok(())
 }

@@ -13,7 +13,7 @@ const BETWEEN: &str = " | ";
 
 /// What policies are validated and typed by.
 #[derive(Clone, Copy)]
-pub struct Rules<'a> {
+pub struct Basis<'a> {
     pub validator: &'a Validator<'a>,
     pub extensions: &'a ExtensionSchemas,
 }
@@ -23,20 +23,20 @@ pub struct Rules<'a> {
 /// them, sorted by bytes.
 pub fn answers(
     alloc: Global,
-    rules: Rules<'_>,
+    basis: Basis<'_>,
     policy: &Policy,
     source: Source<'_>,
     asked: Wanted,
 ) -> Result<String, AllocError> {
     match asked {
-        Wanted::Names(question) => about_names(alloc, rules.validator, policy, source, question),
+        Wanted::Names(question) => about_names(alloc, basis.validator, policy, source, question),
         Wanted::Checks(mode, subject) => {
-            about_checks(alloc, rules, &policy.template, source, mode, subject)
+            about_checks(alloc, basis, &policy.template, source, mode, subject)
         }
         Wanted::Levels(mode, maximum) => {
             about_levels(
                 alloc,
-                rules.validator,
+                basis.validator,
                 &policy.template,
                 source,
                 mode,
@@ -44,7 +44,7 @@ pub fn answers(
             )
         }
         Wanted::RequiredLevel(mode) => {
-            about_required_level(alloc, rules.validator, &policy.template, mode)
+            about_required_level(alloc, basis.validator, &policy.template, mode)
         }
     }
 }
@@ -77,22 +77,22 @@ fn about_levels(
 
 fn about_checks(
     alloc: Global,
-    rules: Rules<'_>,
+    basis: Basis<'_>,
     policy: &Template,
     source: Source<'_>,
     mode: ValidationMode,
     subject: Subject,
 ) -> Result<String, AllocError> {
-    let schema = rules.validator.schema();
-    let typechecker = Typechecker::new(schema, rules.extensions, mode);
+    let schema = basis.validator.schema();
+    let typechecker = Typechecker::new(schema, basis.extensions, mode);
     match subject {
         Subject::Policy => whole(alloc, &typechecker, policy, source),
-        Subject::Environments => linked(alloc, &typechecker, policy, source),
+        Subject::Environments => show_linked(alloc, &typechecker, policy, source),
         Subject::Outcome | Subject::Typed => {
             let mut shown = Vec::new(alloc);
             for env in schema.unlinked_request_envs(mode) {
                 let check = typechecker.typecheck_by_single_request_env(alloc, policy, &env)?;
-                shown.push(unlinked(alloc, &check, source, subject)?)?;
+                shown.push(show_unlinked(alloc, &check, source, subject)?)?;
             }
             shown.sort()?;
             shown.as_slice().join(alloc, BETWEEN)
@@ -101,7 +101,7 @@ fn about_checks(
 }
 
 /// The check in an environment of the schema, whose slots are not linked.
-fn unlinked(
+fn show_unlinked(
     alloc: Global,
     check: &PolicyCheck,
     source: Source<'_>,
@@ -114,7 +114,7 @@ fn unlinked(
 }
 
 /// In each environment that the policy is checked in, with what it is.
-fn linked(
+fn show_linked(
     alloc: Global,
     typechecker: &Typechecker<'_>,
     policy: &Template,

@@ -69,7 +69,7 @@ pub enum Question {
 
 impl Column {
     /// The column of this name. `None` where there is none.
-    pub fn named(name: &str) -> Option<Column> {
+    pub fn by_name(name: &str) -> Option<Column> {
         match name {
             "about" => Some(Column::About),
             "policy" => Some(Column::Policy),
@@ -80,7 +80,7 @@ impl Column {
             "root" => Some(Column::Root),
             "attributes" => Some(Column::Attributes),
             "cost" => Some(Column::Cost),
-            _ => Some(Column::Wanted(Wanted::named(name)?)),
+            _ => Some(Column::Wanted(Wanted::by_name(name)?)),
         }
     }
 
@@ -91,8 +91,8 @@ impl Column {
 }
 
 impl Wanted {
-    fn named(name: &str) -> Option<Wanted> {
-        match Question::named(name) {
+    fn by_name(name: &str) -> Option<Wanted> {
+        match Question::by_name(name) {
             Some(question) => Some(Wanted::Names(question)),
             None => Wanted::in_mode(name),
         }
@@ -101,21 +101,21 @@ impl Wanted {
     /// What is asked in the mode that the name begins with: nothing behind it is the outcome.
     fn in_mode(name: &str) -> Option<Wanted> {
         let Some((mode, asked)) = name.split_once(' ') else {
-            return Some(Wanted::Checks(mode_named(name)?, Subject::Outcome));
+            return Some(Wanted::Checks(mode_by_name(name)?, Subject::Outcome));
         };
-        let mode = mode_named(mode)?;
+        let mode = mode_by_name(mode)?;
         if asked == "required" {
             return Some(Wanted::RequiredLevel(mode));
         }
-        match Subject::named(asked) {
+        match Subject::by_name(asked) {
             Some(subject) => Some(Wanted::Checks(mode, subject)),
-            None => Some(Wanted::Levels(mode, maximum_named(asked)?)),
+            None => Some(Wanted::Levels(mode, maximum_in(asked)?)),
         }
     }
 }
 
 impl Subject {
-    fn named(name: &str) -> Option<Subject> {
+    fn by_name(name: &str) -> Option<Subject> {
         match name {
             "typed" => Some(Subject::Typed),
             "policy" => Some(Subject::Policy),
@@ -125,7 +125,7 @@ impl Subject {
     }
 }
 
-fn mode_named(name: &str) -> Option<ValidationMode> {
+fn mode_by_name(name: &str) -> Option<ValidationMode> {
     match name {
         "strict" => Some(ValidationMode::Strict),
         "permissive" => Some(ValidationMode::Permissive),
@@ -135,7 +135,7 @@ fn mode_named(name: &str) -> Option<ValidationMode> {
 }
 
 /// The number behind `level `, in digits: 0 to 4294967295.
-fn maximum_named(asked: &str) -> Option<u32> {
+fn maximum_in(asked: &str) -> Option<u32> {
     let digits = asked.strip_prefix("level ")?;
     if !digits.chars().all(|c| c.is_ascii_digit()) {
         return None;
@@ -144,7 +144,7 @@ fn maximum_named(asked: &str) -> Option<u32> {
 }
 
 impl Question {
-    fn named(name: &str) -> Option<Question> {
+    fn by_name(name: &str) -> Option<Question> {
         match name {
             "entity types" => Some(Question::EntityTypes),
             "actions" => Some(Question::ActionIds),

@@ -122,7 +122,7 @@ impl<'a> CaseFile<'a> {
             Some((schema, ORDERED)) => (schema, true),
             Some(_) => return Ok(Err(FileFault::NoOrder)),
         };
-        let columns = columns_named(alloc, names)?;
+        let columns = columns_by_name(alloc, names)?;
         Ok(columns.map(|columns| CaseFile {
             schema,
             has_ordered_addresses,
@@ -187,7 +187,7 @@ impl<'a> CaseFile<'a> {
 }
 
 /// The columns of these names, each with its own.
-fn columns_named<'a>(
+fn columns_by_name<'a>(
     alloc: Global,
     names: &'a str,
 ) -> Result<Result<Vec<(&'a str, Column)>, FileFault>, AllocError> {
@@ -207,7 +207,7 @@ fn columns_named<'a>(
 
 /// The column of this name, if it may stand behind these: a file is about policies, or about chains.
 fn column_beside(name: &str, before: &[(&str, Column)]) -> Option<Column> {
-    let column = Column::named(name)?;
+    let column = Column::by_name(name)?;
     match before.first() {
         Some((_, first)) if first.is_of_chain() != column.is_of_chain() => None,
         _ => Some(column),

@@ -18,21 +18,21 @@ pub fn about_names(
     let (schema, template) = (validator.schema(), &*policy.template);
     match question {
         Question::EntityTypes => {
-            found(
+            show_findings(
                 alloc,
                 Validator::validate_entity_types(alloc, schema, template),
                 source,
             )
         }
         Question::ActionIds => {
-            found(
+            show_findings(
                 alloc,
                 Validator::validate_action_ids(alloc, schema, template),
                 source,
             )
         }
         Question::EnumEntities => {
-            found(
+            show_findings(
                 alloc,
                 Validator::validate_enum_entity(alloc, schema, template),
                 source,
@@ -41,7 +41,7 @@ pub fn about_names(
         Question::SlotTypes => {
             let slots = &policy.values;
             let errors = validator.validate_entity_types_in_slots(alloc, &template.id, slots);
-            found(alloc, errors, source)
+            show_findings(alloc, errors, source)
         }
         Question::Application => {
             let answer = validator.validate_template_action_application(alloc, template)?;
@@ -55,7 +55,7 @@ pub fn about_names(
 }
 
 /// The findings of a pass.
-fn found<I: Iterator<Item = Result<ValidationError, AllocError>> + Drop>(
+fn show_findings<I: Iterator<Item = Result<ValidationError, AllocError>> + Drop>(
     alloc: Global,
     pass: I,
     source: Source<'_>,

@@ -1,7 +1,7 @@
 // Case files whose cases bring their own declarations: why they are refused, if they are.
 use crate::cases::differences::{agrees, write_fault};
 use crate::cases::files::FileFault;
-use crate::cases::report::Tally;
+use crate::cases::report::CaseCounts;
 use cedar_reading::{Fault, Notation, ReadError, SchemaReadError, schema, schema_as_given};
 use std::alloc::{AllocError, Global};
 use std::io;
@@ -47,20 +47,20 @@ pub fn run_refusals<W: Write>(
     text: &str,
     notation: Notation,
     out: &mut W,
-) -> io::Result<Tally> {
-    let mut tally = Tally { ran: 0, wrong: 0 };
+) -> io::Result<CaseCounts> {
+    let mut counts = CaseCounts { ran: 0, wrong: 0 };
     let mut number: usize = 0;
     for line in text.lines() {
         number = number.saturating_add(1);
         if number <= HEAD || line.is_empty() || line.starts_with('#') {
             continue;
         }
-        tally.ran = tally.ran.saturating_add(1);
+        counts.ran = counts.ran.saturating_add(1);
         if !run_line(alloc, name, (number, line), notation, out)? {
-            tally.wrong = tally.wrong.saturating_add(1);
+            counts.wrong = counts.wrong.saturating_add(1);
         }
     }
-    Ok(tally)
+    Ok(counts)
 }
 
 /// Runs the case of a line, and answers whether it agrees.

@@ -1,5 +1,5 @@
 // What came of the cases of a file.
-use crate::cases::answers::{Rules, answers, in_order};
+use crate::cases::answers::{Basis, answers, in_order};
 use crate::cases::costs::run_chain;
 use crate::cases::differences::{agrees, write_fault};
 use crate::cases::files::{Case, CaseFile, Field};
@@ -13,7 +13,7 @@ use std::rc::Rc;
 
 /// How many cases of a file ended how.
 #[derive(Clone, Copy, PartialEq, Eq, Debug)]
-pub struct Tally {
+pub struct CaseCounts {
     /// Those that ran.
     pub ran: usize,
     /// Those of them that differ, and those that cannot be read.
@@ -25,25 +25,25 @@ pub fn run_cases<W: Write>(
     alloc: Global,
     name: &str,
     file: &CaseFile<'_>,
-    rules: Rules<'_>,
+    basis: Basis<'_>,
     out: &mut W,
-) -> io::Result<Tally> {
-    let mut tally = Tally { ran: 0, wrong: 0 };
+) -> io::Result<CaseCounts> {
+    let mut counts = CaseCounts { ran: 0, wrong: 0 };
     let is_about_chains = file.is_about_chains();
     for case in file.cases(alloc)? {
-        tally.ran = tally.ran.saturating_add(1);
+        counts.ran = counts.ran.saturating_add(1);
         let agrees = match file.fault_of_fields(case.line) {
             Some(fault) => write_fault(name, case.number, case.line, fault, out)?,
             None if is_about_chains => {
-                run_chain(alloc, name, &case, rules.validator.schema(), out)?
+                run_chain(alloc, name, &case, basis.validator.schema(), out)?
             }
-            None => run_policy(alloc, name, &case, rules, out)?,
+            None => run_policy(alloc, name, &case, basis, out)?,
         };
         if !agrees {
-            tally.wrong = tally.wrong.saturating_add(1);
+            counts.wrong = counts.wrong.saturating_add(1);
         }
     }
-    Ok(tally)
+    Ok(counts)
 }
 
 /// Runs the case of a policy, and answers whether it agrees.
@@ -51,7 +51,7 @@ fn run_policy<W: Write>(
     alloc: Global,
     name: &str,
     case: &Case<'_>,
-    rules: Rules<'_>,
+    basis: Basis<'_>,
     out: &mut W,
 ) -> io::Result<bool> {
     let policy = match policy_of(alloc, case)? {
@@ -62,7 +62,7 @@ fn run_policy<W: Write>(
     let mut all_agree = true;
     for expectation in &case.wanted {
         let wanted = in_order(alloc, expectation.text)?;
-        let got = answers(alloc, rules, &policy, source, expectation.asked)?;
+        let got = answers(alloc, basis, &policy, source, expectation.asked)?;
         let (wanted, got, column) = (wanted.as_str(), got.as_str(), expectation.column);
         if !agrees(name, case.number, column, wanted, got, out)? {
             all_agree = false;

@@ -141,16 +141,16 @@ fn warning_text(
 
 fn placed_text(
     alloc: Global,
-    said: &str,
+    message: &str,
     place: Option<Loc>,
     source: Source<'_>,
 ) -> Result<String, AllocError> {
-    let mut shown = bare_text(alloc, said)?;
+    let mut shown = bare_text(alloc, message)?;
     push_place(&mut shown, place, source)?;
     Ok(shown)
 }
 
 /// What is said, without what the text of every error begins with.
-fn bare_text(alloc: Global, said: &str) -> Result<String, AllocError> {
-    String::from_str(alloc, said.strip_prefix(PREFIX).unwrap_or(said))
+fn bare_text(alloc: Global, message: &str) -> Result<String, AllocError> {
+    String::from_str(alloc, message.strip_prefix(PREFIX).unwrap_or(message))
 }

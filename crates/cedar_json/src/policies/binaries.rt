@@ -59,11 +59,11 @@ pub fn apply_binary(
 ) -> Result<Expr, AllocError> {
     match operator {
         Binary::Equal => Expr::is_eq(alloc, left, right),
-        Binary::Unequal => negated(alloc, Expr::is_eq(alloc, left, right)?, place),
+        Binary::Unequal => negate(alloc, Expr::is_eq(alloc, left, right)?, place),
         Binary::Less => Expr::less(alloc, left, right),
         Binary::LessOrEqual => Expr::lesseq(alloc, left, right),
-        Binary::Greater => negated(alloc, Expr::lesseq(alloc, left, right)?, place),
-        Binary::GreaterOrEqual => negated(alloc, Expr::less(alloc, left, right)?, place),
+        Binary::Greater => negate(alloc, Expr::lesseq(alloc, left, right)?, place),
+        Binary::GreaterOrEqual => negate(alloc, Expr::less(alloc, left, right)?, place),
         _ => apply_other(alloc, operator, left, right),
     }
 }
@@ -90,6 +90,6 @@ fn apply_other(
     }
 }
 
-fn negated(alloc: Global, inner: Expr, place: Loc) -> Result<Expr, AllocError> {
+fn negate(alloc: Global, inner: Expr, place: Loc) -> Result<Expr, AllocError> {
     Expr::not(alloc, inner.with_maybe_source_loc(Some(place)))
 }

@@ -1,5 +1,5 @@
 // The constraints of a scope.
-use crate::forms::{FormError, FormFault, Object, expected, items_of, said_by};
+use crate::forms::{FormError, FormFault, Object, expected, items_of, text_of};
 use crate::policies::entities::{Slots, entity_type, entity_uid, slot_of};
 use crate::values::Value;
 use cedar_types::base::{
@@ -16,7 +16,7 @@ pub fn entity_constraint(
 ) -> Result<PrincipalOrResourceConstraint, FormError> {
     let object = Object::of(value)?;
     let op = object.need("op")?;
-    match said_by(op)? {
+    match text_of(op)? {
         "All" => {
             object.allow(&["op"])?;
             Ok(PrincipalOrResourceConstraint::Any)
@@ -78,7 +78,7 @@ fn reference(
 pub fn action_constraint(alloc: Global, value: &Value) -> Result<ActionConstraint, FormError> {
     let object = Object::of(value)?;
     let op = object.need("op")?;
-    match said_by(op)? {
+    match text_of(op)? {
         "All" => {
             object.allow(&["op"])?;
             Ok(ActionConstraint::Any)

@@ -1,5 +1,5 @@
 // Ids of entities, and what the slots of a template are bound to.
-use crate::forms::{FormError, FormFault, Object, expected, said_by};
+use crate::forms::{FormError, FormFault, Object, expected, text_of};
 use crate::names::is_name;
 use crate::values::Value;
 use cedar_types::base::{EntityReference, EntityType, EntityUID, Loc, Name, SlotId};
@@ -7,16 +7,16 @@ use std::alloc::Global;
 
 /// Reads a name.
 pub fn name_of(alloc: Global, value: &Value) -> Result<Name, FormError> {
-    name_at(alloc, said_by(value)?, value.place)
+    name_at(alloc, text_of(value)?, value.place)
 }
 
 /// The name that stands at this place.
-pub fn name_at(alloc: Global, said: &str, place: Loc) -> Result<Name, FormError> {
-    if !is_name(said) {
+pub fn name_at(alloc: Global, name: &str, place: Loc) -> Result<Name, FormError> {
+    if !is_name(name) {
         return Err(FormError::At(place.start, FormFault::Name));
     }
     let mut path = Vec::new(alloc);
-    for word in said.split("::") {
+    for word in name.split("::") {
         path.push(word)?;
     }
     let last = path.pop().unwrap_or("");
@@ -40,7 +40,7 @@ pub fn entity_uid(alloc: Global, value: &Value) -> Result<EntityUID, FormError> 
     };
     object.allow(&["type", "id"])?;
     let own_type = entity_type(alloc, object.need("type")?)?;
-    let eid = said_by(object.need("id")?)?;
+    let eid = text_of(object.need("id")?)?;
     Ok(EntityUID::from_components(alloc, own_type, eid, Some(value.place))?)
 }
 
@@ -58,8 +58,8 @@ impl Slots {
     pub fn of_link(alloc: Global, values: &Value) -> Result<Slots, FormError> {
         let object = Object::of(values)?;
         object.allow(&["?principal", "?resource"])?;
-        let principal = bound(alloc, object.get("?principal"))?;
-        let resource = bound(alloc, object.get("?resource"))?;
+        let principal = optional_uid(alloc, object.get("?principal"))?;
+        let resource = optional_uid(alloc, object.get("?resource"))?;
         Ok(Slots::Bound(values.place, principal, resource))
     }
 
@@ -72,19 +72,19 @@ impl Slots {
         };
         match found {
             Some(uid) => Ok(EntityReference::EUID(uid.clone()?)),
-            None => Err(FormError::At(place.start, FormFault::Missing(shown_slot(slot)))),
+            None => Err(FormError::At(place.start, FormFault::Missing(slot_name(slot)))),
         }
     }
 }
 
-fn bound(alloc: Global, value: Option<&Value>) -> Result<Option<EntityUID>, FormError> {
+fn optional_uid(alloc: Global, value: Option<&Value>) -> Result<Option<EntityUID>, FormError> {
     match value {
         Some(value) => Ok(Some(entity_uid(alloc, value)?)),
         None => Ok(None),
     }
 }
 
-fn shown_slot(slot: SlotId) -> &'static str {
+fn slot_name(slot: SlotId) -> &'static str {
     match slot {
         SlotId::Principal => "?principal",
         SlotId::Resource => "?resource",
@@ -93,7 +93,7 @@ fn shown_slot(slot: SlotId) -> &'static str {
 
 /// Reads a slot.
 pub fn slot_of(value: &Value) -> Result<SlotId, FormError> {
-    match said_by(value)? {
+    match text_of(value)? {
         "?principal" => Ok(SlotId::Principal),
         "?resource" => Ok(SlotId::Resource),
         _ => Err(expected(value, "`?principal` or `?resource`")),

@@ -1,5 +1,5 @@
 // Operators, and what they are on operands that were read.
-use crate::forms::{FormError, FormFault, Object, expected, said_by};
+use crate::forms::{FormError, FormFault, Object, expected, text_of};
 use crate::policies::binaries::{Binary, apply_binary, binary_of};
 use crate::policies::entities::entity_type;
 use crate::policies::patterns::pattern;
@@ -84,7 +84,7 @@ pub fn apply(
         Operator::Negate => Ok(Expr::neg(alloc, last)?),
         Operator::IsEmpty => Ok(Expr::is_empty(alloc, last)?),
         Operator::GetAttribute => {
-            let attr = said_by(object.need("attr")?)?;
+            let attr = text_of(object.need("attr")?)?;
             Ok(Expr::get_attr(alloc, last, attr)?)
         }
         Operator::HasAttribute => has(alloc, last, object.need("attr")?),
@@ -151,14 +151,14 @@ fn is_in(
 /// `operand has attr`, where `attr` is an attribute or a list of them, one after another.
 fn has(alloc: Global, operand: Expr, attr: &Value) -> Result<Expr, FormError> {
     let ValueKind::Array(attributes) = &attr.kind else {
-        return Ok(Expr::has_attr(alloc, operand, said_by(attr)?)?);
+        return Ok(Expr::has_attr(alloc, operand, text_of(attr)?)?);
     };
     if attributes.len() > MAX_ATTRIBUTES {
         return Err(FormError::At(attr.place.start, FormFault::TooDeep));
     }
     let mut names = Vec::new(alloc);
     for attribute in attributes {
-        names.push(said_by(attribute)?)?;
+        names.push(text_of(attribute)?)?;
     }
     match names.as_slice() {
         [] => Err(expected(attr, "an attribute")),
@@ -172,7 +172,7 @@ fn has(alloc: Global, operand: Expr, attr: &Value) -> Result<Expr, FormError> {
 
 /// Reads a variable.
 pub fn variable(value: &Value) -> Result<Expr, FormError> {
-    match said_by(value)? {
+    match text_of(value)? {
         "principal" => Ok(Expr::var(Var::Principal)),
         "action" => Ok(Expr::var(Var::Action)),
         "resource" => Ok(Expr::var(Var::Resource)),

@@ -1,5 +1,5 @@
 // Patterns of `like`.
-use crate::forms::{FormError, Object, expected, items_of, said_by};
+use crate::forms::{FormError, Object, expected, items_of, text_of};
 use crate::values::{Value, ValueKind};
 use cedar_types::base::PatternElem;
 use std::alloc::Global;
@@ -23,7 +23,7 @@ pub fn pattern(alloc: Global, value: &Value) -> Result<Vec<PatternElem>, FormErr
 fn push_text(parts: &mut Vec<PatternElem>, item: &Value) -> Result<(), FormError> {
     let object = Object::of(item)?;
     object.allow(&["Literal"])?;
-    for c in said_by(object.need("Literal")?)?.chars() {
+    for c in text_of(object.need("Literal")?)?.chars() {
         parts.push(PatternElem::Char(c))?;
     }
     Ok(())

@@ -1,5 +1,5 @@
 // The policies of a text, one after another.
-use crate::forms::{FormError, FormFault, Object, items_of, said_by};
+use crate::forms::{FormError, FormFault, Object, items_of, text_of};
 use crate::policies::entities::Slots;
 use crate::policies::templates::{ReadPolicy, policy};
 use crate::values::{Key, Value, ValueKind};
@@ -71,10 +71,10 @@ impl<'a> Policies<'a> {
     /// The policy of this number, if there is one.
     fn policy_at(&self, number: usize) -> Result<Option<ReadPolicy>, FormError> {
         match self.kind {
-            Kind::One if number == 0 => Ok(Some(self.unnamed(self.root, number)?)),
+            Kind::One if number == 0 => Ok(Some(self.read_unnamed(self.root, number)?)),
             Kind::One => Ok(None),
             Kind::List => match items_of(self.root)?.get(number) {
-                Some(body) => Ok(Some(self.unnamed(body, number)?)),
+                Some(body) => Ok(Some(self.read_unnamed(body, number)?)),
                 None => Ok(None),
             },
             Kind::ById => self.named_at(Object::of(self.root)?.entries, number),
@@ -120,8 +120,8 @@ impl<'a> Policies<'a> {
     }
 
     /// A policy without a key.
-    fn unnamed(&self, body: &Value, number: usize) -> Result<ReadPolicy, FormError> {
-        let id = policy_id(self.alloc, said_id(body)?, number)?;
+    fn read_unnamed(&self, body: &Value, number: usize) -> Result<ReadPolicy, FormError> {
+        let id = policy_id(self.alloc, annotated_id(body)?, number)?;
         policy(self.alloc, &Slots::Open, id, body, body.place)
     }
 
@@ -130,9 +130,9 @@ impl<'a> Policies<'a> {
         let object = Object::of(link)?;
         object.allow(&["templateId", "newId", "values"])?;
         let of = object.need("templateId")?;
-        let id = said_by(object.need("newId")?)?;
+        let id = text_of(object.need("newId")?)?;
         let slots = Slots::of_link(self.alloc, object.need("values")?)?;
-        let name = RcStr::from_str(self.alloc, said_by(of)?)?;
+        let name = RcStr::from_str(self.alloc, text_of(of)?)?;
         let at = self.templates.get(&name).copied();
         let Some((_, body)) = at.and_then(|at| templates.get(at)) else {
             return Err(FormError::At(of.place.start, FormFault::Undeclared));
@@ -177,19 +177,19 @@ fn links_of(set: Object<'_>) -> Result<&[Value], FormError> {
 }
 
 /// What the annotation `id` of a policy says, if it is there.
-fn said_id(body: &Value) -> Result<Option<&str>, FormError> {
+fn annotated_id(body: &Value) -> Result<Option<&str>, FormError> {
     let Some(annotations) = Object::of(body)?.get("annotations") else {
         return Ok(None);
     };
     match Object::of(annotations)?.get("id") {
-        Some(id) => Ok(Some(said_by(id)?)),
+        Some(id) => Ok(Some(text_of(id)?)),
         None => Ok(None),
     }
 }
 
-fn policy_id(alloc: Global, said: Option<&str>, number: usize) -> Result<PolicyID, AllocError> {
-    match said {
-        Some(said) => PolicyID::from_string(alloc, said),
+fn policy_id(alloc: Global, given: Option<&str>, number: usize) -> Result<PolicyID, AllocError> {
+    match given {
+        Some(given) => PolicyID::from_string(alloc, given),
         None => {
             let id = format!(in alloc; "policy{number}")?;
             PolicyID::from_string(alloc, id.as_str())

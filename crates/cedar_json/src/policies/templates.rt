@@ -1,5 +1,5 @@
 // One policy.
-use crate::forms::{FormError, FormFault, Object, check_annotations, expected, items_of, said_by};
+use crate::forms::{FormError, FormFault, Object, check_annotations, expected, items_of, text_of};
 use crate::policies::constraints::{action_constraint, entity_constraint};
 use crate::policies::entities::Slots;
 use crate::policies::expressions::{Depth, expression};
@@ -58,7 +58,7 @@ pub fn policy(
 
 /// Reads what a policy does.
 fn effect(value: &Value) -> Result<Effect, FormError> {
-    match said_by(value)? {
+    match text_of(value)? {
         "permit" => Ok(Effect::Permit),
         "forbid" => Ok(Effect::Forbid),
         _ => Err(expected(value, "`permit` or `forbid`")),
@@ -116,7 +116,7 @@ fn condition(alloc: Global, slots: &Slots, value: &Value) -> Result<Expr, FormEr
         is_copied: false,
     };
     let read = expression(slots, object.need("body")?, depth)?;
-    match said_by(kind)? {
+    match text_of(kind)? {
         "when" => Ok(read),
         "unless" => {
             let whole = Expr::not(alloc, read)?;

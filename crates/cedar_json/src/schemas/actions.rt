@@ -1,5 +1,5 @@
 // Declarations of actions.
-use crate::forms::{FormError, FormFault, Object, check_annotations, items_of, said_by};
+use crate::forms::{FormError, FormFault, Object, check_annotations, items_of, text_of};
 use crate::names::is_name;
 use crate::schemas::declared::Declared;
 use crate::schemas::meanings::{Spaces, put_entity_types};
@@ -51,14 +51,14 @@ fn put_parent(out: &mut Translation, parent: Object<'_>) -> Result<(), FormError
     parent.allow(&["id", "type"])?;
     let id = parent.need("id")?;
     if let Some(own_type) = parent.get("type") {
-        let name = said_by(own_type)?;
+        let name = text_of(own_type)?;
         if !is_name(name) {
             return Err(FormError::At(own_type.place.start, FormFault::Name));
         }
         out.put_from(own_type.place, name)?;
         out.put("::")?;
     }
-    out.put_quoted(id.place, said_by(id)?)
+    out.put_quoted(id.place, text_of(id)?)
 }
 
 /// Writes what an action applies to. Without a principal type or a resource type that is nothing.

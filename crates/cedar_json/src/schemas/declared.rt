@@ -51,11 +51,11 @@ fn declared_name(alloc: Global, namespace: &str, key: &Key) -> Result<String, Fo
     if !is_word(word) {
         return Err(FormError::At(key.place.start, FormFault::Name));
     }
-    Ok(within(alloc, namespace, word)?)
+    Ok(qualify(alloc, namespace, word)?)
 }
 
 /// The name of this word in a namespace. That of no name is outside of namespaces.
-pub fn within(alloc: Global, namespace: &str, word: &str) -> Result<String, AllocError> {
+pub fn qualify(alloc: Global, namespace: &str, word: &str) -> Result<String, AllocError> {
     if namespace.is_empty() {
         return String::from_str(alloc, word);
     }

@@ -1,5 +1,5 @@
 // Declarations of entity types.
-use crate::forms::{FormError, Object, check_annotations, items_of, said_by};
+use crate::forms::{FormError, Object, check_annotations, items_of, text_of};
 use crate::schemas::declared::Declared;
 use crate::schemas::meanings::{Spaces, put_entity_types};
 use crate::schemas::types::{put_shape, put_type};
@@ -32,7 +32,7 @@ pub fn put_entity_type(
 fn put_ids(out: &mut Translation, ids: &Value) -> Result<(), FormError> {
     out.put_from(ids.place, " enum [")?;
     for id in items_of(ids)? {
-        out.put_quoted(id.place, said_by(id)?)?;
+        out.put_quoted(id.place, text_of(id)?)?;
         out.put(", ")?;
     }
     out.put("]")

@@ -1,7 +1,7 @@
 // What the names of types mean.
-use crate::forms::{FormError, FormFault, said_by};
+use crate::forms::{FormError, FormFault, text_of};
 use crate::names::{basename_of, is_name};
-use crate::schemas::declared::{Declared, within};
+use crate::schemas::declared::{Declared, qualify};
 use crate::translations::Translation;
 use crate::values::Value;
 use std::alloc::AllocError;
@@ -41,7 +41,7 @@ pub fn meaning_of(
     of: NameOf,
 ) -> Result<Meaning, AllocError> {
     if !name.contains("::") {
-        let own = within(declared.alloc, namespace, name)?;
+        let own = qualify(declared.alloc, namespace, name)?;
         let meant = declared_as(declared, own, of);
         if meant != Meaning::Nothing {
             return Ok(meant);
@@ -69,7 +69,7 @@ pub fn put_type_name(
     value: &Value,
     of: NameOf,
 ) -> Result<(), FormError> {
-    let name = said_by(value)?;
+    let name = text_of(value)?;
     let start = value.place.start;
     if !is_name(name) {
         return Err(FormError::At(start, FormFault::Name));
@@ -103,7 +103,7 @@ fn has_to_be_declared(name: &str, of: NameOf) -> bool {
 pub fn put_entity_types(out: &mut Translation, types: &[Value]) -> Result<(), FormError> {
     out.put("[")?;
     for value in types {
-        let name = said_by(value)?;
+        let name = text_of(value)?;
         if !is_name(name) {
             return Err(FormError::At(value.place.start, FormFault::Name));
         }

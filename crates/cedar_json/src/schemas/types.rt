@@ -1,5 +1,5 @@
 // Types. Each call goes one step deeper into the value, up to `MAX_DEPTH`.
-use crate::forms::{FormError, FormFault, Object, check_annotations, expected, said_by, truth_of};
+use crate::forms::{FormError, FormFault, Object, check_annotations, expected, text_of, truth_of};
 use crate::names::{is_name, path_of};
 use crate::schemas::declared::Declared;
 use crate::schemas::meanings::{Meaning, NameOf, Spaces, meaning_of, put_type_name};
@@ -22,7 +22,7 @@ pub fn put_type(
     let object = Object::of(value)?;
     check_annotations(object)?;
     let named = object.need("type")?;
-    match said_by(named)? {
+    match text_of(named)? {
         "Record" => put_record(out, declared, spaces, object, left),
         "Set" => {
             object.allow(&["type", "element", "annotations", "required"])?;
@@ -93,7 +93,7 @@ fn put_plain_type(
     object: Object<'_>,
     named: &Value,
 ) -> Result<(), FormError> {
-    let kind = said_by(named)?;
+    let kind = text_of(named)?;
     if matches!(kind, "Entity" | "EntityOrCommon" | "Extension") {
         object.allow(&["type", "name", "annotations", "required"])?;
     } else {
@@ -122,7 +122,7 @@ fn put_plain_type(
 
 /// Writes the extension type of this name.
 fn put_extension(out: &mut Translation, named: &Value) -> Result<(), FormError> {
-    let name = said_by(named)?;
+    let name = text_of(named)?;
     if !is_name(name) {
         return Err(FormError::At(named.place.start, FormFault::Name));
     }
@@ -145,7 +145,7 @@ pub fn put_shape(
         let object = Object::of(current)?;
         check_annotations(object)?;
         let named = object.need("type")?;
-        if said_by(named)? == "Record" {
+        if text_of(named)? == "Record" {
             let spaces = Spaces {
                 written: namespace.clone()?,
                 declared: space,
@@ -169,14 +169,14 @@ fn common_type(
     object: Object<'_>,
     named: &Value,
 ) -> Result<String, FormError> {
-    let (name, of) = match said_by(named)? {
+    let (name, of) = match text_of(named)? {
         "EntityOrCommon" => (object.need("name")?, NameOf::Either),
         "Entity" | "Set" | "Extension" | "Long" | "String" | "Boolean" | "Bool" => {
             return Err(expected(named, "a record"));
         }
         _ => (named, NameOf::CommonType),
     };
-    match meaning_of(declared, namespace, said_by(name)?, of)? {
+    match meaning_of(declared, namespace, text_of(name)?, of)? {
         Meaning::CommonType(whole) => Ok(whole),
         Meaning::EntityType(_) => Err(expected(name, "a record")),
         Meaning::Nothing => Err(FormError::At(name.place.start, FormFault::Undeclared)),

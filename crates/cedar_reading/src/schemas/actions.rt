@@ -1,5 +1,5 @@
 // Declarations of actions.
-use crate::cursor::{Cursor, MAX_NESTING};
+use crate::cursor::{Cursor, MAX_GRAMMAR_STEPS};
 use crate::faults::{Fault, ReadError};
 use crate::members::key;
 use crate::names::placed_name;
@@ -196,7 +196,7 @@ fn part_of_application(
             cursor.take();
             cursor.expect(":")?;
             let start = cursor.start();
-            let context = cedar_type(cursor, names, MAX_NESTING)?;
+            let context = cedar_type(cursor, names, MAX_GRAMMAR_STEPS)?;
             names.check_context(cursor, &context, start)?;
             read.context = Some(context);
         }

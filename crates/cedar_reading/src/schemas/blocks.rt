@@ -1,6 +1,6 @@
 // The whole of a schema's text, and its namespaces.
 use crate::annotations::annotations;
-use crate::cursor::{Cursor, MAX_NESTING};
+use crate::cursor::{Cursor, MAX_GRAMMAR_STEPS};
 use crate::faults::{Fault, ReadError};
 use crate::notes::Met;
 use crate::schemas::actions::{action_declaration, external_actions};
@@ -155,7 +155,7 @@ fn alias_declaration(
     cursor.expect("=")?;
     let start = cursor.start();
     cursor.notes.read_alias(Some(own_start));
-    cedar_type(cursor, names, MAX_NESTING)?;
+    cedar_type(cursor, names, MAX_GRAMMAR_STEPS)?;
     cursor.notes.read_alias(None);
     cursor.expect(";")?;
     if !is_there {

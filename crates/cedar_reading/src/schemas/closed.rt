@@ -20,7 +20,7 @@ pub fn closed_types(
     for declaration in declared {
         for own in &declaration.names {
             let descendants = family.descendants_of(declaration, &own.name)?;
-            count = counted(count, descendants.len(), own.start)?;
+            count = add_count(count, descendants.len(), own.start)?;
             types.push(ValidatorEntityType {
                 name: own.name.clone()?,
                 descendants,
@@ -32,7 +32,7 @@ pub fn closed_types(
 }
 
 /// How many descendants there are with these, which are those of the name at this byte. It fails where that is too many.
-fn counted(before: usize, more: usize, start: usize) -> Result<usize, ReadError> {
+fn add_count(before: usize, more: usize, start: usize) -> Result<usize, ReadError> {
     let count = before.saturating_add(more);
     if count > MAX_DESCENDANTS {
         Err(ReadError::At(start, Fault::TooMany))
@@ -79,7 +79,7 @@ pub fn closed_actions(
     for declaration in declared {
         for own in &declaration.names {
             let descendants = family.descendants_of(declaration, &own.name)?;
-            count = counted(count, descendants.len(), own.start)?;
+            count = add_count(count, descendants.len(), own.start)?;
             actions.push(ValidatorActionId {
                 name: own.name.clone()?,
                 descendants,

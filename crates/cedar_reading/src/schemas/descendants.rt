@@ -26,7 +26,7 @@ impl<'a, N: Ord + Clone + Drop> Family<'a, N> {
         declared: &'a [Declaration<N, K>],
     ) -> Result<Family<'a, N>, ReadError> {
         check_parents(declared)?;
-        let (names, numbers) = numbered(alloc, declared)?;
+        let (names, numbers) = number_names(alloc, declared)?;
         let mut graph = Graph::new(alloc, names.len())?;
         for declaration in declared {
             add_steps(&mut graph, &numbers, declaration)?;
@@ -89,7 +89,7 @@ fn check_parents<N, K>(declared: &[Declaration<N, K>]) -> Result<(), ReadError> 
 }
 
 /// The names that are declared, each once, and where each stands among them.
-fn numbered<'a, N: Ord, K>(
+fn number_names<'a, N: Ord, K>(
     alloc: Global,
     declared: &'a [Declaration<N, K>],
 ) -> Result<(Vec<&'a N>, BTreeMap<&'a N, usize>), AllocError> {

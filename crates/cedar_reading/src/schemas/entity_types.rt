@@ -1,5 +1,5 @@
 // Declarations of entity types.
-use crate::cursor::{Cursor, MAX_NESTING};
+use crate::cursor::{Cursor, MAX_GRAMMAR_STEPS};
 use crate::faults::ReadError;
 use crate::names::placed_name;
 use crate::schemas::declarations::{Declaration, Placed};
@@ -128,12 +128,12 @@ fn standard(
 ) -> Result<StandardValidatorEntityType, ReadError> {
     let has_attributes = cursor.takes("=") || cursor.is_at("{");
     let attributes = if has_attributes {
-        attributes(cursor, names, MAX_NESTING)?
+        attributes(cursor, names, MAX_GRAMMAR_STEPS)?
     } else {
         Attributes::with_attributes(cursor.alloc, BTreeMap::new(cursor.alloc))?
     };
     let tags = if cursor.takes("tags") {
-        Some(cedar_type(cursor, names, MAX_NESTING)?)
+        Some(cedar_type(cursor, names, MAX_GRAMMAR_STEPS)?)
     } else {
         None
     };

@@ -35,7 +35,7 @@ impl Graph {
     fn lowest_first(&self) -> Result<Vec<usize>, AllocError> {
         let count = self.children.len();
         let mut order = Vec::new(self.alloc);
-        let mut is_seen = repeated(self.alloc, false, count)?;
+        let mut is_seen = repeat(self.alloc, false, count)?;
         for number in 0..count {
             self.pass(number, &mut is_seen, &mut order)?;
         }
@@ -85,8 +85,8 @@ pub struct Groups {
 impl Groups {
     /// The groups of a graph. `Err` has a number that has too much below it: with it more than so much is below all.
     pub fn new(graph: &Graph, most: usize) -> Result<Result<Groups, usize>, AllocError> {
-        let mut groups = grouped(graph)?;
-        let mut found = repeated(graph.alloc, 0, groups.members.len())?;
+        let mut groups = group(graph)?;
+        let mut found = repeat(graph.alloc, 0, groups.members.len())?;
         let mut count = 0usize;
         for group in (0..groups.members.len()).rev() {
             let below = groups.groups_below(graph, group, &mut found)?;
@@ -174,15 +174,15 @@ impl Groups {
 
 /// The group of each number: numbers that are in each other have the same.
 pub fn group_of_each(graph: &Graph) -> Result<Vec<Option<usize>>, AllocError> {
-    Ok(grouped(graph)?.of)
+    Ok(group(graph)?.of)
 }
 
 /// The groups of a graph, without what is below each.
-fn grouped(graph: &Graph) -> Result<Groups, AllocError> {
+fn group(graph: &Graph) -> Result<Groups, AllocError> {
     let count = graph.children.len();
     let mut groups = Groups {
         members: Vec::new(graph.alloc),
-        of: repeated(graph.alloc, None, count)?,
+        of: repeat(graph.alloc, None, count)?,
         below: Vec::new(graph.alloc),
     };
     for number in graph.lowest_first()?.iter().rev() {
@@ -267,7 +267,7 @@ fn empty_lists(alloc: Global, count: usize) -> Result<Vec<Vec<usize>>, AllocErro
     Ok(lists)
 }
 
-fn repeated<T: Copy>(alloc: Global, item: T, count: usize) -> Result<Vec<T>, AllocError> {
+fn repeat<T: Copy>(alloc: Global, item: T, count: usize) -> Result<Vec<T>, AllocError> {
     let mut items = Vec::new(alloc);
     for _ in 0..count {
         items.push(item)?;

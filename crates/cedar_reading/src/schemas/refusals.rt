@@ -45,10 +45,12 @@ fn name_of_fault(
     let read = declarations_of(alloc, text, Notation::Schema)?;
     let types = read.entity_types.as_slice();
     let found = match fault {
-        SchemaError::DuplicateEntityType => shown(alloc, repeated(alloc, types)?)?,
-        SchemaError::DuplicateAction => { shown(alloc, repeated(alloc, read.actions.as_slice())?)? }
-        SchemaError::ActionTypeDeclared => shown(alloc, of_actions(types))?,
-        SchemaError::EmptyEnum => shown(alloc, without_ids(types))?,
+        SchemaError::DuplicateEntityType => show(alloc, find_repeated(alloc, types)?)?,
+        SchemaError::DuplicateAction => {
+            show(alloc, find_repeated(alloc, read.actions.as_slice())?)?
+        }
+        SchemaError::ActionTypeDeclared => show(alloc, of_actions(types))?,
+        SchemaError::EmptyEnum => show(alloc, without_ids(types))?,
         SchemaError::UnknownType | SchemaError::VagueType => unfit(alloc, text, &read)?,
         _ => None,
     };
@@ -56,7 +58,7 @@ fn name_of_fault(
 }
 
 /// A name that was found, as it is shown.
-fn shown<N: fmt::Display>(
+fn show<N: fmt::Display>(
     alloc: Global,
     found: Option<&Placed<N>>,
 ) -> Result<Option<RefusedName>, AllocError> {
@@ -75,7 +77,7 @@ pub fn refused<N: fmt::Display>(alloc: Global, own: &Placed<N>) -> Result<Refuse
 }
 
 /// The first name that is declared for a second time.
-fn repeated<N: Ord, K>(
+fn find_repeated<N: Ord, K>(
     alloc: Global,
     declared: &[Declaration<N, K>],
 ) -> Result<Option<&Placed<N>>, AllocError> {

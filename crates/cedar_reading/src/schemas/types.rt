@@ -1,4 +1,4 @@
-// Types, and the attributes of records and entities. Each call goes one step deeper into the grammar, up to `MAX_NESTING`.
+// Types, and the attributes of records and entities. Each call goes one step deeper into the grammar, up to `MAX_GRAMMAR_STEPS`.
 use crate::annotations::annotations;
 use crate::cursor::Cursor;
 use crate::faults::{Fault, ReadError};
@@ -7,7 +7,7 @@ use crate::names::{is_extension, placed_name};
 use crate::notes::Met;
 use crate::schemas::declarations::Alias;
 use crate::schemas::meanings::Names;
-use crate::shown_types::shown_type;
+use crate::shown_types::read_shown_type;
 use cedar_types::base::{AttributeType, Attributes, CedarType, Name, OpenTag};
 use std::alloc::{AllocError, Global};
 use std::collections::BTreeMap;
@@ -24,7 +24,7 @@ pub fn cedar_type(
         return Err(cursor.fault(Fault::TooDeep));
     };
     if names.are_as_given() {
-        return shown_type(cursor, left);
+        return read_shown_type(cursor, left);
     }
     if cursor.is_at("{") {
         return record(cursor, names, left);
@@ -114,7 +114,7 @@ fn named_type(
     match names.alias(&name)? {
         Some(alias) => {
             cursor.notes.use_alias(start, alias.own_start)?;
-            aliased(cursor, names, alias, left)
+            expand_alias(cursor, names, alias, left)
         }
         None => type_of_name(cursor, names, name, start),
     }
@@ -122,7 +122,7 @@ fn named_type(
 
 /// Reads the type that an alias stands for, where it is declared.
 #[cycle(types)]
-fn aliased(
+fn expand_alias(
     cursor: &mut Cursor<'_>,
     names: &Names<'_>,
     alias: &Alias,

@@ -36,7 +36,7 @@ impl UnsureNames {
         match token.kind {
             TokenKind::Word => self.add(cursor.alloc, token.text),
             TokenKind::Text => match text(&mut cursor.at(token.place.start)) {
-                Ok(said) => self.add(cursor.alloc, said.as_str()),
+                Ok(name) => self.add(cursor.alloc, name.as_str()),
                 Err(ReadError::Memory(error)) => Err(error),
                 Err(ReadError::At(_, _)) => Ok(()),
             },

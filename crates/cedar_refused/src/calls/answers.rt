@@ -1,7 +1,7 @@
 // What follows up on answers. What is called takes memory itself.
 use crate::calls::capabilities::having;
-use crate::calls::lines::{Rules, Tried};
-use crate::outcomes::{Outcome, ended};
+use crate::calls::lines::{Basis, Probe};
+use crate::outcomes::{Outcome, finish};
 use crate::refusals::refuse;
 use cedar_types::base::{CedarType, Expr, ExprKind, Literal};
 use cedar_typing::typecheck::answer::TypecheckAnswer;
@@ -33,7 +33,7 @@ pub fn success<'a>(alloc: Global) -> Result<TypecheckAnswer<'a>, AllocError> {
 }
 
 /// Follows up on a success, or on two.
-fn followed(alloc: Global, up: FollowUp, number: u16) -> Result<Outcome, AllocError> {
+fn follow_up(alloc: Global, up: FollowUp, number: u16) -> Result<Outcome, AllocError> {
     let answer = success(alloc)?;
     let answers = vec![in alloc; Ok(success(alloc)?), Ok(success(alloc)?)]?;
     refuse(alloc, number);
@@ -49,18 +49,18 @@ fn followed(alloc: Global, up: FollowUp, number: u16) -> Result<Outcome, AllocEr
             TypecheckAnswer::sequence_all_then_typecheck(alloc, answers, |_| success(alloc))
         }
     };
-    ended(alloc, followed, &())
+    finish(alloc, followed, &())
 }
 
-impl Tried for FollowUp {
-    fn made(
+impl Probe for FollowUp {
+    fn run(
         self,
         alloc: Global,
-        _rules: Rules<'_>,
+        _basis: Basis<'_>,
         _text: &str,
         number: u16,
     ) -> Result<Outcome, AllocError> {
-        followed(alloc, self, number)
+        follow_up(alloc, self, number)
     }
 }
 

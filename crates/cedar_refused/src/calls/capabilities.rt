@@ -1,6 +1,6 @@
 // Sets of capabilities.
-use crate::calls::lines::{Rules, Tried};
-use crate::outcomes::{Outcome, ended};
+use crate::calls::lines::{Basis, Probe};
+use crate::outcomes::{Outcome, finish};
 use crate::pictures::picture;
 use crate::refusals::refuse;
 use cedar_types::base::{AttrChain, Expr, Literal, Var};
@@ -48,14 +48,14 @@ fn of_sets(alloc: Global, asked: OfSets, number: u16) -> Result<Outcome, AllocEr
     let alone = has(alloc, "vip")?;
     refuse(alloc, number);
     match asked {
-        OfSets::Insert | OfSets::Add | OfSets::Join | OfSets::Build | OfSets::Singleton => ended(
+        OfSets::Insert | OfSets::Add | OfSets::Join | OfSets::Build | OfSets::Singleton => finish(
             alloc,
             CapabilitySet::singleton(alloc, alone),
             &sets,
         ),
-        OfSets::Copy => ended(alloc, sets.0.try_clone(alloc), &sets),
-        OfSets::Union => ended(alloc, sets.0.union(alloc, &sets.1), &sets),
-        OfSets::Intersect => ended(alloc, sets.0.intersect(alloc, &sets.1), &sets),
+        OfSets::Copy => finish(alloc, sets.0.try_clone(alloc), &sets),
+        OfSets::Union => finish(alloc, sets.0.union(alloc, &sets.1), &sets),
+        OfSets::Intersect => finish(alloc, sets.0.intersect(alloc, &sets.1), &sets),
     }
 }
 
@@ -71,19 +71,19 @@ fn of_tags(alloc: Global, asked: OfSets, number: u16) -> Result<Outcome, AllocEr
     let set = CapabilitySet::singleton(alloc, owned)?;
     refuse(alloc, number);
     match asked {
-        OfSets::Insert | OfSets::Add | OfSets::Join | OfSets::Build | OfSets::Singleton => ended(
+        OfSets::Insert | OfSets::Add | OfSets::Join | OfSets::Build | OfSets::Singleton => finish(
             alloc,
             CapabilitySet::singleton(alloc, alone),
             &lent,
         ),
-        OfSets::Copy => ended(alloc, set.try_clone(alloc), &lent),
-        OfSets::Union => ended(alloc, lent.union(alloc, &set), &lent),
-        OfSets::Intersect => ended(alloc, lent.intersect(alloc, &set), &lent),
+        OfSets::Copy => finish(alloc, set.try_clone(alloc), &lent),
+        OfSets::Union => finish(alloc, lent.union(alloc, &set), &lent),
+        OfSets::Intersect => finish(alloc, lent.intersect(alloc, &set), &lent),
     }
 }
 
 /// Joins two sets, which both end in what comes of it.
-fn joined(alloc: Global, number: u16) -> Result<Outcome, AllocError> {
+fn join(alloc: Global, number: u16) -> Result<Outcome, AllocError> {
     // four entries fill the room of the first set
     let (mut one, other) = (having(alloc, "vip", "nick")?, has(alloc, "names")?);
     one.insert(has(alloc, "age")?)?;
@@ -91,16 +91,16 @@ fn joined(alloc: Global, number: u16) -> Result<Outcome, AllocError> {
     let other = CapabilitySet::singleton(alloc, other)?;
     refuse(alloc, number);
     let joined = one.join(other);
-    ended(alloc, joined, &())
+    finish(alloc, joined, &())
 }
 
 /// Adds a capability to a set, which is as it was where memory was refused.
-fn inserted(alloc: Global, number: u16) -> Result<Outcome, AllocError> {
+fn insert(alloc: Global, number: u16) -> Result<Outcome, AllocError> {
     let (mut set, another) = (CapabilitySet::new(alloc), has(alloc, "age")?);
     let before = picture(alloc, &set)?;
     refuse(alloc, number);
     let answer = set.insert(another);
-    let outcome = ended(alloc, answer, &())?;
+    let outcome = finish(alloc, answer, &())?;
     let is_kept = outcome.answer.is_some() || picture(alloc, &set)? == before;
     Ok(Outcome {
         lent: picture(alloc, &is_kept)?,
@@ -109,12 +109,12 @@ fn inserted(alloc: Global, number: u16) -> Result<Outcome, AllocError> {
 }
 
 /// Adds a capability to a builder, which is as it was where memory was refused.
-fn added(alloc: Global, number: u16) -> Result<Outcome, AllocError> {
+fn add(alloc: Global, number: u16) -> Result<Outcome, AllocError> {
     let (mut builder, another) = (CapabilitySetBuilder::new(alloc), has(alloc, "age")?);
     let before = picture(alloc, &builder)?;
     refuse(alloc, number);
     let answer = builder.insert(another);
-    let outcome = ended(alloc, answer, &())?;
+    let outcome = finish(alloc, answer, &())?;
     let is_kept = outcome.answer.is_some() || picture(alloc, &builder)? == before;
     Ok(Outcome {
         lent: picture(alloc, &is_kept)?,
@@ -123,24 +123,24 @@ fn added(alloc: Global, number: u16) -> Result<Outcome, AllocError> {
 }
 
 /// Makes a set by a builder of two capabilities.
-fn built(alloc: Global, number: u16) -> Result<Outcome, AllocError> {
+fn build(alloc: Global, number: u16) -> Result<Outcome, AllocError> {
     let mut builder = CapabilitySetBuilder::new(alloc);
     builder.insert(has(alloc, "vip")?)?;
     builder.insert(has(alloc, "nick")?)?;
     refuse(alloc, number);
     let set = builder.build(alloc);
-    ended(alloc, set, &())
+    finish(alloc, set, &())
 }
 
 /// The first step of an extended `has`.
 #[derive(Clone, Copy)]
 pub struct OfSteps;
 
-impl Tried for OfSteps {
-    fn made(
+impl Probe for OfSteps {
+    fn run(
         self,
         alloc: Global,
-        _rules: Rules<'_>,
+        _basis: Basis<'_>,
         text: &str,
         number: u16,
     ) -> Result<Outcome, AllocError> {
@@ -149,33 +149,33 @@ impl Tried for OfSteps {
         let attrs = AttrChain { first, rest };
         let step = ChainStep::first(&base, &attrs);
         refuse(alloc, number);
-        ended(alloc, step.capability(), &attrs)
+        finish(alloc, step.capability(), &attrs)
     }
 }
 
-impl Tried for OfSets {
-    fn made(
+impl Probe for OfSets {
+    fn run(
         self,
         alloc: Global,
-        _rules: Rules<'_>,
+        _basis: Basis<'_>,
         _text: &str,
         number: u16,
     ) -> Result<Outcome, AllocError> {
         match self {
-            OfSets::Insert => inserted(alloc, number),
-            OfSets::Join => joined(alloc, number),
-            OfSets::Build => built(alloc, number),
-            OfSets::Add => added(alloc, number),
+            OfSets::Insert => insert(alloc, number),
+            OfSets::Join => join(alloc, number),
+            OfSets::Build => build(alloc, number),
+            OfSets::Add => add(alloc, number),
             _ => of_sets(alloc, self, number),
         }
     }
 }
 
-impl Tried for OfTags {
-    fn made(
+impl Probe for OfTags {
+    fn run(
         self,
         alloc: Global,
-        _rules: Rules<'_>,
+        _basis: Basis<'_>,
         _text: &str,
         number: u16,
     ) -> Result<Outcome, AllocError> {

@@ -1,7 +1,7 @@
 // Checks of policies, and what a validator is asked.
-use crate::calls::lines::{Rules, Tried};
+use crate::calls::lines::{Basis, Probe};
 use crate::calls::surveys::{level_errors_at_0, survey};
-use crate::outcomes::{Outcome, ended};
+use crate::outcomes::{Outcome, finish};
 use crate::pictures::picture;
 use crate::refusals::{refuse, was_refused};
 use crate::samples::texts::policy;
@@ -24,31 +24,31 @@ pub enum InEnvironment {
 /// Checks the policy of this text in the first environment of the schema.
 fn single(
     alloc: Global,
-    rules: Rules<'_>,
+    basis: Basis<'_>,
     mode: ValidationMode,
     text: &str,
     number: u16,
 ) -> Result<Outcome, AllocError> {
-    let mut envs = rules.validator.schema().unlinked_request_envs(mode);
+    let mut envs = basis.validator.schema().unlinked_request_envs(mode);
     match envs.next() {
-        Some(env) => checked_in(alloc, rules, mode, (env, text), number),
+        Some(env) => check_in(alloc, basis, mode, (env, text), number),
         None => Err(AllocError),
     }
 }
 
 /// Checks the policy of this text in an environment.
-fn checked_in<'a>(
+fn check_in<'a>(
     alloc: Global,
-    rules: Rules<'a>,
+    basis: Basis<'a>,
     mode: ValidationMode,
     (env, text): (RequestEnv<'a>, &str),
     number: u16,
 ) -> Result<Outcome, AllocError> {
-    let (schema, policy) = (rules.validator.schema(), policy(alloc, text)?);
-    let checker = Typechecker::new(schema, rules.extensions, mode);
+    let (schema, policy) = (basis.validator.schema(), policy(alloc, text)?);
+    let checker = Typechecker::new(schema, basis.extensions, mode);
     refuse(alloc, number);
     let check = checker.typecheck_by_single_request_env(alloc, &policy.template, &env);
-    ended(alloc, check, &policy)
+    finish(alloc, check, &policy)
 }
 
 /// What is asked of a validator.
@@ -80,30 +80,30 @@ fn of_validator(
         OfValidator::Principals => {
             let constraint = &template.principal_constraint;
             let types = validator.get_principals_satisfying_constraint(alloc, constraint);
-            ended(alloc, types, &policy)
+            finish(alloc, types, &policy)
         }
         OfValidator::Resources => {
             let constraint = &template.resource_constraint;
             let types = validator.get_resources_satisfying_constraint(alloc, constraint);
-            ended(alloc, types, &policy)
+            finish(alloc, types, &policy)
         }
         OfValidator::Application => {
             let applies = validator.validate_template_action_application(alloc, template);
-            ended(alloc, applies, &policy)
+            finish(alloc, applies, &policy)
         }
         OfValidator::LinkedApplication => {
             let applies = validator.validate_linked_action_application(alloc, &policy);
-            ended(alloc, applies, &policy)
+            finish(alloc, applies, &policy)
         }
         OfValidator::Policy => {
             let found = validator.validate_policy(alloc, template, mode);
-            ended(alloc, found, &policy)
+            finish(alloc, found, &policy)
         }
         OfValidator::RequiredLevel
         | OfValidator::Level
         | OfValidator::Survey
         | OfValidator::SurveyedLevel => {
-            ended(
+            finish(
                 alloc,
                 validator.required_level(alloc, template, mode),
                 &policy,
@@ -124,7 +124,7 @@ fn at_level_0(
     let found = validator.validate_policy_with_level(alloc, &policy.template, mode, 0);
     let was_refused = was_refused(alloc);
     let answer = match found {
-        Ok((errors, warnings)) => Some(all_found(alloc, errors, warnings)?),
+        Ok((errors, warnings)) => Some(find_all(alloc, errors, warnings)?),
         Err(_) => None,
     };
     Ok(Outcome {
@@ -135,7 +135,7 @@ fn at_level_0(
 }
 
 /// All errors and warnings, sorted by bytes.
-fn all_found(
+fn find_all(
     alloc: Global,
     errors: LevelErrors,
     warnings: LevelWarnings,
@@ -151,39 +151,39 @@ fn all_found(
     picture(alloc, &lines)
 }
 
-impl Tried for InEnvironment {
-    fn made(
+impl Probe for InEnvironment {
+    fn run(
         self,
         alloc: Global,
-        rules: Rules<'_>,
+        basis: Basis<'_>,
         text: &str,
         number: u16,
     ) -> Result<Outcome, AllocError> {
         match self {
-            InEnvironment::First(mode) => single(alloc, rules, mode, text, number),
+            InEnvironment::First(mode) => single(alloc, basis, mode, text, number),
             InEnvironment::Undeclared => {
                 let env = RequestEnv::UndeclaredAction;
-                checked_in(alloc, rules, ValidationMode::Partial, (env, text), number)
+                check_in(alloc, basis, ValidationMode::Partial, (env, text), number)
             }
         }
     }
 }
 
-impl Tried for OfValidator {
-    fn made(
+impl Probe for OfValidator {
+    fn run(
         self,
         alloc: Global,
-        rules: Rules<'_>,
+        basis: Basis<'_>,
         text: &str,
         number: u16,
     ) -> Result<Outcome, AllocError> {
         match self {
-            OfValidator::Level => at_level_0(alloc, rules.validator, text, number),
-            OfValidator::Survey => survey(alloc, rules.validator, text, number),
+            OfValidator::Level => at_level_0(alloc, basis.validator, text, number),
+            OfValidator::Survey => survey(alloc, basis.validator, text, number),
             OfValidator::SurveyedLevel => {
-                level_errors_at_0(alloc, rules.validator, text, number)
+                level_errors_at_0(alloc, basis.validator, text, number)
             }
-            _ => of_validator(alloc, rules.validator, self, text, number),
+            _ => of_validator(alloc, basis.validator, self, text, number),
         }
     }
 }

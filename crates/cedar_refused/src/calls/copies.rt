@@ -1,6 +1,6 @@
 // Copies.
-use crate::calls::lines::{Rules, Tried};
-use crate::outcomes::{Outcome, ended};
+use crate::calls::lines::{Basis, Probe};
+use crate::outcomes::{Outcome, finish};
 use crate::refusals::refuse;
 use crate::samples::texts::{cedar_type, entities, expression, template, uid};
 use cedar_types::base::{
@@ -86,38 +86,38 @@ fn copy_of(alloc: Global, copied: Copied, number: u16) -> Result<Outcome, AllocE
     let all = all_originals(alloc)?;
     refuse(alloc, number);
     match copied {
-        Copied::Expr => ended(alloc, all.expr.try_clone(alloc), &all),
-        Copied::OwnedShape => ended(alloc, all.shape.try_clone(alloc), &all),
+        Copied::Expr => finish(alloc, all.expr.try_clone(alloc), &all),
+        Copied::OwnedShape => finish(alloc, all.shape.try_clone(alloc), &all),
         Copied::BorrowedShape => {
             let shape = ExprShapeOnly::Borrowed(&all.expr);
-            ended(alloc, shape.try_clone(alloc), &all)
+            finish(alloc, shape.try_clone(alloc), &all)
         }
-        Copied::Template => ended(alloc, all.template.try_clone(alloc), &all),
-        Copied::Name => ended(alloc, all.uid.entity_type.name.clone(), &all),
-        Copied::EntityType => ended(alloc, all.uid.entity_type.clone(), &all),
-        Copied::Uid => ended(alloc, all.uid.clone(), &all),
-        Copied::PolicyId => ended(alloc, all.template.id.clone(), &all),
-        Copied::Literal => ended(alloc, all.literal.clone(), &all),
-        Copied::Chain => ended(alloc, all.chain.clone(), &all),
-        Copied::Reference => ended(alloc, all.reference.clone(), &all),
-        Copied::Constraint => ended(alloc, all.constraint.clone(), &all),
+        Copied::Template => finish(alloc, all.template.try_clone(alloc), &all),
+        Copied::Name => finish(alloc, all.uid.entity_type.name.clone(), &all),
+        Copied::EntityType => finish(alloc, all.uid.entity_type.clone(), &all),
+        Copied::Uid => finish(alloc, all.uid.clone(), &all),
+        Copied::PolicyId => finish(alloc, all.template.id.clone(), &all),
+        Copied::Literal => finish(alloc, all.literal.clone(), &all),
+        Copied::Chain => finish(alloc, all.chain.clone(), &all),
+        Copied::Reference => finish(alloc, all.reference.clone(), &all),
+        Copied::Constraint => finish(alloc, all.constraint.clone(), &all),
         Copied::Actions => {
             let actions = &all.template.action_constraint;
-            ended(alloc, actions.try_clone(alloc), &all)
+            finish(alloc, actions.try_clone(alloc), &all)
         }
-        Copied::EntitySet => ended(alloc, all.entities.clone(), &all),
-        Copied::Entities => ended(alloc, all.kind.clone(), &all),
-        Copied::Attributes => ended(alloc, all.attributes.clone(), &all),
-        Copied::AttributeType => ended(alloc, all.attribute.clone(), &all),
-        Copied::Type => ended(alloc, all.record.clone(), &all),
+        Copied::EntitySet => finish(alloc, all.entities.clone(), &all),
+        Copied::Entities => finish(alloc, all.kind.clone(), &all),
+        Copied::Attributes => finish(alloc, all.attributes.clone(), &all),
+        Copied::AttributeType => finish(alloc, all.attribute.clone(), &all),
+        Copied::Type => finish(alloc, all.record.clone(), &all),
     }
 }
 
-impl Tried for Copied {
-    fn made(
+impl Probe for Copied {
+    fn run(
         self,
         alloc: Global,
-        _rules: Rules<'_>,
+        _basis: Basis<'_>,
         _text: &str,
         number: u16,
     ) -> Result<Outcome, AllocError> {

@@ -1,5 +1,5 @@
 // The walks over a template's environments, alone and with their checks. A step may take memory.
-use crate::calls::walks::{Steps, attempt_walk, walked};
+use crate::calls::walks::{Steps, attempt_walk, walk_all};
 use crate::pictures::picture;
 use crate::sweep::{ANOTHER_POLICY, Attempt, Call, Question, attempt_question};
 use cedar_types::base::{Template, ValidationMode, ValidatorSchema};
@@ -97,7 +97,7 @@ impl Question for OneCheck<'_> {
         checks.check(&RequestEnv::UndeclaredAction)
     }
 
-    fn shown(&self, alloc: Global, answer: PolicyCheck) -> Result<String, AllocError> {
+    fn show(&self, alloc: Global, answer: PolicyCheck) -> Result<String, AllocError> {
         picture(alloc, &answer)
     }
 }
@@ -119,8 +119,8 @@ impl<'a> Question for LinkedMaking<'a> {
             .linked_request_envs(alloc, MODE, self.0.policy)
     }
 
-    fn shown(&self, alloc: Global, answer: LinkedRequestEnvs<'a>) -> Result<String, AllocError> {
-        picture(alloc, &walked(alloc, answer)?)
+    fn show(&self, alloc: Global, answer: LinkedRequestEnvs<'a>) -> Result<String, AllocError> {
+        picture(alloc, &walk_all(alloc, answer)?)
     }
 }
 
@@ -141,8 +141,8 @@ impl<'a> Question for ChecksMaking<'a> {
             .typecheck_by_request_env(alloc, self.0.policy)
     }
 
-    fn shown(&self, alloc: Global, answer: RequestEnvChecks<'a>) -> Result<String, AllocError> {
-        picture(alloc, &walked(alloc, answer)?)
+    fn show(&self, alloc: Global, answer: RequestEnvChecks<'a>) -> Result<String, AllocError> {
+        picture(alloc, &walk_all(alloc, answer)?)
     }
 }
 

@@ -1,6 +1,6 @@
 // What makes expressions.
-use crate::calls::lines::{Rules, Tried};
-use crate::outcomes::{Outcome, ended};
+use crate::calls::lines::{Basis, Probe};
+use crate::outcomes::{Outcome, finish};
 use crate::refusals::refuse;
 use crate::samples::texts::{entity_type, expression};
 use cedar_types::base::{AttrChain, BinaryOp, Expr, PatternElem, UnaryOp};
@@ -47,7 +47,7 @@ fn of_two(alloc: Global, form: OfTwo, text: &str, number: u16) -> Result<Outcome
         OfTwo::GetTag => Expr::get_tag(alloc, left, right),
         OfTwo::HasTag => Expr::has_tag(alloc, left, right),
     };
-    ended(alloc, made, &())
+    finish(alloc, made, &())
 }
 
 /// What makes an expression of one.
@@ -73,7 +73,7 @@ fn of_one(alloc: Global, form: OfOne, text: &str, number: u16) -> Result<Outcome
         OfOne::GetAttr => Expr::get_attr(alloc, operand, "vip"),
         OfOne::HasAttr => Expr::has_attr(alloc, operand, "vip"),
     };
-    ended(alloc, made, &())
+    finish(alloc, made, &())
 }
 
 /// What makes an expression of one and of something else.
@@ -99,14 +99,14 @@ fn of_more(alloc: Global, form: OfMore, text: &str, number: u16) -> Result<Outco
         OfMore::Like => Expr::like(alloc, operand, pattern),
         OfMore::Is => Expr::is_entity_type(alloc, operand, named),
     };
-    ended(alloc, made, &())
+    finish(alloc, made, &())
 }
 
-impl Tried for OfTwo {
-    fn made(
+impl Probe for OfTwo {
+    fn run(
         self,
         alloc: Global,
-        _rules: Rules<'_>,
+        _basis: Basis<'_>,
         text: &str,
         number: u16,
     ) -> Result<Outcome, AllocError> {
@@ -114,11 +114,11 @@ impl Tried for OfTwo {
     }
 }
 
-impl Tried for OfOne {
-    fn made(
+impl Probe for OfOne {
+    fn run(
         self,
         alloc: Global,
-        _rules: Rules<'_>,
+        _basis: Basis<'_>,
         text: &str,
         number: u16,
     ) -> Result<Outcome, AllocError> {
@@ -126,11 +126,11 @@ impl Tried for OfOne {
     }
 }
 
-impl Tried for OfMore {
-    fn made(
+impl Probe for OfMore {
+    fn run(
         self,
         alloc: Global,
-        _rules: Rules<'_>,
+        _basis: Basis<'_>,
         text: &str,
         number: u16,
     ) -> Result<Outcome, AllocError> {

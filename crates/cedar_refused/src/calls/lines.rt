@@ -8,18 +8,18 @@ use std::alloc::{AllocError, Global};
 
 /// What calls stand on.
 #[derive(Clone, Copy)]
-pub struct Rules<'a> {
+pub struct Basis<'a> {
     pub validator: &'a Validator<'a>,
     pub extensions: &'a ExtensionSchemas,
 }
 
 /// A call that is made on what a text says.
-pub trait Tried: Copy {
+pub trait Probe: Copy {
     /// Makes the call while the growth of this number is refused.
-    fn made(
+    fn run(
         self,
         alloc: Global,
-        rules: Rules<'_>,
+        basis: Basis<'_>,
         text: &str,
         number: u16,
     ) -> Result<Outcome, AllocError>;
@@ -55,17 +55,17 @@ impl<'a> Line<'a> {
 /// A line with its call, and what that stands on.
 #[derive(Clone, Copy)]
 pub struct LineCall<'a, T> {
-    pub rules: Rules<'a>,
+    pub basis: Basis<'a>,
     pub call: T,
     pub line: Line<'a>,
 }
 
-impl<T: Tried> Call for LineCall<'_, T> {
+impl<T: Probe> Call for LineCall<'_, T> {
     fn attempt(&self, alloc: Global, number: u16) -> Result<Attempt, AllocError> {
-        let (rules, line) = (self.rules, self.line);
-        let wanted = self.call.made(alloc, rules, line.text, NEVER)?;
-        let found = self.call.made(alloc, rules, line.text, number)?;
-        let again = self.call.made(alloc, rules, line.text, NEVER)?;
+        let (basis, line) = (self.basis, self.line);
+        let wanted = self.call.run(alloc, basis, line.text, NEVER)?;
+        let found = self.call.run(alloc, basis, line.text, number)?;
+        let again = self.call.run(alloc, basis, line.text, NEVER)?;
         let shown = wanted.answer.as_deref().unwrap_or("");
         let is_as_ever = found.answer.is_none() || found.answer == wanted.answer;
         Ok(

@@ -1,6 +1,6 @@
 // What is found by a schema or by names.
-use crate::calls::lines::{Rules, Tried};
-use crate::outcomes::{Outcome, ended};
+use crate::calls::lines::{Basis, Probe};
+use crate::outcomes::{Outcome, finish};
 use crate::refusals::refuse;
 use crate::samples::texts::{OWNERS, SCHEMA, cedar_type, entities, schema_of, two_types, uid};
 use cedar_typechecker::level_validate::attr_chain_cost_from_root;
@@ -24,7 +24,7 @@ fn bound_of_entities(alloc: Global, number: u16) -> Result<Outcome, AllocError> 
     let sets = (entities(alloc, "User")?, entities(alloc, "Photo")?);
     refuse(alloc, number);
     let bound = sets.0.least_upper_bound(alloc, &sets.1);
-    ended(alloc, bound, &sets)
+    finish(alloc, bound, &sets)
 }
 
 /// Asks for an owner of the first of the types of this text.
@@ -34,7 +34,7 @@ fn attribute(alloc: Global, text: &str, number: u16) -> Result<Outcome, AllocErr
     let attr = RcStr::from_str(alloc, "owner")?;
     refuse(alloc, number);
     let found = CedarType::lookup_attribute_type(alloc, &schema, &types.0, &attr);
-    ended(alloc, found, &types)
+    finish(alloc, found, &types)
 }
 
 /// Asks for all attributes of the first of the types of this text.
@@ -43,7 +43,7 @@ fn attributes(alloc: Global, text: &str, number: u16) -> Result<Outcome, AllocEr
     let types = two_types(alloc, text)?;
     refuse(alloc, number);
     let found = types.0.attributes(alloc, &schema);
-    ended(alloc, found, &types)
+    finish(alloc, found, &types)
 }
 
 /// Asks for the type of an entity.
@@ -51,7 +51,7 @@ fn literal(alloc: Global, text: &str, number: u16) -> Result<Outcome, AllocError
     let (schema, entity) = (schema_of(alloc, SCHEMA)?, uid(alloc, text)?);
     refuse(alloc, number);
     let found = CedarType::euid_literal(alloc, &entity, &schema);
-    ended(alloc, found, &entity)
+    finish(alloc, found, &entity)
 }
 
 /// Asks for the type of the entities of the type that this id has.
@@ -59,7 +59,7 @@ fn reference(alloc: Global, text: &str, number: u16) -> Result<Outcome, AllocErr
     let (schema, entity) = (schema_of(alloc, SCHEMA)?, uid(alloc, text)?);
     refuse(alloc, number);
     let found = CedarType::entity_reference(alloc, &entity.entity_type, &schema);
-    ended(alloc, found, &entity)
+    finish(alloc, found, &entity)
 }
 
 /// Asks for the cost of a chain of which each entity is of two types.
@@ -69,14 +69,14 @@ fn chain_cost(alloc: Global, text: &str, number: u16) -> Result<Outcome, AllocEr
     let chain = vec![in alloc; owner.clone()?, owner.clone()?, owner]?;
     refuse(alloc, number);
     let cost = attr_chain_cost_from_root(alloc, &schema, &root, chain.as_slice());
-    ended(alloc, cost, &root)
+    finish(alloc, cost, &root)
 }
 
-impl Tried for Lookup {
-    fn made(
+impl Probe for Lookup {
+    fn run(
         self,
         alloc: Global,
-        _rules: Rules<'_>,
+        _basis: Basis<'_>,
         text: &str,
         number: u16,
     ) -> Result<Outcome, AllocError> {

@@ -1,6 +1,6 @@
 // What makes names, ids and literals of texts.
-use crate::calls::lines::{Rules, Tried};
-use crate::outcomes::{Outcome, ended};
+use crate::calls::lines::{Basis, Probe};
+use crate::outcomes::{Outcome, finish};
 use crate::refusals::refuse;
 use crate::samples::texts::entity_type;
 use cedar_types::base::{AttrChain, EntityUID, Literal, Name, PolicyID};
@@ -22,23 +22,23 @@ fn of_texts(alloc: Global, made: OfTexts, number: u16) -> Result<Outcome, AllocE
     let user = entity_type(alloc, "User")?;
     refuse(alloc, number);
     match made {
-        OfTexts::Unqualified => ended(alloc, Name::unqualified_name(alloc, "User"), &()),
-        OfTexts::Qualified => ended(alloc, Name::new(alloc, "User", &["A", "B"]), &()),
-        OfTexts::Chain => ended(alloc, AttrChain::new(alloc, "a", &["b", "c"]), &()),
-        OfTexts::Literal => ended(alloc, Literal::from_string(alloc, "text"), &()),
+        OfTexts::Unqualified => finish(alloc, Name::unqualified_name(alloc, "User"), &()),
+        OfTexts::Qualified => finish(alloc, Name::new(alloc, "User", &["A", "B"]), &()),
+        OfTexts::Chain => finish(alloc, AttrChain::new(alloc, "a", &["b", "c"]), &()),
+        OfTexts::Literal => finish(alloc, Literal::from_string(alloc, "text"), &()),
         OfTexts::Uid => {
             let uid = EntityUID::from_components(alloc, user, "id", None);
-            ended(alloc, uid, &())
+            finish(alloc, uid, &())
         }
-        OfTexts::PolicyId => ended(alloc, PolicyID::from_string(alloc, "policy0"), &()),
+        OfTexts::PolicyId => finish(alloc, PolicyID::from_string(alloc, "policy0"), &()),
     }
 }
 
-impl Tried for OfTexts {
-    fn made(
+impl Probe for OfTexts {
+    fn run(
         self,
         alloc: Global,
-        _rules: Rules<'_>,
+        _basis: Basis<'_>,
         text: &str,
         number: u16,
     ) -> Result<Outcome, AllocError> {

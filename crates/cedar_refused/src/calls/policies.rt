@@ -30,7 +30,7 @@ struct Sets {
 
 impl Sets {
     /// The members of both, as a text.
-    fn shown(&self, alloc: Global) -> Result<String, AllocError> {
+    fn show(&self, alloc: Global) -> Result<String, AllocError> {
         let errors = members(alloc, &self.errors)?;
         let warnings = members(alloc, &self.warnings)?;
         picture(alloc, &(errors, warnings))
@@ -38,7 +38,7 @@ impl Sets {
 }
 
 impl WholeCheck<'_> {
-    fn handed_in(&self, alloc: Global) -> Result<Sets, AllocError> {
+    fn hand_in(&self, alloc: Global) -> Result<Sets, AllocError> {
         let others = self.held.saturating_sub(usize::from(self.holds_finding));
         let mut errors = errors(alloc, others)?;
         if self.holds_finding {
@@ -49,36 +49,41 @@ impl WholeCheck<'_> {
     }
 
     /// What the sets hold after a check with ample memory: the policies here are refused, and never apply.
-    fn wanted(&self, alloc: Global) -> Result<Option<String>, AllocError> {
-        let mut sets = self.handed_in(alloc)?;
-        let passes = self.checked(alloc, &mut sets)?;
+    fn expect(&self, alloc: Global) -> Result<Option<String>, AllocError> {
+        let mut sets = self.hand_in(alloc)?;
+        let passes = self.check(alloc, &mut sets)?;
         let warnings = self.held.saturating_add(1);
         if passes || sets.errors.len() != self.errors || sets.warnings.len() != warnings {
             return Ok(None);
         }
-        Ok(Some(sets.shown(alloc)?))
+        Ok(Some(sets.show(alloc)?))
     }
 
-    fn checked(&self, alloc: Global, sets: &mut Sets) -> Result<bool, AllocError> {
+    fn check(&self, alloc: Global, sets: &mut Sets) -> Result<bool, AllocError> {
         self.checker
             .typecheck_policy(alloc, self.policy, &mut sets.errors, &mut sets.warnings)
     }
 
     /// The check while a growth is refused, after which the sets hold this or what they held, and again with ample memory.
-    fn refused(&self, alloc: Global, wanted: &str, number: u16) -> Result<Attempt, AllocError> {
-        let mut sets = self.handed_in(alloc)?;
-        let before = sets.shown(alloc)?;
+    fn check_refused(
+        &self,
+        alloc: Global,
+        wanted: &str,
+        number: u16,
+    ) -> Result<Attempt, AllocError> {
+        let mut sets = self.hand_in(alloc)?;
+        let before = sets.show(alloc)?;
         refuse(alloc, number);
-        let answer = self.checked(alloc, &mut sets);
+        let answer = self.check(alloc, &mut sets);
         let attempt = attempt_of(answer.is_ok(), was_refused(alloc));
-        let after = sets.shown(alloc)?;
+        let after = sets.show(alloc)?;
         let expected = if answer.is_ok() {
             wanted
         } else {
             before.as_str()
         };
-        let again = self.checked(alloc, &mut sets)?;
-        let later = sets.shown(alloc)?;
+        let again = self.check(alloc, &mut sets)?;
+        let later = sets.show(alloc)?;
         Ok(
             attempt
                 .only_if(!matches!(answer, Ok(true)), ANOTHER_ANSWER)
@@ -91,10 +96,10 @@ impl WholeCheck<'_> {
 impl Call for WholeCheck<'_> {
     fn attempt(&self, alloc: Global, number: u16) -> Result<Attempt, AllocError> {
         let policy = picture(alloc, self.policy)?;
-        let Some(wanted) = self.wanted(alloc)? else {
+        let Some(wanted) = self.expect(alloc)? else {
             return Ok(Attempt::Wrong("its findings are others"));
         };
-        let attempt = self.refused(alloc, wanted.as_str(), number)?;
+        let attempt = self.check_refused(alloc, wanted.as_str(), number)?;
         Ok(attempt.only_if(picture(alloc, self.policy)? == policy, ANOTHER_POLICY))
     }
 }

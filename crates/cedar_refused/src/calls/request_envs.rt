@@ -1,6 +1,6 @@
 // What is asked of an environment.
-use crate::calls::lines::{Rules, Tried};
-use crate::outcomes::{Outcome, ended};
+use crate::calls::lines::{Basis, Probe};
+use crate::outcomes::{Outcome, finish};
 use crate::refusals::refuse;
 use crate::samples::texts::policy;
 use cedar_types::base::{ValidationMode, ValidatorSchema};
@@ -56,36 +56,36 @@ fn of_environment<'a>(
     let slots = &bound.values;
     refuse(alloc, number);
     match asked {
-        OfEnvironment::RequestType => ended(alloc, env.to_request_type(alloc), &env),
-        OfEnvironment::LinkSlots => ended(alloc, env.link_slot_env(alloc, slots), slots),
-        OfEnvironment::Principal => ended(alloc, env.principal_type(alloc), &env),
-        OfEnvironment::Action => ended(alloc, env.action_type(alloc, schema), &env),
-        OfEnvironment::Resource => ended(alloc, env.resource_type(alloc), &env),
-        OfEnvironment::Context => ended(alloc, env.context_type(alloc), &env),
+        OfEnvironment::RequestType => finish(alloc, env.to_request_type(alloc), &env),
+        OfEnvironment::LinkSlots => finish(alloc, env.link_slot_env(alloc, slots), slots),
+        OfEnvironment::Principal => finish(alloc, env.principal_type(alloc), &env),
+        OfEnvironment::Action => finish(alloc, env.action_type(alloc, schema), &env),
+        OfEnvironment::Resource => finish(alloc, env.resource_type(alloc), &env),
+        OfEnvironment::Context => finish(alloc, env.context_type(alloc), &env),
     }
 }
 
-impl Tried for Declared {
-    fn made(
+impl Probe for Declared {
+    fn run(
         self,
         alloc: Global,
-        rules: Rules<'_>,
+        basis: Basis<'_>,
         _text: &str,
         number: u16,
     ) -> Result<Outcome, AllocError> {
-        of_declared(alloc, self.0, rules.validator.schema(), number)
+        of_declared(alloc, self.0, basis.validator.schema(), number)
     }
 }
 
-impl Tried for Undeclared {
-    fn made(
+impl Probe for Undeclared {
+    fn run(
         self,
         alloc: Global,
-        rules: Rules<'_>,
+        basis: Basis<'_>,
         _text: &str,
         number: u16,
     ) -> Result<Outcome, AllocError> {
-        let schema = rules.validator.schema();
+        let schema = basis.validator.schema();
         of_environment(alloc, self.0, schema, RequestEnv::UndeclaredAction, number)
     }
 }

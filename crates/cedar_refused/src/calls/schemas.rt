@@ -1,6 +1,6 @@
 // Schemas: what makes them, and what is asked of them.
-use crate::calls::lines::{Rules, Tried};
-use crate::outcomes::{Outcome, ended};
+use crate::calls::lines::{Basis, Probe};
+use crate::outcomes::{Outcome, finish};
 use crate::refusals::refuse;
 use crate::samples::texts::{entities, entity_type, uid};
 use cedar_reading::{Notation, schema_declarations};
@@ -8,7 +8,7 @@ use cedar_types::base::{EntityKind, SchemaError, ValidatorSchema};
 use std::alloc::{AllocError, Global};
 
 /// Makes the schema of these declarations. The answer is that, or its fault.
-fn schema_made(alloc: Global, text: &str, number: u16) -> Result<Outcome, AllocError> {
+fn make_schema(alloc: Global, text: &str, number: u16) -> Result<Outcome, AllocError> {
     let text = if text == "DECLARATIONS" {
         DECLARATIONS
     } else {
@@ -22,7 +22,7 @@ fn schema_made(alloc: Global, text: &str, number: u16) -> Result<Outcome, AllocE
         Err(SchemaError::Memory(error)) => Err(error),
         other => Ok(other),
     };
-    ended(alloc, made, &())
+    finish(alloc, made, &())
 }
 
 /// What is asked of a schema.
@@ -51,14 +51,14 @@ fn of_schema(
     let actions = vec![in alloc; uid(alloc, text)?]?;
     refuse(alloc, number);
     match asked {
-        OfSchema::Types => ended(alloc, schema.entity_types(alloc), schema),
-        OfSchema::TypeNames => ended(alloc, schema.entity_type_names(alloc), schema),
-        OfSchema::Actions => ended(alloc, schema.action_ids(alloc), schema),
-        OfSchema::TypesIn => ended(alloc, schema.get_entity_types_in(alloc, &group), schema),
-        OfSchema::ActionsIn => { ended(alloc, schema.get_actions_in_set(alloc, &actions), schema) }
-        OfSchema::Tags => ended(alloc, schema.tag_types(alloc, &tagged), schema),
+        OfSchema::Types => finish(alloc, schema.entity_types(alloc), schema),
+        OfSchema::TypeNames => finish(alloc, schema.entity_type_names(alloc), schema),
+        OfSchema::Actions => finish(alloc, schema.action_ids(alloc), schema),
+        OfSchema::TypesIn => finish(alloc, schema.get_entity_types_in(alloc, &group), schema),
+        OfSchema::ActionsIn => { finish(alloc, schema.get_actions_in_set(alloc, &actions), schema) }
+        OfSchema::Tags => finish(alloc, schema.tag_types(alloc, &tagged), schema),
         OfSchema::New | OfSchema::TagsOfAny => {
-            ended(
+            finish(
                 alloc,
                 schema.tag_types(alloc, &EntityKind::AnyEntity),
                 schema,
@@ -67,17 +67,17 @@ fn of_schema(
     }
 }
 
-impl Tried for OfSchema {
-    fn made(
+impl Probe for OfSchema {
+    fn run(
         self,
         alloc: Global,
-        rules: Rules<'_>,
+        basis: Basis<'_>,
         text: &str,
         number: u16,
     ) -> Result<Outcome, AllocError> {
         match self {
-            OfSchema::New => schema_made(alloc, text, number),
-            _ => of_schema(alloc, self, rules.validator.schema(), text, number),
+            OfSchema::New => make_schema(alloc, text, number),
+            _ => of_schema(alloc, self, basis.validator.schema(), text, number),
         }
     }
 }

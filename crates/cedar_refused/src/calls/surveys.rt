@@ -1,5 +1,5 @@
 // Surveys of policies.
-use crate::outcomes::{Outcome, ended};
+use crate::outcomes::{Outcome, finish};
 use crate::pictures::picture;
 use crate::refusals::{refuse, was_refused};
 use crate::samples::texts::policy;
@@ -51,5 +51,5 @@ pub fn level_errors_at_0(
     let survey = validator.survey(alloc, &policy.template, mode)?;
     refuse(alloc, number);
     let errors = survey.level_errors(alloc, 0);
-    ended(alloc, errors, &policy)
+    finish(alloc, errors, &policy)
 }

@@ -1,6 +1,6 @@
 // What is asked of a policy without a schema.
-use crate::calls::lines::{Rules, Tried};
-use crate::outcomes::{Outcome, ended};
+use crate::calls::lines::{Basis, Probe};
+use crate::outcomes::{Outcome, finish};
 use crate::refusals::refuse;
 use crate::samples::texts::policy;
 use cedar_types::base::SlotId;
@@ -31,35 +31,35 @@ fn of_template(
     let whole = template.condition(alloc)?;
     refuse(alloc, number);
     match asked {
-        OfTemplate::Condition => ended(alloc, template.condition(alloc), template),
-        OfTemplate::ScopeCondition => ended(alloc, template.scope_condition(alloc), template),
-        OfTemplate::Uids => ended(alloc, template.policy_entity_uids(alloc), template),
+        OfTemplate::Condition => finish(alloc, template.condition(alloc), template),
+        OfTemplate::ScopeCondition => finish(alloc, template.scope_condition(alloc), template),
+        OfTemplate::Uids => finish(alloc, template.policy_entity_uids(alloc), template),
         OfTemplate::TypeNames => {
-            ended(alloc, template.policy_entity_type_names(alloc), template)
+            finish(alloc, template.policy_entity_type_names(alloc), template)
         }
         OfTemplate::Slot => {
-            ended(
+            finish(
                 alloc,
                 template.mentions_slot(alloc, SlotId::Principal),
                 template,
             )
         }
         OfTemplate::SlotOfCondition => {
-            ended(alloc, whole.mentions_slot(alloc, SlotId::Principal), &whole)
+            finish(alloc, whole.mentions_slot(alloc, SlotId::Principal), &whole)
         }
         OfTemplate::Subexpressions => {
             let walk = whole.subexpressions(alloc);
-            ended(alloc, walk.map(|_| ()), &whole)
+            finish(alloc, walk.map(|_| ()), &whole)
         }
-        OfTemplate::Parts => ended(alloc, whole.parts(alloc), &whole),
+        OfTemplate::Parts => finish(alloc, whole.parts(alloc), &whole),
     }
 }
 
-impl Tried for OfTemplate {
-    fn made(
+impl Probe for OfTemplate {
+    fn run(
         self,
         alloc: Global,
-        _rules: Rules<'_>,
+        _basis: Basis<'_>,
         text: &str,
         number: u16,
     ) -> Result<Outcome, AllocError> {

@@ -1,6 +1,6 @@
 // Types: what makes them, and what is asked of them.
-use crate::calls::lines::{Rules, Tried};
-use crate::outcomes::{Outcome, ended};
+use crate::calls::lines::{Basis, Probe};
+use crate::outcomes::{Outcome, finish};
 use crate::refusals::refuse;
 use crate::samples::texts::{entity_type, only, two_types};
 use cedar_types::base::{
@@ -25,7 +25,7 @@ pub enum TypeMaker {
 }
 
 /// Makes it.
-fn made(alloc: Global, made: TypeMaker, number: u16) -> Result<Outcome, AllocError> {
+fn make(alloc: Global, maker: TypeMaker, number: u16) -> Result<Outcome, AllocError> {
     let name = Name::unqualified_name(alloc, "ipaddr")?;
     let (user, users) = (entity_type(alloc, "User")?, only(alloc, "User")?);
     let mut map = BTreeMap::new(alloc);
@@ -35,16 +35,18 @@ fn made(alloc: Global, made: TypeMaker, number: u16) -> Result<Outcome, AllocErr
     let list = vec![in alloc; ("a", listed)]?;
     let types = vec![in alloc; CedarType::String, CedarType::Long]?;
     refuse(alloc, number);
-    match made {
-        TypeMaker::Set => ended(alloc, CedarType::set(alloc, CedarType::Long), &()),
-        TypeMaker::AnyRecord => ended(alloc, CedarType::any_record(alloc), &()),
-        TypeMaker::Entity => { ended(alloc, CedarType::named_entity_reference(alloc, user), &()) }
-        TypeMaker::Extension => ended(alloc, CedarType::extension(alloc, name), &()),
-        TypeMaker::AttributesOfMap => { ended(alloc, Attributes::with_attributes(alloc, map), &()) }
-        TypeMaker::AttributesOfList => ended(alloc, Attributes::from_list(alloc, list), &()),
-        TypeMaker::SingleEntity => ended(alloc, EntityLUB::single_entity(alloc, user), &()),
-        TypeMaker::EntitiesOfSet => ended(alloc, EntityLUB::from_types(alloc, users), &()),
-        TypeMaker::InOrder => ended(alloc, types_in_order(alloc, types), &()),
+    match maker {
+        TypeMaker::Set => finish(alloc, CedarType::set(alloc, CedarType::Long), &()),
+        TypeMaker::AnyRecord => finish(alloc, CedarType::any_record(alloc), &()),
+        TypeMaker::Entity => { finish(alloc, CedarType::named_entity_reference(alloc, user), &()) }
+        TypeMaker::Extension => finish(alloc, CedarType::extension(alloc, name), &()),
+        TypeMaker::AttributesOfMap => {
+            finish(alloc, Attributes::with_attributes(alloc, map), &())
+        }
+        TypeMaker::AttributesOfList => finish(alloc, Attributes::from_list(alloc, list), &()),
+        TypeMaker::SingleEntity => finish(alloc, EntityLUB::single_entity(alloc, user), &()),
+        TypeMaker::EntitiesOfSet => finish(alloc, EntityLUB::from_types(alloc, users), &()),
+        TypeMaker::InOrder => finish(alloc, types_in_order(alloc, types), &()),
     }
 }
 
@@ -64,14 +66,14 @@ fn of_types(alloc: Global, asked: OfTypes, text: &str, number: u16) -> Result<Ou
     match asked {
         OfTypes::Bound(mode) => {
             let bound = CedarType::least_upper_bound(alloc, left, right, mode);
-            ended(alloc, bound, &types)
+            finish(alloc, bound, &types)
         }
         OfTypes::BoundOfAll(mode) => {
             let bound = CedarType::reduce_to_least_upper_bound(alloc, &[left, right], mode);
-            ended(alloc, bound, &types)
+            finish(alloc, bound, &types)
         }
         OfTypes::Subtype(mode) => {
-            ended(
+            finish(
                 alloc,
                 CedarType::is_subtype(alloc, left, right, mode),
                 &types,
@@ -80,23 +82,23 @@ fn of_types(alloc: Global, asked: OfTypes, text: &str, number: u16) -> Result<Ou
     }
 }
 
-impl Tried for TypeMaker {
-    fn made(
+impl Probe for TypeMaker {
+    fn run(
         self,
         alloc: Global,
-        _rules: Rules<'_>,
+        _basis: Basis<'_>,
         _text: &str,
         number: u16,
     ) -> Result<Outcome, AllocError> {
-        made(alloc, self, number)
+        make(alloc, self, number)
     }
 }
 
-impl Tried for OfTypes {
-    fn made(
+impl Probe for OfTypes {
+    fn run(
         self,
         alloc: Global,
-        _rules: Rules<'_>,
+        _basis: Basis<'_>,
         text: &str,
         number: u16,
     ) -> Result<Outcome, AllocError> {

@@ -32,7 +32,7 @@ fn take_all<S: Steps>(steps: &mut S, items: &mut Vec<S::Item>) -> bool {
 }
 
 /// What a whole walk gives with ample memory.
-pub fn walked<S: Steps>(alloc: Global, mut steps: S) -> Result<Vec<String>, AllocError> {
+pub fn walk_all<S: Steps>(alloc: Global, mut steps: S) -> Result<Vec<String>, AllocError> {
     let mut items = Vec::with_capacity(alloc, MOST)?;
     if take_all(&mut steps, &mut items) {
         pictures(alloc, &items)
@@ -43,7 +43,7 @@ pub fn walked<S: Steps>(alloc: Global, mut steps: S) -> Result<Vec<String>, Allo
 
 /// A walk while the growth of this number is refused. Items are looked at after the walk is
 /// dropped; after its end it gives nothing, three times.
-fn refused_walk<S: Steps>(
+fn refuse_walk<S: Steps>(
     alloc: Global,
     mut steps: S,
     wanted: &[String],
@@ -79,9 +79,9 @@ pub fn attempt_walk<S: Steps>(
     items: usize,
     number: u16,
 ) -> Result<Attempt, AllocError> {
-    let wanted = walked(alloc, walks.0)?;
-    let attempt = refused_walk(alloc, walks.1, &wanted, number)?;
-    let again = walked(alloc, walks.2)?;
+    let wanted = walk_all(alloc, walks.0)?;
+    let attempt = refuse_walk(alloc, walks.1, &wanted, number)?;
+    let again = walk_all(alloc, walks.2)?;
     Ok(
         attempt
             .only_if(wanted.len() == items, ANOTHER_ANSWER)

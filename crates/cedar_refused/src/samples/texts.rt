@@ -105,7 +105,7 @@ pub fn schema_of(alloc: Global, text: &str) -> Result<ValidatorSchema, AllocErro
 }
 
 /// The text that a word names, or the word itself.
-fn named(word: &str) -> &str {
+fn text_of(word: &str) -> &str {
     match word {
         "NAMED" => NAMED,
         "KNOWN" => KNOWN,
@@ -119,7 +119,7 @@ fn named(word: &str) -> &str {
 /// The policy of a text, before which what its slots are bound to may stand: `User::"a", Photo::"b" = permit(..);`. It may
 /// be a condition alone.
 pub fn policy(alloc: Global, text: &str) -> Result<Policy, AllocError> {
-    let text = named(text);
+    let text = text_of(text);
     let (bound, text) = text.split_once(" = ").unwrap_or(("", text));
     let mut values = SlotEnv::new(alloc);
     let (principal, resource) = bound.split_once(", ").unwrap_or((bound, ""));

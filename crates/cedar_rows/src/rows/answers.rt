@@ -68,7 +68,7 @@ impl Asked<'_> {
             Subject::Environments(mode) => self.in_environments(mode),
             Subject::Policy(mode) => self.in_all(mode),
             Subject::Level(mode, level) => self.at_level(mode, level),
-            Subject::RequiredLevel(mode) => self.required(mode),
+            Subject::RequiredLevel(mode) => self.required_level(mode),
             _ => self.about_names(subject),
         }
     }

@@ -70,10 +70,10 @@ impl<'a> Asked<'a> {
         let mut warnings = HashSet::new(alloc);
         let checker = self.checker(mode);
         let passes = checker.typecheck_policy(alloc, policy, &mut errors, &mut warnings)?;
-        self.added(passes, &errors, &warnings)
+        self.answer_check(passes, &errors, &warnings)
     }
 
-    fn added(
+    fn answer_check(
         self,
         passes: bool,
         errors: &HashSet<ValidationError>,

@@ -23,7 +23,7 @@ impl Asked<'_> {
     }
 
     /// The least level that is enough for the policy, or `none`.
-    pub fn required(self, mode: ValidationMode) -> Result<Answer, AllocError> {
+    pub fn required_level(self, mode: ValidationMode) -> Result<Answer, AllocError> {
         let (alloc, policy) = (self.alloc, &*self.policy.template);
         let outcome = match self.validator.required_level(alloc, policy, mode)? {
             Some(level) => level.to_string(alloc)?,

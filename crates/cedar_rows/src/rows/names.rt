@@ -2,7 +2,7 @@
 ghost use Rattle.std.specs.Iterator.{IsFinite};
 
 use crate::rows::answers::{Answer, Asked};
-use cedar_fixtures::faulty_functions::listed;
+use cedar_fixtures::faulty_functions::functions_in;
 use cedar_fixtures::findings::{push_error, push_warning};
 use cedar_fixtures::questions::Subject;
 use cedar_reading::{ReadError, SchemaReadError, schema_as_given};
@@ -18,30 +18,32 @@ impl Asked<'_> {
         let (schema, template) = (validator.schema(), &*policy.template);
         match subject {
             Subject::EntityTypes => {
-                self.found(Validator::validate_entity_types(alloc, schema, template))
+                self.show_findings(Validator::validate_entity_types(alloc, schema, template))
             }
             Subject::ActionIds => {
-                self.found(Validator::validate_action_ids(alloc, schema, template))
+                self.show_findings(Validator::validate_action_ids(alloc, schema, template))
             }
             Subject::EnumeratedIds => {
-                self.found(Validator::validate_enum_entity(alloc, schema, template))
+                self.show_findings(Validator::validate_enum_entity(alloc, schema, template))
             }
             Subject::SlotTypes => {
                 let (id, slots) = (&template.id, &policy.values);
-                self.found(validator.validate_entity_types_in_slots(alloc, id, slots))
+                self.show_findings(validator.validate_entity_types_in_slots(alloc, id, slots))
             }
             Subject::Application => {
-                self.applied(&validator.validate_template_action_application(alloc, template)?)
+                self.show_application(&validator.validate_template_action_application(
+                    alloc, template,
+                )?)
             }
             Subject::LinkedApplication => {
-                self.applied(&validator.validate_linked_action_application(alloc, policy)?)
+                self.show_application(&validator.validate_linked_action_application(alloc, policy)?)
             }
             _ => self.principal_types(),
         }
     }
 
     /// What a pass finds.
-    fn found<I: Iterator<Item = Result<ValidationError, AllocError>> + Drop>(
+    fn show_findings<I: Iterator<Item = Result<ValidationError, AllocError>> + Drop>(
         self,
         pass: I,
     ) -> Result<Answer, AllocError>
@@ -59,7 +61,10 @@ impl Asked<'_> {
     }
 
     /// Whether an action applies to what the scope admits.
-    fn applied(self, applied: &Result<(), ValidationWarning>) -> Result<Answer, AllocError> {
+    fn show_application(
+        self,
+        applied: &Result<(), ValidationWarning>,
+    ) -> Result<Answer, AllocError> {
         let mut answer = Answer::new(self.alloc, String::new(self.alloc));
         match applied {
             Ok(()) => answer.outcome.push_str("applies")?,
@@ -99,7 +104,10 @@ fn push_flags(shown: &mut String, warning: &ValidationWarning) -> Result<(), All
 
 /// Why there is no table of these functions.
 pub fn refusal(alloc: Global, functions: &str) -> Result<Answer, AllocError> {
-    let outcome = match ExtensionSchemas::new(listed(alloc, functions)?, BTreeSet::new(alloc)) {
+    let outcome = match ExtensionSchemas::new(
+        functions_in(alloc, functions)?,
+        BTreeSet::new(alloc),
+    ) {
         Ok(_table) => String::from_str(alloc, "a table")?,
         Err(refusal) => refusal.to_string(alloc)?,
     };

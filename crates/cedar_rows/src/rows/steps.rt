@@ -41,7 +41,7 @@ impl Nested {
 
 impl Steps {
     /// The text with what its words stand for.
-    fn written(&self, alloc: Global) -> Result<String, AllocError> {
+    fn expand(&self, alloc: Global) -> Result<String, AllocError> {
         let mut text = String::from_str(alloc, self.0)?;
         for nested in self.1 {
             text = text.replace(alloc, nested.word, nested.text(alloc)?.as_str())?;
@@ -57,12 +57,12 @@ impl Row for Steps {
         x1: &ExtensionSchemas,
         x2: &ExtensionSchemas,
     ) -> Result<Report, AllocError> {
-        let text = self.written(alloc)?;
+        let text = self.expand(alloc)?;
         let mut report = Report::new(alloc);
         let steps = text.as_str();
         let steps = steps.strip_prefix(BEFORE_STEP).unwrap_or(steps);
         for step in steps.split(BEFORE_STEP) {
-            match judged(alloc, step.trim_end(), x1, x2) {
+            match judge(alloc, step.trim_end(), x1, x2) {
                 Ok((outcome, is_expected)) => report.add(outcome, is_expected)?,
                 Err(ReadError::Memory(error)) => return Err(error),
                 Err(ReadError::At(_, fault)) => report.add(fault.to_string(alloc)?, false)?,
@@ -73,7 +73,7 @@ impl Row for Steps {
 }
 
 /// What a step comes to, and whether that is what it expects.
-fn judged(
+fn judge(
     alloc: Global,
     step: &str,
     x1: &ExtensionSchemas,

@@ -82,17 +82,17 @@ fn hint_for_text(
     let [base, part] = arguments else {
         return Ok(None);
     };
-    let ExprKind::Lit(Literal::String(said)) = &part.kind else {
+    let ExprKind::Lit(Literal::String(literal)) = &part.kind else {
         return Ok(None);
     };
     let base = text_at(text, base.loc).unwrap_or("a");
-    let said = if is_plain(said.as_str()) {
-        said.as_str()
+    let literal = if is_plain(literal.as_str()) {
+        literal.as_str()
     } else {
         "b"
     };
     let hint = format!(in alloc;
-        "`like` looks into a text: `{base} like \"{front}{said}{back}\"`"
+        "`like` looks into a text: `{base} like \"{front}{literal}{back}\"`"
     )?;
     Ok(Some(hint))
 }

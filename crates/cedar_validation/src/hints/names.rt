@@ -76,24 +76,24 @@ pub fn hint_for_id(
     }
     match nearest {
         Some(id) => format!(in alloc; "did you mean `{}::\"{id}\"`?", unknown.entity_type),
-        None => ids_listed(alloc, ids.as_slice()),
+        None => list_ids(alloc, ids.as_slice()),
     }
 }
 
 /// The first ids, and how many more there are.
-fn ids_listed(alloc: Global, ids: &[RcStr]) -> Result<String, AllocError> {
-    let mut said = String::from_str(alloc, "there are ")?;
+fn list_ids(alloc: Global, ids: &[RcStr]) -> Result<String, AllocError> {
+    let mut hint = String::from_str(alloc, "there are ")?;
     let mut is_first = true;
     for id in ids.iter().take(MAX_LISTED) {
         if !is_first {
-            said.push_str(", ")?;
+            hint.push_str(", ")?;
         }
         is_first = false;
-        write!(said, "`{id}`")?;
+        write!(hint, "`{id}`")?;
     }
     let others = ids.len().saturating_sub(MAX_LISTED);
     if others > 0 {
-        write!(said, " and {others} more")?;
+        write!(hint, " and {others} more")?;
     }
-    Ok(said)
+    Ok(hint)
 }

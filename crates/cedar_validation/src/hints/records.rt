@@ -36,7 +36,7 @@ fn difference_of_records(
     for (name, one) in left.attrs.iter() {
         match right.get_attr(name) {
             None => return Ok(Some(in_one_alone(alloc, name)?)),
-            Some(other) if one != other => return Ok(Some(told_apart(alloc, name, one, other)?)),
+            Some(other) if one != other => return Ok(Some(tell_apart(alloc, name, one, other)?)),
             Some(_) => {}
         }
     }
@@ -52,7 +52,7 @@ fn in_one_alone(alloc: Global, name: &RcStr) -> Result<String, AllocError> {
     format!(in alloc; "one of the records lacks `{name}`")
 }
 
-fn told_apart(
+fn tell_apart(
     alloc: Global,
     name: &RcStr,
     one: &AttributeType,

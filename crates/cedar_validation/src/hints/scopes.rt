@@ -32,7 +32,7 @@ pub fn hint_for_scope(
             continue;
         };
         if !is_applied_to(alloc, schema, action, side, named)? {
-            return said_of_side(alloc, action, side, named);
+            return explain_side(alloc, action, side, named);
         }
     }
     Ok(String::new(alloc))
@@ -84,7 +84,7 @@ fn has_type(spec: &ValidatorApplySpec, side: Side, named: &EntityType) -> bool {
     }
 }
 
-fn said_of_side(
+fn explain_side(
     alloc: Global,
     action: Option<&EntityUID>,
     side: Side,

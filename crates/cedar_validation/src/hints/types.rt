@@ -116,7 +116,7 @@ fn hint_for_contains(
 ) -> Result<String, AllocError> {
     let base = text_at(text, operation.left.loc).unwrap_or("a");
     let part = match &operation.right.kind {
-        ExprKind::Lit(Literal::String(said)) if is_plain(said.as_str()) => said.as_str(),
+        ExprKind::Lit(Literal::String(literal)) if is_plain(literal.as_str()) => literal.as_str(),
         _ => return String::from_str(alloc, "`like` looks into a text, as in `a like \"*b*\"`"),
     };
     format!(in alloc; "`like` looks into a text: `{base} like \"*{part}*\"`")
@@ -164,14 +164,14 @@ fn hint_for_comparison(
     operand: &Expr,
     actual: &CedarType,
 ) -> Result<String, AllocError> {
-    if let ExprKind::Lit(Literal::String(said)) = &operand.kind {
+    if let ExprKind::Lit(Literal::String(literal)) = &operand.kind {
         for function in [Constructor::Datetime, Constructor::Duration] {
-            if function.reads(said.as_str()) {
+            if function.reads(literal.as_str()) {
                 let name = function.name();
-                return format!(in alloc; "a time is written `{name}(\"{said}\")`");
+                return format!(in alloc; "a time is written `{name}(\"{literal}\")`");
             }
         }
-        if said.parse::<i64>().is_ok() {
+        if literal.parse::<i64>().is_ok() {
             return String::from_str(alloc, "numbers stand without quotes");
         }
     }
@@ -197,15 +197,15 @@ pub fn hint_for_incompatible(
     text: &str,
     found: &IncompatibleTypes,
 ) -> Result<String, AllocError> {
-    let mut said = String::from_str(alloc, wanted_in(found.context))?;
+    let mut hint = String::from_str(alloc, wanted_in(found.context))?;
     if let Some(difference) = difference(alloc, &found.types)? {
-        write!(said, ": {difference}")?;
-        return Ok(said);
+        write!(hint, ": {difference}")?;
+        return Ok(hint);
     }
     if let Some(entity) = entity_meant(alloc, policy, text, found)? {
-        write!(said, "; did you mean `{entity}`?")?;
+        write!(hint, "; did you mean `{entity}`?")?;
     }
-    Ok(said)
+    Ok(hint)
 }
 
 /// Which types have to agree.

@@ -6,7 +6,7 @@ use Rattle.cedar_typechecker.specs.Slices.Surveys.{SurveyIsKeptIn}
 use Rattle.cedar_typechecker.specs.Surveys.{IsSurveyOf}
 use Rattle.cedar_typechecker.specs.ValidatorViews.{basis_in as basis_by}
 use Rattle.cedar_typechecker.proofs.Slices.Surveys.{checked}
-use Rattle.cedar_host.specs.Safety.{basis_in}
+use Rattle.cedar_host.specs.Safety.{sound_basis}
 use Rattle.cedar_host.proofs.Promises.{passes_everywhere, passing_is_safe, impossible_is_never_true}
 use Rattle.cedar_host.proofs.policy_sets.validate.Goals as goal
 
@@ -14,7 +14,7 @@ pub returns-clause-checked : goal.returns-clause-checked
 returns-clause-checked g c h =
     let meaning = g.C.ArgumentCheck.refusal in
     let validator = c.args.validator.now in
-    let b = basis_in c.args.mode meaning validator in
+    let b = sound_basis c.args.mode meaning validator in
     let t = template_of c.args.policy.now in
     let s = c.in_ok-survey.survey in
     let P : ValidationMode → Type 0 = λ m. IsSurveyOf (basis_by meaning validator m) t s in
@@ -31,7 +31,7 @@ returns-clause-safe g c h =
     SurveyIsKeptIn k (basis_by meaning validator m) t s in
     let kept = c.in_ok-survey.ensures in
     let found = c.in_ok-findings.ensures in
-    passing_is_safe c.args.mode (basis_in c.args.mode meaning validator) t refl s
+    passing_is_safe c.args.mode (sound_basis c.args.mode meaning validator) t refl s
     (subst (KeptIn ValidationMode.Strict) c.from.ensures kept.kept)
     (subst (KeptIn ValidationMode.Permissive) c.from.ensures kept.kept_in_permissive)
     (found.passes h) (found.named h)
@@ -45,7 +45,7 @@ returns-clause-never_true g c h =
     let KeptIn : ValidationMode → ValidationMode → Type 0 = λ k m.
     SurveyIsKeptIn k (basis_by meaning validator m) t s in
     let kept = c.in_ok-survey.ensures in
-    impossible_is_never_true c.args.mode (basis_in c.args.mode meaning validator) t refl s
+    impossible_is_never_true c.args.mode (sound_basis c.args.mode meaning validator) t refl s
     (subst (KeptIn ValidationMode.Strict) c.from.ensures kept.kept)
     (subst (KeptIn ValidationMode.Permissive) c.from.ensures kept.kept_in_permissive)
     (sym c.in_ok-findings.ensures.impossible ∙ h)
@@ -58,5 +58,5 @@ returns-clause-level g c =
     let s = c.in_ok-survey.survey in
     let P : ValidationMode → Type 0 = λ m. IsSurveyOf (basis_by meaning validator m) t s in
     let survey = subst P c.from.ensures c.in_ok-survey.ensures.exact in
-    let b = basis_in c.args.mode meaning validator in
+    let b = sound_basis c.args.mode meaning validator in
     subst (IsRequiredLevel b t) (sym c.in_ok-findings.ensures.level) survey.required

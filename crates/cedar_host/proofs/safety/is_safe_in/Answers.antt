@@ -7,7 +7,7 @@ use Rattle.cedar_typing.specs.PolicyCheck.{Verdict}
 use Rattle.cedar_typing.specs.Soundness.Policies.{Basis, setting_on}
 use Rattle.cedar_typing.specs.Soundness.PolicyCheck.{IsSoundPolicyCheckIn}
 use Rattle.cedar_typing.specs.TypedExpr.{typed_tree}
-use Rattle.cedar_host.specs.Safety.{basis_in}
+use Rattle.cedar_host.specs.Safety.{sound_basis}
 use Rattle.cedar_host.proofs.Promises.{success_is_safe}
 use Rattle.cedar_host.proofs.safety.is_safe_in.Goals as goal
 
@@ -16,7 +16,7 @@ returns-in-Success g c h =
     let mode = c.args.mode in
     let t = template_of c.args.policy.now in
     let env = env_of c.args.env.now in
-    let b = basis_in mode g.C.ArgumentCheck.refusal c.args.validator.now in
+    let b = sound_basis mode g.C.ArgumentCheck.refusal c.args.validator.now in
     let e = typed_tree c.in-Success._typed in
     let SoundIn : ValidationMode → Basis → Verdict → Type 0 =
     λ m b v. IsSoundPolicyCheckIn m (setting_on b t.id env) (condition_of t) v in

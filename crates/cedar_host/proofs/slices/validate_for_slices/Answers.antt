@@ -4,7 +4,7 @@ use Rattle.cedar_types.specs.Templates.{template_of}
 use Rattle.cedar_typechecker.specs.Levels.Required.{IsRequiredLevel}
 use Rattle.cedar_host.specs.declared.policy_sets.WrittenPolicy.{WrittenPolicy}
 use Rattle.cedar_host.specs.declared.slices.SliceReport.{SliceReport}
-use Rattle.cedar_host.specs.Safety.{basis_in}
+use Rattle.cedar_host.specs.Safety.{sound_basis}
 use Rattle.cedar_host.specs.Slices.{NeedsSliceAlone, IsRightForSlices}
 use Rattle.cedar_host.proofs.Reported.{one_more_each, one_more_right, right_report}
 use Rattle.cedar_host.proofs.SameResponses.{accepted_respond_alike}
@@ -12,7 +12,7 @@ use Rattle.cedar_host.proofs.slices.validate_for_slices.Goals as goal
 
 pub loop-policy-preserved : goal.loop-policy-preserved
 loop-policy-preserved g c =
-    let b = basis_in c.args.mode g.C.ArgumentCheck.refusal c.args.validator.now in
+    let b = sound_basis c.args.mode g.C.ArgumentCheck.refusal c.args.validator.now in
     let n = c.args.steps in
     let own : SliceReport = record { report = c.in_ok-own.own; level = c.in_ok-found.found.level } in
     let report = c.in_ok-own.ensures in
@@ -41,5 +41,5 @@ loop-policy-preserved g c =
 
 pub returns-clause-responses : goal.returns-clause-responses
 returns-clause-responses g c =
-    accepted_respond_alike (basis_in c.args.mode g.C.ArgumentCheck.refusal c.args.validator.now) c.args.steps
+    accepted_respond_alike (sound_basis c.args.mode g.C.ArgumentCheck.refusal c.args.validator.now) c.args.steps
     c.loop-policy.reports.items c.loop-policy.invariant.right

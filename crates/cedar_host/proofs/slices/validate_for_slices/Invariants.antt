@@ -1,5 +1,5 @@
 use Rattle.std.proofs.Common.{◌≡◌, take, map, All}
-use Rattle.cedar_host.specs.Safety.{basis_in}
+use Rattle.cedar_host.specs.Safety.{sound_basis}
 use Rattle.cedar_host.specs.Slices.{IsRightForSlices}
 use Rattle.cedar_host.proofs.slices.validate_for_slices.Given as goal
 
@@ -8,6 +8,6 @@ abbrev pub invariant-loop-policy : goal.invariant-loop-policy
 invariant-loop-policy g l = record {
   each : map (λ r. r.report.policy.now) l.reports.items ≡ take l.policy-index l.policies;
   right : All
-      (IsRightForSlices (basis_in l.mode g.C.ArgumentCheck.refusal l.fn.validator) l.steps)
+      (IsRightForSlices (sound_basis l.mode g.C.ArgumentCheck.refusal l.fn.validator) l.steps)
       l.reports.items;
 }

@@ -9,7 +9,7 @@ use Rattle.cedar_typechecker.specs.Surveys.{IsSurveyOf, level_errors_of}
 use Rattle.cedar_typechecker.specs.ValidatorViews.{basis_in as basis_by}
 use Rattle.cedar_typechecker.proofs.Levels.DemandParts.{nil_by_members}
 use Rattle.cedar_typechecker.proofs.Slices.Surveys.{checked}
-use Rattle.cedar_host.specs.Safety.{basis_in}
+use Rattle.cedar_host.specs.Safety.{sound_basis}
 use Rattle.cedar_host.proofs.Promises.{no_member, passes_everywhere, passing_is_safe, impossible_is_never_true, passing_needs_slice_alone}
 use Rattle.cedar_host.proofs.slices.validate_within.Goals as goal
 
@@ -17,7 +17,7 @@ pub returns-clause-checked : goal.returns-clause-checked
 returns-clause-checked g c h =
     let meaning = g.C.ArgumentCheck.refusal in
     let validator = c.args.validator.now in
-    let b = basis_in c.args.mode meaning validator in
+    let b = sound_basis c.args.mode meaning validator in
     let t = template_of c.args.policy.now in
     let s = c.in_ok-survey.survey in
     let P : ValidationMode → Type 0 = λ m. IsSurveyOf (basis_by meaning validator m) t s in
@@ -35,7 +35,7 @@ returns-clause-safe g c h =
     SurveyIsKeptIn k (basis_by meaning validator m) t s in
     let kept = c.in_ok-survey.ensures in
     let found = c.in_ok-findings.ensures in
-    passing_is_safe c.args.mode (basis_in c.args.mode meaning validator) t refl s
+    passing_is_safe c.args.mode (sound_basis c.args.mode meaning validator) t refl s
     (subst (KeptIn ValidationMode.Strict) c.from.ensures kept.kept)
     (subst (KeptIn ValidationMode.Permissive) c.from.ensures kept.kept_in_permissive)
     (found.passes (and_left _ _ h)) (found.named (and_left _ _ h))
@@ -57,7 +57,7 @@ returns-clause-sliced g c h =
     let silent =
     nil_by_members (level_errors_of s c.args.steps) (findings exceeding)
     (λ e. (c.in_ok-exceeding.ensures e).1) (ap findings none) in
-    passing_needs_slice_alone c.args.mode (basis_in c.args.mode meaning validator) t refl s
+    passing_needs_slice_alone c.args.mode (sound_basis c.args.mode meaning validator) t refl s
     (subst (KeptIn ValidationMode.Strict) c.from.ensures kept.kept)
     (subst (KeptIn ValidationMode.Permissive) c.from.ensures kept.kept_in_permissive)
     c.args.steps small (found.passes (and_left _ _ h)) silent (found.named (and_left _ _ h))
@@ -71,7 +71,7 @@ returns-clause-never_true g c h =
     let KeptIn : ValidationMode → ValidationMode → Type 0 = λ k m.
     SurveyIsKeptIn k (basis_by meaning validator m) t s in
     let kept = c.in_ok-survey.ensures in
-    impossible_is_never_true c.args.mode (basis_in c.args.mode meaning validator) t refl s
+    impossible_is_never_true c.args.mode (sound_basis c.args.mode meaning validator) t refl s
     (subst (KeptIn ValidationMode.Strict) c.from.ensures kept.kept)
     (subst (KeptIn ValidationMode.Permissive) c.from.ensures kept.kept_in_permissive)
     (sym c.in_ok-findings.ensures.impossible ∙ h)
@@ -84,5 +84,5 @@ returns-clause-level g c =
     let s = c.in_ok-survey.survey in
     let P : ValidationMode → Type 0 = λ m. IsSurveyOf (basis_by meaning validator m) t s in
     let survey = subst P c.from.ensures c.in_ok-survey.ensures.exact in
-    let b = basis_in c.args.mode meaning validator in
+    let b = sound_basis c.args.mode meaning validator in
     subst (IsRequiredLevel b t) (sym c.in_ok-findings.ensures.level) survey.required

@@ -12,5 +12,5 @@ decreases-record l = l.left
 abbrev pub decreases-named_type : goal.decreases-named_type
 decreases-named_type l = l.left
 
-abbrev pub decreases-aliased : goal.decreases-aliased
-decreases-aliased l = l.left
+abbrev pub decreases-expand_alias : goal.decreases-expand_alias
+decreases-expand_alias l = l.left

@@ -4,7 +4,7 @@ use crate::findings::{Requirement, Verdict};
 /// How many policies were read, accepted and refused, how many warnings and faults there are, and what all policies need together
 /// whose level is known.
 #[derive(Clone, Copy, Default)]
-pub struct Tally {
+pub struct Totals {
     pub policies: u64,
     pub accepted: u64,
     pub refused: u64,
@@ -34,7 +34,7 @@ impl DataTally {
     }
 }
 
-impl Tally {
+impl Totals {
     /// Counts a policy.
     pub fn add(&mut self, verdict: &Verdict) {
         self.policies = self.policies.saturating_add(1);
@@ -44,7 +44,7 @@ impl Tally {
             self.refused = self.refused.saturating_add(1);
         }
         self.warnings = self.warnings.saturating_add(verdict.warnings);
-        self.requirement = self.requirement.joined(verdict.requirement);
+        self.requirement = self.requirement.join(verdict.requirement);
     }
 
     /// Counts a fault.

@@ -1,5 +1,5 @@
 #!/usr/bin/env python3
-"""What cedar-validate takes for each policy of a large file: scripts/validation_speed.py [PROGRAM].
+"""What cedar-validate takes for each policy of a large file: scripts/policy_speed.py [PROGRAM].
 
 PROGRAM is cedar_validate, by default the one that rt ci built. The policies are about one action each of a schema with 300
 actions, and then with 3,000, and each has a condition, most accepted and some refused. Instructions are counted by valgrind

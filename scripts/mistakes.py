@@ -1,4 +1,4 @@
-"""What cedar-validate says against mistakes in conditions, and what may help: the data of scripts/validations.py."""
+"""What cedar-validate says against mistakes in conditions, and what may help: the data of scripts/application_cases.py."""
 
 # A schema, conditions, and what is said against each: the texts of its errors, with what may help.
 HINT_SCHEMA = """entity Job enum ["internal", "external"];

@@ -1,5 +1,5 @@
 #!/usr/bin/env python3
-"""What cedar-validate says and how it ends: scripts/validations.py [PROGRAM].
+"""What cedar-validate says and how it ends: scripts/application_cases.py [PROGRAM].
 
 PROGRAM is cedar_validate, by default the one that rt ci built. It is called with words that are right and wrong, and given
 texts that are large, deep or broken: each has to end in time with the status and the words that are wanted. Then each file
@@ -22,7 +22,7 @@ from pathlib import Path
 
 import validate
 from validation_data import DATA, DATA_SCHEMA, GOOD_ENTITIES, GOOD_REQUEST
-from validation_hints import HINT_SCHEMA, HINTS
+from mistakes import HINT_SCHEMA, HINTS
 from validation_json import RUNS, TEAM, TEN, TEN_TALLY
 
 TOP = Path(__file__).resolve().parent.parent
@@ -262,10 +262,10 @@ def json_differs(program, words, files, status, wanted):
             else:
                 written(Path(room, name), text)
         done = subprocess.run([str(program), *words], cwd=room, input=given, capture_output=True, timeout=SECONDS)
-    said = [line for line in done.stdout.decode().splitlines() if not line.startswith("  ")]
-    if done.returncode == status and said == [with_places(line, places) for line in wanted]:
+    printed = [line for line in done.stdout.decode().splitlines() if not line.startswith("  ")]
+    if done.returncode == status and printed == [with_places(line, places) for line in wanted]:
         return None
-    return f"status {done.returncode}: {said} {done.stderr.decode()}"[:2000]
+    return f"status {done.returncode}: {printed} {done.stderr.decode()}"[:2000]
 
 
 def json_runs(program):
@@ -274,11 +274,11 @@ def json_runs(program):
         yield (words, wanted), json_differs(program, words, files, status, wanted)
     # ten policies by id, each on a line: what is said of one stands at its line, or at the mark in it
     lines, wanted = [], []
-    for number, (own, policy, said) in enumerate(TEN, 2):
+    for number, (own, policy, printed) in enumerate(TEN, 2):
         policy, found = placed(f' "{own}": {policy}')
         lines.append(policy)
         at = found.get("@0", "1:1").split(":")[1]
-        wanted += [it.replace("#:", f"p:{number}:2:").replace("@:", f"p:{number}:{at}:") for it in said]
+        wanted += [it.replace("#:", f"p:{number}:2:").replace("@:", f"p:{number}:{at}:") for it in printed]
     yield "ten policies", json_differs(program, ["s", "p"], {"s": TEAM, "p": "{\n" + ",\n".join(lines) + "\n}"}, 1, [*wanted, TEN_TALLY])
 
 
@@ -291,8 +291,8 @@ def hints_differ(program):
         done = subprocess.run([str(program), "s", "p"], cwd=room, stdin=subprocess.DEVNULL, capture_output=True, text=True, timeout=SECONDS)
     for number, (condition, wanted) in enumerate(HINTS, 1):
         found = [line.split(": ", 2)[1:] for line in done.stdout.splitlines() if line.startswith(f"p:{number}:")]
-        said = [it[1] for it in found if it[0] in ("error", "warning")]
-        yield condition, None if said == wanted else said
+        printed = [it[1] for it in found if it[0] in ("error", "warning")]
+        yield condition, None if printed == wanted else printed
 
 
 def many_types_differ(program):
@@ -339,8 +339,8 @@ def data_differs(program):
                     words += [option, name]
             written(Path(room, "s"), DATA_SCHEMA)
             done = subprocess.run([*words, "s"], cwd=room, stdin=subprocess.DEVNULL, capture_output=True, text=True, timeout=SECONDS)
-        said = [line for line in done.stdout.splitlines() if line.startswith(("e:", "q:", "policies:"))]
-        is_right = done.returncode == status and said == wanted
+        printed = [line for line in done.stdout.splitlines() if line.startswith(("e:", "q:", "policies:"))]
+        is_right = done.returncode == status and printed == wanted
         yield f"{wanted[0]}", None if is_right else f"status {done.returncode}: {done.stdout[:3000]}{done.stderr}"
 
 
@@ -398,7 +398,7 @@ def rows(path):
     return schema, [dict(zip(names, line.split("\t"))) for line in lines[2:]]
 
 
-def said(program, schema, policies, options):
+def validate_cases(program, schema, policies, options):
     """What the program says of each policy: its object, and the objects of its errors."""
     with tempfile.TemporaryDirectory() as room:
         text = Path(room, "policies.cedar")
@@ -477,8 +477,8 @@ def ended(program, room, words, status, wanted, is_in_lines):
     except subprocess.TimeoutExpired:
         return f"no end in {SECONDS} s"
     text = (done.stdout or done.stderr).decode("utf8")
-    said = [line[:300] for line in text.splitlines()] if is_in_lines else [text]
-    if done.returncode == status and any(it.startswith(wanted) for it in said):
+    printed = [line[:300] for line in text.splitlines()] if is_in_lines else [text]
+    if done.returncode == status and any(it.startswith(wanted) for it in printed):
         return None
     return f"status {done.returncode}: {text[:500]}"
 
@@ -514,9 +514,9 @@ def shown_runs():
 def differs(program, words, shown):
     """What a run writes, where that is not what is shown; else None."""
     done = subprocess.run([str(program), *words], cwd=TOP, stdin=subprocess.DEVNULL, capture_output=True, text=True, timeout=SECONDS)
-    said = done.stdout.splitlines()
-    agrees_so_far = shown[-1:] == [".."] and said[:len(shown) - 1] == shown[:-1]
-    return None if said == shown or agrees_so_far else done.stdout
+    printed = done.stdout.splitlines()
+    agrees_so_far = shown[-1:] == [".."] and printed[:len(shown) - 1] == shown[:-1]
+    return None if printed == shown or agrees_so_far else done.stdout
 
 
 def copies_differ():
@@ -593,7 +593,7 @@ def main(words):
             asked = options_of(column)
             if asked is None:
                 continue
-            found = said(program, schema, [case["policy"] for case in cases], asked[0])
+            found = validate_cases(program, schema, [case["policy"] for case in cases], asked[0])
             for case, said_of in zip(cases, found):
                 if agrees(case, column, asked[1], said_of):
                     passed += 1

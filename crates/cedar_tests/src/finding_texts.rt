@@ -1,5 +1,5 @@
 // What each error and each warning says of texts, odd ones too.
-use crate::findings::{KINDS, PLAIN, applied, impossible};
+use crate::findings::{KINDS, PLAIN, application_warning, impossible};
 use crate::kinds::{Fields, Kind, error};
 use cedar_types::base::ValidationWarning;
 use std::alloc::{AllocError, Global};
@@ -19,17 +19,17 @@ const ODD: [&str; 8] = [
 ];
 
 /// What is said of fields: each text as it is, save that in an id a quote and a backslash stand behind a backslash.
-fn said(alloc: Global, text: &str, fields: Fields<'_>) -> Result<String, AllocError> {
+fn expected_text(alloc: Global, text: &str, fields: Fields<'_>) -> Result<String, AllocError> {
     let id = fields.second.replace(alloc, '\\', "\\\\")?;
     let id = id.replace(alloc, '"', "\\\"")?;
-    let said = text.replace(alloc, "FIRST", fields.first)?;
-    let said = said.replace(alloc, "SECOND", fields.second)?;
-    let said = said.replace(alloc, "ID", id.as_str())?;
+    let message = text.replace(alloc, "FIRST", fields.first)?;
+    let message = message.replace(alloc, "SECOND", fields.second)?;
+    let message = message.replace(alloc, "ID", id.as_str())?;
     let policy = fields.policy;
-    format!(in alloc; "for policy `{policy}`, {said}")
+    format!(in alloc; "for policy `{policy}`, {message}")
 }
 
-fn shown(alloc: Global, kind: Kind, fields: Fields<'_>) -> Result<String, AllocError> {
+fn render(alloc: Global, kind: Kind, fields: Fields<'_>) -> Result<String, AllocError> {
     error(alloc, kind, fields)?.to_string(alloc)
 }
 
@@ -44,8 +44,8 @@ fn all_say(alloc: Global, fields: Fields<'_>) -> Result<bool, AllocError> {
 
 /// Whether an error of this kind says this of the fields.
 fn says(alloc: Global, kind: Kind, text: &str, fields: Fields<'_>) -> Result<bool, AllocError> {
-    let shown = shown(alloc, kind, fields)?;
-    Ok(shown == said(alloc, text, fields)?)
+    let shown = render(alloc, kind, fields)?;
+    Ok(shown == expected_text(alloc, text, fields)?)
 }
 
 /// Whether each kind says it of this text, wherever that stands.
@@ -77,7 +77,7 @@ const NOT_APPLICABLE: &str =
 const IMPOSSIBLE: &str = "policy is impossible: it evaluates to false for every valid request";
 
 /// Whether this is said of the policy of this id.
-fn is_said_of(
+fn is_text_of(
     alloc: Global,
     warning: &ValidationWarning,
     odd: &str,
@@ -93,8 +93,13 @@ fn both_warn(alloc: Global, odd: &str) -> Result<bool, AllocError> {
         policy: odd,
         ..PLAIN
     };
-    let of_action = is_said_of(alloc, &applied(alloc, fields)?, odd, NOT_APPLICABLE)?;
-    Ok(is_said_of(alloc, &impossible(alloc, fields)?, odd, IMPOSSIBLE)? && of_action)
+    let of_action = is_text_of(
+        alloc,
+        &application_warning(alloc, fields)?,
+        odd,
+        NOT_APPLICABLE,
+    )?;
+    Ok(is_text_of(alloc, &impossible(alloc, fields)?, odd, IMPOSSIBLE)? && of_action)
 }
 
 #[test]
