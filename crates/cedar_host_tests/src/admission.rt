@@ -10,7 +10,7 @@ use cedar_host::admission::{
 };
 use cedar_host::policy_sets::WrittenPolicy;
 use cedar_host::safety::SoundMode;
-use cedar_host::slices::validate_for_slices;
+use cedar_host::slices::{SliceReport, validate_for_slices};
 use cedar_typechecker::rbac::Validator;
 use cedar_types::base::{
     Effect, EntityType, EntityUID, ExtensionSchemas, Name, SchemaError, SlotEnv, Template,
@@ -70,6 +70,26 @@ fn written(alloc: Global, template: Template) -> Result<WrittenPolicy, AllocErro
     })
 }
 
+/// This policy alone.
+fn only(alloc: Global, template: Template) -> Result<Vec<WrittenPolicy>, AllocError> {
+    let policy = written(alloc, template)?;
+    Ok(vec![in alloc; policy]?)
+}
+
+/// The reports, each with these slots.
+fn linked_to<'a>(
+    alloc: Global,
+    reports: &'a [SliceReport<'a>],
+    values: &'a SlotEnv,
+) -> Result<Vec<LinkedReport<'a>>, AllocError> {
+    let mut linked = Vec::new(alloc);
+    for it in reports {
+        let report = &it.report;
+        linked.push(LinkedReport { report, values })?;
+    }
+    Ok(linked)
+}
+
 /// What is answered of one policy that was validated for slices of one step, in a view by this principal.
 fn admitted(
     alloc: Global,
@@ -78,16 +98,10 @@ fn admitted(
 ) -> Result<Result<(), AdmissionFault>, SchemaError> {
     let extensions = ExtensionSchemas::default(alloc);
     let validator = Validator::new(documents(alloc)?, &extensions);
-    let policies = vec![in alloc; written(alloc, template)?]?;
+    let policies = only(alloc, template)?;
     let reports = validate_for_slices(alloc, &validator, SoundMode::Strict, 1, &policies)?;
     let values: SlotEnv = BTreeMap::new(alloc);
-    let mut linked = Vec::new(alloc);
-    for it in &reports {
-        linked.push(LinkedReport {
-            report: &it.report,
-            values: &values,
-        })?;
-    }
+    let linked = linked_to(alloc, &reports, &values)?;
     let request = view_by(alloc, principal)?;
     let schema = validator.schema();
     Ok(admit(alloc, schema, &linked, &request, &entities(alloc)?)?)
