@@ -4,8 +4,9 @@ use crate::outcomes::{Outcome, finish};
 use crate::refusals::refuse;
 use crate::samples::texts::{entities, entity_type, uid};
 use cedar_reading::{Notation, schema_declarations};
-use cedar_types::base::{EntityKind, SchemaError, ValidatorSchema};
+use cedar_types::base::{EntityKind, EnumChoices, SchemaError, ValidatorSchema};
 use std::alloc::{AllocError, Global};
+use std::rc::RcStr;
 
 /// Makes the schema of these declarations. The answer is that, or its fault.
 fn make_schema(alloc: Global, text: &str, number: u16) -> Result<Outcome, AllocError> {
@@ -25,10 +26,19 @@ fn make_schema(alloc: Global, text: &str, number: u16) -> Result<Outcome, AllocE
     finish(alloc, made, &())
 }
 
+/// Makes the ids of an enumerated type that has this one alone.
+fn make_choices(alloc: Global, text: &str, number: u16) -> Result<Outcome, AllocError> {
+    let id = RcStr::from_str(alloc, text)?;
+    let ids = vec![in alloc; id]?;
+    refuse(alloc, number);
+    finish(alloc, EnumChoices::new(alloc, ids), &())
+}
+
 /// What is asked of a schema.
 #[derive(Clone, Copy)]
 pub enum OfSchema {
     New,
+    Choices,
     Types,
     TypeNames,
     Actions,
@@ -57,7 +67,7 @@ fn of_schema(
         OfSchema::TypesIn => finish(alloc, schema.get_entity_types_in(alloc, &group), schema),
         OfSchema::ActionsIn => { finish(alloc, schema.get_actions_in_set(alloc, &actions), schema) }
         OfSchema::Tags => finish(alloc, schema.tag_types(alloc, &tagged), schema),
-        OfSchema::New | OfSchema::TagsOfAny => {
+        OfSchema::New | OfSchema::Choices | OfSchema::TagsOfAny => {
             finish(
                 alloc,
                 schema.tag_types(alloc, &EntityKind::AnyEntity),
@@ -77,6 +87,7 @@ impl Probe for OfSchema {
     ) -> Result<Outcome, AllocError> {
         match self {
             OfSchema::New => make_schema(alloc, text, number),
+            OfSchema::Choices => make_choices(alloc, text, number),
             _ => of_schema(alloc, self, basis.validator.schema(), text, number),
         }
     }
@@ -95,7 +106,7 @@ action view appliesTo { principal: User, resource: [Photo, User], context: { sin
 "#;
 
 /// What is made of declarations, and asked of a schema.
-pub const SCHEMAS: [(OfSchema, &str); 8] = [
+pub const SCHEMAS: [(OfSchema, &str); 9] = [
     (
         OfSchema::New,
         r#"
@@ -106,6 +117,7 @@ ValidatorSchema::new, of open descendants | DescendantsNotClosed | entity A abov
 ValidatorSchema::new, of an empty type | NotAnActionType | entity A enum []; action User::"a";
 "#,
     ),
+    (OfSchema::Choices, "EnumChoices::new | red | red"),
     (
         OfSchema::Types,
         r#"ValidatorSchema::entity_types | Color | Action::"all""#,
