@@ -51,7 +51,7 @@ pub data Slip : Type 0 where
   invalid_action_application : Bool → Bool → Slip
 
 -- a warning: where it stands, in which policy, and what is likely a slip
-pub record Caution : Type 0 where
+pub record Warning : Type 0 where
   pub place : Option Loc
   pub policy : Text
   pub slip : Slip
@@ -61,7 +61,7 @@ abbrev pub found : Option Loc → PolicyID → Fault → Finding
 found l p f = record { place = l; policy = text_of p.text; fault = f }
 
 -- what is likely a slip, with its place and policy
-abbrev pub noted : Option Loc → PolicyID → Slip → Caution
+abbrev pub noted : Option Loc → PolicyID → Slip → Warning
 noted l p s = record { place = l; policy = text_of p.text; slip = s }
 
 abbrev pub finding_of : ValidationError → Finding
@@ -101,8 +101,8 @@ finding_of (error.MaximumLevelExceeded e) =
 finding_of (error.LiteralDereferenceTarget e) =
     found e.source_loc e.policy_id literal_dereference_target
 
-abbrev pub caution_of : ValidationWarning → Caution
-caution_of (warning.ImpossiblePolicy w) = noted w.source_loc w.policy_id impossible_policy
-caution_of (warning.InvalidActionApplication w) =
+abbrev pub warning_of : ValidationWarning → Warning
+warning_of (warning.ImpossiblePolicy w) = noted w.source_loc w.policy_id impossible_policy
+warning_of (warning.InvalidActionApplication w) =
     noted w.source_loc w.policy_id
     (invalid_action_application w.would_in_fix_principal w.would_in_fix_resource)

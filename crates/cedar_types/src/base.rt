@@ -14,7 +14,7 @@ mod types;
 pub use errors::{
     EmptySetForbidden, FunctionArgumentValidation, ImpossiblePolicy, IncompatibleTypes,
     InternalInvariantViolation, InvalidActionApplication, InvalidEnumEntity,
-    LiteralDereferenceTarget, LubContext, MaximumLevelExceeded, NoTagsAllowed,
+    LiteralDereferenceTarget, LubContext, MaximumLevelExceeded, Message, NoTagsAllowed,
     NonLitExtConstructor, UndefinedFunction, UnexpectedType, UnrecognizedActionId,
     UnrecognizedEntityType, UnsafeAttributeAccess, UnsafeOptionalAttributeAccess, UnsafeTagAccess,
     ValidationError, ValidationWarning, WrongNumberArguments,

@@ -21,9 +21,9 @@ use Rattle.cedar_types.specs.Types.{ty_of, lub_of}
 use Rattle.cedar_types.specs.Names.Comparisons.{bool_eq}
 use Rattle.cedar_types.specs.ErrorOrder.{error_cmp}
 use Rattle.cedar_types.specs.Lemmas.Comparisons.{name_is, entity_type_is, uid_is}
-use Rattle.cedar_types.specs.Errors.{finding_of, caution_of}
+use Rattle.cedar_types.specs.Errors.{finding_of, warning_of}
 use Rattle.cedar_types.proofs.Comparisons.Types.{types_same}
-use Rattle.cedar_types.proofs.Comparisons.ErrorsDecided.{loc_eq, context_eq, tys_eq, paths_eq, finding_eq, caution_eq}
+use Rattle.cedar_types.proofs.Comparisons.ErrorsDecided.{loc_eq, context_eq, tys_eq, paths_eq, finding_eq, warning_eq}
 
 types_are : (xs ys : List CedarType) → pointwise type_impl.ghosts.eq xs ys ≡ tys_eq (map ty_of xs) (map ty_of ys)
 types_are [] [] = refl
@@ -118,11 +118,11 @@ error_is x y = and_false (option_eq loc_eq (finding_of x).place (finding_of y).p
 pub tie_is : (x y : ValidationError) → is_eq (error_cmp x y) ≡ finding_eq (finding_of x) (finding_of y)
 tie_is x y = sym (error_ord_laws.matches_eq-law x y) ∙ error_is x y
 
-pub warning_is : (x y : ValidationWarning) → warning_impl.ghosts.eq x y ≡ caution_eq (caution_of x) (caution_of y)
+pub warning_is : (x y : ValidationWarning) → warning_impl.ghosts.eq x y ≡ warning_eq (warning_of x) (warning_of y)
 warning_is (warning.ImpossiblePolicy x) (warning.ImpossiblePolicy y) =
     λ i. option_eq loc_eq x.source_loc y.source_loc
     && and_true (text_eq (text_of x.policy_id.text) (text_of y.policy_id.text)) i
 warning_is (warning.InvalidActionApplication x) (warning.InvalidActionApplication y) = refl
 warning_is x y =
-    and_false (option_eq loc_eq (caution_of x).place (caution_of y).place)
-    (text_eq (caution_of x).policy (caution_of y).policy)
+    and_false (option_eq loc_eq (warning_of x).place (warning_of y).place)
+    (text_eq (warning_of x).policy (warning_of y).policy)

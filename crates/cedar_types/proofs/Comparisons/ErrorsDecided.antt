@@ -16,7 +16,7 @@ use Rattle.cedar_types.specs.Errors.{Fault, unrecognized_entity_type, unrecogniz
 use Rattle.cedar_types.specs.Errors.{incompatible_types, unsafe_attribute_access, unsafe_optional_attribute_access, unsafe_tag_access}
 use Rattle.cedar_types.specs.Errors.{no_tags_allowed, undefined_function, wrong_number_arguments, function_argument_validation}
 use Rattle.cedar_types.specs.Errors.{empty_set_forbidden, non_lit_ext_constructor, internal_invariant_violation, maximum_level_exceeded}
-use Rattle.cedar_types.specs.Errors.{literal_dereference_target, Finding, Slip, impossible_policy, invalid_action_application, Caution}
+use Rattle.cedar_types.specs.Errors.{literal_dereference_target, Finding, Slip, impossible_policy, invalid_action_application, Warning}
 use Rattle.cedar_types.proofs.Comparisons.TypesDecided.{ty_same}
 
 -- ---- the parts of errors
@@ -105,8 +105,8 @@ slip_eq impossible_policy impossible_policy = true
 slip_eq (invalid_action_application p r) (invalid_action_application q s) = bool_eq p q && bool_eq r s
 slip_eq s t = false
 
-abbrev pub caution_eq : Caution → Caution → Bool
-caution_eq v w = option_eq loc_eq v.place w.place && (text_eq v.policy w.policy && slip_eq v.slip w.slip)
+abbrev pub warning_eq : Warning → Warning → Bool
+warning_eq v w = option_eq loc_eq v.place w.place && (text_eq v.policy w.policy && slip_eq v.slip w.slip)
 
 -- ---- these tests decide equality
 
@@ -195,8 +195,8 @@ slip_itself : (s : Slip) → slip_eq s s ≡ true
 slip_itself impossible_policy = refl
 slip_itself (invalid_action_application p r) = and_both (bool_eq p p) (bool_eq r r) (bool_same.itself p) (bool_same.itself r)
 
-pub caution_same : Same caution_eq
-caution_same = record {
+pub warning_same : Same warning_eq
+warning_same = record {
   to = λ v w h.
       let rest = and_right (option_eq loc_eq v.place w.place) (text_eq v.policy w.policy && slip_eq v.slip w.slip) h in
       λ i. record {
@@ -213,5 +213,5 @@ caution_same = record {
 pub finding_eq-Decides : (f g : Finding) → Decides (finding_eq f g) (f ≡ g)
 finding_eq-Decides f g = (finding_same.to f g, λ e. subst (λ h. finding_eq f h ≡ true) e (finding_same.itself f))
 
-pub caution_eq-Decides : (v w : Caution) → Decides (caution_eq v w) (v ≡ w)
-caution_eq-Decides v w = (caution_same.to v w, λ e. subst (λ u. caution_eq v u ≡ true) e (caution_same.itself v))
+pub warning_eq-Decides : (v w : Warning) → Decides (warning_eq v w) (v ≡ w)
+warning_eq-Decides v w = (warning_same.to v w, λ e. subst (λ u. warning_eq v u ≡ true) e (warning_same.itself v))

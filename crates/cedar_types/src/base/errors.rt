@@ -2,6 +2,7 @@
 mod access_errors;
 mod call_errors;
 mod level_errors;
+mod messages;
 mod shown_types;
 mod type_errors;
 mod unknown_names;
@@ -17,6 +18,7 @@ pub use call_errors::{
 pub use level_errors::{
     InternalInvariantViolation, LiteralDereferenceTarget, MaximumLevelExceeded,
 };
+pub use messages::Message;
 pub use type_errors::{EmptySetForbidden, IncompatibleTypes, LubContext, UnexpectedType};
 pub use unknown_names::{InvalidEnumEntity, UnrecognizedActionId, UnrecognizedEntityType};
 pub use validation_errors::ValidationError;

@@ -125,7 +125,7 @@ impl Drop for CedarType {
 
 impl CedarType {
     ghost use Rattle.std.specs.Prelude.{IfOk, IfErr};
-    ghost use Rattle.cedar_types.specs.Types.{ty_of, lub_of, TEntity};
+    ghost use Rattle.cedar_types.specs.Types.{ty_of, lub_of, TEntity, TSet};
 
     /// The type of the entities of these types.
     pub(crate) fn of_entity_types(types: EntityLUB) -> CedarType
@@ -142,6 +142,17 @@ impl CedarType {
     {
         match self {
             CedarType::Entity(EntityKind::Entity(types)) => Ok(types),
+            other => Err(other),
+        }
+    }
+
+    /// The type of the members, if this is a set's type that names one, or else the type itself.
+    pub(crate) fn into_element(self) -> Result<Rc<CedarType>, CedarType>
+        ensures element { IfOk result (λ t. ty_of self ≡ TSet (ty_of t.value)) }
+        ensures other { IfErr result (λ t. t ≡ self) }
+    {
+        match self {
+            CedarType::Set(element) => Ok(element),
             other => Err(other),
         }
     }

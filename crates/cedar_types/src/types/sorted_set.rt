@@ -11,7 +11,7 @@ use std::collections::BTreeSet;
 use std::marker::Model;
 
 /// From how many times as many entries on a set is much larger: it is cheaper to look up the place of each entry of the other.
-const MUCH: usize = 8;
+const MERGE_RATIO: usize = 8;
 
 /// Up to how many entries are put in their places one after another: each moves what stands above it.
 const FEW: usize = 64;
@@ -103,7 +103,7 @@ impl<T: Entry + Drop> SortedSet<T> {
     fn with_fewer(self, other: SortedSet<T>) -> Result<SortedSet<T>, AllocError>
         ensures { IfOk result (λ r. HasEither T.cmp self other r) }
     {
-        if other.entries.len() <= FEW && other.entries.len() <= self.entries.len() / MUCH {
+        if other.entries.len() <= FEW && other.entries.len() <= self.entries.len() / MERGE_RATIO {
             return self.with_all(other);
         }
         let entries = merged(self.entries, other.entries)?;

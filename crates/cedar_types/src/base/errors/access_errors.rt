@@ -1,5 +1,5 @@
 // Attributes and tags that may not be there.
-use crate::base::errors::shown_types::OrAnyEntity;
+use crate::base::errors::messages::Message;
 use crate::base::errors::validation_errors::ValidationError;
 use crate::base::location::Loc;
 use crate::base::names::entities::EntityType;
@@ -11,7 +11,7 @@ use thiserror::Error;
 
 /// An attribute is read that the type of its base does not declare.
 #[derive(PartialEq, Eq, PartialOrd, Ord, Hash, Debug, Drop, Error)]
-#[error("for policy `{policy_id}`, attribute `{attr}` {0} `{accessed_type}`", self.what_is_wrong())]
+#[error("for policy `{policy_id}`, {0}", Message(self))]
 pub struct UnsafeAttributeAccess {
     pub source_loc: Option<Loc>,
     pub policy_id: PolicyID,
@@ -22,7 +22,8 @@ pub struct UnsafeAttributeAccess {
 }
 
 impl UnsafeAttributeAccess {
-    fn what_is_wrong(&self) -> &'static str {
+    /// What is wrong between the attribute and the type.
+    pub(crate) fn what_is_wrong(&self) -> &'static str {
         if self.may_exist {
             "may be absent from"
         } else {
@@ -33,7 +34,7 @@ impl UnsafeAttributeAccess {
 
 /// An optional attribute is read without a test that it is there.
 #[derive(PartialEq, Eq, PartialOrd, Ord, Hash, Debug, Drop, Error)]
-#[error("for policy `{policy_id}`, access to optional attribute `{attr}` on `{accessed_type}` is not guarded")]
+#[error("for policy `{policy_id}`, {0}", Message(self))]
 pub struct UnsafeOptionalAttributeAccess {
     pub source_loc: Option<Loc>,
     pub policy_id: PolicyID,
@@ -43,7 +44,7 @@ pub struct UnsafeOptionalAttributeAccess {
 
 /// A tag is read without a test that it is there.
 #[derive(PartialEq, Eq, PartialOrd, Ord, Hash, Debug, Drop, Error)]
-#[error("for policy `{policy_id}`, access to a tag of `{entity_ty}` is not guarded", entity_ty = OrAnyEntity(.entity_ty))]
+#[error("for policy `{policy_id}`, {0}", Message(self))]
 pub struct UnsafeTagAccess {
     pub source_loc: Option<Loc>,
     pub policy_id: PolicyID,
@@ -53,7 +54,7 @@ pub struct UnsafeTagAccess {
 
 /// A tag is read of an entity whose types declare no tags.
 #[derive(PartialEq, Eq, PartialOrd, Ord, Hash, Debug, Drop, Error)]
-#[error("for policy `{policy_id}`, tags are not allowed on `{entity_ty}`", entity_ty = OrAnyEntity(.entity_ty))]
+#[error("for policy `{policy_id}`, {0}", Message(self))]
 pub struct NoTagsAllowed {
     pub source_loc: Option<Loc>,
     pub policy_id: PolicyID,

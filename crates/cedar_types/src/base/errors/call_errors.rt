@@ -1,4 +1,5 @@
 // Calls of extension functions.
+use crate::base::errors::messages::Message;
 use crate::base::errors::validation_errors::ValidationError;
 use crate::base::location::Loc;
 use crate::base::names::Name;
@@ -8,7 +9,7 @@ use thiserror::Error;
 
 /// A function is called that the table of extension functions does not have.
 #[derive(PartialEq, Eq, PartialOrd, Ord, Hash, Debug, Drop, Error)]
-#[error("for policy `{policy_id}`, undefined extension function `{name}`")]
+#[error("for policy `{policy_id}`, {0}", Message(self))]
 pub struct UndefinedFunction {
     pub source_loc: Option<Loc>,
     pub policy_id: PolicyID,
@@ -17,7 +18,7 @@ pub struct UndefinedFunction {
 
 /// A function is called with too few or too many arguments.
 #[derive(PartialEq, Eq, PartialOrd, Ord, Hash, Debug, Drop, Error)]
-#[error("for policy `{policy_id}`, wrong number of arguments: expected {expected}, got {actual}")]
+#[error("for policy `{policy_id}`, {0}", Message(self))]
 pub struct WrongNumberArguments {
     pub source_loc: Option<Loc>,
     pub policy_id: PolicyID,
@@ -27,7 +28,7 @@ pub struct WrongNumberArguments {
 
 /// The check of a function refused its arguments.
 #[derive(PartialEq, Eq, PartialOrd, Ord, Hash, Debug, Drop, Error)]
-#[error("for policy `{policy_id}`, invalid argument: {msg}")]
+#[error("for policy `{policy_id}`, {0}", Message(self))]
 pub struct FunctionArgumentValidation {
     pub source_loc: Option<Loc>,
     pub policy_id: PolicyID,
@@ -36,7 +37,7 @@ pub struct FunctionArgumentValidation {
 
 /// A function that has a check is called with an argument that is no literal, in Strict.
 #[derive(PartialEq, Eq, PartialOrd, Ord, Hash, Debug, Drop, Error)]
-#[error("for policy `{policy_id}`, extension constructors take literals alone")]
+#[error("for policy `{policy_id}`, {0}", Message(self))]
 pub struct NonLitExtConstructor {
     pub source_loc: Option<Loc>,
     pub policy_id: PolicyID,

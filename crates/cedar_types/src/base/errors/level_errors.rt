@@ -1,4 +1,5 @@
 // Dereferences beyond a level, and what should not happen.
+use crate::base::errors::messages::Message;
 use crate::base::errors::validation_errors::ValidationError;
 use crate::base::levels::EntityDerefLevel;
 use crate::base::location::Loc;
@@ -7,7 +8,7 @@ use thiserror::Error;
 
 /// A policy dereferences entities at a level above the allowed one.
 #[derive(PartialEq, Eq, PartialOrd, Ord, Hash, Debug, Drop, Error)]
-#[error("for policy `{policy_id}`, this policy requires level {actual_level}, which exceeds the maximum allowed level ({allowed_level})")]
+#[error("for policy `{policy_id}`, {0}", Message(self))]
 pub struct MaximumLevelExceeded {
     pub source_loc: Option<Loc>,
     pub policy_id: PolicyID,
@@ -17,7 +18,7 @@ pub struct MaximumLevelExceeded {
 
 /// A policy dereferences an entity literal or a slot.
 #[derive(PartialEq, Eq, PartialOrd, Ord, Hash, Debug, Drop, Error)]
-#[error("for policy `{policy_id}`, entity literals cannot be dereferenced at any level")]
+#[error("for policy `{policy_id}`, {0}", Message(self))]
 pub struct LiteralDereferenceTarget {
     pub source_loc: Option<Loc>,
     pub policy_id: PolicyID,
@@ -26,7 +27,7 @@ pub struct LiteralDereferenceTarget {
 /// A form was met that has no rule. Typing reports it of `hasTag` and `getTag` on what is Never, which comes up in
 /// Partial alone; the level pass will, on a base that is neither an entity of known types nor a record.
 #[derive(PartialEq, Eq, PartialOrd, Ord, Hash, Debug, Drop, Error)]
-#[error("for policy `{policy_id}`, internal invariant violated")]
+#[error("for policy `{policy_id}`, {0}", Message(self))]
 pub struct InternalInvariantViolation {
     pub source_loc: Option<Loc>,
     pub policy_id: PolicyID,

@@ -1,5 +1,5 @@
 // Types that are not the wanted ones, or have no bound.
-use crate::base::errors::shown_types::QuotedTypes;
+use crate::base::errors::messages::Message;
 use crate::base::errors::validation_errors::ValidationError;
 use crate::base::location::Loc;
 use crate::base::names::policy_ids::PolicyID;
@@ -9,7 +9,7 @@ use thiserror::Error;
 
 /// An expression has a type that is a subtype of none of the expected ones.
 #[derive(PartialEq, Eq, PartialOrd, Ord, Hash, Debug, Drop, Error)]
-#[error("for policy `{policy_id}`, unexpected type: expected {expected} but saw `{actual}`", expected = QuotedTypes {types: .expected, between: " or "})]
+#[error("for policy `{policy_id}`, {0}", Message(self))]
 pub struct UnexpectedType {
     pub source_loc: Option<Loc>,
     pub policy_id: PolicyID,
@@ -36,7 +36,7 @@ pub enum LubContext {
 
 /// Some types have no least upper bound.
 #[derive(PartialEq, Eq, PartialOrd, Ord, Hash, Debug, Drop, Error)]
-#[error("for policy `{policy_id}`, the types {types} are not compatible", types = QuotedTypes {types: .types, between: ", "})]
+#[error("for policy `{policy_id}`, {0}", Message(self))]
 pub struct IncompatibleTypes {
     pub source_loc: Option<Loc>,
     pub policy_id: PolicyID,
@@ -46,7 +46,7 @@ pub struct IncompatibleTypes {
 
 /// A set literal has no elements, in Strict.
 #[derive(PartialEq, Eq, PartialOrd, Ord, Hash, Debug, Drop, Error)]
-#[error("for policy `{policy_id}`, empty set literals are forbidden")]
+#[error("for policy `{policy_id}`, {0}", Message(self))]
 pub struct EmptySetForbidden {
     pub source_loc: Option<Loc>,
     pub policy_id: PolicyID,

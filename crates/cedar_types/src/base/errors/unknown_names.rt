@@ -1,4 +1,5 @@
 // Names of types, actions and entities that the schema does not have.
+use crate::base::errors::messages::Message;
 use crate::base::errors::validation_errors::ValidationError;
 use crate::base::location::Loc;
 use crate::base::names::entities::{EntityType, EntityUID};
@@ -7,7 +8,7 @@ use thiserror::Error;
 
 /// A policy names an entity type that the schema does not know.
 #[derive(PartialEq, Eq, PartialOrd, Ord, Hash, Debug, Drop, Error)]
-#[error("for policy `{policy_id}`, unrecognized entity type `{actual_entity_type}`")]
+#[error("for policy `{policy_id}`, {0}", Message(self))]
 pub struct UnrecognizedEntityType {
     pub source_loc: Option<Loc>,
     pub policy_id: PolicyID,
@@ -16,7 +17,7 @@ pub struct UnrecognizedEntityType {
 
 /// A policy names an action that the schema does not declare.
 #[derive(PartialEq, Eq, PartialOrd, Ord, Hash, Debug, Drop, Error)]
-#[error("for policy `{policy_id}`, unrecognized action `{actual_action_id}`")]
+#[error("for policy `{policy_id}`, {0}", Message(self))]
 pub struct UnrecognizedActionId {
     pub source_loc: Option<Loc>,
     pub policy_id: PolicyID,
@@ -25,7 +26,7 @@ pub struct UnrecognizedActionId {
 
 /// A policy names an id of an enumerated entity type that is not one of its members.
 #[derive(PartialEq, Eq, PartialOrd, Ord, Hash, Debug, Drop, Error)]
-#[error("for policy `{policy_id}`, entity `{uid}` is not a member of its enumerated type")]
+#[error("for policy `{policy_id}`, {0}", Message(self))]
 pub struct InvalidEnumEntity {
     pub source_loc: Option<Loc>,
     pub policy_id: PolicyID,

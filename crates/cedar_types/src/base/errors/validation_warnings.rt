@@ -1,11 +1,12 @@
 // Warnings of validation.
+use crate::base::errors::messages::Message;
 use crate::base::location::Loc;
 use crate::base::names::policy_ids::PolicyID;
 use thiserror::Error;
 
 /// A policy is false in every environment.
 #[derive(PartialEq, Eq, Hash, Debug, Drop, Error)]
-#[error("for policy `{policy_id}`, policy is impossible: it evaluates to false for every valid request")]
+#[error("for policy `{policy_id}`, {0}", Message(self))]
 pub struct ImpossiblePolicy {
     pub source_loc: Option<Loc>,
     pub policy_id: PolicyID,
@@ -13,7 +14,7 @@ pub struct ImpossiblePolicy {
 
 /// No action fits the scope of a policy.
 #[derive(PartialEq, Eq, Hash, Debug, Drop, Error)]
-#[error("for policy `{policy_id}`, unable to find an applicable action given the policy scope constraints")]
+#[error("for policy `{policy_id}`, {0}", Message(self))]
 pub struct InvalidActionApplication {
     pub source_loc: Option<Loc>,
     pub policy_id: PolicyID,
@@ -37,11 +38,11 @@ pub enum ValidationWarning {
 impl ValidationWarning {
     ghost use Rattle.std.specs.Prelude.{◌≡◌, IsTrue, ◌↔◌};
     ghost use Rattle.cedar_types.specs.Names.{text_of};
-    ghost use Rattle.cedar_types.specs.Errors.{caution_of, noted, impossible_policy, invalid_action_application};
+    ghost use Rattle.cedar_types.specs.Errors.{warning_of, noted, impossible_policy, invalid_action_application};
 
     /// The warning on a policy that is false in every environment.
     pub fn impossible_policy(source_loc: Option<Loc>, policy_id: PolicyID) -> ValidationWarning
-        ensures { caution_of result ≡ noted source_loc policy_id impossible_policy }
+        ensures { warning_of result ≡ noted source_loc policy_id impossible_policy }
     {
         ValidationWarning::ImpossiblePolicy(ImpossiblePolicy {
             source_loc,
@@ -56,7 +57,7 @@ impl ValidationWarning {
         would_in_fix_principal: bool,
         would_in_fix_resource: bool,
     ) -> ValidationWarning
-        ensures { caution_of result ≡ noted source_loc policy_id
+        ensures { warning_of result ≡ noted source_loc policy_id
             (invalid_action_application would_in_fix_principal would_in_fix_resource) }
     {
         ValidationWarning::InvalidActionApplication(InvalidActionApplication {
@@ -68,15 +69,15 @@ impl ValidationWarning {
     }
 
     /// Whether two warnings are one: the same at the same place of the same policy. It is what `==` says.
-    pub fn is_same_caution(&self, other: &ValidationWarning) -> bool
-        ensures { IsTrue result ↔ (caution_of self.now ≡ caution_of other.now) }
+    pub fn is_same_warning(&self, other: &ValidationWarning) -> bool
+        ensures { IsTrue result ↔ (warning_of self.now ≡ warning_of other.now) }
     {
         self == other
     }
 
     /// The place that the warning is about.
     pub fn source_loc(&self) -> Option<Loc>
-        ensures { result ≡ (caution_of self.now).place }
+        ensures { result ≡ (warning_of self.now).place }
     {
         match self {
             ValidationWarning::ImpossiblePolicy(w) => w.source_loc,
@@ -86,7 +87,7 @@ impl ValidationWarning {
 
     /// The id of the policy that the warning is about.
     pub fn policy_id(&self) -> &PolicyID
-        ensures { text_of result.now.text ≡ (caution_of self.now).policy }
+        ensures { text_of result.now.text ≡ (warning_of self.now).policy }
     {
         match self {
             ValidationWarning::ImpossiblePolicy(w) => &w.policy_id,

@@ -7,6 +7,7 @@ use crate::base::types::entity_sets::EntityLUB;
 use crate::base::types::flat_bounds::{is_same, is_strict};
 use crate::base::types::{CedarType, EntityKind, ValidationMode};
 use std::alloc::{AllocError, Global};
+use std::rc::Rc;
 
 impl CedarType {
     /// The bound of some types, folded from the first in the order given: Never if there are none.
@@ -81,7 +82,7 @@ fn fold_bound(
 {
     let mut bound = first.clone()?;
     for ty in rest {
-        let Some(next) = bound_with(alloc, bound, ty, mode)? else {
+        let Some(next) = bound_with(alloc, ty, bound, mode)? else {
             return Ok(None);
         };
         bound = next;
@@ -89,11 +90,36 @@ fn fold_bound(
     Ok(Some(bound))
 }
 
-/// The bound of two types, of which the first ends in it: some entity types that are held nowhere else take the others in.
+/// The bound of two types, of which the owned one ends in it: some entity types that are held nowhere else take the others in,
+/// and so do those of members of sets. The recursion goes down the other type, which therefore comes first.
 fn bound_with(
     alloc: Global,
-    bound: CedarType,
     ty: &CedarType,
+    bound: CedarType,
+    mode: ValidationMode,
+) -> Result<Option<CedarType>, AllocError>
+    ensures { IfOk result (λ o. option_map ty_of o ≡ lub mode (ty_of bound) (ty_of ty.now)) }
+{
+    match ty {
+        CedarType::Set(other) => match bound.into_element() {
+            Ok(element) => {
+                let mine = Rc::unwrap_or_clone(element)?;
+                match bound_with(alloc, other, mine, mode)? {
+                    Some(both) => Ok(Some(CedarType::set(alloc, both)?)),
+                    None => Ok(None),
+                }
+            }
+            Err(bound) => flat_bound_with(alloc, ty, bound, mode),
+        },
+        _ => flat_bound_with(alloc, ty, bound, mode),
+    }
+}
+
+/// The same of types that are not two sets.
+fn flat_bound_with(
+    alloc: Global,
+    ty: &CedarType,
+    bound: CedarType,
     mode: ValidationMode,
 ) -> Result<Option<CedarType>, AllocError>
     ensures { IfOk result (λ o. option_map ty_of o ≡ lub mode (ty_of bound) (ty_of ty.now)) }

@@ -2,7 +2,7 @@ use Rattle.std.proofs.Common.{Some, ap, sym, ◌∙◌}
 use Rattle.cedar_types.specs.Types.{TEntity, lub_of}
 use Rattle.cedar_types.specs.Types.Bounds.{lub}
 use Rattle.cedar_types.proofs.Bounds.Steps.{entity_wide}
-use Rattle.cedar_types.proofs.base.types.subtypes.bound_with.Goals as goal
+use Rattle.cedar_types.proofs.base.types.subtypes.flat_bound_with.Goals as goal
 
 pub returns-in_ok-all-in-Ok : goal.returns-in_ok-all-in-Ok
 unfolding lub_of
