@@ -3,7 +3,7 @@
 use Rattle.std.specs.Prelude.{◌≡◌, ◌↔◌, ℕ, Bool, true, List, [], None, Some}
 use Rattle.cedar_types.specs.declared.base.types.ValidationMode.{ValidationMode}
 use Rattle.cedar_types.specs.declared.base.types.ValidationMode.TheVariants.{Strict, Permissive, Partial}
-use Rattle.cedar_types.specs.Errors.{Finding, Caution}
+use Rattle.cedar_types.specs.Errors.{Finding, Warning}
 use Rattle.cedar_types.specs.Extensions.Functions.{ExtensionFunction, function_named, table_fault}
 use Rattle.cedar_types.specs.Environments.Linking.{checked_envs}
 use Rattle.cedar_types.specs.Environments.RequestEnvs.{Env, context_ty}
@@ -102,7 +102,7 @@ abbrev pub StrictVerdictsAreKept : Type 0
 StrictVerdictsAreKept =
     (b : Basis) (t : PlainTemplate)
     → has_formed_types b.schema ≡ true → table_fault b.table.functions ≡ None
-    → (errors errors' : List Finding) (old new : List Caution)
+    → (errors errors' : List Finding) (old new : List Warning)
     → CheckedOn (basis_in_mode Strict b) t true errors errors' old new → HasSameVerdicts b t
 
 -- and its check results in the same in both modes: the same answer, errors and warnings
@@ -110,9 +110,9 @@ abbrev pub StrictPolicyIsKept : Type 0
 StrictPolicyIsKept =
     (b : Basis) (t : PlainTemplate)
     → has_formed_types b.schema ≡ true → table_fault b.table.functions ≡ None
-    → (errors errors' : List Finding) (old new : List Caution)
+    → (errors errors' : List Finding) (old new : List Warning)
     → CheckedOn (basis_in_mode Strict b) t true errors errors' old new
-    → (answer : Bool) (found found' : List Finding) (before after : List Caution)
+    → (answer : Bool) (found found' : List Finding) (before after : List Warning)
     → CheckedOn (basis_in_mode Strict b) t answer found found' before after
     ↔ CheckedOn (basis_in_mode Permissive b) t answer found found' before after
 
@@ -121,8 +121,8 @@ abbrev pub StrictPassesInPermissive : Type 0
 StrictPassesInPermissive =
     (b : Basis) (t : PlainTemplate)
     → has_formed_types b.schema ≡ true → table_fault b.table.functions ≡ None
-    → (errors errors' : List Finding) (old new : List Caution)
+    → (errors errors' : List Finding) (old new : List Warning)
     → CheckedOn (basis_in_mode Strict b) t true errors errors' old new
-    → (answer : Bool) (found found' : List Finding) (before after : List Caution)
+    → (answer : Bool) (found found' : List Finding) (before after : List Warning)
     → CheckedOn (basis_in_mode Permissive b) t answer found found' before after
     → (answer ≡ true) × Adds found [] found'

@@ -5,7 +5,7 @@ use Rattle.std.specs.List.{list_any, flat_map}
 use Rattle.cedar_types.specs.declared.base.types.BoolType.TheVariants.{False}
 use Rattle.cedar_types.specs.declared.base.types.ValidationMode.{ValidationMode}
 use Rattle.cedar_types.specs.declared.base.types.ValidationMode.TheVariants.{Strict, Permissive}
-use Rattle.cedar_types.specs.Errors.{Finding, Caution}
+use Rattle.cedar_types.specs.Errors.{Finding, Warning}
 use Rattle.cedar_types.specs.Extensions.Functions.{table_fault}
 use Rattle.cedar_types.specs.Templates.Findings.{uids_named, types_named, is_unknown_type, is_unknown_action, unknown_types}
 use Rattle.cedar_types.specs.Templates.Findings.{unknown_actions}
@@ -157,7 +157,7 @@ IsDerivedIn s t env =
 -- a policy that passes is derived in each of the environments that it is checked in
 abbrev pub IsDerivedWherePassing : Setting → PlainTemplate → Type 0
 IsDerivedWherePassing s t =
-    (errors errors' : List Finding) (warnings warnings' : List Caution)
+    (errors errors' : List Finding) (warnings warnings' : List Warning)
     → PolicyOutcome (ChecksOf s t) (checked_envs s.env.schema s.env.mode t) t true errors errors'
     warnings warnings'
     → (env : Env) → IsOneOf env (checked_envs s.env.schema s.env.mode t) → IsDerivedIn s t env

@@ -217,13 +217,13 @@ KnowsAfter prior there (step.GoesOn p k) = k ≡ union prior (caps_so_far p.earn
 -- ---- what answers give
 
 -- an answer gives its expression: a failure no capabilities, the limit nothing
-abbrev pub HandsOn : TypecheckAnswer → Option TypedPart → Type 0
-HandsOn (TypecheckSuccess e c) p =
+abbrev pub BecomesPart : TypecheckAnswer → Option TypedPart → Type 0
+BecomesPart (TypecheckSuccess e c) p =
     p ≡ Some (record { typed = e; capabilities = c; succeeded = true })
-HandsOn (TypecheckFail e) p =
+BecomesPart (TypecheckFail e) p =
     (c : CapabilitySet) × HasNone (caps c)
     × (p ≡ Some (record { typed = e; capabilities = c; succeeded = false }))
-HandsOn RecursionLimit p = p ≡ None
+BecomesPart RecursionLimit p = p ≡ None
 
 -- what was gathered is what the taken items give, whether a limit came, and whether none had failed
 pub record Gathers {S : Type 0} (steps : S → Option Answered → S → Type 0) (s : S) (g : Gathered) :

@@ -23,6 +23,6 @@ pub mod typed_copies;
 mod typed_nodes;
 mod variable_types;
 
-pub use expressions::MAX_NESTING;
+pub use expressions::MAX_TYPED_DEPTH;
 pub use request_env_checks::RequestEnvChecks;
 pub use typechecker::{PolicyCheck, Typechecker};

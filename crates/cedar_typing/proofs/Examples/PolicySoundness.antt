@@ -3,7 +3,7 @@ use Rattle.std.proofs.Common.{◌≡◌, inl, true, List, [], ◌∷◌, map, re
 use Rattle.std.proofs.lemmas.List.Sorted.{IsPermutation-refl}
 use Rattle.cedar_types.specs.declared.base.names.slots.SlotId.{SlotId}
 use Rattle.cedar_types.specs.declared.base.types.ValidationMode.TheVariants.{Strict}
-use Rattle.cedar_types.specs.Errors.{Caution}
+use Rattle.cedar_types.specs.Errors.{Warning}
 use Rattle.cedar_types.specs.Environments.Linking.{checked_envs}
 use Rattle.cedar_types.specs.Environments.RequestEnvs.{Env}
 use Rattle.cedar_types.specs.Templates.{PlainTemplate, condition_of}
@@ -31,7 +31,7 @@ module _ (b : Basis) (t : PlainTemplate) where
   all_checked (e ∷ es) = (checked (setting_on b t.id e) (condition_of t), all_checked es)
 
   -- the check passes and has no errors, and gives these warnings
-  pub passing : (ws : List Caution) → all_pass (map verdict_in (checked_envs b.schema b.mode t)) ≡ true
+  pub passing : (ws : List Warning) → all_pass (map verdict_in (checked_envs b.schema b.mode t)) ≡ true
       → all_errors (map verdict_in (checked_envs b.schema b.mode t)) ≡ []
       → warnings_of t (map verdict_in (checked_envs b.schema b.mode t)) ≡ ws → CheckedOn b t true [] [] [] ws
   passing ws p e w = record {

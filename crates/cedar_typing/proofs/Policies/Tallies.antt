@@ -8,10 +8,10 @@ use Rattle.cedar_types.specs.declared.base.errors.validation_warnings.Validation
 use Rattle.cedar_types.specs.contracts.base.errors.validation_errors.ValidationErrorPartialEq.TheImpl as error_impl
 use Rattle.cedar_types.specs.contracts.base.errors.validation_warnings.ValidationWarningPartialEq.TheImpl as warning_impl
 use Rattle.cedar_types.specs.ErrorOrder.{error_cmp}
-use Rattle.cedar_types.specs.Errors.{Finding, Caution, finding_of, caution_of}
+use Rattle.cedar_types.specs.Errors.{Finding, Warning, finding_of, warning_of}
 use Rattle.cedar_types.specs.Templates.{PlainTemplate}
 use Rattle.cedar_types.proofs.Comparisons.Errors.{error_is, tie_is, warning_is}
-use Rattle.cedar_types.proofs.Comparisons.ErrorsDecided.{finding_eq-Decides, caution_eq-Decides}
+use Rattle.cedar_types.proofs.Comparisons.ErrorsDecided.{finding_eq-Decides, warning_eq-Decides}
 use Rattle.cedar_typing.specs.Evaluation.Conformance.{IsOneOf}
 use Rattle.cedar_typing.specs.PolicyCheck.{Verdict}
 use Rattle.cedar_typing.specs.PolicyCheck.Outcome.{Adds, is_silent, errors_in, all_errors, all_irrelevant, warnings_of, impossible}
@@ -34,9 +34,9 @@ tie_decides x y =
     let d = finding_eq-Decides (finding_of x) (finding_of y) in
     (λ h. d.0 (sym (tie_is x y) ∙ h), λ h. tie_is x y ∙ d.1 h)
 
-pub warning_decides : (x y : ValidationWarning) → Decides (warning_impl.ghosts.eq x y) (caution_of x ≡ caution_of y)
+pub warning_decides : (x y : ValidationWarning) → Decides (warning_impl.ghosts.eq x y) (warning_of x ≡ warning_of y)
 warning_decides x y =
-    let d = caution_eq-Decides (caution_of x) (caution_of y) in
+    let d = warning_eq-Decides (warning_of x) (warning_of y) in
     (λ h. d.0 (sym (warning_is x y) ∙ h), λ h. warning_is x y ∙ d.1 h)
 
 -- ---- one more verdict
@@ -88,12 +88,12 @@ adds_same old these those new a h x = (λ k. to (in_either x old these ((a x).0 
     from (inl m) = in_left x old these m
     from (inr m) = in_right x old these ((h x).1 m)
 
-pub warned : (t : PlainTemplate) (vs : List Verdict) (old new : List Caution) (w : Caution)
+pub warned : (t : PlainTemplate) (vs : List Verdict) (old new : List Warning) (w : Warning)
     → all_irrelevant vs ≡ true → w ≡ impossible t → Adds old (w ∷ []) new → Adds old (warnings_of t vs) new
 warned t vs old new w i e a =
     subst (λ b. Adds old (cond b (impossible t ∷ []) []) new) (sym i) (subst (λ x. Adds old (x ∷ []) new) e a)
 
-pub not_warned : (t : PlainTemplate) (vs : List Verdict) (old new : List Caution) → all_irrelevant vs ≡ false
+pub not_warned : (t : PlainTemplate) (vs : List Verdict) (old new : List Warning) → all_irrelevant vs ≡ false
     → new ≡ old → Adds old (warnings_of t vs) new
 not_warned t vs old new i e =
     subst (λ b. Adds old (cond b (impossible t ∷ []) []) new) (sym i)

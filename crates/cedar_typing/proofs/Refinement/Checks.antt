@@ -6,7 +6,7 @@ use Rattle.std.proofs.lemmas.List.Sorted.{IsPermutation-sym}
 use Rattle.cedar_types.specs.declared.base.types.BoolType.TheVariants.{False}
 use Rattle.cedar_types.specs.declared.base.types.ValidationMode.TheVariants.{Strict, Permissive}
 use Rattle.cedar_types.specs.Types.{TBool}
-use Rattle.cedar_types.specs.Errors.{Finding, Caution}
+use Rattle.cedar_types.specs.Errors.{Finding, Warning}
 use Rattle.cedar_types.specs.Extensions.Functions.{table_fault}
 use Rattle.cedar_types.specs.Environments.Linking.{checked_envs}
 use Rattle.cedar_types.specs.Environments.RequestEnvs.{Env}
@@ -67,7 +67,7 @@ passes_too u v (same_irrelevant {es = es} {es' = fs} p) q =
 passes_too u v (same_failure p) q = cc
 
 module _ (b : Basis) (t : PlainTemplate) (formed : has_formed_types b.schema ≡ true) (functions : table_fault b.table.functions ≡ None)
-    (errors errors' : List Finding) (old new : List Caution) (o : CheckedOn (basis_in_mode Strict b) t true errors errors' old new) where
+    (errors errors' : List Finding) (old new : List Warning) (o : CheckedOn (basis_in_mode Strict b) t true errors errors' old new) where
   abbrev StrictChecks : Env → Verdict → Type 0
   StrictChecks env = PolicyChecks (setting_on (basis_in_mode Strict b) t.id env) (condition_of t)
 
@@ -122,7 +122,7 @@ verdicts_moved C D (e ∷ es) (v ∷ vs) f h = (f.0 v h.0, verdicts_moved C D es
 -- an outcome by other checks that give the same verdicts
 outcome_moved : (C D : Env → Verdict → Type 0) (es : List Env) (t : PlainTemplate)
     → ((e : Env) → IsOneOf e es → (v : Verdict) → C e v → D e v)
-    → (answer : Bool) (errors errors' : List Finding) (old new : List Caution)
+    → (answer : Bool) (errors errors' : List Finding) (old new : List Warning)
     → PolicyOutcome C es t answer errors errors' old new → PolicyOutcome D es t answer errors errors' old new
 outcome_moved C D es t f answer errors errors' old new o = record {
   listed = o.listed;

@@ -5,7 +5,7 @@ use Rattle.std.specs.Iterator.{Yields}
 use Rattle.cedar_types.specs.Capability.{caps, HasNone}
 use Rattle.cedar_types.specs.declared.types.capability.CapabilitySet.{CapabilitySet}
 use Rattle.cedar_typing.specs.Answer.{TypedExpr, Answered, AllHandOn, AreHanded, none_failed}
-use Rattle.cedar_typing.specs.Views.{HandsOn, Gathers}
+use Rattle.cedar_typing.specs.Views.{BecomesPart, Gathers}
 use Rattle.cedar_typing.proofs.Basics.{some_is, none_is}
 use Rattle.cedar_typing.specs.declared.typecheck.sequence.Gathered.{Gathered}
 use Rattle.cedar_typing.specs.declared.typecheck.answer.Part.{Part}
@@ -18,7 +18,7 @@ pub record OneMore (a : TypecheckAnswer) (p : Part) : Type 0 where
   pub handed : AreHanded (Ok a ∷ []) ((p.typed, p.capabilities) ∷ [])
   pub succeeded : none_failed (Ok a ∷ []) ≡ p.succeeded
 
-pub one_more : (a : TypecheckAnswer) (p : Part) → HandsOn a (Some p) → OneMore a p
+pub one_more : (a : TypecheckAnswer) (p : Part) → BecomesPart a (Some p) → OneMore a p
 one_more (TypecheckSuccess e c) p h =
     let q = some_is h in
     record { hands_on = tt; handed = (ap (λ z. (z.typed, z.capabilities)) q, tt); succeeded = sym (ap (λ z. z.succeeded) q) }
@@ -32,7 +32,7 @@ one_more (TypecheckFail e) p h =
     }
 one_more RecursionLimit p h = cc
 
-pub is_limit : (a : TypecheckAnswer) → HandsOn a None → a ≡ RecursionLimit
+pub is_limit : (a : TypecheckAnswer) → BecomesPart a None → a ≡ RecursionLimit
 is_limit (TypecheckSuccess e c) h = cc
 is_limit (TypecheckFail e) h = absurd (none_is h.2)
 is_limit RecursionLimit h = refl

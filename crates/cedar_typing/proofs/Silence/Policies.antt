@@ -3,7 +3,7 @@ use Rattle.std.proofs.Common.{◌≡◌, inl, inr, Bool, true, false, ◌||◌, 
 use Rattle.cedar_types.specs.declared.base.names.slots.SlotId.{SlotId}
 use Rattle.cedar_types.specs.declared.base.types.ValidationMode.{ValidationMode}
 use Rattle.cedar_types.specs.Types.Bounds.{is_strict}
-use Rattle.cedar_types.specs.Errors.{Finding, Caution}
+use Rattle.cedar_types.specs.Errors.{Finding, Warning}
 use Rattle.cedar_types.specs.Extensions.Functions.{table_fault}
 use Rattle.cedar_types.specs.Environments.{DeclaredEnv, environments_of}
 use Rattle.cedar_types.specs.Environments.Linking.{has_slot, slot_links, in_all_ways, linked_envs, checked_envs}
@@ -66,7 +66,7 @@ module _ (strictly : Bool) (s : Setting) (t : PlainTemplate) (strict : is_strict
     (total : is_partial s.env.mode ≡ false)
     (formed : (strictly || has_formed_types s.env.schema) ≡ true) (schema : has_fault s.env.schema ≡ false)
     (functions : table_fault s.functions ≡ None) where
-  pub passing_derived_in : IsWellNamedTemplate s.env.schema t → (errors errors' : List Finding) (warnings warnings' : List Caution)
+  pub passing_derived_in : IsWellNamedTemplate s.env.schema t → (errors errors' : List Finding) (warnings warnings' : List Warning)
       → PolicyOutcome (ChecksOf s t) (checked_envs s.env.schema s.env.mode t) t true errors errors' warnings warnings'
       → (env : Env) → IsOneOf env (checked_envs s.env.schema s.env.mode t) → IsDerivedIn s t env
   passing_derived_in named errors errors' warnings warnings' o e i =

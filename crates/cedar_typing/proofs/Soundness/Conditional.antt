@@ -28,7 +28,7 @@ use Rattle.cedar_typing.proofs.KeptTypes.Types.{KeptIn}
 use Rattle.cedar_typing.proofs.Soundness.Capabilities.{hold_either, hold_left, hold_right}
 use Rattle.cedar_typing.proofs.Soundness.ShortCircuit.Conjunction.{derived_test, true_sort, false_sort}
 use Rattle.cedar_typing.proofs.Soundness.Parts.{IsSureType, Sound, Sounds, IsSure, refused_sound, part_sound}
-use Rattle.cedar_typing.proofs.Soundness.Tests.{Sort, Yes, No, TestHas, SafeTest, SoundTest, sorted, operand_sort, tested_operand}
+use Rattle.cedar_typing.proofs.Soundness.Tests.{BoolSort, OnlyTrue, OnlyFalse, TestHas, SafeTest, SoundTest, sorted, operand_sort, tested_operand}
 
 -- ---- the branch that is taken
 
@@ -40,12 +40,12 @@ module _ (t : Option Ty) where
       go None = tt
       go (Some t) = tt
 
-  true_has : (s : Test) (o p : Outcome) → TestHas s (Some Yes) → (SaysTrue s → HasFound t o) → HasFound t (choose s o p)
+  true_has : (s : Test) (o p : Outcome) → TestHas s (Some OnlyTrue) → (SaysTrue s → HasFound t o) → HasFound t (choose s o p)
   true_has (Says true) o p h f = f refl
   true_has (Says false) o p h f = cc
   true_has (Stops e) o p h f = failed_has e
 
-  false_has : (s : Test) (o p : Outcome) → TestHas s (Some No) → HasFound t p → HasFound t (choose s o p)
+  false_has : (s : Test) (o p : Outcome) → TestHas s (Some OnlyFalse) → HasFound t p → HasFound t (choose s o p)
   false_has (Says true) o p h f = cc
   false_has (Says false) o p h f = f
   false_has (Stops e) o p h f = failed_has e
@@ -60,22 +60,22 @@ chosen_safe (Says true) o p h f g = f refl
 chosen_safe (Says false) o p h f g = g
 chosen_safe (Stops e) o p h f g = h
 
-true_safe : (s : Test) (o p : Outcome) → TestHas s (Some Yes) → SafeTest s → (SaysTrue s → IsSafe o) → IsSafe (choose s o p)
+true_safe : (s : Test) (o p : Outcome) → TestHas s (Some OnlyTrue) → SafeTest s → (SaysTrue s → IsSafe o) → IsSafe (choose s o p)
 true_safe (Says true) o p n h f = f refl
 true_safe (Says false) o p n h f = cc
 true_safe (Stops e) o p n h f = h
 
-false_safe : (s : Test) (o p : Outcome) → TestHas s (Some No) → SafeTest s → IsSafe p → IsSafe (choose s o p)
+false_safe : (s : Test) (o p : Outcome) → TestHas s (Some OnlyFalse) → SafeTest s → IsSafe p → IsSafe (choose s o p)
 false_safe (Says true) o p n h f = cc
 false_safe (Says false) o p n h f = f
 false_safe (Stops e) o p n h f = h
 
-true_taken : (s : Test) (o p : Outcome) → TestHas s (Some Yes) → IsTrueOutcome (choose s o p) → IsTrueOutcome o
+true_taken : (s : Test) (o p : Outcome) → TestHas s (Some OnlyTrue) → IsTrueOutcome (choose s o p) → IsTrueOutcome o
 true_taken (Says true) o p n h = h
 true_taken (Says false) o p n h = cc
 true_taken (Stops e) o p n h = absurd h
 
-false_taken : (s : Test) (o p : Outcome) → TestHas s (Some No) → IsTrueOutcome (choose s o p) → IsTrueOutcome p
+false_taken : (s : Test) (o p : Outcome) → TestHas s (Some OnlyFalse) → IsTrueOutcome (choose s o p) → IsTrueOutcome p
 false_taken (Says true) o p n h = cc
 false_taken (Says false) o p n h = h
 false_taken (Stops e) o p n h = absurd h
@@ -212,7 +212,7 @@ module _ (strictly : Bool) (world : World) (env : TypeEnv) (strict : is_strict e
 
   if_derived : (t : Ty) (c : Caps) (x : TypedTree) → (if_rules env m l A B E prior).derives t c x → Sound world choice true (Some t) c
   if_derived t c x (if_true {c = k} {c' = k'} d d') =
-      let h = sorted world o true Yes k (test.derivations _ _ _ d) in
+      let h = sorted world o true OnlyTrue k (test.derivations _ _ _ d) in
       let s = (branch (union prior k) (known k (h.caps_hold_at_true tt))).derivations _ _ _ d' in
       record {
         typed = true_has (Some t) (test_of o) p q h.typed (λ n. s.typed);
@@ -223,7 +223,7 @@ module _ (strictly : Bool) (world : World) (env : TypeEnv) (strict : is_strict e
         caps_hold_at_true = λ n. hold_either world k k' (h.caps_hold_at_true tt) (s.caps_hold_at_true n);
       }
   if_derived t c x (if_false {c = k} d d') =
-      let h = sorted world o true No k (test.derivations _ _ _ d) in
+      let h = sorted world o true OnlyFalse k (test.derivations _ _ _ d) in
       let s = otherwise.derivations _ _ _ d' in
       record {
         typed = false_has (Some t) (test_of o) p q h.typed s.typed;
@@ -261,7 +261,7 @@ module _ (strictly : Bool) (world : World) (env : TypeEnv) (strict : is_strict e
       (if_true_recovered {succeeded = succeeded} {succeeded' = succeeded'} {c = k} {c' = k'} {a = a} {b = b} {es = fs} {es' = fs'}
       a' n b' g) =
       let e = true_sort (annotation a) (operand_sort world o env l A succeeded k a fs a') n in
-      let P : Option Sort → Type 0 = λ s. SoundTest world (test_of o) succeeded s k in
+      let P : Option BoolSort → Type 0 = λ s. SoundTest world (test_of o) succeeded s k in
       let h = subst P e (tested_operand world o env l A test succeeded k a fs a') in
       let s = part_sound world p (B (union prior k)) (branch (union prior k) (known k (h.caps_hold_at_true tt))) succeeded' k' b fs' b' in
       refused_sound world choice _ (true_has (annotation b) (test_of o) p q h.typed (λ i. s.typed))
@@ -269,7 +269,7 @@ module _ (strictly : Bool) (world : World) (env : TypeEnv) (strict : is_strict e
       (if_false_recovered {succeeded = succeeded} {succeeded' = succeeded'} {c = k} {c' = k'} {a = a} {e = b} {es = fs} {es' = fs'}
       a' n b' g) =
       let e = false_sort (annotation a) (operand_sort world o env l A succeeded k a fs a') n in
-      let P : Option Sort → Type 0 = λ s. SoundTest world (test_of o) succeeded s k in
+      let P : Option BoolSort → Type 0 = λ s. SoundTest world (test_of o) succeeded s k in
       let h = subst P e (tested_operand world o env l A test succeeded k a fs a') in
       let s = part_sound world q E otherwise succeeded' k' b fs' b' in
       refused_sound world choice _ (false_has (annotation b) (test_of o) p q h.typed s.typed)

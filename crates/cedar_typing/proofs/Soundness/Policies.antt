@@ -2,7 +2,7 @@
 -- policy comes to.
 use Rattle.std.proofs.Common.{◌≡◌, ◌⊎◌, inl, inr, Bool, true, false, cond, ◌||◌, List, [], ◌∷◌, None, refl, ap, subst}
 use Rattle.std.specs.Prelude.{IsPermutation}
-use Rattle.cedar_types.specs.Errors.{Finding, Caution}
+use Rattle.cedar_types.specs.Errors.{Finding, Warning}
 use Rattle.cedar_types.specs.Extensions.Functions.{table_fault}
 use Rattle.cedar_types.specs.Environments.Linking.{checked_envs}
 use Rattle.cedar_types.specs.Types.Bounds.{is_strict}
@@ -60,7 +60,7 @@ nothing_new t true h = refl
 nothing_new t false h = absurd h
 
 -- where it is new it is due
-due : (t : PlainTemplate) (vs : List Verdict) (old new : List Caution) → Adds old (warnings_of t vs) new
+due : (t : PlainTemplate) (vs : List Verdict) (old new : List Warning) → Adds old (warnings_of t vs) new
     → (IsOneOf (impossible t) old → ⊥) → IsOneOf (impossible t) new → all_irrelevant vs ≡ true
 due t vs old new a absent there = from (in_either (impossible t) old (warnings_of t vs) ((a (impossible t)).0 there))
   where
@@ -70,10 +70,10 @@ due t vs old new a absent there = from (in_either (impossible t) old (warnings_o
 
 -- what is warned where there was no warning is that: of use to a caller, who sees that there is some warning
 pub warned_impossible : {Checks : Env → Verdict → Type 0} {envs : List Env} {passes : Bool}
-    {errors errors' : List Finding} (t : PlainTemplate) (old new : List Caution)
-    → PolicyOutcome Checks envs t passes errors errors' old new → old ≡ [] → (w : Caution) → IsOneOf w new → IsOneOf (impossible t) new
+    {errors errors' : List Finding} (t : PlainTemplate) (old new : List Warning)
+    → PolicyOutcome Checks envs t passes errors errors' old new → old ≡ [] → (w : Warning) → IsOneOf w new → IsOneOf (impossible t) new
 warned_impossible t old new o none w there =
-    let Added : List Caution → Type 0 = λ xs. Adds xs (warnings_of t o.verdicts) new in
+    let Added : List Warning → Type 0 = λ xs. Adds xs (warnings_of t o.verdicts) new in
     let added = subst Added none o.warnings_added in
     (added (impossible t)).1 (any (all_irrelevant o.verdicts) ((added w).0 there))
   where
@@ -122,7 +122,7 @@ module _ (strictly : Bool) (b : Basis) (t : PlainTemplate) (schema : has_fault b
       let u = each_has_passing Checks is_irrelevant listed (checked_envs b.schema b.mode t) vs p c h env one in
       irrelevant_too u.0 v (verdict_at_most (in_env s env) (condition_of t) u.0 v u.1 k) u.2
 
-  module _ (passes : Bool) (errors errors' : List Finding) (old new : List Caution) (o : CheckedOn b t passes errors errors' old new) where
+  module _ (passes : Bool) (errors errors' : List Finding) (old new : List Warning) (o : CheckedOn b t passes errors errors' old new) where
     safe_in : passes ≡ true → IsNamedBySchema b.schema t → (world : World) → IsWellFormed t world.slots
         → IsConforming b world → IsBooleanOrAllowed (eval world (condition_of t))
     safe_in h n world w i =

@@ -22,24 +22,24 @@ use Rattle.cedar_typing.specs.TypedExpr.{Source, annotation, place_of}
 use Rattle.cedar_typing.proofs.Soundness.Capabilities.{hold_none}
 use Rattle.cedar_typing.proofs.Soundness.Induction.{sounds}
 use Rattle.cedar_typing.proofs.Soundness.Parts.{Sounds, operand_sound}
-use Rattle.cedar_typing.proofs.Soundness.Tests.{Sort, Nothing, Either, Yes, No, sort_ty, accepted_sort}
+use Rattle.cedar_typing.proofs.Soundness.Tests.{BoolSort, NoValue, AnyValue, OnlyTrue, OnlyFalse, sort_ty, accepted_sort}
 use Rattle.cedar_typing.proofs.TypeTests.{false_type}
 
-sort_boolean : (k : Sort) (v : Value) → HasType (sort_ty k) v → IsBoolean v
-sort_boolean Nothing v h = absurd h
-sort_boolean Either v h = any v h
+sort_boolean : (k : BoolSort) (v : Value) → HasType (sort_ty k) v → IsBoolean v
+sort_boolean NoValue v h = absurd h
+sort_boolean AnyValue v h = any v h
   where
-    any : (v : Value) → HasType (sort_ty Either) v → IsBoolean v
+    any : (v : Value) → HasType (sort_ty AnyValue) v → IsBoolean v
     any (VBool b) h = tt
     any v h = absurd h
-sort_boolean Yes v h = any v h
+sort_boolean OnlyTrue v h = any v h
   where
-    any : (v : Value) → HasType (sort_ty Yes) v → IsBoolean v
+    any : (v : Value) → HasType (sort_ty OnlyTrue) v → IsBoolean v
     any (VBool b) h = tt
     any v h = absurd h
-sort_boolean No v h = any v h
+sort_boolean OnlyFalse v h = any v h
   where
-    any : (v : Value) → HasType (sort_ty No) v → IsBoolean v
+    any : (v : Value) → HasType (sort_ty OnlyFalse) v → IsBoolean v
     any (VBool b) h = tt
     any v h = absurd h
 

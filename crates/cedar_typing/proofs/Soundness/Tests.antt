@@ -18,24 +18,24 @@ use Rattle.cedar_typing.proofs.Views.Marks.{annotation-without_type}
 use Rattle.cedar_typing.proofs.Soundness.Parts.{Sound, Sounds, IsSure, IsAccepted, operand_sound, operand_accepted}
 
 -- the types that are accepted where a Boolean is required
-pub data Sort : Type 0 where
-  Nothing Either Yes No : Sort
+pub data BoolSort : Type 0 where
+  NoValue AnyValue OnlyTrue OnlyFalse : BoolSort
 
-abbrev pub sort_ty : Sort → Ty
-sort_ty Nothing = TNever
-sort_ty Either = TBool AnyBool
-sort_ty Yes = TBool True
-sort_ty No = TBool False
+abbrev pub sort_ty : BoolSort → Ty
+sort_ty NoValue = TNever
+sort_ty AnyValue = TBool AnyBool
+sort_ty OnlyTrue = TBool True
+sort_ty OnlyFalse = TBool False
 
-abbrev pub SortHas : Sort → Bool → Type 0
-SortHas Nothing b = ⊥
-SortHas Either b = Unit {0}
-SortHas Yes b = IsTrue b
-SortHas No b = IsTrue (not b)
+abbrev pub BoolSortHas : BoolSort → Bool → Type 0
+BoolSortHas NoValue b = ⊥
+BoolSortHas AnyValue b = Unit {0}
+BoolSortHas OnlyTrue b = IsTrue b
+BoolSortHas OnlyFalse b = IsTrue (not b)
 
 -- the boolean, if there is one, is of the type, if one was found
-abbrev pub TestHas : Test → Option Sort → Type 0
-TestHas (Says b) (Some k) = SortHas k b
+abbrev pub TestHas : Test → Option BoolSort → Type 0
+TestHas (Says b) (Some k) = BoolSortHas k b
 TestHas (Says b) None = Unit {0}
 TestHas (Stops f) k = Unit {0}
 
@@ -43,13 +43,13 @@ abbrev pub SafeTest : Test → Type 0
 SafeTest (Says b) = Unit {0}
 SafeTest (Stops f) = IsAllowed f
 
-abbrev pub SureSort : Option Sort → Type 0
-SureSort (Some Nothing) = Unit {0}
-SureSort (Some Yes) = Unit {0}
+abbrev pub SureSort : Option BoolSort → Type 0
+SureSort (Some NoValue) = Unit {0}
+SureSort (Some OnlyTrue) = Unit {0}
 SureSort _ = ⊥
 
 -- what is promised of an operand as a test
-pub record SoundTest (world : World) (s : Test) (succeeded : Bool) (k : Option Sort) (c : Caps) : Type 0 where
+pub record SoundTest (world : World) (s : Test) (succeeded : Bool) (k : Option BoolSort) (c : Caps) : Type 0 where
   pub typed : TestHas s k
   pub safe : IsTrue succeeded → SafeTest s
   pub caps_hold_if_true : SaysTrue s → AllHold world c
@@ -57,23 +57,23 @@ pub record SoundTest (world : World) (s : Test) (succeeded : Bool) (k : Option S
 
 -- ---- an operand
 
-pub test_typed : (k : Sort) (o : Outcome) → HasFound (Some (sort_ty k)) o → TestHas (test_of o) (Some k)
+pub test_typed : (k : BoolSort) (o : Outcome) → HasFound (Some (sort_ty k)) o → TestHas (test_of o) (Some k)
 test_typed k o h = grind arith
 
-pub test_safe : (k : Sort) (o : Outcome) → HasFound (Some (sort_ty k)) o → IsSafe o → SafeTest (test_of o)
+pub test_safe : (k : BoolSort) (o : Outcome) → HasFound (Some (sort_ty k)) o → IsSafe o → SafeTest (test_of o)
 test_safe k o h s = grind arith
 
 test_told : (o : Outcome) → SaysTrue (test_of o) → IsTrueOutcome o
 test_told o h = grind arith
 
-sure_type : (k : Sort) → SureSort (Some k) → IsSure (Some (sort_ty k))
+sure_type : (k : BoolSort) → SureSort (Some k) → IsSure (Some (sort_ty k))
 sure_type k h = grind arith
 
-pub accepted_sort : (t : Ty) → accepts bool_types t ≡ true → (k : Sort) × (t ≡ sort_ty k)
-accepted_sort TNever h = (Nothing, refl)
-accepted_sort (TBool AnyBool) h = (Either, refl)
-accepted_sort (TBool True) h = (Yes, refl)
-accepted_sort (TBool False) h = (No, refl)
+pub accepted_sort : (t : Ty) → accepts bool_types t ≡ true → (k : BoolSort) × (t ≡ sort_ty k)
+accepted_sort TNever h = (NoValue, refl)
+accepted_sort (TBool AnyBool) h = (AnyValue, refl)
+accepted_sort (TBool True) h = (OnlyTrue, refl)
+accepted_sort (TBool False) h = (OnlyFalse, refl)
 accepted_sort TLong h = cc
 accepted_sort TString h = cc
 accepted_sort (TSet t) h = cc
@@ -84,18 +84,18 @@ accepted_sort TAnyEntity h = cc
 accepted_sort (TExtension n) h = cc
 
 -- the sort of a type that was found, if it is accepted
-abbrev pub sort_of : Option Ty → Option Sort
-sort_of (Some TNever) = Some Nothing
-sort_of (Some (TBool AnyBool)) = Some Either
-sort_of (Some (TBool True)) = Some Yes
-sort_of (Some (TBool False)) = Some No
+abbrev pub sort_of : Option Ty → Option BoolSort
+sort_of (Some TNever) = Some NoValue
+sort_of (Some (TBool AnyBool)) = Some AnyValue
+sort_of (Some (TBool True)) = Some OnlyTrue
+sort_of (Some (TBool False)) = Some OnlyFalse
 sort_of _ = None
 
-pub sort_is : (k : Sort) → sort_of (Some (sort_ty k)) ≡ Some k
-sort_is Nothing = refl
-sort_is Either = refl
-sort_is Yes = refl
-sort_is No = refl
+pub sort_is : (k : BoolSort) → sort_of (Some (sort_ty k)) ≡ Some k
+sort_is NoValue = refl
+sort_is AnyValue = refl
+sort_is OnlyTrue = refl
+sort_is OnlyFalse = refl
 
 pub sort_back : (t : Option Ty) → IsAccepted bool_types t → t ≡ option_map sort_ty (sort_of t)
 sort_back None h = refl
@@ -105,7 +105,7 @@ sort_back (Some t) h =
     subst P (sym k.1) (ap (option_map sort_ty) (sym (sort_is k.0)))
 
 module _ (world : World) (o : Outcome) where
-  pub sorted : (succeeded : Bool) (k : Sort) (c : Caps) → Sound world o succeeded (Some (sort_ty k)) c
+  pub sorted : (succeeded : Bool) (k : BoolSort) (c : Caps) → Sound world o succeeded (Some (sort_ty k)) c
       → SoundTest world (test_of o) succeeded (Some k) c
   sorted succeeded k c s = record {
     typed = test_typed k o s.typed;
@@ -139,7 +139,7 @@ module _ (world : World) (o : Outcome) where
         let k = accepted_sort t h in
         let q : annotation x ≡ Some (sort_ty k.0) = n ∙ ap Some k.1 in
         let P : Option Ty → Type 0 = λ a. Sound world o succeeded a c in
-        let Q : Option Sort → Type 0 = λ k. SoundTest world (test_of o) succeeded k c in
+        let Q : Option BoolSort → Type 0 = λ k. SoundTest world (test_of o) succeeded k c in
         subst Q (sym (ap sort_of q ∙ sort_is k.0)) (sorted succeeded k.0 c (subst P q s))
 
     none_operand : (x : Option Ty) → x ≡ None → SoundTest world (test_of o) false (sort_of x) no_caps

@@ -12,9 +12,9 @@ use Rattle.cedar_typing.proofs.KeptTypes.Eager.{decided_type}
 use Rattle.cedar_typing.proofs.Soundness.Capabilities.{hold_none}
 use Rattle.cedar_typing.proofs.Soundness.ShortCircuit.Conjunction.{of_test_safe}
 use Rattle.cedar_typing.proofs.Soundness.Eager.{AreTypes, GiftIsSound, AllFound, SoundForm}
-use Rattle.cedar_typing.proofs.Soundness.Tests.{Sort, sort_ty, TestHas, SafeTest, accepted_sort, test_typed, test_safe}
+use Rattle.cedar_typing.proofs.Soundness.Tests.{BoolSort, sort_ty, TestHas, SafeTest, accepted_sort, test_typed, test_safe}
 
-not_has : (s : Test) (k : Sort) → TestHas s (Some k) → HasFound (Some (not_type (sort_ty k))) (of_test (not_test s))
+not_has : (s : Test) (k : BoolSort) → TestHas s (Some k) → HasFound (Some (not_type (sort_ty k))) (of_test (not_test s))
 not_has s k h = grind arith
 
 any_has : (s : Test) → HasFound (Some (TBool AnyBool)) (of_test (not_test s))

@@ -1,7 +1,7 @@
 -- What the check of a policy in all of its environments comes to.
 use Rattle.std.specs.Prelude.{◌≡◌, ◌↔◌, Bool, true, false, cond, List, [], ◌∷◌, ◌++◌, IsPermutation}
 use Rattle.std.specs.List.{flat_map, list_all}
-use Rattle.cedar_types.specs.Errors.{Finding, Caution, impossible_policy}
+use Rattle.cedar_types.specs.Errors.{Finding, Warning, impossible_policy}
 use Rattle.cedar_types.specs.Environments.RequestEnvs.{Env}
 use Rattle.cedar_types.specs.Templates.{PlainTemplate}
 use Rattle.cedar_typing.specs.Evaluation.Conformance.{IsOneOf}
@@ -50,11 +50,11 @@ abbrev pub all_errors : List Verdict → List Finding
 all_errors = flat_map errors_in
 
 -- the warning that a policy is impossible, at the policy's own place
-abbrev pub impossible : PlainTemplate → Caution
+abbrev pub impossible : PlainTemplate → Warning
 impossible t = record { place = t.place; policy = t.id; slip = impossible_policy }
 
 -- it is given where the policy is impossible
-abbrev pub warnings_of : PlainTemplate → List Verdict → List Caution
+abbrev pub warnings_of : PlainTemplate → List Verdict → List Warning
 warnings_of t vs = cond (all_irrelevant vs) (impossible t ∷ []) []
 
 -- the members of the new set are those of the old one and these
@@ -65,7 +65,7 @@ Adds {A} old these new = (x : A) → IsOneOf x new ↔ IsOneOf x (old ++ these)
 -- after
 pub record PolicyOutcome (Checks : Env → Verdict → Type 0) (envs : List Env)
     (t : PlainTemplate) (answer : Bool)
-    (errors errors' : List Finding) (warnings warnings' : List Caution) : Type 0 where
+    (errors errors' : List Finding) (warnings warnings' : List Warning) : Type 0 where
   -- the environments in some order, and a verdict of each
   pub listed : List Env
   pub verdicts : List Verdict

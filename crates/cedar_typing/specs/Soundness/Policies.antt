@@ -2,7 +2,7 @@
 use Rattle.std.specs.Prelude.{◌≡◌, Bool, true, false, List, [], None}
 use Rattle.cedar_types.specs.declared.base.types.ValidationMode.{ValidationMode}
 use Rattle.cedar_types.specs.declared.base.types.ValidationMode.TheVariants.{Strict, Permissive}
-use Rattle.cedar_types.specs.Errors.{Finding, Caution}
+use Rattle.cedar_types.specs.Errors.{Finding, Warning}
 use Rattle.cedar_types.specs.Extensions.Functions.{table_fault}
 use Rattle.cedar_types.specs.Extensions.{ExtensionTable}
 use Rattle.cedar_types.specs.Templates.Findings.{unknown_types, unknown_actions}
@@ -73,7 +73,7 @@ PolicyIsSafeIn m b t passes =
 -- where the warning that it is impossible is new among the warnings, its condition is never true,
 -- whether or not its slots are bound
 abbrev pub ImpossibleIsNeverTrueIn : ValidationMode → Basis → PlainTemplate
-    → List Caution → List Caution → Type 0
+    → List Warning → List Warning → Type 0
 ImpossibleIsNeverTrueIn m b t old new =
     (IsOneOf (impossible t) old → ⊥) → IsOneOf (impossible t) new
     → IsClosedIn m b → SlotsInScopeAlone t
@@ -85,7 +85,7 @@ ImpossibleIsNeverTrueIn m b t old new =
 abbrev pub PolicyIsSafe : Basis → PlainTemplate → Bool → Type 0
 PolicyIsSafe = PolicyIsSafeIn Strict
 
-abbrev pub ImpossibleIsNeverTrue : Basis → PlainTemplate → List Caution → List Caution → Type 0
+abbrev pub ImpossibleIsNeverTrue : Basis → PlainTemplate → List Warning → List Warning → Type 0
 ImpossibleIsNeverTrue = ImpossibleIsNeverTrueIn Strict
 
 -- ---- where they come from
@@ -105,18 +105,18 @@ setting_on b policy env = record {
 
 -- what the check of the policy in all of its environments came to
 abbrev pub CheckedOn : Basis → PlainTemplate → Bool
-    → List Finding → List Finding → List Caution → List Caution → Type 0
+    → List Finding → List Finding → List Warning → List Warning → Type 0
 CheckedOn b t =
     PolicyOutcome (λ env. PolicyChecks (setting_on b t.id env) (condition_of t))
     (checked_envs b.schema b.mode t) t
 
 -- both promises
 pub record AreBothKeptIn (m : ValidationMode) (b : Basis) (t : PlainTemplate) (passes : Bool)
-    (old new : List Caution) : Type 0 where
+    (old new : List Warning) : Type 0 where
   pub safe : PolicyIsSafeIn m b t passes
   pub never_true : ImpossibleIsNeverTrueIn m b t old new
 
-abbrev pub AreBothKept : Basis → PlainTemplate → Bool → List Caution → List Caution → Type 0
+abbrev pub AreBothKept : Basis → PlainTemplate → Bool → List Warning → List Warning → Type 0
 AreBothKept = AreBothKeptIn Strict
 
 -- by a schema and a table without faults, as all are that the program makes, both follow from that
@@ -125,7 +125,7 @@ abbrev pub PromisesAreKept : Type 0
 PromisesAreKept =
     (b : Basis) (t : PlainTemplate)
     → has_fault b.schema ≡ false → table_fault b.table.functions ≡ None
-    → (passes : Bool) (errors errors' : List Finding) (old new : List Caution)
+    → (passes : Bool) (errors errors' : List Finding) (old new : List Warning)
     → CheckedOn b t passes errors errors' old new → AreBothKept b t passes old new
 
 -- in Permissive, where names also ascend in the types of the schema, as in every schema of the program
@@ -134,5 +134,5 @@ PromisesAreKeptInPermissive =
     (b : Basis) (t : PlainTemplate)
     → has_fault b.schema ≡ false → has_formed_types b.schema ≡ true
     → table_fault b.table.functions ≡ None
-    → (passes : Bool) (errors errors' : List Finding) (old new : List Caution)
+    → (passes : Bool) (errors errors' : List Finding) (old new : List Warning)
     → CheckedOn b t passes errors errors' old new → AreBothKeptIn Permissive b t passes old new

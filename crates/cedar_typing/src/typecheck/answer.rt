@@ -3,7 +3,7 @@ ghost use Rattle.std.specs.Prelude.{◌≡◌, ◌↔◌, IsTrue, IfOk, Some, op
 ghost use Rattle.cedar_types.specs.Types.{ty_of};
 ghost use Rattle.cedar_typing.specs.Answer.{SucceedsWithNone, is_success, typed_expr_of, type_of_answer, failed, failed_unless, OnSuccess, MapsCapability, OnHanded, ThenTypechecks};
 ghost use Rattle.cedar_typing.specs.Infer.Parts.{part_from};
-ghost use Rattle.cedar_typing.specs.Views.{HandsOn, answer_of, part_of};
+ghost use Rattle.cedar_typing.specs.Views.{BecomesPart, answer_of, part_of};
 
 use cedar_types::base::type_laws::equal_types;
 use cedar_types::base::{CedarType, Expr};
@@ -162,7 +162,7 @@ impl<'a> TypecheckAnswer<'a> {
 
     /// What the answer hands on: a failure no capabilities, the limit nothing. It takes no memory.
     pub(crate) fn into_part(self, alloc: Global) -> Option<Part<'a>>
-        ensures handed { HandsOn self.entry result }
+        ensures handed { BecomesPart self.entry result }
         ensures seen { option_map part_of result ≡ part_from (answer_of self.entry) }
     {
         match self {

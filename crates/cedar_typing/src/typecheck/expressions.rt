@@ -20,7 +20,7 @@ use cedar_types::base::{ArgumentCheck, Expr, ExprKind, ValidationError};
 use std::alloc::AllocError;
 
 /// The greatest depth at which an expression is visited. A condition has depth 1, and each part one more than the whole.
-pub const MAX_NESTING: usize = 400;
+pub const MAX_TYPED_DEPTH: usize = 400;
 
 impl<C: ArgumentCheck> SingleEnvTypechecker<'_, '_, '_, '_, C> {
     /// Types an expression at this depth, with these prior capabilities, and adds its errors.
@@ -39,7 +39,7 @@ impl<C: ArgumentCheck> SingleEnvTypechecker<'_, '_, '_, '_, C> {
             infer (setting_at C.refusal self.now) (written e.now) (known_in prior.now) depth (findings errors.old.items)
             ≡ (answer_of r, findings errors.new.items)) }
     {
-        if depth > MAX_NESTING {
+        if depth > MAX_TYPED_DEPTH {
             return Ok(TypecheckAnswer::RecursionLimit);
         }
         match &e.kind {

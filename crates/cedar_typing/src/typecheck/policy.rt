@@ -1,7 +1,7 @@
 // The check of a policy in all of its environments.
 ghost use Rattle.std.specs.Prelude.{◌≡◌, ◌∷◌, List, IfOk, OnOk, OnErr, IsPermutation, map};
 ghost use Rattle.cedar_types.specs.declared.base.types.ValidationMode.TheVariants.{Permissive};
-ghost use Rattle.cedar_types.specs.Errors.{finding_of, caution_of};
+ghost use Rattle.cedar_types.specs.Errors.{finding_of, warning_of};
 ghost use Rattle.cedar_types.specs.Environments.Linking.{checked_envs};
 ghost use Rattle.cedar_types.specs.Schemas.Contents.{schema_of};
 ghost use Rattle.cedar_types.specs.Templates.{template_of};
@@ -53,17 +53,17 @@ impl<'a, C: ArgumentCheck> Typechecker<'a, C> {
             (template_of t.now))
             (template_of t.now) answer
             (map finding_of type_errors.old.keys) (map finding_of type_errors.new.keys)
-            (map caution_of warnings.old.keys) (map caution_of warnings.new.keys)) }
+            (map warning_of warnings.old.keys) (map warning_of warnings.new.keys)) }
         ensures safe { IfOk result (λ answer.
             PolicyIsSafe (basis_of C.refusal self.now) (template_of t.now) answer) }
         ensures never_true { IfOk result (λ answer.
             ImpossibleIsNeverTrue (basis_of C.refusal self.now) (template_of t.now)
-            (map caution_of warnings.old.keys) (map caution_of warnings.new.keys)) }
+            (map warning_of warnings.old.keys) (map warning_of warnings.new.keys)) }
         ensures safe_in_permissive { IfOk result (λ answer.
             PolicyIsSafeIn Permissive (basis_of C.refusal self.now) (template_of t.now) answer) }
         ensures never_true_in_permissive { IfOk result (λ answer.
             ImpossibleIsNeverTrueIn Permissive (basis_of C.refusal self.now) (template_of t.now)
-            (map caution_of warnings.old.keys) (map caution_of warnings.new.keys)) }
+            (map warning_of warnings.old.keys) (map warning_of warnings.new.keys)) }
         ensures errors_kept { OnErr result (
             IsPermutation type_errors.old.keys type_errors.new.keys) }
         ensures warnings_kept { OnErr result (warnings.new.keys ≡ warnings.old.keys) }
@@ -124,7 +124,7 @@ impl Tally {
 
 /// The warning that this policy is impossible.
 fn impossible_policy(t: &Template) -> Result<ValidationWarning, AllocError>
-    ensures { IfOk result (λ w. caution_of w ≡ impossible (template_of t.now)) }
+    ensures { IfOk result (λ w. warning_of w ≡ impossible (template_of t.now)) }
 {
     Ok(ValidationWarning::impossible_policy(t.loc, t.id.clone()?))
 }

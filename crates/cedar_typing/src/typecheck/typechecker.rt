@@ -91,7 +91,7 @@ impl<'a, C: ArgumentCheck> Typechecker<'a, C> {
     /// enumerated type one of its ids, is left to the passes over names and ids.
     ///
     /// The rest of the policy is typed where it stands: no copy of it is made, and no part of it that lies deeper than
-    /// `MAX_NESTING` is visited. The caller's own tree is dropped by the caller, and to drop a deep one takes a deep stack.
+    /// `MAX_TYPED_DEPTH` is visited. The caller's own tree is dropped by the caller, and to drop a deep one takes a deep stack.
     /// Where memory is refused, the answer is an `AllocError`.
     pub fn typecheck_by_single_request_env(
         &self,

@@ -19,7 +19,7 @@ use Rattle.cedar_typing.specs.TypedExpr.{TypedTree, annotation}
 use Rattle.cedar_typing.proofs.Views.Marks.{annotation-at_place}
 use Rattle.cedar_typing.proofs.Soundness.Capabilities.{hold_none, hold_either}
 use Rattle.cedar_typing.proofs.Soundness.Parts.{Sound, Sounds, IsSure, refused_sound}
-use Rattle.cedar_typing.proofs.Soundness.Tests.{Sort, Nothing, Either, Yes, No, sort_ty, TestHas, SafeTest, SureSort, SoundTest}
+use Rattle.cedar_typing.proofs.Soundness.Tests.{BoolSort, NoValue, AnyValue, OnlyTrue, OnlyFalse, sort_ty, TestHas, SafeTest, SureSort, SoundTest}
 use Rattle.cedar_typing.proofs.Soundness.Tests.{accepted_sort, sort_of, sorted, operand_sort, tested_operand}
 use Rattle.cedar_typing.proofs.TypeTests.{false_type}
 
@@ -31,7 +31,7 @@ of_test_safe s h = grind arith
 pub of_test_true : (s : Test) → IsTrueOutcome (of_test s) → SaysTrue s
 of_test_true s h = grind arith
 
-and_has : (s t : Test) (k l : Option Sort) → TestHas s k → (SaysTrue s → TestHas t l)
+and_has : (s t : Test) (k l : Option BoolSort) → TestHas s k → (SaysTrue s → TestHas t l)
     → HasFound (Some (sides_annotation conjunction (option_map sort_ty k) (option_map sort_ty l)))
     (of_test (and_test s t))
 and_has s t k l h i = grind arith
@@ -42,46 +42,46 @@ and_safe s t h i = grind arith
 and_true : (s t : Test) → SaysTrue (and_test s t) → SaysTrue s × SaysTrue t
 and_true s t h = grind arith
 
-and_sure : (k l : Sort) → IsSure (Some (sides_type conjunction (sort_ty k) (sort_ty l))) → SureSort (Some k) × SureSort (Some l)
+and_sure : (k l : BoolSort) → IsSure (Some (sides_type conjunction (sort_ty k) (sort_ty l))) → SureSort (Some k) × SureSort (Some l)
 and_sure k l h = grind arith
 
-false_has : (s t : Test) → TestHas s (Some No) → HasFound (Some (TBool False)) (of_test (and_test s t))
+false_has : (s t : Test) → TestHas s (Some OnlyFalse) → HasFound (Some (TBool False)) (of_test (and_test s t))
 false_has s t h = grind arith
 
-false_safe : (s t : Test) → TestHas s (Some No) → SafeTest s → SafeTest (and_test s t)
+false_safe : (s t : Test) → TestHas s (Some OnlyFalse) → SafeTest s → SafeTest (and_test s t)
 false_safe s t h i = grind arith
 
 -- a type that is accepted and of which a test says something, by its sort
-says_sort : (test : Ty → Bool) (x : Option Ty) (k : Sort) → ((l : Sort) → test (sort_ty l) ≡ true → l ≡ k)
+says_sort : (test : Ty → Bool) (x : Option Ty) (k : BoolSort) → ((l : BoolSort) → test (sort_ty l) ≡ true → l ≡ k)
     → x ≡ option_map sort_ty (sort_of x) → annotation_passes test x ≡ true → sort_of x ≡ Some k
 says_sort test x k only e h = go (sort_of x) (sym (ap (annotation_passes test) e) ∙ h)
   where
-    go : (s : Option Sort) → annotation_passes test (option_map sort_ty s) ≡ true → s ≡ Some k
+    go : (s : Option BoolSort) → annotation_passes test (option_map sort_ty s) ≡ true → s ≡ Some k
     go None n = cc
     go (Some l) n = ap Some (only l n)
 
-pub only_false : (l : Sort) → is_false (sort_ty l) ≡ true → l ≡ No
-only_false Nothing h = cc
-only_false Either h = cc
-only_false Yes h = cc
-only_false No h = refl
+pub only_false : (l : BoolSort) → is_false (sort_ty l) ≡ true → l ≡ OnlyFalse
+only_false NoValue h = cc
+only_false AnyValue h = cc
+only_false OnlyTrue h = cc
+only_false OnlyFalse h = refl
 
-pub only_true : (l : Sort) → is_true (sort_ty l) ≡ true → l ≡ Yes
-only_true Nothing h = cc
-only_true Either h = cc
-only_true Yes h = refl
-only_true No h = cc
+pub only_true : (l : BoolSort) → is_true (sort_ty l) ≡ true → l ≡ OnlyTrue
+only_true NoValue h = cc
+only_true AnyValue h = cc
+only_true OnlyTrue h = refl
+only_true OnlyFalse h = cc
 
-pub false_sort : (x : Option Ty) → x ≡ option_map sort_ty (sort_of x) → annotation_passes is_false x ≡ true → sort_of x ≡ Some No
-false_sort x e h = says_sort is_false x No only_false e h
+pub false_sort : (x : Option Ty) → x ≡ option_map sort_ty (sort_of x) → annotation_passes is_false x ≡ true → sort_of x ≡ Some OnlyFalse
+false_sort x e h = says_sort is_false x OnlyFalse only_false e h
 
-pub true_sort : (x : Option Ty) → x ≡ option_map sort_ty (sort_of x) → annotation_passes is_true x ≡ true → sort_of x ≡ Some Yes
-true_sort x e h = says_sort is_true x Yes only_true e h
+pub true_sort : (x : Option Ty) → x ≡ option_map sort_ty (sort_of x) → annotation_passes is_true x ≡ true → sort_of x ≡ Some OnlyTrue
+true_sort x e h = says_sort is_true x OnlyTrue only_true e h
 
 module _ (world : World) where
   -- a derived Boolean, as a test
   pub record Derived (o : Outcome) (t : Ty) (c : Caps) : Type 0 where
-    pub sort : Sort
+    pub sort : BoolSort
     pub is : t ≡ sort_ty sort
     pub test : SoundTest world (test_of o) true (Some sort) c
 
@@ -104,20 +104,20 @@ module _ (world : World) where
 
   -- ---- `&&`
 
-  and_hold : (k l : Sort) (c c' : Caps) → AllHold world c → AllHold world c'
+  and_hold : (k l : BoolSort) (c c' : Caps) → AllHold world c → AllHold world c'
       → AllHold world (sides_caps conjunction (sort_ty k) (sort_ty l) c c')
-  and_hold k Yes c c' h i = hold_either world c c' h i
-  and_hold k No c c' h i = hold_none world
-  and_hold Nothing Nothing c c' h i = hold_either world c c' h i
-  and_hold Either Nothing c c' h i = hold_either world c c' h i
-  and_hold Yes Nothing c c' h i = hold_either world c c' h i
-  and_hold No Nothing c c' h i = hold_either world c c' h i
-  and_hold Nothing Either c c' h i = hold_either world c c' h i
-  and_hold Either Either c c' h i = hold_either world c c' h i
-  and_hold Yes Either c c' h i = hold_either world c c' h i
-  and_hold No Either c c' h i = hold_either world c c' h i
+  and_hold k OnlyTrue c c' h i = hold_either world c c' h i
+  and_hold k OnlyFalse c c' h i = hold_none world
+  and_hold NoValue NoValue c c' h i = hold_either world c c' h i
+  and_hold AnyValue NoValue c c' h i = hold_either world c c' h i
+  and_hold OnlyTrue NoValue c c' h i = hold_either world c c' h i
+  and_hold OnlyFalse NoValue c c' h i = hold_either world c c' h i
+  and_hold NoValue AnyValue c c' h i = hold_either world c c' h i
+  and_hold AnyValue AnyValue c c' h i = hold_either world c c' h i
+  and_hold OnlyTrue AnyValue c c' h i = hold_either world c c' h i
+  and_hold OnlyFalse AnyValue c c' h i = hold_either world c c' h i
 
-  and_success : (s t : Test) (k l : Sort) (c c' : Caps) → SoundTest world s true (Some k) c
+  and_success : (s t : Test) (k l : BoolSort) (c c' : Caps) → SoundTest world s true (Some k) c
       → (AllHold world c → SoundTest world t true (Some l) c')
       → Sound world (of_test (and_test s t)) true (Some (sides_type conjunction (sort_ty k) (sort_ty l)))
       (sides_caps conjunction (sort_ty k) (sort_ty l) c c')
@@ -143,7 +143,7 @@ module _ (world : World) where
       where
         by_false : Sound world o true (Some (TBool False)) c → Sound world both true (Some (TBool False)) no_caps
         by_false s =
-            let h = sorted world o true No c s in
+            let h = sorted world o true OnlyFalse c s in
             of_test_sound _ _ _ (false_has (test_of o) (test_of o') h.typed)
             (false_safe (test_of o) (test_of o') h.typed (h.safe refl)) (λ n. hold_none world) (λ n. absurd n)
 
@@ -164,7 +164,7 @@ module _ (world : World) where
     and_recovery x es (left_ends_failed {c = k} {a = a} p n) =
         let h = tested_operand world o env l A left false k a es p in
         let e = false_sort (annotation a) (operand_sort world o env l A false k a es p) n in
-        let P : Option Sort → Type 0 = λ s. TestHas (test_of o) s in
+        let P : Option BoolSort → Type 0 = λ s. TestHas (test_of o) s in
         let Q : Option Ty → Type 0 = λ t. Sound world both false t no_caps in
         let f : annotation a ≡ Some (TBool False) = operand_sort world o env l A false k a es p ∙ ap (option_map sort_ty) e in
         subst Q (sym (annotation-at_place m.place a ∙ f))

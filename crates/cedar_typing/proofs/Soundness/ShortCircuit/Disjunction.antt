@@ -20,13 +20,13 @@ use Rattle.cedar_typing.proofs.Views.Marks.{annotation-at_place}
 use Rattle.cedar_typing.proofs.Soundness.Capabilities.{hold_left, hold_right}
 use Rattle.cedar_typing.proofs.Soundness.ShortCircuit.Conjunction.{of_test_sound, derived_test, true_sort}
 use Rattle.cedar_typing.proofs.Soundness.Parts.{Sound, Sounds, IsSure, refused_sound}
-use Rattle.cedar_typing.proofs.Soundness.Tests.{Sort, Nothing, Either, Yes, No, sort_ty, TestHas, SafeTest, SureSort, SoundTest, sort_of}
+use Rattle.cedar_typing.proofs.Soundness.Tests.{BoolSort, NoValue, AnyValue, OnlyTrue, OnlyFalse, sort_ty, TestHas, SafeTest, SureSort, SoundTest, sort_of}
 use Rattle.cedar_typing.proofs.Soundness.Tests.{sorted, operand_sort, tested_operand}
 use Rattle.cedar_typing.proofs.TypeTests.{true_type}
 
 -- ---- finite facts
 
-or_has : (s t : Test) (k l : Option Sort) → TestHas s k → TestHas t l
+or_has : (s t : Test) (k l : Option BoolSort) → TestHas s k → TestHas t l
     → HasFound (Some (sides_annotation disjunction (option_map sort_ty k) (option_map sort_ty l)))
     (of_test (or_test s t))
 or_has s t k l h i = grind arith
@@ -34,17 +34,17 @@ or_has s t k l h i = grind arith
 or_safe : (s t : Test) → SafeTest s → SafeTest t → SafeTest (or_test s t)
 or_safe s t h i = grind arith
 
-true_has : (s t : Test) → TestHas s (Some Yes) → HasFound (Some (TBool True)) (of_test (or_test s t))
+true_has : (s t : Test) → TestHas s (Some OnlyTrue) → HasFound (Some (TBool True)) (of_test (or_test s t))
 true_has s t h = grind arith
 
-true_safe : (s t : Test) → TestHas s (Some Yes) → SafeTest s → SafeTest (or_test s t)
+true_safe : (s t : Test) → TestHas s (Some OnlyTrue) → SafeTest s → SafeTest (or_test s t)
 true_safe s t h i = grind arith
 
 -- true by a side of which nothing else can be true
-left_true : (s t : Test) → TestHas t (Some No) → SaysTrue (or_test s t) → SaysTrue s
+left_true : (s t : Test) → TestHas t (Some OnlyFalse) → SaysTrue (or_test s t) → SaysTrue s
 left_true s t h n = grind arith
 
-right_true : (s t : Test) → TestHas s (Some No) → SaysTrue (or_test s t) → SaysTrue t
+right_true : (s t : Test) → TestHas s (Some OnlyFalse) → SaysTrue (or_test s t) → SaysTrue t
 right_true s t h n = grind arith
 
 module _ (world : World) where
@@ -56,39 +56,39 @@ module _ (world : World) where
   either_true (Says false) t c c' f g n = hold_right world c c' (g n)
   either_true (Stops e) t c c' f g n = absurd n
 
-  or_hold : (s t : Test) (k l : Sort) (c c' : Caps) → SoundTest world s true (Some k) c
+  or_hold : (s t : Test) (k l : BoolSort) (c c' : Caps) → SoundTest world s true (Some k) c
       → SoundTest world t true (Some l) c' → SaysTrue (or_test s t)
       → AllHold world (sides_caps disjunction (sort_ty k) (sort_ty l) c c')
-  or_hold s t k Yes c c' h i n = i.caps_hold_at_true tt
-  or_hold s t k No c c' h i n = h.caps_hold_if_true (left_true s t i.typed n)
-  or_hold s t No Nothing c c' h i n = i.caps_hold_if_true (right_true s t h.typed n)
-  or_hold s t No Either c c' h i n = i.caps_hold_if_true (right_true s t h.typed n)
-  or_hold s t Nothing Nothing c c' h i n = either_true s t c c' h.caps_hold_if_true i.caps_hold_if_true n
-  or_hold s t Nothing Either c c' h i n = either_true s t c c' h.caps_hold_if_true i.caps_hold_if_true n
-  or_hold s t Either Nothing c c' h i n = either_true s t c c' h.caps_hold_if_true i.caps_hold_if_true n
-  or_hold s t Either Either c c' h i n = either_true s t c c' h.caps_hold_if_true i.caps_hold_if_true n
-  or_hold s t Yes Nothing c c' h i n = either_true s t c c' h.caps_hold_if_true i.caps_hold_if_true n
-  or_hold s t Yes Either c c' h i n = either_true s t c c' h.caps_hold_if_true i.caps_hold_if_true n
+  or_hold s t k OnlyTrue c c' h i n = i.caps_hold_at_true tt
+  or_hold s t k OnlyFalse c c' h i n = h.caps_hold_if_true (left_true s t i.typed n)
+  or_hold s t OnlyFalse NoValue c c' h i n = i.caps_hold_if_true (right_true s t h.typed n)
+  or_hold s t OnlyFalse AnyValue c c' h i n = i.caps_hold_if_true (right_true s t h.typed n)
+  or_hold s t NoValue NoValue c c' h i n = either_true s t c c' h.caps_hold_if_true i.caps_hold_if_true n
+  or_hold s t NoValue AnyValue c c' h i n = either_true s t c c' h.caps_hold_if_true i.caps_hold_if_true n
+  or_hold s t AnyValue NoValue c c' h i n = either_true s t c c' h.caps_hold_if_true i.caps_hold_if_true n
+  or_hold s t AnyValue AnyValue c c' h i n = either_true s t c c' h.caps_hold_if_true i.caps_hold_if_true n
+  or_hold s t OnlyTrue NoValue c c' h i n = either_true s t c c' h.caps_hold_if_true i.caps_hold_if_true n
+  or_hold s t OnlyTrue AnyValue c c' h i n = either_true s t c c' h.caps_hold_if_true i.caps_hold_if_true n
 
   -- where the whole is True, the side that makes it so hands on what holds in any case
-  or_sure : (k l : Sort) (c c' : Caps) → (SureSort (Some k) → AllHold world c)
+  or_sure : (k l : BoolSort) (c c' : Caps) → (SureSort (Some k) → AllHold world c)
       → (SureSort (Some l) → AllHold world c') → IsSure (Some (sides_type disjunction (sort_ty k) (sort_ty l)))
       → AllHold world (sides_caps disjunction (sort_ty k) (sort_ty l) c c')
-  or_sure k Yes c c' f g n = g tt
-  or_sure Nothing No c c' f g n = f tt
-  or_sure Yes No c c' f g n = f tt
-  or_sure Either No c c' f g n = absurd n
-  or_sure No No c c' f g n = absurd n
-  or_sure No Nothing c c' f g n = g tt
-  or_sure No Either c c' f g n = absurd n
-  or_sure Nothing Nothing c c' f g n = absurd n
-  or_sure Nothing Either c c' f g n = absurd n
-  or_sure Either Nothing c c' f g n = absurd n
-  or_sure Either Either c c' f g n = absurd n
-  or_sure Yes Nothing c c' f g n = absurd n
-  or_sure Yes Either c c' f g n = absurd n
+  or_sure k OnlyTrue c c' f g n = g tt
+  or_sure NoValue OnlyFalse c c' f g n = f tt
+  or_sure OnlyTrue OnlyFalse c c' f g n = f tt
+  or_sure AnyValue OnlyFalse c c' f g n = absurd n
+  or_sure OnlyFalse OnlyFalse c c' f g n = absurd n
+  or_sure OnlyFalse NoValue c c' f g n = g tt
+  or_sure OnlyFalse AnyValue c c' f g n = absurd n
+  or_sure NoValue NoValue c c' f g n = absurd n
+  or_sure NoValue AnyValue c c' f g n = absurd n
+  or_sure AnyValue NoValue c c' f g n = absurd n
+  or_sure AnyValue AnyValue c c' f g n = absurd n
+  or_sure OnlyTrue NoValue c c' f g n = absurd n
+  or_sure OnlyTrue AnyValue c c' f g n = absurd n
 
-  or_success : (s t : Test) (k l : Sort) (c c' : Caps) → SoundTest world s true (Some k) c → SoundTest world t true (Some l) c'
+  or_success : (s t : Test) (k l : BoolSort) (c c' : Caps) → SoundTest world s true (Some k) c → SoundTest world t true (Some l) c'
       → Sound world (of_test (or_test s t)) true (Some (sides_type disjunction (sort_ty k) (sort_ty l)))
       (sides_caps disjunction (sort_ty k) (sort_ty l) c c')
   or_success s t k l c c' h i =
@@ -111,7 +111,7 @@ module _ (world : World) where
       where
         by_true : Sound world o true (Some (TBool True)) c → Sound world one_of_both true (Some (TBool True)) c
         by_true s =
-            let h = sorted world o true Yes c s in
+            let h = sorted world o true OnlyTrue c s in
             of_test_sound world _ _ _ (true_has (test_of o) (test_of o') h.typed)
             (true_safe (test_of o) (test_of o') h.typed (h.safe refl)) (λ n. h.caps_hold_at_true tt)
             (λ n. h.caps_hold_at_true tt)
@@ -129,7 +129,7 @@ module _ (world : World) where
     or_recovery x es (left_ends_failed {c = k} {a = a} p n) =
         let h = tested_operand world o env l A left false k a es p in
         let e = true_sort (annotation a) (operand_sort world o env l A false k a es p) n in
-        let P : Option Sort → Type 0 = λ s. TestHas (test_of o) s in
+        let P : Option BoolSort → Type 0 = λ s. TestHas (test_of o) s in
         let Q : Option Ty → Type 0 = λ t. Sound world one_of_both false t no_caps in
         let f : annotation a ≡ Some (TBool True) = operand_sort world o env l A false k a es p ∙ ap (option_map sort_ty) e in
         subst Q (sym (annotation-at_place m.place a ∙ f))

@@ -1,7 +1,7 @@
 use Rattle.std.proofs.Common.{◌&&◌, [], ◌∷◌, ◌++◌, ap, sym, ◌∙◌, subst}
 use Rattle.std.specs.Prelude.{Ok}
 use Rattle.cedar_typing.specs.Answer.{AreHanded}
-use Rattle.cedar_typing.specs.Views.{HandsOn}
+use Rattle.cedar_typing.specs.Views.{BecomesPart}
 use Rattle.cedar_typing.proofs.Rules.Sequence.{one_more, is_limit, all_more, handed_more, none_more, drained, cut}
 use Rattle.cedar_typing.proofs.typecheck.sequence.gather.Goals as goal
 use Rattle.cedar_typing.proofs.typecheck.sequence.gather.Goals.{in-None, in-Some+in_ok-answer+in_default}
@@ -25,6 +25,6 @@ returns g c =
     elim c.match-next.branch [
       | in-None w ↦ drained _ _ _ _ _ _ y w.in-None.ensures.steps k.hand_on k.handed (w.is_limit-is ∙ k.no_limit) k.succeeded
       | in-Some+in_ok-answer+in_default w ↦
-          let e = w.in_ok-answer.was ∙ ap Ok (is_limit w.in_ok-answer.field-0 (subst (HandsOn w.in_ok-answer.field-0) w.in_default.is w.into_part.ensures.handed)) in
+          let e = w.in_ok-answer.was ∙ ap Ok (is_limit w.in_ok-answer.field-0 (subst (BecomesPart w.in_ok-answer.field-0) w.in_default.is w.into_part.ensures.handed)) in
           cut _ _ _ _ _ _ _ y w.in-Some.ensures.steps e k.hand_on k.handed w.is_limit-is k.succeeded
     ]

@@ -43,7 +43,7 @@ typecheck-returns-in-And g t c =
     written_as c.args.e.now (K.And c.in-And.left c.in-And.right) c.in-And.is ∙ (λ i. and m (written (sym c.deref.ensures i)) (written (sym c.deref-in-And.ensures i))) in
     let P : AnswerAndErrors → Type 0 = λ z. IfOk c.type_short_circuit.result (λ r. z ≡ (answer_of r, findings c.type_short_circuit.new.errors.items)) in
     infer_as P (setting_at g.C.ArgumentCheck.refusal c.args.self.now) (known_in c.args.prior.now) c.args.depth
-    (findings c.args.errors.now.items) c.if-depth-gt-MAX_NESTING.false tree c.type_short_circuit.ensures
+    (findings c.args.errors.now.items) c.if-depth-gt-MAX_TYPED_DEPTH.false tree c.type_short_circuit.ensures
 
 pub typecheck-returns-in-Or : goal.typecheck-returns-in-Or
 typecheck-returns-in-Or g t c =
@@ -52,7 +52,7 @@ typecheck-returns-in-Or g t c =
     written_as c.args.e.now (K.Or c.in-Or.left c.in-Or.right) c.in-Or.is ∙ (λ i. or m (written (sym c.deref-in-Or.ensures i)) (written (sym c.deref-in-Or-2.ensures i))) in
     let P : AnswerAndErrors → Type 0 = λ z. IfOk c.type_short_circuit-in-Or.result (λ r. z ≡ (answer_of r, findings c.type_short_circuit-in-Or.new.errors.items)) in
     infer_as P (setting_at g.C.ArgumentCheck.refusal c.args.self.now) (known_in c.args.prior.now) c.args.depth
-    (findings c.args.errors.now.items) c.if-depth-gt-MAX_NESTING.false tree c.type_short_circuit-in-Or.ensures
+    (findings c.args.errors.now.items) c.if-depth-gt-MAX_TYPED_DEPTH.false tree c.type_short_circuit-in-Or.ensures
 
 pub typecheck-returns-in-HasAttr : goal.typecheck-returns-in-HasAttr
 typecheck-returns-in-HasAttr g t c =
@@ -61,7 +61,7 @@ typecheck-returns-in-HasAttr g t c =
     written_as c.args.e.now (K.HasAttr c.in-HasAttr.base c.in-HasAttr.attr) c.in-HasAttr.is ∙ (λ i. has_attr m (written (sym c.deref-in-HasAttr.ensures i)) (text_of c.in-HasAttr.attr)) in
     let P : AnswerAndErrors → Type 0 = λ z. IfOk c.type_one_operand-in-HasAttr.result (λ r. z ≡ (answer_of r, findings c.type_one_operand-in-HasAttr.new.errors.items)) in
     infer_as P (setting_at g.C.ArgumentCheck.refusal c.args.self.now) (known_in c.args.prior.now) c.args.depth
-    (findings c.args.errors.now.items) c.if-depth-gt-MAX_NESTING.false tree c.type_one_operand-in-HasAttr.ensures
+    (findings c.args.errors.now.items) c.if-depth-gt-MAX_TYPED_DEPTH.false tree c.type_one_operand-in-HasAttr.ensures
 
 pub typecheck-returns-in-GetAttr : goal.typecheck-returns-in-GetAttr
 typecheck-returns-in-GetAttr g t c =
@@ -70,7 +70,7 @@ typecheck-returns-in-GetAttr g t c =
     written_as c.args.e.now (K.GetAttr c.in-GetAttr.base c.in-GetAttr.attr) c.in-GetAttr.is ∙ (λ i. get_attr m (written (sym c.deref-in-GetAttr.ensures i)) (text_of c.in-GetAttr.attr)) in
     let P : AnswerAndErrors → Type 0 = λ z. IfOk c.type_one_operand-in-GetAttr.result (λ r. z ≡ (answer_of r, findings c.type_one_operand-in-GetAttr.new.errors.items)) in
     infer_as P (setting_at g.C.ArgumentCheck.refusal c.args.self.now) (known_in c.args.prior.now) c.args.depth
-    (findings c.args.errors.now.items) c.if-depth-gt-MAX_NESTING.false tree c.type_one_operand-in-GetAttr.ensures
+    (findings c.args.errors.now.items) c.if-depth-gt-MAX_TYPED_DEPTH.false tree c.type_one_operand-in-GetAttr.ensures
 
 pub typecheck-returns-in-UnaryApp : goal.typecheck-returns-in-UnaryApp
 typecheck-returns-in-UnaryApp g t c =
@@ -78,7 +78,7 @@ typecheck-returns-in-UnaryApp g t c =
     let tree : written c.args.e.now ≡ unary m c.in-UnaryApp.op (written c.deref-in-UnaryApp.result.now) =
     written_as c.args.e.now (K.UnaryApp c.in-UnaryApp.op c.in-UnaryApp.operand) c.in-UnaryApp.is ∙ (λ i. unary m c.in-UnaryApp.op (written (sym c.deref-in-UnaryApp.ensures i))) in
     let P : AnswerAndErrors → Type 0 = λ z. IfOk c.type_one_operand.result (λ r. z ≡ (answer_of r, findings c.type_one_operand.new.errors.items)) in
-    infer_as P (setting_at g.C.ArgumentCheck.refusal c.args.self.now) (known_in c.args.prior.now) c.args.depth (findings c.args.errors.now.items) c.if-depth-gt-MAX_NESTING.false tree c.type_one_operand.ensures
+    infer_as P (setting_at g.C.ArgumentCheck.refusal c.args.self.now) (known_in c.args.prior.now) c.args.depth (findings c.args.errors.now.items) c.if-depth-gt-MAX_TYPED_DEPTH.false tree c.type_one_operand.ensures
 
 pub typecheck-returns-in-Like : goal.typecheck-returns-in-Like
 typecheck-returns-in-Like g t c =
@@ -87,7 +87,7 @@ typecheck-returns-in-Like g t c =
     written_as c.args.e.now (K.Like c.in-Like.operand c.in-Like.pattern) c.in-Like.is ∙ (λ i. like m (written (sym c.deref-in-Like.ensures i)) c.in-Like.pattern.items) in
     let P : AnswerAndErrors → Type 0 = λ z. IfOk c.type_one_operand-in-Like.result (λ r. z ≡ (answer_of r, findings c.type_one_operand-in-Like.new.errors.items)) in
     infer_as P (setting_at g.C.ArgumentCheck.refusal c.args.self.now) (known_in c.args.prior.now) c.args.depth
-    (findings c.args.errors.now.items) c.if-depth-gt-MAX_NESTING.false tree c.type_one_operand-in-Like.ensures
+    (findings c.args.errors.now.items) c.if-depth-gt-MAX_TYPED_DEPTH.false tree c.type_one_operand-in-Like.ensures
 
 pub typecheck-returns-in-Is : goal.typecheck-returns-in-Is
 typecheck-returns-in-Is g t c =
@@ -96,7 +96,7 @@ typecheck-returns-in-Is g t c =
     written_as c.args.e.now (K.Is c.in-Is.operand c.in-Is.named) c.in-Is.is ∙ (λ i. is_type m (written (sym c.deref-in-Is.ensures i)) (type_of c.in-Is.named)) in
     let P : AnswerAndErrors → Type 0 = λ z. IfOk c.type_one_operand-in-Is.result (λ r. z ≡ (answer_of r, findings c.type_one_operand-in-Is.new.errors.items)) in
     infer_as P (setting_at g.C.ArgumentCheck.refusal c.args.self.now) (known_in c.args.prior.now) c.args.depth
-    (findings c.args.errors.now.items) c.if-depth-gt-MAX_NESTING.false tree c.type_one_operand-in-Is.ensures
+    (findings c.args.errors.now.items) c.if-depth-gt-MAX_TYPED_DEPTH.false tree c.type_one_operand-in-Is.ensures
 
 pub typecheck-returns-in-BinaryApp : goal.typecheck-returns-in-BinaryApp
 typecheck-returns-in-BinaryApp g t c =
@@ -114,7 +114,7 @@ typecheck-returns-in-BinaryApp g t c =
     let P : AnswerAndErrors → Type 0 = λ z. IfOk c.type_two_operands.result (λ r. z ≡ (answer_of r, findings c.type_two_operands.new.errors.items)) in
     let Q : Source → Type 0 = λ e. P (infer_within s e prior d es) in
     let R : Form → Type 0 = λ f. P (infer_two_operands s.env f (place_of a) (place_of b) (infer s a prior (d + 1)) (infer s b prior (d + 1)) es) in
-    subst P (sym (below_limit d es _ c.if-depth-gt-MAX_NESTING.false)) (subst Q (sym tree) (subst R (c.of-form.ensures s.env m prior a b) c.type_two_operands.ensures))
+    subst P (sym (below_limit d es _ c.if-depth-gt-MAX_TYPED_DEPTH.false)) (subst Q (sym tree) (subst R (c.of-form.ensures s.env m prior a b) c.type_two_operands.ensures))
 
 pub typecheck-returns-in-ExtHasAttr : goal.typecheck-returns-in-ExtHasAttr
 typecheck-returns-in-ExtHasAttr g t c =
@@ -124,7 +124,7 @@ typecheck-returns-in-ExtHasAttr g t c =
     written_as c.args.e.now (K.ExtHasAttr c.in-ExtHasAttr.base chain) c.in-ExtHasAttr.is ∙ (λ i. ext_has_attr m (written (sym c.deref-in-ExtHasAttr.ensures i)) (chain_of chain).0 (chain_of chain).1) in
     let P : AnswerAndErrors → Type 0 = λ z. IfOk c.type_one_operand-in-ExtHasAttr.result (λ r. z ≡ (answer_of r, findings c.type_one_operand-in-ExtHasAttr.new.errors.items)) in
     infer_as P (setting_at g.C.ArgumentCheck.refusal c.args.self.now) (known_in c.args.prior.now) c.args.depth
-    (findings c.args.errors.now.items) c.if-depth-gt-MAX_NESTING.false tree c.type_one_operand-in-ExtHasAttr.ensures
+    (findings c.args.errors.now.items) c.if-depth-gt-MAX_TYPED_DEPTH.false tree c.type_one_operand-in-ExtHasAttr.ensures
 
 pub type_two_operands-returns-then-is_none-goes_on : goal.type_two_operands-returns-then-is_none-goes_on
 type_two_operands-returns-then-is_none-goes_on g t c =
@@ -212,7 +212,7 @@ pub typecheck-returns-in-ExtensionFunctionApp : goal.typecheck-returns-in-Extens
 typecheck-returns-in-ExtensionFunctionApp g t c =
     let tree = written_call c.args.e.now c.in-ExtensionFunctionApp.name c.in-ExtensionFunctionApp.arguments c.in-ExtensionFunctionApp.is in
     let P : AnswerAndErrors → Type 0 = λ z. IfOk c.type_call.result (λ r. z ≡ (answer_of r, findings c.type_call.new.errors.items)) in
-    infer_as P (setting_at g.C.ArgumentCheck.refusal c.args.self.now) (known_in c.args.prior.now) c.args.depth (findings c.args.errors.now.items) c.if-depth-gt-MAX_NESTING.false tree c.type_call.ensures
+    infer_as P (setting_at g.C.ArgumentCheck.refusal c.args.self.now) (known_in c.args.prior.now) c.args.depth (findings c.args.errors.now.items) c.if-depth-gt-MAX_TYPED_DEPTH.false tree c.type_call.ensures
 
 pub type_call-returns : goal.type_call-returns
 type_call-returns g t c =
@@ -227,13 +227,13 @@ pub typecheck-returns-in-Set : goal.typecheck-returns-in-Set
 typecheck-returns-in-Set g t c =
     let tree = written_set c.args.e.now c.in-Set.elements c.in-Set.is in
     let P : AnswerAndErrors → Type 0 = λ z. IfOk c.type_set.result (λ r. z ≡ (answer_of r, findings c.type_set.new.errors.items)) in
-    infer_as P (setting_at g.C.ArgumentCheck.refusal c.args.self.now) (known_in c.args.prior.now) c.args.depth (findings c.args.errors.now.items) c.if-depth-gt-MAX_NESTING.false tree c.type_set.ensures
+    infer_as P (setting_at g.C.ArgumentCheck.refusal c.args.self.now) (known_in c.args.prior.now) c.args.depth (findings c.args.errors.now.items) c.if-depth-gt-MAX_TYPED_DEPTH.false tree c.type_set.ensures
 
 pub typecheck-returns-in-Record : goal.typecheck-returns-in-Record
 typecheck-returns-in-Record g t c =
     let tree = written_record c.args.e.now c.in-Record.fields c.in-Record.is in
     let P : AnswerAndErrors → Type 0 = λ z. IfOk c.type_record.result (λ r. z ≡ (answer_of r, findings c.type_record.new.errors.items)) in
-    infer_as P (setting_at g.C.ArgumentCheck.refusal c.args.self.now) (known_in c.args.prior.now) c.args.depth (findings c.args.errors.now.items) c.if-depth-gt-MAX_NESTING.false tree c.type_record.ensures
+    infer_as P (setting_at g.C.ArgumentCheck.refusal c.args.self.now) (known_in c.args.prior.now) c.args.depth (findings c.args.errors.now.items) c.if-depth-gt-MAX_TYPED_DEPTH.false tree c.type_record.ensures
 
 pub type_record-returns : goal.type_record-returns
 type_record-returns g t c =

@@ -2,7 +2,7 @@ use Rattle.std.proofs.Common.{◌||◌, ◌∷◌, [], map, ap, refl, sym, ◌�
 use Rattle.std.specs.Set.{is_member}
 use Rattle.cedar_types.specs.contracts.base.errors.validation_errors.ValidationErrorPartialEq.TheImpl as error_impl
 use Rattle.cedar_types.specs.contracts.base.errors.validation_warnings.ValidationWarningPartialEq.TheImpl as warning_impl
-use Rattle.cedar_types.specs.Errors.{finding_of, caution_of}
+use Rattle.cedar_types.specs.Errors.{finding_of, warning_of}
 use Rattle.cedar_types.specs.Templates.{template_of}
 use Rattle.cedar_types.proofs.Expressions.SortedTables.{no_fault}
 use Rattle.cedar_types.specs.Extensions.{functions_of}
@@ -25,19 +25,19 @@ returns-clause-exact g c =
     let gained = union_adds eq finding_of error_decides old tally.errors.keys new
     (λ q. c.put_all.ensures q ∙ ap (λ b. b || is_member eq tally.errors.keys q) (c.in_ok-reserve.ensures.keys.2 q)) in
     let irrelevant = found.tallied.irrelevant in
-    let warnings : Adds (map caution_of c.args.warnings.now.keys)
+    let warnings : Adds (map warning_of c.args.warnings.now.keys)
     (warnings_of (template_of c.args.t.now) found.verdicts)
-    (map caution_of c.if-tally.warnings.keys) = elim c.if-tally.branch [
+    (map warning_of c.if-tally.warnings.keys) = elim c.if-tally.branch [
       | then-tally+in_ok-warning+in_ok-insert w ↦ rw w.warnings-is
-          (warned (template_of c.args.t.now) found.verdicts (map caution_of c.args.warnings.now.keys)
-          (map caution_of w.insert.new.self.keys) (caution_of w.in_ok-warning.warning)
+          (warned (template_of c.args.t.now) found.verdicts (map warning_of c.args.warnings.now.keys)
+          (map warning_of w.insert.new.self.keys) (warning_of w.in_ok-warning.warning)
           (sym irrelevant ∙ w.if-tally.true) w.in_ok-warning.ensures
-          (union_adds warning_impl.ghosts.eq caution_of warning_decides c.args.warnings.now.keys
+          (union_adds warning_impl.ghosts.eq warning_of warning_decides c.args.warnings.now.keys
           (w.in_ok-warning.warning ∷ []) w.insert.new.self.keys
-          (put_adds warning_impl.ghosts.eq caution_of warning_decides w.in_ok-warning.warning
+          (put_adds warning_impl.ghosts.eq warning_of warning_decides w.in_ok-warning.warning
           c.args.warnings.now.keys w.insert.new.self.keys (w.in_ok-insert.ensures.updates.0))))
       | else-tally w ↦ rw w.warnings-is
-          (not_warned (template_of c.args.t.now) found.verdicts (map caution_of c.args.warnings.now.keys)
+          (not_warned (template_of c.args.t.now) found.verdicts (map warning_of c.args.warnings.now.keys)
           _ (sym irrelevant ∙ w.if-tally.false) refl)
     ] in
     record {
