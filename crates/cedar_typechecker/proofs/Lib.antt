@@ -1,6 +1,7 @@
 mod Lists
 mod Answers
 mod Passes
+pub mod Validations
 pub mod SurveyedErrors
 pub mod Surveys
 pub mod Representatives

@@ -4,7 +4,7 @@ use Rattle.std.specs.List.{list_any}
 use Rattle.cedar_types.specs.declared.base.errors.validation_warnings.ValidationWarning.{ValidationWarning}
 use Rattle.cedar_types.specs.declared.base.names.entities.EntityUID.{EntityUID}
 use Rattle.cedar_types.specs.declared.base.names.slots.SlotId.{SlotId}
-use Rattle.cedar_types.specs.Errors.{Caution, caution_of, invalid_action_application}
+use Rattle.cedar_types.specs.Errors.{Warning, warning_of, invalid_action_application}
 use Rattle.cedar_types.specs.Names.{Path, PlacedUid, placed_uid}
 use Rattle.cedar_types.specs.Environments.RequestEnvs.{bound_to}
 use Rattle.cedar_types.specs.Schemas.{Application, Schema, is_among, descendants_of}
@@ -58,7 +58,7 @@ in_might_help s side apps c = might_help s side apps (equal_type c)
 -- ---- the warning
 
 -- at the policy's place, with a flag for the principal and one for the resource
-abbrev pub application_warning : Schema → PlainTemplate → Caution
+abbrev pub application_warning : Schema → PlainTemplate → Warning
 application_warning s t =
     let apps = admitted_applications s t.action in
     record {
@@ -74,7 +74,7 @@ abbrev pub AnswersApplication : Schema → PlainTemplate → Result (Unit {0}) V
     → Type 0
 AnswersApplication s t (Ok u) = has_fitting_action s t ≡ true
 AnswersApplication s t (Err w) =
-    (has_fitting_action s t ≡ false) × (caution_of w ≡ application_warning s t)
+    (has_fitting_action s t ≡ false) × (warning_of w ≡ application_warning s t)
 
 -- ---- the scope of a linked policy
 

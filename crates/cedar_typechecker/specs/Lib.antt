@@ -6,6 +6,7 @@ pub mod Passes
 pub mod SlotTypes
 pub mod Levels
 pub mod Slices
+pub mod Validations
 pub mod SurveyedErrors
 pub mod Surveys
 pub mod Representatives

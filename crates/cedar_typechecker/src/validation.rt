@@ -1,7 +1,7 @@
 // The validation of a policy: the names in it, its scope, and its checks.
 ghost use Rattle.std.specs.Prelude.{◌≡◌, ◌++◌, IfOk, OnOk, IsPermutation, map, cond, [], ◌∷◌};
 ghost use Rattle.std.specs.BTreeMap.{keys};
-ghost use Rattle.cedar_types.specs.Errors.{caution_of};
+ghost use Rattle.cedar_types.specs.Errors.{warning_of};
 ghost use Rattle.cedar_types.specs.Schemas.Contents.{schema_of};
 ghost use Rattle.cedar_types.specs.Templates.{template_of};
 ghost use Rattle.cedar_typing.specs.PolicyCheck.Outcome.{impossible};
@@ -36,7 +36,7 @@ impl<C: ArgumentCheck> Validator<'_, C> {
     ) -> Result<(Vec<ValidationError>, Vec<ValidationWarning>), AllocError>
         ensures exact { IfOk result (λ r.
             ValidationOutcome (basis_in C.refusal self.now mode) (template_of p.now)
-            (findings r.0.items) (map caution_of r.1.items)) }
+            (findings r.0.items) (map warning_of r.1.items)) }
     {
         let survey = self.survey(alloc, p, mode)?;
         let warnings = self.warnings(alloc, p, mode, survey.is_impossible())?;
@@ -80,7 +80,7 @@ impl<C: ArgumentCheck> Validator<'_, C> {
         mode: ValidationMode,
         is_impossible: bool,
     ) -> Result<Vec<ValidationWarning>, AllocError>
-        ensures { IfOk result (λ found. map caution_of found.items
+        ensures { IfOk result (λ found. map warning_of found.items
             ≡ application_warnings mode (schema_of (schema_in self.now)) (template_of p.now)
             ++ cond is_impossible (impossible (template_of p.now) ∷ []) []) }
     {
@@ -125,7 +125,7 @@ pub(crate) fn append_keys(
 
 /// The warning that this policy is impossible.
 fn impossible_policy(p: &Template) -> Result<ValidationWarning, AllocError>
-    ensures { IfOk result (λ w. caution_of w ≡ impossible (template_of p.now)) }
+    ensures { IfOk result (λ w. warning_of w ≡ impossible (template_of p.now)) }
 {
     Ok(ValidationWarning::impossible_policy(p.loc, p.id.clone()?))
 }

@@ -14,7 +14,7 @@ use Rattle.cedar_typechecker.specs.Levels.Chains.{Base, an_entity, a_record, nei
 use Rattle.cedar_typechecker.specs.Levels.Costs.{cost_of, keys_of}
 use Rattle.cedar_typechecker.specs.Levels.Dereferences.{Target, along, accesses_first, checked_of_chain, targets_of_chain, target_at_keys}
 use Rattle.cedar_typechecker.specs.Levels.Dereferences.{checked_of_base, targets_of_base, checked_parts, targets}
-use Rattle.cedar_typechecker.specs.Levels.Errors.{faults, finding_at}
+use Rattle.cedar_typechecker.specs.Levels.Errors.{faults, level_finding}
 use Rattle.cedar_typechecker.specs.Levels.Setting.{LevelSetting}
 use Rattle.cedar_typechecker.specs.Levels.Walk.{found_at, of_base, of_keys, of_chain, checked_errors, all_errors, field_errors}
 use Rattle.cedar_typechecker.specs.Levels.Walk.{target_errors}
@@ -40,7 +40,7 @@ then_in false x xs ys e h = cc
 
 -- an error at a node, found there
 pub found_back : (s : LevelSetting) (m : Mark) (fs : List Fault) (e : Finding)
-    → IsOneOf e (found_at s m fs) → (f : Fault) × IsOneOf f fs × (e ≡ finding_at s m f)
+    → IsOneOf e (found_at s m fs) → (f : Fault) × IsOneOf f fs × (e ≡ level_finding s m f)
 found_back s m [] e h = absurd h
 found_back s m (f ∷ fs) e (inl q) = (f, inl refl, q)
 found_back s m (f ∷ fs) e (inr h) = let r = found_back s m fs e h in (r.0, inr r.1, r.2)

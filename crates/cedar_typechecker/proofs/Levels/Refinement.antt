@@ -1,7 +1,7 @@
 -- Levels where a policy passes in Strict are those of Permissive.
 use Rattle.std.proofs.Common.{◌↔◌, ℕ, List, Option, Some, None}
 use Rattle.cedar_types.specs.declared.base.types.ValidationMode.TheVariants.{Strict, Permissive}
-use Rattle.cedar_types.specs.Errors.{Finding, Caution}
+use Rattle.cedar_types.specs.Errors.{Finding, Warning}
 use Rattle.cedar_types.specs.Environments.Linking.{checked_envs}
 use Rattle.cedar_types.specs.Templates.{PlainTemplate}
 use Rattle.cedar_typing.specs.PolicyCheck.{Verdict}
@@ -36,7 +36,7 @@ module _ (b : Basis) (t : PlainTemplate) (same : HasSameVerdicts b t) where
     required_moved other one t (λ n. ((within_same n).1, (within_same n).0)) r,
   )
 
-  module _ (n : ℕ) (errors : List Finding) (warnings : List Caution) where
+  module _ (n : ℕ) (errors : List Finding) (warnings : List Warning) where
     outcome_kept : LevelOutcome one t n errors warnings → LevelOutcome other t n errors warnings
     outcome_kept o = record {
       listed = o.listed;

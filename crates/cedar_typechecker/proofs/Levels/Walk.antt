@@ -10,7 +10,7 @@ use Rattle.cedar_typing.proofs.Basics.{some_is}
 use Rattle.cedar_typechecker.specs.Levels.Chains.{Base, an_entity, a_record, neither, base_of, is_get_tag, field_at, leaf_of}
 use Rattle.cedar_typechecker.specs.Levels.Costs.{cost_of, keys_of}
 use Rattle.cedar_typechecker.specs.Levels.Dereferences.{along, accesses_first, checked_of_chain, targets_of_chain, target_at_keys, checked_of_base, targets_of_base, fields_beside, checked_beside, target_of_field, next_of_access, IsChecked, the_root, part_of_checked, part_of_target, IsTarget, target_of_checked, next_target}
-use Rattle.cedar_typechecker.specs.Levels.Errors.{faults, faults_at_end, finding_at, IsLevelError, at_checked, at_target}
+use Rattle.cedar_typechecker.specs.Levels.Errors.{faults, faults_at_end, level_finding, IsLevelError, at_checked, at_target}
 use Rattle.cedar_typechecker.specs.Levels.Laws.{WalkFindsErrors, SilentWalkIsWithin}
 use Rattle.cedar_typechecker.specs.Levels.Setting.{LevelSetting}
 use Rattle.cedar_typechecker.specs.Levels.Walk.{found_at, of_base, of_keys, of_value, of_chain, leaf_errors, checked_errors, all_errors, field_errors, target_errors, errors_along}
@@ -42,9 +42,9 @@ module _ (s : LevelSetting) where
 
     is_found : (e : Finding) → IsLevelError s root e → IsOneOf e (Checked root)
     is_found e (at_checked {x = x} {f = v} c i) =
-        of_checked c (finding_at s (mark_of x) v) (node_in s x v i)
+        of_checked c (level_finding s (mark_of x) v) (node_in s x v i)
     is_found e (at_target {x = x} {path = path} {f = v} t i) =
-        of_target t (finding_at s (mark_of x) v) (leaf_in s x path v i)
+        of_target t (level_finding s (mark_of x) v) (leaf_in s x path v i)
 
     -- ---- and nothing else
 

@@ -12,7 +12,7 @@ use Rattle.cedar_typechecker.specs.Levels.Chains.{base_of}
 use Rattle.cedar_typechecker.proofs.Levels.Silent.{Spends, ByBase}
 use Rattle.cedar_typechecker.proofs.Slices.Ids.{Selected, select_found, entry_ids, select_entity, attribute_ids}
 use Rattle.cedar_typechecker.proofs.Slices.Same.{IsReached, value_map}
-use Rattle.cedar_typechecker.proofs.Slices.Stores.{Agrees, IsSameIn, same_value}
+use Rattle.cedar_typechecker.proofs.Slices.Stores.{Agrees, IsSameValueIn, same_value}
 
 -- ---- what a base is
 
@@ -46,25 +46,25 @@ spent (suc k) P h = (k, refl, h)
 -- ---- in two stores that have the same of the base
 
 module _ (store part : Store) where
-  record_alike : (v : Value) → IsRecord v → IsSameIn part store v
+  record_alike : (v : Value) → IsRecord v → IsSameValueIn part store v
   record_alike (VRecord es) h = tt
   record_alike v h = absurd h
 
   module _ (x : Text) where
-    pub has_alike : (v : Value) → IsSameIn part store v → has_test part x v ≡ has_test store x v
+    pub has_alike : (v : Value) → IsSameValueIn part store v → has_test part x v ≡ has_test store x v
     has_alike (VEntity u) e = ap (λ z. Says (entity_has z x)) e
     has_alike v e = refl
 
-    pub get_alike : (v : Value) → IsSameIn part store v → get part x v ≡ get store x v
+    pub get_alike : (v : Value) → IsSameValueIn part store v → get part x v ≡ get store x v
     get_alike (VEntity u) e = ap (λ z. entity_get z x) e
     get_alike v e = refl
 
-    tested_alike : (o : Outcome) → OnValue (IsSameIn part store) o
+    tested_alike : (o : Outcome) → OnValue (IsSameValueIn part store) o
         → then_test o (has_test part x) ≡ then_test o (has_test store x)
     tested_alike (Gives v) h = has_alike v h
     tested_alike (Fails f) h = refl
 
-    got_alike : (o : Outcome) → OnValue (IsSameIn part store) o
+    got_alike : (o : Outcome) → OnValue (IsSameValueIn part store) o
         → on_value o (get part x) ≡ on_value o (get store x)
     got_alike (Gives v) h = get_alike v h
     got_alike (Fails f) h = refl
@@ -74,7 +74,7 @@ module _ (store part : Store) where
 module _ (q : Request) (store part : Store) (n : ℕ) (P : ℕ → Uid → Type 0)
     (a : Agrees q store part n P) where
   pub reached_alike : (k : ℕ) → k < n → (path : List Text) (o : Outcome)
-      → OnValue (Selected (P k) path) o → OnValue (IsSameIn part store) o
+      → OnValue (Selected (P k) path) o → OnValue (IsSameValueIn part store) o
   reached_alike k lt path o h = value_map o (same_value q store part n P a k lt path) h
 
   module _ (x : Text) where

@@ -26,7 +26,7 @@ use Rattle.cedar_typechecker.proofs.Slices.Accesses.{spent, reached_alike}
 use Rattle.cedar_typechecker.proofs.Slices.Ids.{Selected, select_found, entry_ids, select_entity, tag_ids}
 use Rattle.cedar_typechecker.proofs.Slices.Operands.{two_same}
 use Rattle.cedar_typechecker.proofs.Slices.Same.{IsReached, IsSame}
-use Rattle.cedar_typechecker.proofs.Slices.Stores.{Agrees, IsSameIn}
+use Rattle.cedar_typechecker.proofs.Slices.Stores.{Agrees, IsSameValueIn}
 
 -- ---- in two stores that have the same of the first operand
 
@@ -43,7 +43,7 @@ module _ (store part : Store) (fns : Interpretation) where
         then Gives (VBool (any_value (λ w. is_in_alike w i) vs)) else Fails TypeFailure
     in_alike w = refl
 
-  operator_alike : (op : BinaryOp) (v w : Value) → IsSameIn part store v
+  operator_alike : (op : BinaryOp) (v w : Value) → IsSameValueIn part store v
       → binary_outcome part fns op v w ≡ binary_outcome store fns op v w
   operator_alike BinaryOp.In (VEntity u) w e = in_alike u e w
   operator_alike BinaryOp.In v w e = refl
@@ -57,7 +57,7 @@ module _ (store part : Store) (fns : Interpretation) where
   abbrev whole : Store → BinaryOp → Outcome → Outcome → Outcome
   whole at op o p = on_value o (λ v. on_value p (binary_outcome at fns op v))
 
-  whole_alike : (op : BinaryOp) (p o : Outcome) → OnValue (IsSameIn part store) o
+  whole_alike : (op : BinaryOp) (p o : Outcome) → OnValue (IsSameValueIn part store) o
       → whole part op o p ≡ whole store op o p
   whole_alike op p (Gives v) h = λ i. on_value p (λ w. operator_alike op v w h i)
   whole_alike op p (Fails f) h = refl

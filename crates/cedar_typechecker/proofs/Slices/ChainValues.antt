@@ -23,7 +23,7 @@ use Rattle.cedar_typechecker.specs.Levels.Costs.{entity_cost, on_attribute, step
 use Rattle.cedar_typechecker.proofs.Slices.Accesses.{has_alike, get_alike, entity_got}
 use Rattle.cedar_typechecker.proofs.Slices.ChainSteps.{GoesOn, step_object, step_goes_on}
 use Rattle.cedar_typechecker.proofs.Slices.Ids.{Selected, entry_ids, select_entity, attribute_ids}
-use Rattle.cedar_typechecker.proofs.Slices.Stores.{Agrees, IsSameIn}
+use Rattle.cedar_typechecker.proofs.Slices.Stores.{Agrees, IsSameValueIn}
 
 -- what is used of the types that bases of extended `has` have
 pub record AreKept (env : TypeEnv) (store : Store) (N : Ty → Type 0) : Type 0 where
@@ -77,7 +77,7 @@ abbrev pub IsTestedAlike : Store → Store → Text → List Text → Value → 
 IsTestedAlike store part x xs v = path_test part x xs v ≡ path_test store x xs v
 
 module _ (store part : Store) (x y : Text) (ys : List Text) (v : Value)
-    (same : IsSameIn part store v) where
+    (same : IsSameValueIn part store v) where
   later_alike : (o : Outcome) → OnValue (IsTestedAlike store part y ys) o
       → then_test o (path_test part y ys) ≡ then_test o (path_test store y ys)
   later_alike (Gives w) h = h
@@ -106,7 +106,7 @@ module _ (q : Request) (store part : Store) (n : ℕ) (P : ℕ → Uid → Type 
   -- both ways of a step: the attribute can't be there, or the rest says the same
   pub by_step : (l l' : Option Loc) (y : Text) (ys : List Text) (e : Source) (s : Ty) (x : Text)
       (p : Progress) (v : Value) → N s → HasType s v
-      → chain env l l' prior (y ∷ ys) e s x p ≡ gives t c → IsSameIn part store v
+      → chain env l l' prior (y ∷ ys) e s x p ≡ gives t c → IsSameValueIn part store v
       → (GoesOn env l' prior y ys e s x t c → OnValue (IsAlike y ys) (get store x v))
       → IsAlike x (y ∷ ys) v
   by_step l l' y ys e s x p v i h d same rest =

@@ -6,7 +6,7 @@ use Rattle.cedar_types.specs.declared.base.types.ValidationMode.{ValidationMode}
 use Rattle.cedar_types.specs.declared.base.types.ValidationMode.TheVariants.{Strict, Permissive, Partial}
 use Rattle.cedar_types.specs.Environments.Linking.{checked_envs}
 use Rattle.cedar_types.specs.Environments.RequestEnvs.{Env, is_partial}
-use Rattle.cedar_types.specs.Errors.{Fault, Finding, Caution}
+use Rattle.cedar_types.specs.Errors.{Fault, Finding, Warning}
 use Rattle.cedar_types.specs.Expressions.Tree.{lit, var, slot, unknown, if_then_else, and, or, unary, binary, call, get_attr, has_attr}
 use Rattle.cedar_types.specs.Expressions.Tree.{ext_has_attr, like, is_type, set_of, record_of}
 use Rattle.cedar_types.specs.Names.{Text}
@@ -32,7 +32,8 @@ use Rattle.cedar_typechecker.specs.Slices.Passing.{is_of_names_or_levels, NoneOf
 use Rattle.cedar_typechecker.specs.Slices.Passing.{RequiredLevelSuffices, RequiredLevelSufficesInPermissive}
 use Rattle.cedar_typechecker.specs.Slices.Policies.{PolicyIsWithinLevel}
 use Rattle.cedar_typechecker.proofs.Slices.Policies.{passing_needs_slice_alone, passing_needs_slice_alone_in_permissive}
-use Rattle.cedar_typechecker.proofs.Slices.Validation.{nothing_in, listed_within, IsWithin}
+use Rattle.cedar_typechecker.proofs.Slices.Validation.{listed_within, IsWithin}
+use Rattle.cedar_typechecker.proofs.Validations.{nothing_in}
 
 -- ---- what the rules of levels find is of levels
 
@@ -161,7 +162,7 @@ module _ (found : List Finding) (quiet : NoneOfNamesOrLevels found) where
   names_known Permissive s t p among = both_known s t among
   names_known Partial s t p among = cc
 
-  module _ (b : Basis) (t : PlainTemplate) (n : ℕ) (warnings : List Caution) (o : LevelOutcome b t n found warnings) where
+  module _ (b : Basis) (t : PlainTemplate) (n : ℕ) (warnings : List Warning) (o : LevelOutcome b t n found warnings) where
     abbrev names : List Finding
     names = name_findings b.mode b.schema t
 

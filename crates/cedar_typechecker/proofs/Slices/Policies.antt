@@ -2,7 +2,7 @@
 use Rattle.std.proofs.Common.{◌≡◌, ℕ, Bool, true, false, ◌||◌, List, None, refl, ap}
 use Rattle.cedar_types.specs.Types.Bounds.{is_strict}
 use Rattle.cedar_types.specs.Environments.{DeclaredEnv, environments_of}
-use Rattle.cedar_types.specs.Errors.{Finding, Caution}
+use Rattle.cedar_types.specs.Errors.{Finding, Warning}
 use Rattle.cedar_types.specs.Extensions.Functions.{table_fault}
 use Rattle.cedar_types.specs.Schemas.Formed.{has_formed_types}
 use Rattle.cedar_types.specs.Environments.Linking.{checked_envs}
@@ -92,7 +92,7 @@ module _ (strictly : Bool) (b : Basis) (t : PlainTemplate) (schema : has_fault b
             let k = known (own_env t d) (own_env_is_checked b.schema b.mode t w.slots_in_scope d one) in
             in_own d one fits k.0 k.1 k.2
 
-  suffices : (errors errors' : List Finding) (old new : List Caution) → CheckedOn b t true errors errors' old new
+  suffices : (errors errors' : List Finding) (old new : List Warning) → CheckedOn b t true errors errors' old new
       → (n : ℕ) → IsNamedBySchema b.schema t → PolicyIsWithinLevel b t n
       → (world : World) → IsWellFormed t world.slots → IsConforming b world → IsSameInSlices t world n
   suffices errors errors' old new o n names quiet world w i part holds =
@@ -102,7 +102,7 @@ module _ (strictly : Bool) (b : Basis) (t : PlainTemplate) (schema : has_fault b
       let p = passing_derived_in strictly s t strict total formed schema functions named errors errors' old new o env k in
       (p.0, p.2, quiet env k p.0 p.1))
 
-  copy_suffices : (errors errors' : List Finding) (old new : List Caution) → CheckedOn b t true errors errors' old new
+  copy_suffices : (errors errors' : List Finding) (old new : List Warning) → CheckedOn b t true errors errors' old new
       → (n : ℕ) → IsNamedBySchema b.schema t → PolicyIsWithinLevel b t n
       → (world : World) → IsWellFormed t world.slots → IsConforming b world
       → (d : DeclaredEnv) → IsOneOf d (environments_of b.schema.actions) → FitsRequest d world.request

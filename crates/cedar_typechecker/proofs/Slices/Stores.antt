@@ -34,19 +34,19 @@ pub record Agrees (r : Request) (store part : Store) (n : ℕ) (P : ℕ → Uid 
 -- ---- of one value
 
 -- both stores have the same of a value that is an entity
-abbrev pub IsSameIn : Store → Store → Value → Type 0
-IsSameIn part store (VBool b) = Unit {0}
-IsSameIn part store (VLong n) = Unit {0}
-IsSameIn part store (VString t) = Unit {0}
-IsSameIn part store (VEntity u) = entity_at part u ≡ entity_at store u
-IsSameIn part store (VSet vs) = Unit {0}
-IsSameIn part store (VRecord es) = Unit {0}
-IsSameIn part store (VExtension n t) = Unit {0}
+abbrev pub IsSameValueIn : Store → Store → Value → Type 0
+IsSameValueIn part store (VBool b) = Unit {0}
+IsSameValueIn part store (VLong n) = Unit {0}
+IsSameValueIn part store (VString t) = Unit {0}
+IsSameValueIn part store (VEntity u) = entity_at part u ≡ entity_at store u
+IsSameValueIn part store (VSet vs) = Unit {0}
+IsSameValueIn part store (VRecord es) = Unit {0}
+IsSameValueIn part store (VExtension n t) = Unit {0}
 
 module _ (r : Request) (store part : Store) (n : ℕ) (P : ℕ → Uid → Type 0)
     (a : Agrees r store part n P) where
   pub same_value : (k : ℕ) → k < n → (path : List Text) (v : Value) → Selected (P k) path v
-      → IsSameIn part store v
+      → IsSameValueIn part store v
   same_value k lt path (VEntity u) h = a.same k u (select_entity (P k) path u h) lt
   same_value k lt path v h = tt
 

@@ -16,7 +16,7 @@ use Rattle.cedar_typechecker.specs.Levels.Dereferences.{Target, along, accesses_
 use Rattle.cedar_typechecker.specs.Levels.Dereferences.{targets, target_of_field, next_of_access, next_targets, IsTarget, target_of_checked}
 use Rattle.cedar_typechecker.specs.Levels.Dereferences.{next_target}
 use Rattle.cedar_typechecker.specs.Levels.Errors.{exceeds, unless_below, unless_within, faults_of_base, level_at_keys, faults_of_chain}
-use Rattle.cedar_typechecker.specs.Levels.Errors.{faults, finding_at, at_checked, IsWithinLevel}
+use Rattle.cedar_typechecker.specs.Levels.Errors.{faults, level_finding, at_checked, IsWithinLevel}
 use Rattle.cedar_typechecker.specs.Levels.Setting.{LevelSetting}
 use Rattle.cedar_typechecker.specs.Levels.Walk.{checked_errors, target_errors}
 use Rattle.cedar_typechecker.proofs.Levels.Greatest.{has_chain, greatest_of_both, greatest_more}
@@ -158,7 +158,7 @@ module _ (s : LevelSetting) where
         → level s.action x path ≤ s.maximum
     target_level (target_of_checked {x = x} {y = y} {path = path} c i) =
         of_checked x (along y path)
-        (λ f j. quiet (finding_at s (mark_of x) f) (at_checked c j)) i
+        (λ f j. quiet (level_finding s (mark_of x) f) (at_checked c j)) i
     target_level (next_target {x = x} {y = y} {path = path} {path' = path'} t i) =
         let e = target_level t in
         let g : level s.action y path' ≤ level s.action x path =

@@ -78,18 +78,18 @@ faults_at_end (Some l) = faults_at_leaf l
 -- ---- the set
 
 -- at the place of a node
-abbrev pub finding_at : LevelSetting → Mark → Fault → Finding
-finding_at s m f = record { place = m.at.place; policy = s.policy; fault = f }
+abbrev pub level_finding : LevelSetting → Mark → Fault → Finding
+level_finding s m f = record { place = m.at.place; policy = s.policy; fault = f }
 
 pub data IsLevelError (s : LevelSetting) (root : TypedTree) : Finding → Type 0 where
   -- what is wrong with a checked expression, at its node
   at_checked : {x : TypedTree} {f : Fault}
       → IsChecked s root x → IsOneOf f (faults s x)
-      → IsLevelError s root (finding_at s (mark_of x) f)
+      → IsLevelError s root (level_finding s (mark_of x) f)
   -- what is wrong with a target that is a leaf, at its node
   at_target : {x : TypedTree} {path : List Text} {f : Fault}
       → IsTarget s root x path → IsOneOf f (faults_at_end (leaf_of s.action x path))
-      → IsLevelError s root (finding_at s (mark_of x) f)
+      → IsLevelError s root (level_finding s (mark_of x) f)
 
 -- an expression is within the level where it has no level error
 abbrev pub IsWithinLevel : LevelSetting → TypedTree → Type 0

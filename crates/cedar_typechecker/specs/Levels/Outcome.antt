@@ -2,7 +2,7 @@
 use Rattle.std.specs.Prelude.{◌≡◌, ◌↔◌, ℕ, cond, List, [], ◌∷◌, ◌++◌, ◌⊎◌, IsPermutation}
 use Rattle.cedar_types.specs.declared.base.types.ValidationMode.{ValidationMode}
 use Rattle.cedar_types.specs.declared.base.types.ValidationMode.TheVariants.{Strict, Permissive, Partial}
-use Rattle.cedar_types.specs.Errors.{Finding, Caution}
+use Rattle.cedar_types.specs.Errors.{Finding, Warning}
 use Rattle.cedar_types.specs.Templates.Findings.{unknown_types, unknown_actions, wrong_members}
 use Rattle.cedar_types.specs.Environments.Linking.{checked_envs}
 use Rattle.cedar_types.specs.Environments.RequestEnvs.{Env}
@@ -53,7 +53,7 @@ name_findings Permissive s t = wrong_members s t ++ (unknown_types s t ++ unknow
 name_findings Partial s t = []
 
 -- the warning that no action fits the scope, in the same modes
-abbrev pub application_warnings : ValidationMode → Schema → PlainTemplate → List Caution
+abbrev pub application_warnings : ValidationMode → Schema → PlainTemplate → List Warning
 application_warnings Strict s t = cond (has_fitting_action s t) [] (application_warning s t ∷ [])
 application_warnings Permissive s t =
     cond (has_fitting_action s t) [] (application_warning s t ∷ [])
@@ -66,7 +66,7 @@ AreApart (x ∷ xs) = (IsOneOf x xs → ⊥) × AreApart xs
 
 -- the errors and the warnings of a policy
 pub record ValidationOutcome (b : Basis) (t : PlainTemplate)
-    (errors : List Finding) (warnings : List Caution) : Type 0 where
+    (errors : List Finding) (warnings : List Warning) : Type 0 where
   -- the environments in some order, and a verdict of each
   pub listed : List Env
   pub verdicts : List Verdict
@@ -83,7 +83,7 @@ pub record ValidationOutcome (b : Basis) (t : PlainTemplate)
 
 -- the errors and the warnings of a policy, at the maximum n
 pub record LevelOutcome (b : Basis) (t : PlainTemplate) (n : ℕ)
-    (errors : List Finding) (warnings : List Caution) : Type 0 where
+    (errors : List Finding) (warnings : List Warning) : Type 0 where
   -- the environments in some order, and a verdict of each
   pub listed : List Env
   pub verdicts : List Verdict

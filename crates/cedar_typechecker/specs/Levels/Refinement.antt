@@ -1,7 +1,7 @@
 -- Levels where a policy passes in Strict: they are those of Permissive.
 use Rattle.std.specs.Prelude.{◌≡◌, ◌↔◌, ℕ, true, List, Option, None}
 use Rattle.cedar_types.specs.declared.base.types.ValidationMode.TheVariants.{Strict, Permissive}
-use Rattle.cedar_types.specs.Errors.{Finding, Caution}
+use Rattle.cedar_types.specs.Errors.{Finding, Warning}
 use Rattle.cedar_types.specs.Extensions.Functions.{table_fault}
 use Rattle.cedar_types.specs.Schemas.Formed.{has_formed_types}
 use Rattle.cedar_types.specs.Templates.{PlainTemplate}
@@ -18,7 +18,7 @@ pub record HasSameLevels (b : Basis) (t : PlainTemplate) : Type 0 where
       → PolicyIsWithinLevel (basis_in_mode Strict b) t n ↔ PolicyIsWithinLevel (basis_in_mode Permissive b) t n
   pub required : (r : Option ℕ)
       → IsRequiredLevel (basis_in_mode Strict b) t r ↔ IsRequiredLevel (basis_in_mode Permissive b) t r
-  pub outcome : (n : ℕ) (errors : List Finding) (warnings : List Caution)
+  pub outcome : (n : ℕ) (errors : List Finding) (warnings : List Warning)
       → LevelOutcome (basis_in_mode Strict b) t n errors warnings
       ↔ LevelOutcome (basis_in_mode Permissive b) t n errors warnings
 
@@ -27,5 +27,5 @@ abbrev pub StrictLevelsAreKept : Type 0
 StrictLevelsAreKept =
     (b : Basis) (t : PlainTemplate)
     → has_formed_types b.schema ≡ true → table_fault b.table.functions ≡ None
-    → (errors errors' : List Finding) (old new : List Caution)
+    → (errors errors' : List Finding) (old new : List Warning)
     → CheckedOn (basis_in_mode Strict b) t true errors errors' old new → HasSameLevels b t

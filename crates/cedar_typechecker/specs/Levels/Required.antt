@@ -1,6 +1,6 @@
 -- The level that a policy requires.
 use Rattle.std.specs.Prelude.{◌≡◌, ◌↔◌, ℕ, ◌≤◌, ◌<◌, List, [], Option, Some, None}
-use Rattle.cedar_types.specs.Errors.{Finding, Caution}
+use Rattle.cedar_types.specs.Errors.{Finding, Warning}
 use Rattle.cedar_types.specs.Templates.{PlainTemplate}
 use Rattle.cedar_typing.specs.Soundness.Policies.{Basis}
 use Rattle.cedar_typechecker.specs.Levels.Outcome.{LevelOutcome}
@@ -35,7 +35,7 @@ WithinWhereReached =
 abbrev pub SilentWhereReached : Type 0
 SilentWhereReached =
     (b : Basis) (t : PlainTemplate) (required : Option ℕ) (n : ℕ)
-    (errors : List Finding) (warnings : List Caution)
+    (errors : List Finding) (warnings : List Warning)
     → IsRequiredLevel b t required → n ≤ 4294967295
     → (o : LevelOutcome b t n errors warnings)
     → (o.level_errors ≡ []) ↔ Reaches required n

@@ -9,11 +9,11 @@ use Rattle.cedar_typing.specs.TypedExpr.{TypedTree, Mark, annotation}
 use Rattle.cedar_typechecker.specs.Levels.Chains.{Base, an_entity, a_record, neither, base_of, is_get_tag, field_at, leaf_of}
 use Rattle.cedar_typechecker.specs.Levels.Costs.{cost_of, keys_of}
 use Rattle.cedar_typechecker.specs.Levels.Dereferences.{accesses_first}
-use Rattle.cedar_typechecker.specs.Levels.Errors.{faults, faults_at_end, finding_at}
+use Rattle.cedar_typechecker.specs.Levels.Errors.{faults, faults_at_end, level_finding}
 use Rattle.cedar_typechecker.specs.Levels.Setting.{LevelSetting}
 
 abbrev pub found_at : LevelSetting → Mark → List Fault → List Finding
-found_at s m fs = map (finding_at s m) fs
+found_at s m fs = map (level_finding s m) fs
 
 -- below an access: those of its base, as a target or as a checked expression
 abbrev pub of_base : Base → List Finding → List Finding → List Finding

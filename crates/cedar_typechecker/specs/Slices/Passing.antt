@@ -3,7 +3,7 @@
 use Rattle.std.specs.Prelude.{◌≡◌, ℕ, Bool, true, false, List, Some, None}
 use Rattle.cedar_types.specs.declared.base.types.ValidationMode.{ValidationMode}
 use Rattle.cedar_types.specs.declared.base.types.ValidationMode.TheVariants.{Strict, Permissive}
-use Rattle.cedar_types.specs.Errors.{Fault, Finding, Caution, unrecognized_entity_type, unrecognized_action_id, internal_invariant_violation}
+use Rattle.cedar_types.specs.Errors.{Fault, Finding, Warning, unrecognized_entity_type, unrecognized_action_id, internal_invariant_violation}
 use Rattle.cedar_types.specs.Errors.{maximum_level_exceeded, literal_dereference_target}
 use Rattle.cedar_types.specs.Extensions.Functions.{table_fault}
 use Rattle.cedar_types.specs.Schemas.Formed.{has_formed_types}
@@ -46,9 +46,9 @@ abbrev pub PassingIsKept : Type 0
 PassingIsKept =
     (b : Basis) (t : PlainTemplate)
     → has_fault b.schema ≡ false → table_fault b.table.functions ≡ None
-    → (errors errors' : List Finding) (old new : List Caution)
+    → (errors errors' : List Finding) (old new : List Warning)
     → CheckedOn b t true errors errors' old new
-    → (n : ℕ) (found : List Finding) (warnings : List Caution)
+    → (n : ℕ) (found : List Finding) (warnings : List Warning)
     → LevelOutcome b t n found warnings → PassingIsKeptIn Strict b t n found
 
 -- in Permissive, where names also ascend in the types of the schema
@@ -57,9 +57,9 @@ PassingIsKeptInPermissive =
     (b : Basis) (t : PlainTemplate)
     → has_fault b.schema ≡ false → has_formed_types b.schema ≡ true
     → table_fault b.table.functions ≡ None
-    → (errors errors' : List Finding) (old new : List Caution)
+    → (errors errors' : List Finding) (old new : List Warning)
     → CheckedOn b t true errors errors' old new
-    → (n : ℕ) (found : List Finding) (warnings : List Caution)
+    → (n : ℕ) (found : List Finding) (warnings : List Warning)
     → LevelOutcome b t n found warnings → PassingIsKeptIn Permissive b t n found
 
 -- ---- by the required level
@@ -77,7 +77,7 @@ abbrev pub RequiredLevelSuffices : Type 0
 RequiredLevelSuffices =
     (b : Basis) (t : PlainTemplate)
     → has_fault b.schema ≡ false → table_fault b.table.functions ≡ None
-    → (errors errors' : List Finding) (old new : List Caution)
+    → (errors errors' : List Finding) (old new : List Warning)
     → CheckedOn b t true errors errors' old new → RequiredLevelSufficesIn Strict b t
 
 abbrev pub RequiredLevelSufficesInPermissive : Type 0
@@ -85,5 +85,5 @@ RequiredLevelSufficesInPermissive =
     (b : Basis) (t : PlainTemplate)
     → has_fault b.schema ≡ false → has_formed_types b.schema ≡ true
     → table_fault b.table.functions ≡ None
-    → (errors errors' : List Finding) (old new : List Caution)
+    → (errors errors' : List Finding) (old new : List Warning)
     → CheckedOn b t true errors errors' old new → RequiredLevelSufficesIn Permissive b t

@@ -2,7 +2,7 @@
 use Rattle.std.specs.Prelude.{◌≡◌, ℕ, true, false, List, None}
 use Rattle.cedar_types.specs.declared.base.types.ValidationMode.{ValidationMode}
 use Rattle.cedar_types.specs.declared.base.types.ValidationMode.TheVariants.{Strict, Permissive}
-use Rattle.cedar_types.specs.Errors.{Finding, Caution}
+use Rattle.cedar_types.specs.Errors.{Finding, Warning}
 use Rattle.cedar_types.specs.Extensions.Functions.{table_fault}
 use Rattle.cedar_types.specs.Schemas.Formed.{has_formed_types}
 use Rattle.cedar_types.specs.Environments.Linking.{checked_envs}
@@ -58,7 +58,7 @@ abbrev pub PassingNeedsSliceAlone : Type 0
 PassingNeedsSliceAlone =
     (b : Basis) (t : PlainTemplate)
     → has_fault b.schema ≡ false → table_fault b.table.functions ≡ None
-    → (errors errors' : List Finding) (old new : List Caution)
+    → (errors errors' : List Finding) (old new : List Warning)
     → CheckedOn b t true errors errors' old new → SliceSufficesIn Strict b t
 
 -- in Permissive, where names also ascend in the types of the schema
@@ -67,5 +67,5 @@ PassingNeedsSliceAloneInPermissive =
     (b : Basis) (t : PlainTemplate)
     → has_fault b.schema ≡ false → has_formed_types b.schema ≡ true
     → table_fault b.table.functions ≡ None
-    → (errors errors' : List Finding) (old new : List Caution)
+    → (errors errors' : List Finding) (old new : List Warning)
     → CheckedOn b t true errors errors' old new → SliceSufficesIn Permissive b t

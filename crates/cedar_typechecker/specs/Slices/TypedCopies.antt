@@ -3,7 +3,7 @@ use Rattle.std.specs.Prelude.{◌≡◌, ℕ, true, false, List, None}
 use Rattle.cedar_types.specs.declared.base.types.ValidationMode.{ValidationMode}
 use Rattle.cedar_types.specs.declared.base.types.ValidationMode.TheVariants.{Strict, Permissive}
 use Rattle.cedar_types.specs.Environments.{DeclaredEnv, environments_of}
-use Rattle.cedar_types.specs.Errors.{Finding, Caution}
+use Rattle.cedar_types.specs.Errors.{Finding, Warning}
 use Rattle.cedar_types.specs.Extensions.Functions.{table_fault}
 use Rattle.cedar_types.specs.Schemas.{has_fault}
 use Rattle.cedar_types.specs.Schemas.Formed.{has_formed_types}
@@ -74,7 +74,7 @@ abbrev pub PassingCopyNeedsSliceAlone : Type 0
 PassingCopyNeedsSliceAlone =
     (b : Basis) (t : PlainTemplate)
     → has_fault b.schema ≡ false → table_fault b.table.functions ≡ None
-    → (errors errors' : List Finding) (old new : List Caution)
+    → (errors errors' : List Finding) (old new : List Warning)
     → CheckedOn b t true errors errors' old new → OwnCopySufficesIn Strict b t
 
 -- in Permissive, where names also ascend in the types of the schema
@@ -83,5 +83,5 @@ PassingCopyNeedsSliceAloneInPermissive =
     (b : Basis) (t : PlainTemplate)
     → has_fault b.schema ≡ false → has_formed_types b.schema ≡ true
     → table_fault b.table.functions ≡ None
-    → (errors errors' : List Finding) (old new : List Caution)
+    → (errors errors' : List Finding) (old new : List Warning)
     → CheckedOn b t true errors errors' old new → OwnCopySufficesIn Permissive b t

@@ -2,7 +2,7 @@
 use Rattle.std.specs.Prelude.{◌≡◌, ℕ, true, false, List, [], None}
 use Rattle.cedar_types.specs.declared.base.types.ValidationMode.{ValidationMode}
 use Rattle.cedar_types.specs.declared.base.types.ValidationMode.TheVariants.{Strict, Permissive}
-use Rattle.cedar_types.specs.Errors.{Finding, Caution}
+use Rattle.cedar_types.specs.Errors.{Finding, Warning}
 use Rattle.cedar_types.specs.Extensions.Functions.{table_fault}
 use Rattle.cedar_types.specs.Schemas.Formed.{has_formed_types}
 use Rattle.cedar_types.specs.Environments.Linking.{checked_envs}
@@ -32,7 +32,7 @@ IsCutNowhere b t =
 abbrev pub PassingIsCutNowhere : Type 0
 PassingIsCutNowhere =
     (b : Basis) (t : PlainTemplate)
-    → (errors errors' : List Finding) (old new : List Caution)
+    → (errors errors' : List Finding) (old new : List Warning)
     → CheckedOn b t true errors errors' old new → IsCutNowhere b t
 
 -- ---- what no error is worth
@@ -53,14 +53,14 @@ SilenceIsKeptIn m b t n errors =
     → IsKeptInSlices t n world
 
 -- where it warns that the policy is impossible, the condition is never true, with errors or without
-abbrev pub WarnedIsNeverTrueIn : ValidationMode → Basis → PlainTemplate → List Caution → Type 0
+abbrev pub WarnedIsNeverTrueIn : ValidationMode → Basis → PlainTemplate → List Warning → Type 0
 WarnedIsNeverTrueIn m b t warnings = ImpossibleIsNeverTrueIn m b t [] warnings
 
 -- ---- where they come from
 
 -- both promises
 pub record OutcomeIsKeptIn (m : ValidationMode) (b : Basis) (t : PlainTemplate) (n : ℕ)
-    (errors : List Finding) (warnings : List Caution) : Type 0 where
+    (errors : List Finding) (warnings : List Warning) : Type 0 where
   pub silent : SilenceIsKeptIn m b t n errors
   pub never_true : WarnedIsNeverTrueIn m b t warnings
 
@@ -70,7 +70,7 @@ abbrev pub OutcomesAreKept : Type 0
 OutcomesAreKept =
     (b : Basis) (t : PlainTemplate)
     → has_fault b.schema ≡ false → table_fault b.table.functions ≡ None
-    → (n : ℕ) (errors : List Finding) (warnings : List Caution)
+    → (n : ℕ) (errors : List Finding) (warnings : List Warning)
     → LevelOutcome b t n errors warnings → OutcomeIsKeptIn Strict b t n errors warnings
 
 -- in Permissive, where names also ascend in the types of the schema, as in every schema of the
@@ -80,5 +80,5 @@ OutcomesAreKeptInPermissive =
     (b : Basis) (t : PlainTemplate)
     → has_fault b.schema ≡ false → has_formed_types b.schema ≡ true
     → table_fault b.table.functions ≡ None
-    → (n : ℕ) (errors : List Finding) (warnings : List Caution)
+    → (n : ℕ) (errors : List Finding) (warnings : List Warning)
     → LevelOutcome b t n errors warnings → OutcomeIsKeptIn Permissive b t n errors warnings

@@ -1,6 +1,6 @@
 // What the validation of a policy with levels answers.
 ghost use Rattle.std.specs.Iterator.{YieldsFirstBy, item_count};
-ghost use Rattle.cedar_types.specs.Errors.{finding_of, caution_of};
+ghost use Rattle.cedar_types.specs.Errors.{finding_of, warning_of};
 ghost use Rattle.cedar_typechecker.specs.Levels.Answers.{level_errors_left, level_warnings_left};
 
 use cedar_types::base::{ValidationError, ValidationWarning};
@@ -34,7 +34,7 @@ pub struct LevelWarnings {
 impl Iterator for LevelWarnings {
     type Item = ValidationWarning;
 
-    ghost next_gives = { YieldsFirstBy caution_of level_warnings_left };
+    ghost next_gives = { YieldsFirstBy warning_of level_warnings_left };
 
     ghost remaining = { item_count level_warnings_left };
 

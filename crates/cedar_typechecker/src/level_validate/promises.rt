@@ -4,6 +4,7 @@ ghost use Rattle.cedar_typechecker.specs.Slices.Passing.{PassingIsKept, PassingI
 ghost use Rattle.cedar_typechecker.specs.Slices.Policies.{PassingNeedsSliceAlone, PassingNeedsSliceAloneInPermissive};
 ghost use Rattle.cedar_typechecker.specs.Slices.TypedCopies.{PassingCopyNeedsSliceAlone, PassingCopyNeedsSliceAloneInPermissive};
 ghost use Rattle.cedar_typechecker.specs.Slices.Validation.{PassingIsCutNowhere, OutcomesAreKept, OutcomesAreKeptInPermissive};
+ghost use Rattle.cedar_typechecker.specs.Validations.{ValidationsAreKept, ValidationsAreKeptInPermissive};
 
 /// The condition of a policy that passes, and has no level error at n in any environment, evaluates to the same in each part of
 /// the store that has the slice of n steps.
@@ -23,6 +24,12 @@ pub fn passing_copy_needs_slice_alone()
 pub fn cut_nowhere()
     ensures passing { PassingIsCutNowhere }
     ensures shallow { ShallowIsCutNowhere }
+{}
+
+/// What validation without levels promises follows from what it comes to.
+pub fn validations_are_kept()
+    ensures strict { ValidationsAreKept }
+    ensures permissive { ValidationsAreKeptInPermissive }
 {}
 
 /// What validation with levels promises follows from what it comes to.

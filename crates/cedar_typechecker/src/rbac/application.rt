@@ -2,7 +2,7 @@
 ghost use Rattle.std.specs.Prelude.{◌≡◌, map, IfOk};
 ghost use Rattle.std.specs.List.{list_any};
 ghost use Rattle.cedar_types.specs.Schemas.Declarations.{application};
-ghost use Rattle.cedar_types.specs.Errors.{caution_of, invalid_action_application};
+ghost use Rattle.cedar_types.specs.Errors.{warning_of, invalid_action_application};
 ghost use Rattle.cedar_types.specs.Names.{type_of};
 ghost use Rattle.cedar_types.specs.Schemas.Contents.{schema_of};
 ghost use Rattle.cedar_types.specs.Templates.{template_of, scope_of};
@@ -101,7 +101,7 @@ fn warning(
     would_in_fix_principal: bool,
     would_in_fix_resource: bool,
 ) -> Result<ValidationWarning, AllocError>
-    ensures { IfOk result (λ w. caution_of w ≡ record {
+    ensures { IfOk result (λ w. warning_of w ≡ record {
       place = (template_of t.now).place;
       policy = (template_of t.now).id;
       slip = invalid_action_application would_in_fix_principal would_in_fix_resource;

@@ -1,6 +1,6 @@
 use Rattle.std.proofs.Common.{◌≤◌, ◌++◌, ◌∷◌, [], List, map, cond, sym, ap, subst, ◌∙◌, arith}
 use Rattle.std.specs.Prelude.{IsPermutation}
-use Rattle.cedar_types.specs.Errors.{Finding, finding_of, caution_of}
+use Rattle.cedar_types.specs.Errors.{Finding, finding_of, warning_of}
 use Rattle.cedar_types.specs.Extensions.{functions_of}
 use Rattle.cedar_types.specs.Schemas.Contents.{schema_of}
 use Rattle.cedar_types.specs.Templates.{template_of}
@@ -43,7 +43,7 @@ returns-clause-exact g c =
       types_once = a.types_once;
       levels = λ e. both_ways (a.levels e) (k.levels c.args.max_deref_level small e);
       levels_once = a.levels_once;
-      warned = ap (map caution_of) c.into_iter-2.ensures.rest
+      warned = ap (map warning_of) c.into_iter-2.ensures.rest
           ∙ (c.in_ok-warnings.ensures
           ∙ ap (λ i. application_warnings c.args.mode s t ++ cond i (impossible t ∷ []) [])
           (c.is_impossible.ensures ∙ k.impossible));

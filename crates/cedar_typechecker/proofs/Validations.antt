@@ -1,0 +1,255 @@
+-- Validation that finds no error, or none but wrong members: what it says of the check of the policy, and what that promises.
+use Rattle.std.proofs.Common.{◌≡◌, ◌≤◌, inl, inr, ℕ, Bool, true, false, ◌||◌, List, [], ◌∷◌, ◌++◌, length, None, refl, sym, ap, subst, arith}
+use Rattle.std.proofs.Common.{append_assoc}
+use Rattle.std.specs.Prelude.{IsPermutation, cond, ◌↔◌}
+use Rattle.std.proofs.lemmas.List.Sorted.{IsPermutation-sym, length_permutation}
+use Rattle.cedar_types.specs.declared.base.types.ValidationMode.{ValidationMode}
+use Rattle.cedar_types.specs.declared.base.types.ValidationMode.TheVariants.{Strict, Permissive, Partial}
+use Rattle.cedar_types.specs.Types.Bounds.{is_strict}
+use Rattle.cedar_types.specs.Errors.{Finding, Warning, impossible_policy, invalid_action_application}
+use Rattle.cedar_types.specs.Extensions.Functions.{table_fault}
+use Rattle.cedar_types.specs.Templates.Findings.{unknown_types, unknown_actions, wrong_members}
+use Rattle.cedar_types.specs.Schemas.Formed.{has_formed_types}
+use Rattle.cedar_types.specs.Lemmas.Comparisons.{and_both}
+use Rattle.cedar_types.specs.Environments.Linking.{checked_envs}
+use Rattle.cedar_types.specs.Environments.RequestEnvs.{Env, is_partial}
+use Rattle.cedar_types.specs.Schemas.{Schema, has_fault}
+use Rattle.cedar_types.specs.Templates.{PlainTemplate, condition_of}
+use Rattle.cedar_typing.specs.Capabilities.{no_caps}
+use Rattle.cedar_typing.specs.Evaluation.Conformance.{IsOneOf}
+use Rattle.cedar_typing.specs.PolicyCheck.{Verdict, succeeds, irrelevant, fails, PolicyChecks}
+use Rattle.cedar_typing.specs.PolicyCheck.Outcome.{is_silent, passes, errors_in, VerdictsOf, all_pass, all_errors, impossible, warnings_of}
+use Rattle.cedar_typing.specs.Soundness.Policies.{Basis, IsNamedBySchema, setting_on, CheckedOn}
+use Rattle.cedar_typing.specs.Rules.Laws.{IsCut}
+use Rattle.cedar_typing.specs.Setting.{Setting}
+use Rattle.cedar_typing.specs.Silence.{HasNoUnknowns, IsWellNamed}
+use Rattle.cedar_typing.specs.TypedExpr.{Source}
+use Rattle.cedar_typing.proofs.Basics.Members.{reordered}
+use Rattle.cedar_typing.proofs.Soundness.Policies.{promises_are_kept, promises_are_kept_in_permissive}
+use Rattle.cedar_typing.proofs.Silence.Checks.{silent_cut}
+use Rattle.cedar_typing.proofs.Silence.Names.{condition_is_well_named}
+use Rattle.cedar_typing.proofs.Silence.Policies.{checked_of_schema}
+use Rattle.cedar_typing.proofs.Silence.Settled.{Settled}
+use Rattle.cedar_typechecker.specs.Applications.{has_fitting_action, application_warning}
+use Rattle.cedar_typechecker.specs.Levels.Outcome.{ChecksOn, name_findings, application_warnings, ValidationOutcome}
+use Rattle.cedar_typechecker.specs.Slices.Validation.{IsCutNowhere}
+use Rattle.cedar_typechecker.specs.Validations.{ValidationsAreKept, ValidationsAreKeptInPermissive}
+
+-- ---- lists
+
+module _ {A : Type 0} where
+  pub left_empty : (xs ys : List A) → xs ++ ys ≡ [] → xs ≡ []
+  left_empty [] ys e = refl
+  left_empty (x ∷ xs) ys e = cc
+
+  pub right_empty : (xs ys : List A) → xs ++ ys ≡ [] → ys ≡ []
+  right_empty [] ys e = e
+  right_empty (x ∷ xs) ys e = cc
+
+  pub nothing_in : (xs : List A) → ((x : A) → IsOneOf x xs → ⊥) → xs ≡ []
+  nothing_in [] h = refl
+  nothing_in (x ∷ xs) h = absurd (h x (inl refl))
+
+  -- what is one of two lists, and not of the first
+  of_second : (x : A) (xs ys : List A) → (IsOneOf x xs → ⊥) → IsOneOf x (xs ++ ys) → IsOneOf x ys
+  of_second x [] ys f h = h
+  of_second x (z ∷ xs) ys f (inl e) = absurd (f (inl e))
+  of_second x (z ∷ xs) ys f (inr h) = of_second x xs ys (λ k. f (inr k)) h
+
+  -- what is added to a list that gets no longer is nothing
+  none_added : (xs ys : List A) → length (xs ++ ys) ≤ length xs → ys ≡ []
+  none_added [] [] h = refl
+  none_added [] (y ∷ ys) h = absurd (omega (arith, h))
+  none_added (x ∷ xs) ys h = none_added xs ys (omega (arith, h))
+
+  -- nor is there more in a list that is no longer than a part of it
+  no_more : (all xs ys zs : List A) → IsPermutation all ((xs ++ ys) ++ zs) → length all ≤ length xs → ys ++ zs ≡ []
+  no_more all xs ys zs p few =
+      none_added xs (ys ++ zs)
+      (subst (λ (es : List A). length es ≤ length xs) (append_assoc xs ys zs)
+      (subst (λ (n : ℕ). n ≤ length xs) (sym (length_permutation all ((xs ++ ys) ++ zs) p)) few))
+
+-- ---- verdicts
+
+-- where a failure without an error is a cut, and nothing is cut, a verdict without errors passes
+silent_passes : (s : Setting) (e : Source) → (IsCut s e no_caps 1 → ⊥)
+    → ((es : List Finding) → PolicyChecks s e (fails es) → is_silent es ≡ true → IsCut s e no_caps 1)
+    → (v : Verdict) → PolicyChecks s e v → errors_in v ≡ [] → passes v ≡ true
+silent_passes s e uncut cut (succeeds x) c q = refl
+silent_passes s e uncut cut (irrelevant es x) c q = ap is_silent q
+silent_passes s e uncut cut (fails es) c q = absurd (uncut (cut es c (ap is_silent q)))
+
+module _ (b : Basis) (t : PlainTemplate) where
+  pub all_passing : (envs : List Env) (vs : List Verdict) → VerdictsOf (ChecksOn b t) envs vs
+      → ((env : Env) → IsOneOf env envs → (v : Verdict) → ChecksOn b t env v → errors_in v ≡ [] → passes v ≡ true)
+      → all_errors vs ≡ [] → all_pass vs ≡ true
+  all_passing [] [] c f q = refl
+  all_passing [] (v ∷ vs) c f q = absurd c
+  all_passing (env ∷ envs) [] c f q = absurd c
+  all_passing (env ∷ envs) (v ∷ vs) c f q =
+      and_both (passes v) (all_pass vs) (f env (inl refl) v c.0 (left_empty (errors_in v) (all_errors vs) q))
+      (all_passing envs vs c.1 (λ e k. f e (inr k)) (right_empty (errors_in v) (all_errors vs) q))
+
+-- ---- warnings
+
+other_slip : (p r : Bool) → impossible_policy ≡ invalid_action_application p r → ⊥
+other_slip p r e = cc
+
+module _ (s : Schema) (t : PlainTemplate) where
+  -- the warning of the scope is another one
+  not_of_scope : (c : Bool) → IsOneOf (impossible t) (cond c [] (application_warning s t ∷ [])) → ⊥
+  not_of_scope true h = h
+  not_of_scope false (inl e) = other_slip _ _ (ap (λ (w : Warning). w.slip) e)
+  not_of_scope false (inr h) = h
+
+  not_among : (m : ValidationMode) → IsOneOf (impossible t) (application_warnings m s t) → ⊥
+  not_among Strict h = not_of_scope (has_fitting_action s t) h
+  not_among Permissive h = not_of_scope (has_fitting_action s t) h
+  not_among Partial h = h
+
+  -- ---- names
+
+  -- in the modes that make the passes, no finding of them is none of types and of actions
+  pub names_known : (m : ValidationMode) → is_partial m ≡ false → name_findings m s t ≡ [] → IsNamedBySchema s t
+  names_known Strict p e =
+      let q = right_empty (wrong_members s t) (unknown_types s t ++ unknown_actions s t) e in
+      record {
+        types = left_empty (unknown_types s t) (unknown_actions s t) q;
+        actions = right_empty (unknown_types s t) (unknown_actions s t) q;
+      }
+  names_known Permissive p e =
+      let q = right_empty (wrong_members s t) (unknown_types s t ++ unknown_actions s t) e in
+      record {
+        types = left_empty (unknown_types s t) (unknown_actions s t) q;
+        actions = right_empty (unknown_types s t) (unknown_actions s t) q;
+      }
+  names_known Partial p e = cc
+
+  -- where there are no more errors than wrong members, all names are known, and no check finds an error
+  both_none : (errors types : List Finding)
+      → IsPermutation errors ((wrong_members s t ++ (unknown_types s t ++ unknown_actions s t)) ++ types)
+      → length errors ≤ length (wrong_members s t) → IsNamedBySchema s t × (types ≡ [])
+  both_none errors types given few =
+      let unknown : List Finding = unknown_types s t ++ unknown_actions s t in
+      let others = no_more errors (wrong_members s t) unknown types given few in
+      let known = left_empty unknown types others in (
+        record {
+          types = left_empty (unknown_types s t) (unknown_actions s t) known;
+          actions = right_empty (unknown_types s t) (unknown_actions s t) known;
+        },
+        right_empty unknown types others,
+      )
+
+  wrong_members_alone : (m : ValidationMode) → is_partial m ≡ false → (errors types : List Finding)
+      → IsPermutation errors (name_findings m s t ++ types) → length errors ≤ length (wrong_members s t)
+      → IsNamedBySchema s t × (types ≡ [])
+  wrong_members_alone Strict p errors types given few = both_none errors types given few
+  wrong_members_alone Permissive p errors types given few = both_none errors types given few
+  wrong_members_alone Partial p errors types given few = cc
+
+-- ---- what the check comes to
+
+-- where no set has an error of a check, there is none
+pub none_of_checks : (types all : List Finding) → ((e : Finding) → IsOneOf e types ↔ IsOneOf e all) → types ≡ [] → all ≡ []
+none_of_checks types all same none = nothing_in all (λ e h. subst (IsOneOf e) none ((same e).1 h))
+
+module _ (b : Basis) (t : PlainTemplate) (listed : List Env) (verdicts : List Verdict)
+    (in_some_order : IsPermutation listed (checked_envs b.schema b.mode t))
+    (checked : VerdictsOf (ChecksOn b t) listed verdicts) where
+  -- where the sets are empty before it
+  pub checked_alone : (answer : Bool) → all_pass verdicts ≡ answer
+      → CheckedOn b t answer [] (all_errors verdicts) [] (warnings_of t verdicts)
+  checked_alone answer e = record {
+    listed = listed;
+    verdicts = verdicts;
+    in_some_order = in_some_order;
+    checked = checked;
+    answered = sym e;
+    errors_added = λ x. (λ h. h, λ h. h);
+    warnings_added = λ x. (λ h. h, λ h. h);
+  }
+
+  -- a warning that the policy is impossible is one of the check
+  pub due : (warnings : List Warning) → warnings ≡ application_warnings b.mode b.schema t ++ warnings_of t verdicts
+      → IsOneOf (impossible t) warnings → IsOneOf (impossible t) (warnings_of t verdicts)
+  due warnings warned h =
+      of_second (impossible t) (application_warnings b.mode b.schema t) (warnings_of t verdicts)
+      (not_among b.schema t b.mode) (subst (IsOneOf (impossible t)) warned h)
+
+  module _ (strictly : Bool) (strict : is_strict b.mode ≡ strictly) (total : is_partial b.mode ≡ false)
+      (formed : (strictly || has_formed_types b.schema) ≡ true) (schema : has_fault b.schema ≡ false)
+      (functions : table_fault b.table.functions ≡ None) (no_errors : all_errors verdicts ≡ [])
+      (names : IsNamedBySchema b.schema t) (uncut : IsCutNowhere b t) (unknowns : HasNoUnknowns (condition_of t)) where
+    well_named : IsWellNamed b.schema (condition_of t)
+    well_named =
+        condition_is_well_named b.schema t
+        (record { unknowns = unknowns; types = names.types; actions = names.actions })
+
+    -- there nothing fails without an error
+    settled : (env : Env) → IsOneOf env (checked_envs b.schema b.mode t) → Settled strictly (setting_on b t.id env)
+    settled env k = record {
+      strict = strict;
+      total = total;
+      formed = formed;
+      schema = schema;
+      functions = functions;
+      environment = checked_of_schema b.schema b.mode total t env k;
+    }
+
+    passes_there : (env : Env) → IsOneOf env (checked_envs b.schema b.mode t) → (v : Verdict)
+        → ChecksOn b t env v → errors_in v ≡ [] → passes v ≡ true
+    passes_there env k =
+        silent_passes (setting_on b t.id env) (condition_of t) (uncut env k)
+        (silent_cut strictly (setting_on b t.id env) (settled env k) (condition_of t) well_named)
+
+    passing : all_pass verdicts ≡ true
+    passing =
+        all_passing b t listed verdicts checked
+        (λ env k. passes_there env
+        (reordered (λ z. IsOneOf z (checked_envs b.schema b.mode t)) (checked_envs b.schema b.mode t) listed
+        (IsPermutation-sym listed (checked_envs b.schema b.mode t) in_some_order) (λ z h. h) env k))
+        no_errors
+
+    pub passed : CheckedOn b t true [] (all_errors verdicts) [] (warnings_of t verdicts)
+    passed = checked_alone true passing
+
+-- ---- in both modes
+
+pub validations_are_kept : ValidationsAreKept
+validations_are_kept b t schema functions errors warnings o =
+    let all : List Finding = all_errors o.verdicts in
+    let due_of_check : List Warning = warnings_of t o.verdicts in
+    let alone = checked_alone b t o.listed o.verdicts o.in_some_order o.checked (all_pass o.verdicts) refl in
+    record {
+      silent = λ few uncut k world w i.
+          let total = ap is_partial k.mode in
+          let known = wrong_members_alone b.schema t b.mode total errors o.type_errors o.given few in
+          let none = none_of_checks o.type_errors all o.types known.1 in
+          let p = passed b t o.listed o.verdicts o.in_some_order o.checked true (ap is_strict k.mode) total refl
+          schema functions none known.0 uncut w.no_unknowns in
+          (promises_are_kept b t schema functions true [] all [] due_of_check p).safe refl k known.0 world w i;
+      never_true = λ absent there k alone_in_scope world i.
+          (promises_are_kept b t schema functions (all_pass o.verdicts) [] all [] due_of_check alone).never_true
+          absent (due b t o.listed o.verdicts o.in_some_order o.checked warnings o.warned there) k
+          alone_in_scope world i;
+    }
+
+pub validations_are_kept_in_permissive : ValidationsAreKeptInPermissive
+validations_are_kept_in_permissive b t schema formed functions errors warnings o =
+    let all : List Finding = all_errors o.verdicts in
+    let due_of_check : List Warning = warnings_of t o.verdicts in
+    let alone = checked_alone b t o.listed o.verdicts o.in_some_order o.checked (all_pass o.verdicts) refl in
+    record {
+      silent = λ few uncut k world w i.
+          let total = ap is_partial k.mode in
+          let known = wrong_members_alone b.schema t b.mode total errors o.type_errors o.given few in
+          let none = none_of_checks o.type_errors all o.types known.1 in
+          let p = passed b t o.listed o.verdicts o.in_some_order o.checked false (ap is_strict k.mode) total formed
+          schema functions none known.0 uncut w.no_unknowns in
+          (promises_are_kept_in_permissive b t schema formed functions true [] all [] due_of_check p).safe refl k
+          known.0 world w i;
+      never_true = λ absent there k alone_in_scope world i.
+          (promises_are_kept_in_permissive b t schema formed functions (all_pass o.verdicts) [] all [] due_of_check
+          alone).never_true absent
+          (due b t o.listed o.verdicts o.in_some_order o.checked warnings o.warned there) k alone_in_scope world i;
+    }
