@@ -2,22 +2,40 @@
 use crate::cursor::Cursor;
 use crate::faults::ReadError;
 use crate::texts::text;
+use cedar_types::base::Loc;
 
-/// Reads annotations, `@key("value")` or `@key`, any number of them. The value of `id`, if it is there; the last, where it
-/// is there twice.
-pub fn annotations(cursor: &mut Cursor<'_>) -> Result<Option<String>, ReadError> {
-    let mut id = None;
+/// An annotation: `@key("value")`, or `@key`, whose value is empty.
+#[derive(Debug, Drop)]
+pub struct Annotation {
+    pub key: String,
+    pub value: String,
+    /// The whole, from its `@` on.
+    pub place: Loc,
+}
+
+/// Reads annotations, any number of them, and adds each to these.
+pub fn add_annotations(
+    cursor: &mut Cursor<'_>,
+    annotations: &mut Vec<Annotation>,
+) -> Result<(), ReadError> {
+    let alloc = cursor.alloc;
     for _ in 0..cursor.most_left() {
+        let start = cursor.start();
         if !cursor.takes("@") {
             break;
         }
-        let is_id = cursor.word()? == "id";
+        let key = String::from_str(alloc, cursor.word()?)?;
         let value = annotation_value(cursor)?;
-        if is_id {
-            id = Some(value);
-        }
+        let place = cursor.since(start);
+        annotations.push(Annotation { key, value, place })?;
     }
-    Ok(id)
+    Ok(())
+}
+
+/// Reads annotations, any number of them, which mean nothing.
+pub fn pass_annotations(cursor: &mut Cursor<'_>) -> Result<(), ReadError> {
+    let mut annotations = Vec::new(cursor.alloc);
+    add_annotations(cursor, &mut annotations)
 }
 
 /// Reads the value of an annotation, which is empty where there is none.

@@ -1,5 +1,5 @@
 // A place in a text that is read from left to right.
-use crate::faults::{Fault, ReadError};
+use crate::faults::{Expected, Fault, ReadError};
 use crate::notes::Notes;
 use crate::tokens::{Token, TokenKind, token_from};
 use cedar_types::base::Loc;
@@ -28,6 +28,8 @@ pub struct Cursor<'a> {
     tokens: usize,
     /// Where the last operand ended that stands in the tree twice.
     copied: usize,
+    /// Where the last expression ended that needs nothing more, if one did.
+    whole_end: Option<usize>,
     /// The faults behind which reading goes on.
     pub notes: Notes,
 }
@@ -54,6 +56,7 @@ impl<'a> Cursor<'a> {
             end: 0,
             tokens: 0,
             copied: 0,
+            whole_end: None,
             notes: Notes::new(alloc, takes_notes),
         })
     }
@@ -73,8 +76,34 @@ impl<'a> Cursor<'a> {
             end: start,
             tokens: self.tokens,
             copied: self.copied,
+            whole_end: None,
             notes: Notes::new(self.alloc, false),
         }
+    }
+
+    /// The same text from one byte on, as if it ended at another. It fails at the first fault.
+    pub fn within(&self, place: Loc) -> Cursor<'a> {
+        let text = self.text.get(..place.end).unwrap_or("");
+        Cursor {
+            alloc: self.alloc,
+            text,
+            next: token_from(text, place.start),
+            end: place.start,
+            tokens: 0,
+            copied: 0,
+            whole_end: None,
+            notes: Notes::new(self.alloc, false),
+        }
+    }
+
+    /// Keeps that an expression ends here that needs nothing more.
+    pub fn keep_whole_end(&mut self) {
+        self.whole_end = Some(self.end);
+    }
+
+    /// Where the last such expression ended, if one did.
+    pub fn whole_end(&self) -> Option<usize> {
+        self.whole_end
     }
 
     /// Counts what was read elsewhere in the text. Fails where that is too much, as of aliases that stand for others again
@@ -137,7 +166,7 @@ impl<'a> Cursor<'a> {
     }
 
     /// Reads this word or mark, which has to come next. The fault names what else may stand there.
-    pub fn expect_one(&mut self, text: &str, all: &'static str) -> Result<(), ReadError> {
+    pub fn expect_one(&mut self, text: &str, all: Expected) -> Result<(), ReadError> {
         if self.takes(text) {
             Ok(())
         } else {
@@ -148,7 +177,7 @@ impl<'a> Cursor<'a> {
     /// Reads a word.
     pub fn word(&mut self) -> Result<&'a str, ReadError> {
         if self.next.kind != TokenKind::Word {
-            return Err(self.fault(Fault::Expected("a name")));
+            return Err(self.fault(Fault::Expected(Expected::Name)));
         }
         Ok(self.take().text)
     }

@@ -2,11 +2,11 @@
 // the text nests, parentheses included.
 use crate::brackets::{Fields, List, ListOf};
 use crate::cursor::{Cursor, MAX_GRAMMAR_STEPS};
-use crate::faults::{Fault, ReadError};
+use crate::faults::{Expected, Fault, ReadError};
 use crate::members::{Beginning, beginning_with_word, has, literal, negative_number, slot};
 use crate::names::entity_type;
 use crate::open_parts::{
-    Next, Open, Prefix, begin, close, innermost_level, next_member, next_value,
+    Next, Open, Prefix, begin, close, close_whole, innermost_level, next_member, next_value,
 };
 use crate::operators::{Level, Operator, next_operator};
 use crate::parts::{Part, leaf_since, part_since};
@@ -25,6 +25,25 @@ pub fn expression(cursor: &mut Cursor<'_>) -> Result<Part, ReadError> {
         next = match next {
             Next::Operand => operand(cursor, &mut open)?,
             Next::Behind(part, follows) => behind(cursor, &mut open, part, follows)?,
+            Next::End(part) => return Ok(part),
+        };
+    }
+    Err(cursor.fault(Fault::TooDeep))
+}
+
+/// Reads a text up to its end, where an expression ends that needs nothing more: the largest one that ends there.
+pub fn last_whole(cursor: &mut Cursor<'_>) -> Result<Part, ReadError> {
+    let mut open = Vec::new(cursor.alloc);
+    let mut next = Next::Operand;
+    for _ in 0..cursor.most_left().saturating_mul(2) {
+        next = match next {
+            Next::Operand => operand(cursor, &mut open)?,
+            Next::Behind(part, follows) => {
+                if cursor.is_at_end() {
+                    return close_whole(cursor, &mut open, part);
+                }
+                behind(cursor, &mut open, part, follows)?
+            }
             Next::End(part) => return Ok(part),
         };
     }
@@ -83,7 +102,7 @@ fn begin_with_mark(
             let whole = slot(cursor)?;
             Ok(Next::Behind(leaf_since(cursor, start, whole), Level::Member))
         }
-        _ => Err(cursor.fault(Fault::Expected("an expression"))),
+        _ => Err(cursor.fault(Fault::Expected(Expected::Expression))),
     }
 }
 
@@ -128,6 +147,7 @@ fn behind(
     part: Part,
     follows: Level,
 ) -> Result<Next, ReadError> {
+    cursor.keep_whole_end();
     match next_operator(cursor) {
         Some((level, operator)) if level <= follows && level > innermost_level(open) => {
             cursor.take();
@@ -179,6 +199,7 @@ fn with_like(cursor: &mut Cursor<'_>, base: Part) -> Result<Next, ReadError> {
 /// Reads a type, and perhaps an `in` before an operand.
 fn with_is(cursor: &mut Cursor<'_>, open: &mut Vec<Open>, base: Part) -> Result<Next, ReadError> {
     let entity_type = entity_type(cursor)?;
+    cursor.keep_whole_end();
     if cursor.is_at("in") {
         // the operand stands in the tree twice
         if !cursor.may_copy(base.covers) {

@@ -2,6 +2,65 @@
 use std::alloc::{AllocError, AllocFailed};
 use thiserror::Error;
 
+/// What should stand at a place of a text.
+#[derive(Clone, Copy, PartialEq, Eq, Debug, Error)]
+pub enum Expected {
+    #[error("an expression")]
+    Expression,
+    #[error("a name")]
+    Name,
+    #[error("a text in quotes")]
+    Text,
+    /// What a policy does, behind its annotations.
+    #[error("`permit` or `forbid`")]
+    Effect,
+    /// A condition of a policy, or the policy's end.
+    #[error("`when`, `unless` or `;`")]
+    Condition,
+    /// The variable of a slot, behind its `?`.
+    #[error("`principal` or `resource`")]
+    Slot,
+    #[error("no argument")]
+    NoArgument,
+    #[error("one argument")]
+    OneArgument,
+    #[error("the name of an unknown")]
+    Unknown,
+    /// The end of a text that is one thing alone.
+    #[error("the end")]
+    End,
+    #[error("a declaration")]
+    Declaration,
+    #[error("a type such as `Set<Long>`")]
+    Type,
+    /// A context that is a record.
+    #[error("a record")]
+    Record,
+    /// Another attribute of a record type, or the end of the type.
+    #[error("`,` or `}}`")]
+    Attribute,
+    /// The mark of an optional attribute, before its `:`.
+    #[error("`?` before the `:`")]
+    OptionalMark,
+    /// A part of `appliesTo`.
+    #[error("`principal`, `resource` or `context`")]
+    Application,
+    /// A part of `appliesTo` that was not read before.
+    #[error("another part of `appliesTo`")]
+    OtherApplication,
+    /// The types of principals, which `appliesTo` has to name.
+    #[error("`principal`")]
+    Principal,
+    /// The types of resources, which it has to name too.
+    #[error("`resource`")]
+    Resource,
+    #[error("at least one type")]
+    SomeType,
+    /// What a reader wants that stands on this crate, in its own words.
+    #[error("{0}")]
+    Other(&'static str),
+}
+
 /// What is wrong at a place of a text.
 #[derive(Clone, Copy, PartialEq, Eq, Debug, Error)]
 pub enum Fault {
@@ -43,7 +102,7 @@ pub enum Fault {
     Missing(&'static str),
     /// Something else should stand here.
     #[error("{0} is expected")]
-    Expected(&'static str),
+    Expected(Expected),
 }
 
 /// Why a text cannot be read: its first fault, and at which byte it stands; or memory was refused.

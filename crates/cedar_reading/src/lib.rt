@@ -7,6 +7,7 @@ mod brackets;
 mod cursor;
 mod expressions;
 mod faults;
+mod faulty_policies;
 mod members;
 mod names;
 mod notes;
@@ -14,6 +15,7 @@ mod open_parts;
 mod operators;
 mod parts;
 mod policies;
+mod policy_parts;
 mod positions;
 mod schemas;
 mod scopes;
@@ -21,8 +23,10 @@ mod shown_types;
 mod texts;
 mod tokens;
 
-pub use cursor::MAX_LENGTH;
-pub use faults::{Fault, ReadError};
+pub use annotations::Annotation;
+pub use cursor::{MAX_GRAMMAR_STEPS, MAX_LENGTH};
+pub use faults::{Expected, Fault, ReadError};
+pub use faulty_policies::{FaultyPolicy, policies_with_faults};
 pub use policies::{Policies, ReadPolicy};
 pub use positions::Position;
 pub use schemas::{

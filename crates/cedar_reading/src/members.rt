@@ -1,6 +1,6 @@
 // The forms of expressions that have no grammar of their own.
 use crate::cursor::{Cursor, MAX_GRAMMAR_STEPS};
-use crate::faults::{Fault, ReadError};
+use crate::faults::{Expected, Fault, ReadError};
 use crate::names::{placed_name, uid_of};
 use crate::operators::method;
 use crate::texts::text;
@@ -31,7 +31,7 @@ pub fn beginning_with_word(cursor: &mut Cursor<'_>) -> Result<Beginning, ReadErr
         return Ok(Beginning::Function(read.name));
     }
     if !read.name.path.is_empty() {
-        return Err(ReadError::At(start, Fault::Expected("an expression")));
+        return Err(ReadError::At(start, Fault::Expected(Expected::Expression)));
     }
     let whole = match word {
         "true" => Expr::val(Literal::Bool(true)),
@@ -40,7 +40,7 @@ pub fn beginning_with_word(cursor: &mut Cursor<'_>) -> Result<Beginning, ReadErr
         "action" => Expr::var(Var::Action),
         "resource" => Expr::var(Var::Resource),
         "context" => Expr::var(Var::Context),
-        _ => return Err(ReadError::At(start, Fault::Expected("an expression"))),
+        _ => return Err(ReadError::At(start, Fault::Expected(Expected::Expression))),
     };
     Ok(Beginning::Whole(whole))
 }
@@ -52,7 +52,7 @@ pub fn slot(cursor: &mut Cursor<'_>) -> Result<Expr, ReadError> {
     } else if cursor.takes("resource") {
         Ok(Expr::slot(SlotId::Resource))
     } else {
-        Err(cursor.fault(Fault::Expected("`principal` or `resource`")))
+        Err(cursor.fault(Fault::Expected(Expected::Slot)))
     }
 }
 
@@ -69,7 +69,7 @@ pub fn literal(cursor: &mut Cursor<'_>) -> Result<Expr, ReadError> {
             Ok(Expr::val(Literal::String(content)))
         }
         TokenKind::Unknown => Err(cursor.fault(Fault::Text)),
-        _ => Err(cursor.fault(Fault::Expected("an expression"))),
+        _ => Err(cursor.fault(Fault::Expected(Expected::Expression))),
     }
 }
 
@@ -103,6 +103,7 @@ pub fn key(cursor: &mut Cursor<'_>) -> Result<RcStr, ReadError> {
 pub fn has(cursor: &mut Cursor<'_>, base: Expr) -> Result<Expr, ReadError> {
     let alloc = cursor.alloc;
     let first = key(cursor)?;
+    cursor.keep_whole_end();
     let rest = further_attributes(cursor)?;
     if rest.is_empty() {
         return Ok(Expr::has_attr(alloc, base, first.as_str())?);
@@ -119,6 +120,7 @@ fn further_attributes(cursor: &mut Cursor<'_>) -> Result<Vec<RcStr>, ReadError> 
             return Ok(attributes);
         }
         attributes.push(key(cursor)?)?;
+        cursor.keep_whole_end();
     }
     Err(cursor.fault(Fault::TooDeep))
 }
@@ -129,10 +131,10 @@ pub fn call(alloc: Global, start: usize, name: Name, args: Vec<Expr>) -> Result<
         return Ok(Expr::call_extension_fn(name, args));
     }
     let [argument] = args.as_slice() else {
-        return Err(ReadError::At(start, Fault::Expected("one argument")));
+        return Err(ReadError::At(start, Fault::Expected(Expected::OneArgument)));
     };
     let Some(unknown) = string_in(argument) else {
-        return Err(ReadError::At(start, Fault::Expected("the name of an unknown")));
+        return Err(ReadError::At(start, Fault::Expected(Expected::Unknown)));
     };
     Ok(Expr::unknown(Name::unqualified_name(alloc, unknown)?))
 }
@@ -158,7 +160,7 @@ pub fn method_call(
         return if args.is_empty() {
             Ok(Expr::is_empty(alloc, base)?)
         } else {
-            Err(ReadError::At(start, Fault::Expected("no argument")))
+            Err(ReadError::At(start, Fault::Expected(Expected::NoArgument)))
         };
     }
     let Some(operator) = method(name) else {
@@ -167,6 +169,6 @@ pub fn method_call(
     };
     match (args.pop(), args.is_empty()) {
         (Some(argument), true) => Ok(Expr::binary_app(alloc, operator, base, argument)?),
-        _ => Err(ReadError::At(start, Fault::Expected("one argument"))),
+        _ => Err(ReadError::At(start, Fault::Expected(Expected::OneArgument))),
     }
 }

@@ -1,5 +1,5 @@
 // Faults behind which reading goes on.
-use crate::faults::{Fault, ReadError};
+use crate::faults::{Expected, Fault, ReadError};
 use std::alloc::{AllocError, Global};
 
 /// A fault that was met.
@@ -19,7 +19,7 @@ impl Met {
         let fault = match self {
             Met::Fault(fault) => fault,
             Met::UnknownType => Fault::Undeclared,
-            Met::VagueContext => Fault::Expected("a record"),
+            Met::VagueContext => Fault::Expected(Expected::Record),
         };
         ReadError::At(start, fault)
     }

@@ -1,7 +1,7 @@
 // What is begun of an expression, and how each of these goes on behind the expression that it waits for.
 use crate::brackets::{Fields, Key, List};
 use crate::cursor::Cursor;
-use crate::faults::ReadError;
+use crate::faults::{Expected, Fault, ReadError};
 use crate::operators::{Connective, Level, is_in, join, nodes_within};
 use crate::parts::{Part, in_parentheses, part_since};
 use cedar_types::base::{EntityType, Expr};
@@ -84,6 +84,35 @@ pub fn close(cursor: &mut Cursor<'_>, open: &mut Vec<Open>, part: Part) -> Resul
         Some(Open::List(list)) => behind_member(cursor, open, list, part),
         Some(Open::Record(fields, key)) => behind_value(cursor, open, fields, key, part),
     }
+}
+
+/// The largest expression that ends with this part and needs nothing more.
+pub fn close_whole(
+    cursor: &mut Cursor<'_>,
+    open: &mut Vec<Open>,
+    part: Part,
+) -> Result<Part, ReadError> {
+    let mut whole = part;
+    for _ in 0..open.len() {
+        if !ends_with_operand(open) {
+            break;
+        }
+        whole = match close(cursor, open, whole)? {
+            Next::Behind(part, _) | Next::End(part) => part,
+            Next::Operand => return Err(cursor.fault(Fault::Expected(Expected::Expression))),
+        };
+    }
+    Ok(whole)
+}
+
+/// Whether the innermost of what is begun ends with the expression that it waits for.
+fn ends_with_operand(open: &[Open]) -> bool {
+    matches!(
+        open.last(),
+        Some(
+            Open::Prefix(_, _) | Open::Between(_, _, _) | Open::Within(_, _) | Open::Other(_, _, _)
+        )
+    )
 }
 
 fn close_prefix(

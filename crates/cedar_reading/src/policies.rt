@@ -1,12 +1,9 @@
 // The policies of a file, one after another.
-use crate::annotations::annotations;
-use crate::cursor::{Cursor, MAX_GRAMMAR_STEPS};
-use crate::expressions::expression;
-use crate::faults::{Fault, ReadError};
-use crate::parts::{Part, part_since};
-use crate::scopes::read_scope;
-use cedar_types::base::{ActionConstraint, Effect, Expr, Loc, PolicyID, Template};
-use std::alloc::{AllocError, Global};
+use crate::cursor::Cursor;
+use crate::faults::ReadError;
+use crate::policy_parts::{PolicyParts, read_parts};
+use cedar_types::base::{Effect, Template};
+use std::alloc::Global;
 
 /// A policy that was read: what it does, and what it asks.
 #[derive(Debug, Drop)]
@@ -50,103 +47,14 @@ impl<'a> Policies<'a> {
 
 /// Reads a policy, before which there are so many.
 fn policy(cursor: &mut Cursor<'_>, number: usize) -> Result<ReadPolicy, ReadError> {
-    let start = cursor.start();
-    let given = annotations(cursor)?;
-    let id = policy_id(cursor.alloc, given, number)?;
-    let scope = read_scope(cursor)?;
-    check_actions(&scope.action)?;
-    let rest = conditions(cursor)?;
-    cursor.expect_one(";", "`when`, `unless` or `;`")?;
-    let place = cursor.since(start);
-    let template = Template::new(
-        id,
-        Some(place),
-        scope.principal,
-        scope.action,
-        scope.resource,
-        rest,
-    );
-    Ok(ReadPolicy {
-        effect: scope.effect,
-        template,
-    })
-}
-
-/// Fails at the first action of a scope whose type is not named `Action` in its last part.
-fn check_actions(constraint: &ActionConstraint) -> Result<(), ReadError> {
-    let other = match constraint {
-        ActionConstraint::Any => None,
-        ActionConstraint::Eq(uid) => Some(uid).filter(|uid| !uid.entity_type.is_action()),
-        ActionConstraint::In(uids) => uids.iter().find(|uid| !uid.entity_type.is_action()),
-    };
-    match other {
-        Some(uid) => Err(ReadError::At(start_of(uid.loc), Fault::ActionType)),
-        None => Ok(()),
-    }
-}
-
-fn start_of(place: Option<Loc>) -> usize {
-    match place {
-        Some(place) => place.start,
-        None => 0,
-    }
-}
-
-fn policy_id(alloc: Global, given: Option<String>, number: usize) -> Result<PolicyID, AllocError> {
-    let id = match given {
-        Some(given) => given,
-        None => format!(in alloc; "policy{number}")?,
-    };
-    PolicyID::from_string(alloc, id.as_str())
-}
-
-/// Reads what stands between a scope and the `;`: the conditions, all of which have to hold.
-fn conditions(cursor: &mut Cursor<'_>) -> Result<Option<Expr>, ReadError> {
-    let start = cursor.start();
-    let mut whole = None;
-    // each condition nests those before it one deeper
-    for _ in 0..MAX_GRAMMAR_STEPS {
-        if !cursor.is_at("when") && !cursor.is_at("unless") {
-            return Ok(whole.map(|part: Part| part.expr));
-        }
-        let next = one_condition(cursor)?;
-        whole = Some(with_next(cursor, start, whole, next)?);
-    }
-    Err(cursor.fault(Fault::TooDeep))
-}
-
-/// Reads `when` or `unless`, and the condition in braces behind it.
-fn one_condition(cursor: &mut Cursor<'_>) -> Result<Part, ReadError> {
-    let start = cursor.start();
-    let is_negated = cursor.take().text == "unless";
-    cursor.expect("{")?;
-    let read = expression(cursor)?;
-    cursor.expect("}")?;
-    if !is_negated {
-        return Ok(read);
-    }
-    let whole = Expr::not(cursor.alloc, read.expr)?;
-    part_since(cursor, start, read.depth, whole)
-}
-
-/// Both conditions, of which the first began at this byte; the next alone where there is none before it.
-fn with_next(
-    cursor: &Cursor<'_>,
-    start: usize,
-    before: Option<Part>,
-    next: Part,
-) -> Result<Part, ReadError> {
-    let Some(before) = before else {
-        return Ok(next);
-    };
-    let depth = before.depth.max(next.depth);
-    let whole = Expr::and(cursor.alloc, before.expr, next.expr)?;
-    part_since(cursor, start, depth, whole)
+    let mut parts = PolicyParts::new(cursor.alloc);
+    let place = read_parts(cursor, &mut parts)?;
+    parts.whole(cursor.alloc, place, number)
 }
 
 /// Where the next policy seems to begin, after a fault in the one that began at this byte. What was read of that one is
 /// passed again.
-fn next_policy_from<'a>(read: &Cursor<'a>, start: usize) -> Cursor<'a> {
+pub fn next_policy_from<'a>(read: &Cursor<'a>, start: usize) -> Cursor<'a> {
     let mut cursor = read.at(start);
     let mut passed = Passed {
         has_effect: false,

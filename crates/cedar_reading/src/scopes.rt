@@ -1,7 +1,7 @@
 // Policies: a scope, and perhaps a condition.
 use crate::cursor::Cursor;
 use crate::expressions::expression;
-use crate::faults::{Fault, ReadError};
+use crate::faults::{Expected, Fault, ReadError};
 use crate::names::{entity_type, entity_uid, placed_name};
 use cedar_types::base::{
     ActionConstraint, Effect, EntityReference, EntityUID, Expr, Name, PolicyID,
@@ -21,28 +21,71 @@ pub struct Scope {
     pub resource: ResourceConstraint,
 }
 
+/// What was read of a scope: a part is `None` where a fault stands before its end.
+#[derive(Default, Drop)]
+pub struct ScopeParts {
+    pub effect: Option<Effect>,
+    pub principal: Option<PrincipalConstraint>,
+    pub action: Option<ActionConstraint>,
+    pub resource: Option<ResourceConstraint>,
+}
+
+impl ScopeParts {
+    /// The scope of these parts, which begins at this byte. It fails where one of them was not read.
+    pub fn whole(self, start: usize) -> Result<Scope, ReadError> {
+        let ScopeParts {
+            effect,
+            principal,
+            action,
+            resource,
+        } = self;
+        let Some(effect) = effect else {
+            return Err(unread_part(start));
+        };
+        let Some(principal) = principal else {
+            return Err(unread_part(start));
+        };
+        let Some(action) = action else {
+            return Err(unread_part(start));
+        };
+        let Some(resource) = resource else {
+            return Err(unread_part(start));
+        };
+        Ok(Scope {
+            effect,
+            principal,
+            action,
+            resource,
+        })
+    }
+}
+
+fn unread_part(start: usize) -> ReadError {
+    ReadError::At(start, Fault::Expected(Expected::Effect))
+}
+
 /// Reads a scope alone: `permit(principal, action, resource)`.
 pub fn read_scope(cursor: &mut Cursor<'_>) -> Result<Scope, ReadError> {
-    let effect = effect(cursor)?;
+    let start = cursor.start();
+    let mut parts = ScopeParts::default();
+    read_scope_parts(cursor, &mut parts)?;
+    parts.whole(start)
+}
+
+/// Reads a scope alone, each part into its field. So the parts before a fault are kept.
+pub fn read_scope_parts(cursor: &mut Cursor<'_>, parts: &mut ScopeParts) -> Result<(), ReadError> {
+    parts.effect = Some(effect(cursor)?);
     cursor.expect("(")?;
-    let principal = entity_constraint(cursor, "principal")?;
+    let constraint = entity_constraint(cursor, "principal")?;
+    parts.principal = Some(PrincipalConstraint { constraint });
     cursor.expect(",")?;
-    let action = action_constraint(cursor)?;
+    parts.action = Some(action_constraint(cursor)?);
     cursor.expect(",")?;
-    let resource = entity_constraint(cursor, "resource")?;
+    let constraint = entity_constraint(cursor, "resource")?;
+    parts.resource = Some(ResourceConstraint { constraint });
     // a comma may stand behind the last
     cursor.takes(",");
-    cursor.expect(")")?;
-    Ok(Scope {
-        effect,
-        principal: PrincipalConstraint {
-            constraint: principal,
-        },
-        action,
-        resource: ResourceConstraint {
-            constraint: resource,
-        },
-    })
+    cursor.expect(")")
 }
 
 /// Reads what the policy does.
@@ -53,7 +96,7 @@ fn effect(cursor: &mut Cursor<'_>) -> Result<Effect, ReadError> {
     if cursor.takes("permit") {
         return Ok(Effect::Permit);
     }
-    Err(cursor.fault(Fault::Expected("`permit` or `forbid`")))
+    Err(cursor.fault(Fault::Expected(Expected::Effect)))
 }
 
 /// Reads the constraint of the principal or of the resource, after its name.
@@ -184,7 +227,7 @@ pub fn finish(cursor: &Cursor<'_>) -> Result<(), ReadError> {
     if cursor.is_at_end() {
         Ok(())
     } else {
-        Err(cursor.fault(Fault::Expected("the end")))
+        Err(cursor.fault(Fault::Expected(Expected::End)))
     }
 }
 

@@ -1,6 +1,6 @@
 // What stands in quotes.
 use crate::cursor::Cursor;
-use crate::faults::{Fault, ReadError};
+use crate::faults::{Expected, Fault, ReadError};
 use crate::tokens::TokenKind;
 use cedar_types::base::PatternElem;
 use std::alloc::Global;
@@ -25,7 +25,7 @@ pub fn pattern(cursor: &mut Cursor<'_>) -> Result<Vec<PatternElem>, ReadError> {
         return Err(cursor.fault(Fault::Text));
     }
     if token.kind != TokenKind::Text {
-        return Err(cursor.fault(Fault::Expected("a text in quotes")));
+        return Err(cursor.fault(Fault::Expected(Expected::Text)));
     }
     let inner = token
         .text

@@ -1,6 +1,6 @@
 // Declarations of actions.
 use crate::cursor::{Cursor, MAX_GRAMMAR_STEPS};
-use crate::faults::{Fault, ReadError};
+use crate::faults::{Expected, Fault, ReadError};
 use crate::members::key;
 use crate::names::placed_name;
 use crate::notes::Met;
@@ -201,9 +201,9 @@ fn part_of_application(
             read.context = Some(context);
         }
         "principal" | "resource" | "context" => {
-            return Err(cursor.fault(Fault::Expected("another part of `appliesTo`")));
+            return Err(cursor.fault(Fault::Expected(Expected::OtherApplication)));
         }
-        _ => return Err(cursor.fault(Fault::Expected("`principal`, `resource` or `context`"))),
+        _ => return Err(cursor.fault(Fault::Expected(Expected::Application))),
     }
     Ok(())
 }
@@ -223,10 +223,10 @@ fn whole_application(
         None => empty_record(cursor.alloc)?,
     };
     let Some(principals) = principals else {
-        return Err(cursor.fault(Fault::Expected("`principal`")));
+        return Err(cursor.fault(Fault::Expected(Expected::Principal)));
     };
     let Some(resources) = resources else {
-        return Err(cursor.fault(Fault::Expected("`resource`")));
+        return Err(cursor.fault(Fault::Expected(Expected::Resource)));
     };
     Ok(ValidatorApplySpec {
         principal_apply_spec: principals,
@@ -250,7 +250,7 @@ fn applied_types(
     }
     // an action that applies to nothing has no `appliesTo`
     if types.is_empty() && !names.are_as_given() {
-        let none = Met::Fault(Fault::Expected("at least one type"));
+        let none = Met::Fault(Fault::Expected(Expected::SomeType));
         cursor.notes.meet(start, none)?;
     }
     Ok(types)

@@ -1,7 +1,7 @@
 // The whole of a schema's text, and its namespaces.
-use crate::annotations::annotations;
+use crate::annotations::pass_annotations;
 use crate::cursor::{Cursor, MAX_GRAMMAR_STEPS};
-use crate::faults::{Fault, ReadError};
+use crate::faults::{Expected, Fault, ReadError};
 use crate::notes::Met;
 use crate::schemas::actions::{action_declaration, external_actions};
 use crate::schemas::declarations::{Alias, Declarations};
@@ -41,7 +41,7 @@ fn block(
     outside: Names<'_>,
     read: &mut Declarations,
 ) -> Result<(), ReadError> {
-    annotations(cursor)?;
+    pass_annotations(cursor)?;
     if cursor.takes("namespace") {
         namespace(cursor, outside, read)
     } else {
@@ -109,7 +109,7 @@ fn declaration(
     names: &Names<'_>,
     read: &mut Declarations,
 ) -> Result<(), ReadError> {
-    annotations(cursor)?;
+    pass_annotations(cursor)?;
     if cursor.takes("entity") {
         read.add_types(entity_declaration(cursor, names)?)?;
     } else if cursor.takes("action") {
@@ -119,7 +119,7 @@ fn declaration(
     } else if cursor.takes("type") {
         alias_declaration(cursor, names, read)?;
     } else {
-        return Err(cursor.fault(Fault::Expected("a declaration")));
+        return Err(cursor.fault(Fault::Expected(Expected::Declaration)));
     }
     Ok(())
 }

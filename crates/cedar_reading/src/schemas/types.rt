@@ -1,7 +1,7 @@
 // Types, and the attributes of records and entities. Each call goes one step deeper into the grammar, up to `MAX_GRAMMAR_STEPS`.
-use crate::annotations::annotations;
+use crate::annotations::pass_annotations;
 use crate::cursor::Cursor;
-use crate::faults::{Fault, ReadError};
+use crate::faults::{Expected, Fault, ReadError};
 use crate::members::key;
 use crate::names::{is_extension, placed_name};
 use crate::notes::Met;
@@ -30,7 +30,7 @@ pub fn cedar_type(
         return record(cursor, names, left);
     }
     if cursor.is_at("[") {
-        return Err(cursor.fault(Fault::Expected("a type such as `Set<Long>`")));
+        return Err(cursor.fault(Fault::Expected(Expected::Type)));
     }
     if !cursor.takes("Set") {
         return named_type(cursor, names, left);
@@ -71,7 +71,7 @@ pub fn attributes(
         if cursor.takes("}") {
             break;
         }
-        annotations(cursor)?;
+        pass_annotations(cursor)?;
         let start = cursor.start();
         let key = key(cursor)?;
         let is_required = !cursor.takes("?");
@@ -91,11 +91,11 @@ pub fn attributes(
 }
 
 /// What may stand behind an attribute's type, if what is read there is something else.
-fn behind_attribute(cursor: &Cursor<'_>) -> &'static str {
+fn behind_attribute(cursor: &Cursor<'_>) -> Expected {
     if cursor.is_at("?") {
-        "`?` before the `:`"
+        Expected::OptionalMark
     } else {
-        "`,` or `}`"
+        Expected::Attribute
     }
 }
 

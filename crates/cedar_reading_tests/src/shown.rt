@@ -1,0 +1,127 @@
+// Policies as a line: what was read of each.
+use cedar_reading::{FaultyPolicy, ReadError, ReadPolicy, policies_with_faults};
+use cedar_types::base::{
+    ActionConstraint, Effect, EntityReference, Expr, Loc, PrincipalOrResourceConstraint,
+};
+use std::alloc::{AllocError, Global};
+
+/// The policies of a text, each on a line. Of one with a fault: its fault and the byte of that, its place, and what was read.
+pub fn show(alloc: Global, text: &str) -> Result<String, AllocError> {
+    let policies = match policies_with_faults(alloc, text) {
+        Ok(policies) => policies,
+        Err(ReadError::Memory(error)) => return Err(error),
+        Err(ReadError::At(at, fault)) => return format!(in alloc; "{at} {fault}"),
+    };
+    let mut out = String::new(alloc);
+    for policy in &policies {
+        match policy {
+            Ok(read) => push_read(&mut out, read)?,
+            Err(faulty) => push_faulty(&mut out, text, faulty)?,
+        }
+        out.push('\n')?;
+    }
+    Ok(out)
+}
+
+fn push_read(out: &mut String, read: &ReadPolicy) -> Result<(), AllocError> {
+    let Loc { start, end } = read.template.loc.unwrap_or(Loc { start: 0, end: 0 });
+    write!(
+        out,
+        "{} {start}..{end} {}",
+        read.template.id,
+        effect_name(read.effect)
+    )
+}
+
+fn push_faulty(out: &mut String, text: &str, faulty: &FaultyPolicy) -> Result<(), AllocError> {
+    let Loc { start, end } = faulty.place;
+    write!(
+        out,
+        "{} {start}..{end} !{} {}:",
+        faulty.id, faulty.start, faulty.fault
+    )?;
+    for annotation in &faulty.annotations {
+        write!(out, " @{}={}", annotation.key, annotation.value)?;
+    }
+    if let Some(effect) = faulty.effect {
+        write!(out, " {}", effect_name(effect))?;
+    }
+    if let Some(principal) = &faulty.principal {
+        push_constraint(out, " principal", &principal.constraint)?;
+    }
+    if let Some(action) = &faulty.action {
+        push_action(out, action)?;
+    }
+    if let Some(resource) = &faulty.resource {
+        push_constraint(out, " resource", &resource.constraint)?;
+    }
+    push_condition(out, " when ", text, &faulty.condition)?;
+    push_condition(out, " left ", text, &faulty.unfinished)
+}
+
+fn effect_name(effect: Effect) -> &'static str {
+    if effect == Effect::Permit {
+        "permit"
+    } else {
+        "forbid"
+    }
+}
+
+fn push_constraint(
+    out: &mut String,
+    variable: &str,
+    constraint: &PrincipalOrResourceConstraint,
+) -> Result<(), AllocError> {
+    out.push_str(variable)?;
+    match constraint {
+        PrincipalOrResourceConstraint::Any => Ok(()),
+        PrincipalOrResourceConstraint::Eq(reference) => push_reference(out, " == ", reference),
+        PrincipalOrResourceConstraint::In(reference) => push_reference(out, " in ", reference),
+        PrincipalOrResourceConstraint::Is(name) => write!(out, " is {name}"),
+        PrincipalOrResourceConstraint::IsIn(name, reference) => {
+            write!(out, " is {name}")?;
+            push_reference(out, " in ", reference)
+        }
+    }
+}
+
+fn push_reference(
+    out: &mut String,
+    word: &str,
+    reference: &EntityReference,
+) -> Result<(), AllocError> {
+    match reference {
+        EntityReference::EUID(uid) => write!(out, "{word}{uid}"),
+        EntityReference::Slot => write!(out, "{word}?"),
+    }
+}
+
+fn push_action(out: &mut String, constraint: &ActionConstraint) -> Result<(), AllocError> {
+    match constraint {
+        ActionConstraint::Any => out.push_str(" action"),
+        ActionConstraint::Eq(uid) => write!(out, " action == {uid}"),
+        ActionConstraint::In(uids) => write!(out, " action in {}", uids.len()),
+    }
+}
+
+/// The text at which a condition stands, if there is one.
+fn push_condition(
+    out: &mut String,
+    word: &str,
+    text: &str,
+    condition: &Option<Expr>,
+) -> Result<(), AllocError> {
+    let Some(condition) = condition else {
+        return Ok(());
+    };
+    out.push_str(word)?;
+    out.push_str(text_of(text, condition))
+}
+
+/// The text at which an expression stands.
+pub fn text_of<'a>(text: &'a str, expr: &Expr) -> &'a str {
+    match expr.loc {
+        Some(Loc { start, end }) => text.get(start..end).unwrap_or("?"),
+        None => "?",
+    }
+}
