@@ -123,11 +123,8 @@ impl Order {
         };
         if let Some(children) = self.children.get(at) {
             for child in children {
-                if let Some(waiting) = self.waiting.get_mut(*child) {
-                    *waiting = waiting.saturating_sub(1);
-                    if *waiting == 0 {
-                        self.ready.push(*child)?;
-                    }
+                if ends_wait(&mut self.waiting, *child) {
+                    self.ready.push(*child)?;
                 }
             }
         }
@@ -153,6 +150,17 @@ impl Order {
             }
         }
         None
+    }
+}
+
+/// Counts one parent of an entity as done. Whether it was the last.
+fn ends_wait(waiting: &mut Vec<usize>, at: usize) -> bool {
+    match waiting.get_mut(at) {
+        Some(count) => {
+            *count = count.saturating_sub(1);
+            *count == 0
+        }
+        None => false,
     }
 }
 

@@ -133,9 +133,7 @@ impl<'a> Mismatches<'a> {
                     self.leave();
                 }
                 (None, None) if attribute.is_required => {
-                    let expected = attribute.attr_type.clone()?;
-                    let step = Step::Attribute(name.clone()?);
-                    self.add_at(step, object.place, Mismatch::MissingAttribute { expected })?;
+                    self.add_missing(name, &attribute.attr_type, object)?;
                 }
                 _ => {}
             }
@@ -144,6 +142,18 @@ impl<'a> Mismatches<'a> {
             OpenTag::OpenAttributes => Ok(()),
             OpenTag::ClosedAttributes => self.add_undeclared(attributes, object),
         }
+    }
+
+    /// Lists an attribute of this name and type that is not there.
+    fn add_missing(
+        &mut self,
+        name: &RcStr,
+        attr_type: &CedarType,
+        object: Object<'_>,
+    ) -> Result<(), AllocError> {
+        let expected = attr_type.clone()?;
+        let step = Step::Attribute(name.clone()?);
+        self.add_at(step, object.place, Mismatch::MissingAttribute { expected })
     }
 
     /// Lists the attributes that are not declared.

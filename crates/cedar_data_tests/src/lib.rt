@@ -2,12 +2,4 @@
 #![tactic(auto)]
 
 #[cfg(test)]
-mod entities;
-#[cfg(test)]
-mod forms;
-#[cfg(test)]
-mod parents;
-#[cfg(test)]
-mod requests;
-#[cfg(test)]
-mod shown;
+mod tests;

@@ -35,13 +35,13 @@ pub enum FormFault {
     OpenRecord,
     #[error("attributes of an action")]
     ActionAttributes,
-    /// What is written in Cedar's own syntax would be too long.
     /// The type of an action in a policy's scope has another name.
     #[error("the type of an action has to be named `Action`")]
     ActionType,
     /// `a is T in b`, where `a` stands in the tree twice and has such an operator itself.
     #[error("an `is` with `in` behind an operand that has one too")]
     Twice,
+    /// What is written in Cedar's own syntax would be too long.
     #[error("too large")]
     TooLarge,
     #[error("nested too deep")]

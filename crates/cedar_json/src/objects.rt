@@ -53,7 +53,8 @@ impl Entries {
 
     /// Adds the entry of this key.
     pub fn push(&mut self, key: Key, value: Value) -> Result<(), AllocError>
-        ensures { OnOk result (self.new.entries.items ≡ self.old.entries.items ++ (key, value) ∷ []) }
+        ensures { OnOk result (self.new.entries.items
+            ≡ self.old.entries.items ++ (key, value) ∷ []) }
     {
         self.entries.push((key, value))?;
         Ok(())

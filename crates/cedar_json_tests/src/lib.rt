@@ -2,16 +2,4 @@
 #![tactic(auto)]
 
 #[cfg(test)]
-mod marked;
-#[cfg(test)]
-mod policies;
-#[cfg(test)]
-mod reader;
-#[cfg(test)]
-mod reading;
-#[cfg(test)]
-mod schemas;
-#[cfg(test)]
-mod shown;
-#[cfg(test)]
-mod trees;
+mod tests;

@@ -75,9 +75,8 @@ pub fn apply(
     alloc: Global,
     operator: Operator,
     object: Object<'_>,
-    operands: Vec<Expr>,
+    mut operands: Vec<Expr>,
 ) -> Result<Expr, FormError> {
-    let mut operands = operands;
     let last = take(&mut operands, object)?;
     match operator {
         Operator::Not => Ok(Expr::not(alloc, last)?),
@@ -90,7 +89,11 @@ pub fn apply(
         Operator::HasAttribute => has(alloc, last, object.need("attr")?),
         Operator::Like => Ok(Expr::like(alloc, last, pattern(alloc, object.need("pattern")?)?)?),
         Operator::Is => is(alloc, object, operands, last),
-        Operator::Conditional => conditional(alloc, object, operands, last),
+        Operator::Conditional => {
+            let then = take(&mut operands, object)?;
+            let test = take(&mut operands, object)?;
+            Ok(Expr::ite(alloc, test, then, last)?)
+        }
         Operator::Binary(binary) => {
             let left = take(&mut operands, object)?;
             Ok(apply_binary(alloc, binary, left, last, object.place)?)
@@ -106,27 +109,13 @@ fn take(operands: &mut Vec<Expr>, object: Object<'_>) -> Result<Expr, FormError>
     }
 }
 
-/// `if test then other else last`, with the other operands in this order.
-fn conditional(
-    alloc: Global,
-    object: Object<'_>,
-    operands: Vec<Expr>,
-    last: Expr,
-) -> Result<Expr, FormError> {
-    let mut operands = operands;
-    let then = take(&mut operands, object)?;
-    let test = take(&mut operands, object)?;
-    Ok(Expr::ite(alloc, test, then, last)?)
-}
-
 /// `operand is T`, or `operand is T in last`, which are two tests that stand at the same place.
 fn is(
     alloc: Global,
     object: Object<'_>,
-    operands: Vec<Expr>,
+    mut operands: Vec<Expr>,
     last: Expr,
 ) -> Result<Expr, FormError> {
-    let mut operands = operands;
     let named = entity_type(alloc, object.need("entity_type")?)?;
     match operands.pop() {
         None => Ok(Expr::is_entity_type(alloc, last, named)?),

@@ -91,10 +91,7 @@ fn put_context(
     namespace: &RcStr,
     context: &Value,
 ) -> Result<(), FormError> {
-    let spaces = Spaces {
-        written: namespace.clone()?,
-        declared: namespace.clone()?,
-    };
+    let spaces = Spaces::of(namespace)?;
     out.put_from(context.place, ", context: ")?;
     put_type(out, declared, &spaces, context, MAX_DEPTH)
 }

@@ -55,10 +55,7 @@ fn put_standard(
     }
     if let Some(tags) = body.get("tags") {
         out.put_from(tags.place, " tags ")?;
-        let spaces = Spaces {
-            written: namespace.clone()?,
-            declared: namespace.clone()?,
-        };
+        let spaces = Spaces::of(namespace)?;
         put_type(out, declared, &spaces, tags, MAX_DEPTH)?;
     }
     Ok(())

@@ -33,6 +33,16 @@ pub struct Spaces {
     pub declared: RcStr,
 }
 
+impl Spaces {
+    /// Of a part that is written in the namespace in which it was declared.
+    pub fn of(namespace: &RcStr) -> Result<Spaces, AllocError> {
+        Ok(Spaces {
+            written: namespace.clone()?,
+            declared: namespace.clone()?,
+        })
+    }
+}
+
 /// What a name means in a namespace: without a path what is declared there, else what has this very name.
 pub fn meaning_of(
     declared: &Declared<'_>,

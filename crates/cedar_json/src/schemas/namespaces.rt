@@ -67,10 +67,7 @@ fn put_common_type(
     out.put("type ")?;
     out.put_from(key.place, key.name.as_str())?;
     out.put(" = ")?;
-    let spaces = Spaces {
-        written: namespace.clone()?,
-        declared: namespace.clone()?,
-    };
+    let spaces = Spaces::of(namespace)?;
     put_type(out, declared, &spaces, value, MAX_DEPTH)?;
     out.put(";\n")
 }

@@ -1,5 +1,5 @@
 // Texts that are no JSON, or no list of entities.
-use crate::shown::entities_shown;
+use crate::tests::shown::entities_shown;
 use std::alloc::Global;
 use std::process::Abort;
 use std::test::Fail;

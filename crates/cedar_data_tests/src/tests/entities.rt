@@ -1,5 +1,5 @@
 // Lists of entities, and the mistakes that they have.
-use crate::shown::entities_shown;
+use crate::tests::shown::entities_shown;
 use std::alloc::Global;
 use std::process::Abort;
 use std::test::Fail;
@@ -83,63 +83,65 @@ fn good_values(rt: HostRuntime) -> Result<(), Fail> {
     check_attributes(&rt, rt.alloc(), &cases)
 }
 
+/// Attributes with values of other types, and the mistakes of each.
+const OTHER_TYPES: [(&str, &str); 13] = [
+    (
+        r#""age": "3""#,
+        "\"3\" | User::\"a\".age: expected Long, found String\n",
+    ),
+    (
+        r#""age": true"#,
+        "true | User::\"a\".age: expected Long, found Bool\n",
+    ),
+    (
+        r#""boss": "User::\"b\"""#,
+        "\"User::\\\"b\\\"\" | User::\"a\".boss: expected User, found String\n",
+    ),
+    (
+        r#""boss": {"type": "Org", "id": "b"}"#,
+        "{\"type\": \"Org\", \"id\": \"b\"} | User::\"a\".boss: expected User, found Org\n",
+    ),
+    (
+        r#""boss": {"name": "b"}"#,
+        "{\"name\": \"b\"} | User::\"a\".boss: expected User, found Record\n",
+    ),
+    (
+        r#""address": {"street": 1, "zip": "x"}"#,
+        "1 | User::\"a\".address.street: expected String, found Long\n\"x\" | User::\"a\".address.zip: expected Long, found String\n",
+    ),
+    (
+        r#""address": {"zip": 1}"#,
+        "{\"zip\": 1} | User::\"a\".address.street: expected String, found nothing\n",
+    ),
+    (
+        r#""address": {"zip": 1, "street": "s", "zap": 1}"#,
+        "\"zap\" | User::\"a\".address.zap: the attribute is not declared\n",
+    ),
+    (
+        r#""homes": [{"street": "s", "zip": 1}, {"street": "s", "zip": "2"}, 7]"#,
+        "\"2\" | User::\"a\".homes[1].zip: expected Long, found String\n7 | User::\"a\".homes[2]: expected {street: String, zip: Long}, found Long\n",
+    ),
+    (
+        r#""from": 7"#,
+        "7 | User::\"a\".from: expected ipaddr, found Long\n",
+    ),
+    (
+        r#""from": {"__extn": {"fn": "decimal", "arg": "1.0"}}"#,
+        "{\"__extn\": {\"fn\": \"decimal\", \"arg\": \"1.0\"}} | User::\"a\".from: expected ipaddr, found decimal\n",
+    ),
+    (
+        r#""call": {"__extn": {"fn": "ip", "arg": "::1"}}"#,
+        "{\"__extn\": {\"fn\": \"ip\", \"arg\": \"::1\"}} | User::\"a\".call: expected {arg: Long, fn: String}, found ipaddr\n",
+    ),
+    (
+        r#""aeg": 3"#,
+        "\"aeg\" | User::\"a\".aeg: the attribute is not declared\n",
+    ),
+];
+
 #[test]
 fn values_of_other_types(rt: HostRuntime) -> Result<(), Fail> {
-    let cases = [
-        (
-            r#""age": "3""#,
-            "\"3\" | User::\"a\".age: expected Long, found String\n",
-        ),
-        (
-            r#""age": true"#,
-            "true | User::\"a\".age: expected Long, found Bool\n",
-        ),
-        (
-            r#""boss": "User::\"b\"""#,
-            "\"User::\\\"b\\\"\" | User::\"a\".boss: expected User, found String\n",
-        ),
-        (
-            r#""boss": {"type": "Org", "id": "b"}"#,
-            "{\"type\": \"Org\", \"id\": \"b\"} | User::\"a\".boss: expected User, found Org\n",
-        ),
-        (
-            r#""boss": {"name": "b"}"#,
-            "{\"name\": \"b\"} | User::\"a\".boss: expected User, found Record\n",
-        ),
-        (
-            r#""address": {"street": 1, "zip": "x"}"#,
-            "1 | User::\"a\".address.street: expected String, found Long\n\"x\" | User::\"a\".address.zip: expected Long, found String\n",
-        ),
-        (
-            r#""address": {"zip": 1}"#,
-            "{\"zip\": 1} | User::\"a\".address.street: expected String, found nothing\n",
-        ),
-        (
-            r#""address": {"zip": 1, "street": "s", "zap": 1}"#,
-            "\"zap\" | User::\"a\".address.zap: the attribute is not declared\n",
-        ),
-        (
-            r#""homes": [{"street": "s", "zip": 1}, {"street": "s", "zip": "2"}, 7]"#,
-            "\"2\" | User::\"a\".homes[1].zip: expected Long, found String\n7 | User::\"a\".homes[2]: expected {street: String, zip: Long}, found Long\n",
-        ),
-        (
-            r#""from": 7"#,
-            "7 | User::\"a\".from: expected ipaddr, found Long\n",
-        ),
-        (
-            r#""from": {"__extn": {"fn": "decimal", "arg": "1.0"}}"#,
-            "{\"__extn\": {\"fn\": \"decimal\", \"arg\": \"1.0\"}} | User::\"a\".from: expected ipaddr, found decimal\n",
-        ),
-        (
-            r#""call": {"__extn": {"fn": "ip", "arg": "::1"}}"#,
-            "{\"__extn\": {\"fn\": \"ip\", \"arg\": \"::1\"}} | User::\"a\".call: expected {arg: Long, fn: String}, found ipaddr\n",
-        ),
-        (
-            r#""aeg": 3"#,
-            "\"aeg\" | User::\"a\".aeg: the attribute is not declared\n",
-        ),
-    ];
-    check_attributes(&rt, rt.alloc(), &cases)
+    check_attributes(&rt, rt.alloc(), &OTHER_TYPES)
 }
 
 #[test]

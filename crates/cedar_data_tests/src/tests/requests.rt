@@ -1,5 +1,5 @@
 // Requests, and the mistakes that they have.
-use crate::shown::request_shown;
+use crate::tests::shown::request_shown;
 use std::test::Fail;
 
 #[test]

@@ -1,6 +1,6 @@
 // What entities are in.
-use crate::shown::{ancestors_shown, entities_shown};
-use std::alloc::Global;
+use crate::tests::shown::{ancestors_shown, entities_shown};
+use std::alloc::{AllocError, Global};
 use std::process::Abort;
 use std::test::Fail;
 
@@ -10,23 +10,7 @@ fn check(rt: &impl Abort, alloc: Global, cases: &[(&[&[(&str, &str)]], &str)]) -
     for (entities, wanted) in cases {
         let mut text = String::from_str(alloc, "[")?;
         for entity in *entities {
-            let mut separator = "";
-            for (entity_type, id) in *entity {
-                if separator.is_empty() {
-                    write!(
-                        text,
-                        "{{\"attrs\":{{}},\"uid\":{{\"type\":\"{entity_type}\",\"id\":\"{id}\"}},\"parents\":["
-                    )?;
-                    separator = " ";
-                } else {
-                    write!(
-                        text,
-                        "{separator}{{\"type\":\"{entity_type}\",\"id\":\"{id}\"}}"
-                    )?;
-                    separator = ",";
-                }
-            }
-            text.push_str("]},")?;
+            push_entity(&mut text, entity)?;
         }
         let listed = text.strip_suffix(',').unwrap_or("[");
         let whole = format!(in alloc; "{listed}]")?;
@@ -34,6 +18,22 @@ fn check(rt: &impl Abort, alloc: Global, cases: &[(&[&[(&str, &str)]], &str)]) -
         assert_eq!(rt; shown.as_str(), *wanted, "{whole}");
     }
     Ok(())
+}
+
+/// Adds an entity and a comma.
+fn push_entity(text: &mut String, entity: &[(&str, &str)]) -> Result<(), AllocError> {
+    for (number, (entity_type, id)) in entity.iter().enumerate() {
+        let (before, behind) = match number {
+            0 => (r#"{"attrs":{},"uid":"#, r#","parents":["#),
+            1 => ("", ""),
+            _ => (",", ""),
+        };
+        write!(
+            text,
+            "{before}{{\"type\":\"{entity_type}\",\"id\":\"{id}\"}}{behind}"
+        )?;
+    }
+    text.push_str("]},")
 }
 
 #[test]

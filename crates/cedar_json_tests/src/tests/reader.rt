@@ -1,17 +1,8 @@
 // Texts and what they give: a value with its places, or the first fault and the byte at which it stands.
-use crate::shown::answer;
+use crate::tests::cases::{Question, check};
+use crate::tests::shown::ValueAlone;
 use std::alloc::Global;
-use std::process::Abort;
 use std::test::Fail;
-
-/// Each text gives what stands beside it.
-fn check(rt: &impl Abort, alloc: Global, cases: &[(&str, &str)]) -> Result<(), Fail> {
-    for (text, wanted) in cases {
-        let given = answer(alloc, text)?;
-        assert_eq!(rt; given.as_str(), *wanted, "{text}");
-    }
-    Ok(())
-}
 
 #[test]
 fn plain_values(rt: HostRuntime) -> Result<(), Fail> {
@@ -36,7 +27,7 @@ fn plain_values(rt: HostRuntime) -> Result<(), Fail> {
         ("NaN", "0 Value"),
         ("\u{a0}1", "0 Value"),
     ];
-    check(&rt, rt.alloc(), &cases)
+    check(&rt, rt.alloc(), &ValueAlone, &cases)
 }
 
 #[test]
@@ -72,7 +63,7 @@ fn numbers(rt: HostRuntime) -> Result<(), Fail> {
         ("0x10", "1 Trailing"),
         ("1_000", "1 Trailing"),
     ];
-    check(&rt, rt.alloc(), &cases)
+    check(&rt, rt.alloc(), &ValueAlone, &cases)
 }
 
 #[test]
@@ -96,7 +87,7 @@ fn texts(rt: HostRuntime) -> Result<(), Fail> {
         ("\"//\"", "0-4`//`"),
         ("\"*\"", "0-3`*`"),
     ];
-    check(&rt, rt.alloc(), &cases)
+    check(&rt, rt.alloc(), &ValueAlone, &cases)
 }
 
 #[test]
@@ -128,7 +119,7 @@ fn faults_in_texts(rt: HostRuntime) -> Result<(), Fail> {
         ("\"\\ude00\\ud83d\"", "1 Surrogate"),
         ("\"a\"b", "3 Trailing"),
     ];
-    check(&rt, rt.alloc(), &cases)
+    check(&rt, rt.alloc(), &ValueAlone, &cases)
 }
 
 #[test]
@@ -152,7 +143,7 @@ fn arrays(rt: HostRuntime) -> Result<(), Fail> {
         ("[]]", "2 Trailing"),
         ("[[1]", "4 InArray"),
     ];
-    check(&rt, rt.alloc(), &cases)
+    check(&rt, rt.alloc(), &ValueAlone, &cases)
 }
 
 #[test]
@@ -188,7 +179,7 @@ fn objects(rt: HostRuntime) -> Result<(), Fail> {
         ("\u{feff}{}", "0 ByteOrderMark"),
         (" \u{feff}{}", "1 Value"),
     ];
-    check(&rt, rt.alloc(), &cases)
+    check(&rt, rt.alloc(), &ValueAlone, &cases)
 }
 
 /// So many brackets, and what stands in them.
@@ -209,14 +200,14 @@ fn depth(rt: HostRuntime) -> Result<(), Fail> {
     let alloc = rt.alloc();
     for (opening, closing, size) in [("[", "]", 1), ("{\"a\":", "}", 5)] {
         let most = nest(alloc, opening, closing, 400)?;
-        let given = answer(alloc, most.as_str())?;
+        let given = ValueAlone.answer(alloc, most.as_str())?;
         assert!(rt; given.starts_with("0-"));
         let more = nest(alloc, opening, closing, 401)?;
-        let given = answer(alloc, more.as_str())?;
+        let given = ValueAlone.answer(alloc, more.as_str())?;
         let wanted = format!(in alloc; "{} TooDeep", 400 * size)?;
         assert_eq!(rt; given.as_str(), wanted.as_str());
         let many = nest(alloc, opening, closing, 100_000)?;
-        let given = answer(alloc, many.as_str())?;
+        let given = ValueAlone.answer(alloc, many.as_str())?;
         assert_eq!(rt; given.as_str(), wanted.as_str());
     }
     Ok(())
@@ -231,7 +222,7 @@ fn many_keys(rt: HostRuntime) -> Result<(), Fail> {
     }
     let start = text.len();
     text.push_str("\"k7\":1}")?;
-    let given = answer(alloc, text.as_str())?;
+    let given = ValueAlone.answer(alloc, text.as_str())?;
     let wanted = format!(in alloc; "{start} SameKey")?;
     assert_eq!(rt; given.as_str(), wanted.as_str());
     Ok(())
@@ -246,7 +237,7 @@ fn too_long(rt: HostRuntime) -> Result<(), Fail> {
         text.push_str(half.as_str())?;
     }
     text.push('1')?;
-    let given = answer(alloc, text.as_str())?;
+    let given = ValueAlone.answer(alloc, text.as_str())?;
     assert_eq!(rt; given.as_str(), "0 TooLong");
     Ok(())
 }

@@ -1,0 +1,6 @@
+// Each subject has a module.
+mod entities;
+mod forms;
+mod parents;
+mod requests;
+mod shown;
