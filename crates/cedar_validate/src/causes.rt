@@ -1,10 +1,10 @@
 // What is found in a policy, before it is put into words.
 use crate::impossible::FalsePart;
+use cedar_findings::codes::Code;
+use cedar_findings::findings::Severity;
 use cedar_reading::Position;
 use cedar_typechecker::survey::Environments;
-use cedar_types::base::{CedarType, Loc, ValidationError, ValidationWarning};
-use cedar_validation::codes::Code;
-use cedar_validation::findings::Severity;
+use cedar_types::base::{CedarType, IncompatibleTypes, Loc, ValidationError, ValidationWarning};
 use std::alloc::{AllocError, Global};
 
 /// What is found.
@@ -115,18 +115,20 @@ pub fn types_shown(alloc: Global, error: &ValidationError) -> Result<String, All
             Some(entity_type) => entity_type.to_string(alloc),
             None => String::from_str(alloc, "entity"),
         },
-        ValidationError::IncompatibleTypes(found) => {
-            let mut types = String::new(alloc);
-            for ty in found.types.iter() {
-                if !types.is_empty() {
-                    types.push_str(", ")?;
-                }
-                write!(types, "{ty}")?;
-            }
-            Ok(types)
-        }
+        ValidationError::IncompatibleTypes(found) => render_types(alloc, found),
         _ => Ok(String::new(alloc)),
     }
+}
+
+fn render_types(alloc: Global, found: &IncompatibleTypes) -> Result<String, AllocError> {
+    let mut types = String::new(alloc);
+    for ty in found.types.iter() {
+        if !types.is_empty() {
+            types.push_str(", ")?;
+        }
+        write!(types, "{ty}")?;
+    }
+    Ok(types)
 }
 
 fn render_type(alloc: Global, ty: &CedarType) -> Result<String, AllocError> {

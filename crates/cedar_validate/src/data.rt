@@ -7,16 +7,17 @@ use cedar_conformance::requests::RequestFault;
 use cedar_data::{
     DataError, DataFault, ExtensionText, Faults, Problem, check_entities_text, check_request_text,
 };
+use cedar_findings::arguments::Arguments;
+use cedar_findings::codes::Code;
+use cedar_findings::data_findings::DataFinding;
+use cedar_findings::faults::TextFault;
+use cedar_findings::formats::Format;
+use cedar_findings::reports::Report;
+use cedar_findings::sources::Source;
+use cedar_findings::totals::Totals;
 use cedar_host::extensions::checks::Constructor;
 use cedar_reading::Position;
 use cedar_types::base::{Loc, ValidatorSchema};
-use cedar_validation::arguments::Arguments;
-use cedar_validation::codes::Code;
-use cedar_validation::data_findings::DataFinding;
-use cedar_validation::faults::TextFault;
-use cedar_validation::reports::{Form, Report};
-use cedar_validation::sources::Source;
-use cedar_validation::totals::Totals;
 use std::alloc::{AllocError, Global};
 use std::io;
 use std::io::Write;
@@ -25,8 +26,12 @@ use std::rt::Files;
 /// How many mistakes of a file are shown.
 const MAX_SHOWN: usize = 100;
 
-/// What is said of a file with more.
-const MORE: &str = "there are more mistakes than the 100 that are shown";
+/// What a file of data is to have.
+#[derive(Clone, Copy)]
+enum Kind {
+    Entities,
+    Request,
+}
 
 /// What is found in a file of data.
 #[derive(Drop)]
@@ -39,28 +44,25 @@ struct Found {
 /// Checks the entities and the request that are asked for.
 pub fn validate_data<R: Files + AllocGlobal + Input, O: Write>(
     rt: &R,
-    form: &mut Form,
+    format: &mut Format,
     schema: &ValidatorSchema,
     arguments: &Arguments,
     totals: &mut Totals,
     out: &mut O,
 ) -> io::Result<()> {
     let alloc = rt.alloc();
-    if let Some(name) = &arguments.entities {
+    for (kind, name) in [
+        (Kind::Entities, &arguments.entities),
+        (Kind::Request, &arguments.request),
+    ] {
+        let Some(name) = name else {
+            continue;
+        };
         let name = name.as_str();
-        if let Some(text) = read_data(rt, form, name, totals, out)? {
+        if let Some(text) = read_data(rt, format, name, totals, out)? {
             let text = text.as_str();
-            let found = found_in_entities(alloc, schema, text);
-            let shown = shown_data(alloc, form, schema, Source { name, text }, found, totals)?;
-            out.write_all(shown.as_bytes())?;
-        }
-    }
-    if let Some(name) = &arguments.request {
-        let name = name.as_str();
-        if let Some(text) = read_data(rt, form, name, totals, out)? {
-            let text = text.as_str();
-            let found = found_in_request(alloc, schema, text);
-            let shown = shown_data(alloc, form, schema, Source { name, text }, found, totals)?;
+            let found = found_in(alloc, schema, kind, text);
+            let shown = shown_data(alloc, format, schema, Source { name, text }, found, totals)?;
             out.write_all(shown.as_bytes())?;
         }
     }
@@ -70,43 +72,43 @@ pub fn validate_data<R: Files + AllocGlobal + Input, O: Write>(
 /// The text of a file, whose lack is counted.
 fn read_data<R: Files + AllocGlobal + Input, O: Write>(
     rt: &R,
-    form: &mut Form,
+    format: &mut Format,
     name: &str,
     totals: &mut Totals,
     out: &mut O,
 ) -> io::Result<Option<String>> {
     totals.data.is_asked = true;
-    let text = read_text(rt, form, name, out)?;
+    let text = read_text(rt, format, name, out)?;
     if text.is_none() {
         totals.add_fault();
     }
     Ok(text)
 }
 
-fn found_in_entities(
+fn found_in(
     alloc: Global,
     schema: &ValidatorSchema,
+    kind: Kind,
     text: &str,
 ) -> Result<Found, DataError> {
-    let checked = check_entities_text(alloc, schema, text)?;
-    Ok(Found {
-        entities: checked.count,
-        faults: checked.faults,
-        texts: checked.texts,
-    })
-}
-
-fn found_in_request(
-    alloc: Global,
-    schema: &ValidatorSchema,
-    text: &str,
-) -> Result<Found, DataError> {
-    let checked = check_request_text(alloc, schema, text)?;
-    Ok(Found {
-        entities: 0,
-        faults: checked.faults,
-        texts: checked.texts,
-    })
+    match kind {
+        Kind::Entities => {
+            let checked = check_entities_text(alloc, schema, text)?;
+            Ok(Found {
+                entities: checked.count,
+                faults: checked.faults,
+                texts: checked.texts,
+            })
+        }
+        Kind::Request => {
+            let checked = check_request_text(alloc, schema, text)?;
+            Ok(Found {
+                entities: 0,
+                faults: checked.faults,
+                texts: checked.texts,
+            })
+        }
+    }
 }
 
 /// Whether the function that is named with a text makes a value of it.
@@ -120,14 +122,14 @@ fn is_read(text: &ExtensionText) -> bool {
 /// Counts what is found in a file, and answers how it is shown.
 fn shown_data(
     alloc: Global,
-    form: &mut Form,
+    format: &mut Format,
     schema: &ValidatorSchema,
     source: Source<'_>,
     found: Result<Found, DataError>,
     totals: &mut Totals,
 ) -> Result<String, AllocError> {
     let mut shown = String::new(alloc);
-    let mut report = Report::new(alloc, *form, source);
+    let mut report = Report::new(alloc, *format, source);
     match found {
         Err(DataError::Memory(error)) => return Err(error),
         Err(DataError::At(start, fault)) => {
@@ -146,7 +148,7 @@ fn shown_data(
             totals,
         )?,
     }
-    *form = report.form();
+    *format = report.format();
     Ok(shown)
 }
 
@@ -208,7 +210,7 @@ fn more_than_shown(alloc: Global, text: &str) -> Result<DataFinding, AllocError>
     Ok(DataFinding {
         place: Loc { start: end, end },
         code: Code::Rest,
-        text: String::from_str(alloc, MORE)?,
+        text: format!(in alloc; "there are more mistakes than the {MAX_SHOWN} that are shown")?,
         hint: String::new(alloc),
     })
 }

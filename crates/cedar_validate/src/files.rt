@@ -2,14 +2,15 @@
 use crate::policies::Policies;
 use crate::progress::Progress;
 use crate::verdicts::{Settings, judge};
+use cedar_findings::faults::{TextFault, Written};
+use cedar_findings::formats::Format;
+use cedar_findings::json_faults::form_fault;
+use cedar_findings::reports::{Report, render_fault, render_missing};
+use cedar_findings::sources::{Content, Source, read};
+use cedar_findings::syntaxes::Syntax;
+use cedar_findings::totals::Totals;
 use cedar_json::{FormError, value_alone};
 use cedar_types::base::Template;
-use cedar_validation::faults::{TextFault, Written};
-use cedar_validation::json_faults::form_fault;
-use cedar_validation::reports::{Form, Report, push_missing};
-use cedar_validation::sources::{Content, Source, read};
-use cedar_validation::syntaxes::Syntax;
-use cedar_validation::totals::Totals;
 use std::alloc::{AllocError, Global};
 use std::io;
 use std::io::Write;
@@ -18,13 +19,10 @@ use std::rt::Files;
 /// How many faults of a file are shown.
 const MAX_FAULTS: u64 = 100;
 
-/// What is said of a file with so many faults and more policies.
-const REST: &str = "100 faults, so the rest of the file is not read";
-
 /// The text of a file. Where it cannot be had, why is written, and the answer is `None`.
 pub fn read_text<R: Files + AllocGlobal + Input, O: Write>(
     rt: &R,
-    form: &mut Form,
+    format: &mut Format,
     name: &str,
     out: &mut O,
 ) -> io::Result<Option<String>> {
@@ -33,45 +31,21 @@ pub fn read_text<R: Files + AllocGlobal + Input, O: Write>(
         Ok(Content::Text(text)) => return Ok(Some(text)),
         Ok(Content::Broken(front, fault)) => {
             let text = front.as_str();
-            render_break(alloc, form, Source { name, text }, &fault)?
+            render_fault(alloc, format, Source { name, text }, &fault)?
         }
-        Err(error) => render_unreadable(alloc, form, name, &error)?,
+        Err(error) => {
+            let why = format!(in alloc; "cannot be read: {error}")?;
+            render_missing(alloc, format, name, why.as_str())?
+        }
     };
     out.write_all(shown.as_bytes())?;
     Ok(None)
 }
 
-/// How a fault is shown behind the front of a file, which is a text.
-fn render_break(
-    alloc: Global,
-    form: &mut Form,
-    front: Source<'_>,
-    fault: &TextFault,
-) -> Result<String, AllocError> {
-    let mut shown = String::new(alloc);
-    let mut report = Report::new(alloc, *form, front);
-    report.push_fault(&mut shown, fault)?;
-    *form = report.form();
-    Ok(shown)
-}
-
-/// How it is shown that a file cannot be had.
-fn render_unreadable(
-    alloc: Global,
-    form: &mut Form,
-    name: &str,
-    error: &io::Error,
-) -> Result<String, AllocError> {
-    let why = format!(in alloc; "cannot be read: {error}")?;
-    let mut shown = String::new(alloc);
-    push_missing(&mut shown, form, name, why.as_str())?;
-    Ok(shown)
-}
-
 /// Validates the policies of a file.
 pub fn validate_file<R: Files + AllocGlobal + Input, O: Write, T: Write>(
     rt: &R,
-    form: &mut Form,
+    format: &mut Format,
     settings: &Settings<'_>,
     name: &str,
     totals: &mut Totals,
@@ -79,19 +53,19 @@ pub fn validate_file<R: Files + AllocGlobal + Input, O: Write, T: Write>(
     out: &mut O,
 ) -> io::Result<()> {
     let alloc = rt.alloc();
-    let Some(text) = read_text(rt, form, name, out)? else {
+    let Some(text) = read_text(rt, format, name, out)? else {
         totals.add_fault();
         return Ok(());
     };
     let text = text.as_str();
-    let mut report = Report::new(alloc, *form, Source { name, text });
+    let mut report = Report::new(alloc, *format, Source { name, text });
     let is_whole = validate_text(alloc, settings, text, &mut report, totals, progress, out)?;
-    *form = report.form();
+    *format = report.format();
     progress.clear();
     if !is_whole {
         totals.add_fault();
-        let mut shown = String::new(alloc);
-        push_missing(&mut shown, form, name, REST)?;
+        let rest = format!(in alloc; "{MAX_FAULTS} faults, so the rest of the file is not read")?;
+        let shown = render_missing(alloc, format, name, rest.as_str())?;
         out.write_all(shown.as_bytes())?;
     }
     Ok(())
@@ -151,7 +125,7 @@ fn validate_policies<O: Write, T: Write>(
     let mut policies = match read {
         Ok(policies) => policies,
         Err(fault) => {
-            let shown = render_fault(alloc, report, totals, &fault)?;
+            let shown = render_counted(alloc, report, totals, &fault)?;
             out.write_all(shown.as_bytes())?;
             return Ok(true);
         }
@@ -167,7 +141,7 @@ fn validate_policies<O: Write, T: Write>(
         }
         let shown = match next {
             Ok(policy) => render_policy(alloc, settings, examples, &policy, report, totals)?,
-            Err(fault) => render_fault(alloc, report, totals, &fault)?,
+            Err(fault) => render_counted(alloc, report, totals, &fault)?,
         };
         out.write_all(shown.as_bytes())?;
         progress.show(totals.policies);
@@ -176,7 +150,7 @@ fn validate_policies<O: Write, T: Write>(
 }
 
 /// Counts a fault, and answers how it is shown.
-fn render_fault(
+fn render_counted(
     alloc: Global,
     report: &mut Report<'_>,
     totals: &mut Totals,

@@ -2,8 +2,8 @@
 use cedar_conformance::entity_faults::EntityProblem;
 use cedar_conformance::requests::RequestFault;
 use cedar_data::Problem;
+use cedar_findings::similar::Search;
 use cedar_types::base::{EntityType, EntityUID, ValidatorSchema};
-use cedar_validation::similar::Search;
 use std::alloc::{AllocError, Global};
 
 /// The name that may be meant, or an empty text.
@@ -35,6 +35,9 @@ fn similar_type(
     let mut search = Search::new(alloc, wanted.as_str())?;
     let mut message = String::new(alloc);
     for name in schema.entity_type_names(alloc)? {
+        if search.is_over() {
+            break;
+        }
         let name = name.to_string(alloc)?;
         if search.is_nearer(name.as_str(), false)? {
             message = format!(in alloc; "did you mean `{name}`?")?;
@@ -51,6 +54,9 @@ fn similar_action(
     let mut search = Search::new(alloc, action.eid.as_str())?;
     let mut message = String::new(alloc);
     for declared in schema.action_ids(alloc)? {
+        if search.is_over() {
+            break;
+        }
         let name = &declared.name;
         let is_elsewhere = name.entity_type != action.entity_type;
         if search.is_nearer(name.eid.as_str(), is_elsewhere)? {

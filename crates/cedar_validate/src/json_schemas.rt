@@ -1,11 +1,12 @@
 // A schema in JSON.
 use crate::run::schema_or_fault;
+use cedar_findings::faults::{TextFault, Written};
+use cedar_findings::formats::Format;
+use cedar_findings::json_faults::form_fault;
+use cedar_findings::reports::{render_fault, render_missing};
+use cedar_findings::sources::Source;
 use cedar_json::schema_text;
 use cedar_types::base::ValidatorSchema;
-use cedar_validation::faults::{TextFault, Written};
-use cedar_validation::json_faults::form_fault;
-use cedar_validation::reports::{Form, Report, push_missing};
-use cedar_validation::sources::Source;
 use std::alloc::{AllocError, Global};
 use std::io;
 use std::io::Write;
@@ -17,24 +18,19 @@ const NOT_ALONE: &str = "a schema in JSON has to be the only file of the schema"
 /// `None`.
 pub fn read_json_schema<O: Write>(
     alloc: Global,
-    form: &mut Form,
+    format: &mut Format,
     source: Source<'_>,
     is_alone: bool,
     out: &mut O,
 ) -> io::Result<Option<ValidatorSchema>> {
-    let mut shown = String::new(alloc);
-    if !is_alone {
-        push_missing(&mut shown, form, source.name, NOT_ALONE)?;
-        out.write_all(shown.as_bytes())?;
-        return Ok(None);
-    }
-    let fault = match json_schema_or_fault(alloc, source.text)? {
-        Ok(schema) => return Ok(Some(schema)),
-        Err(fault) => fault,
+    let shown = if is_alone {
+        match json_schema_or_fault(alloc, source.text)? {
+            Ok(schema) => return Ok(Some(schema)),
+            Err(fault) => render_fault(alloc, format, source, &fault)?,
+        }
+    } else {
+        render_missing(alloc, format, source.name, NOT_ALONE)?
     };
-    let mut report = Report::new(alloc, *form, source);
-    report.push_fault(&mut shown, &fault)?;
-    *form = report.form();
     out.write_all(shown.as_bytes())?;
     Ok(None)
 }

@@ -1,10 +1,9 @@
 // The policies of a file, in one syntax or the other.
-use cedar_json::{FormError, Value};
-use cedar_reading::ReadError;
+use cedar_findings::faults::{TextFault, Written, read_fault};
+use cedar_findings::forbidden_parts::forbidden_part;
+use cedar_findings::json_faults::form_fault;
+use cedar_json::Value;
 use cedar_types::base::Template;
-use cedar_validation::faults::{TextFault, Written, read_fault};
-use cedar_validation::forbidden_parts::forbidden_part;
-use cedar_validation::json_faults::form_fault;
 use std::alloc::{AllocError, Global};
 
 /// Reads the policies of a file, one after another.
@@ -72,44 +71,32 @@ impl<'a> Policies<'a> {
         let text = self.text;
         match &mut self.reader {
             Reader::Cedar(policies) => match policies.next_policy() {
-                Some(read) => Ok(Some(policy_of_text(alloc, text, read)?)),
                 None => Ok(None),
+                Some(Ok(read)) => Ok(Some(allow(alloc, Some(text), read.template)?)),
+                Some(Err(error)) => {
+                    let fault = read_fault(alloc, Written::Policies, text, error)?;
+                    Ok(Some(Err(fault)))
+                }
             },
             Reader::Json(policies) => match policies.next_policy() {
-                Some(read) => Ok(Some(policy_of_json(alloc, text, read)?)),
                 None => Ok(None),
+                Some(Ok(read)) => Ok(Some(allow(alloc, None, read.template)?)),
+                Some(Err(error)) => {
+                    let fault = form_fault(alloc, Written::Policies, text, error)?;
+                    Ok(Some(Err(fault)))
+                }
             },
         }
     }
 }
 
-/// The policy that was read from this text, or the fault that it has.
-fn policy_of_text(
+/// A policy that was read, with its text in Cedar's own syntax if there is one, or the fault of what may not stand in it.
+fn allow(
     alloc: Global,
-    text: &str,
-    read: Result<cedar_reading::ReadPolicy, ReadError>,
+    text: Option<&str>,
+    policy: Template,
 ) -> Result<Result<Template, TextFault>, AllocError> {
-    let policy = match read {
-        Ok(read) => read.template,
-        Err(error) => return Ok(Err(read_fault(alloc, Written::Policies, text, error)?)),
-    };
-    match forbidden_part(alloc, Some(text), &policy)? {
-        None => Ok(Ok(policy)),
-        Some(fault) => Ok(Err(fault)),
-    }
-}
-
-/// The policy that was read from this text of JSON, or the fault that it has.
-fn policy_of_json(
-    alloc: Global,
-    text: &str,
-    read: Result<cedar_json::ReadPolicy, FormError>,
-) -> Result<Result<Template, TextFault>, AllocError> {
-    let policy = match read {
-        Ok(read) => read.template,
-        Err(error) => return Ok(Err(form_fault(alloc, Written::Policies, text, error)?)),
-    };
-    match forbidden_part(alloc, None, &policy)? {
+    match forbidden_part(alloc, text, &policy)? {
         None => Ok(Ok(policy)),
         Some(fault) => Ok(Err(fault)),
     }

@@ -4,17 +4,18 @@ use crate::files::{read_text, validate_file};
 use crate::json_schemas::read_json_schema;
 use crate::progress::Progress;
 use crate::verdicts::Settings;
+use cedar_findings::arguments::{Arguments, Asked, read_arguments};
+use cedar_findings::faults::{TextFault, all_schema_faults, schema_fault, shadowing_fault};
+use cedar_findings::formats::Format;
+use cedar_findings::reports::render_fault;
+use cedar_findings::schema_texts::SchemaTexts;
+use cedar_findings::sources::Source;
+use cedar_findings::syntaxes::Syntax;
+use cedar_findings::totals::Totals;
+use cedar_findings::writers::FindingsWriter;
 use cedar_reading::schema;
 use cedar_typechecker::rbac::Validator;
 use cedar_types::base::{ExtensionSchemas, ValidatorSchema};
-use cedar_validation::arguments::{Arguments, Asked, read_arguments};
-use cedar_validation::faults::{TextFault, all_schema_faults, schema_fault, shadowing_fault};
-use cedar_validation::formats::Format;
-use cedar_validation::reports::{Form, Report, push_beginning, push_totals};
-use cedar_validation::schema_texts::SchemaTexts;
-use cedar_validation::sources::Source;
-use cedar_validation::syntaxes::Syntax;
-use cedar_validation::totals::Totals;
 use std::alloc::{AllocError, Global};
 use std::io;
 use std::io::Write;
@@ -112,12 +113,14 @@ fn validate_files<R: Files + AllocGlobal + Input, O: Write, T: Write>(
     progress: &mut Progress<T>,
     out: &mut O,
 ) -> io::Result<u8> {
-    let mut form = Form::new(arguments.format);
+    let mut format = arguments.format;
+    let mut totals = Totals::default();
     let mut shown = String::new(rt.alloc());
-    push_beginning(&mut shown, form)?;
+    format.begin(&mut shown)?;
     out.write_all(shown.as_bytes())?;
-    let Some(schema) = read_schema(rt, arguments, &mut form, out)? else {
-        return end_without_schema(rt.alloc(), form, out);
+    let Some(schema) = read_schema(rt, arguments, &mut format, out)? else {
+        totals.add_missing_schema();
+        return end(rt.alloc(), arguments, &mut format, &totals, out);
     };
     let validator = Validator::new(schema, extensions);
     let settings = Settings {
@@ -126,55 +129,47 @@ fn validate_files<R: Files + AllocGlobal + Input, O: Write, T: Write>(
         level: arguments.level,
         syntax: arguments.syntax,
     };
-    let mut totals = Totals::default();
     for name in &arguments.policies {
         let name = name.as_str();
-        validate_file(rt, &mut form, &settings, name, &mut totals, progress, out)?;
+        validate_file(rt, &mut format, &settings, name, &mut totals, progress, out)?;
     }
-    validate_data(
-        rt,
-        &mut form,
-        validator.schema(),
-        arguments,
-        &mut totals,
-        out,
-    )?;
-    let mut shown = String::new(rt.alloc());
-    push_totals(&mut shown, form, totals)?;
-    out.write_all(shown.as_bytes())?;
-    Ok(totals.status(arguments.denies_warnings))
+    let schema = validator.schema();
+    validate_data(rt, &mut format, schema, arguments, &mut totals, out)?;
+    end(rt.alloc(), arguments, &mut format, &totals, out)
 }
 
-/// Ends what is written where there is no schema: lines and objects have no counts then.
-fn end_without_schema<O: Write>(alloc: Global, form: Form, out: &mut O) -> io::Result<u8> {
-    let mut totals = Totals::default();
-    totals.add_fault();
-    if form.format == Format::Sarif {
-        let mut shown = String::new(alloc);
-        push_totals(&mut shown, form, totals)?;
-        out.write_all(shown.as_bytes())?;
-    }
-    Ok(totals.status(false))
+/// Ends what is written, and answers the exit status.
+fn end<O: Write>(
+    alloc: Global,
+    arguments: &Arguments,
+    format: &mut Format,
+    totals: &Totals,
+    out: &mut O,
+) -> io::Result<u8> {
+    let mut shown = String::new(alloc);
+    format.end(&mut shown, totals)?;
+    out.write_all(shown.as_bytes())?;
+    Ok(totals.status(arguments.denies_warnings))
 }
 
 /// The schema. Where there is none, why is written, and the answer is `None`.
 fn read_schema<R: Files + AllocGlobal + Input, O: Write>(
     rt: &R,
     arguments: &Arguments,
-    form: &mut Form,
+    format: &mut Format,
     out: &mut O,
 ) -> io::Result<Option<ValidatorSchema>> {
     let alloc = rt.alloc();
     let mut texts = SchemaTexts::new(alloc);
     for name in &arguments.schemas {
-        let Some(text) = read_text(rt, form, name.as_str(), out)? else {
+        let Some(text) = read_text(rt, format, name.as_str(), out)? else {
             return Ok(None);
         };
         let text = text.as_str();
         if arguments.syntax.unwrap_or(Syntax::of(text)) == Syntax::Json {
             let name = name.as_str();
             let is_alone = arguments.schemas.len() == 1;
-            return read_json_schema(alloc, form, Source { name, text }, is_alone, out);
+            return read_json_schema(alloc, format, Source { name, text }, is_alone, out);
         }
         texts.add(text)?;
     }
@@ -183,31 +178,27 @@ fn read_schema<R: Files + AllocGlobal + Input, O: Write>(
         Err(fault) => fault,
     };
     for fault in all_schema_faults(alloc, texts.text(), first)? {
-        let shown = render_fault(alloc, &arguments.schemas, &texts, form, fault)?;
+        let shown = render_schema_fault(alloc, &arguments.schemas, &texts, format, fault)?;
         out.write_all(shown.as_bytes())?;
     }
     Ok(None)
 }
 
 /// How a fault of a schema is shown, in the file that it stands in.
-fn render_fault(
+fn render_schema_fault(
     alloc: Global,
     names: &Vec<String>,
     texts: &SchemaTexts,
-    form: &mut Form,
+    format: &mut Format,
     fault: TextFault,
 ) -> Result<String, AllocError> {
-    let mut shown = String::new(alloc);
     let (number, fault) = texts.own_fault(alloc, fault)?;
     let name = match names.get(number) {
         Some(name) => name.as_str(),
         None => "",
     };
     let text = texts.text_of(number);
-    let mut report = Report::new(alloc, *form, Source { name, text });
-    report.push_fault(&mut shown, &fault)?;
-    *form = report.form();
-    Ok(shown)
+    render_fault(alloc, format, Source { name, text }, &fault)
 }
 
 /// The schema that a text declares, or the fault that it has.

@@ -2,6 +2,9 @@
 use crate::causes::{Cause, Found};
 use crate::impossible::{FalsePart, false_parts};
 use crate::wording::{About, first_findings};
+use cedar_findings::findings::{Requirement, Severity, Verdict};
+use cedar_findings::marks::marked_parts;
+use cedar_findings::syntaxes::Syntax;
 use cedar_host::extensions::unread_texts::add_unread_texts;
 use cedar_host::policy_sets::{Findings, validate};
 use cedar_host::safety::SoundMode;
@@ -12,11 +15,8 @@ use cedar_typechecker::survey::Environments;
 use cedar_types::base::{
     ArgumentCheck, Loc, Template, ValidationError, ValidationMode, ValidationWarning,
 };
-use cedar_validation::findings::{Requirement, Severity, Verdict};
-use cedar_validation::marks::marked_parts;
-use cedar_validation::syntaxes::Syntax;
 use std::alloc::{AllocError, Global};
-use std::collections::{BTreeMap, HashSet};
+use std::collections::{BTreeMap, BTreeSet};
 
 /// The text of a policy that is refused without an error, where each name is the schema's.
 const NESTED: &str = "nested too deep to be checked: fewer than 400 parts may stand inside \
@@ -92,7 +92,7 @@ fn add_unread(
     policy: &Template,
     errors: &mut BTreeMap<ValidationError, Environments>,
 ) -> Result<bool, AllocError> {
-    let mut unread = HashSet::new(alloc);
+    let mut unread = BTreeSet::new(alloc);
     let is_unread = add_unread_texts(alloc, policy, &mut unread)?;
     for error in unread {
         errors.insert(error, Environments::none(alloc))?;

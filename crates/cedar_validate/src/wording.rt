@@ -1,10 +1,10 @@
 // Which findings of a policy are put into words, and these.
 use crate::causes::{Cause, Found, types_shown};
 use crate::environments::ShownEnvironments;
+use cedar_findings::findings::Finding;
+use cedar_findings::hints::{hint_for_error, hint_for_warning};
 use cedar_reading::Position;
-use cedar_types::base::{Template, ValidatorSchema};
-use cedar_validation::findings::Finding;
-use cedar_validation::hints::{hint_for_error, hint_for_warning};
+use cedar_types::base::{Message, Template, ValidatorSchema};
 use std::alloc::{AllocError, Global};
 
 /// How many findings of a policy are put into words.
@@ -102,8 +102,10 @@ fn finding_of(
 
 fn text_of(alloc: Global, cause: Cause<'_>) -> Result<String, AllocError> {
     match cause {
-        Cause::Error(error, _) => error.to_string(alloc),
-        Cause::Warning(warning) | Cause::FalsePart(warning, _) => warning.to_string(alloc),
+        Cause::Error(error, _) => Message(error).to_string(alloc),
+        Cause::Warning(warning) | Cause::FalsePart(warning, _) => {
+            Message(warning).to_string(alloc)
+        }
         Cause::Marks(text) | Cause::Unexplained(text) => String::from_str(alloc, text),
         Cause::SameId(Position { line, column }) => {
             format!(in alloc; "the policy at {line}:{column} of this file has the same id")

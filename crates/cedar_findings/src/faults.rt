@@ -1,0 +1,275 @@
+//! What is wrong with texts that cannot be read, in words.
+use crate::fault_hints::{hint, is_alias};
+use cedar_reading::{
+    Fault, MAX_GRAMMAR_STEPS, ReadError, RefusedName, SchemaFault, SchemaReadError, refused_name,
+    schema_faults, shadowing_name, token_text,
+};
+use cedar_types::base::{Loc, SchemaError};
+use std::alloc::{AllocError, Global};
+use thiserror::Error;
+
+/// How many characters are shown of what was read in place of something else.
+const MAX_SHOWN: usize = 40;
+
+/// What may help behind a text in quotes of several lines.
+const LONG_TEXT: &str =
+    "the text in quotes before it began on another line: it may have lost its end there";
+
+/// What may help behind a name that is not that of an entity type.
+const ALIAS: &str = "it is the name of a common type, and of no entity type";
+
+/// What is wrong with a name that `shadowing_name` finds.
+const HIDES: &str = "a name of a namespace that hides one outside of namespaces";
+
+/// What is wrong with a text, and where.
+#[derive(Debug, Drop, Error)]
+#[error("{text}")]
+pub struct TextFault {
+    pub place: Loc,
+    pub text: String,
+}
+
+/// What kind of text is read.
+#[derive(Clone, Copy, PartialEq, Eq)]
+pub enum Written {
+    Schema,
+    Policies,
+}
+
+/// What is wrong at a place, for people.
+#[derive(Clone, Copy, Debug, Error)]
+pub(crate) enum Trouble {
+    #[error("nested too deep: {0} brackets and operators are read inside each other, or {0} links of a chain", MAX_GRAMMAR_STEPS)]
+    TooDeep,
+    #[error("nested too deep, as a type that contains itself is")]
+    DeepType,
+    #[error("the text is longer than 64 MiB")]
+    TooLong,
+    #[error("a number that does not fit 64 bits")]
+    Number,
+    #[error("a text in quotes that does not end")]
+    OpenText,
+    #[error("an escape that there is not: there are \\\" \\\\ \\' \\n \\r \\t \\0 \\x41 \\u{{41}}")]
+    Escape,
+    #[error("a carriage return in a text: `\\r` stands for one")]
+    CarriageReturn,
+    #[error("a character that begins nothing")]
+    Character,
+    #[error("`{0}` is expected")]
+    Missing(&'static str),
+    #[error("{0}")]
+    Other(Fault),
+}
+
+/// The fault that reading met. It fails where it was memory that was refused.
+pub fn read_fault(
+    alloc: Global,
+    written: Written,
+    text: &str,
+    error: ReadError,
+) -> Result<TextFault, AllocError> {
+    let (start, fault) = match error {
+        ReadError::Memory(error) => return Err(error),
+        ReadError::At(start, fault) => (start, fault),
+    };
+    let token = token_text(text, start);
+    let read = match token {
+        "-" => beginning(negative_number(text, start)),
+        _ => beginning(token),
+    };
+    let trouble = trouble_of(written, fault, token);
+    let mut message = trouble_text(alloc, written, trouble, read)?;
+    if is_behind_long_text(text, start) {
+        push_hint(&mut message, LONG_TEXT)?;
+    }
+    if fault == Fault::Undeclared && is_alias(text, read) {
+        push_hint(&mut message, ALIAS)?;
+    }
+    Ok(TextFault {
+        place: Loc {
+            start,
+            end: start.saturating_add(read.len()),
+        },
+        text: message,
+    })
+}
+
+/// The number that begins with the minus at this byte, as far as it stands on one line; else the minus alone.
+fn negative_number(text: &str, start: usize) -> &str {
+    let rest = text.get(start..).unwrap_or("");
+    let inside = rest.strip_prefix('-').unwrap_or("");
+    let digits = inside.trim_start();
+    let others = digits.trim_start_matches(|c: char| c.is_ascii_digit());
+    if others.len() == digits.len() {
+        return "-";
+    }
+    let size = rest.len().saturating_sub(others.len());
+    rest.get(..size).unwrap_or("-")
+}
+
+/// Whether a text in quotes ends right before this byte, and began on another line.
+fn is_behind_long_text(text: &str, start: usize) -> bool {
+    let before = text.get(..start).unwrap_or("").trim_end();
+    let Some(inside) = before.strip_suffix('"') else {
+        return false;
+    };
+    match inside.rsplit_once('"') {
+        Some((_, message)) => message.contains('\n'),
+        None => false,
+    }
+}
+
+/// What a fault at this token is.
+fn trouble_of(written: Written, fault: Fault, token: &str) -> Trouble {
+    match fault {
+        Fault::TooDeep if written == Written::Schema => Trouble::DeepType,
+        Fault::TooDeep => Trouble::TooDeep,
+        Fault::TooLong => Trouble::TooLong,
+        Fault::Number => Trouble::Number,
+        Fault::Text if !token.starts_with('"') => Trouble::Character,
+        Fault::Text if token.len() > 1 && token.ends_with('"') => Trouble::Escape,
+        Fault::Text => Trouble::OpenText,
+        Fault::CarriageReturn => Trouble::CarriageReturn,
+        Fault::Missing(word) => Trouble::Missing(word),
+        _ => Trouble::Other(fault),
+    }
+}
+
+/// What is wrong, with what was read and what may help.
+fn trouble_text(
+    alloc: Global,
+    written: Written,
+    trouble: Trouble,
+    read: &str,
+) -> Result<String, AllocError> {
+    let mut message = trouble.to_string(alloc)?;
+    if read.is_empty() {
+        message.push_str(", where the text ends")?;
+    } else {
+        write!(message, ", where `{read}` is read")?;
+    }
+    push_hint(&mut message, hint(written, trouble, read))?;
+    Ok(message)
+}
+
+/// Adds what may help, if something is known.
+pub(crate) fn push_hint(message: &mut String, hint: &str) -> Result<(), AllocError> {
+    if hint.is_empty() {
+        return Ok(());
+    }
+    message.push_str("; ")?;
+    message.push_str(hint)
+}
+
+/// The beginning of what was read, of one line.
+pub(crate) fn beginning(text: &str) -> &str {
+    let line = text.lines().next().unwrap_or("");
+    match line.char_indices().nth(MAX_SHOWN) {
+        Some((size, _)) => line.get(..size).unwrap_or(""),
+        None => line,
+    }
+}
+
+/// Why a text gives no schema. It fails where it is memory that was refused.
+pub fn schema_fault(
+    alloc: Global,
+    text: &str,
+    error: SchemaReadError,
+) -> Result<TextFault, AllocError> {
+    match error {
+        SchemaReadError::Read(error) => read_fault(alloc, Written::Schema, text, error),
+        SchemaReadError::Refused(fault) => {
+            let name = refused_name(alloc, text, &fault)?;
+            refused_fault(alloc, text, &fault, name)
+        }
+    }
+}
+
+/// Why a schema is refused, for this name.
+fn refused_fault(
+    alloc: Global,
+    text: &str,
+    fault: &SchemaError,
+    name: Option<RefusedName>,
+) -> Result<TextFault, AllocError> {
+    let alias = match (fault, &name) {
+        (SchemaError::UnknownType, Some(it)) => is_alias(text, it.name.as_str()),
+        _ => false,
+    };
+    let mut refused = refusal(alloc, text, refusal_text(fault), name)?;
+    if alias {
+        push_hint(&mut refused.text, ALIAS)?;
+    }
+    Ok(refused)
+}
+
+/// The faults of a schema's text, by place, the first hundred; `first` alone, which is one of it, where none can be told.
+pub fn all_schema_faults(
+    alloc: Global,
+    text: &str,
+    first: TextFault,
+) -> Result<Vec<TextFault>, AllocError> {
+    let mut told = Vec::new(alloc);
+    for fault in schema_faults(alloc, text)? {
+        told.push(told_fault(alloc, text, fault)?)?;
+    }
+    if told.is_empty() {
+        told.push(first)?;
+    }
+    Ok(told)
+}
+
+fn told_fault(alloc: Global, text: &str, fault: SchemaFault) -> Result<TextFault, AllocError> {
+    match fault {
+        SchemaFault::Read(start, fault) => {
+            read_fault(alloc, Written::Schema, text, ReadError::At(start, fault))
+        }
+        SchemaFault::Refused(fault, name) => refused_fault(alloc, text, &fault, Some(name)),
+        SchemaFault::Hides(name) => refusal(alloc, text, HIDES, Some(name)),
+    }
+}
+
+/// What is wrong with a schema that can be had, as Cedar has it: a name of a namespace that hides one outside.
+pub fn shadowing_fault(alloc: Global, text: &str) -> Result<Option<TextFault>, AllocError> {
+    match shadowing_name(alloc, text)? {
+        None => Ok(None),
+        name => Ok(Some(refusal(alloc, text, HIDES, name)?)),
+    }
+}
+
+fn refusal(
+    alloc: Global,
+    text: &str,
+    why: &str,
+    name: Option<RefusedName>,
+) -> Result<TextFault, AllocError> {
+    let Some(RefusedName { name, start }) = name else {
+        return Ok(TextFault {
+            place: Loc { start: 0, end: 0 },
+            text: String::from_str(alloc, why)?,
+        });
+    };
+    Ok(TextFault {
+        place: Loc {
+            start,
+            end: start.saturating_add(beginning(token_text(text, start)).len()),
+        },
+        text: format!(in alloc; "{why}: `{name}`")?,
+    })
+}
+
+/// Why a schema is refused, in words.
+fn refusal_text(fault: &SchemaError) -> &'static str {
+    match fault {
+        SchemaError::DuplicateEntityType => "an entity type is declared twice",
+        SchemaError::DuplicateAction => "an action is declared twice",
+        SchemaError::ActionTypeDeclared => "an entity type has the name of a type of actions",
+        SchemaError::NotAnActionType => "the type of an action is none of actions",
+        SchemaError::EmptyEnum => "an enumerated type has no ids",
+        SchemaError::UnknownType => "a type that is not declared",
+        SchemaError::UnknownActionDescendant => "an action is named that is not declared",
+        SchemaError::VagueType => "the context of an action has to be a record",
+        SchemaError::DescendantsNotClosed => "what is in what is not closed",
+        SchemaError::Memory(_) => "memory was refused",
+    }
+}

@@ -1,0 +1,108 @@
+// Names of types, actions and ids that the schema does not have.
+use crate::similar::Search;
+use cedar_types::base::{EntityType, EntityUID, ValidatorEntityTypeKind, ValidatorSchema};
+use std::alloc::{AllocError, Global};
+use std::rc::RcStr;
+
+/// How many ids of an enumerated type are listed.
+const MAX_LISTED: usize = 5;
+
+/// The declared type whose name is nearest, in any namespace.
+pub fn hint_for_type(
+    alloc: Global,
+    schema: &ValidatorSchema,
+    unknown: &EntityType,
+) -> Result<String, AllocError> {
+    let mut search = Search::new(alloc, unknown.name.basename.as_str())?;
+    let mut nearest = None;
+    for name in schema.entity_type_names(alloc)? {
+        if search.is_over() {
+            break;
+        }
+        let is_elsewhere = name.name.path != unknown.name.path;
+        if search.is_nearer(name.name.basename.as_str(), is_elsewhere)? {
+            nearest = Some(name);
+        }
+    }
+    match nearest {
+        Some(name) => format!(in alloc; "did you mean `{name}`?"),
+        None => Ok(String::new(alloc)),
+    }
+}
+
+/// The declared action whose id is nearest, in any namespace. Where the id has the text of a type in it, what stands behind that.
+pub fn hint_for_action(
+    alloc: Global,
+    schema: &ValidatorSchema,
+    unknown: &EntityUID,
+) -> Result<String, AllocError> {
+    let mut search = Search::new(alloc, id_alone(unknown.eid.as_str()))?;
+    let mut nearest = None;
+    for action in schema.action_ids(alloc)? {
+        if search.is_over() {
+            break;
+        }
+        let is_elsewhere = action.name.entity_type != unknown.entity_type;
+        if search.is_nearer(action.name.eid.as_str(), is_elsewhere)? {
+            nearest = Some(&action.name);
+        }
+    }
+    match nearest {
+        Some(name) => format!(in alloc; "did you mean `{name}`?"),
+        None => Ok(String::new(alloc)),
+    }
+}
+
+/// The id in a text such as `Action::"view"` or `Action::view`.
+fn id_alone(eid: &str) -> &str {
+    match eid.rsplit_once("::") {
+        Some((_, id)) => id.trim_matches('"'),
+        None => eid,
+    }
+}
+
+/// The id of an enumerated type that is nearest, or which ids it has. Of a type with many, the first are compared.
+pub fn hint_for_id(
+    alloc: Global,
+    schema: &ValidatorSchema,
+    unknown: &EntityUID,
+) -> Result<String, AllocError> {
+    let Some(declared) = schema.get_entity_type(&unknown.entity_type) else {
+        return Ok(String::new(alloc));
+    };
+    let ValidatorEntityTypeKind::Enum(ids) = &declared.kind else {
+        return Ok(String::new(alloc));
+    };
+    let mut search = Search::new(alloc, unknown.eid.as_str())?;
+    let mut nearest = None;
+    for id in ids.as_slice() {
+        if search.is_over() {
+            break;
+        }
+        if search.is_nearer(id.as_str(), false)? {
+            nearest = Some(id);
+        }
+    }
+    match nearest {
+        Some(id) => format!(in alloc; "did you mean `{}::\"{id}\"`?", unknown.entity_type),
+        None => list_ids(alloc, ids.as_slice()),
+    }
+}
+
+/// The first ids, and how many more there are.
+fn list_ids(alloc: Global, ids: &[RcStr]) -> Result<String, AllocError> {
+    let mut hint = String::from_str(alloc, "there are ")?;
+    let mut is_first = true;
+    for id in ids.iter().take(MAX_LISTED) {
+        if !is_first {
+            hint.push_str(", ")?;
+        }
+        is_first = false;
+        write!(hint, "`{id}`")?;
+    }
+    let others = ids.len().saturating_sub(MAX_LISTED);
+    if others > 0 {
+        write!(hint, " and {others} more")?;
+    }
+    Ok(hint)
+}

@@ -1,0 +1,85 @@
+//! Counts of what was found.
+use crate::findings::{Requirement, Verdict};
+
+/// How many policies were read, accepted and refused, how many warnings and faults there are, and what all policies need together
+/// whose level is known.
+#[derive(Clone, Copy, Default)]
+pub struct Totals {
+    pub policies: u64,
+    pub accepted: u64,
+    pub refused: u64,
+    pub warnings: u64,
+    pub faults: u64,
+    pub requirement: Requirement,
+    pub data: DataTally,
+    /// Whether there is no schema, so that nothing was validated by it.
+    pub lacks_schema: bool,
+}
+
+/// Whether data is checked, how many entities were read, and how many mistakes data has.
+#[derive(Clone, Copy, Default)]
+pub struct DataTally {
+    pub is_asked: bool,
+    pub entities: u64,
+    pub errors: u64,
+}
+
+impl DataTally {
+    /// Counts an entity.
+    pub fn add_entity(&mut self) {
+        self.entities = self.entities.saturating_add(1);
+    }
+
+    /// Counts a mistake.
+    pub fn add_error(&mut self) {
+        self.errors = self.errors.saturating_add(1);
+    }
+}
+
+impl Totals {
+    /// Counts a policy.
+    pub fn add(&mut self, verdict: &Verdict) {
+        self.policies = self.policies.saturating_add(1);
+        if verdict.is_accepted {
+            self.accepted = self.accepted.saturating_add(1);
+        } else {
+            self.refused = self.refused.saturating_add(1);
+        }
+        self.warnings = self.warnings.saturating_add(verdict.warnings);
+        self.requirement = self.requirement.join(verdict.requirement);
+    }
+
+    /// Counts a fault.
+    pub fn add_fault(&mut self) {
+        self.faults = self.faults.saturating_add(1);
+    }
+
+    /// Counts what the schema lacks as a fault.
+    pub fn add_missing_schema(&mut self) {
+        self.lacks_schema = true;
+        self.add_fault();
+    }
+
+    /// The counts that are always said, by their names.
+    pub fn counts(&self) -> [(&'static str, u64); 5] {
+        [
+            ("policies", self.policies),
+            ("accepted", self.accepted),
+            ("refused", self.refused),
+            ("warnings", self.warnings),
+            ("faults", self.faults),
+        ]
+    }
+
+    /// The exit status: 2 where there is a fault, else 1 where a policy is refused or data has a mistake, or where there is a
+    /// warning and warnings are denied, else 0.
+    pub fn status(&self, denies_warnings: bool) -> u8 {
+        if self.faults > 0 {
+            2
+        } else if self.refused > 0 || self.data.errors > 0 || denies_warnings && self.warnings > 0 {
+            1
+        } else {
+            0
+        }
+    }
+}

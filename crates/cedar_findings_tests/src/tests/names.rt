@@ -1,0 +1,52 @@
+// Texts that are a name or an id, and nothing else.
+use crate::tests::cases::{Question, check};
+use cedar_reading::{name_alone, uid_alone};
+use std::alloc::Global;
+use std::test::Fail;
+
+/// The name that a text is, as it is shown; `-` where it is none.
+struct NameAlone;
+
+impl Question for NameAlone {
+    fn answer(&self, alloc: Global, text: &str) -> Result<String, Fail> {
+        match name_alone(alloc, text) {
+            Ok(name) => Ok(format!(in alloc; "{name}")?),
+            Err(_fault) => Ok(String::from_str(alloc, "-")?),
+        }
+    }
+}
+
+/// The id that a text is, as it is shown; `-` where it is none.
+struct IdAlone;
+
+impl Question for IdAlone {
+    fn answer(&self, alloc: Global, text: &str) -> Result<String, Fail> {
+        match uid_alone(alloc, text) {
+            Ok(uid) => Ok(format!(in alloc; "{uid}")?),
+            Err(_fault) => Ok(String::from_str(alloc, "-")?),
+        }
+    }
+}
+
+#[test]
+fn a_name_is_the_whole_text(rt: HostRuntime) -> Result<(), Fail> {
+    let cases = [
+        ("User", "User"),
+        (" Acme::Team::User ", "Acme::Team::User"),
+        ("Acme::User Team", "-"),
+        ("Acme::", "-"),
+        (r#"User::"alice""#, "-"),
+        ("", "-"),
+    ];
+    check(&rt, rt.alloc(), &NameAlone, &cases)
+}
+
+#[test]
+fn an_id_is_the_whole_text(rt: HostRuntime) -> Result<(), Fail> {
+    let cases = [
+        (r#"Acme::User::"alice""#, r#"Acme::User::"alice""#),
+        ("User", "-"),
+        (r#"User::"alice".age"#, "-"),
+    ];
+    check(&rt, rt.alloc(), &IdAlone, &cases)
+}

@@ -1,0 +1,124 @@
+// A policy with more findings than are shown.
+use cedar_findings::codes::Code;
+use cedar_findings::findings::{Finding, Requirement, Severity, Verdict};
+use cedar_findings::formats::Format;
+use cedar_findings::reports::Report;
+use cedar_findings::sources::Source;
+use cedar_findings::totals::Totals;
+use cedar_findings::writers::FindingsWriter;
+use cedar_reading::Policies;
+use std::alloc::Global;
+use std::test::Fail;
+
+const TEXT: &str = "\npermit(principal, action, resource);";
+
+/// How many findings are shown and how many more there are, the format, how many lines that gives, and the last.
+const CASES: [(usize, usize, &str, usize, &str); 7] = [
+    (
+        100,
+        0,
+        "lines",
+        301,
+        "  ^^^^^^^^^^^^^^^^^^^^^^^^^^^^^^^^^^^^",
+    ),
+    (100, 1, "lines", 302, "f:2:1: 1 more findings"),
+    (100, 250, "lines", 302, "f:2:1: 250 more findings"),
+    (
+        100,
+        0,
+        "json",
+        101,
+        r#"{"kind":"error","file":"f","line":2,"column":1,"end_line":2,"end_column":37,"code":"level","id":"policy0","text":"e","only":[]}"#,
+    ),
+    (
+        100,
+        2,
+        "json",
+        102,
+        r#"{"kind":"rest","file":"f","line":2,"column":1,"end_line":2,"end_column":37,"id":"policy0","findings":2}"#,
+    ),
+    (
+        1,
+        0,
+        "sarif",
+        2,
+        r#"{"ruleId":"level","level":"error","message":{"text":"policy `policy0`: e"},"locations":[{"physicalLocation":{"artifactLocation":{"uri":"f"},"region":{"startLine":2,"startColumn":1,"endLine":2,"endColumn":37}}}]}"#,
+    ),
+    (
+        2,
+        3,
+        "sarif",
+        4,
+        r#"{"ruleId":"rest","level":"error","message":{"text":"policy `policy0`: 3 more findings"},"locations":[{"physicalLocation":{"artifactLocation":{"uri":"f"},"region":{"startLine":2,"startColumn":1,"endLine":2,"endColumn":37}}}]}"#,
+    ),
+];
+
+#[test]
+fn findings_and_how_many_more(rt: HostRuntime) -> Result<(), Fail> {
+    let alloc = rt.alloc();
+    for (count, others, name, lines, last) in &CASES {
+        let shown = describe(alloc, *count, *others, name)?;
+        assert_eq!(rt; shown.lines().count(), *lines);
+        assert_eq!(rt; shown.lines().next_back().unwrap_or(""), *last);
+    }
+    Ok(())
+}
+
+/// What is shown of a policy with so many findings, and so many more, in the format of this name.
+fn describe(alloc: Global, count: usize, others: usize, name: &str) -> Result<String, Fail> {
+    let mut out = String::new(alloc);
+    let Some(format) = Format::by_name(name) else {
+        return Ok(out);
+    };
+    let source = Source {
+        name: "f",
+        text: TEXT,
+    };
+    let mut report = Report::new(alloc, format, source);
+    let mut policies = Policies::new(alloc, TEXT)?;
+    let Some(read) = policies.next_policy() else {
+        return Ok(out);
+    };
+    let policy = read?.template;
+    let mut findings = Vec::new(alloc);
+    for _ in 0..count {
+        let code = Code::Level;
+        findings.push(Finding::new(alloc, &policy, Severity::Error, code, None, "e")?)?;
+    }
+    let verdict = Verdict {
+        is_accepted: false,
+        requirement: Requirement::Unsaid,
+        findings,
+        others,
+        warnings: 0,
+    };
+    report.push_policy(&mut out, &policy, &verdict)?;
+    Ok(out)
+}
+
+/// What each format writes of no file, with a schema and without one: SARIF always begins and ends.
+#[test]
+fn nothing_found(rt: HostRuntime) -> Result<(), Fail> {
+    let alloc = rt.alloc();
+    for (name, lacks_schema, lines) in [
+        ("lines", false, 1),
+        ("lines", true, 0),
+        ("json", false, 1),
+        ("json", true, 0),
+        ("sarif", false, 34),
+        ("sarif", true, 34),
+    ] {
+        let Some(mut format) = Format::by_name(name) else {
+            continue;
+        };
+        let mut totals = Totals::default();
+        if lacks_schema {
+            totals.add_missing_schema();
+        }
+        let mut out = String::new(alloc);
+        format.begin(&mut out)?;
+        format.end(&mut out, &totals)?;
+        assert_eq!(rt; out.as_str().lines().count(), lines, "{name}");
+    }
+    Ok(())
+}
