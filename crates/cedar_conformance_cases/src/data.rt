@@ -1,14 +1,14 @@
 // Data that stands in a case as expressions: literals, sets and records of them, and calls for values of extension types.
 use cedar_conformance::entities::{Entities, Entity};
 use cedar_conformance::values::{Record, Value};
-use cedar_reading::{Fault, ReadError, condition};
+use cedar_reading::{Expected, Fault, ReadError, condition};
 use cedar_types::base::{EntityUID, Expr, ExprKind, Literal};
 use std::alloc::{AllocError, Global};
 use std::collections::{BTreeMap, BTreeSet};
 use std::rc::RcStr;
 
 fn no_data() -> ReadError {
-    ReadError::At(0, Fault::Expected("data"))
+    ReadError::At(0, Fault::Expected(Expected::Other("data")))
 }
 
 /// The record that a text is.

@@ -2,7 +2,7 @@
 use Rattle.std.proofs.Common.{◌≡◌, ℕ, ◌≤◌, Bool, true, false, true≢false, List, [], ◌∷◌, length, refl, sym, ◌∙◌, IsTrue, arith}
 use Rattle.std.specs.Prelude.{◌↔◌}
 use Rattle.cedar_types.specs.declared.base.types.ValidationMode.{ValidationMode}
-use Rattle.cedar_types.specs.Errors.{Finding, Caution}
+use Rattle.cedar_types.specs.Errors.{Finding, Warning}
 use Rattle.cedar_types.specs.Environments.Linking.{checked_envs}
 use Rattle.cedar_types.specs.Environments.RequestEnvs.{Env}
 use Rattle.cedar_types.specs.Templates.{PlainTemplate, condition_of}
@@ -22,7 +22,7 @@ use Rattle.cedar_host.specs.Slices.{NeedsSliceAlone}
 -- what passes passes in each environment
 pub passes_everywhere :
     (b : Basis) (t : PlainTemplate) (answer : Bool)
-    (errors errors' : List Finding) (old new : List Caution)
+    (errors errors' : List Finding) (old new : List Warning)
     → CheckedOn b t answer errors errors' old new → answer ≡ true → PassesEverywhere b t
 passes_everywhere b t answer errors errors' old new o h =
     each_has_passing (λ env. PolicyChecks (setting_on b t.id env) (condition_of t)) passes

@@ -5,7 +5,7 @@ ghost use Rattle.cedar_types.specs.Names.{text_of};
 use crate::policy_sets::{Findings, WrittenPolicy};
 use cedar_typechecker::survey::Environments;
 use cedar_types::base::{
-    Effect, Escaped, Loc, OneLine, PolicyID, ValidationError, ValidationWarning,
+    Effect, Escaped, Loc, Message, OneLine, PolicyID, ValidationError, ValidationWarning,
 };
 use std::alloc::{AllocError, Global};
 use std::collections::BTreeMap;
@@ -114,7 +114,7 @@ pub(crate) fn report<'a>(
 {
     let is_accepted = findings.is_accepted;
     let is_impossible = findings.is_impossible;
-    let warnings = warnings(alloc, policy, findings.warnings)?;
+    let warnings = warnings(alloc, findings.warnings)?;
     let mut errors = errors(alloc, policy, findings.errors)?;
     if !is_accepted && errors.is_empty() {
         errors.push(unexplained_error(alloc, &policy.template.id)?)?;
@@ -147,12 +147,11 @@ fn errors(
 /// The warnings in the order of their places.
 fn warnings(
     alloc: Global,
-    policy: &WrittenPolicy,
     found: Vec<ValidationWarning>,
 ) -> Result<Vec<PolicyWarning>, AllocError> {
     let mut ordered = BTreeMap::new(alloc);
     for warning in found {
-        let shown = render_warning(alloc, &policy.template.id, warning)?;
+        let shown = render_warning(alloc, warning)?;
         let line = shown.line.clone()?;
         let place = shown.place;
         ordered.insert(Order { place, line }, shown)?;
@@ -176,9 +175,10 @@ fn render_error(
     error: ValidationError,
     environments: Environments,
 ) -> Result<PolicyError, AllocError> {
+    let message = Message(&error).to_string(alloc)?;
+    let message = one_line(alloc, &message)?;
     let shown = error.to_string(alloc)?;
     let place = error.source_loc();
-    let message = message(alloc, &policy.template.id, &shown)?;
     let line = line(alloc, &policy.text, place, &shown)?;
     Ok(PolicyError {
         place,
@@ -189,25 +189,20 @@ fn render_error(
     })
 }
 
-fn render_warning(
-    alloc: Global,
-    policy: &PolicyID,
-    warning: ValidationWarning,
-) -> Result<PolicyWarning, AllocError> {
+fn render_warning(alloc: Global, warning: ValidationWarning) -> Result<PolicyWarning, AllocError> {
+    let message = Message(&warning).to_string(alloc)?;
     let shown = warning.to_string(alloc)?;
     Ok(PolicyWarning {
         place: warning.source_loc(),
-        message: message(alloc, policy, &shown)?,
+        message: one_line(alloc, &message)?,
         line: line(alloc, "", None, &shown)?,
         warning,
     })
 }
 
-/// A text on one line, without the policy's id, with which the texts of errors and warnings begin.
-fn message(alloc: Global, policy: &PolicyID, shown: &str) -> Result<String, AllocError> {
-    let prefix = format!(in alloc; "for policy `{policy}`, ")?;
-    let own = shown.strip_prefix(prefix.as_str()).unwrap_or(shown);
-    format!(in alloc; "{}", OneLine(own))
+/// A text on one line.
+fn one_line(alloc: Global, text: &str) -> Result<String, AllocError> {
+    format!(in alloc; "{}", OneLine(text))
 }
 
 /// A text on one line, behind the place that it is about and what stands there.

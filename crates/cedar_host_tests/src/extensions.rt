@@ -12,7 +12,7 @@ use cedar_host::safety::SoundMode;
 use cedar_typechecker::rbac::Validator;
 use cedar_types::base::{Expr, ExtensionSchemas, Literal, Name};
 use std::alloc::{AllocError, Global};
-use std::collections::HashSet;
+use std::collections::BTreeSet;
 use std::process::Abort;
 use std::test::Fail;
 
@@ -212,7 +212,7 @@ fn a_gate_refuses_a_date_that_there_is_not(rt: HostRuntime) -> Result<(), Fail> 
     for report in &reports {
         is_said(&rt, report, &OF_NO_MONTH);
     }
-    let mut errors = HashSet::new(alloc);
+    let mut errors = BTreeSet::new(alloc);
     for it in &policies {
         assert!(rt; add_unread_texts(alloc, &it.template, &mut errors)?);
     }

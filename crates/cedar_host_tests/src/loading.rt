@@ -46,8 +46,11 @@ pub fn memory(alloc: Global) -> Result<Memory, AllocError> {
     for (eid, links) in LINKS {
         entities.push(link(alloc, eid, links)?)?;
     }
-    let asked = Cell::new(0);
-    Ok(Memory { entities, asked })
+    Ok(Memory {
+        entities,
+        asked: Cell::new(0),
+        most: Cell::new(0),
+    })
 }
 
 /// What is found within so many steps of `ann`, and how often the store is asked.
@@ -99,5 +102,51 @@ fn what_is_reached_is_found_and_no_entity_asked_twice(rt: HostRuntime) -> Result
     for (steps, wanted, asked) in WANTED {
         are_found(&rt, rt.alloc(), steps, wanted, asked)?;
     }
+    Ok(())
+}
+
+/// So many users, whose ids share the name of their type.
+fn numbered(alloc: Global, count: usize) -> Result<Vec<EntityUID>, AllocError> {
+    let of_users = EntityType::from(Name::unqualified_name(alloc, "User")?);
+    let mut users = Vec::new(alloc);
+    for number in 0..count {
+        let eid = format!(in alloc; "{number}")?;
+        let own = of_users.clone()?;
+        users.push(EntityUID::from_components(alloc, own, eid.as_str(), None)?)?;
+    }
+    Ok(users)
+}
+
+fn copies(ids: &[EntityUID], alloc: Global) -> Result<Vec<EntityUID>, AllocError> {
+    let mut copies = Vec::new(alloc);
+    for id in ids {
+        copies.push(id.clone()?)?;
+    }
+    Ok(copies)
+}
+
+/// How many users there are, each of which is linked to all.
+const MANY: usize = 40;
+
+#[test]
+fn what_many_hold_is_not_gathered(rt: HostRuntime) -> Result<(), Fail> {
+    let alloc = rt.alloc();
+    let users = numbered(alloc, MANY)?;
+    let mut entities = Vec::new(alloc);
+    for user in &users {
+        let id = user.clone()?;
+        let links = copies(&users, alloc)?;
+        entities.push(Linked { id, links })?;
+    }
+    let memory = Memory {
+        entities,
+        asked: Cell::new(0),
+        most: Cell::new(0),
+    };
+    let ids = ids_within(alloc, &memory, users.as_slice().get(..1).unwrap_or(&[]), 3)?;
+    assert_eq!(rt; ids.len(), MANY);
+    // the store has MANY times MANY, and what is found is a few times MANY
+    let most = memory.most.get();
+    assert!(rt; most < MANY * MANY + 8 * MANY, "{most}");
     Ok(())
 }

@@ -6,6 +6,7 @@ use cedar_host::loading::Entities;
 use cedar_types::base::EntityUID;
 use std::alloc::{AllocError, Global};
 use std::cell::Cell;
+use std::rc::RcStr;
 
 /// An entity, whose one attribute is a set of others.
 #[derive(Drop)]
@@ -14,11 +15,13 @@ pub struct Linked {
     pub links: Vec<EntityUID>,
 }
 
-/// Entities, and how often one was asked what it holds.
+/// Entities, how often one was asked what it holds, and how many ids there were then at most: of those that share the name of
+/// their type.
 #[derive(Drop)]
 pub struct Memory {
     pub entities: Vec<Linked>,
     pub asked: Cell<i64>,
+    pub most: Cell<usize>,
 }
 
 impl Entities for Memory {
@@ -33,6 +36,8 @@ impl Entities for Memory {
 
     fn held(&self, alloc: Global, id: &EntityUID) -> Result<Vec<EntityUID>, AllocError> {
         self.asked.set(self.asked.get().wrapping_add(1));
+        let sharing = RcStr::strong_count(&id.entity_type.name.basename);
+        self.most.set(self.most.get().max(sharing));
         for entity in &self.entities {
             if is_same(id, &entity.id) {
                 return copies(alloc, &entity.links);

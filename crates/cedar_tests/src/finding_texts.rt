@@ -1,7 +1,7 @@
 // What each error and each warning says of texts, odd ones too.
 use crate::findings::{KINDS, PLAIN, application_warning, impossible};
 use crate::kinds::{Fields, Kind, error};
-use cedar_types::base::ValidationWarning;
+use cedar_types::base::{Message, ValidationWarning};
 use std::alloc::{AllocError, Global};
 use std::test::Fail;
 
@@ -19,18 +19,12 @@ const ODD: [&str; 8] = [
 ];
 
 /// What is said of fields: each text as it is, save that in an id a quote and a backslash stand behind a backslash.
-fn expected_text(alloc: Global, text: &str, fields: Fields<'_>) -> Result<String, AllocError> {
+fn expected_message(alloc: Global, text: &str, fields: Fields<'_>) -> Result<String, AllocError> {
     let id = fields.second.replace(alloc, '\\', "\\\\")?;
     let id = id.replace(alloc, '"', "\\\"")?;
     let message = text.replace(alloc, "FIRST", fields.first)?;
     let message = message.replace(alloc, "SECOND", fields.second)?;
-    let message = message.replace(alloc, "ID", id.as_str())?;
-    let policy = fields.policy;
-    format!(in alloc; "for policy `{policy}`, {message}")
-}
-
-fn render(alloc: Global, kind: Kind, fields: Fields<'_>) -> Result<String, AllocError> {
-    error(alloc, kind, fields)?.to_string(alloc)
+    message.replace(alloc, "ID", id.as_str())
 }
 
 /// Whether each kind of error says this of the fields.
@@ -42,10 +36,14 @@ fn all_say(alloc: Global, fields: Fields<'_>) -> Result<bool, AllocError> {
     Ok(is_so)
 }
 
-/// Whether an error of this kind says this of the fields.
+/// Whether an error of this kind says this of the fields, with its policy and without.
 fn says(alloc: Global, kind: Kind, text: &str, fields: Fields<'_>) -> Result<bool, AllocError> {
-    let shown = render(alloc, kind, fields)?;
-    Ok(shown == expected_text(alloc, text, fields)?)
+    let error = error(alloc, kind, fields)?;
+    let message = expected_message(alloc, text, fields)?;
+    let policy = fields.policy;
+    let whole = format!(in alloc; "for policy `{policy}`, {message}")?;
+    let is_message = Message(&error).to_string(alloc)? == message;
+    Ok(error.to_string(alloc)? == whole && is_message)
 }
 
 /// Whether each kind says it of this text, wherever that stands.
@@ -76,7 +74,7 @@ const NOT_APPLICABLE: &str =
 /// What is said where a policy never applies.
 const IMPOSSIBLE: &str = "policy is impossible: it evaluates to false for every valid request";
 
-/// Whether this is said of the policy of this id.
+/// Whether this is said of the policy of this id, and without it.
 fn is_text_of(
     alloc: Global,
     warning: &ValidationWarning,
@@ -84,7 +82,8 @@ fn is_text_of(
     text: &str,
 ) -> Result<bool, AllocError> {
     let shown = warning.to_string(alloc)?;
-    Ok(shown == format!(in alloc; "for policy `{odd}`, {text}")?)
+    let is_message = Message(warning).to_string(alloc)?.as_str() == text;
+    Ok(shown == format!(in alloc; "for policy `{odd}`, {text}")? && is_message)
 }
 
 /// Whether both warnings of a policy of this id say what they should.

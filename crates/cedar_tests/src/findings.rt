@@ -1,4 +1,4 @@
-// Which errors are the same finding, and which warnings the same caution.
+// Which errors are the same finding, and which warnings the same warning.
 use crate::kinds::{Fields, Kind, application, error};
 use crate::parts::{place, policy, uid};
 use cedar_types::base::{EntityUID, Loc, PolicyID, ValidationError, ValidationWarning};

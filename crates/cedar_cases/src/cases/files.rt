@@ -1,6 +1,6 @@
 // The lines of a case file.
 use crate::cases::columns::{Column, Wanted};
-use cedar_reading::Fault;
+use cedar_reading::{Expected, Fault};
 use cedar_types::base::SlotId;
 use std::alloc::{AllocError, Global};
 
@@ -141,11 +141,14 @@ impl<'a> CaseFile<'a> {
     pub fn fault_of_fields(&self, line: &str) -> Option<(usize, Fault)> {
         let (wanted, count) = (self.columns.len(), line.split('\t').count());
         if count < wanted {
-            return Some((line.len(), Fault::Expected("another field")));
+            return Some((
+                line.len(),
+                Fault::Expected(Expected::Other("another field")),
+            ));
         }
         if count > wanted {
             let end = end_of_fields(line, wanted);
-            return Some((end, Fault::Expected("the end of the line")));
+            return Some((end, Fault::Expected(Expected::Other("the end of the line"))));
         }
         None
     }

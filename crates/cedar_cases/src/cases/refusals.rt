@@ -2,7 +2,9 @@
 use crate::cases::differences::{agrees, write_fault};
 use crate::cases::files::FileFault;
 use crate::cases::report::CaseCounts;
-use cedar_reading::{Fault, Notation, ReadError, SchemaReadError, schema, schema_as_given};
+use cedar_reading::{
+    Expected, Fault, Notation, ReadError, SchemaReadError, schema, schema_as_given,
+};
 use std::alloc::{AllocError, Global};
 use std::io;
 use std::io::Write;
@@ -86,7 +88,10 @@ fn run_line<W: Write>(
 /// missing or one too many begins.
 fn fields_of(line: &str) -> Result<(&str, &str), (usize, Fault)> {
     let Some((declarations, wanted)) = line.split_once('\t') else {
-        return Err((line.len(), Fault::Expected("another field")));
+        return Err((
+            line.len(),
+            Fault::Expected(Expected::Other("another field")),
+        ));
     };
     match wanted.split_once('\t') {
         None => Ok((declarations, wanted)),
@@ -95,7 +100,7 @@ fn fields_of(line: &str) -> Result<(&str, &str), (usize, Fault)> {
                 .len()
                 .saturating_add(1)
                 .saturating_add(wanted.len());
-            Err((end, Fault::Expected("the end of the line")))
+            Err((end, Fault::Expected(Expected::Other("the end of the line"))))
         }
     }
 }

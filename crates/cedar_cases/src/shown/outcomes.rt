@@ -1,13 +1,10 @@
 // The outcome of a check, with its errors.
 use crate::shown::places::{Source, push_place};
 use cedar_typechecker::level_validate::{LevelErrors, LevelWarnings};
-use cedar_types::base::{Loc, ValidationError, ValidationWarning};
+use cedar_types::base::{Message, ValidationError, ValidationWarning};
 use cedar_typing::typecheck::PolicyCheck;
 use std::alloc::{AllocError, Global};
 use std::collections::HashSet;
-
-/// What the text of every error begins with, which cases leave out.
-const PREFIX: &str = "for policy `policy0`, ";
 
 /// `Success`, `Irrelevant` or `Fail`, and behind it each error with the text that it stands at, sorted by bytes.
 pub fn outcome(
@@ -102,7 +99,7 @@ pub fn findings(
     for error in errors {
         texts.push(match error.source_loc() {
             Some(_) => error_text(alloc, error, source)?,
-            None => bare_text(alloc, error.to_string(alloc)?.as_str())?,
+            None => Message(error).to_string(alloc)?,
         })?;
     }
     texts.sort()?;
@@ -125,8 +122,9 @@ fn error_text(
     error: &ValidationError,
     source: Source<'_>,
 ) -> Result<String, AllocError> {
-    let text = error.to_string(alloc)?;
-    placed_text(alloc, text.as_str(), error.source_loc(), source)
+    let mut shown = Message(error).to_string(alloc)?;
+    push_place(&mut shown, error.source_loc(), source)?;
+    Ok(shown)
 }
 
 /// A warning's text, and the text that it stands at.
@@ -135,22 +133,7 @@ fn warning_text(
     warning: &ValidationWarning,
     source: Source<'_>,
 ) -> Result<String, AllocError> {
-    let text = warning.to_string(alloc)?;
-    placed_text(alloc, text.as_str(), warning.source_loc(), source)
-}
-
-fn placed_text(
-    alloc: Global,
-    message: &str,
-    place: Option<Loc>,
-    source: Source<'_>,
-) -> Result<String, AllocError> {
-    let mut shown = bare_text(alloc, message)?;
-    push_place(&mut shown, place, source)?;
+    let mut shown = Message(warning).to_string(alloc)?;
+    push_place(&mut shown, warning.source_loc(), source)?;
     Ok(shown)
-}
-
-/// What is said, without what the text of every error begins with.
-fn bare_text(alloc: Global, message: &str) -> Result<String, AllocError> {
-    String::from_str(alloc, message.strip_prefix(PREFIX).unwrap_or(message))
 }

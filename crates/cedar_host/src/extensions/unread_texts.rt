@@ -2,15 +2,16 @@
 use crate::extensions::checks::{Constructor, only_text};
 use cedar_types::base::{Expr, ExprKind, Template, ValidationError};
 use std::alloc::{AllocError, Global};
-use std::collections::HashSet;
+use std::collections::BTreeSet;
 use std::rc::RcStr;
 
-/// Adds an error for each call in the condition whose text says no value, wherever it stands. Whether there is one. Where
-/// memory is refused, the answer is an `AllocError`.
+/// Adds an error for each call in the condition whose text says no value, wherever it stands. Whether there is one. The set is an
+/// ordered one, since whoever writes policies can choose texts whose errors have one hash. Where memory is refused, the answer is
+/// an `AllocError`.
 pub fn add_unread_texts(
     alloc: Global,
     policy: &Template,
-    errors: &mut HashSet<ValidationError>,
+    errors: &mut BTreeSet<ValidationError>,
 ) -> Result<bool, AllocError> {
     let mut is_any = false;
     let Some(condition) = &policy.non_scope_constraints else {

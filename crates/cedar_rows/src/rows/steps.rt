@@ -4,7 +4,7 @@ use crate::rows::chains::chain_cost;
 use crate::rows::names::{refusal, schema_refusal};
 use crate::rows::{Report, Row};
 use cedar_fixtures::questions::{Question, Subject, Table};
-use cedar_reading::{Fault, ReadError, SchemaReadError, schema, uid_alone, whole_policy};
+use cedar_reading::{Expected, Fault, ReadError, SchemaReadError, schema, uid_alone, whole_policy};
 use cedar_typechecker::rbac::Validator;
 use cedar_types::base::{ExtensionSchemas, Policy, PolicyID, SlotEnv, SlotId, ValidatorSchema};
 use std::alloc::{AllocError, Global};
@@ -81,7 +81,7 @@ fn judge(
 ) -> Result<(String, bool), ReadError> {
     let (line, expected) = step.split_once('\n').unwrap_or((step, ""));
     let Some(question) = Question::read(line) else {
-        return Err(ReadError::At(0, Fault::Expected("a question")));
+        return Err(ReadError::At(0, Fault::Expected(Expected::Other("a question"))));
     };
     let table = match question.table {
         Table::X1 => x1,
@@ -162,6 +162,9 @@ fn read_schema(alloc: Global, text: &str) -> Result<ValidatorSchema, ReadError> 
     match schema(alloc, text) {
         Ok(schema) => Ok(schema),
         Err(SchemaReadError::Read(error)) => Err(error),
-        Err(_) => Err(ReadError::At(0, Fault::Expected("a schema without faults"))),
+        Err(_) => Err(ReadError::At(
+            0,
+            Fault::Expected(Expected::Other("a schema without faults")),
+        )),
     }
 }
