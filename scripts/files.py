@@ -1,8 +1,8 @@
 #!/usr/bin/env python3
-"""The crates, the files of the libraries, faults and errors, as tables of their own comments: scripts/files.py prints them.
+"""The crates, the files of the libraries, faults, errors and codes, as tables of their own comments: scripts/files.py prints them.
 
-docs/ARCHITECTURE.md shows the crates and docs/PROFILE.md the faults and errors; scripts/pages.py writes them there. The files are
-printed alone.
+docs/ARCHITECTURE.md shows the crates, docs/PROFILE.md the faults and errors and docs/READING.md the codes; scripts/pages.py writes
+them there. The files are printed alone.
 """
 import re
 import sys
@@ -13,13 +13,18 @@ FOLDERS = ("src", "specs")
 TESTS = "_tests"
 COMMENT = re.compile(r"^(?://!|//|--) ?(.*)$")
 ERROR = re.compile(
-    r'((?:/// [^\n]*\n)+)#\[derive[^\n]*\n#\[error\("for policy `\{policy_id\}`, (.*?)"([^"\n]*(?:"[^"\n]*"[^"\n]*)?)\)\]\npub struct (\w+)'
+    r'((?:/// [^\n]*\n)+)#\[derive[^\n]*\n#\[error\("for policy `\{policy_id\}`, \{0\}", Message\(self\)\)\]\npub struct (\w+)'
 )
+ERRORS = "crates/cedar_types/src/base/errors/"
+MESSAGE = re.compile(r"^impl fmt::Display for Message<'_, (\w+)> \{\n(.*?)\n\}$", re.M | re.S)
+WRITTEN = re.compile(r'(?:write!\(\s*f,\s*|write_str\()"([^"]*)"')
+LOCAL = re.compile(r"let (\w+) = [^;]*?self\.0\.(\w+)(\(\))?")
 
 FAULTS = (
     ("a table", "crates/cedar_types/src/base/expressions/extensions.rt", "ExtensionTableError"),
     ("a schema", "crates/cedar_types/src/base/schema/errors.rt", "SchemaError"),
 )
+CODES = "/src/codes.rt"
 VARIANT = re.compile(r'/// ([^\n]*)\n    #\[error\("(\w+)"\)\]')
 
 
@@ -81,38 +86,57 @@ def listed(files):
 def errors(files):
     """What PROFILE shows: each error and warning, when it comes, and its text."""
     lines = ["| Error | When | Text |", "|---|---|---|"]
+    messages = dict(MESSAGE.findall(files.get(f"{ERRORS}messages.rt", "")))
     for path, text in sorted(files.items()):
-        if path.startswith("crates/cedar_types/src/base/errors/"):
-            for comment, shown, words, name in ERROR.findall(text):
+        if path.startswith(ERRORS):
+            for comment, name in ERROR.findall(text):
                 when = first_sentence(comment.replace("///", "//"))
-                called = re.search(r"self\.(\w+)\(\)", words)
-                if called:
-                    shown = shown.replace("{0}", "{" + " or ".join(texts_of(called[1], text)) + "}")
-                joined = re.search(r'between: "([^"]*)"', words)
-                lines.append(f"| {name} | {cell(when)} | `` {cell(shown)} ``{f', joined by `{joined[1]}`' if joined else ''} |")
+                lines.append(f"| {name} | {cell(when)} | {cell(message(messages[name], text))} |")
     return lines
+
+
+def message(body, text):
+    """What a message says, with the fields that it shows, and what stands between several."""
+    shown = "".join(WRITTEN.findall(body)[:1])
+    for local, shows, call in LOCAL.findall(body):
+        field = " or ".join(texts_of(shows, text)) if call else shows
+        shown = shown.replace("{" + local + "}", "{" + field + "}")
+    joined = re.search(r'between: "([^"]*)"', body)
+    return f"`` {shown} ``{f', joined by `{joined[1]}`' if joined else ''}"
 
 
 def faults(files):
     """What PROFILE shows of schemas and of tables of functions: each fault, in the order in which they count."""
     lines = ["| Refused | For | What is wrong |", "|---|---|---|"]
     for refused, path, enum in FAULTS:
-        body = re.search(rf"pub enum {enum} \{{\n(.*?)\n\}}", files.get(path, ""), re.S)
-        for wrong, name in VARIANT.findall(body[1] if body else ""):
+        variants = re.search(rf"pub enum {enum} \{{\n(.*?)\n\}}", files.get(path, ""), re.S)
+        for wrong, name in VARIANT.findall(variants[1] if variants else ""):
             lines.append(f"| {refused} | `{name}` | {cell(wrong)} |")
     return lines
 
 
+def codes(files):
+    """What READING shows: the code of each kind of finding and fault, and what it says."""
+    text = "".join(text for path, text in files.items() if path.endswith(CODES))
+    written, meant = (dict(re.findall(r'Code::(\w+) => "([^"]*)"', body(function, text))) for function in ("text", "meaning"))
+    return ["| Code | What it says |", "|---|---|", *(f"| `{written[kind]}` | {cell(meant.get(kind, ''))} |" for kind in written)]
+
+
+def body(function, text):
+    """The text of a function."""
+    found = re.search(rf"fn {function}\b.*?\n    \}}\n", text, re.S)
+    return found[0] if found else ""
+
+
 def texts_of(function, text):
     """The texts that a function answers."""
-    body = re.search(rf"fn {function}\b.*?\n    \}}\n", text, re.S)
-    return re.findall(r'"([^"]*)"', body[0]) if body else []
+    return re.findall(r'"([^"]*)"', body(function, text))
 
 
 def main():
     paths = [TOP / "crates.txt", *(path for path in TOP.glob("crates/*/*/**/*") if path.suffix in (".rt", ".antt"))]
     files = {str(path.relative_to(TOP)): path.read_text() for path in paths if "/out/" not in str(path)}
-    print("\n".join([*crates(files), "", *listed(files), "", *faults(files), "", *errors(files)]))
+    print("\n".join([*crates(files), "", *listed(files), "", *faults(files), "", *errors(files), "", *codes(files)]))
     return 0
 
 

@@ -8,9 +8,10 @@ and so do 64 to 4,096 accesses to a required attribute, which need no guard. A c
 380 attributes, are longer expressions. Of guards and an eighth as many others, the two sets are joined. Chains of `has` on
 bases that differ in one number of a test have many capabilities that are alike but there. Guards of which each is on the
 attribute that the one before tests have nodes that grow with the square of their number. A set has 10 to 1,000 entities of
-one type, or 100 to 1,600 of as many types, which unite in Permissive, and so do sets of one entity each. Of an enumerated type
-whose ids are named once each, in one set or in a policy for every ten, the whole run is counted, which reads them too. The last
-figure is that of the benchmark's policy. It needs valgrind, and is no part of the gate.
+one type, or 100 to 1,600 of as many types, which unite in Permissive, and so do sets of one entity each: both pass where four
+times as many take less than LIMIT times as much, and the last line counts them. Of an enumerated type whose ids are named once
+each, in one set or in a policy for every ten, the whole run is counted, which reads them too. The last figure is that of the
+benchmark's policy. It needs valgrind, and is no part of the gate.
 """
 import sys
 import tempfile
@@ -25,6 +26,8 @@ STEPS = (10, 50, 100, 200, 380)
 JOINED = (512, 2048, 8192)
 MEMBERS = (10, 100, 1000)
 UNIONS = (100, 400, 1600)
+# What four times as many entity types may take, in times: n log n is below it, and n n is far above.
+LIMIT = 5.6
 NESTED = (25, 50, 100, 200)
 IDS = (1000, 4000, 16000)
 # As many ids as one of many policies names.
@@ -85,9 +88,9 @@ def conjunction(length):
 
 
 def measure(program, room, what, sizes, attributes, condition, others=lambda _: 0, mode="strict"):
-    """Prints the instructions of a check in one environment at each size."""
+    """Prints the instructions of a check in one environment at each size, and returns what `show` does."""
     count = lambda size: for_each(program, room, attributes(size), condition(size), others(size), mode)
-    show(what, sizes, count)
+    return show(what, sizes, count)
 
 
 def measure_ids(program, room, what, conditions):
@@ -97,13 +100,15 @@ def measure_ids(program, room, what, conditions):
 
 
 def show(what, sizes, count_of):
-    """Prints the instructions at each size, and how many times those of the size before they are."""
-    last = None
+    """Prints the instructions at each size, and how many times those of the size before they are, and returns the most times."""
+    last, most = None, 0
     for size in sizes:
         count = count_of(size)
         growth = f", {count / last:.2f} times as many for {size / before:.2f} times the length" if last else ""
         print(f"{what}, {size}: {count:,.0f} instructions{growth}", flush=True)
+        most = max(most, count / last) if last else most
         last, before = count, size
+    return most
 
 
 def accesses(length):
@@ -195,13 +200,18 @@ def main(words):
         measure(program, room, f"bases with {CHAIN} attributes of has", BASES, on_branches, chains_on_branches)
         measure(program, room, "entity literals in a set", MEMBERS, lambda _: ["ok: Bool"], literals)
         types = dict(others=lambda size: size, mode="permissive")
-        measure(program, room, "entity types in a union", UNIONS, lambda _: ["ok: Bool"], of_many_types, **types)
-        measure(program, room, "entity types in sets that unite", UNIONS, lambda _: ["ok: Bool"], of_sets_of_many_types, **types)
+        united = [
+            measure(program, room, what, UNIONS, lambda _: ["ok: Bool"], condition, **types)
+            for what, condition in (("entity types in a union", of_many_types), ("entity types in sets that unite", of_sets_of_many_types))
+        ]
         measure(program, room, "guards, each on what the one before tests", NESTED, lambda _: ["a?: P"], nested_guards)
         measure_ids(program, room, "ids of an enumerated type in a set", ids_in_one_set)
         measure_ids(program, room, f"ids of an enumerated type, {NAMED} in a policy", ids_in_many_policies)
         print(f"the benchmark's policy: {benchmark_policy(program, room):,.0f} instructions")
+    failed = sum(times >= LIMIT for times in united)
+    print(f"{len(united) - failed} passed, {failed} failed")
+    return 1 if failed else 0
 
 
 if __name__ == "__main__":
-    main(sys.argv[1:])
+    sys.exit(main(sys.argv[1:]))

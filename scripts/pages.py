@@ -24,6 +24,7 @@ MAKERS = {
     "crates": listings.crates,
     "faults": listings.faults,
     "errors": listings.errors,
+    "codes": listings.codes,
     "calls": api.listing,
 }
 MADE = re.compile(r"^<!-- made: (\w+) -->\n(.*?)^<!-- end -->$", re.M | re.S)

@@ -6,9 +6,15 @@ all, so that n of them declare n n. Counted are the instructions of the check al
 beyond that by the same declarations without what they are in: the reading of those names, the search for descendants, and
 the check. No function is named for that, since a compiler may inline any. Printed are they, what they are for each declared
 descendant, and how many times as many there are where n doubles and the declared descendants are four times as many. A line
-passes where that is less than LIMIT. Three layers, in which each member of a layer is in each of the one above, have figures
-alone: of them no set shows what another has, so each is looked at. The last line counts the lines that pass and those that do
-not. PROGRAM is cedar_cases, by default the one that rt ci built. It needs valgrind, and is no part of the gate.
+passes where that is less than LIMIT: what takes n log n of the declared descendants takes 4.8 times as much at most. Three
+layers, in which each member of a layer is in each of the one above, have figures alone: of them no set shows what another has,
+so each is looked at. The last line counts the lines that pass and those that do not.
+
+**What fails.** Where each is in all, the check looks at each descendant of each: it grows with the cube of n, 7 times and more,
+and the whole with it. Of sets of one size it does not know that they are one set. The rest of the whole, which is the reading
+and the search, grows by 4 to 5 times.
+
+PROGRAM is cedar_cases, by default the one that rt ci built. It needs valgrind, and is no part of the gate.
 """
 import re
 import subprocess
@@ -104,7 +110,7 @@ def of_memberships(program, room, schema, parents, check):
 def main(words):
     program = program_to_count(words)
     passed = failed = 0
-    counted = [("check of types", types, CHECKS[0], (line, line_back, layers)), ("check of actions", actions, CHECKS[1], (line, line_back, layers))]
+    counted = [("check of types", types, CHECKS[0], (line, line_back, dense, layers)), ("check of actions", actions, CHECKS[1], (line, line_back, dense, layers))]
     counted += [("memberships of types", types, WHOLE, (line, line_back, dense, layers)), ("memberships of actions", actions, WHOLE, (line, dense))]
     with tempfile.TemporaryDirectory() as room:
         for name, schema, function, shapes in counted:
