@@ -1,6 +1,6 @@
 // What follows up on answers. What is called takes memory itself.
 use crate::calls::capabilities::having;
-use crate::calls::lines::{Basis, Probe};
+use crate::calls::lines::{Probe, Trial};
 use crate::outcomes::{Outcome, finish};
 use crate::refusals::refuse;
 use cedar_types::base::{CedarType, Expr, ExprKind, Literal};
@@ -53,14 +53,8 @@ fn follow_up(alloc: Global, up: FollowUp, number: u16) -> Result<Outcome, AllocE
 }
 
 impl Probe for FollowUp {
-    fn run(
-        self,
-        alloc: Global,
-        _basis: Basis<'_>,
-        _text: &str,
-        number: u16,
-    ) -> Result<Outcome, AllocError> {
-        follow_up(alloc, self, number)
+    fn run(self, trial: Trial<'_>) -> Result<Outcome, AllocError> {
+        follow_up(trial.alloc, self, trial.number)
     }
 }
 

@@ -1,5 +1,5 @@
 // Sets of capabilities.
-use crate::calls::lines::{Basis, Probe};
+use crate::calls::lines::{Probe, Trial};
 use crate::outcomes::{Outcome, finish};
 use crate::pictures::picture;
 use crate::refusals::refuse;
@@ -137,13 +137,8 @@ fn build(alloc: Global, number: u16) -> Result<Outcome, AllocError> {
 pub struct OfSteps;
 
 impl Probe for OfSteps {
-    fn run(
-        self,
-        alloc: Global,
-        _basis: Basis<'_>,
-        text: &str,
-        number: u16,
-    ) -> Result<Outcome, AllocError> {
+    fn run(self, trial: Trial<'_>) -> Result<Outcome, AllocError> {
+        let Trial { alloc, text, number, .. } = trial;
         let (base, first) = (Expr::var(Var::Principal), RcStr::from_str(alloc, text)?);
         let rest = vec![in alloc; first.clone()?]?;
         let attrs = AttrChain { first, rest };
@@ -154,13 +149,8 @@ impl Probe for OfSteps {
 }
 
 impl Probe for OfSets {
-    fn run(
-        self,
-        alloc: Global,
-        _basis: Basis<'_>,
-        _text: &str,
-        number: u16,
-    ) -> Result<Outcome, AllocError> {
+    fn run(self, trial: Trial<'_>) -> Result<Outcome, AllocError> {
+        let Trial { alloc, number, .. } = trial;
         match self {
             OfSets::Insert => insert(alloc, number),
             OfSets::Join => join(alloc, number),
@@ -172,14 +162,8 @@ impl Probe for OfSets {
 }
 
 impl Probe for OfTags {
-    fn run(
-        self,
-        alloc: Global,
-        _basis: Basis<'_>,
-        _text: &str,
-        number: u16,
-    ) -> Result<Outcome, AllocError> {
-        of_tags(alloc, self.0, number)
+    fn run(self, trial: Trial<'_>) -> Result<Outcome, AllocError> {
+        of_tags(trial.alloc, self.0, trial.number)
     }
 }
 

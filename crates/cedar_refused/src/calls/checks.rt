@@ -1,5 +1,5 @@
 // Checks of policies, and what a validator is asked.
-use crate::calls::lines::{Basis, Probe};
+use crate::calls::lines::{Basis, Probe, Trial};
 use crate::calls::surveys::{level_errors_at_0, survey};
 use crate::outcomes::{Outcome, finish};
 use crate::pictures::picture;
@@ -152,13 +152,8 @@ fn find_all(
 }
 
 impl Probe for InEnvironment {
-    fn run(
-        self,
-        alloc: Global,
-        basis: Basis<'_>,
-        text: &str,
-        number: u16,
-    ) -> Result<Outcome, AllocError> {
+    fn run(self, trial: Trial<'_>) -> Result<Outcome, AllocError> {
+        let Trial { alloc, basis, text, number } = trial;
         match self {
             InEnvironment::First(mode) => single(alloc, basis, mode, text, number),
             InEnvironment::Undeclared => {
@@ -170,13 +165,8 @@ impl Probe for InEnvironment {
 }
 
 impl Probe for OfValidator {
-    fn run(
-        self,
-        alloc: Global,
-        basis: Basis<'_>,
-        text: &str,
-        number: u16,
-    ) -> Result<Outcome, AllocError> {
+    fn run(self, trial: Trial<'_>) -> Result<Outcome, AllocError> {
+        let Trial { alloc, basis, text, number } = trial;
         match self {
             OfValidator::Level => at_level_0(alloc, basis.validator, text, number),
             OfValidator::Survey => survey(alloc, basis.validator, text, number),

@@ -1,5 +1,5 @@
 // Copies.
-use crate::calls::lines::{Basis, Probe};
+use crate::calls::lines::{Probe, Trial};
 use crate::outcomes::{Outcome, finish};
 use crate::refusals::refuse;
 use crate::samples::texts::{cedar_type, entities, expression, template, uid};
@@ -114,14 +114,8 @@ fn copy_of(alloc: Global, copied: Copied, number: u16) -> Result<Outcome, AllocE
 }
 
 impl Probe for Copied {
-    fn run(
-        self,
-        alloc: Global,
-        _basis: Basis<'_>,
-        _text: &str,
-        number: u16,
-    ) -> Result<Outcome, AllocError> {
-        copy_of(alloc, self, number)
+    fn run(self, trial: Trial<'_>) -> Result<Outcome, AllocError> {
+        copy_of(trial.alloc, self, trial.number)
     }
 }
 

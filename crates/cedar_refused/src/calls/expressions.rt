@@ -1,5 +1,5 @@
 // What makes expressions.
-use crate::calls::lines::{Basis, Probe};
+use crate::calls::lines::{Probe, Trial};
 use crate::outcomes::{Outcome, finish};
 use crate::refusals::refuse;
 use crate::samples::texts::{entity_type, expression};
@@ -103,38 +103,20 @@ fn of_more(alloc: Global, form: OfMore, text: &str, number: u16) -> Result<Outco
 }
 
 impl Probe for OfTwo {
-    fn run(
-        self,
-        alloc: Global,
-        _basis: Basis<'_>,
-        text: &str,
-        number: u16,
-    ) -> Result<Outcome, AllocError> {
-        of_two(alloc, self, text, number)
+    fn run(self, trial: Trial<'_>) -> Result<Outcome, AllocError> {
+        of_two(trial.alloc, self, trial.text, trial.number)
     }
 }
 
 impl Probe for OfOne {
-    fn run(
-        self,
-        alloc: Global,
-        _basis: Basis<'_>,
-        text: &str,
-        number: u16,
-    ) -> Result<Outcome, AllocError> {
-        of_one(alloc, self, text, number)
+    fn run(self, trial: Trial<'_>) -> Result<Outcome, AllocError> {
+        of_one(trial.alloc, self, trial.text, trial.number)
     }
 }
 
 impl Probe for OfMore {
-    fn run(
-        self,
-        alloc: Global,
-        _basis: Basis<'_>,
-        text: &str,
-        number: u16,
-    ) -> Result<Outcome, AllocError> {
-        of_more(alloc, self, text, number)
+    fn run(self, trial: Trial<'_>) -> Result<Outcome, AllocError> {
+        of_more(trial.alloc, self, trial.text, trial.number)
     }
 }
 

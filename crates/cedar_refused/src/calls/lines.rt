@@ -13,16 +13,20 @@ pub struct Basis<'a> {
     pub extensions: &'a ExtensionSchemas,
 }
 
+/// What one run of a call is given: what it stands on, the text that it is made on, and the number of the growth that is
+/// refused.
+#[derive(Clone, Copy)]
+pub struct Trial<'a> {
+    pub alloc: Global,
+    pub basis: Basis<'a>,
+    pub text: &'a str,
+    pub number: u16,
+}
+
 /// A call that is made on what a text says.
 pub trait Probe: Copy {
-    /// Makes the call while the growth of this number is refused.
-    fn run(
-        self,
-        alloc: Global,
-        basis: Basis<'_>,
-        text: &str,
-        number: u16,
-    ) -> Result<Outcome, AllocError>;
+    /// Makes the call while the growth of that number is refused.
+    fn run(self, trial: Trial<'_>) -> Result<Outcome, AllocError>;
 }
 
 /// A line of a table: the name of a call, what its answer shows among other things, and the text that it is made on, with
@@ -63,9 +67,15 @@ pub struct LineCall<'a, T> {
 impl<T: Probe> Call for LineCall<'_, T> {
     fn attempt(&self, alloc: Global, number: u16) -> Result<Attempt, AllocError> {
         let (basis, line) = (self.basis, self.line);
-        let wanted = self.call.run(alloc, basis, line.text, NEVER)?;
-        let found = self.call.run(alloc, basis, line.text, number)?;
-        let again = self.call.run(alloc, basis, line.text, NEVER)?;
+        let ample = Trial {
+            alloc,
+            basis,
+            text: line.text,
+            number: NEVER,
+        };
+        let wanted = self.call.run(ample)?;
+        let found = self.call.run(Trial { number, ..ample })?;
+        let again = self.call.run(ample)?;
         let shown = wanted.answer.as_deref().unwrap_or("");
         let is_as_ever = found.answer.is_none() || found.answer == wanted.answer;
         Ok(

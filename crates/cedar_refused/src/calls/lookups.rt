@@ -1,5 +1,5 @@
 // What is found by a schema or by names.
-use crate::calls::lines::{Basis, Probe};
+use crate::calls::lines::{Probe, Trial};
 use crate::outcomes::{Outcome, finish};
 use crate::refusals::refuse;
 use crate::samples::texts::{OWNERS, SCHEMA, cedar_type, entities, schema_of, two_types, uid};
@@ -73,13 +73,8 @@ fn chain_cost(alloc: Global, text: &str, number: u16) -> Result<Outcome, AllocEr
 }
 
 impl Probe for Lookup {
-    fn run(
-        self,
-        alloc: Global,
-        _basis: Basis<'_>,
-        text: &str,
-        number: u16,
-    ) -> Result<Outcome, AllocError> {
+    fn run(self, trial: Trial<'_>) -> Result<Outcome, AllocError> {
+        let Trial { alloc, text, number, .. } = trial;
         match self {
             Lookup::Bound => bound_of_entities(alloc, number),
             Lookup::Attribute => attribute(alloc, text, number),

@@ -1,5 +1,5 @@
 // What makes names, ids and literals of texts.
-use crate::calls::lines::{Basis, Probe};
+use crate::calls::lines::{Probe, Trial};
 use crate::outcomes::{Outcome, finish};
 use crate::refusals::refuse;
 use crate::samples::texts::entity_type;
@@ -35,14 +35,8 @@ fn of_texts(alloc: Global, made: OfTexts, number: u16) -> Result<Outcome, AllocE
 }
 
 impl Probe for OfTexts {
-    fn run(
-        self,
-        alloc: Global,
-        _basis: Basis<'_>,
-        text: &str,
-        number: u16,
-    ) -> Result<Outcome, AllocError> {
-        of_texts(alloc, self, number)
+    fn run(self, trial: Trial<'_>) -> Result<Outcome, AllocError> {
+        of_texts(trial.alloc, self, trial.number)
     }
 }
 

@@ -1,5 +1,5 @@
 // What is asked of an environment.
-use crate::calls::lines::{Basis, Probe};
+use crate::calls::lines::{Probe, Trial};
 use crate::outcomes::{Outcome, finish};
 use crate::refusals::refuse;
 use crate::samples::texts::policy;
@@ -66,25 +66,14 @@ fn of_environment<'a>(
 }
 
 impl Probe for Declared {
-    fn run(
-        self,
-        alloc: Global,
-        basis: Basis<'_>,
-        _text: &str,
-        number: u16,
-    ) -> Result<Outcome, AllocError> {
-        of_declared(alloc, self.0, basis.validator.schema(), number)
+    fn run(self, trial: Trial<'_>) -> Result<Outcome, AllocError> {
+        of_declared(trial.alloc, self.0, trial.basis.validator.schema(), trial.number)
     }
 }
 
 impl Probe for Undeclared {
-    fn run(
-        self,
-        alloc: Global,
-        basis: Basis<'_>,
-        _text: &str,
-        number: u16,
-    ) -> Result<Outcome, AllocError> {
+    fn run(self, trial: Trial<'_>) -> Result<Outcome, AllocError> {
+        let Trial { alloc, basis, number, .. } = trial;
         let schema = basis.validator.schema();
         of_environment(alloc, self.0, schema, RequestEnv::UndeclaredAction, number)
     }

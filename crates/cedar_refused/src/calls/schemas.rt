@@ -1,5 +1,5 @@
 // Schemas: what makes them, and what is asked of them.
-use crate::calls::lines::{Basis, Probe};
+use crate::calls::lines::{Probe, Trial};
 use crate::outcomes::{Outcome, finish};
 use crate::refusals::refuse;
 use crate::samples::texts::{entities, entity_type, uid};
@@ -78,13 +78,8 @@ fn of_schema(
 }
 
 impl Probe for OfSchema {
-    fn run(
-        self,
-        alloc: Global,
-        basis: Basis<'_>,
-        text: &str,
-        number: u16,
-    ) -> Result<Outcome, AllocError> {
+    fn run(self, trial: Trial<'_>) -> Result<Outcome, AllocError> {
+        let Trial { alloc, basis, text, number } = trial;
         match self {
             OfSchema::New => make_schema(alloc, text, number),
             OfSchema::Choices => make_choices(alloc, text, number),

@@ -1,5 +1,5 @@
 // What is asked of a policy without a schema.
-use crate::calls::lines::{Basis, Probe};
+use crate::calls::lines::{Probe, Trial};
 use crate::outcomes::{Outcome, finish};
 use crate::refusals::refuse;
 use crate::samples::texts::policy;
@@ -56,14 +56,8 @@ fn of_template(
 }
 
 impl Probe for OfTemplate {
-    fn run(
-        self,
-        alloc: Global,
-        _basis: Basis<'_>,
-        text: &str,
-        number: u16,
-    ) -> Result<Outcome, AllocError> {
-        of_template(alloc, self, text, number)
+    fn run(self, trial: Trial<'_>) -> Result<Outcome, AllocError> {
+        of_template(trial.alloc, self, trial.text, trial.number)
     }
 }
 

@@ -1,5 +1,5 @@
 // Types: what makes them, and what is asked of them.
-use crate::calls::lines::{Basis, Probe};
+use crate::calls::lines::{Probe, Trial};
 use crate::outcomes::{Outcome, finish};
 use crate::refusals::refuse;
 use crate::samples::texts::{entity_type, only, two_types};
@@ -83,26 +83,14 @@ fn of_types(alloc: Global, asked: OfTypes, text: &str, number: u16) -> Result<Ou
 }
 
 impl Probe for TypeMaker {
-    fn run(
-        self,
-        alloc: Global,
-        _basis: Basis<'_>,
-        _text: &str,
-        number: u16,
-    ) -> Result<Outcome, AllocError> {
-        make(alloc, self, number)
+    fn run(self, trial: Trial<'_>) -> Result<Outcome, AllocError> {
+        make(trial.alloc, self, trial.number)
     }
 }
 
 impl Probe for OfTypes {
-    fn run(
-        self,
-        alloc: Global,
-        _basis: Basis<'_>,
-        text: &str,
-        number: u16,
-    ) -> Result<Outcome, AllocError> {
-        of_types(alloc, self, text, number)
+    fn run(self, trial: Trial<'_>) -> Result<Outcome, AllocError> {
+        of_types(trial.alloc, self, trial.text, trial.number)
     }
 }
 
