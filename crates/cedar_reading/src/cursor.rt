@@ -82,7 +82,7 @@ impl<'a> Cursor<'a> {
     }
 
     /// The same text from one byte on, as if it ended at another. It fails at the first fault.
-    pub fn within(&self, place: Loc) -> Cursor<'a> {
+    pub fn over(&self, place: Loc) -> Cursor<'a> {
         let text = self.text.get(..place.end).unwrap_or("");
         Cursor {
             alloc: self.alloc,

@@ -73,7 +73,7 @@ fn policy_or_faulty(
     // reading may have gone on into the next policy, as behind a point
     if next.start() < cursor.start() {
         parts = PolicyParts::new(cursor.alloc);
-        if let Err(own) = read_parts(&mut cursor.within(place), &mut parts) {
+        if let Err(own) = read_parts(&mut cursor.over(place), &mut parts) {
             error = own;
         }
     }
@@ -134,7 +134,7 @@ fn whole_before(
     fault: usize,
 ) -> Result<Option<Expr>, AllocError> {
     // where that ends is known once all is read before the fault
-    let mut before = cursor.within(Loc { start, end: fault });
+    let mut before = cursor.over(Loc { start, end: fault });
     match expression(&mut before) {
         Err(ReadError::Memory(error)) => return Err(error),
         Err(ReadError::At(_, _)) => {}
@@ -143,7 +143,7 @@ fn whole_before(
     let Some(end) = before.whole_end() else {
         return Ok(None);
     };
-    match last_whole(&mut cursor.within(Loc { start, end })) {
+    match last_whole(&mut cursor.over(Loc { start, end })) {
         Ok(part) => Ok(Some(part.expr)),
         Err(ReadError::At(_, _)) => Ok(None),
         Err(ReadError::Memory(error)) => Err(error),
