@@ -1,13 +1,13 @@
 -- Places of declarations, and what is found through them.
-use Rattle.std.proofs.Common.{◌≡◌, refl, sym, ap, ◌∙◌, ℕ, suc, Bool, true, false, cond, ◌||◌, List, [], ◌∷◌, ◌++◌, map, length, take, drop}
-use Rattle.std.proofs.Common.{get_or, ◌+◌, ◌<◌, Option, Some, None, is_some, option_map}
+use Rattle.std.proofs.Common.{◌≡◌, refl, sym, ap, ◌∙◌, arith, ℕ, zero, suc, Bool, true, false, cond, ◌||◌, List, [], ◌∷◌, ◌++◌, map, length, take, drop}
+use Rattle.std.proofs.Common.{get_or, ◌+◌, ◌<◌, ◌≤◌, Option, Some, None, is_some, option_map}
 use Rattle.std.specs.Bool.{Decides}
 use Rattle.std.specs.Option.{option_or}
 use Rattle.std.specs.List.{list_any, find, slice_get}
 use Rattle.std.specs.Borrow.{Bor}
 use Rattle.std.specs.Slice.{IsItemAt}
 use Rattle.std.proofs.Math.Bool.{or-true}
-use Rattle.std.proofs.lemmas.List.{take_more, take-append-drop, map-append}
+use Rattle.std.proofs.lemmas.List.{take_more, take-map, take-append-drop, map-append}
 use Rattle.std.proofs.lemmas.Option.{slice_get_past, slice_get-get_or}
 use Rattle.std.proofs.lemmas.List.Folds.{list_any-append}
 use Rattle.std.proofs.lemmas.Bool.Decides.{Decides-like, same_from_decides}
@@ -57,6 +57,67 @@ find_mapped f p (x ∷ xs) =
 pub any_mapped : {X Y : Type 0} (f : X → Y) (p : Y → Bool) (xs : List X) → list_any (λ x. p (f x)) xs ≡ list_any p (map f xs)
 any_mapped f p [] = refl
 any_mapped f p (x ∷ xs) = ap (λ b. p (f x) || b) (any_mapped f p xs)
+
+-- ---- what is found among the first n elements
+
+-- what stands at an earlier place
+found_before : {X : Type 0} (p : X → Bool) (xs : List X) (i n : ℕ) → place_in p xs ≡ Some i → i < n
+    → find p (take n xs) ≡ slice_get xs i
+found_before p [] i n e l = cc
+found_before p (x ∷ xs) i zero e l = absurd (omega (arith, l))
+found_before p (x ∷ xs) i (suc n) e l = along (p x) (place_in p xs) (λ j h k. found_before p xs j n h k) e
+  where
+    along : (b : Bool) (o : Option ℕ) → ((j : ℕ) → o ≡ Some j → j < n → find p (take n xs) ≡ slice_get xs j)
+        → cond b (Some 0) (option_map suc o) ≡ Some i → cond b (Some x) (find p (take n xs)) ≡ slice_get (x ∷ xs) i
+    along true o h e = let at : 0 ≡ i = cc in ap (slice_get (x ∷ xs)) at
+    along false (Some j) h e = let at : suc j ≡ i = cc in h j refl (omega (arith, at, l)) ∙ ap (slice_get (x ∷ xs)) at
+    along false None h e = cc
+
+-- nothing where the first that passes has a later place
+found_later : {X : Type 0} (p : X → Bool) (xs : List X) (i n : ℕ) → place_in p xs ≡ Some i → n ≤ i
+    → find p (take n xs) ≡ None
+found_later p [] i n e l = cc
+found_later p (x ∷ xs) i zero e l = refl
+found_later p (x ∷ xs) i (suc n) e l = along (p x) (place_in p xs) (λ j h k. found_later p xs j n h k) e
+  where
+    along : (b : Bool) (o : Option ℕ) → ((j : ℕ) → o ≡ Some j → n ≤ j → find p (take n xs) ≡ None)
+        → cond b (Some 0) (option_map suc o) ≡ Some i → cond b (Some x) (find p (take n xs)) ≡ None
+    along true o h e = let at : 0 ≡ i = cc in absurd (omega (arith, at, l))
+    along false (Some j) h e = let at : suc j ≡ i = cc in h j refl (omega (arith, at, l))
+    along false None h e = cc
+
+-- nothing where none passes
+found_never : {X : Type 0} (p : X → Bool) (xs : List X) (n : ℕ) → place_in p xs ≡ None → find p (take n xs) ≡ None
+found_never p [] zero e = refl
+found_never p [] (suc n) e = refl
+found_never p (x ∷ xs) zero e = refl
+found_never p (x ∷ xs) (suc n) e = along (p x) (place_in p xs) (found_never p xs n) e
+  where
+    along : (b : Bool) (o : Option ℕ) → (o ≡ None → find p (take n xs) ≡ None) → cond b (Some 0) (option_map suc o) ≡ None
+        → cond b (Some x) (find p (take n xs)) ≡ None
+    along true o h e = cc
+    along false (Some j) h e = cc
+    along false None h e = h refl
+
+first_mapped : {X Y : Type 0} (f : X → Y) (p : Y → Bool) (xs : List X) (n : ℕ) (o : Option X)
+    → find (λ x. p (f x)) (take n xs) ≡ o → option_map f o ≡ find p (take n (map f xs))
+first_mapped f p xs n o e =
+    ap (option_map f) (sym e) ∙ find_mapped f p (take n xs) ∙ ap (find p) (sym (take-map f n xs))
+
+-- the same, seen through f
+pub mapped_before : {X Y : Type 0} (f : X → Y) (p : Y → Bool) (xs : List X) (i n : ℕ)
+    → Some i ≡ place_in (λ x. p (f x)) xs → i < n → option_map f (slice_get xs i) ≡ find p (take n (map f xs))
+mapped_before f p xs i n e l = first_mapped f p xs n (slice_get xs i) (found_before (λ x. p (f x)) xs i n (sym e) l)
+
+pub mapped_later : {X Y : Type 0} (f : X → Y) (p : Y → Bool) (xs : List X) (i n : ℕ)
+    → Some i ≡ place_in (λ x. p (f x)) xs → n ≤ i → None ≡ find p (take n (map f xs))
+mapped_later f p xs i n e l = first_mapped f p xs n None (found_later (λ x. p (f x)) xs i n (sym e) l)
+
+pub mapped_never : {X Y : Type 0} (f : X → Y) (p : Y → Bool) (xs : List X) (n : ℕ)
+    → None ≡ place_in (λ x. p (f x)) xs → None ≡ find p (take n (map f xs))
+mapped_never f p xs n e = first_mapped f p xs n None (found_never (λ x. p (f x)) xs n (sym e))
+
+-- ---- one more element
 
 -- one more at the end
 pub place_push : {X : Type 0} (p : X → Bool) (xs : List X) (y : X)

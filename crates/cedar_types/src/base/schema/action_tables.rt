@@ -18,7 +18,7 @@ pub(crate) struct ActionTable {
 }
 
 impl ActionTable {
-    ghost use Rattle.std.specs.Prelude.{[], option_map};
+    ghost use Rattle.std.specs.Prelude.{[], option_map, take};
     ghost use Rattle.std.specs.List.{list_all};
     ghost use Rattle.cedar_types.specs.Names.{uid_of};
     ghost use Rattle.cedar_types.specs.Schemas.{declares_action, action_named};
@@ -59,6 +59,17 @@ impl ActionTable {
         match self.places.get(name) {
             Some(place) => self.declared.get(*place),
             None => None,
+        }
+    }
+
+    /// The action of this id, if it is declared before this place.
+    pub(crate) fn get_before(&self, name: &EntityUID, place: usize) -> Option<&ValidatorActionId>
+        ensures { option_map (λ t. declared_action t.now) result
+            ≡ action_named (take place (actions_in self.now)) (uid_of name.now) }
+    {
+        match self.places.get(name) {
+            Some(at) if *at < place => self.declared.get(*at),
+            _ => None,
         }
     }
 

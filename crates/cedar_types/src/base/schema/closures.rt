@@ -1,12 +1,12 @@
 // Whether what descends from a descendant is a descendant.
-ghost use Rattle.std.specs.Prelude.{◌≡◌, ◌||◌, true, IfSome};
-ghost use Rattle.std.specs.List.{list_all};
-ghost use Rattle.cedar_types.specs.Names.{type_of, uid_of};
+ghost use Rattle.std.specs.Prelude.{◌≡◌, ◌||◌, true, IfSome, take};
+ghost use Rattle.std.specs.List.{list_any, list_all};
+ghost use Rattle.cedar_types.specs.Names.{type_of, uid_of, path_eq, uid_eq};
 ghost use Rattle.cedar_types.specs.Types.{types_of};
 ghost use Rattle.cedar_types.specs.Schemas.Declarations.{declared_type, declared_action, uids_of};
 ghost use Rattle.cedar_types.specs.Schemas.Tables.{types_in, actions_in};
 ghost use Rattle.cedar_types.specs.Schemas.{is_among, uid_is_among, descendants_of, descendants_of_action};
-ghost use Rattle.cedar_types.specs.Schemas.Closures.{types_are_kept, actions_are_kept, IsTypeBelow, IsActionBelow};
+ghost use Rattle.cedar_types.specs.Schemas.Closures.{types_are_kept, actions_are_kept, IsTypeBelow, IsActionBelow, is_same_set};
 
 use crate::base::names::entities::{EntityType, EntityUID};
 use crate::base::schema::action_tables::ActionTable;
@@ -24,12 +24,36 @@ pub(crate) fn are_types_closed(types: &EntityTypeTable) -> bool
         (descendants_of (types_in types.now) d)) (types_of t.descendants))
         types.now.declared.items }
 {
-    for entity_type in &types.declared {
-        if !is_type_kept(types, &entity_type.descendants) {
+    for (place, entity_type) in types.declared.iter().enumerate() {
+        if !has_earlier_type(types, &entity_type.descendants, place)
+            && !is_type_kept(types, &entity_type.descendants)
+        {
             return false;
         }
     }
     true
+}
+
+/// Whether a type that is declared before this place has these descendants: types that are all in each other have the same
+/// ones, which are looked at once.
+fn has_earlier_type(
+    types: &EntityTypeTable,
+    descendants: &BTreeSet<EntityType>,
+    place: usize,
+) -> bool
+    ensures { result ≡ true
+        → list_any (λ t. is_same_set path_eq (types_of descendants.now) t.descendants)
+        (take place (types_in types.now)) ≡ true }
+{
+    for name in descendants.iter() {
+        if let Some(found) = types.get_before(name, place) {
+            if found.descendants.len() == descendants.len() {
+                return has_all_types(descendants, &found.descendants)
+                    && has_all_types(&found.descendants, descendants);
+            }
+        }
+    }
+    false
 }
 
 /// Whether these descendants have those of each of them, but for what the smaller set of one of them shows: if all smaller sets
@@ -143,12 +167,36 @@ pub(crate) fn are_actions_closed(actions: &ActionTable) -> bool
         (descendants_of_action (actions_in actions.now) d)) (uids_of a.descendants))
         actions.now.declared.items }
 {
-    for action in &actions.declared {
-        if !is_action_kept(actions, &action.descendants) {
+    for (place, action) in actions.declared.iter().enumerate() {
+        if !has_earlier_action(actions, &action.descendants, place)
+            && !is_action_kept(actions, &action.descendants)
+        {
             return false;
         }
     }
     true
+}
+
+/// Whether an action that is declared before this place has these descendants: actions that are all in each other have the same
+/// ones, which are looked at once.
+fn has_earlier_action(
+    actions: &ActionTable,
+    descendants: &BTreeSet<EntityUID>,
+    place: usize,
+) -> bool
+    ensures { result ≡ true
+        → list_any (λ a. is_same_set uid_eq (uids_of descendants.now) a.descendants)
+        (take place (actions_in actions.now)) ≡ true }
+{
+    for name in descendants.iter() {
+        if let Some(found) = actions.get_before(name, place) {
+            if found.descendants.len() == descendants.len() {
+                return has_all_actions(descendants, &found.descendants)
+                    && has_all_actions(&found.descendants, descendants);
+            }
+        }
+    }
+    false
 }
 
 /// Whether these descendants have those of each of them, but for what the smaller set of one of them shows: if all smaller sets

@@ -18,7 +18,7 @@ pub(crate) struct EntityTypeTable {
 }
 
 impl EntityTypeTable {
-    ghost use Rattle.std.specs.Prelude.{[], option_map};
+    ghost use Rattle.std.specs.Prelude.{[], option_map, take};
     ghost use Rattle.std.specs.List.{list_all};
     ghost use Rattle.cedar_types.specs.Names.{type_of};
     ghost use Rattle.cedar_types.specs.Schemas.{declares_type, knows_type, type_named};
@@ -59,6 +59,17 @@ impl EntityTypeTable {
         match self.places.get(name) {
             Some(place) => self.declared.get(*place),
             None => None,
+        }
+    }
+
+    /// The type of this name, if it is declared before this place.
+    pub(crate) fn get_before(&self, name: &EntityType, place: usize) -> Option<&ValidatorEntityType>
+        ensures { option_map (λ t. declared_type t.now) result
+            ≡ type_named (take place (types_in self.now)) (type_of name.now) }
+    {
+        match self.places.get(name) {
+            Some(at) if *at < place => self.declared.get(*at),
+            _ => None,
         }
     }
 
