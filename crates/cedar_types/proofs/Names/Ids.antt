@@ -4,7 +4,7 @@ use Rattle.std.specs.declared.cmp.Ordering.{Ordering}
 use Rattle.std.specs.declared.cmp.Ordering.TheVariants.{Less, Equal, Greater}
 use Rattle.std.specs.Ordering.{ordering_then, is_eq}
 use Rattle.std.specs.Bool.{Decides}
-use Rattle.std.specs.Cmp.Lexicographic.{slice_cmp, texts_ties}
+use Rattle.std.specs.Cmp.Lexicographic.{pointwise, slice_cmp, texts_ties}
 use Rattle.std.specs.List.{list_any}
 use Rattle.std.specs.Map.{lookup}
 use Rattle.std.proofs.lemmas.Bool.Decides.{Decides-and, Decides-like, same_from_decides}
@@ -12,7 +12,7 @@ use Rattle.std.proofs.lemmas.Slice.Eq.{slice_eq-Decides, bytes_eq-Decides}
 use Rattle.cedar_types.specs.declared.base.names.entities.EntityType.{EntityType}
 use Rattle.cedar_types.specs.declared.base.names.entities.EntityUID.{EntityUID}
 use Rattle.cedar_types.specs.Names.{Path, Uid, text_of, type_of, uid_of, text_cmp, path_cmp, uid_cmp, text_eq, path_eq, uid_eq}
-use Rattle.cedar_types.proofs.Names.Paths.{names_cmp, path_ties}
+use Rattle.cedar_types.proofs.Names.Paths.{names_eq, names_cmp, path_ties}
 
 -- ---- equality is what the tests decide
 
@@ -34,6 +34,12 @@ path_symm p q = same_from_decides (path_eq p q) (path_eq q p) (path_decides p q)
 
 pub uid_symm : (u v : Uid) → uid_eq u v ≡ uid_eq v u
 uid_symm u v = same_from_decides (uid_eq u v) (uid_eq v u) (uid_decides u v) (Decides-like (uid_eq v u) sym sym (uid_decides v u))
+
+pub uids_eq : (u v : EntityUID)
+    → ((pointwise (λ x y. text_eq (text_of x) (text_of y)) u.entity_type.name.path.items v.entity_type.name.path.items
+    && text_eq (text_of u.entity_type.name.basename) (text_of v.entity_type.name.basename))
+    && text_eq (text_of u.eid) (text_of v.eid)) ≡ uid_eq (uid_of u) (uid_of v)
+uids_eq u v = ap (λ r. r && text_eq (text_of u.eid) (text_of v.eid)) (names_eq u.entity_type.name v.entity_type.name)
 
 -- ---- the order of ids
 

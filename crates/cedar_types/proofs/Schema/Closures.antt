@@ -1,14 +1,17 @@
 -- Sets of descendants: what is kept of each is closed in all.
 use Rattle.std.proofs.Common.{◌≡◌, refl, sym, ap, ◌∙◌, arith, ℕ, zero, suc, ◌<◌, Bool, true, false, ◌||◌, ◌&&◌, List, [], ◌∷◌, map, length}
-use Rattle.std.proofs.Common.{Some, cond, nat_lt, nat_eq, ltb-true, lt-ltb, eqb-true, IsTrue, ◌↔◌, take, get_or, ◌+◌}
+use Rattle.std.proofs.Common.{Some, cond, nat_lt, ltb-true, lt-ltb, IsTrue, ◌↔◌, take, get_or, ◌+◌}
 use Rattle.std.specs.declared.cmp.Ordering.{Ordering}
 use Rattle.std.specs.Ordering.{is_eq}
 use Rattle.std.specs.Bool.{Decides}
 use Rattle.std.specs.List.{list_any, list_all, find}
+use Rattle.std.specs.Cmp.Lexicographic.{pointwise}
+use Rattle.std.specs.Cmp.Derive.Mapped.{pointwise-map}
 use Rattle.std.proofs.Math.Bool.{or-true}
+use Rattle.std.proofs.lemmas.Slice.Eq.{slice_eq-Decides}
 use Rattle.std.proofs.lemmas.List.{take-map}
 use Rattle.std.proofs.lemmas.List.Folds.{list_all-map, list_all-append}
-use Rattle.cedar_types.specs.Schemas.Closures.{has_all, is_below, is_kept, is_same_set}
+use Rattle.cedar_types.specs.Schemas.Closures.{has_all, is_below, is_kept}
 use Rattle.cedar_types.proofs.Schema.Places.{any_mapped, next_mapped}
 use Rattle.cedar_types.proofs.Tests.{Within, found, each, and_left, and_right, and_both, alike}
 
@@ -140,39 +143,13 @@ module _ {X B : Type 0} (same : B → B → Bool) (decides : (a b : B) → Decid
       (λ c w. ap (λ r. list_any (same c) (own x) || r) (each (λ c. has_all same ds (of c)) ds c h w)
       ∙ or-true (list_any (same c) (own x))))
 
-  below_same : (ds es : List B) (b : B) → length ds ≡ length es → has_all same ds es ≡ true
-      → list_any (is_below same own es b) xs ≡ true → list_any (is_below same own ds b) xs ≡ true
-  below_same ds es b many wide h =
-      let x = found (is_below same own es b) xs h in
-      let ls = own x.element in
-      let outer = and_left (nat_lt (length ls) (length es) && has_all same es ls) (list_any (same b) ls) x.passes in
-      x.within.passes (is_below same own ds b)
-      (and_both (nat_lt (length ls) (length ds) && has_all same ds ls) (list_any (same b) ls)
-      (and_both (nat_lt (length ls) (length ds)) (has_all same ds ls)
-      (ap (nat_lt (length ls)) many ∙ and_left (nat_lt (length ls) (length es)) (has_all same es ls) outer)
-      (has_through ds es ls wide (and_right (nat_lt (length ls) (length es)) (has_all same es ls) outer)))
-      (and_right (nat_lt (length ls) (length es) && has_all same es ls) (list_any (same b) ls) x.passes))
-
-  -- a set is kept where one that has the same members is
-  same_kept : (ds es : List B) → is_same_set same ds es ≡ true → is_all_kept es ≡ true → is_all_kept ds ≡ true
-  same_kept ds es h kept =
-      let many = eqb-true (length ds) (length es) (and_left (nat_eq (length ds) (length es)) (has_all same ds es && has_all same es ds) h) in
-      let both = and_right (nat_eq (length ds) (length es)) (has_all same ds es && has_all same es ds) h in
-      let wide = and_left (has_all same ds es) (has_all same es ds) both in
-      all_pass (is_kept same own of xs ds) ds (λ b w.
-      either (list_any (is_below same own es b) xs) (has_all same ds (of b)) (list_any (is_below same own ds b) xs)
-      (either (has_all same es (of b)) (list_any (is_below same own es b) xs) (has_all same ds (of b))
-      (among_passes same decides (is_kept same own of xs es) es b kept
-      (each (λ b. list_any (same b) es) ds b (and_right (has_all same ds es) (has_all same es ds) both) w))
-      (has_through ds es (of b) wide))
-      (below_same ds es b many wide))
-
-  -- so it is where one of some that are kept has the same members
+  -- a set is kept that is the same as one of some that are
   pub earlier_kept : (ys : List X) (ds : List B) → list_all (λ x. is_all_kept (own x)) ys ≡ true
-      → list_any (λ x. is_same_set same ds (own x)) ys ≡ true → is_all_kept ds ≡ true
+      → list_any (λ x. pointwise same (own x) ds) ys ≡ true → is_all_kept ds ≡ true
   earlier_kept ys ds kept h =
-      let x = found (λ x. is_same_set same ds (own x)) ys h in
-      same_kept ds (own x.element) x.passes (each (λ x. is_all_kept (own x)) ys x.element kept x.within)
+      let x = found (λ x. pointwise same (own x) ds) ys h in
+      let is : own x.element ≡ ds = (slice_eq-Decides {E = same} decides (own x.element) ds _ refl).0 x.passes in
+      ap is_all_kept (sym is) ∙ each (λ x. is_all_kept (own x)) ys x.element kept x.within
 
 -- one more of the first elements passes
 pub all_next : {X Y : Type 0} (f : X → Y) (p : Y → Bool) (xs : List X) (i : ℕ) (x : X) → i < length xs
@@ -185,6 +162,13 @@ all_next f p xs i x below is all here =
     (and_both (p (f x)) true here refl)
 
 -- ---- sets of keys
+
+-- sets that are equal, by what is seen of their keys
+pub keys_same : {K B : Type 0} (f : K → B) (E : K → K → Bool) (same : B → B → Bool)
+    → ((a b : K) → E a b ≡ same (f a) (f b)) → (ks ls : List K)
+    → pointwise E ks ls ≡ pointwise same (map f ks) (map f ls)
+keys_same f E same h ks ls =
+    ap (λ e. pointwise e ks ls) (λ i a b. h a b i) ∙ sym (pointwise-map f same ks ls)
 
 -- a set that is a subset by its order, by what is seen of its keys
 pub subset_is : {K B : Type 0} (cmp : K → K → Ordering) (f : K → B) (same : B → B → Bool)

@@ -1,5 +1,5 @@
 -- Sets of descendants, and whether they have what descends from their members.
-use Rattle.std.specs.Prelude.{◌≡◌, Bool, ◌&&◌, ◌||◌, List, length, Some, nat_lt, nat_eq, ◌<◌, true}
+use Rattle.std.specs.Prelude.{◌≡◌, Bool, ◌&&◌, ◌||◌, List, length, Some, nat_lt, ◌<◌, true}
 use Rattle.std.specs.List.{list_any, list_all}
 use Rattle.cedar_types.specs.Names.{Path, Uid, path_eq, uid_eq}
 use Rattle.cedar_types.specs.Schemas.{DeclaredType, DeclaredAction, is_among, uid_is_among, type_named, action_named, descendants_of}
@@ -17,10 +17,6 @@ is_below same own ds b x =
 -- what descends from b is among ds; or b descends from a declaration that has fewer descendants, all among ds
 abbrev pub is_kept : {X B : Type 0} → (B → B → Bool) → (X → List B) → (B → List B) → List X → List B → B → Bool
 is_kept same own of xs ds b = has_all same ds (of b) || list_any (is_below same own ds b) xs
-
--- both have as many members, and each those of the other
-abbrev pub is_same_set : {B : Type 0} → (B → B → Bool) → List B → List B → Bool
-is_same_set same ds es = nat_eq (length ds) (length es) && (has_all same ds es && has_all same es ds)
 
 -- each of these types is kept
 abbrev pub types_are_kept : List DeclaredType → List Path → Bool

@@ -1,12 +1,13 @@
 // Whether what descends from a descendant is a descendant.
 ghost use Rattle.std.specs.Prelude.{◌≡◌, ◌||◌, true, IfSome, take};
 ghost use Rattle.std.specs.List.{list_any, list_all};
+ghost use Rattle.std.specs.Cmp.Lexicographic.{pointwise};
 ghost use Rattle.cedar_types.specs.Names.{type_of, uid_of, path_eq, uid_eq};
 ghost use Rattle.cedar_types.specs.Types.{types_of};
 ghost use Rattle.cedar_types.specs.Schemas.Declarations.{declared_type, declared_action, uids_of};
 ghost use Rattle.cedar_types.specs.Schemas.Tables.{types_in, actions_in};
 ghost use Rattle.cedar_types.specs.Schemas.{is_among, uid_is_among, descendants_of, descendants_of_action};
-ghost use Rattle.cedar_types.specs.Schemas.Closures.{types_are_kept, actions_are_kept, IsTypeBelow, IsActionBelow, is_same_set};
+ghost use Rattle.cedar_types.specs.Schemas.Closures.{types_are_kept, actions_are_kept, IsTypeBelow, IsActionBelow};
 
 use crate::base::names::entities::{EntityType, EntityUID};
 use crate::base::schema::action_tables::ActionTable;
@@ -17,7 +18,8 @@ use std::collections::BTreeSet;
 
 /// Whether each type has the descendants of its descendants.
 ///
-/// It looks at a chain of types in a time that is linear in the number of descendants that they declare.
+/// It looks at a chain of types, and at types that are all in each other, in a time that is linear, but for a logarithm, in
+/// the number of descendants that they declare.
 pub(crate) fn are_types_closed(types: &EntityTypeTable) -> bool
     ensures { result
         ≡ list_all (λ t. list_all (λ d. list_all (is_among (types_of t.descendants))
@@ -34,22 +36,17 @@ pub(crate) fn are_types_closed(types: &EntityTypeTable) -> bool
     true
 }
 
-/// Whether a type that is declared before this place has these descendants: types that are all in each other have the same
-/// ones, which are looked at once.
-fn has_earlier_type(
-    types: &EntityTypeTable,
-    descendants: &BTreeSet<EntityType>,
-    place: usize,
-) -> bool
+/// Whether one of these types is declared before this place and has them as its descendants: types that are all in each other
+/// have the same ones, which are looked at once.
+fn has_earlier_type(types: &EntityTypeTable, names: &BTreeSet<EntityType>, place: usize) -> bool
     ensures { result ≡ true
-        → list_any (λ t. is_same_set path_eq (types_of descendants.now) t.descendants)
+        → list_any (λ t. pointwise path_eq t.descendants (types_of names.now))
         (take place (types_in types.now)) ≡ true }
 {
-    for name in descendants.iter() {
+    for name in names.iter() {
         if let Some(found) = types.get_before(name, place) {
-            if found.descendants.len() == descendants.len() {
-                return has_all_types(descendants, &found.descendants)
-                    && has_all_types(&found.descendants, descendants);
+            if found.descendants.len() == names.len() {
+                return found.descendants == *names;
             }
         }
     }
@@ -160,7 +157,8 @@ pub(crate) fn has_type(types: &BTreeSet<EntityType>, name: &EntityType) -> bool
 
 /// Whether each action has the descendants of its descendants.
 ///
-/// It looks at a chain of actions in a time that is linear in the number of descendants that they declare.
+/// It looks at a chain of actions, and at actions that are all in each other, in a time that is linear, but for a logarithm, in
+/// the number of descendants that they declare.
 pub(crate) fn are_actions_closed(actions: &ActionTable) -> bool
     ensures { result
         ≡ list_all (λ a. list_all (λ d. list_all (uid_is_among (uids_of a.descendants))
@@ -177,22 +175,17 @@ pub(crate) fn are_actions_closed(actions: &ActionTable) -> bool
     true
 }
 
-/// Whether an action that is declared before this place has these descendants: actions that are all in each other have the same
-/// ones, which are looked at once.
-fn has_earlier_action(
-    actions: &ActionTable,
-    descendants: &BTreeSet<EntityUID>,
-    place: usize,
-) -> bool
+/// Whether one of these actions is declared before this place and has them as its descendants: actions that are all in each other
+/// have the same ones, which are looked at once.
+fn has_earlier_action(actions: &ActionTable, ids: &BTreeSet<EntityUID>, place: usize) -> bool
     ensures { result ≡ true
-        → list_any (λ a. is_same_set uid_eq (uids_of descendants.now) a.descendants)
+        → list_any (λ a. pointwise uid_eq a.descendants (uids_of ids.now))
         (take place (actions_in actions.now)) ≡ true }
 {
-    for name in descendants.iter() {
-        if let Some(found) = actions.get_before(name, place) {
-            if found.descendants.len() == descendants.len() {
-                return has_all_actions(descendants, &found.descendants)
-                    && has_all_actions(&found.descendants, descendants);
+    for id in ids.iter() {
+        if let Some(found) = actions.get_before(id, place) {
+            if found.descendants.len() == ids.len() {
+                return found.descendants == *ids;
             }
         }
     }
