@@ -138,7 +138,12 @@ pub struct OfSteps;
 
 impl Probe for OfSteps {
     fn run(self, trial: Trial<'_>) -> Result<Outcome, AllocError> {
-        let Trial { alloc, text, number, .. } = trial;
+        let Trial {
+            alloc,
+            text,
+            number,
+            ..
+        } = trial;
         let (base, first) = (Expr::var(Var::Principal), RcStr::from_str(alloc, text)?);
         let rest = vec![in alloc; first.clone()?]?;
         let attrs = AttrChain { first, rest };

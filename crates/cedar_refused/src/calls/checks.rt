@@ -153,7 +153,12 @@ fn find_all(
 
 impl Probe for InEnvironment {
     fn run(self, trial: Trial<'_>) -> Result<Outcome, AllocError> {
-        let Trial { alloc, basis, text, number } = trial;
+        let Trial {
+            alloc,
+            basis,
+            text,
+            number,
+        } = trial;
         match self {
             InEnvironment::First(mode) => single(alloc, basis, mode, text, number),
             InEnvironment::Undeclared => {
@@ -166,7 +171,12 @@ impl Probe for InEnvironment {
 
 impl Probe for OfValidator {
     fn run(self, trial: Trial<'_>) -> Result<Outcome, AllocError> {
-        let Trial { alloc, basis, text, number } = trial;
+        let Trial {
+            alloc,
+            basis,
+            text,
+            number,
+        } = trial;
         match self {
             OfValidator::Level => at_level_0(alloc, basis.validator, text, number),
             OfValidator::Survey => survey(alloc, basis.validator, text, number),

@@ -74,7 +74,12 @@ fn chain_cost(alloc: Global, text: &str, number: u16) -> Result<Outcome, AllocEr
 
 impl Probe for Lookup {
     fn run(self, trial: Trial<'_>) -> Result<Outcome, AllocError> {
-        let Trial { alloc, text, number, .. } = trial;
+        let Trial {
+            alloc,
+            text,
+            number,
+            ..
+        } = trial;
         match self {
             Lookup::Bound => bound_of_entities(alloc, number),
             Lookup::Attribute => attribute(alloc, text, number),

@@ -67,13 +67,23 @@ fn of_environment<'a>(
 
 impl Probe for Declared {
     fn run(self, trial: Trial<'_>) -> Result<Outcome, AllocError> {
-        of_declared(trial.alloc, self.0, trial.basis.validator.schema(), trial.number)
+        of_declared(
+            trial.alloc,
+            self.0,
+            trial.basis.validator.schema(),
+            trial.number,
+        )
     }
 }
 
 impl Probe for Undeclared {
     fn run(self, trial: Trial<'_>) -> Result<Outcome, AllocError> {
-        let Trial { alloc, basis, number, .. } = trial;
+        let Trial {
+            alloc,
+            basis,
+            number,
+            ..
+        } = trial;
         let schema = basis.validator.schema();
         of_environment(alloc, self.0, schema, RequestEnv::UndeclaredAction, number)
     }

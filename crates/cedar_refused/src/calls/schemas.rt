@@ -79,7 +79,12 @@ fn of_schema(
 
 impl Probe for OfSchema {
     fn run(self, trial: Trial<'_>) -> Result<Outcome, AllocError> {
-        let Trial { alloc, basis, text, number } = trial;
+        let Trial {
+            alloc,
+            basis,
+            text,
+            number,
+        } = trial;
         match self {
             OfSchema::New => make_schema(alloc, text, number),
             OfSchema::Choices => make_choices(alloc, text, number),
