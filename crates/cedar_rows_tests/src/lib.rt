@@ -3,12 +3,4 @@
 #![tactic(auto)]
 
 #[cfg(test)]
-mod expectations;
-#[cfg(test)]
-mod runs;
-#[cfg(test)]
-mod tables;
-#[cfg(test)]
-mod wrong_expectations;
-#[cfg(test)]
-mod wrong_levels;
+mod tests;

@@ -2,14 +2,4 @@
 #![tactic(auto)]
 
 #[cfg(test)]
-mod levels;
-#[cfg(test)]
-mod names;
-#[cfg(test)]
-mod policies;
-#[cfg(test)]
-mod satisfying_types;
-#[cfg(test)]
-mod schemas;
-#[cfg(test)]
-mod surveys;
+mod tests;

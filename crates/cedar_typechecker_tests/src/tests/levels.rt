@@ -1,6 +1,6 @@
 // The validation of a policy with levels, and the level that it requires.
-use crate::names::uid;
-use crate::schemas::users_and_photos;
+use crate::tests::names::uid;
+use crate::tests::schemas::users_and_photos;
 use cedar_typechecker::base::{
     ActionConstraint, AttrChain, Expr, ExtensionSchemas, Literal, PolicyID, PrincipalConstraint,
     ResourceConstraint, SlotId, Template, ValidationMode, Var,

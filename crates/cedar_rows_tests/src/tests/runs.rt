@@ -1,5 +1,5 @@
 // The frame, over sample rows and over writers in memory.
-use crate::tables::{x1, x2};
+use crate::tests::tables::{x1, x2};
 use cedar_rows::rows::{NamedRow, Report, Row};
 use cedar_rows::run::{run, run_among};
 use cedar_types::base::ExtensionSchemas;

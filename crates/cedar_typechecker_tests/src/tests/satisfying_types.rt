@@ -1,6 +1,6 @@
 // The types that a constraint on the resource admits.
-use crate::names::{entity_type_of, uid};
-use crate::schemas::users_and_files;
+use crate::tests::names::{entity_type_of, uid};
+use crate::tests::schemas::users_and_files;
 use cedar_typechecker::base::{EntityType, ExtensionSchemas, ResourceConstraint};
 use cedar_typechecker::rbac::Validator;
 use std::alloc::{AllocError, Global};

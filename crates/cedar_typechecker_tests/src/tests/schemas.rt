@@ -1,5 +1,5 @@
 // Small schemas.
-use crate::names::{entity_type_of, uid};
+use crate::tests::names::{entity_type_of, uid};
 use cedar_typechecker::base::{
     AttributeType, Attributes, CedarType, EntityType, OpenTag, StandardValidatorEntityType,
     ValidatorActionId, ValidatorActionKind, ValidatorApplySpec, ValidatorEntityType,

@@ -1,6 +1,6 @@
 // The survey of a policy.
-use crate::names::{entity_type_of, uid};
-use crate::schemas::{users_and_photos, users_and_robots};
+use crate::tests::names::{entity_type_of, uid};
+use crate::tests::schemas::{users_and_photos, users_and_robots};
 use cedar_typechecker::base::{
     ActionConstraint, EntityDerefLevel, Expr, ExtensionSchemas, PolicyID, PrincipalConstraint,
     RequestType, ResourceConstraint, Template, ValidationMode, Var,

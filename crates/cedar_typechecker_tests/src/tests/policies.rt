@@ -1,6 +1,6 @@
 // The validation of a policy without levels.
-use crate::names::uid;
-use crate::schemas::users_and_photos;
+use crate::tests::names::uid;
+use crate::tests::schemas::users_and_photos;
 use cedar_typechecker::base::{
     ActionConstraint, Expr, ExtensionSchemas, PolicyID, PrincipalConstraint, ResourceConstraint,
     Template, ValidationMode, Var,

@@ -1,7 +1,7 @@
 // Whether what a step came to is taken for what it expects, and for nothing else.
-use crate::tables::{x1, x2};
-use crate::wrong_expectations::{ERRORS, NAMES, OUTCOMES, UNREAD, WARNINGS};
-use crate::wrong_levels::{LEVELS, OUTCOMES_AT_LEVELS, UNREAD_LEVELS};
+use crate::tests::tables::{x1, x2};
+use crate::tests::wrong_expectations::{ERRORS, NAMES, OUTCOMES, UNREAD, WARNINGS};
+use crate::tests::wrong_levels::{LEVELS, OUTCOMES_AT_LEVELS, UNREAD_LEVELS};
 use cedar_rows::rows::{Report, Row, Steps, WORKED};
 use std::alloc::Global;
 use std::process::Abort;

@@ -1,0 +1,6 @@
+// Each subject has a module.
+mod expectations;
+mod runs;
+mod tables;
+mod wrong_expectations;
+mod wrong_levels;
