@@ -8,7 +8,8 @@ the check. No function is named for that, since a compiler may inline any. Print
 descendant, and how many times as many there are where n doubles and the declared descendants are four times as many. A line
 passes where that is less than LIMIT: what takes n log n of the declared descendants takes 4.8 times as much at most. Three
 layers, in which each member of a layer is in each of the one above, have figures alone: of them no set shows what another has,
-so each is looked at. Of sets that are one set, as where each is in all, the first is looked at. The last line counts the lines that pass and those that do not.
+so each is looked at. Of sets that are one set, as where each is in all, the first is looked at. The last line counts the lines
+that pass and those that do not.
 
 PROGRAM is cedar_cases, by default the one that rt ci built. It needs valgrind, and is no part of the gate.
 """
