@@ -14,6 +14,7 @@ pub mod request_envs;
 pub mod schemas;
 pub mod surveys;
 pub mod templates;
+pub mod typed_trees;
 pub mod types;
 pub mod walks;
 pub mod without_memory;

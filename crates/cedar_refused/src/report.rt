@@ -14,6 +14,7 @@ use crate::calls::policies::WholeCheck;
 use crate::calls::request_envs::{ENVIRONMENTS, UNDECLARED};
 use crate::calls::schemas::SCHEMAS;
 use crate::calls::templates::TEMPLATES;
+use crate::calls::typed_trees::TREES;
 use crate::calls::types::{BOUNDS, TYPES};
 use crate::calls::without_memory::{
     answers, capabilities, chain_cost, environments, levels, look_ups, passes, tables,
@@ -50,6 +51,7 @@ pub fn report<W: Write>(
     write_parts(alloc, basis, out)?;
     about_schemas(alloc, basis, out)?;
     write_table(alloc, basis, &CHECKS, out)?;
+    write_table(alloc, basis, &TREES, out)?;
     write_table(alloc, basis, &POLICIES, out)?;
     walks(alloc, basis, out)?;
     whole_checks(alloc, basis, out)?;

@@ -4,3 +4,5 @@ pub mod Verdicts
 pub mod Tallies
 pub mod ChecksLeft
 pub mod EachEnvironment
+pub mod Trees
+pub mod Expressions

@@ -15,6 +15,7 @@ pub mod Soundness
 pub mod Composition
 pub mod Representatives
 pub mod TypedCopies
+pub mod ExpressionCheck
 pub mod Refinement
 pub mod Examples
 pub mod Silence

@@ -12,6 +12,7 @@ use Rattle.cedar_typing.specs.Setting.{Setting}
 use Rattle.cedar_typing.specs.TypeTests.{accepts, bool_types, is_false, annotation_passes}
 use Rattle.cedar_typing.specs.TypedExpr.{Source, TypedTree, annotation, place_of}
 pub mod Outcome
+pub mod Trees
 
 -- what a check comes to: a success with the typed condition; a condition that is never true, with its errors; or errors alone
 pub data Verdict : Type 0 where

@@ -58,6 +58,8 @@ pub mod Calls
 pub mod Checks
 pub mod Policies
 pub mod EnvironmentChecks
+pub mod ExpressionChecks
+pub mod ConditionChecks
 
 -- what is typed in
 abbrev pub env_at : CheckerEnv → TypeEnv

@@ -2,6 +2,8 @@
 pub mod answer;
 mod capabilities;
 pub mod composition;
+mod condition_checks;
+mod expression_checks;
 mod expressions;
 mod joins;
 pub mod laws;
@@ -23,6 +25,8 @@ pub mod typed_copies;
 mod typed_nodes;
 mod variable_types;
 
+pub use condition_checks::ConditionCheck;
+pub use expression_checks::ExpressionCheck;
 pub use expressions::MAX_TYPED_DEPTH;
 pub use request_env_checks::RequestEnvChecks;
 pub use typechecker::{PolicyCheck, Typechecker};

@@ -8,6 +8,8 @@ mod checks;
 #[cfg(test)]
 mod deep_policies;
 #[cfg(test)]
+mod expressions;
+#[cfg(test)]
 mod follow_ups;
 #[cfg(test)]
 mod nesting;

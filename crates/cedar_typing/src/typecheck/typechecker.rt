@@ -1,29 +1,16 @@
 // The check of a policy in one environment.
-ghost use Rattle.std.specs.Prelude.{◌≡◌, IfOk, map, option_map};
+ghost use Rattle.std.specs.Prelude.{◌≡◌, IfOk, option_map};
 ghost use Rattle.cedar_types.specs.Expressions.View.{written};
 ghost use Rattle.cedar_types.specs.declared.base.types.ValidationMode.TheVariants.{Permissive, Strict};
-ghost use Rattle.cedar_types.specs.Errors.{finding_of};
 ghost use Rattle.cedar_types.specs.Templates.{template_of, condition_of, with_rest};
 ghost use Rattle.cedar_typing.specs.Views.Checks.{verdict_of, schema_by, extensions_by, mode_by, setting_for};
-ghost use Rattle.cedar_typing.specs.PolicyCheck.{PolicyChecks, policy_check, part_verdict};
+ghost use Rattle.cedar_typing.specs.PolicyCheck.{PolicyChecks, policy_check};
 ghost use Rattle.cedar_typing.specs.Soundness.PolicyCheck.{IsSoundPolicyCheck, IsSoundPolicyCheckIn};
 ghost use Rattle.cedar_typing.specs.TypedCopies.{CheckMeansTheSameIn};
-ghost use Rattle.cedar_typing.specs.Views.Settings.{setting_at};
-ghost use Rattle.cedar_typing.specs.Views.{env_at, part_of};
 
-use crate::typecheck::answer::Part;
-use crate::typecheck::capabilities::no_capabilities;
-use crate::typecheck::operands::Expected;
-use crate::typecheck::prior::Prior;
-use crate::typecheck::rules::decisions::Operands;
-use crate::typecheck::rules::short_circuit::Connective;
-use crate::typecheck::single_env::SingleEnvTypechecker;
-use crate::typecheck::type_env::TypeEnv;
-use crate::typecheck::type_tests::is_typed_false;
-use crate::typecheck::variable_types::VariableTypes;
 use cedar_types::base::{
-    ArgumentCheck, CedarType, Expr, ExtensionSchemas, Loc, Template, ValidationError,
-    ValidationMode, ValidatorSchema,
+    ArgumentCheck, CedarType, Expr, ExtensionSchemas, Template, ValidationError, ValidationMode,
+    ValidatorSchema,
 };
 use cedar_types::types::request_env::RequestEnv;
 use std::alloc::{AllocError, Global};
@@ -134,81 +121,8 @@ impl<'a, C: ArgumentCheck> Typechecker<'a, C> {
             (with_rest t.now.loc (written scope.now)
             (option_map written t.now.non_scope_constraints))) }
     {
-        let variables = VariableTypes::of_environment(alloc, self.schema, env)?;
-        let checker = SingleEnvTypechecker {
-            env: TypeEnv {
-                alloc,
-                schema: self.schema,
-                mode: self.mode,
-                request_env: env,
-                variables,
-                overloaded_types: self.extensions.overloaded_types(),
-                policy_id: &t.id,
-            },
-            extensions: self.extensions,
-        };
-        let check = checker.check_rest(t.loc, scope, &t.non_scope_constraints)?;
-        Ok(check)
-    }
-}
-
-impl<C: ArgumentCheck> SingleEnvTypechecker<'_, '_, '_, '_, C> {
-    /// The check of the scope's condition and the rest of the policy, which is typed where it stands: no copy of it is made,
-    /// and no part of it beyond the limit is visited.
-    fn check_rest(
-        &self,
-        loc: Option<Loc>,
-        scope: &Expr,
-        rest: &Option<Expr>,
-    ) -> Result<PolicyCheck, AllocError>
-        ensures { IfOk result (λ r.
-            verdict_of r
-            ≡ policy_check (setting_at C.refusal self.now)
-            (with_rest loc (written scope.now) (option_map written rest.now))) }
-    {
-        let mut errors = Vec::new(self.env.alloc);
-        let nothing = no_capabilities(self.env.alloc);
-        let known = Prior::of(&nothing);
-        match rest {
-            None => {
-                let part = self.type_part(&known, 1, Expected::Bool, scope, &mut errors)?;
-                Ok(verdict(part, errors))
-            }
-            Some(rest) => {
-                let operands = Operands {
-                    left: scope,
-                    right: rest,
-                };
-                let connective = Connective::And;
-                let answer = self.type_short_circuit(
-                    &known,
-                    1,
-                    loc,
-                    connective,
-                    operands,
-                    &mut errors,
-                )?;
-                let part = self.env.expect(Expected::Bool, loc, answer, &mut errors)?;
-                Ok(verdict(part, errors))
-            }
-        }
-    }
-}
-
-/// What the check of a condition comes to, by its typed copy and its errors. Without a copy a part was too deep.
-fn verdict(part: Option<Part<'_>>, errors: Vec<ValidationError>) -> PolicyCheck
-    ensures { verdict_of result
-        ≡ part_verdict (option_map part_of part.entry) (map finding_of errors.items) }
-{
-    let Some(part) = part else {
-        return PolicyCheck::Fail(errors);
-    };
-    if is_typed_false(&part.typed) {
-        return PolicyCheck::Irrelevant(errors, Box::into_inner(part.typed));
-    }
-    if part.succeeded {
-        PolicyCheck::Success(Box::into_inner(part.typed))
-    } else {
-        PolicyCheck::Fail(errors)
+        let checker = self.in_environment(alloc, &t.id, env)?;
+        let check = checker.check_condition(t.loc, scope, &t.non_scope_constraints)?;
+        Ok(check.into_policy_check())
     }
 }

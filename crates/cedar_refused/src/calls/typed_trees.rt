@@ -1,0 +1,78 @@
+// Checks that answer a typed tree wherever there is one: of an expression where it stands, and of a condition.
+use crate::calls::lines::{Basis, Probe};
+use crate::outcomes::{Outcome, finish};
+use crate::refusals::refuse;
+use crate::samples::texts::policy;
+use cedar_types::base::ValidationMode;
+use cedar_types::types::capability::CapabilitySet;
+use cedar_typing::typecheck::Typechecker;
+use std::alloc::{AllocError, Global};
+
+/// What is checked of a policy in the first environment of the schema, in Strict.
+#[derive(Clone, Copy)]
+pub enum OfPolicy {
+    /// Its condition.
+    Condition,
+    /// What its condition has beside the scope, where nothing is known.
+    Rest,
+}
+
+/// Checks it of the policy of this text.
+fn check_of_policy(
+    alloc: Global,
+    basis: Basis<'_>,
+    checked: OfPolicy,
+    text: &str,
+    number: u16,
+) -> Result<Outcome, AllocError> {
+    let (mode, schema) = (ValidationMode::Strict, basis.validator.schema());
+    let policy = policy(alloc, text)?;
+    let template = &*policy.template;
+    let checker = Typechecker::new(schema, basis.extensions, mode);
+    let mut envs = schema.unlinked_request_envs(mode);
+    let (Some(env), Some(rest)) = (envs.next(), &template.non_scope_constraints) else {
+        return Err(AllocError);
+    };
+    let nothing = CapabilitySet::new(alloc);
+    refuse(alloc, number);
+    match checked {
+        OfPolicy::Condition => {
+            let check = checker.typecheck_condition(alloc, template, &env);
+            finish(alloc, check, &policy)
+        }
+        OfPolicy::Rest => {
+            let check = checker.typecheck_expr(alloc, &template.id, &env, &nothing, rest);
+            finish(alloc, check, &policy)
+        }
+    }
+}
+
+impl Probe for OfPolicy {
+    fn run(
+        self,
+        alloc: Global,
+        basis: Basis<'_>,
+        text: &str,
+        number: u16,
+    ) -> Result<Outcome, AllocError> {
+        check_of_policy(alloc, basis, self, text, number)
+    }
+}
+
+/// Checks of conditions and of expressions, by what they show.
+pub const TREES: [(OfPolicy, &str); 2] = [
+    (
+        OfPolicy::Condition,
+        r#"
+Typechecker::typecheck_condition | Success | KNOWN
+Typechecker::typecheck_condition, that fails | UnsafeOptionalAttributeAccess | principal.nick == "a"
+"#,
+    ),
+    (
+        OfPolicy::Rest,
+        r#"
+Typechecker::typecheck_expr | TypecheckSuccess | principal has nick && principal.nick == "a"
+Typechecker::typecheck_expr, that fails | UnsafeOptionalAttributeAccess | principal.nick == "a"
+"#,
+    ),
+];
