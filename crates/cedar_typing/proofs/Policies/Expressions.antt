@@ -35,16 +35,16 @@ module _ (s : Setting) (e : Source) (prior : Caps) where
       let P : AnswerAndErrors → Type 0 = λ o. ExpressionChecks s e prior o.0 o.1 in
       subst P is (subst P (sym f.is) (by_rules f.answer f.added f.rules))
 
-  module _ (world : World) (sound : IsSoundAt s world e prior 1) (same : MeansTheSame s world e prior 1) where
+  module _ (world : World) (holds : IsSoundAt s world e prior 1) (copies : MeansTheSame s world e prior 1) where
     promised : (a : Answer) (es : List Finding) → ExpressionChecks s e prior a es → AnswerPromises world e a
     promised a es (expression_typed {t = t} {c = c} {x = x} h) = record {
-      typed = sound.typed t c x h;
-      safe = sound.safe t c x h;
-      known = sound.caps_hold_if_true t c x h;
-      same = same.derived t c x h;
+      typed = holds.typed t c x h;
+      safe = holds.safe t c x h;
+      known = holds.caps_hold_if_true t c x h;
+      same = copies.derived t c x h;
     }
     promised a es' (expression_refused {x = x} {es = es} h p) =
-        record { typed = sound.recovered x es h; same = same.recovered x es h }
+        record { typed = holds.recovered x es h; same = copies.recovered x es h }
     promised a es (expression_cut h p) = tt
 
   module _ (faults : has_fault s.env.schema ≡ false) (table : table_fault s.functions ≡ None) (a : Answer)
