@@ -19,7 +19,7 @@ use Rattle.cedar_typing.specs.TypedExpr.{Source, TypedTree, annotation}
 pub data ExpressionChecks (s : Setting) (e : Source) (prior : Caps) :
     Answer → List Finding → Type 0 where
   -- it has a type
-  expression_typed : {t : Ty} {c : Caps} {x : TypedTree}
+  expression_typed : (t : Ty) {c : Caps} {x : TypedTree}
       → Derives s e prior 1 t c x → ExpressionChecks s e prior (success x c) []
   -- it is refused, and typed all the same
   expression_refused : {x : TypedTree} {es es' : List Finding}

@@ -24,7 +24,7 @@ use Rattle.cedar_typing.proofs.TypedCopies.Laws.{copies_mean_the_same, copies_me
 
 module _ (s : Setting) (e : Source) (prior : Caps) where
   by_rules : (a : Answer) (es : List Finding) → Answers (rules s e prior 1) a es → ExpressionChecks s e prior a es
-  by_rules a es (a_derived h) = expression_typed h
+  by_rules a es (a_derived {t = t} h) = expression_typed t h
   by_rules a es (a_recovered h) = expression_refused h (IsPermutation-refl es)
   by_rules a es (a_cut h) = expression_cut h (IsPermutation-refl es)
 
@@ -37,7 +37,7 @@ module _ (s : Setting) (e : Source) (prior : Caps) where
 
   module _ (world : World) (holds : IsSoundAt s world e prior 1) (copies : MeansTheSame s world e prior 1) where
     promised : (a : Answer) (es : List Finding) → ExpressionChecks s e prior a es → AnswerPromises world e a
-    promised a es (expression_typed {t = t} {c = c} {x = x} h) = record {
+    promised a es (expression_typed t {c = c} {x = x} h) = record {
       typed = holds.typed t c x h;
       safe = holds.safe t c x h;
       known = holds.caps_hold_if_true t c x h;

@@ -21,12 +21,12 @@ module _ (s : Setting) (e : Source) where
   given false c x es o = refused_condition (c, o)
   given true c x es o =
       let g = good_operand s.env bool_types (place_of e) (rules s e no_caps 1) c x es (agrees s e no_caps 1).marks o in
-      typed_condition g.derived g.passes
+      typed_condition g.ty c g.derived g.passes
 
   by_answer : (g : Option Part) (es : List Finding)
       → OperandAnswer s.env bool_types (place_of e) (rules s e no_caps 1) g es
       → HasTypedCondition s e (option_map part_tree g)
-  by_answer g es (is_cut h) = cut_condition h
+  by_answer g es (is_cut h) = cut_condition es h
   by_answer g es (is_given {succeeded = succeeded} {c = c} {e = x} o) = given succeeded c x es o
 
   pub has_typed_condition : HasTypedCondition s e (condition_tree s e)

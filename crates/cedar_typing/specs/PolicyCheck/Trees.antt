@@ -14,13 +14,13 @@ use Rattle.cedar_typing.specs.TypedExpr.{Source, TypedTree, place_of}
 -- the typed copy of a condition, by the rules that `PolicyChecks` has of its verdict
 pub data HasTypedCondition (s : Setting) (e : Source) : Option TypedTree → Type 0 where
   -- it has a Boolean type
-  typed_condition : {t : Ty} {c : Caps} {x : TypedTree}
+  typed_condition : (t : Ty) (c : Caps) {x : TypedTree}
       → Derives s e no_caps 1 t c x → accepts bool_types t ≡ true → HasTypedCondition s e (Some x)
   -- it is refused, and typed all the same
   refused_condition : {x : TypedTree} {es : List Finding}
       → RefusedCondition s e x es → HasTypedCondition s e (Some x)
   -- a part is too deep
-  cut_condition : {es : List Finding} → Cuts s e no_caps 1 es → HasTypedCondition s e None
+  cut_condition : (es : List Finding) → Cuts s e no_caps 1 es → HasTypedCondition s e None
 
 -- ---- as a function
 

@@ -77,7 +77,7 @@ impl ConditionCheck {
 
     /// The check alone, without the tree of a failure.
     pub fn into_policy_check(self) -> PolicyCheck
-        ensures { verdict_of result ≡ verdict_seen self.entry }
+        ensures { verdict_of result ≡ verdict_seen self }
     {
         match self {
             ConditionCheck::Success(typed) => PolicyCheck::Success(typed),

@@ -17,7 +17,7 @@ returns-clause-exact g c =
     let t = template_of c.args.t.now in
     let e : Source = with_rest t.place (written c.in_ok-scope.scope) t.rest in
     let is : verdict_seen c.in_ok-check.check ≡ policy_check s (condition_of t) =
-    c.in_ok-check.ensures.verdict ∙ ap (λ (k : Setting). policy_check k e) c.in_ok-checker.ensures
+    c.in_ok-check.ensures.verdict ∙ ap (λ (k : Setting). policy_check k e) {y = s} c.in_ok-checker.ensures
     ∙ ap (λ (x : Source). policy_check s (with_rest t.place x t.rest)) c.in_ok-scope.ensures in
     let P : Verdict → Type 0 = λ v. PolicyChecks s (condition_of t) v in
     subst P (sym is) (checked s (condition_of t))
@@ -28,7 +28,7 @@ returns-clause-tree g c =
     let t = template_of c.args.t.now in
     let e : Source = with_rest t.place (written c.in_ok-scope.scope) t.rest in
     let is : tree_seen c.in_ok-check.check ≡ condition_tree s (condition_of t) =
-    c.in_ok-check.ensures.tree ∙ ap (λ (k : Setting). condition_tree k e) c.in_ok-checker.ensures
+    c.in_ok-check.ensures.tree ∙ ap (λ (k : Setting). condition_tree k e) {y = s} c.in_ok-checker.ensures
     ∙ ap (λ (x : Source). condition_tree s (with_rest t.place x t.rest)) c.in_ok-scope.ensures in
     let P : Option TypedTree → Type 0 = λ x. HasTypedCondition s (condition_of t) x in
     subst P (sym is) (has_typed_condition s (condition_of t))
