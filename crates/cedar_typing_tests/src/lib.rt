@@ -2,18 +2,4 @@
 #![tactic(auto)]
 
 #[cfg(test)]
-mod answers;
-#[cfg(test)]
-mod checks;
-#[cfg(test)]
-mod deep_policies;
-#[cfg(test)]
-mod expressions;
-#[cfg(test)]
-mod follow_ups;
-#[cfg(test)]
-mod nesting;
-#[cfg(test)]
-mod parts;
-#[cfg(test)]
-mod sequences;
+mod tests;

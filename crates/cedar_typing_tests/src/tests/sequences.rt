@@ -1,7 +1,7 @@
 // What follows up on a list of answers, which are made as they are taken.
 ghost use Rattle.std.specs.Iterator.{at_most};
 
-use crate::parts::{is_limit, is_long, knowing, knows, long, number};
+use crate::tests::parts::{is_limit, is_long, knowing, knows, long, number};
 use cedar_types::base::{CedarType, Expr};
 use cedar_types::types::capability::CapabilitySet;
 use cedar_typing::typecheck::answer::TypecheckAnswer;

@@ -1,5 +1,5 @@
 // What follows up on one answer.
-use crate::parts::{is_limit, is_long, knowing, knows, long, number};
+use crate::tests::parts::{is_limit, is_long, knowing, knows, long, number};
 use cedar_types::base::CedarType;
 use cedar_typing::typecheck::answer::TypecheckAnswer;
 use std::alloc::{AllocError, Global};

@@ -1,5 +1,5 @@
 // The check of an expression where it stands, and the typed condition of a check that fails.
-use crate::checks::permit_when;
+use crate::tests::checks::permit_when;
 use cedar_reading::schema;
 use cedar_types::base::{
     CedarType, Expr, ExtensionSchemas, Literal, PolicyID, ValidationMode, Var,

@@ -1,5 +1,5 @@
 // A policy far deeper than the limit: it is answered, and nothing recurses beyond the limit.
-use crate::checks::{check_policy, outcome, permit_when};
+use crate::tests::checks::{check_policy, outcome, permit_when};
 use cedar_types::base::{Expr, ExprKind, Literal, Template};
 use std::alloc::{AllocError, Global};
 use std::test::Fail;

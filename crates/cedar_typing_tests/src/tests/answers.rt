@@ -1,5 +1,5 @@
 // The three answers, and what is asked of each alone.
-use crate::parts::{is_failure, knowing, long, number};
+use crate::tests::parts::{is_failure, knowing, long, number};
 use cedar_types::base::CedarType;
 use cedar_typing::typecheck::answer::TypecheckAnswer;
 use std::test::Fail;

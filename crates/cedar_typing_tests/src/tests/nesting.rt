@@ -1,5 +1,5 @@
 // Checks of conditions that are nested as deep as allowed, and deeper.
-use crate::checks::{check, check_in, outcome, permit_when};
+use crate::tests::checks::{check, check_in, outcome, permit_when};
 use cedar_reading::{ReadError, condition};
 use cedar_types::base::{AttrChain, Expr, ValidationMode, Var};
 use std::alloc::{AllocError, Global};
