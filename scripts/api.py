@@ -5,7 +5,7 @@ fields. The sources are read line by line, as rt fmt lays them out. scripts/page
 """
 import re
 
-LIBRARIES = ("cedar_types", "cedar_typing", "cedar_typechecker", "cedar_reading", "cedar_json", "cedar_conformance", "cedar_data", "cedar_host")
+LIBRARIES = ("cedar_types", "cedar_typing", "cedar_typechecker", "cedar_reading", "cedar_json", "cedar_conformance", "cedar_data", "cedar_host", "cedar_texts")
 MODULE = re.compile(r"^(?:(pub) |pub\(\w+\) )?mod (\w+);", re.M)
 USE = re.compile(r"^pub use ([^;]+);", re.M)
 ITEM = re.compile(r" *pub (?:const )?(?P<kind>fn|struct|enum|trait|type|const) (?P<name>\w+)")

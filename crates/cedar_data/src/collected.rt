@@ -3,12 +3,13 @@ use crate::faults::{DataFault, Problem};
 use cedar_json::FormError;
 use cedar_types::base::{EntityUID, Loc, ValidatorEntityTypeKind, ValidatorSchema};
 use std::alloc::{AllocError, Global};
+use std::fmt;
 use std::rc::RcStr;
 
 /// How many mistakes of a text are listed.
 pub const MAX_FAULTS: usize = 100;
 
-/// The mistakes of a text: those that were found first, and whether there are more.
+/// The mistakes of a text: those that were found first, and whether there are more. They are shown on one line.
 #[derive(Debug, Drop)]
 pub struct Faults {
     listed: Vec<DataFault>,
@@ -52,6 +53,20 @@ impl Faults {
     /// Orders the mistakes by their places.
     pub(crate) fn sort(&mut self) -> Result<(), AllocError> {
         self.listed.sort_by_key(|it| (it.place.start, it.place.end))
+    }
+}
+
+impl fmt::Display for Faults {
+    fn fmt<W: fmt::Write>(&self, f: &mut fmt::Formatter<W>) -> fmt::Result {
+        for (count, fault) in self.listed.iter().enumerate() {
+            let before = if count == 0 { "" } else { "; " };
+            write!(
+                f,
+                "{before}at byte {}: {}",
+                fault.place.start, fault.problem
+            )?;
+        }
+        Ok(())
     }
 }
 

@@ -3,6 +3,7 @@
 #![tactic(auto)]
 
 mod checked_entities;
+mod checked_entries;
 mod checked_requests;
 mod closures;
 mod collected;
@@ -13,6 +14,7 @@ mod unfit;
 mod values;
 
 pub use checked_entities::{CheckedEntities, check_entities_text};
+pub use checked_entries::{CheckedEntry, check_entry_text};
 pub use checked_requests::{CheckedRequest, check_request_text};
 pub use closures::MAX_ANCESTORS;
 pub use collected::{ExtensionText, Faults, MAX_FAULTS};

@@ -78,6 +78,20 @@ impl<'a> List<'a> {
     }
 }
 
+/// Reads an entity whose parents are all that it is in. Without an id there is none.
+pub(crate) fn read_stored<'a>(
+    collected: &mut Collected<'_>,
+    item: &'a Value,
+) -> Result<Option<Listed<'a>>, AllocError> {
+    let Some(mut listed) = read_listed(collected, item)? else {
+        return Ok(None);
+    };
+    for parent in &listed.parents {
+        listed.entity.ancestors.insert(parent.id.clone()?)?;
+    }
+    Ok(Some(listed))
+}
+
 /// Reads an entity. Without an id there is none.
 fn read_listed<'a>(
     collected: &mut Collected<'_>,

@@ -16,17 +16,21 @@ pub(crate) fn add_unfit(collected: &mut Collected<'_>, list: &List<'_>) -> Resul
         if collected.faults.has_more() {
             return Ok(());
         }
-        let checked = check_entity(
-            collected.alloc,
-            collected.schema,
-            &listed.id,
-            &listed.entity,
-        )?;
-        if let Err(problem) = checked {
-            add_problems(collected, listed, problem)?;
-        }
+        add_unfit_one(collected, listed)?;
     }
     Ok(())
+}
+
+/// Lists the mistakes of an entity that is not as the schema says.
+pub(crate) fn add_unfit_one(
+    collected: &mut Collected<'_>,
+    listed: &Listed<'_>,
+) -> Result<(), AllocError> {
+    let (alloc, schema) = (collected.alloc, collected.schema);
+    match check_entity(alloc, schema, &listed.id, &listed.entity)? {
+        Ok(()) => Ok(()),
+        Err(problem) => add_problems(collected, listed, problem),
+    }
 }
 
 /// Lists the mistakes of an entity whose first one this is.

@@ -10,5 +10,6 @@ mod Promises
 mod Repeats
 mod Reported
 mod SameResponses
+mod LoadedParts
 mod SetLevels
 mod FoundInRounds

@@ -8,7 +8,7 @@ use Rattle.cedar_types.proofs.Schema.Places.{next_mapped}
 use Rattle.cedar_host.specs.SetLevels.{IsGreatest}
 
 -- what is one of the first is one of all
-in_taken : {A B : Type 0} (f : A → B) (i : ℕ) (xs : List A) (y : B) → IsOneOf y (map f (take i xs))
+pub in_taken : {A B : Type 0} (f : A → B) (i : ℕ) (xs : List A) (y : B) → IsOneOf y (map f (take i xs))
     → IsOneOf y (map f xs)
 in_taken f zero [] y h = h
 in_taken f zero (x ∷ xs) y h = absurd h

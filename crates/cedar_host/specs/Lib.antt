@@ -2,6 +2,7 @@ pub mod Admission
 pub mod Conditions
 pub mod Distinct
 pub mod LoadedOutcomes
+pub mod Loaders
 pub mod Loading
 pub mod Repeats
 pub mod ResponseExamples

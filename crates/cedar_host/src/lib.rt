@@ -7,7 +7,9 @@
 pub mod admission;
 pub mod conditions;
 pub mod extensions;
+pub mod held;
 pub mod loaded_outcomes;
+pub mod loaders;
 pub mod loading;
 pub mod policy_sets;
 pub mod reports;

@@ -84,7 +84,7 @@ fn add_held<E: Entities>(
     Ok(added)
 }
 
-fn append(all: &mut Vec<EntityUID>, more: Vec<EntityUID>) -> Result<(), AllocError>
+pub(crate) fn append(all: &mut Vec<EntityUID>, more: Vec<EntityUID>) -> Result<(), AllocError>
     ensures { OnOk result (
         map uid_of all.new.items ≡ map uid_of all.old.items ++ map uid_of more.items) }
 {

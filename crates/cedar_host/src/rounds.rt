@@ -32,6 +32,7 @@ impl Rounds {
         ensures distinct { IfOk result (λ rounds. AreDistinct (wanted_in rounds)) }
         ensures left { IfOk result (λ rounds. left_in rounds ≡ steps - 1) }
         ensures none { IfOk result (λ rounds. steps ≡ 0 → wanted_in rounds ≡ []) }
+        ensures found { IfOk result (λ rounds. AreAmong (wanted_in rounds) (ids_in rounds)) }
     {
         let mut ids = BTreeSet::new(alloc);
         if steps == 0 {
@@ -75,6 +76,8 @@ impl Rounds {
             → AreAfter start steps (with_round self (map uid_of held.now) done) next) }
         ensures wanted { IfOk result (λ next. AreAmong (wanted_in next) (map uid_of held.now)) }
         ensures fresh { IfOk result (λ next. AreNew (wanted_in next) (ids_in self)) }
+        ensures found { IfOk result (λ next. AreAmong (wanted_in next) (ids_in next)) }
+        ensures kept { IfOk result (λ next. AreAmong (ids_in self) (ids_in next)) }
         ensures distinct { IfOk result (λ next. AreDistinct (wanted_in next)) }
         ensures left { IfOk result (λ next. left_in next ≡ left_in self - 1) }
         ensures ends { IfOk result (λ next. left_in self ≡ 0 → wanted_in next ≡ []) }
@@ -99,6 +102,7 @@ impl Rounds {
 
     /// All ids that were wanted. Where none is wanted now, a store with their entries has the slice.
     pub fn into_ids(self) -> BTreeSet<EntityUID>
+        ensures ids { uids_of result ≡ ids_in self }
         ensures slices { FindSlices self (uids_of result) }
     {
         self.ids

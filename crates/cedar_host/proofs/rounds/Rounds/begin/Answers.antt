@@ -14,3 +14,8 @@ returns-clause-after c =
     after_first start c.args.steps _ some refl
     (subst (λ ks. AddsNew (map uid_of ks) start ids wanted) c.new-ids.ensures.empty
     c.in_ok-wanted.ensures.adds)
+
+pub returns-clause-found : goal.returns-clause-found
+returns-clause-found c =
+    let adds = c.in_ok-wanted.ensures.adds in
+    λ u i. adds.there u (adds.of_these u i)

@@ -15,3 +15,8 @@ returns-clause-after c =
     λ start steps done before.
     after_next start steps done c.args.self _ (map uid_of c.args.held.now) before more
     c.in_ok-wanted.ensures.adds refl
+
+pub returns-clause-found : goal.returns-clause-found
+returns-clause-found c =
+    let adds = c.in_ok-wanted.ensures.adds in
+    λ u i. adds.there u (adds.of_these u i)

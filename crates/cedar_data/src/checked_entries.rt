@@ -1,0 +1,97 @@
+// One entity at a time, checked by a schema, as a store gives it that does not fit into one text.
+ghost use Rattle.std.specs.Prelude.{IfOk, IfSome};
+ghost use Rattle.cedar_types.specs.Names.{uid_of};
+ghost use Rattle.cedar_types.specs.Schemas.Contents.{schema_of};
+ghost use Rattle.cedar_types.specs.Schemas.{type_named};
+ghost use Rattle.cedar_types.specs.Values.Stores.{FitsDeclaration};
+ghost use Rattle.cedar_conformance.specs.Entities.{entity_of};
+
+use crate::collected::{Collected, ExtensionText, Faults};
+use crate::faults::DataError;
+use crate::listed::{Listed, read_stored};
+use crate::unfit::add_unfit_one;
+use cedar_conformance::entities::Entity;
+use cedar_conformance::stored::check_entity;
+use cedar_json::value_alone;
+use cedar_types::base::{EntityUID, ValidatorSchema};
+use std::alloc::{AllocError, Global};
+
+/// What a text of an entity gives.
+#[derive(Debug, Drop)]
+pub struct CheckedEntry {
+    /// The entity with its id, where there is no mistake: it is as the schema says.
+    pub conforming: Option<(EntityUID, Entity)>,
+    /// The mistakes.
+    pub faults: Faults,
+    /// The texts that constructors of extension values are given. Whether these can read them is not asked.
+    pub texts: Vec<ExtensionText>,
+}
+
+/// Reads an entity in Cedar's form of JSON, and checks it by a schema. Unlike in a list, its `parents` are all that it is in, at
+/// any distance. The answer is an error where the text is no JSON that is read, or where memory is refused.
+pub fn check_entry_text(
+    alloc: Global,
+    schema: &ValidatorSchema,
+    text: &str,
+) -> Result<CheckedEntry, DataError>
+    ensures { IfOk result (λ c. IfSome c.conforming (λ e. FitsDeclaration (schema_of schema.now)
+        (uid_of e.0) (type_named (schema_of schema.now).types (uid_of e.0).entity_type)
+        (entity_of e.1))) }
+{
+    let value = value_alone(alloc, text)?;
+    let mut collected = Collected::new(alloc, schema);
+    let listed = read_stored(&mut collected, &value)?;
+    if let Some(listed) = &listed {
+        add_unfit_one(&mut collected, listed)?;
+    }
+    let Collected {
+        mut faults,
+        texts,
+        ..
+    } = collected;
+    faults.sort()?;
+    let conforming = keep_conforming(alloc, schema, listed, &faults)?;
+    Ok(CheckedEntry {
+        conforming,
+        faults,
+        texts,
+    })
+}
+
+/// The entity, where it is as the schema says and there is no mistake.
+fn keep_conforming(
+    alloc: Global,
+    schema: &ValidatorSchema,
+    listed: Option<Listed<'_>>,
+    faults: &Faults,
+) -> Result<Option<(EntityUID, Entity)>, AllocError>
+    ensures { IfOk result (λ o. IfSome o (λ e. FitsDeclaration (schema_of schema.now)
+        (uid_of e.0) (type_named (schema_of schema.now).types (uid_of e.0).entity_type)
+        (entity_of e.1))) }
+{
+    match listed {
+        Some(listed) => {
+            let Listed { id, entity, .. } = listed;
+            keep_fitting(alloc, schema, id, entity, faults)
+        }
+        None => Ok(None),
+    }
+}
+
+fn keep_fitting(
+    alloc: Global,
+    schema: &ValidatorSchema,
+    id: EntityUID,
+    entity: Entity,
+    faults: &Faults,
+) -> Result<Option<(EntityUID, Entity)>, AllocError>
+    ensures { IfOk result (λ o. IfSome o (λ e. FitsDeclaration (schema_of schema.now)
+        (uid_of e.0) (type_named (schema_of schema.now).types (uid_of e.0).entity_type)
+        (entity_of e.1))) }
+{
+    match check_entity(alloc, schema, &id, &entity)? {
+        Ok(()) if faults.is_empty() => Ok(Some((id, entity))),
+        Ok(()) => Ok(None),
+        Err(_problem) => Ok(None),
+    }
+}

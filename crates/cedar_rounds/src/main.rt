@@ -1,0 +1,83 @@
+//! A host whose entities are files, one for each: it loads the part of them that a request needs, in rounds.
+#![tactic(auto)]
+
+ghost use Rattle.std.specs.Prelude.{IfOk};
+ghost use Rattle.cedar_host.specs.Loaders.{HoldsSliceOf};
+
+use anyhow::{bail, ensure};
+use cedar_texts::*;
+use std::fs;
+use std::io::ErrorKind;
+
+/// How many steps the policies need: they were validated for slices of so many.
+const STEPS: u32 = 3;
+
+/// What the files have of the entities that a request needs. Of each store that has of the ids that were asked for what their
+/// files have, and nothing where there is no file, that has the slice of three steps.
+fn load(rt: &HostRuntime, schema: &ValidatorSchema, request: &Request) -> anyhow::Result<Loaded>
+    ensures { IfOk result (λ loaded. HoldsSliceOf request.now 3 loaded) }
+{
+    let mut loader = Loader::begin(rt.alloc(), request, STEPS)?;
+    for round in 0..STEPS {
+        let entries = read_round(rt, schema, round, loader.wanted())?;
+        loader = loader.hand_in(rt.alloc(), entries)?;
+    }
+    Ok(loader.finish())
+}
+
+/// The entries of the entities that a round wants, in their order.
+fn read_round(
+    rt: &HostRuntime,
+    schema: &ValidatorSchema,
+    round: u32,
+    wanted: &[EntityUID],
+) -> anyhow::Result<Vec<Option<Entity>>> {
+    let mut entries = Vec::new(rt.alloc());
+    for id in wanted {
+        let entry = read_entry(rt, schema, id)?;
+        let found = if entry.is_some() { "read" } else { "no file" };
+        println!(rt; "round {round}: {id}, {found}")?;
+        entries.push(entry)?;
+    }
+    Ok(entries)
+}
+
+/// The entry of an entity, if it has a file: that of `User::"ann"` is `User.ann.json`.
+fn read_entry(
+    rt: &HostRuntime,
+    schema: &ValidatorSchema,
+    id: &EntityUID,
+) -> anyhow::Result<Option<Entity>> {
+    let name = format!(in rt.alloc(); "{}.{}.json", id.entity_type, id.eid)?;
+    let text = match fs::read_to_string(rt, &name) {
+        Err(error) if error.kind() == ErrorKind::NotFound => return Ok(None),
+        read => read?,
+    };
+    let checked = check_entry_text(rt.alloc(), schema, &text)?;
+    let Some((own, entity)) = checked.conforming else {
+        bail!("{name}: {}", checked.faults);
+    };
+    ensure!(own == *id, "{name} is about {own}");
+    Ok(Some(entity))
+}
+
+fn main(rt: HostRuntime) -> anyhow::Result<()> {
+    let schema = schema(
+        rt.alloc(),
+        &fs::read_to_string(&rt, "documents.cedarschema")?,
+    )?;
+    let text = fs::read_to_string(&rt, "request.json")?;
+    let checked = check_request_text(rt.alloc(), &schema, &text)?;
+    let Some(request) = checked.conforming else {
+        bail!("request.json: {}", checked.faults);
+    };
+    let loaded = load(&rt, &schema, &request)?;
+    let (count, asked) = (loaded.entities.len(), loaded.ids.len());
+    println!(rt; "{count} of {asked} entities have a file")?;
+    for id in &loaded.ids {
+        if let Some(entity) = loaded.entities.get(id) {
+            println!(rt; "{id}: {} attributes", entity.attributes.len())?;
+        }
+    }
+    Ok(())
+}
