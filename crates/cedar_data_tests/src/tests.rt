@@ -1,5 +1,6 @@
 // Each subject has a module.
 mod entities;
+mod entries;
 mod forms;
 mod parents;
 mod requests;

@@ -1,5 +1,5 @@
 // What is found in texts, as lines.
-use cedar_data::{DataError, Faults, check_entities_text, check_request_text};
+use cedar_data::{DataError, Faults, check_entities_text, check_entry_text, check_request_text};
 use cedar_reading::{schema, uid_alone};
 use cedar_types::base::ValidatorSchema;
 use std::alloc::{AllocError, Global};
@@ -96,6 +96,23 @@ pub fn ancestors_shown(alloc: Global, text: &str, id: &str) -> Result<String, Al
         return String::from_str(alloc, "not stored");
     };
     let mut shown = String::new(alloc);
+    for ancestor in entity.ancestors.iter() {
+        write!(shown, "{ancestor} ")?;
+    }
+    Ok(shown)
+}
+
+/// An entity that stands alone, with its ancestors, or its mistakes.
+pub fn entry_shown(alloc: Global, text: &str) -> Result<String, AllocError> {
+    let schema = test_schema(alloc);
+    let checked = match check_entry_text(alloc, &schema, text) {
+        Ok(checked) => checked,
+        Err(error) => return error_shown(alloc, error),
+    };
+    let Some((id, entity)) = &checked.conforming else {
+        return format!(in alloc; "{}", checked.faults);
+    };
+    let mut shown = format!(in alloc; "{id} in ")?;
     for ancestor in entity.ancestors.iter() {
         write!(shown, "{ancestor} ")?;
     }

@@ -1,5 +1,5 @@
 // Entities that stand alone, each in a text of its own.
-use crate::shown::entry_shown;
+use crate::tests::shown::entry_shown;
 use std::process::Abort;
 use std::test::Fail;
 
