@@ -3,11 +3,11 @@
 
 ghost use Rattle.std.specs.Prelude.{IfOk};
 ghost use Rattle.cedar_host.specs.Safety.{sound_basis};
-ghost use Rattle.cedar_host.specs.Slices.{AllNeedSliceAlone};
+ghost use Rattle.cedar_gate.specs.Decisions.{AreDecided};
 
 use cedar_texts::*;
-use std::alloc::Global;
-use std::fs;
+use std::alloc::{AllocError, Global};
+use std::{fs, io};
 
 /// How many steps the slices have over which the authoriser evaluates.
 const STEPS: u32 = 2;
@@ -26,9 +26,10 @@ fn decide<'a, C: ArgumentCheck>(
     validator: &Validator<'_, C>,
     mode: SoundMode,
     policies: &'a [WrittenPolicy],
-) -> anyhow::Result<Decisions<'a>>
-    ensures { IfOk result (λ decisions. AllNeedSliceAlone
-        (sound_basis mode C.refusal validator.now) 2 decisions.admitted.items) }
+) -> Result<Decisions<'a>, AllocError>
+    ensures { IfOk result (λ decisions.
+        AreDecided (sound_basis mode C.refusal validator.now) 2 policies.now
+        decisions.admitted.items decisions.refused.items) }
 {
     let mut admitted = Vec::new(alloc);
     let mut refused = Vec::new(alloc);
@@ -43,12 +44,10 @@ fn decide<'a, C: ArgumentCheck>(
 }
 
 /// A policy and its verdict, and below it what speaks against it.
-fn show(rt: &HostRuntime, verdict: &str, of: &SliceReport<'_>) -> anyhow::Result<()> {
+fn show(rt: &HostRuntime, verdict: &str, of: &SliceReport<'_>) -> io::Result<()> {
     let policy = of.report.policy;
-    println!(rt;
-        "{verdict} {}, which {}s",
-        policy.template.id, policy.effect
-    )?;
+    let id = &policy.template.id;
+    println!(rt; "{verdict} {id}, which {}s", policy.effect)?;
     for error in &of.report.errors {
         println!(rt; "    error: {error}")?;
     }
@@ -58,7 +57,7 @@ fn show(rt: &HostRuntime, verdict: &str, of: &SliceReport<'_>) -> anyhow::Result
     Ok(())
 }
 
-fn main(rt: HostRuntime) -> anyhow::Result<()> {
+fn main(rt: HostRuntime) -> Result<(), HostError> {
     let alloc = rt.alloc();
     let checks = Checks {
         ip: Box::new(alloc, Constructor::Ip.check(alloc))?,
@@ -70,8 +69,8 @@ fn main(rt: HostRuntime) -> anyhow::Result<()> {
     let schema = schema(alloc, &fs::read_to_string(&rt, "documents.cedarschema")?)?;
     let validator = Validator::new(schema, &extensions);
     let policies = written_policies(alloc, &fs::read_to_string(&rt, "documents.cedar")?)?;
-    for id in &repeated_ids(alloc, &policies)? {
-        anyhow::bail!("more than one policy has the id {id}");
+    for id in repeated_ids(alloc, &policies)? {
+        return Err(HostError::RepeatedId(id));
     }
     let decisions = decide(alloc, &validator, SoundMode::Strict, &policies)?;
     for report in &decisions.admitted {

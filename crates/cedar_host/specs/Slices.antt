@@ -1,5 +1,5 @@
 -- What a host that loads slices may rely on, in its mode.
-use Rattle.std.specs.Prelude.{◌≡◌, ℕ, true, false, option_map, List, All}
+use Rattle.std.specs.Prelude.{◌≡◌, ℕ, true, false, option_map}
 use Rattle.cedar_types.specs.Templates.{PlainTemplate, template_of}
 use Rattle.cedar_typechecker.specs.Levels.Required.{IsRequiredLevel}
 use Rattle.cedar_typechecker.specs.Slices.Validation.{IsKeptInSlices}
@@ -28,8 +28,3 @@ pub record IsRightForSlices (b : Basis) (steps : ℕ) (r : SliceReport) : Type 0
   -- its level is the least at which the policy has no level error, if there is one
   pub level : IsRequiredLevel b (template_of r.report.policy.now.template)
       (option_map (λ l. l.level) r.level)
-
--- each of these reports is of a policy that needs the slice alone
-abbrev pub AllNeedSliceAlone : Basis → ℕ → List SliceReport → Type 0
-AllNeedSliceAlone b steps rs =
-    All (λ r. NeedsSliceAlone b (template_of r.report.policy.now.template) steps) rs

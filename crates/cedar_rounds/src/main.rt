@@ -4,17 +4,41 @@
 ghost use Rattle.std.specs.Prelude.{IfOk};
 ghost use Rattle.cedar_host.specs.Loaders.{HoldsSliceOf};
 
-use anyhow::{bail, ensure};
-use cedar_texts::*;
-use std::fs;
-use std::io::ErrorKind;
+use cedar_conformance::entities::Entity;
+use cedar_conformance::requests::Request;
+use cedar_data::{DataError, Faults, check_entry_text, check_request_text};
+use cedar_host::loaders::{Loaded, Loader};
+use cedar_reading::{SchemaReadError, schema};
+use cedar_types::base::{EntityUID, ValidatorSchema};
+use std::alloc::AllocError;
+use std::{fs, io};
+use thiserror::Error;
 
 /// How many steps the policies need: they were validated for slices of so many.
 const STEPS: u32 = 3;
 
+/// Why nothing is loaded.
+#[derive(Debug, Drop, Error)]
+enum LoadError {
+    #[error(transparent)]
+    Memory(#[from(alloc)] AllocError),
+    #[error(transparent)]
+    Io(#[from] io::Error),
+    #[error("the schema is refused: {0}")]
+    Schema(#[from] SchemaReadError),
+    #[error(transparent)]
+    Data(#[from] DataError),
+    #[error("request.json: {0}")]
+    UnfitRequest(Faults),
+    #[error("{0}: {1}")]
+    UnfitEntity(String, Faults),
+    #[error("{0} is about {1}")]
+    OtherEntity(String, EntityUID),
+}
+
 /// What the files have of the entities that a request needs. Of each store that has of the ids that were asked for what their
 /// files have, and nothing where there is no file, that has the slice of three steps.
-fn load(rt: &HostRuntime, schema: &ValidatorSchema, request: &Request) -> anyhow::Result<Loaded>
+fn load(rt: &HostRuntime, schema: &ValidatorSchema, request: &Request) -> Result<Loaded, LoadError>
     ensures { IfOk result (λ loaded. HoldsSliceOf request.now 3 loaded) }
 {
     let mut loader = Loader::begin(rt.alloc(), request, STEPS)?;
@@ -31,7 +55,7 @@ fn read_round(
     schema: &ValidatorSchema,
     round: u32,
     wanted: &[EntityUID],
-) -> anyhow::Result<Vec<Option<Entity>>> {
+) -> Result<Vec<Option<Entity>>, LoadError> {
     let mut entries = Vec::new(rt.alloc());
     for id in wanted {
         let entry = read_entry(rt, schema, id)?;
@@ -47,29 +71,29 @@ fn read_entry(
     rt: &HostRuntime,
     schema: &ValidatorSchema,
     id: &EntityUID,
-) -> anyhow::Result<Option<Entity>> {
+) -> Result<Option<Entity>, LoadError> {
     let name = format!(in rt.alloc(); "{}.{}.json", id.entity_type, id.eid)?;
     let text = match fs::read_to_string(rt, &name) {
-        Err(error) if error.kind() == ErrorKind::NotFound => return Ok(None),
+        Err(error) if error.kind() == io::ErrorKind::NotFound => return Ok(None),
         read => read?,
     };
     let checked = check_entry_text(rt.alloc(), schema, &text)?;
     let Some((own, entity)) = checked.conforming else {
-        bail!("{name}: {}", checked.faults);
+        return Err(LoadError::UnfitEntity(name, checked.faults));
     };
-    ensure!(own == *id, "{name} is about {own}");
+    if own != *id {
+        return Err(LoadError::OtherEntity(name, own));
+    }
     Ok(Some(entity))
 }
 
-fn main(rt: HostRuntime) -> anyhow::Result<()> {
-    let schema = schema(
-        rt.alloc(),
-        &fs::read_to_string(&rt, "documents.cedarschema")?,
-    )?;
+fn main(rt: HostRuntime) -> Result<(), LoadError> {
+    let text = fs::read_to_string(&rt, "documents.cedarschema")?;
+    let schema = schema(rt.alloc(), &text)?;
     let text = fs::read_to_string(&rt, "request.json")?;
     let checked = check_request_text(rt.alloc(), &schema, &text)?;
     let Some(request) = checked.conforming else {
-        bail!("request.json: {}", checked.faults);
+        return Err(LoadError::UnfitRequest(checked.faults));
     };
     let loaded = load(&rt, &schema, &request)?;
     let (count, asked) = (loaded.entities.len(), loaded.ids.len());

@@ -1,0 +1,25 @@
+// Why a host of texts cannot go on.
+use cedar_reading::{ReadError, SchemaReadError};
+use cedar_types::base::{ExtensionTableError, PolicyID};
+use std::alloc::AllocError;
+use std::io;
+use thiserror::Error;
+
+/// Why a host cannot go on: the first of what was found.
+#[derive(Debug, Drop, Error)]
+pub enum HostError {
+    #[error(transparent)]
+    Memory(#[from(alloc)] AllocError),
+    /// A file cannot be read, or a line cannot be written.
+    #[error(transparent)]
+    Io(#[from] io::Error),
+    #[error("the schema is refused: {0}")]
+    Schema(#[from] SchemaReadError),
+    #[error("a policy cannot be read: {0}")]
+    Policies(#[from] ReadError),
+    #[error("the functions have no table: {0}")]
+    Functions(#[from] ExtensionTableError),
+    /// Links and findings name a policy by its id.
+    #[error("more than one policy has the id {0}")]
+    RepeatedId(PolicyID),
+}
