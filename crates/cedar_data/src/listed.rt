@@ -86,8 +86,9 @@ pub(crate) fn read_stored<'a>(
     let Some(mut listed) = read_listed(collected, item)? else {
         return Ok(None);
     };
-    for parent in &listed.parents {
-        listed.entity.ancestors.insert(parent.id.clone()?)?;
+    let stored = &mut listed;
+    for parent in &stored.parents {
+        stored.entity.ancestors.insert(parent.id.clone()?)?;
     }
     Ok(Some(listed))
 }

@@ -33,7 +33,8 @@ fn decide<'a, C: ArgumentCheck>(
 {
     let mut admitted = Vec::new(alloc);
     let mut refused = Vec::new(alloc);
-    for report in validate_for_slices(alloc, validator, mode, STEPS, policies)? {
+    let reports = validate_for_slices(alloc, validator, mode, STEPS, policies)?;
+    for report in reports {
         if report.report.is_accepted {
             admitted.push(report)?;
         } else {

@@ -1,6 +1,6 @@
 -- The where-clause of a typed condition, by its tree: over a table with a row for each resource and a column for each of its
 -- attributes, which has of an entity its id. `:principal` stands for the principal. What has none is outside of the subset.
-use Rattle.std.specs.Prelude.{Bool, true, false, ◌||◌, List, ◌++◌, Option, Some, None, codes, nat_eq, if◌then◌else◌}
+use Rattle.std.specs.Prelude.{Bool, true, false, ◌||◌, ◌++◌, Option, Some, None, codes, nat_eq, if◌then◌else◌}
 use Rattle.std.specs.List.{list_any}
 use Rattle.std.specs.Fmt.{signed_decimal}
 use Rattle.cedar_types.specs.declared.base.expressions.operators.BinaryOp.{BinaryOp}
