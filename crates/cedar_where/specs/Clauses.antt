@@ -19,29 +19,29 @@ quoted mark s =
     then None
     else Some (mark ++ (s ++ mark))
 
--- whether a column has the values of a type
-abbrev pub is_flat : Option Ty → Bool
-is_flat (Some (TBool k)) = true
-is_flat (Some TLong) = true
-is_flat (Some TString) = true
-is_flat (Some (TEntity ts)) = true
-is_flat t = false
+-- a column, if it has the values of its type
+abbrev pub named : Ty → Text → Option Text
+named (TBool k) x = quoted (codes "\"") x
+named TLong x = quoted (codes "\"") x
+named TString x = quoted (codes "\"") x
+named (TEntity ts) x = quoted (codes "\"") x
+named t x = None
 
 -- an attribute of the resource
-abbrev pub column : Option Ty → TypedTree → Text → Option Text
-column t (var m Var.Resource) x = if is_flat t then quoted (codes "\"") x else None
-column t base x = None
+abbrev pub column : TypedTree → Option Ty → Text → Option Text
+column (var m Var.Resource) (Some t) x = named t x
+column base t x = None
 
 -- what typing decided
-abbrev pub truth : Option Ty → Option Text
-truth (Some (TBool BoolType.True)) = Some (codes "TRUE")
-truth (Some (TBool BoolType.False)) = Some (codes "FALSE")
+abbrev pub truth : Ty → Option Text
+truth (TBool BoolType.True) = Some (codes "TRUE")
+truth (TBool BoolType.False) = Some (codes "FALSE")
 truth t = None
 
 -- of a test by a literal
-abbrev pub decided : Option Ty → TypedTree → Option Text
-decided t (lit m x) = truth t
-decided t right = None
+abbrev pub decided : TypedTree → Option Ty → Option Text
+decided (lit m x) (Some t) = truth t
+decided right t = None
 
 abbrev pub both : Text → Option Text → Option Text → Option Text
 both word (Some a) (Some b) =
@@ -53,9 +53,9 @@ abbrev pub is_action : TypedTree → Bool
 is_action (var m Var.Action) = true
 is_action e = false
 
--- of two operands, with their clauses
-abbrev pub equality : Option Ty → TypedTree → TypedTree → Option Text → Option Text → Option Text
-equality t left right a b = if is_action left then decided t right else both (codes "=") a b
+-- of two operands, with the clause of their test
+abbrev pub equality : TypedTree → TypedTree → Option Ty → Option Text → Option Text
+equality left right t sides = if is_action left then decided right t else sides
 
 abbrev pub negated : Option Text → Option Text
 negated (Some a) = Some (codes "(NOT " ++ (a ++ codes ")"))
@@ -70,8 +70,8 @@ clause (var m Var.Principal) = Some (codes ":principal")
 clause (and m a b) = both (codes "AND") (clause a) (clause b)
 clause (or m a b) = both (codes "OR") (clause a) (clause b)
 clause (unary m UnaryOp.Not a) = negated (clause a)
-clause (binary m BinaryOp.Eq a b) = equality m.ty a b (clause a) (clause b)
+clause (binary m BinaryOp.Eq a b) = equality a b m.ty (both (codes "=") (clause a) (clause b))
 clause (binary m BinaryOp.Less a b) = both (codes "<") (clause a) (clause b)
 clause (binary m BinaryOp.LessEq a b) = both (codes "<=") (clause a) (clause b)
-clause (get_attr m a x) = column m.ty a x
+clause (get_attr m a x) = column a m.ty x
 clause e = None

@@ -5,7 +5,7 @@
 ghost use Rattle.std.specs.Prelude.{◌≡◌, IfOk, option_map, string_bytes};
 ghost use Rattle.cedar_types.specs.Types.{ty_of};
 ghost use Rattle.cedar_typing.specs.TypedExpr.{typed_tree};
-ghost use Rattle.cedar_where.specs.Clauses.{both, clause, column, decided, equality, negated, quoted};
+ghost use Rattle.cedar_where.specs.Clauses.{both, clause, column, decided, equality, named, negated, quoted, truth};
 
 use cedar_texts::*;
 use std::alloc::{AllocError, Global};
@@ -18,7 +18,6 @@ type Typed = Expr<Option<CedarType>>;
 type Clause = Result<Option<String>, AllocError>;
 
 /// The where-clause of a typed condition, as `specs/Clauses.antt` has it.
-#[cycle(clauses)]
 fn clause(alloc: Global, e: &Typed) -> Clause
     ensures { IfOk result (λ sql. clause (typed_tree e.now) ≡ option_map string_bytes sql) }
 {
@@ -28,87 +27,107 @@ fn clause(alloc: Global, e: &Typed) -> Clause
         ExprKind::Lit(Literal::Long(number)) => Ok(Some(number.to_string(alloc)?)),
         ExprKind::Lit(Literal::String(text)) => quoted(alloc, "'", text),
         ExprKind::Var(Var::Principal) => Ok(Some(String::from_str(alloc, ":principal")?)),
-        ExprKind::And(left, right) => both(alloc, left, "AND", right),
-        ExprKind::Or(left, right) => both(alloc, left, "OR", right),
-        ExprKind::UnaryApp(UnaryOp::Not, operand) => negated(alloc, operand),
-        ExprKind::BinaryApp(BinaryOp::Eq, left, right) => equality(alloc, e, left, right),
-        ExprKind::BinaryApp(BinaryOp::Less, left, right) => both(alloc, left, "<", right),
-        ExprKind::BinaryApp(BinaryOp::LessEq, left, right) => both(alloc, left, "<=", right),
+        ExprKind::And(left, right) => both(
+            alloc,
+            clause(alloc, left)?,
+            "AND",
+            clause(alloc, right)?,
+        ),
+        ExprKind::Or(left, right) => both(alloc, clause(alloc, left)?, "OR", clause(alloc, right)?),
+        ExprKind::UnaryApp(UnaryOp::Not, operand) => negated(alloc, clause(alloc, operand)?),
+        ExprKind::BinaryApp(BinaryOp::Eq, left, right) => {
+            let sides = both(alloc, clause(alloc, left)?, "=", clause(alloc, right)?)?;
+            equality(alloc, e, left, right, sides)
+        }
+        ExprKind::BinaryApp(BinaryOp::Less, left, right) => {
+            both(alloc, clause(alloc, left)?, "<", clause(alloc, right)?)
+        }
+        ExprKind::BinaryApp(BinaryOp::LessEq, left, right) => {
+            both(alloc, clause(alloc, left)?, "<=", clause(alloc, right)?)
+        }
         ExprKind::GetAttr(base, name) => column(alloc, e, base, name),
         _ => Ok(None),
     }
 }
 
-#[cycle(clauses)]
-fn both(alloc: Global, left: &Typed, word: &str, right: &Typed) -> Clause
+fn both(alloc: Global, left: Option<String>, word: &str, right: Option<String>) -> Clause
     ensures { IfOk result (λ sql.
-        both word.now (clause (typed_tree left.now)) (clause (typed_tree right.now))
+        both word.now (option_map string_bytes left) (option_map string_bytes right)
         ≡ option_map string_bytes sql) }
 {
-    let Some(left) = clause(alloc, left)? else {
-        return Ok(None);
-    };
-    let Some(right) = clause(alloc, right)? else {
+    let (Some(left), Some(right)) = (left, right) else {
         return Ok(None);
     };
     Ok(Some(format!(in alloc; "({left} {word} {right})")?))
 }
 
-#[cycle(clauses)]
-fn negated(alloc: Global, operand: &Typed) -> Clause
+fn negated(alloc: Global, operand: Option<String>) -> Clause
     ensures { IfOk result (λ sql.
-        negated (clause (typed_tree operand.now)) ≡ option_map string_bytes sql) }
+        negated (option_map string_bytes operand) ≡ option_map string_bytes sql) }
 {
-    let Some(operand) = clause(alloc, operand)? else {
+    let Some(operand) = operand else {
         return Ok(None);
     };
     Ok(Some(format!(in alloc; "(NOT {operand})")?))
 }
 
 /// Each environment has its action, so typing decided whether it is that of a literal, and the test cannot fail.
-#[cycle(clauses)]
-fn equality(alloc: Global, e: &Typed, left: &Typed, right: &Typed) -> Clause
+fn equality(alloc: Global, e: &Typed, left: &Typed, right: &Typed, sides: Option<String>) -> Clause
     ensures { IfOk result (λ sql.
-        equality (option_map ty_of e.now.annotation) (typed_tree left.now) (typed_tree right.now)
-        (clause (typed_tree left.now)) (clause (typed_tree right.now))
-        ≡ option_map string_bytes sql) }
+        equality (typed_tree left.now) (typed_tree right.now) (option_map ty_of e.now.annotation)
+        (option_map string_bytes sides) ≡ option_map string_bytes sql) }
 {
     match &left.kind {
         ExprKind::Var(Var::Action) => decided(alloc, e, right),
-        _ => both(alloc, left, "=", right),
+        _ => Ok(sides),
     }
 }
 
 fn decided(alloc: Global, e: &Typed, right: &Typed) -> Clause
     ensures { IfOk result (λ sql.
-        decided (option_map ty_of e.now.annotation) (typed_tree right.now)
+        decided (typed_tree right.now) (option_map ty_of e.now.annotation)
         ≡ option_map string_bytes sql) }
 {
-    match (&e.annotation, &right.kind) {
-        (Some(CedarType::Bool(BoolType::True)), ExprKind::Lit(_)) => {
-            Ok(Some(String::from_str(alloc, "TRUE")?))
-        }
-        (Some(CedarType::Bool(BoolType::False)), ExprKind::Lit(_)) => {
-            Ok(Some(String::from_str(alloc, "FALSE")?))
-        }
+    match (&right.kind, &e.annotation) {
+        (ExprKind::Lit(_), Some(ty)) => truth(alloc, ty),
         _ => Ok(None),
+    }
+}
+
+fn truth(alloc: Global, ty: &CedarType) -> Clause
+    ensures { IfOk result (λ sql. truth (ty_of ty.now) ≡ option_map string_bytes sql) }
+{
+    match ty {
+        CedarType::Bool(BoolType::True) => Ok(Some(String::from_str(alloc, "TRUE")?)),
+        CedarType::Bool(BoolType::False) => Ok(Some(String::from_str(alloc, "FALSE")?)),
+        CedarType::Bool(BoolType::AnyBool) => Ok(None),
+        CedarType::Never | CedarType::Long | CedarType::String => Ok(None),
+        CedarType::Set(_) | CedarType::AnySet | CedarType::Record { .. } => Ok(None),
+        CedarType::Entity(_) | CedarType::Extension(_) => Ok(None),
     }
 }
 
 /// A required attribute of the resource, if a column has the values of its type.
 fn column(alloc: Global, e: &Typed, base: &Typed, name: &str) -> Clause
     ensures { IfOk result (λ sql.
-        column (option_map ty_of e.now.annotation) (typed_tree base.now) name.now
+        column (typed_tree base.now) (option_map ty_of e.now.annotation) name.now
         ≡ option_map string_bytes sql) }
 {
-    match (&e.annotation, &base.kind) {
-        (Some(CedarType::Bool(_)), ExprKind::Var(Var::Resource)) => quoted(alloc, "\"", name),
-        (Some(CedarType::Long), ExprKind::Var(Var::Resource)) => quoted(alloc, "\"", name),
-        (Some(CedarType::String), ExprKind::Var(Var::Resource)) => quoted(alloc, "\"", name),
-        (Some(CedarType::Entity(EntityKind::Entity(_))), ExprKind::Var(Var::Resource)) => {
-            quoted(alloc, "\"", name)
-        }
+    match (&base.kind, &e.annotation) {
+        (ExprKind::Var(Var::Resource), Some(ty)) => named(alloc, ty, name),
         _ => Ok(None),
+    }
+}
+
+fn named(alloc: Global, ty: &CedarType, name: &str) -> Clause
+    ensures { IfOk result (λ sql. named (ty_of ty.now) name.now ≡ option_map string_bytes sql) }
+{
+    match ty {
+        CedarType::Bool(_) | CedarType::Long | CedarType::String => quoted(alloc, "\"", name),
+        CedarType::Entity(EntityKind::Entity(_)) => quoted(alloc, "\"", name),
+        CedarType::Entity(EntityKind::AnyEntity) => Ok(None),
+        CedarType::Never | CedarType::Set(_) | CedarType::AnySet => Ok(None),
+        CedarType::Record { .. } | CedarType::Extension(_) => Ok(None),
     }
 }
 
