@@ -13,9 +13,9 @@ pub returns-clause-goes_on : goal.returns-clause-goes_on
 returns-clause-goes_on c =
     let next = c.in_ok-rounds.ensures in
     let told =
-        ap (map uid_of) c.deref.ensures.value
-        ∙ c.in_ok-held.ensures
-        ∙ ap (flat_map (held_in (store_of c.add_in_order.new.entities))) c.wanted-2.ensures in
+    ap (map uid_of) c.deref.ensures.value
+    ∙ c.in_ok-held.ensures
+    ∙ ap (flat_map (held_in (store_of c.add_in_order.new.entities))) c.wanted-2.ensures in
     λ request steps.
     goes_on (reach (request_of request) [] 0) steps c.args.self _ (map uid_of c.deref.result.now)
     (λ done. next.after (reach (request_of request) [] 0) steps done)
