@@ -1,12 +1,12 @@
 // Checks that answer a typed tree wherever there is one: of an expression where it stands, and of a condition.
-use crate::calls::lines::{Basis, Probe};
+use crate::calls::lines::{Probe, Trial};
 use crate::outcomes::{Outcome, finish};
 use crate::refusals::refuse;
 use crate::samples::texts::policy;
 use cedar_types::base::ValidationMode;
 use cedar_types::types::capability::CapabilitySet;
 use cedar_typing::typecheck::Typechecker;
-use std::alloc::{AllocError, Global};
+use std::alloc::AllocError;
 
 /// What is checked of a policy in the first environment of the schema, in Strict.
 #[derive(Clone, Copy)]
@@ -18,13 +18,13 @@ pub enum OfPolicy {
 }
 
 /// Checks it of the policy of this text.
-fn check_of_policy(
-    alloc: Global,
-    basis: Basis<'_>,
-    checked: OfPolicy,
-    text: &str,
-    number: u16,
-) -> Result<Outcome, AllocError> {
+fn check_of_policy(checked: OfPolicy, trial: Trial<'_>) -> Result<Outcome, AllocError> {
+    let Trial {
+        alloc,
+        basis,
+        text,
+        number,
+    } = trial;
     let (mode, schema) = (ValidationMode::Strict, basis.validator.schema());
     let policy = policy(alloc, text)?;
     let template = &*policy.template;
@@ -48,14 +48,8 @@ fn check_of_policy(
 }
 
 impl Probe for OfPolicy {
-    fn run(
-        self,
-        alloc: Global,
-        basis: Basis<'_>,
-        text: &str,
-        number: u16,
-    ) -> Result<Outcome, AllocError> {
-        check_of_policy(alloc, basis, self, text, number)
+    fn run(self, trial: Trial<'_>) -> Result<Outcome, AllocError> {
+        check_of_policy(self, trial)
     }
 }
 
