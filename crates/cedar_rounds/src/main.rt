@@ -6,7 +6,9 @@ ghost use Rattle.cedar_host.specs.Loaders.{HoldsSliceOf};
 
 use cedar_conformance::entities::Entity;
 use cedar_conformance::requests::Request;
-use cedar_data::{DataError, Faults, check_entry_text, check_request_text};
+use cedar_data::{
+    CheckedEntry, CheckedRequest, DataError, Faults, check_entry_text, check_request_text,
+};
 use cedar_host::loaders::{Loaded, Loader};
 use cedar_reading::{SchemaReadError, schema};
 use cedar_types::base::{EntityUID, ValidatorSchema};
@@ -77,9 +79,13 @@ fn read_entry(
         Err(error) if error.kind() == io::ErrorKind::NotFound => return Ok(None),
         read => read?,
     };
-    let checked = check_entry_text(rt.alloc(), schema, &text)?;
-    let Some((own, entity)) = checked.conforming else {
-        return Err(LoadError::UnfitEntity(name, checked.faults));
+    let CheckedEntry {
+        conforming,
+        faults,
+        texts: _texts,
+    } = check_entry_text(rt.alloc(), schema, &text)?;
+    let Some((own, entity)) = conforming else {
+        return Err(LoadError::UnfitEntity(name, faults));
     };
     if own != *id {
         return Err(LoadError::OtherEntity(name, own));
@@ -91,9 +97,13 @@ fn main(rt: HostRuntime) -> Result<(), LoadError> {
     let text = fs::read_to_string(&rt, "documents.cedarschema")?;
     let schema = schema(rt.alloc(), &text)?;
     let text = fs::read_to_string(&rt, "request.json")?;
-    let checked = check_request_text(rt.alloc(), &schema, &text)?;
-    let Some(request) = checked.conforming else {
-        return Err(LoadError::UnfitRequest(checked.faults));
+    let CheckedRequest {
+        conforming,
+        faults,
+        texts: _texts,
+    } = check_request_text(rt.alloc(), &schema, &text)?;
+    let Some(request) = conforming else {
+        return Err(LoadError::UnfitRequest(faults));
     };
     let loaded = load(&rt, &schema, &request)?;
     let (count, asked) = (loaded.entities.len(), loaded.ids.len());
