@@ -38,11 +38,11 @@ fn check_of_policy(checked: OfPolicy, trial: Trial<'_>) -> Result<Outcome, Alloc
     match checked {
         OfPolicy::Condition => {
             let check = checker.typecheck_condition(alloc, template, &env);
-            finish(alloc, check, &policy)
+            finish(alloc, check, template)
         }
         OfPolicy::Rest => {
             let check = checker.typecheck_expr(alloc, &template.id, &env, &nothing, rest);
-            finish(alloc, check, &policy)
+            finish(alloc, check, template)
         }
     }
 }
