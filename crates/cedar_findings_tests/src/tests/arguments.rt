@@ -181,10 +181,13 @@ impl Question for AskedFor {
 
 /// Adds the files of the schema and of policies.
 fn push_files(got: &mut String, arguments: &Arguments) -> Result<(), AllocError> {
-    let mut before = "";
+    let mut is_first = true;
     for name in arguments.schemas.iter().chain(arguments.policies.iter()) {
-        write!(got, "{before}{name}")?;
-        before = ", ";
+        if !is_first {
+            got.push_str(", ")?;
+        }
+        is_first = false;
+        got.push_str(name.as_str())?;
     }
     Ok(())
 }

@@ -33,21 +33,28 @@ fn policies(rt: HostRuntime) -> Result<(), Fail> {
     let alloc = rt.alloc();
     let mut out = String::new(alloc);
     let level = Requirement::Level(EntityDerefLevel { level: 2 });
-    for (id, is_accepted, requirement) in [
-        ("x\ny", false, Requirement::Unsaid),
-        ("\\", true, Requirement::NoLevel),
-        ("\\", true, level),
-    ] {
-        let verdict = Verdict {
-            is_accepted,
-            requirement,
-            findings: Vec::new(alloc),
-            others: 0,
-            warnings: 0,
-        };
-        Objects.add(&mut out, Entry::Policy(PLACE, id, &verdict))?;
-    }
+    add_policy(&mut out, alloc, "x\ny", (false, Requirement::Unsaid))?;
+    add_policy(&mut out, alloc, "\\", (true, Requirement::NoLevel))?;
+    add_policy(&mut out, alloc, "\\", (true, level))?;
     assert_eq!(rt; out.as_str(), POLICIES.trim_start());
+    Ok(())
+}
+
+/// Adds a policy of this id, which is accepted or not.
+fn add_policy(
+    out: &mut String,
+    alloc: Global,
+    id: &str,
+    (is_accepted, requirement): (bool, Requirement),
+) -> Result<(), Fail> {
+    let verdict = Verdict {
+        is_accepted,
+        requirement,
+        findings: Vec::new(alloc),
+        others: 0,
+        warnings: 0,
+    };
+    Objects.add(out, Entry::Policy(PLACE, id, &verdict))?;
     Ok(())
 }
 
