@@ -53,8 +53,8 @@ pub data CutAt (d : ℕ) (C : Cut) : List Finding → Type 0 where
   by_part : {es : List Finding} → d ≤ max_nesting → C es → CutAt d C es
 
 -- only within the limit an expression is visited
-abbrev pub within : ℕ → Judgment → Judgment
-within d J = record {
+abbrev pub visited : ℕ → Judgment → Judgment
+visited d J = record {
   derives = λ t c e. (d ≤ max_nesting) × J.derives t c e;
   recovers = λ e es. (d ≤ max_nesting) × J.recovers e es;
   cuts = CutAt d J.cuts;

@@ -7,7 +7,7 @@ use Rattle.cedar_types.specs.Expressions.Tree.{field}
 use Rattle.cedar_types.specs.Expressions.View.{Written}
 use Rattle.cedar_typing.specs.Capabilities.{Caps}
 use Rattle.cedar_typing.specs.Eager.{Expectation, first_expectation, later_expectations}
-use Rattle.cedar_typing.specs.Judgments.{Derivation, Recovery, Cut, Judgment, within}
+use Rattle.cedar_typing.specs.Judgments.{Derivation, Recovery, Cut, Judgment, visited}
 use Rattle.cedar_typing.specs.Rules.Attributes.{has_form, get_form}
 use Rattle.cedar_typing.specs.Rules.Binary.{binary_form}
 use Rattle.cedar_typing.specs.Rules.Calls.{arguments, call_form}
@@ -49,45 +49,45 @@ abbrev mutual
   rules_within s (unknown m n) prior d = unknown_rules n m
   rules_within s (if_then_else m a b e) prior d =
       if_rules s.env m (place_of a)
-      (within (d + 1) (rules_within s a prior (d + 1)))
-      (λ known. within (d + 1) (rules_within s b known (d + 1)))
-      (within (d + 1) (rules_within s e prior (d + 1)))
+      (visited (d + 1) (rules_within s a prior (d + 1)))
+      (λ known. visited (d + 1) (rules_within s b known (d + 1)))
+      (visited (d + 1) (rules_within s e prior (d + 1)))
       prior
   rules_within s (and m a b) prior d =
       short_circuit_rules s.env conjunction m (place_of a) (place_of b)
-      (within (d + 1) (rules_within s a prior (d + 1)))
-      (λ known. within (d + 1) (rules_within s b known (d + 1)))
+      (visited (d + 1) (rules_within s a prior (d + 1)))
+      (λ known. visited (d + 1) (rules_within s b known (d + 1)))
       prior
   rules_within s (or m a b) prior d =
       short_circuit_rules s.env disjunction m (place_of a) (place_of b)
-      (within (d + 1) (rules_within s a prior (d + 1)))
-      (λ known. within (d + 1) (rules_within s b known (d + 1)))
+      (visited (d + 1) (rules_within s a prior (d + 1)))
+      (λ known. visited (d + 1) (rules_within s b known (d + 1)))
       prior
   rules_within s (unary m o a) prior d =
       one_operand_rules s.env (unary_form m o) (place_of a)
-      (within (d + 1) (rules_within s a prior (d + 1)))
+      (visited (d + 1) (rules_within s a prior (d + 1)))
   rules_within s (binary m o a b) prior d =
       two_operand_rules s.env (binary_form s.env m prior a b o) (place_of a) (place_of b)
-      (within (d + 1) (rules_within s a prior (d + 1)))
-      (within (d + 1) (rules_within s b prior (d + 1)))
+      (visited (d + 1) (rules_within s a prior (d + 1)))
+      (visited (d + 1) (rules_within s b prior (d + 1)))
   rules_within s (call m n ts) prior d =
       operand_list_rules (call_form s.env s.functions m n (arguments ts))
       (λ goes_on qs. rules_all s goes_on qs ts prior (d + 1))
   rules_within s (get_attr m e x) prior d =
       one_operand_rules s.env (get_form s.env m prior e x) (place_of e)
-      (within (d + 1) (rules_within s e prior (d + 1)))
+      (visited (d + 1) (rules_within s e prior (d + 1)))
   rules_within s (has_attr m e x) prior d =
       one_operand_rules s.env (has_form s.env m prior e x) (place_of e)
-      (within (d + 1) (rules_within s e prior (d + 1)))
+      (visited (d + 1) (rules_within s e prior (d + 1)))
   rules_within s (ext_has_attr m a x xs) prior d =
       one_operand_rules s.env (chain_form s.env m prior a x xs) (place_of a)
-      (within (d + 1) (rules_within s a prior (d + 1)))
+      (visited (d + 1) (rules_within s a prior (d + 1)))
   rules_within s (like m a p) prior d =
       one_operand_rules s.env (like_form m p) (place_of a)
-      (within (d + 1) (rules_within s a prior (d + 1)))
+      (visited (d + 1) (rules_within s a prior (d + 1)))
   rules_within s (is_type m a n) prior d =
       one_operand_rules s.env (is_form m n) (place_of a)
-      (within (d + 1) (rules_within s a prior (d + 1)))
+      (visited (d + 1) (rules_within s a prior (d + 1)))
   rules_within s (set_of m ts) prior d =
       operand_list_rules (set_form s.env m) (λ goes_on qs. rules_all s goes_on qs ts prior (d + 1))
   rules_within s (record_of m fs) prior d =
@@ -99,19 +99,19 @@ abbrev mutual
   rules_all s goes_on qs no_trees prior d = no_operands
   rules_all s goes_on qs (tree e es) prior d =
       one_more s.env goes_on (first_expectation qs) (place_of e)
-      (within d (rules_within s e prior d))
+      (visited d (rules_within s e prior d))
       (rules_all s goes_on (later_expectations qs) es prior d)
 
   -- the values of fields, the same way; none is visited after one that is too deep
   pub rules_fields : Setting → Fields Written → Caps → ℕ → Judgments
   rules_fields s no_fields prior d = no_operands
   rules_fields s (field k e fs) prior d =
-      one_more s.env false None (place_of e) (within d (rules_within s e prior d))
+      one_more s.env false None (place_of e) (visited d (rules_within s e prior d))
       (rules_fields s fs prior d)
 
 -- an expression at depth d, where prior is known
 abbrev pub rules : Setting → Source → Caps → ℕ → Judgment
-rules s e prior d = within d (rules_within s e prior d)
+rules s e prior d = visited d (rules_within s e prior d)
 
 -- e has this type and produces these capabilities, and this is its typed copy
 abbrev pub Derives : Setting → Source → Caps → ℕ → Derivation

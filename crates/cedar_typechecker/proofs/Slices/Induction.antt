@@ -14,7 +14,7 @@ use Rattle.cedar_typing.specs.Evaluation.Conformance.{Fits, SlotsBound, AllSlots
 use Rattle.cedar_typing.specs.Evaluation.Eval.{like_outcome, is_of, called, eval, eval_all, eval_fields}
 use Rattle.cedar_typing.specs.Evaluation.Outcomes.{on_value, on_values}
 use Rattle.cedar_typing.specs.Evaluation.World.{World, Outcome, Gives, call_value}
-use Rattle.cedar_typing.specs.Judgments.{Judgment, within}
+use Rattle.cedar_typing.specs.Judgments.{Judgment, visited}
 use Rattle.cedar_typing.specs.Rules.{rules, rules_within, rules_all, rules_fields}
 use Rattle.cedar_typing.specs.Rules.Chains.{chain_form}
 use Rattle.cedar_typing.specs.Rules.Calls.{arguments, call_form}
@@ -41,7 +41,7 @@ module _ (s : Setting) (world : World) (part : Store) (n : ℕ) (P : ℕ → Uid
   abbrev Same : Outcome → Outcome → Judgment → Type 0
   Same = IsSame (levels_in s n) P
 
-  deeper : (d : ℕ) {o o' : Outcome} {J : Judgment} → Same o o' J → Same o o' (within d J)
+  deeper : (d : ℕ) {o o' : Outcome} {J : Judgment} → Same o o' J → Same o o' (visited d J)
   deeper d {o} {o'} {J} i = within_same s world part n P a d o o' J i
 
   -- ---- all expressions, by type soundness and by the lemma on chains

@@ -15,7 +15,7 @@ use Rattle.cedar_typing.specs.Capabilities.{Caps}
 use Rattle.cedar_typing.specs.Evaluation.Conformance.{Fits}
 use Rattle.cedar_typing.specs.Evaluation.Eval.{literal_value, variable_value}
 use Rattle.cedar_typing.specs.Evaluation.World.{World, Outcome, Gives}
-use Rattle.cedar_typing.specs.Judgments.{Judgment, within}
+use Rattle.cedar_typing.specs.Judgments.{Judgment, visited}
 use Rattle.cedar_typing.specs.Rules.Leaves.{leaf, leaf_rules}
 use Rattle.cedar_typing.specs.Setting.{Setting}
 use Rattle.cedar_typing.specs.TypedExpr.{TypedTree}
@@ -33,7 +33,7 @@ module _ (s : Setting) (world : World) (part : Store) (n : ℕ) (P : ℕ → Uid
   Same = IsSame (levels_in s n) P
 
   pub within_same : (d : ℕ) (o o' : Outcome) (J : Judgment) → Same o o' J
-      → Same o o' (within d J)
+      → Same o o' (visited d J)
   within_same d o o' J i = record {
     checked = λ t c x h. i.checked t c x h.1;
     target = λ t c x h. i.target t c x h.1;

@@ -8,9 +8,10 @@ mod digested;
 mod digests;
 mod owners;
 
+pub use crate::types::capability::accesses::Accesses;
 pub use crate::types::capability::builder::CapabilitySetBuilder;
 pub use crate::types::capability::chain_steps::ChainStep;
-pub use crate::types::capability::digested::Capability;
+pub use crate::types::capability::digested::{Capability, Known};
 use crate::types::sorted_set::SortedSet;
 use std::alloc::{AllocError, Global};
 
@@ -21,7 +22,7 @@ pub struct CapabilitySet<'a> {
 }
 
 impl<'a> CapabilitySet<'a> {
-    ghost use Rattle.cedar_types.specs.Capability.{cap_of, caps, HasNone, HasJust, AddsJust, IsUnionOf, IsIntersectionOf, IsSame};
+    ghost use Rattle.cedar_types.specs.Capability.{among, cap_of, caps, HasNone, HasJust, AddsJust, IsUnionOf, IsIntersectionOf, IsSame};
 
     /// The empty set. It takes no memory.
     pub fn new(alloc: Global) -> CapabilitySet<'a>
@@ -46,6 +47,13 @@ impl<'a> CapabilitySet<'a> {
         ensures { result ≡ caps self.now (cap_of c.now) }
     {
         self.set.contains(c)
+    }
+
+    /// The capabilities, each once, in an order of their own.
+    pub fn as_slice(&self) -> &[Capability<'a>]
+        ensures { IsSame (caps self.now) (among result.now) }
+    {
+        self.set.as_slice()
     }
 
     /// Adds a capability. Where memory is refused, the answer is an `AllocError`, and the set is as it was.

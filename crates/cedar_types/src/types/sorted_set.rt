@@ -59,6 +59,13 @@ impl<T: Entry + Drop> SortedSet<T> {
         has_entry(&self.entries, entry)
     }
 
+    /// The entries, in ascending order.
+    pub fn as_slice(&self) -> &[T]
+        ensures { result.now ≡ self.now }
+    {
+        &self.entries
+    }
+
     /// Adds an entry. Where memory is refused, the answer is an `AllocError`, and the set is as it was.
     pub fn insert(&mut self, entry: T) -> Result<(), AllocError>
         ensures added { OnOk result (HasOneMore T.cmp self.old entry self.new) }

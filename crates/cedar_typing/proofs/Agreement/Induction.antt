@@ -12,7 +12,7 @@ use Rattle.cedar_typing.specs.Capabilities.{Caps}
 use Rattle.cedar_typing.specs.Eager.{Expectation, first_expectation, later_expectations}
 use Rattle.cedar_typing.specs.Infer.{unless_too_deep, infer, infer_within, infer_all, infer_fields}
 use Rattle.cedar_typing.specs.Infer.Parts.{Answer, limit, AnswerAndErrors}
-use Rattle.cedar_typing.specs.Judgments.{Judgment, max_nesting, too_deep, by_part, within}
+use Rattle.cedar_typing.specs.Judgments.{Judgment, max_nesting, too_deep, by_part, visited}
 use Rattle.cedar_typing.specs.Rules.{rules, rules_within, rules_all, rules_fields}
 use Rattle.cedar_typing.specs.Rules.Attributes.{has_form, get_form}
 use Rattle.cedar_typing.specs.Rules.Binary.{binary_form}
@@ -56,13 +56,13 @@ pub infer_as : (P : AnswerAndErrors → Type 0) (s : Setting) (prior : Caps) (d 
 infer_as P s prior d es within is so = subst P (sym (below_limit d es _ within)) (subst (λ x. P (infer_within s x prior d es)) (sym is) so)
 
 module _ (d : ℕ) (J : Judgment) where
-  within_answer : (a : Answer) (es : List Finding) → d ≤ max_nesting → Answers J a es → Answers (within d J) a es
+  within_answer : (a : Answer) (es : List Finding) → d ≤ max_nesting → Answers J a es → Answers (visited d J) a es
   within_answer a es h (a_derived s) = a_derived (h, s)
   within_answer a es h (a_recovered r) = a_recovered (h, r)
   within_answer a es h (a_cut c) = a_cut (by_part h c)
 
   within_by : (b : Bool) (es : List Finding) (o : AnswerAndErrors) → nat_lt max_nesting d ≡ b → Found J o es
-      → Found (within d J) (if b then (limit, es) else o) es
+      → Found (visited d J) (if b then (limit, es) else o) es
   within_by true es o h f =
       record {
         answer = limit;
@@ -84,13 +84,13 @@ module _ (d : ℕ) (J : Judgment) where
   below v es h = rw (is_within d h) refl
 
   within_only : (v : List Finding → AnswerAndErrors) → Agrees v J → (es : List Finding) (a : Answer)
-      (added : List Finding) → Answers (within d J) a added → unless_too_deep d es (v es) ≡ (a, es ++ added)
+      (added : List Finding) → Answers (visited d J) a added → unless_too_deep d es (v es) ≡ (a, es ++ added)
   within_only v j es a added (a_derived (h, s)) = below v es h ∙ j.only es _ _ (a_derived s)
   within_only v j es a added (a_recovered (h, r)) = below v es h ∙ j.only es _ _ (a_recovered r)
   within_only v j es a added (a_cut (by_part h c)) = below v es h ∙ j.only es _ _ (a_cut c)
   within_only v j es a added (a_cut (too_deep h)) = rw (is_past d h) (ap (λ l. (limit, l)) (sym (append-nil es)))
 
-  within_agrees : (v : List Finding → AnswerAndErrors) → Agrees v J → Agrees (λ es. unless_too_deep d es (v es)) (within d J)
+  within_agrees : (v : List Finding → AnswerAndErrors) → Agrees v J → Agrees (λ es. unless_too_deep d es (v es)) (visited d J)
   within_agrees v j =
       record {
         found = λ es. within_by (nat_lt max_nesting d) es (v es) refl (j.found es);

@@ -18,7 +18,7 @@ use Rattle.cedar_types.specs.Extensions.Functions.{table_fault, function_named}
 use Rattle.cedar_typing.specs.Capabilities.{Caps, no_caps}
 use Rattle.cedar_typing.specs.Eager.{Expectation, gives, refuses, first_expectation, later_expectations}
 use Rattle.cedar_typing.specs.Evaluation.Conformance.{IsOneOf, IsEnvironmentOf}
-use Rattle.cedar_typing.specs.Judgments.{Judgment, within}
+use Rattle.cedar_typing.specs.Judgments.{Judgment, visited}
 use Rattle.cedar_typing.specs.Rules.{rules, rules_within, rules_all, rules_fields}
 use Rattle.cedar_typing.specs.Rules.Attributes.{attribute_of, has_decides, get_decides, has_form, get_form}
 use Rattle.cedar_typing.specs.Rules.Binary.{binary_form}
@@ -153,7 +153,7 @@ module _ (Kept : Ty → Type 0) (env : TypeEnv) (keeps : IsKeeping Kept env) whe
 
 -- ---- all expressions
 
-pub within_kept : (Kept : Ty → Type 0) (d : ℕ) (J : Judgment) → KeepsTypes Kept J → KeepsTypes Kept (within d J)
+pub within_kept : (Kept : Ty → Type 0) (d : ℕ) (J : Judgment) → KeepsTypes Kept J → KeepsTypes Kept (visited d J)
 within_kept Kept d J s = record {
   derivations = λ t c x h. s.derivations t c x h.1;
   recoveries = λ x es h. s.recoveries x es h.1;
@@ -163,7 +163,7 @@ within_kept Kept d J s = record {
 module _ (Kept : Ty → Type 0) (s : Setting) (keeps : IsKeeping Kept s.env)
     (returns : (n : Path) → HasKept Kept (return_type (function_named n s.functions)))
     (variables : (x : Var) → HasKept Kept (variable_type s.env x)) where
-  deeper : {J : Judgment} (d : ℕ) → KeepsTypes Kept J → KeepsTypes Kept (within (d + 1) J)
+  deeper : {J : Judgment} (d : ℕ) → KeepsTypes Kept J → KeepsTypes Kept (visited (d + 1) J)
   deeper d = within_kept Kept (d + 1) _
 
   marks_of : (e : Source) (prior : Caps) (d : ℕ) → Marks (rules_within s e prior d).derives

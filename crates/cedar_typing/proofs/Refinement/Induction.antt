@@ -13,7 +13,7 @@ use Rattle.cedar_types.specs.Errors.{Finding}
 use Rattle.cedar_types.specs.Extensions.Functions.{function_named}
 use Rattle.cedar_typing.specs.Capabilities.{Caps}
 use Rattle.cedar_typing.specs.Eager.{Expectation, first_expectation, later_expectations}
-use Rattle.cedar_typing.specs.Judgments.{Judgment, within}
+use Rattle.cedar_typing.specs.Judgments.{Judgment, visited}
 use Rattle.cedar_typing.specs.Refinement.{in_mode, HasFormedTypes, StrictIsKept}
 use Rattle.cedar_typing.specs.Rules.{rules, rules_within, rules_all, rules_fields}
 use Rattle.cedar_typing.specs.Rules.Attributes.{has_form, get_form}
@@ -40,7 +40,7 @@ use Rattle.cedar_typing.proofs.Refinement.Parts.{not_nil, Refines, refines_itsel
 use Rattle.cedar_typing.proofs.Refinement.Tables.{strict_env, permissive_env, literal_same, variable_same, has_says, get_says, chain_says, record_says}
 use Rattle.cedar_typing.proofs.Refinement.Tables.{set_says, binary_says, binary_is}
 
-within_refines : (d : ℕ) (J J' : Judgment) → Refines J J' → Refines (within d J) (within d J')
+within_refines : (d : ℕ) (J J' : Judgment) → Refines J J' → Refines (visited d J) (visited d J')
 within_refines d J J' r = record {
   derivations = λ t c x h. (h.0, r.derivations t c x h.1);
   silences = λ x es h q. (h.0, r.silences x es h.1 q);
@@ -66,10 +66,10 @@ module _ (s : Setting) (formed : HasFormedTypes s) where
   bounds t u v k e = strict_bound_is_kept t u v k e
 
   -- the types of a part
-  kept : (e : Source) (prior : Caps) (d : ℕ) → KeepsTypes IsFormed (within d (rules_within one e prior d))
+  kept : (e : Source) (prior : Caps) (d : ℕ) → KeepsTypes IsFormed (visited d (rules_within one e prior d))
   kept e prior d = within_kept IsFormed d _ (kept_by IsFormed one keeps returns variables e prior d)
 
-  deeper : {J J' : Judgment} (d : ℕ) → Refines J J' → Refines (within (d + 1) J) (within (d + 1) J')
+  deeper : {J J' : Judgment} (d : ℕ) → Refines J J' → Refines (visited (d + 1) J) (visited (d + 1) J')
   deeper d r = within_refines (d + 1) _ _ r
 
   -- a call, by its errors in Strict: with none it is the same form in both modes, and else it always has an error
@@ -120,7 +120,7 @@ module _ (s : Setting) (formed : HasFormedTypes s) where
     refines_within (binary m o a b) prior d =
         subst (λ f. Refines (rules_within one (binary m o a b) prior d)
         (two_operand_rules (permissive_env s) f (place_of a) (place_of b)
-        (within (d + 1) (rules_within other a prior (d + 1))) (within (d + 1) (rules_within other b prior (d + 1)))))
+        (visited (d + 1) (rules_within other a prior (d + 1))) (visited (d + 1) (rules_within other b prior (d + 1)))))
         (binary_is s IsFormed bounds keeps.tags m prior a b o)
         (two_operands_refine IsFormed (binary_form (strict_env s) m prior a b o) _ _
         (binary_says s IsFormed bounds keeps.tags m prior a b o) (strict_env s) (permissive_env s) (place_of a) (place_of b) _ _ _ _

@@ -10,7 +10,7 @@ use Rattle.cedar_types.specs.Expressions.View.{Written}
 use Rattle.cedar_types.specs.Errors.{Finding}
 use Rattle.cedar_typing.specs.Capabilities.{Caps, no_caps, union}
 use Rattle.cedar_typing.specs.Eager.{Expectation, Decision, Form, first_expectation, later_expectations, types_found}
-use Rattle.cedar_typing.specs.Judgments.{Judgment, within}
+use Rattle.cedar_typing.specs.Judgments.{Judgment, visited}
 use Rattle.cedar_typing.specs.PolicyCheck.{check_true}
 use Rattle.cedar_typing.specs.Refinement.{in_mode, PermissiveIsKeptInPartial, SuccessIsKeptInPartial}
 use Rattle.cedar_typing.specs.Rules.{rules_within, rules_all, rules_fields}
@@ -47,7 +47,7 @@ itself J = record { derivations = λ t c x h. h }
 none_too : DeriveToo no_operands no_operands
 none_too = record { derivations = λ xs h. h }
 
-within_too : (d : ℕ) (J J' : Judgment) → DerivesToo J J' → DerivesToo (within d J) (within d J')
+within_too : (d : ℕ) (J J' : Judgment) → DerivesToo J J' → DerivesToo (visited d J) (visited d J')
 within_too d J J' r = record { derivations = λ t c x h. (h.0, r.derivations t c x h.1) }
 
 module _ (o o' : Option Ty) (m : Written) (node : Mark → TypedTree) (f : (t : Ty) → o ≡ Some t → o' ≡ Some t) where
@@ -121,7 +121,7 @@ module _ (s : Setting) where
       (more_too (wide s) (part s) f.goes_on (first_expectation f.expects) l J J' _ _ r
       (more_too (wide s) (part s) f.goes_on (first_expectation (later_expectations f.expects)) l' I I' no_operands no_operands r' none_too))
 
-  deeper : (d : ℕ) (J J' : Judgment) → DerivesToo J J' → DerivesToo (within (d + 1) J) (within (d + 1) J')
+  deeper : (d : ℕ) (J J' : Judgment) → DerivesToo J J' → DerivesToo (visited (d + 1) J) (visited (d + 1) J')
   deeper d J J' r = within_too (d + 1) J J' r
 
   mutual
@@ -145,7 +145,7 @@ module _ (s : Setting) where
     too_within (binary m o a b) prior d =
         subst (λ f. DerivesToo (rules_within one (binary m o a b) prior d)
         (two_operand_rules (part s) f (place_of a) (place_of b)
-        (within (d + 1) (rules_within other a prior (d + 1))) (within (d + 1) (rules_within other b prior (d + 1)))))
+        (visited (d + 1) (rules_within other a prior (d + 1))) (visited (d + 1) (rules_within other b prior (d + 1)))))
         (binary_is s m prior a b o)
         (two_too (binary_form (wide s) m prior a b o) _ _ (binary_too s m prior a b o) (place_of a) (place_of b) _ _ _ _
         (deeper d _ _ (too_within a prior (d + 1))) (deeper d _ _ (too_within b prior (d + 1))))

@@ -11,7 +11,7 @@ use Rattle.cedar_types.specs.Types.{Ty, TEntity}
 use Rattle.cedar_types.specs.Expressions.View.{Written}
 use Rattle.cedar_typing.specs.Capabilities.{Caps}
 use Rattle.cedar_typing.specs.Eager.{Expectation, first_expectation, later_expectations}
-use Rattle.cedar_typing.specs.Judgments.{Judgment, within}
+use Rattle.cedar_typing.specs.Judgments.{Judgment, visited}
 use Rattle.cedar_typing.specs.Rules.{rules, rules_within, rules_all, rules_fields}
 use Rattle.cedar_typing.specs.Rules.Attributes.{has_form, get_form}
 use Rattle.cedar_typing.specs.Rules.Binary.{binary_form}
@@ -47,7 +47,7 @@ module _ (m : Written) (node : Mark → TypedTree) (found : Option Ty) (there : 
   leaf_loud : Knows (leaf_rules found m node) → Loud (leaf_rules found m node)
   leaf_loud s = record { failures = leaf_failures; single = s }
 
-within_loud : (d : ℕ) (J : Judgment) → Loud J → Loud (within d J)
+within_loud : (d : ℕ) (J : Judgment) → Loud J → Loud (visited d J)
 within_loud d J h = record {
   failures = λ x es r. h.failures x es r.1;
   single = record { derivations = λ t c x r. h.single.derivations t c x r.1; marks = λ t c x r. h.single.marks t c x r.1 };

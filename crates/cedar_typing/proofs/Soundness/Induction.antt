@@ -23,7 +23,7 @@ use Rattle.cedar_typing.specs.Evaluation.Conformance.{Fits, IsEnvironmentOf, Slo
 use Rattle.cedar_typing.specs.Evaluation.Conformance.{KeepsTable, AllHold}
 use Rattle.cedar_typing.specs.Evaluation.Eval.{unary_outcome, eval}
 use Rattle.cedar_typing.specs.Evaluation.World.{World, Outcome}
-use Rattle.cedar_typing.specs.Judgments.{Judgment, within}
+use Rattle.cedar_typing.specs.Judgments.{Judgment, visited}
 use Rattle.cedar_typing.specs.Rules.{rules, rules_within, rules_all, rules_fields}
 use Rattle.cedar_typing.specs.Rules.Attributes.{has_form, get_form}
 use Rattle.cedar_typing.specs.Rules.Binary.{binary_form}
@@ -71,7 +71,7 @@ module _ (world : World) (o : Outcome) where
   unknown_sounds : (n : Path) (m : Written) → Sounds world o (unknown_rules n m)
   unknown_sounds n m = record { derivations = λ t c x h. absurd h; recoveries = unknown_recovered n m; marks = λ t c x h. absurd h }
 
-  within_sounds : (d : ℕ) (J : Judgment) → Sounds world o J → Sounds world o (within d J)
+  within_sounds : (d : ℕ) (J : Judgment) → Sounds world o J → Sounds world o (visited d J)
   within_sounds d J s = record {
     derivations = λ t c x h. s.derivations t c x h.1;
     recoveries = λ x es h. s.recoveries x es h.1;

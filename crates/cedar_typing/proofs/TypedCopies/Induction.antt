@@ -16,7 +16,7 @@ use Rattle.cedar_typing.specs.Evaluation.Eval.{unary_outcome, binary_outcome, ge
 use Rattle.cedar_typing.specs.Evaluation.Eval.{eval_all, eval_fields}
 use Rattle.cedar_typing.specs.Evaluation.Outcomes.{of_test, on_value, on_values, then_test, record_outcome}
 use Rattle.cedar_typing.specs.Evaluation.World.{World, Slots, Outcome, Gives, call_value}
-use Rattle.cedar_typing.specs.Judgments.{Judgment, within}
+use Rattle.cedar_typing.specs.Judgments.{Judgment, visited}
 use Rattle.cedar_typing.specs.Rules.{rules, rules_within, rules_all, rules_fields}
 use Rattle.cedar_typing.specs.Rules.Attributes.{has_form, get_form}
 use Rattle.cedar_typing.specs.Rules.Binary.{binary_form}
@@ -36,7 +36,7 @@ use Rattle.cedar_typing.proofs.TypedCopies.Same.{IsClosed, Told, told_left, Copi
 
 module _ (S : TypedTree → Type 0) (Known : Caps → Type 0) (R : Type 0) (s : Setting) (world : World) (b : Slots) (closed : IsClosed S)
     (gather : (c c' : Caps) → Known c → Known c' → Known (union c c')) where
-  deeper : (d : ℕ) {o : Outcome} {J : Judgment} → Copies S R world o J → Copies S R world o (within d J)
+  deeper : (d : ℕ) {o : Outcome} {J : Judgment} → Copies S R world o J → Copies S R world o (visited d J)
   deeper d {o} {J} i = within_copies S R world d o J i
 
   -- ---- operators

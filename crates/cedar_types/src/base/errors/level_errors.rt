@@ -25,7 +25,7 @@ pub struct LiteralDereferenceTarget {
 }
 
 /// A form was met that has no rule. Typing reports it of `hasTag` and `getTag` on what is Never, which comes up in
-/// Partial alone; the level pass will, on a base that is neither an entity of known types nor a record.
+/// Partial alone; the level pass does too, on a base that is neither an entity of known types nor a record.
 #[derive(PartialEq, Eq, PartialOrd, Ord, Hash, Debug, Drop, Error)]
 #[error("for policy `{policy_id}`, {0}", Message(self))]
 pub struct InternalInvariantViolation {

@@ -27,7 +27,7 @@ pub(crate) fn are_types_closed(types: &EntityTypeTable) -> bool
         types.now.declared.items }
 {
     for (place, entity_type) in types.declared.iter().enumerate() {
-        if !has_earlier_type(types, &entity_type.descendants, place)
+        if !has_earlier_type(types, entity_type, place)
             && !is_type_kept(types, &entity_type.descendants)
         {
             return false;
@@ -36,17 +36,20 @@ pub(crate) fn are_types_closed(types: &EntityTypeTable) -> bool
     true
 }
 
-/// Whether one of these types is declared before this place and has them as its descendants: types that are all in each other
-/// have the same ones, which are looked at once.
-fn has_earlier_type(types: &EntityTypeTable, names: &BTreeSet<EntityType>, place: usize) -> bool
+/// Whether one of a type's descendants is declared before this place and has the same descendants: types that are all in each
+/// other have, and these are looked at once. A type that is not among its own is in no such ring.
+fn has_earlier_type(types: &EntityTypeTable, of: &ValidatorEntityType, place: usize) -> bool
     ensures { result ≡ true
-        → list_any (λ t. pointwise path_eq t.descendants (types_of names.now))
+        → list_any (λ t. pointwise path_eq t.descendants (types_of of.now.descendants))
         (take place (types_in types.now)) ≡ true }
 {
-    for name in names.iter() {
+    if !of.descendants.contains(&of.name) {
+        return false;
+    }
+    for name in of.descendants.iter() {
         if let Some(found) = types.get_before(name, place) {
-            if found.descendants.len() == names.len() {
-                return found.descendants == *names;
+            if found.descendants.len() == of.descendants.len() {
+                return found.descendants == of.descendants;
             }
         }
     }
@@ -166,7 +169,7 @@ pub(crate) fn are_actions_closed(actions: &ActionTable) -> bool
         actions.now.declared.items }
 {
     for (place, action) in actions.declared.iter().enumerate() {
-        if !has_earlier_action(actions, &action.descendants, place)
+        if !has_earlier_action(actions, action, place)
             && !is_action_kept(actions, &action.descendants)
         {
             return false;
@@ -175,17 +178,20 @@ pub(crate) fn are_actions_closed(actions: &ActionTable) -> bool
     true
 }
 
-/// Whether one of these actions is declared before this place and has them as its descendants: actions that are all in each other
-/// have the same ones, which are looked at once.
-fn has_earlier_action(actions: &ActionTable, ids: &BTreeSet<EntityUID>, place: usize) -> bool
+/// Whether one of an action's descendants is declared before this place and has the same descendants: actions that are all in
+/// each other have, and these are looked at once. An action that is not among its own is in no such ring.
+fn has_earlier_action(actions: &ActionTable, of: &ValidatorActionId, place: usize) -> bool
     ensures { result ≡ true
-        → list_any (λ a. pointwise uid_eq a.descendants (uids_of ids.now))
+        → list_any (λ a. pointwise uid_eq a.descendants (uids_of of.now.descendants))
         (take place (actions_in actions.now)) ≡ true }
 {
-    for id in ids.iter() {
+    if !of.descendants.contains(&of.name) {
+        return false;
+    }
+    for id in of.descendants.iter() {
         if let Some(found) = actions.get_before(id, place) {
-            if found.descendants.len() == ids.len() {
-                return found.descendants == *ids;
+            if found.descendants.len() == of.descendants.len() {
+                return found.descendants == of.descendants;
             }
         }
     }

@@ -9,10 +9,11 @@ use std::rc::RcStr;
 
 /// An expression, and attributes that are taken of it one after the other: `e`, `e.x`, `e.x.y`.
 #[derive(Clone, Copy, Debug)]
-pub(crate) struct Accesses<'a> {
-    pub(crate) base: &'a Expr,
-    pub(crate) first: Option<&'a RcStr>,
-    pub(crate) rest: &'a [RcStr],
+pub struct Accesses<'a> {
+    pub base: &'a Expr,
+    pub first: Option<&'a RcStr>,
+    /// The attributes after the first.
+    pub rest: &'a [RcStr],
 }
 
 impl<'a> Accesses<'a> {

@@ -13,7 +13,7 @@ use std::rc::RcStr;
 
 /// What is known to be there: an attribute by its name, or a tag by the expression that gives its name.
 #[derive(PartialEq, Eq, PartialOrd, Ord, Drop, Debug)]
-enum Known<'a> {
+pub enum Known<'a> {
     Attribute(RcStr),
     Tag(ExprShapeOnly<'a>),
 }
@@ -92,6 +92,13 @@ impl<'a> Capability<'a> {
             on_expr: Owner::Lent(Accesses::none(on_expr)),
             known: Known::Tag(name),
         }
+    }
+
+    /// What it says, for a host that shows it: which expression, and what that has.
+    pub fn parts(&self) -> (Accesses<'_>, &Known<'a>)
+        ensures { cap_of self.now ≡ known_of (shape_at result.0) result.1.now }
+    {
+        (self.on_expr.accesses(), &self.known)
     }
 
     fn try_clone(&self, alloc: Global) -> Result<Capability<'a>, AllocError>

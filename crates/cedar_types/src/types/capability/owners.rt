@@ -1,7 +1,7 @@
 // What has an attribute or a tag.
 ghost use Rattle.std.specs.Prelude.{◌≡◌, IfOk};
 ghost use Rattle.std.specs.Ordering.{as_partial_cmp};
-ghost use Rattle.cedar_types.specs.Accesses.{shape_on, spine_at, spine_on, owner_eq, owner_cmp};
+ghost use Rattle.cedar_types.specs.Accesses.{shape_at, shape_on, spine_at, spine_on, owner_eq, owner_cmp};
 
 use crate::base::Expr;
 use crate::types::capability::accesses::{Accesses, compare};
@@ -19,8 +19,10 @@ pub(crate) enum Owner<'a> {
 }
 
 impl<'a> Owner<'a> {
-    fn accesses(&self) -> Accesses<'_>
-        ensures { spine_at result ≡ spine_on self.now }
+    /// The accesses, and what they are taken of.
+    pub(crate) fn accesses(&self) -> Accesses<'_>
+        ensures spine { spine_at result ≡ spine_on self.now }
+        ensures shape { shape_at result ≡ shape_on self.now }
     {
         match self {
             Owner::Lent(accesses) => *accesses,

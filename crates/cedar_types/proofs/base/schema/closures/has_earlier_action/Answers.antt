@@ -11,5 +11,5 @@ pub returns-then-len : goal.returns-then-len
 returns-then-len c = λ h.
     let found = c.in-Some-get_before.found.now in
     (found_within (λ x. uid_eq (uid_of c.in-Some.id.now) x.name) (take c.args.place (actions_in c.args.actions.now)) (declared_action found)
-    (sym c.in-Some-get_before.ensures)).passes (λ x. pointwise uid_eq x.descendants (uids_of c.args.ids.now))
-    (sym (keys_same uid_of _ uid_eq (uids_eq) found.descendants.keys c.args.ids.now.keys) ∙ sym c.eq.ensures ∙ h)
+    (sym c.in-Some-get_before.ensures)).passes (λ x. pointwise uid_eq x.descendants (uids_of c.args.of.now.descendants))
+    (sym (keys_same uid_of _ uid_eq (uids_eq) found.descendants.keys c.args.of.now.descendants.keys) ∙ sym c.eq.ensures ∙ h)

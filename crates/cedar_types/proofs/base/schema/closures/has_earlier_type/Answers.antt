@@ -12,5 +12,5 @@ pub returns-then-len : goal.returns-then-len
 returns-then-len c = λ h.
     let found = c.in-Some-get_before.found.now in
     (found_within (λ x. path_eq (type_of c.in-Some.name.now) x.name) (take c.args.place (types_in c.args.types.now)) (declared_type found)
-    (sym c.in-Some-get_before.ensures)).passes (λ x. pointwise path_eq x.descendants (types_of c.args.names.now))
-    (sym (keys_same type_of _ path_eq (λ a b. names_eq a.name b.name) found.descendants.keys c.args.names.now.keys) ∙ sym c.eq.ensures ∙ h)
+    (sym c.in-Some-get_before.ensures)).passes (λ x. pointwise path_eq x.descendants (types_of c.args.of.now.descendants))
+    (sym (keys_same type_of _ path_eq (λ a b. names_eq a.name b.name) found.descendants.keys c.args.of.now.descendants.keys) ∙ sym c.eq.ensures ∙ h)

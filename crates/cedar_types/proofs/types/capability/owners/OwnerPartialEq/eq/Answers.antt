@@ -8,5 +8,5 @@ pub returns : goal.returns
 unfolding owner_cmp
 returns c =
     c.is_eq.ensures
-    ∙ ap is_eq (c.compare.ensures ∙ (λ i. spine_cmp (c.accesses.ensures i) (c.accesses-2.ensures i)))
+    ∙ ap is_eq (c.compare.ensures ∙ (λ i. spine_cmp (c.accesses.ensures.spine i) (c.accesses-2.ensures.spine i)))
     ∙ sym (owner_cmp_ties c.args.self.now c.args.other.now)
