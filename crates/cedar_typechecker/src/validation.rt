@@ -1,6 +1,7 @@
 // The validation of a policy: the names in it, its scope, and its checks.
 ghost use Rattle.std.specs.Prelude.{◌≡◌, ◌++◌, IfOk, OnOk, IsPermutation, map, cond, [], ◌∷◌};
 ghost use Rattle.std.specs.BTreeMap.{keys};
+ghost use Rattle.cedar_types.specs.declared.base.types.ValidationMode.TheVariants.{Strict, Permissive};
 ghost use Rattle.cedar_types.specs.Errors.{warning_of};
 ghost use Rattle.cedar_types.specs.Schemas.Contents.{schema_of};
 ghost use Rattle.cedar_types.specs.Templates.{template_of};
@@ -8,6 +9,8 @@ ghost use Rattle.cedar_typing.specs.PolicyCheck.Outcome.{impossible};
 ghost use Rattle.cedar_typechecker.specs.Levels.Outcome.{name_findings, application_warnings, AreApart, ValidationOutcome};
 ghost use Rattle.cedar_typechecker.specs.Levels.Views.{findings};
 ghost use Rattle.cedar_typechecker.specs.Passes.{errors_left};
+ghost use Rattle.cedar_typechecker.specs.Slices.Validation.{WarnedIsNeverTrueIn};
+ghost use Rattle.cedar_typechecker.specs.Validations.{ValidIsSafeIn};
 ghost use Rattle.cedar_typechecker.specs.ValidatorViews.{schema_in, basis_in};
 
 use crate::rbac::{LiteralErrors, Validator};
@@ -26,6 +29,12 @@ impl<C: ArgumentCheck> Validator<'_, C> {
     /// Strict and in Permissive, and that the policy is impossible: irrelevant in each environment. Each environment is typed at
     /// most once, and one typed condition is held at a time.
     ///
+    /// In Strict and in Permissive a policy without errors does not go wrong, nor does one of which each error is an id that its
+    /// enumerated type does not list, so that there are no more than `validate_enum_entity` finds (clauses `silent` and
+    /// `silent_in_permissive`): evaluating it gives a boolean, or fails only for a missing entity, an overflow or an extension
+    /// function. A policy that is warned to be impossible is never true, with errors or without (clauses `never_true` and
+    /// `never_true_in_permissive`). What all this rests on: docs/THEOREMS.md, "The premises".
+    ///
     /// Where a part is nested too deep the check fails, and there need be no error: `typecheck_policy` answers `true` of no
     /// such policy. Where memory is refused, the answer is an `AllocError`.
     pub fn validate_policy(
@@ -37,6 +46,18 @@ impl<C: ArgumentCheck> Validator<'_, C> {
         ensures exact { IfOk result (λ r.
             ValidationOutcome (basis_in C.refusal self.now mode) (template_of p.now)
             (findings r.0.items) (map warning_of r.1.items)) }
+        ensures silent { IfOk result (λ r.
+            ValidIsSafeIn Strict (basis_in C.refusal self.now mode) (template_of p.now)
+            (findings r.0.items)) }
+        ensures never_true { IfOk result (λ r.
+            WarnedIsNeverTrueIn Strict (basis_in C.refusal self.now mode) (template_of p.now)
+            (map warning_of r.1.items)) }
+        ensures silent_in_permissive { IfOk result (λ r.
+            ValidIsSafeIn Permissive (basis_in C.refusal self.now mode) (template_of p.now)
+            (findings r.0.items)) }
+        ensures never_true_in_permissive { IfOk result (λ r.
+            WarnedIsNeverTrueIn Permissive (basis_in C.refusal self.now mode) (template_of p.now)
+            (map warning_of r.1.items)) }
     {
         let survey = self.survey(alloc, p, mode)?;
         let warnings = self.warnings(alloc, p, mode, survey.is_impossible())?;

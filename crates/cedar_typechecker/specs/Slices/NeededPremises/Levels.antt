@@ -73,12 +73,12 @@ pub record IrrelevantEnvironmentsCountIn (m : ValidationMode) : Type 0 where
 
 -- ---- what the promise says: the very same, and in each part
 
--- `principal.active && 9223372036854775807 + 1 < 1`
+-- `principal.active == (9223372036854775807 + 1 < 1)`, which fails over each store
 abbrev pub overflowing : PlainTemplate
-overflowing = policy_when (and tt (active_of principal) (less too_great one))
+overflowing = policy_when (equal (active_of principal) (less too_great one))
 
--- it fails over the store and over the slice, and not alike: the one sum is too great, and of the
--- other the principal is missing
+-- it fails over the store and over the slice, and not alike: over the one the sum is too great, and
+-- in the other the principal is missing
 pub record OneFailureIsNotAnotherIn (m : ValidationMode) : Type 0 where
   pub asked : IsAskedIn m (wiki_basis m) reading
   pub policy : IsAskedPolicy (wiki_basis m) overflowing reading
