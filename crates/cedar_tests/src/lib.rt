@@ -31,6 +31,8 @@ mod parts;
 #[cfg(test)]
 mod request_envs;
 #[cfg(test)]
+mod shown_capabilities;
+#[cfg(test)]
 mod subexpressions;
 #[cfg(test)]
 mod types;
