@@ -159,9 +159,9 @@ def instructions(words, room):
 
 
 def held(words, room):
-    """The bytes of output of a run, and the most memory that it has at a time, in KiB."""
+    """The bytes of output of a run in the room, and the most memory that it has at a time, in KiB."""
     with open(Path(room, "out"), "wb") as out:
-        run = subprocess.Popen(words, stdin=subprocess.DEVNULL, stdout=out)
+        run = subprocess.Popen(words, cwd=room, stdin=subprocess.DEVNULL, stdout=out)
         _, _, used = os.wait4(run.pid, 0)
     return Path(room, "out").stat().st_size, used.ru_maxrss
 
