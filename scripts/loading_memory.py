@@ -4,7 +4,7 @@
 PROGRAM is cedar_rounds, by default the one that rt ci built. It loads so many entities from files, of which each holds the ids of
 all, so that a round meets each id as often as there are entities. Printed is the most memory, beyond that of a run that loads one
 entity, for each id in the files. It passes where twice as many entities take at most 4.4 times as much: four times as many ids are
-stored then, and none is gathered again. It is no part of the gate.
+stored then, and what a round gathers beside the store grows no faster. It is no part of the gate.
 """
 import json
 import sys
@@ -33,7 +33,7 @@ def most_memory(program, count):
         for number in range(count):
             entity = {"uid": user(number), "attrs": {"all": everyone}, "parents": []}
             written(room, f"User.u{number}.json", json.dumps(entity))
-        output, most = held([program], room)
+        most = held([program], room)[1]
         said = Path(room, "out").read_text(encoding="utf8")
     if f"{count} of " not in said:
         sys.exit(f"{program} does not load {count} entities: {said[-300:]}")
