@@ -11,7 +11,7 @@ use Rattle.std.proofs.Math.Bool.{or-true}
 use Rattle.std.proofs.lemmas.Slice.Eq.{slice_eq-Decides}
 use Rattle.std.proofs.lemmas.List.{take-map}
 use Rattle.std.proofs.lemmas.List.Folds.{list_all-map, list_all-append}
-use Rattle.cedar_types.specs.Schemas.Closures.{has_all, is_below, is_kept}
+use Rattle.cedar_types.specs.Schemas.Closures.{has_all, is_below, is_kept, is_closed, are_kept}
 use Rattle.cedar_types.proofs.Schema.Places.{any_mapped, next_mapped}
 use Rattle.cedar_types.proofs.Tests.{Within, found, each, and_left, and_right, and_both, alike}
 
@@ -77,28 +77,21 @@ module _ {X B : Type 0} (same : B → B → Bool) (decides : (a b : B) → Decid
       all_pass (λ c. list_any (same c) ls) ns (λ c w. among_passes same decides (λ b. list_any (same b) ls) ms c h
       (each (λ b. list_any (same b) ms) ns c k w))
 
-  -- each set has what descends from its members
-  abbrev pub is_closed : List B → Bool
-  is_closed ds = list_all (λ b. has_all same ds (of b)) ds
-
-  abbrev pub is_all_kept : List B → Bool
-  is_all_kept ds = list_all (is_kept same own of xs ds) ds
-
-  below_closes : (n : ℕ) → ((ds : List B) → length ds < n → is_all_kept ds ≡ true → is_closed ds ≡ true)
-      → list_all (λ x. is_all_kept (own x)) xs ≡ true → (ds : List B) → length ds < suc n → (b : B)
+  below_closes : (n : ℕ) → ((ds : List B) → length ds < n → are_kept same own of xs ds ≡ true → is_closed same of ds ≡ true)
+      → list_all (λ x. are_kept same own of xs (own x)) xs ≡ true → (ds : List B) → length ds < suc n → (b : B)
       → list_any (is_below same own ds b) xs ≡ true → has_all same ds (of b) ≡ true
   below_closes n smaller kept ds below b h =
       let x = found (is_below same own ds b) xs h in
       let ls = own x.element in
       let outer = and_left (nat_lt (length ls) (length ds) && has_all same ds ls) (list_any (same b) ls) x.passes in
       let fewer = ltb-true (length ls) (length ds) (and_left (nat_lt (length ls) (length ds)) (has_all same ds ls) outer) in
-      let closed = smaller ls (omega (arith, fewer, below)) (each (λ x. is_all_kept (own x)) xs x.element kept x.within) in
+      let closed = smaller ls (omega (arith, fewer, below)) (each (λ x. are_kept same own of xs (own x)) xs x.element kept x.within) in
       has_through ds ls (of b) (and_right (nat_lt (length ls) (length ds)) (has_all same ds ls) outer)
       (among_passes same decides (λ c. has_all same ls (of c)) ls b closed
       (and_right (nat_lt (length ls) (length ds) && has_all same ds ls) (list_any (same b) ls) x.passes))
 
-  closed_below : (n : ℕ) → list_all (λ x. is_all_kept (own x)) xs ≡ true → (ds : List B) → length ds < n
-      → is_all_kept ds ≡ true → is_closed ds ≡ true
+  closed_below : (n : ℕ) → list_all (λ x. are_kept same own of xs (own x)) xs ≡ true → (ds : List B) → length ds < n
+      → are_kept same own of xs ds ≡ true → is_closed same of ds ≡ true
   closed_below zero kept ds below h = absurd (omega (arith, below))
   closed_below (suc n) kept ds below h =
       all_pass (λ b. has_all same ds (of b)) ds (λ b w.
@@ -106,13 +99,13 @@ module _ {X B : Type 0} (same : B → B → Bool) (decides : (a b : B) → Decid
       (below_closes n (closed_below n kept) kept ds below b))
 
   -- where each set is kept, each is closed
-  pub kept_closed : list_all (λ x. is_all_kept (own x)) xs ≡ true → list_all (λ x. is_closed (own x)) xs ≡ true
+  pub kept_closed : list_all (λ x. are_kept same own of xs (own x)) xs ≡ true → list_all (λ x. is_closed same of (own x)) xs ≡ true
   kept_closed kept =
-      all_pass (λ x. is_closed (own x)) xs (λ x w. closed_below (suc (length (own x))) kept (own x) (omega arith)
-      (each (λ x. is_all_kept (own x)) xs x kept w))
+      all_pass (λ x. is_closed same of (own x)) xs (λ x w. closed_below (suc (length (own x))) kept (own x) (omega arith)
+      (each (λ x. are_kept same own of xs (own x)) xs x kept w))
 
   -- a closed set is kept
-  pub closed_kept : (ds : List B) → is_closed ds ≡ true → is_all_kept ds ≡ true
+  pub closed_kept : (ds : List B) → is_closed same of ds ≡ true → are_kept same own of xs ds ≡ true
   closed_kept ds h =
       all_pass (is_kept same own of xs ds) ds
       (λ b w. ap (λ r. r || list_any (is_below same own ds b) xs) (each (λ b. has_all same ds (of b)) ds b h w))
@@ -120,7 +113,7 @@ module _ {X B : Type 0} (same : B → B → Bool) (decides : (a b : B) → Decid
   -- so is one whose members stand below x, or have their descendants in it
   pub widest_kept : (ds : List B) (x : X) → Within x xs → length (own x) < length ds
       → (has_all same ds (own x) && list_all (λ b. list_any (same b) (own x) || has_all same ds (of b)) ds) ≡ true
-      → is_all_kept ds ≡ true
+      → are_kept same own of xs ds ≡ true
   widest_kept ds x w fewer h =
       let wide = and_left (has_all same ds (own x)) (list_all (λ b. list_any (same b) (own x) || has_all same ds (of b)) ds) h in
       let rest = and_right (has_all same ds (own x)) (list_all (λ b. list_any (same b) (own x) || has_all same ds (of b)) ds) h in
@@ -134,7 +127,7 @@ module _ {X B : Type 0} (same : B → B → Bool) (decides : (a b : B) → Decid
 
   -- a closed set has what descends from a member of its, and what is asked besides
   pub closed_widest : (ds : List B) (x : X) (b : B) → of b ≡ own x → list_any (same b) ds ≡ true
-      → is_closed ds ≡ true → (has_all same ds (own x)
+      → is_closed same of ds ≡ true → (has_all same ds (own x)
       && list_all (λ b. list_any (same b) (own x) || has_all same ds (of b)) ds) ≡ true
   closed_widest ds x b is among h =
       and_both (has_all same ds (own x)) (list_all (λ b. list_any (same b) (own x) || has_all same ds (of b)) ds)
@@ -144,12 +137,12 @@ module _ {X B : Type 0} (same : B → B → Bool) (decides : (a b : B) → Decid
       ∙ or-true (list_any (same c) (own x))))
 
   -- a set is kept that is the same as one of some that are
-  pub earlier_kept : (ys : List X) (ds : List B) → list_all (λ x. is_all_kept (own x)) ys ≡ true
-      → list_any (λ x. pointwise same (own x) ds) ys ≡ true → is_all_kept ds ≡ true
+  pub earlier_kept : (ys : List X) (ds : List B) → list_all (λ x. are_kept same own of xs (own x)) ys ≡ true
+      → list_any (λ x. pointwise same (own x) ds) ys ≡ true → are_kept same own of xs ds ≡ true
   earlier_kept ys ds kept h =
       let x = found (λ x. pointwise same (own x) ds) ys h in
       let is : own x.element ≡ ds = (slice_eq-Decides {E = same} decides (own x.element) ds _ refl).0 x.passes in
-      ap is_all_kept (sym is) ∙ each (λ x. is_all_kept (own x)) ys x.element kept x.within
+      ap (are_kept same own of xs) (sym is) ∙ each (λ x. are_kept same own of xs (own x)) ys x.element kept x.within
 
 -- one more of the first elements passes
 pub all_next : {X Y : Type 0} (f : X → Y) (p : Y → Bool) (xs : List X) (i : ℕ) (x : X) → i < length xs
@@ -170,6 +163,12 @@ pub keys_same : {K B : Type 0} (f : K → B) (E : K → K → Bool) (same : B �
 keys_same f E same h ks ls =
     ap (λ e. pointwise e ks ls) (λ i a b. h a b i) ∙ sym (pointwise-map f same ks ls)
 
+-- a set whose order ties the keys that are seen the same, asked for what is seen of a key
+pub asked_for : {K B : Type 0} (cmp : K → K → Ordering) (f : K → B) (same : B → B → Bool)
+    → ((a b : K) → is_eq (cmp a b) ≡ same (f a) (f b)) → (q : K) (ks : List K)
+    → list_any (λ k. is_eq (cmp q k)) ks ≡ list_any (same (f q)) (map f ks)
+asked_for cmp f same ties q ks = ap (λ p. list_any p ks) (λ i k. ties q k i) ∙ any_mapped f (same (f q)) ks
+
 -- a set that is a subset by its order, by what is seen of its keys
 pub subset_is : {K B : Type 0} (cmp : K → K → Ordering) (f : K → B) (same : B → B → Bool)
     → ((a b : B) → Decides (same a b) (a ≡ b)) → ((a b : K) → is_eq (cmp a b) ≡ same (f a) (f b)) → (s t : List K)
@@ -179,7 +178,7 @@ pub subset_is : {K B : Type 0} (cmp : K → K → Ordering) (f : K → B) (same 
 subset_is {K = K} cmp f same decides ties s t r is = alike r (has_all same (map f t) (map f s)) to from
   where
     asked : (q : K) (ks : List K) → list_any (λ k. is_eq (cmp q k)) ks ≡ list_any (same (f q)) (map f ks)
-    asked q ks = ap (λ p. list_any p ks) (λ i k. ties q k i) ∙ any_mapped f (same (f q)) ks
+    asked q ks = asked_for cmp f same ties q ks
 
     own : (q : K) → is_eq (cmp q q) ≡ true
     own q = ties q q ∙ (decides (f q) (f q)).1 refl

@@ -3,11 +3,9 @@ use Rattle.std.proofs.Common.{◌≡◌, sym, ◌&&◌, not, List, map, Option, 
 use Rattle.std.specs.List.{list_any, list_all}
 use Rattle.std.proofs.lemmas.List.Folds.{list_all-map}
 use Rattle.cedar_types.specs.Names.{is_action_path, type_of}
-use Rattle.cedar_types.specs.Types.{types_of}
 use Rattle.cedar_types.specs.Schemas.Declarations.{declared_type, declared_action, declared, type_kind, applies, uids_of}
 use Rattle.cedar_types.specs.Schemas.{DeclaredType, DeclaredAction, later_fault, is_empty_enum, type_is_known, application_is_known}
-use Rattle.cedar_types.specs.Schemas.{declares_action, kind_is_definite, application_is_definite, is_among, uid_is_among, descendants_of}
-use Rattle.cedar_types.specs.Schemas.{descendants_of_action}
+use Rattle.cedar_types.specs.Schemas.{declares_action, kind_is_definite, application_is_definite, types_are_closed, actions_are_closed}
 use Rattle.cedar_types.specs.declared.base.schema.entity_types.ValidatorEntityType.{ValidatorEntityType}
 use Rattle.cedar_types.specs.declared.base.schema.actions.ValidatorActionId.{ValidatorActionId}
 use Rattle.cedar_types.specs.declared.base.schema.errors.SchemaError.{SchemaError}
@@ -27,11 +25,7 @@ seen_fault ts acts us bs =
     else if not (list_all (λ a. list_all (declares_action bs) (uids_of a.descendants)) acts) then Some UnknownActionDescendant
     else if not (list_all (λ t. kind_is_definite (type_kind t.kind)) ts
     && list_all (λ a. application_is_definite (applies a.kind)) acts) then Some VagueType
-    else if not (list_all (λ t. list_all (λ d. list_all (is_among (types_of t.descendants)) (descendants_of us d))
-    (types_of t.descendants)) ts
-    && list_all (λ a. list_all
-    (λ d. list_all (uid_is_among (uids_of a.descendants)) (descendants_of_action bs d)) (uids_of a.descendants))
-    acts) then Some DescendantsNotClosed
+    else if not (types_are_closed us && actions_are_closed bs) then Some DescendantsNotClosed
     else None
 
 pub fault_seen : (ts : List ValidatorEntityType) (acts : List ValidatorActionId)
@@ -51,10 +45,5 @@ fault_seen ts acts =
     else if not (sym (list_all-map (λ t. kind_is_definite t.kind) declared_type ts) i
     && sym (list_all-map (λ a. application_is_definite a.applies_to) declared_action acts) i)
     then Some VagueType
-    else if not
-    (sym
-    (list_all-map (λ t. list_all (λ d. list_all (is_among t.descendants) (descendants_of us d)) t.descendants)
-    declared_type ts) i && sym
-    (list_all-map (λ a. list_all (λ d. list_all (uid_is_among a.descendants) (descendants_of_action bs d))
-    a.descendants) declared_action acts) i) then Some DescendantsNotClosed
+    else if not (types_are_closed us && actions_are_closed bs) then Some DescendantsNotClosed
     else None

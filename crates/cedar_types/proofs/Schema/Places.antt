@@ -1,7 +1,10 @@
 -- Places of declarations, and what is found through them.
 use Rattle.std.proofs.Common.{◌≡◌, refl, sym, ap, ◌∙◌, arith, ℕ, zero, suc, Bool, true, false, cond, ◌||◌, List, [], ◌∷◌, ◌++◌, map, length, take, drop}
 use Rattle.std.proofs.Common.{get_or, ◌+◌, ◌<◌, ◌≤◌, Option, Some, None, is_some, option_map}
+use Rattle.std.specs.declared.cmp.Ordering.{Ordering}
 use Rattle.std.specs.Bool.{Decides}
+use Rattle.std.specs.Map.{lookup}
+use Rattle.std.specs.Ordering.{is_eq}
 use Rattle.std.specs.Option.{option_or}
 use Rattle.std.specs.List.{list_any, find, slice_get}
 use Rattle.std.specs.Borrow.{Bor}
@@ -57,6 +60,19 @@ find_mapped f p (x ∷ xs) =
 pub any_mapped : {X Y : Type 0} (f : X → Y) (p : Y → Bool) (xs : List X) → list_any (λ x. p (f x)) xs ≡ list_any p (map f xs)
 any_mapped f p [] = refl
 any_mapped f p (x ∷ xs) = ap (λ b. p (f x) || b) (any_mapped f p xs)
+
+-- ---- by names
+
+-- a test that decides equality asks the same both ways
+pub decided_symm : {K : Type 0} (same : K → K → Bool) → ((a b : K) → Decides (same a b) (a ≡ b)) → (a b : K) → same a b ≡ same b a
+decided_symm same decides a b =
+    same_from_decides (same a b) (same b a) (decides a b) (Decides-like (same b a) sym sym (decides b a))
+
+-- entries whose order ties the names that are the same are asked by name
+pub asked_by_name : {N K V : Type 0} (cmp : N → N → Ordering) (eq : N → N → Bool) (same : K → K → Bool) (key : N → K)
+    → ((a b : N) → eq a b ≡ is_eq (cmp a b)) → ((a b : N) → eq a b ≡ same (key a) (key b)) → (q : N) (es : List (N × V))
+    → lookup (λ n. is_eq (cmp q n)) es ≡ lookup (λ n. same (key q) (key n)) es
+asked_by_name cmp eq same key ties equal q es = ap (λ test. lookup test es) (λ i n. (sym (ties q n) ∙ equal q n) i)
 
 -- ---- what is found among the first n elements
 

@@ -5,11 +5,11 @@ ghost use Rattle.cedar_types.specs.Schemas.Formed.{has_formed_types};
 ghost use Rattle.cedar_types.specs.Schemas.Tables.{schema_in, actions_in};
 ghost use Rattle.cedar_types.specs.Environments.{declared_env, environments_of};
 
-mod action_tables;
 pub(crate) mod actions;
 mod attributes;
 pub(crate) mod choices;
 mod closures;
+mod declared;
 pub(crate) mod entity_types;
 mod environments;
 pub(crate) mod errors;
@@ -21,11 +21,11 @@ mod queries;
 mod references;
 pub(crate) mod request_environments;
 mod slot_links;
+mod tables;
 mod tag_types;
 mod type_faults;
 mod type_tables;
 
-use crate::base::schema::action_tables::ActionTable;
 use crate::base::schema::actions::ValidatorActionId;
 use crate::base::schema::entity_types::ValidatorEntityType;
 use crate::base::schema::environments::declared_environments;
@@ -34,7 +34,7 @@ use crate::base::schema::faults::find_fault;
 use crate::base::schema::forms::schemas_are_formed;
 use crate::base::schema::references::EntityReferences;
 use crate::base::schema::request_environments::UnlinkedRequestEnv;
-use crate::base::schema::type_tables::EntityTypeTable;
+use crate::base::schema::tables::{ActionTable, EntityTypeTable};
 use std::alloc::Global;
 
 /// The declarations of a schema, which have no fault, the environments of its actions, and for each of its types the set of it

@@ -7,9 +7,9 @@ ghost use Rattle.cedar_types.specs.Schemas.Tables.{actions_in};
 ghost use Rattle.cedar_types.specs.Environments.{declared_env, principal_environments, action_environments, environments_of};
 
 use crate::base::names::entities::{EntityType, EntityUID};
-use crate::base::schema::action_tables::ActionTable;
 use crate::base::schema::actions::ValidatorApplySpec;
 use crate::base::schema::request_environments::UnlinkedRequestEnv;
+use crate::base::schema::tables::ActionTable;
 use std::alloc::{AllocError, Global};
 
 /// One for each defined action, principal type and resource type that it applies to.

@@ -7,15 +7,14 @@ ghost use Rattle.cedar_types.specs.Schemas.Declarations.{type_kind, applies, dec
 ghost use Rattle.cedar_types.specs.Schemas.Tables.{types_in, actions_in, schema_in};
 ghost use Rattle.cedar_types.specs.Schemas.{later_fault, knows_type, is_empty_enum, names_pass, tags_pass, kind_names_pass, type_is_known, application_is_known, declares_action, is_vague, kind_is_definite, application_is_definite};
 
-use crate::base::schema::action_tables::ActionTable;
 use crate::base::schema::actions::ValidatorActionKind;
-use crate::base::schema::closures::{are_actions_closed, are_types_closed};
+use crate::base::schema::closures::are_closed;
 use crate::base::schema::entity_types::{ValidatorEntityType, ValidatorEntityTypeKind};
 use crate::base::schema::errors::SchemaError;
+use crate::base::schema::tables::{ActionTable, EntityTypeTable};
 use crate::base::schema::type_faults::{
     attribute_names_known, has_vague_attribute, is_record_type, type_is_vague, type_names_known,
 };
-use crate::base::schema::type_tables::EntityTypeTable;
 use crate::base::types::CedarType;
 
 /// The first fault but those of names that are declared twice.
@@ -40,7 +39,7 @@ pub(crate) fn find_fault(types: &EntityTypeTable, actions: &ActionTable) -> Opti
     if !(are_types_definite(types) && are_applications_definite(actions)) {
         return Some(SchemaError::VagueType);
     }
-    if !(are_types_closed(types) && are_actions_closed(actions)) {
+    if !(are_closed(types) && are_closed(actions)) {
         return Some(SchemaError::DescendantsNotClosed);
     }
     None

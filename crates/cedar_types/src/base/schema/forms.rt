@@ -5,10 +5,9 @@ ghost use Rattle.cedar_types.specs.Schemas.Declarations.{type_kind, applies, dec
 ghost use Rattle.cedar_types.specs.Schemas.Formed.{kind_is_formed, application_is_formed, has_formed_types};
 ghost use Rattle.cedar_types.specs.Schemas.Tables.{schema_in};
 
-use crate::base::schema::action_tables::ActionTable;
 use crate::base::schema::actions::{ValidatorActionId, ValidatorActionKind};
 use crate::base::schema::entity_types::{ValidatorEntityType, ValidatorEntityTypeKind};
-use crate::base::schema::type_tables::EntityTypeTable;
+use crate::base::schema::tables::{ActionTable, EntityTypeTable};
 use crate::base::type_laws::{attributes_are_well_formed, types_are_well_formed};
 
 /// Each attribute, tag and context of a schema has a well-formed type.

@@ -10,7 +10,7 @@ ghost use Rattle.cedar_types.specs.Values.Stores.{MembershipsAreAllowed};
 
 use crate::base::names::entities::{EntityType, EntityUID};
 use crate::base::schema::ValidatorSchema;
-use crate::base::schema::closures::has_type;
+use crate::base::schema::closures::has_descendant;
 use crate::base::schema::entity_types::ValidatorEntityTypeKind;
 use crate::base::types::entity_sets::EntityLUB;
 use std::collections::BTreeSet;
@@ -76,7 +76,7 @@ impl ValidatorSchema {
             (type_of left.now) }
     {
         match self.types.get(right) {
-            Some(declared) => has_type(&declared.descendants, left),
+            Some(declared) => has_descendant(declared, left),
             None => false,
         }
     }

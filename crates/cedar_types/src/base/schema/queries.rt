@@ -9,12 +9,11 @@ ghost use Rattle.cedar_types.specs.Schemas.Contents.{schema_of};
 
 use crate::base::names::entities::{EntityType, EntityUID};
 use crate::base::schema::ValidatorSchema;
-use crate::base::schema::action_tables::ActionTable;
 use crate::base::schema::actions::ValidatorActionId;
 use crate::base::schema::entity_types::ValidatorEntityType;
 use crate::base::schema::memberships::is_same_type;
 use crate::base::schema::references::EntityReferences;
-use crate::base::schema::type_tables::EntityTypeTable;
+use crate::base::schema::tables::{ActionTable, EntityTypeTable};
 use std::alloc::{AllocError, Global};
 use std::collections::BTreeSet;
 

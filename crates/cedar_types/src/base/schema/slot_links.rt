@@ -8,7 +8,7 @@ ghost use Rattle.cedar_types.specs.Environments.LinkViews.{link_of};
 
 use crate::base::names::entities::EntityType;
 use crate::base::schema::ValidatorSchema;
-use crate::base::schema::closures::has_type;
+use crate::base::schema::closures::has_descendant;
 use crate::base::templates::constraints::PrincipalOrResourceConstraint;
 use std::alloc::{AllocError, Global};
 
@@ -75,7 +75,7 @@ fn add_types_above_and_own<'a>(
         (types_above (schema_of schema.now).types (type_of own.now) ++ (type_of own.now ∷ []))) }
 {
     for declared in &schema.types.declared {
-        if has_type(&declared.descendants, own) {
+        if has_descendant(declared, own) {
             links.push(Some(&declared.name))?;
         }
     }

@@ -4,7 +4,7 @@ ghost use Rattle.cedar_types.specs.Types.{ty_of, attributes_of, kind_of};
 ghost use Rattle.cedar_types.specs.Schemas.Tables.{types_in};
 ghost use Rattle.cedar_types.specs.Schemas.{knows_type, names_pass, attr_names_pass, is_vague, are_vague, is_vague_bool, is_record};
 
-use crate::base::schema::type_tables::EntityTypeTable;
+use crate::base::schema::tables::EntityTypeTable;
 use crate::base::types::{Attributes, BoolType, CedarType, EntityKind, OpenTag};
 
 /// Whether each entity type that a type names, at any depth, is known.

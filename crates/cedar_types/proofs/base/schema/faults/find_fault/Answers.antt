@@ -44,8 +44,8 @@ returns-then-not-are_applications_definite c =
     (types_in c.args.types.now) (actions_in c.args.actions.now) = search rules in
     seen ∙ fault_seen c.args.types.now.declared.items c.args.actions.now.declared.items
 
-pub returns-then-not-are_actions_closed : goal.returns-then-not-are_actions_closed
-returns-then-not-are_actions_closed c =
+pub returns-then-not-are_closed : goal.returns-then-not-are_closed
+returns-then-not-are_closed c =
     let seen : Some DescendantsNotClosed
     ≡ seen_fault c.args.types.now.declared.items c.args.actions.now.declared.items (types_in c.args.types.now)
     (actions_in c.args.actions.now) = search rules in

@@ -1,7 +1,0 @@
-use Rattle.std.proofs.Common.{◌∙◌}
-use Rattle.cedar_types.specs.Names.{uid_of}
-use Rattle.cedar_types.proofs.Names.Ids.{contained_id, uids_cmp}
-use Rattle.cedar_types.proofs.base.schema.closures.has_action.Goals as goal
-
-pub returns : goal.returns
-returns c = c.contains.ensures ∙ contained_id _ (uid_of c.args.name.now) (λ k. uids_cmp c.args.name.now k) c.args.actions.now.keys
