@@ -1,7 +1,7 @@
 // What the host says of a policy that names an id which its enumerated type does not list.
-use crate::wanted::{Want, add, is_said};
+use crate::wanted::{IMPOSSIBLE, REFUSED, Want, alone, are_said};
 use cedar_embedding::policies::permit_when;
-use cedar_host::policy_sets::{WrittenPolicy, validate_set};
+use cedar_host::policy_sets::validate_set;
 use cedar_host::safety::SoundMode;
 use cedar_typechecker::rbac::Validator;
 use cedar_types::base::{
@@ -21,19 +21,17 @@ const WARNINGS: &[&str] = &[
 ];
 
 const OF_A_MEMBER: Want = Want {
-    is_accepted: true,
-    is_impossible: true,
-    errors: &[],
     warnings: WARNINGS,
+    ..IMPOSSIBLE
 };
 
 const OF_ANOTHER_ID: Want = Want {
-    is_accepted: false,
     is_impossible: true,
     errors: &[
         "for policy `policy0`, entity `Status::\"lost\"` is not a member of its enumerated type",
     ],
     warnings: WARNINGS,
+    ..REFUSED
 };
 
 fn status(alloc: Global) -> Result<EntityType, AllocError> {
@@ -68,27 +66,17 @@ fn is_a_status(alloc: Global, eid: &str) -> Result<Template, AllocError> {
 }
 
 /// That this is said of the policy with this id alone. Without an action no environment refuses it.
-fn is_said_of(rt: &impl Abort, alloc: Global, eid: &str, want: &Want) -> Result<(), SchemaError> {
-    let mut policies: Vec<WrittenPolicy> = Vec::new(alloc);
-    add(
-        alloc,
-        &mut policies,
-        "policy0",
-        is_a_status(alloc, eid)?,
-        "",
-    )?;
+fn is_said_of(rt: &impl Abort, alloc: Global, eid: &str, want: Want) -> Result<(), SchemaError> {
+    let policies = alone(alloc, is_a_status(alloc, eid)?, "")?;
     let extensions = ExtensionSchemas::default(alloc);
     let validator = Validator::new(statuses(alloc)?, &extensions);
     let reports = validate_set(alloc, &validator, SoundMode::Strict, &policies)?;
-    assert_eq!(rt; reports.len(), 1);
-    for report in &reports {
-        is_said(rt, report, want);
-    }
+    are_said(rt, &reports, &[want]);
     Ok(())
 }
 
 #[test]
 fn a_member_is_accepted_and_another_id_is_not(rt: HostRuntime) -> Result<(), Fail> {
-    is_said_of(&rt, rt.alloc(), "draft", &OF_A_MEMBER)?;
-    Ok(is_said_of(&rt, rt.alloc(), "lost", &OF_ANOTHER_ID)?)
+    is_said_of(&rt, rt.alloc(), "draft", OF_A_MEMBER)?;
+    Ok(is_said_of(&rt, rt.alloc(), "lost", OF_ANOTHER_ID)?)
 }

@@ -1,5 +1,5 @@
 // Which texts the functions of Cedar read, and what a gate says of a policy with another.
-use crate::wanted::{Want, add, is_said};
+use crate::wanted::{REFUSED, Want, alone, are_said};
 use cedar_embedding::policies::permit_when;
 use cedar_embedding::schemas::documents;
 use cedar_host::extensions::checks::Constructor;
@@ -15,6 +15,17 @@ use std::alloc::{AllocError, Global};
 use std::collections::BTreeSet;
 use std::process::Abort;
 use std::test::Fail;
+
+/// The table of Cedar's functions, whose checks are made here.
+pub fn cedar_functions(alloc: Global) -> Result<ExtensionSchemas, Fail> {
+    let checks = Checks {
+        ip: Box::new(alloc, Constructor::Ip.check(alloc))?,
+        decimal: Box::new(alloc, Constructor::Decimal.check(alloc))?,
+        datetime: Box::new(alloc, Constructor::Datetime.check(alloc))?,
+        duration: Box::new(alloc, Constructor::Duration.check(alloc))?,
+    };
+    Ok(ExtensionSchemas::new(functions(alloc, checks)?, overloaded_types(alloc)?)?)
+}
 
 const READ: &[(Constructor, &[&str])] = &[
     (
@@ -186,32 +197,19 @@ fn time(alloc: Global, text: &str) -> Result<Expr, AllocError> {
     Ok(Expr::call_extension_fn(name, vec![in alloc; text]?))
 }
 
-const OF_NO_MONTH: Want = Want {
-    is_accepted: false,
-    is_impossible: false,
-    errors: &["for policy `policy0`, invalid argument: `datetime` cannot read `2020-13-01`"],
-    warnings: &[],
-};
-
 #[test]
 fn a_gate_refuses_a_date_that_there_is_not(rt: HostRuntime) -> Result<(), Fail> {
     let alloc = rt.alloc();
-    let checks = Checks {
-        ip: Box::new(alloc, Constructor::Ip.check(alloc))?,
-        decimal: Box::new(alloc, Constructor::Decimal.check(alloc))?,
-        datetime: Box::new(alloc, Constructor::Datetime.check(alloc))?,
-        duration: Box::new(alloc, Constructor::Duration.check(alloc))?,
-    };
-    let extensions = ExtensionSchemas::new(functions(alloc, checks)?, overloaded_types(alloc)?)?;
+    let extensions = cedar_functions(alloc)?;
     let validator = Validator::new(documents(alloc)?, &extensions);
     let policy = permit_when(alloc, "", equal_times(alloc, "2020-13-01")?)?;
-    let mut policies = Vec::new(alloc);
-    add(alloc, &mut policies, "policy0", policy, "")?;
+    let policies = alone(alloc, policy, "")?;
     let reports = validate_set(alloc, &validator, SoundMode::Strict, &policies)?;
-    assert_eq!(rt; reports.len(), 1);
-    for report in &reports {
-        is_said(&rt, report, &OF_NO_MONTH);
-    }
+    let want = Want {
+        errors: &["for policy `policy0`, invalid argument: `datetime` cannot read `2020-13-01`"],
+        ..REFUSED
+    };
+    are_said(&rt, &reports, &[want]);
     let mut errors = BTreeSet::new(alloc);
     for it in &policies {
         assert!(rt; add_unread_texts(alloc, &it.template, &mut errors)?);

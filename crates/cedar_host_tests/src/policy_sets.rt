@@ -1,13 +1,14 @@
 // What the host says of a set of policies.
-use crate::wanted::{ACCEPTED, Want, add, is_said, of_an_unknown};
+use crate::extensions::cedar_functions;
+use crate::wanted::{
+    ACCEPTED, IMPOSSIBLE, REFUSED, Want, alone, are_said, number_policies, of_an_unknown,
+};
 use cedar_embedding::policies::{
     APPROVED_SHARING, BY_A_DOCUMENT, FROM_NOWHERE, FROM_RANGE, HAUNTED, MISSPELT, OF_EITHER,
     OF_ONE_USER, UNGUARDED, approved_sharing, by_a_document, from_nowhere, from_range, haunted,
     misspelt, of_either, of_one_user, permit_when, unguarded,
 };
 use cedar_embedding::schemas::documents;
-use cedar_host::extensions::checks::Constructor;
-use cedar_host::extensions::functions::{Checks, functions, overloaded_types};
 use cedar_host::policy_sets::{WrittenPolicy, validate_set};
 use cedar_host::safety::SoundMode;
 use cedar_typechecker::rbac::Validator;
@@ -34,64 +35,48 @@ const UNFIT_5: &str =
 
 /// Each policy with its text and an id of its own.
 fn policies(alloc: Global) -> Result<Vec<WrittenPolicy>, AllocError> {
-    let mut policies = Vec::new(alloc);
-    let all = &mut policies;
-    add(
-        alloc,
-        all,
-        "policy0",
-        approved_sharing(alloc)?,
-        APPROVED_SHARING,
-    )?;
-    add(alloc, all, "policy1", unguarded(alloc)?, UNGUARDED)?;
-    add(alloc, all, "policy2", misspelt(alloc)?, MISSPELT)?;
-    add(alloc, all, "policy3", haunted(alloc)?, HAUNTED)?;
-    add(alloc, all, "policy4", of_one_user(alloc)?, OF_ONE_USER)?;
-    add(alloc, all, "policy5", by_a_document(alloc)?, BY_A_DOCUMENT)?;
-    add(alloc, all, "policy6", of_either(alloc)?, OF_EITHER)?;
-    Ok(policies)
+    let listed = vec![in alloc;
+        (approved_sharing(alloc)?, APPROVED_SHARING),
+        (unguarded(alloc)?, UNGUARDED),
+        (misspelt(alloc)?, MISSPELT),
+        (haunted(alloc)?, HAUNTED),
+        (of_one_user(alloc)?, OF_ONE_USER),
+        (by_a_document(alloc)?, BY_A_DOCUMENT),
+        (of_either(alloc)?, OF_EITHER),
+    ]?;
+    number_policies(alloc, listed)
 }
 
 const UNGUARDED_WANTED: Want = Want {
-    is_accepted: false,
-    is_impossible: false,
     errors: &[
         "43..56 `principal.vip`: for policy `policy1`, \
          access to optional attribute `vip` on `User` is not guarded",
     ],
-    warnings: &[],
+    ..REFUSED
 };
 
 const MISSPELT_WANTED: Want = Want {
-    is_accepted: true,
-    is_impossible: true,
-    errors: &[],
     warnings: &[IMPOSSIBLE_2],
+    ..IMPOSSIBLE
 };
 
 const HAUNTED_WANTED: Want = Want {
-    is_accepted: false,
-    is_impossible: false,
     errors: &["74..79 `Ghost`: for policy `policy3`, unrecognized entity type `Ghost`"],
-    warnings: &[],
+    ..REFUSED
 };
 
 const UNFIT_WANTED: Want = Want {
-    is_accepted: true,
-    is_impossible: true,
-    errors: &[],
     warnings: &[IMPOSSIBLE_5, UNFIT_5],
+    ..IMPOSSIBLE
 };
 
 /// Of the last one in Strict.
 const DISAGREES: Want = Want {
-    is_accepted: false,
-    is_impossible: false,
     errors: &[
         "44..93 `if principal has vip then principal else resource`: for policy `policy6`, \
          the types `Document`, `User` are not compatible",
     ],
-    warnings: &[],
+    ..REFUSED
 };
 
 const IN_STRICT: &[Want] = &[
@@ -115,7 +100,7 @@ const IN_PERMISSIVE: &[Want] = &[
 ];
 
 /// That these are said of the policies in this mode, by the schema of documents and these functions.
-fn are_said(
+fn are_said_by(
     rt: &impl Abort,
     alloc: Global,
     extensions: &ExtensionSchemas,
@@ -124,11 +109,11 @@ fn are_said(
     wanted: &[Want],
 ) -> Result<(), SchemaError> {
     let validator = Validator::new(documents(alloc)?, extensions);
-    let reports = validate_set(alloc, &validator, mode, policies)?;
-    assert_eq!(rt; reports.len(), wanted.len());
-    for (report, want) in reports.iter().zip(wanted) {
-        is_said(rt, report, want);
-    }
+    are_said(
+        rt,
+        &validate_set(alloc, &validator, mode, policies)?,
+        wanted,
+    );
     Ok(())
 }
 
@@ -141,7 +126,7 @@ fn are_said_of_all(
 ) -> Result<(), SchemaError> {
     let policies = policies(alloc)?;
     let extensions = ExtensionSchemas::default(alloc);
-    are_said(rt, alloc, &extensions, mode, &policies, wanted)
+    are_said_by(rt, alloc, &extensions, mode, &policies, wanted)
 }
 
 #[test]
@@ -179,63 +164,34 @@ fn the_check_alone_passes_what_names_an_unknown_type(rt: HostRuntime) -> Result<
     Ok(())
 }
 
-/// The set of this policy alone, with this text.
-fn alone(alloc: Global, policy: Template, text: &str) -> Result<Vec<WrittenPolicy>, AllocError> {
-    let mut policies = Vec::new(alloc);
-    add(alloc, &mut policies, "policy0", policy, text)?;
-    Ok(policies)
-}
-
-/// Of a policy alone, by a table of Cedar's functions, whose checks are made here.
+/// Of a policy alone, by the table of Cedar's functions.
 fn is_said_alone(
     rt: &impl Abort,
     alloc: Global,
     policy: Template,
     text: &str,
-    wanted: &[Want; 1],
+    want: Want,
 ) -> Result<(), Fail> {
     let policies = alone(alloc, policy, text)?;
-    let checks = Checks {
-        ip: Box::new(alloc, Constructor::Ip.check(alloc))?,
-        decimal: Box::new(alloc, Constructor::Decimal.check(alloc))?,
-        datetime: Box::new(alloc, Constructor::Datetime.check(alloc))?,
-        duration: Box::new(alloc, Constructor::Duration.check(alloc))?,
-    };
-    let extensions = ExtensionSchemas::new(functions(alloc, checks)?, overloaded_types(alloc)?)?;
-    Ok(are_said(rt, alloc, &extensions, SoundMode::Strict, &policies, wanted)?)
+    let (extensions, mode) = (cedar_functions(alloc)?, SoundMode::Strict);
+    Ok(are_said_by(rt, alloc, &extensions, mode, &policies, &[want])?)
 }
 
 #[test]
 fn a_policy_may_call_functions_of_the_table(rt: HostRuntime) -> Result<(), Fail> {
     let alloc = rt.alloc();
-    is_said_alone(&rt, alloc, from_range(alloc)?, FROM_RANGE, &[ACCEPTED])
+    is_said_alone(&rt, alloc, from_range(alloc)?, FROM_RANGE, ACCEPTED)
 }
-
-const OF_EMPTY_ADDRESS: Want = Want {
-    is_accepted: false,
-    is_impossible: false,
-    errors: &["71..77 `ip(\"\")`: for policy `policy0`, invalid argument: the text is empty"],
-    warnings: &[],
-};
 
 #[test]
 fn what_a_check_refuses_is_refused_at_its_place(rt: HostRuntime) -> Result<(), Fail> {
     let alloc = rt.alloc();
-    is_said_alone(
-        &rt,
-        alloc,
-        from_nowhere(alloc)?,
-        FROM_NOWHERE,
-        &[OF_EMPTY_ADDRESS],
-    )
+    let want = Want {
+        errors: &["71..77 `ip(\"\")`: for policy `policy0`, invalid argument: the text is empty"],
+        ..REFUSED
+    };
+    is_said_alone(&rt, alloc, from_nowhere(alloc)?, FROM_NOWHERE, want)
 }
-
-const UNGUARDED_AND_FALSE: Want = Want {
-    is_accepted: false,
-    is_impossible: true,
-    errors: &["for policy `policy0`, access to optional attribute `vip` on `User` is not guarded"],
-    warnings: &[IMPOSSIBLE_0],
-};
 
 /// `principal.vip && false`
 fn unguarded_and_false(alloc: Global) -> Result<Template, AllocError> {
@@ -247,36 +203,26 @@ fn unguarded_and_false(alloc: Global) -> Result<Template, AllocError> {
 #[test]
 fn an_error_counts_where_a_policy_is_impossible_too(rt: HostRuntime) -> Result<(), Fail> {
     let alloc = rt.alloc();
-    is_said_alone(
-        &rt,
-        alloc,
-        unguarded_and_false(alloc)?,
-        "",
-        &[UNGUARDED_AND_FALSE],
-    )
+    let want = Want {
+        is_impossible: true,
+        errors: &[
+            "for policy `policy0`, access to optional attribute `vip` on `User` is not guarded",
+        ],
+        warnings: &[IMPOSSIBLE_0],
+        ..REFUSED
+    };
+    is_said_alone(&rt, alloc, unguarded_and_false(alloc)?, "", want)
 }
-
-const UNEXPLAINED: Want = Want {
-    is_accepted: false,
-    is_impossible: false,
-    errors: &["for policy `policy0`, no error says why: an unknown, or too deep a nesting"],
-    warnings: &[],
-};
 
 #[test]
 fn a_policy_that_is_refused_without_an_error_has_a_line(rt: HostRuntime) -> Result<(), Fail> {
     let alloc = rt.alloc();
-    is_said_alone(&rt, alloc, of_an_unknown(alloc)?, "", &[UNEXPLAINED])
+    let want = Want {
+        errors: &["for policy `policy0`, no error says why: an unknown, or too deep a nesting"],
+        ..REFUSED
+    };
+    is_said_alone(&rt, alloc, of_an_unknown(alloc)?, "", want)
 }
-
-const OF_A_FORGED_NAME: Want = Want {
-    is_accepted: false,
-    is_impossible: false,
-    errors: &[
-        "for policy `policy0`, attribute `x`\\nfor policy `policy1`, \\u{202e}` does not exist on `User`",
-    ],
-    warnings: &[],
-};
 
 /// An access to an attribute with a line break in its name.
 fn of_a_forged_name(alloc: Global) -> Result<Template, AllocError> {
@@ -291,11 +237,11 @@ fn of_a_forged_name(alloc: Global) -> Result<Template, AllocError> {
 #[test]
 fn a_name_with_a_line_break_begins_no_line(rt: HostRuntime) -> Result<(), Fail> {
     let alloc = rt.alloc();
-    is_said_alone(
-        &rt,
-        alloc,
-        of_a_forged_name(alloc)?,
-        "",
-        &[OF_A_FORGED_NAME],
-    )
+    let want = Want {
+        errors: &[
+            "for policy `policy0`, attribute `x`\\nfor policy `policy1`, \\u{202e}` does not exist on `User`",
+        ],
+        ..REFUSED
+    };
+    is_said_alone(&rt, alloc, of_a_forged_name(alloc)?, "", want)
 }

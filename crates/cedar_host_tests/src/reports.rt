@@ -1,5 +1,5 @@
 // What a host keeps of its reports: errors with their places, and reports without the policies; and what it says of a set.
-use crate::wanted::add;
+use crate::wanted::{add, alone};
 use cedar_embedding::policies::{by_its_contact, by_their_contact, permit_when, unguarded};
 use cedar_embedding::schemas::documents;
 use cedar_host::policy_sets::{WrittenPolicy, repeated_ids, validate_set};
@@ -32,8 +32,7 @@ fn twice_unguarded(alloc: Global) -> Result<Template, AllocError> {
 
 /// What is kept of the report on this policy alone, when the policy has gone.
 fn keep(alloc: Global, policy: Template) -> Result<Vec<KeptReport>, SchemaError> {
-    let mut policies = Vec::new(alloc);
-    add(alloc, &mut policies, "policy0", policy, "")?;
+    let policies = alone(alloc, policy, "")?;
     let extensions = ExtensionSchemas::default(alloc);
     let validator = Validator::new(documents(alloc)?, &extensions);
     let reports = validate_set(alloc, &validator, SoundMode::Strict, &policies)?;

@@ -1,8 +1,7 @@
 // In how many environments a policy is safe.
+use crate::extensions::cedar_functions;
 use cedar_embedding::policies::{approved_sharing, from_nowhere, from_range, of_either, unguarded};
 use cedar_embedding::schemas::documents;
-use cedar_host::extensions::checks::Constructor;
-use cedar_host::extensions::functions::{Checks, functions, overloaded_types};
 use cedar_host::safety::{SoundMode, is_safe_in};
 use cedar_typechecker::rbac::Validator;
 use cedar_types::base::{ExtensionSchemas, SchemaError, Template, ValidationMode};
@@ -76,12 +75,5 @@ fn calls_are_safe_in(
 #[test]
 fn a_policy_that_calls_functions_is_safe(rt: HostRuntime) -> Result<(), Fail> {
     let alloc = rt.alloc();
-    let checks = Checks {
-        ip: Box::new(alloc, Constructor::Ip.check(alloc))?,
-        decimal: Box::new(alloc, Constructor::Decimal.check(alloc))?,
-        datetime: Box::new(alloc, Constructor::Datetime.check(alloc))?,
-        duration: Box::new(alloc, Constructor::Duration.check(alloc))?,
-    };
-    let extensions = ExtensionSchemas::new(functions(alloc, checks)?, overloaded_types(alloc)?)?;
-    Ok(calls_are_safe_in(&rt, alloc, &extensions)?)
+    Ok(calls_are_safe_in(&rt, alloc, &cedar_functions(alloc)?)?)
 }

@@ -1,5 +1,5 @@
 // What the host says of a set of policies that it evaluates over slices.
-use crate::wanted::{ACCEPTED, Want, add, is_said, of_an_unknown};
+use crate::wanted::{ACCEPTED, IMPOSSIBLE, REFUSED, Want, is_said, number_policies, of_an_unknown};
 use cedar_embedding::policies::{
     APPROVED_SHARING, BY_ITS_CONTACT, BY_THEIR_CONTACT, MISSPELT, UNGUARDED, approved_sharing,
     by_its_contact, by_their_contact, misspelt, unguarded,
@@ -19,89 +19,61 @@ const IMPOSSIBLE_3: &str =
 
 /// Each policy with its text and an id of its own; the last has an unknown, and no text.
 fn policies(alloc: Global) -> Result<Vec<WrittenPolicy>, AllocError> {
-    let mut policies = Vec::new(alloc);
-    let all = &mut policies;
-    add(
-        alloc,
-        all,
-        "policy0",
-        approved_sharing(alloc)?,
-        APPROVED_SHARING,
-    )?;
-    add(
-        alloc,
-        all,
-        "policy1",
-        by_its_contact(alloc)?,
-        BY_ITS_CONTACT,
-    )?;
-    add(
-        alloc,
-        all,
-        "policy2",
-        by_their_contact(alloc)?,
-        BY_THEIR_CONTACT,
-    )?;
-    add(alloc, all, "policy3", misspelt(alloc)?, MISSPELT)?;
-    add(alloc, all, "policy4", unguarded(alloc)?, UNGUARDED)?;
-    add(alloc, all, "policy5", of_an_unknown(alloc)?, "")?;
-    Ok(policies)
+    let listed = vec![in alloc;
+        (approved_sharing(alloc)?, APPROVED_SHARING),
+        (by_its_contact(alloc)?, BY_ITS_CONTACT),
+        (by_their_contact(alloc)?, BY_THEIR_CONTACT),
+        (misspelt(alloc)?, MISSPELT),
+        (unguarded(alloc)?, UNGUARDED),
+        (of_an_unknown(alloc)?, ""),
+    ]?;
+    number_policies(alloc, listed)
 }
 
-const IMPOSSIBLE: Want = Want {
-    is_accepted: true,
-    is_impossible: true,
-    errors: &[],
+const MISSPELT_WANTED: Want = Want {
     warnings: &[IMPOSSIBLE_3],
+    ..IMPOSSIBLE
 };
 
 /// With any number of steps. The check and the validation with levels find the same error.
 const UNGUARDED_WANTED: Want = Want {
-    is_accepted: false,
-    is_impossible: false,
     errors: &[
         "43..56 `principal.vip`: for policy `policy4`, \
          access to optional attribute `vip` on `User` is not guarded",
     ],
-    warnings: &[],
+    ..REFUSED
 };
 
 /// With any number of steps, though the validation with levels finds no error.
 const UNKNOWN_WANTED: Want = Want {
-    is_accepted: false,
-    is_impossible: false,
     errors: &["for policy `policy5`, no error says why: an unknown, or too deep a nesting"],
-    warnings: &[],
+    ..REFUSED
 };
 
 const WITHOUT_STEPS: &[Want] = &[
     ACCEPTED,
     Want {
-        is_accepted: false,
-        is_impossible: false,
         errors: &[
             "43..59 `resource.contact`: for policy `policy1`, \
              this policy requires level 1, which exceeds the maximum allowed level (0)",
         ],
-        warnings: &[],
+        ..REFUSED
     },
     Want {
-        is_accepted: false,
-        is_impossible: false,
         errors: &[
             "43..67 `resource.contact.contact`: for policy `policy2`, \
              this policy requires level 2, which exceeds the maximum allowed level (0)",
         ],
-        warnings: &[],
+        ..REFUSED
     },
     Want {
-        is_accepted: false,
         is_impossible: true,
         errors: &[
             "for policy `policy3`, \
                    this policy requires level 1, which exceeds the maximum allowed level (0)",
         ],
         warnings: &[IMPOSSIBLE_3],
+        ..REFUSED
     },
     UNGUARDED_WANTED,
     UNKNOWN_WANTED,
@@ -111,15 +83,13 @@ const WITH_ONE: &[Want] = &[
     ACCEPTED,
     ACCEPTED,
     Want {
-        is_accepted: false,
-        is_impossible: false,
         errors: &[
             "43..67 `resource.contact.contact`: for policy `policy2`, \
              this policy requires level 2, which exceeds the maximum allowed level (1)",
         ],
-        warnings: &[],
+        ..REFUSED
     },
-    IMPOSSIBLE,
+    MISSPELT_WANTED,
     UNGUARDED_WANTED,
     UNKNOWN_WANTED,
 ];
@@ -128,7 +98,7 @@ const WITH_TWO: &[Want] = &[
     ACCEPTED,
     ACCEPTED,
     ACCEPTED,
-    IMPOSSIBLE,
+    MISSPELT_WANTED,
     UNGUARDED_WANTED,
     UNKNOWN_WANTED,
 ];

@@ -26,6 +26,28 @@ pub fn add(
     Ok(())
 }
 
+/// These policies with their texts, whose ids are `policy0`, `policy1` and so on.
+pub fn number_policies(
+    alloc: Global,
+    listed: Vec<(Template, &str)>,
+) -> Result<Vec<WrittenPolicy>, AllocError> {
+    let mut policies = Vec::new(alloc);
+    for (template, text) in listed {
+        let id = format!(in alloc; "policy{}", policies.len())?;
+        add(alloc, &mut policies, id.as_str(), template, text)?;
+    }
+    Ok(policies)
+}
+
+/// This policy alone, with its text.
+pub fn alone(
+    alloc: Global,
+    template: Template,
+    text: &str,
+) -> Result<Vec<WrittenPolicy>, AllocError> {
+    number_policies(alloc, vec![in alloc; (template, text)]?)
+}
+
 /// The policy whose condition is an unknown, without a text.
 pub fn of_an_unknown(alloc: Global) -> Result<Template, AllocError> {
     let later = Name::unqualified_name(alloc, "later")?;
@@ -33,6 +55,7 @@ pub fn of_an_unknown(alloc: Global) -> Result<Template, AllocError> {
 }
 
 /// What the host has to say of a policy.
+#[derive(Clone, Copy)]
 pub struct Want {
     pub is_accepted: bool,
     pub is_impossible: bool,
@@ -46,6 +69,25 @@ pub const ACCEPTED: Want = Want {
     errors: &[],
     warnings: &[],
 };
+
+/// Without what is found.
+pub const REFUSED: Want = Want {
+    is_accepted: false,
+    ..ACCEPTED
+};
+
+pub const IMPOSSIBLE: Want = Want {
+    is_impossible: true,
+    ..ACCEPTED
+};
+
+/// That these are said of policies.
+pub fn are_said(rt: &impl Abort, reports: &[PolicyReport<'_>], wanted: &[Want]) {
+    assert_eq!(rt; reports.len(), wanted.len());
+    for (report, want) in reports.iter().zip(wanted) {
+        is_said(rt, report, want);
+    }
+}
 
 /// That this is said of a policy.
 pub fn is_said(rt: &impl Abort, report: &PolicyReport<'_>, want: &Want) {
