@@ -62,36 +62,6 @@ fn context(flag: bool) -> LubContext {
     }
 }
 
-/// That the entity type of the first name is unknown.
-fn unknown_type(
-    alloc: Global,
-    fields: Fields<'_>,
-    id: PolicyID,
-) -> Result<ValidationError, AllocError> {
-    let named = entity_type(alloc, fields.first)?;
-    Ok(ValidationError::unrecognized_entity_type(place(fields.place), id, named))
-}
-
-/// That the action of both names is unknown.
-fn unknown_action(
-    alloc: Global,
-    fields: Fields<'_>,
-    id: PolicyID,
-) -> Result<ValidationError, AllocError> {
-    let action = uid(alloc, fields.first, fields.second)?;
-    Ok(ValidationError::unrecognized_action_id(place(fields.place), id, action))
-}
-
-/// That the entity of both names is no member of its type.
-fn no_member(
-    alloc: Global,
-    fields: Fields<'_>,
-    id: PolicyID,
-) -> Result<ValidationError, AllocError> {
-    let entity = uid(alloc, fields.first, fields.second)?;
-    Ok(ValidationError::invalid_enum_entity(place(fields.place), id, entity))
-}
-
 /// That an entity of the second name stands where one of the first is expected.
 fn unexpected_type(
     alloc: Global,
@@ -114,62 +84,19 @@ fn incompatible(
     Ok(ValidationError::incompatible_types(place(fields.place), id, types, context))
 }
 
-/// That the attribute of the second name may not be there.
+/// That the attribute of the second name may not be there: an optional one, or any.
 fn unsafe_attribute(
     alloc: Global,
     fields: Fields<'_>,
     id: PolicyID,
+    is_optional: bool,
 ) -> Result<ValidationError, AllocError> {
     let attr = text(alloc, fields.second)?;
     let (loc, owner) = (place(fields.place), entity(alloc, &[fields.first])?);
+    if is_optional {
+        return Ok(ValidationError::unsafe_optional_attribute_access(loc, id, owner, attr));
+    }
     Ok(ValidationError::unsafe_attribute_access(loc, id, owner, attr, fields.flag))
-}
-
-/// The same of an optional attribute.
-fn unsafe_optional_attribute(
-    alloc: Global,
-    fields: Fields<'_>,
-    id: PolicyID,
-) -> Result<ValidationError, AllocError> {
-    let attr = text(alloc, fields.second)?;
-    let (loc, owner) = (place(fields.place), entity(alloc, &[fields.first])?);
-    Ok(ValidationError::unsafe_optional_attribute_access(loc, id, owner, attr))
-}
-
-/// That a tag of the first name's entities may not be there.
-fn unsafe_tag(
-    alloc: Global,
-    fields: Fields<'_>,
-    id: PolicyID,
-) -> Result<ValidationError, AllocError> {
-    let owner = lub(alloc, &[fields.first])?;
-    Ok(ValidationError::unsafe_tag_access(place(fields.place), id, Some(owner)))
-}
-
-/// That they have no tags.
-fn no_tags(alloc: Global, fields: Fields<'_>, id: PolicyID) -> Result<ValidationError, AllocError> {
-    let owner = entity_type(alloc, fields.first)?;
-    Ok(ValidationError::no_tags_allowed(place(fields.place), id, Some(owner)))
-}
-
-/// That there is no function of the first name.
-fn no_function(
-    alloc: Global,
-    fields: Fields<'_>,
-    id: PolicyID,
-) -> Result<ValidationError, AllocError> {
-    let function = Name::unqualified_name(alloc, fields.first)?;
-    Ok(ValidationError::undefined_extension(place(fields.place), id, function))
-}
-
-/// That an argument is refused with the first text.
-fn refused_argument(
-    alloc: Global,
-    fields: Fields<'_>,
-    id: PolicyID,
-) -> Result<ValidationError, AllocError> {
-    let message = text(alloc, fields.first)?;
-    Ok(ValidationError::function_argument_validation(place(fields.place), id, message))
 }
 
 /// That there are another number of arguments.
@@ -188,30 +115,40 @@ fn level_error(fields: Fields<'_>, id: PolicyID) -> ValidationError {
 /// The error of this kind, which owns no more than its own parts.
 pub fn error(alloc: Global, kind: Kind, fields: Fields<'_>) -> Result<ValidationError, AllocError> {
     let id = PolicyID::from_string(alloc, fields.policy)?;
-    let loc = place(fields.place);
-    match kind {
-        Kind::UnrecognizedEntityType => unknown_type(alloc, fields, id),
-        Kind::UnrecognizedActionId => unknown_action(alloc, fields, id),
-        Kind::InvalidEnumEntity => no_member(alloc, fields, id),
-        Kind::UnexpectedType => unexpected_type(alloc, fields, id),
-        Kind::IncompatibleTypes => incompatible(alloc, fields, id),
-        Kind::UnsafeAttributeAccess => unsafe_attribute(alloc, fields, id),
-        Kind::UnsafeOptionalAttributeAccess => unsafe_optional_attribute(alloc, fields, id),
-        Kind::UnsafeTagAccess => unsafe_tag(alloc, fields, id),
-        Kind::NoTagsAllowed => no_tags(alloc, fields, id),
-        Kind::UndefinedFunction => no_function(alloc, fields, id),
-        Kind::FunctionArgumentValidation => refused_argument(alloc, fields, id),
-        Kind::WrongNumberArguments => Ok(wrong_number(fields, id)),
-        Kind::MaximumLevelExceeded => Ok(level_error(fields, id)),
-        Kind::EmptySetForbidden => Ok(ValidationError::empty_set_forbidden(loc, id)),
-        Kind::NonLitExtConstructor => Ok(ValidationError::non_lit_ext_constructor(loc, id)),
-        Kind::InternalInvariantViolation => {
-            Ok(ValidationError::internal_invariant_violation(loc, id))
+    let (loc, Fields { first, second, .. }) = (place(fields.place), fields);
+    Ok(match kind {
+        Kind::UnrecognizedEntityType => {
+            ValidationError::unrecognized_entity_type(loc, id, entity_type(alloc, first)?)
         }
-        Kind::LiteralDereferenceTarget => {
-            Ok(ValidationError::literal_dereference_target(loc, id))
+        Kind::UnrecognizedActionId => {
+            ValidationError::unrecognized_action_id(loc, id, uid(alloc, first, second)?)
         }
-    }
+        Kind::InvalidEnumEntity => {
+            ValidationError::invalid_enum_entity(loc, id, uid(alloc, first, second)?)
+        }
+        Kind::UnexpectedType => unexpected_type(alloc, fields, id)?,
+        Kind::IncompatibleTypes => incompatible(alloc, fields, id)?,
+        Kind::UnsafeAttributeAccess => unsafe_attribute(alloc, fields, id, false)?,
+        Kind::UnsafeOptionalAttributeAccess => unsafe_attribute(alloc, fields, id, true)?,
+        Kind::UnsafeTagAccess => {
+            ValidationError::unsafe_tag_access(loc, id, Some(lub(alloc, &[first])?))
+        }
+        Kind::NoTagsAllowed => {
+            ValidationError::no_tags_allowed(loc, id, Some(entity_type(alloc, first)?))
+        }
+        Kind::UndefinedFunction => {
+            ValidationError::undefined_extension(loc, id, Name::unqualified_name(alloc, first)?)
+        }
+        Kind::FunctionArgumentValidation => {
+            ValidationError::function_argument_validation(loc, id, text(alloc, first)?)
+        }
+        Kind::WrongNumberArguments => wrong_number(fields, id),
+        Kind::MaximumLevelExceeded => level_error(fields, id),
+        Kind::EmptySetForbidden => ValidationError::empty_set_forbidden(loc, id),
+        Kind::NonLitExtConstructor => ValidationError::non_lit_ext_constructor(loc, id),
+        Kind::InternalInvariantViolation => ValidationError::internal_invariant_violation(loc, id),
+        Kind::LiteralDereferenceTarget => ValidationError::literal_dereference_target(loc, id),
+    })
 }
 
 /// The warning that an action applies to nothing.
