@@ -1,13 +1,15 @@
 // The validation of a policy with levels, and the level that it requires.
 use crate::tests::names::uid;
+use crate::tests::policies::permit;
 use crate::tests::schemas::users_and_photos;
 use cedar_typechecker::base::{
-    ActionConstraint, AttrChain, Expr, ExtensionSchemas, Literal, PolicyID, PrincipalConstraint,
-    ResourceConstraint, SlotId, Template, ValidationMode, Var,
+    ActionConstraint, AttrChain, Expr, ExtensionSchemas, Literal, PrincipalConstraint, SlotId,
+    Template, ValidationMode, Var,
 };
 use cedar_typechecker::level_validate::{EntityDerefLevel, LevelErrors, LevelWarnings};
 use cedar_typechecker::rbac::Validator;
 use std::alloc::{AllocError, Global};
+use std::fmt;
 use std::test::Fail;
 
 const UNKNOWN: &str = "for policy `p`, unrecognized entity type `Gone`";
@@ -76,24 +78,26 @@ fn policy(alloc: Global, written: Written) -> Result<Template, AllocError> {
         Written::OfUnknown => PrincipalConstraint::is_eq(uid(alloc, "Gone", "a")?),
         _ => PrincipalConstraint::any(),
     };
-    Ok(Template::new(
-        PolicyID::from_string(alloc, "p")?,
-        None,
-        principal,
-        ActionConstraint::any(),
-        ResourceConstraint::any(),
-        Some(condition(alloc, written)?),
-    ))
+    let condition = condition(alloc, written)?;
+    permit(alloc, principal, ActionConstraint::any(), condition)
+}
+
+/// Whether this is found, and shown as this text.
+fn is_shown<F: fmt::Display + Drop>(
+    alloc: Global,
+    found: Option<F>,
+    text: &str,
+) -> Result<bool, AllocError> {
+    match found {
+        Some(found) => Ok(found.to_string(alloc)?.as_str() == text),
+        None => Ok(false),
+    }
 }
 
 /// Whether these are all errors, and none comes after them.
 fn are_errors(alloc: Global, mut errors: LevelErrors, texts: &[&str]) -> Result<bool, AllocError> {
     for text in texts {
-        let Some(error) = errors.next() else {
-            return Ok(false);
-        };
-        let found = error.to_string(alloc)?;
-        if found.as_str() != *text {
+        if !is_shown(alloc, errors.next(), text)? {
             return Ok(false);
         }
     }
@@ -107,11 +111,7 @@ fn are_warnings(
     texts: &[&str],
 ) -> Result<bool, AllocError> {
     for text in texts {
-        let Some(warning) = warnings.next() else {
-            return Ok(false);
-        };
-        let found = warning.to_string(alloc)?;
-        if found.as_str() != *text {
+        if !is_shown(alloc, warnings.next(), text)? {
             return Ok(false);
         }
     }
@@ -261,14 +261,8 @@ fn a_required_level_is_answered(rt: HostRuntime) -> Result<(), Fail> {
 fn of_slot(alloc: Global) -> Result<Template, AllocError> {
     let slot = Expr::slot(SlotId::Principal);
     let condition = Expr::has_attr(alloc, slot, "bool")?;
-    Ok(Template::new(
-        PolicyID::from_string(alloc, "p")?,
-        None,
-        PrincipalConstraint::is_eq_slot(),
-        ActionConstraint::any(),
-        ResourceConstraint::any(),
-        Some(condition),
-    ))
+    let principal = PrincipalConstraint::is_eq_slot();
+    permit(alloc, principal, ActionConstraint::any(), condition)
 }
 
 #[test]

@@ -9,6 +9,18 @@ use cedar_typechecker::rbac::Validator;
 use std::alloc::{AllocError, Global};
 use std::test::Fail;
 
+/// `permit(PRINCIPAL, ACTION, resource) when { CONDITION };`
+pub fn permit(
+    alloc: Global,
+    principal: PrincipalConstraint,
+    action: ActionConstraint,
+    condition: Expr,
+) -> Result<Template, AllocError> {
+    let id = PolicyID::from_string(alloc, "p")?;
+    let resource = ResourceConstraint::any();
+    Ok(Template::new(id, None, principal, action, resource, Some(condition)))
+}
+
 /// `permit(PRINCIPAL, action, resource) when { principal.user.ATTRIBUTE };`
 fn policy(
     alloc: Global,
@@ -16,14 +28,8 @@ fn policy(
     attribute: &str,
 ) -> Result<Template, AllocError> {
     let user = Expr::get_attr(alloc, Expr::var(Var::Principal), "user")?;
-    Ok(Template::new(
-        PolicyID::from_string(alloc, "p")?,
-        None,
-        principal,
-        ActionConstraint::any(),
-        ResourceConstraint::any(),
-        Some(Expr::get_attr(alloc, user, attribute)?),
-    ))
+    let condition = Expr::get_attr(alloc, user, attribute)?;
+    permit(alloc, principal, ActionConstraint::any(), condition)
 }
 
 /// The lines of all errors of a policy, and then those of all warnings.

@@ -1,9 +1,10 @@
 // The survey of a policy.
 use crate::tests::names::{entity_type_of, uid};
+use crate::tests::policies::permit;
 use crate::tests::schemas::{users_and_photos, users_and_robots};
 use cedar_typechecker::base::{
-    ActionConstraint, EntityDerefLevel, Expr, ExtensionSchemas, PolicyID, PrincipalConstraint,
-    RequestType, ResourceConstraint, Template, ValidationMode, Var,
+    ActionConstraint, EntityDerefLevel, Expr, ExtensionSchemas, PrincipalConstraint, RequestType,
+    Template, ValidationMode, Var,
 };
 use cedar_typechecker::rbac::Validator;
 use cedar_typechecker::survey::Survey;
@@ -13,14 +14,9 @@ use std::test::Fail;
 /// `permit(principal, action, resource) when { principal.ATTRIBUTE.ATTRIBUTE };`
 fn policy(alloc: Global, first: &str, second: &str) -> Result<Template, AllocError> {
     let user = Expr::get_attr(alloc, Expr::var(Var::Principal), first)?;
-    Ok(Template::new(
-        PolicyID::from_string(alloc, "p")?,
-        None,
-        PrincipalConstraint::any(),
-        ActionConstraint::any(),
-        ResourceConstraint::any(),
-        Some(Expr::get_attr(alloc, user, second)?),
-    ))
+    let condition = Expr::get_attr(alloc, user, second)?;
+    let (principal, action) = (PrincipalConstraint::any(), ActionConstraint::any());
+    permit(alloc, principal, action, condition)
 }
 
 fn survey(alloc: Global, first: &str, second: &str) -> Result<Survey, Fail> {
@@ -76,14 +72,9 @@ fn survey_of_action(alloc: Global, action: &str) -> Result<Survey, Fail> {
     let extensions = ExtensionSchemas::default(alloc);
     let validator = Validator::new(users_and_robots(alloc)?, &extensions);
     let alice = uid(alloc, "User", "alice")?;
-    let policy = Template::new(
-        PolicyID::from_string(alloc, "p")?,
-        None,
-        PrincipalConstraint::is_in(alice),
-        ActionConstraint::is_eq(uid(alloc, "Action", action)?),
-        ResourceConstraint::any(),
-        Some(Expr::get_attr(alloc, Expr::var(Var::Principal), "bool")?),
-    );
+    let action = ActionConstraint::is_eq(uid(alloc, "Action", action)?);
+    let condition = Expr::get_attr(alloc, Expr::var(Var::Principal), "bool")?;
+    let policy = permit(alloc, PrincipalConstraint::is_in(alice), action, condition)?;
     Ok(validator.survey(alloc, &policy, ValidationMode::Strict)?)
 }
 
