@@ -1,30 +1,15 @@
 // Lists of entities, and the mistakes that they have.
-use crate::tests::shown::entities_shown;
-use std::alloc::Global;
-use std::process::Abort;
+use crate::tests::shown::{Frame, check_entities};
 use std::test::Fail;
 
-/// Each entity has the mistakes that stand beside it.
-fn check(rt: &impl Abort, alloc: Global, cases: &[(&str, &str)]) -> Result<(), Fail> {
-    for (entity, wanted) in cases {
-        let text = format!(in alloc; "[{entity}]")?;
-        let shown = entities_shown(alloc, text.as_str())?;
-        assert_eq!(rt; shown.as_str(), *wanted, "{entity}");
-    }
-    Ok(())
-}
+/// A list of one entity.
+const ALONE: Frame<'_> = ("[", "]");
 
-/// Of a user with these attributes, whose name is there.
-fn check_attributes(rt: &impl Abort, alloc: Global, cases: &[(&str, &str)]) -> Result<(), Fail> {
-    for (attributes, wanted) in cases {
-        let user = "\"uid\": {\"type\": \"User\", \"id\": \"a\"}, \"parents\": []";
-        let attributes_text = format!(in alloc; "{{\"name\": \"A\", {attributes}}}")?;
-        let text = format!(in alloc; "[{{{user}, \"attrs\": {attributes_text}}}]")?;
-        let shown = entities_shown(alloc, text.as_str())?;
-        assert_eq!(rt; shown.as_str(), *wanted, "{attributes}");
-    }
-    Ok(())
-}
+/// A user, whose name is there, with other attributes.
+const OF_A_USER: Frame<'_> = (
+    r#"[{"uid": {"type": "User", "id": "a"}, "parents": [], "attrs": {"name": "A", "#,
+    "}}]",
+);
 
 #[test]
 fn good_entities(rt: HostRuntime) -> Result<(), Fail> {
@@ -55,7 +40,7 @@ fn good_entities(rt: HostRuntime) -> Result<(), Fail> {
             "",
         ),
     ];
-    check(&rt, rt.alloc(), &cases)
+    check_entities(&rt, rt.alloc(), ALONE, &cases)
 }
 
 #[test]
@@ -80,7 +65,7 @@ fn good_values(rt: HostRuntime) -> Result<(), Fail> {
         ),
         (r#""call": {"fn": "ip", "arg": 3}"#, ""),
     ];
-    check_attributes(&rt, rt.alloc(), &cases)
+    check_entities(&rt, rt.alloc(), OF_A_USER, &cases)
 }
 
 /// Attributes with values of other types, and the mistakes of each.
@@ -141,7 +126,7 @@ const OTHER_TYPES: [(&str, &str); 13] = [
 
 #[test]
 fn values_of_other_types(rt: HostRuntime) -> Result<(), Fail> {
-    check_attributes(&rt, rt.alloc(), &OTHER_TYPES)
+    check_entities(&rt, rt.alloc(), OF_A_USER, &OTHER_TYPES)
 }
 
 #[test]
@@ -184,5 +169,5 @@ fn entities_of_other_forms(rt: HostRuntime) -> Result<(), Fail> {
             "{\"type\": \"Action\", \"id\": \"view\"} | Action::\"read\": it is not declared to be in Action::\"view\"\n",
         ),
     ];
-    check(&rt, rt.alloc(), &cases)
+    check_entities(&rt, rt.alloc(), ALONE, &cases)
 }

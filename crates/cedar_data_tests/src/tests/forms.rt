@@ -1,17 +1,15 @@
 // Texts that are no JSON, or no list of entities.
-use crate::tests::shown::entities_shown;
-use std::alloc::Global;
-use std::process::Abort;
+use crate::tests::shown::{Frame, check_entities};
 use std::test::Fail;
 
-/// Each text has the mistakes that stand beside it.
-fn check(rt: &impl Abort, alloc: Global, cases: &[(&str, &str)]) -> Result<(), Fail> {
-    for (text, wanted) in cases {
-        let shown = entities_shown(alloc, text)?;
-        assert_eq!(rt; shown.as_str(), *wanted, "{text}");
-    }
-    Ok(())
-}
+/// Nothing but the text.
+const WHOLE: Frame<'_> = ("", "");
+
+/// A user with one attribute more than a name.
+const BOSS: Frame<'_> = (
+    r#"[{"uid": {"type": "User", "id": "a"}, "parents": [], "attrs": {"name": "A", "boss": "#,
+    "}}]",
+);
 
 #[test]
 fn broken_texts(rt: HostRuntime) -> Result<(), Fail> {
@@ -28,7 +26,7 @@ fn broken_texts(rt: HostRuntime) -> Result<(), Fail> {
         (r#"[{"uid": 1, "uid": 2}]"#, "12 the same key twice\n"),
         (r#"["\ud800"]"#, "2 half of a surrogate pair\n"),
     ];
-    check(&rt, rt.alloc(), &cases)
+    check_entities(&rt, rt.alloc(), WHOLE, &cases)
 }
 
 #[test]
@@ -66,12 +64,11 @@ fn other_shapes(rt: HostRuntime) -> Result<(), Fail> {
             "\"tag\" | a key that has no meaning here\n",
         ),
     ];
-    check(&rt, rt.alloc(), &cases)
+    check_entities(&rt, rt.alloc(), WHOLE, &cases)
 }
 
 #[test]
 fn other_values(rt: HostRuntime) -> Result<(), Fail> {
-    let alloc = rt.alloc();
     let cases = [
         (
             r#"{"__entity": {"type": "User", "id": "a"}, "x": 1}"#,
@@ -100,13 +97,5 @@ fn other_values(rt: HostRuntime) -> Result<(), Fail> {
         ),
         (r#"{"type": "User"}"#, " | the key `id` is missing\n"),
     ];
-    for (value, wanted) in &cases {
-        let user = "\"uid\": {\"type\": \"User\", \"id\": \"a\"}, \"parents\": []";
-        let text = format!(in alloc;
-            "[{{{user}, \"attrs\": {{\"name\": \"A\", \"boss\": {value}}}}}]"
-        )?;
-        let shown = entities_shown(alloc, text.as_str())?;
-        assert_eq!(&rt; shown.as_str(), *wanted, "{value}");
-    }
-    Ok(())
+    check_entities(&rt, rt.alloc(), BOSS, &cases)
 }

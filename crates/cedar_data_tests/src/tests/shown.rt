@@ -3,6 +3,8 @@ use cedar_data::{DataError, Faults, check_entities_text, check_entry_text, check
 use cedar_reading::{schema, uid_alone};
 use cedar_types::base::ValidatorSchema;
 use std::alloc::{AllocError, Global};
+use std::process::Abort;
+use std::test::Fail;
 
 /// The schema of all tests.
 const SCHEMA: &str = "
@@ -34,22 +36,35 @@ fn test_schema(alloc: Global) -> ValidatorSchema {
 pub fn entities_shown(alloc: Global, text: &str) -> Result<String, AllocError> {
     let schema = test_schema(alloc);
     match check_entities_text(alloc, &schema, text) {
-        Ok(checked) => {
-            let conforms = checked.conforming.is_some();
-            faults_shown(alloc, text, &checked.faults, conforms)
-        }
+        Ok(checked) => faults_shown(alloc, text, &checked.faults, checked.conforming.is_some()),
         Err(error) => error_shown(alloc, error),
     }
+}
+
+/// What stands before a part of a text, and what behind it.
+pub type Frame<'a> = (&'a str, &'a str);
+
+/// Each part has, in this frame, the mistakes that stand beside it.
+pub fn check_entities(
+    rt: &impl Abort,
+    alloc: Global,
+    frame: Frame<'_>,
+    cases: &[(&str, &str)],
+) -> Result<(), Fail> {
+    let (before, behind) = frame;
+    for (part, wanted) in cases {
+        let text = format!(in alloc; "{before}{part}{behind}")?;
+        let shown = entities_shown(alloc, text.as_str())?;
+        assert_eq!(rt; shown.as_str(), *wanted, "{part}");
+    }
+    Ok(())
 }
 
 /// The same of a request.
 pub fn request_shown(alloc: Global, text: &str) -> Result<String, AllocError> {
     let schema = test_schema(alloc);
     match check_request_text(alloc, &schema, text) {
-        Ok(checked) => {
-            let conforms = checked.conforming.is_some();
-            faults_shown(alloc, text, &checked.faults, conforms)
-        }
+        Ok(checked) => faults_shown(alloc, text, &checked.faults, checked.conforming.is_some()),
         Err(error) => error_shown(alloc, error),
     }
 }
