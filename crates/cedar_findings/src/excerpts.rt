@@ -32,15 +32,18 @@ impl<'a> Excerpt<'a> {
     }
 }
 
-/// Two lines: the text, and carets below the place.
+/// Two lines: the text, and carets below the place, one at least.
 impl fmt::Display for Excerpt<'_> {
     fn fmt<W: fmt::Write>(&self, f: &mut fmt::Formatter<W>) -> fmt::Result {
         let before = WithTabs(self.before);
         let within = WithTabs(self.within);
         let after = WithTabs(self.after);
         writeln!(f, "  {before}{within}{after}")?;
-        let blanks = Blanks(self.before);
-        let carets = Carets(self.within);
+        let blanks = Below(" ", self.before);
+        let carets = match self.within {
+            "" => Below("^", " "),
+            within => Below("^", within),
+        };
         writeln!(f, "  {blanks}{carets}")
     }
 }
@@ -88,37 +91,17 @@ impl fmt::Display for WithTabs<'_> {
     }
 }
 
-/// Blanks as wide as a text, and its tabs.
+/// A text, so many times as fill the width of another, with the tabs of that.
 #[derive(Drop)]
-struct Blanks<'a>(&'a str);
+struct Below<'a>(&'static str, &'a str);
 
-impl fmt::Display for Blanks<'_> {
+impl fmt::Display for Below<'_> {
     fn fmt<W: fmt::Write>(&self, f: &mut fmt::Formatter<W>) -> fmt::Result {
-        for c in self.0.chars() {
+        for c in self.1.chars() {
             if c == '\t' {
                 f.write_str("\t")?;
             } else {
-                repeat(f, " ", display_width(c))?;
-            }
-        }
-        Ok(())
-    }
-}
-
-/// Carets as wide as a text, one at least.
-#[derive(Drop)]
-struct Carets<'a>(&'a str);
-
-impl fmt::Display for Carets<'_> {
-    fn fmt<W: fmt::Write>(&self, f: &mut fmt::Formatter<W>) -> fmt::Result {
-        if self.0.is_empty() {
-            return f.write_str("^");
-        }
-        for c in self.0.chars() {
-            if c == '\t' {
-                f.write_str("\t")?;
-            } else {
-                repeat(f, "^", display_width(c))?;
+                repeat(f, self.0, display_width(c))?;
             }
         }
         Ok(())

@@ -11,10 +11,6 @@ use std::alloc::AllocError;
 pub struct Lines;
 
 impl FindingsWriter for Lines {
-    fn begin(&mut self, _: &mut String) -> Result<(), AllocError> {
-        Ok(())
-    }
-
     fn add(&mut self, out: &mut String, entry: Entry<'_>) -> Result<(), AllocError> {
         match entry {
             Entry::Policy(place, id, verdict) => push_policy(out, place, id, verdict),

@@ -12,10 +12,6 @@ use std::alloc::AllocError;
 pub struct Objects;
 
 impl FindingsWriter for Objects {
-    fn begin(&mut self, _: &mut String) -> Result<(), AllocError> {
-        Ok(())
-    }
-
     fn add(&mut self, out: &mut String, entry: Entry<'_>) -> Result<(), AllocError> {
         match entry {
             Entry::Policy(place, id, verdict) => push_policy(out, place, id, verdict),

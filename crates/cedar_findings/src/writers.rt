@@ -55,8 +55,10 @@ pub enum Entry<'a> {
 
 /// Writes findings in a format. It begins once, and ends once behind all that it adds.
 pub trait FindingsWriter {
-    /// Adds what stands before all.
-    fn begin(&mut self, out: &mut String) -> Result<(), AllocError>;
+    /// Adds what stands before all: nothing, where a format does not say more.
+    fn begin(&mut self, _: &mut String) -> Result<(), AllocError> {
+        Ok(())
+    }
 
     /// Adds what is found.
     fn add(&mut self, out: &mut String, entry: Entry<'_>) -> Result<(), AllocError>;
