@@ -10,7 +10,7 @@ from pathlib import Path
 TOP = Path(__file__).resolve().parent.parent
 MUTATIONS = TOP / "mutations"
 # The most wrong bodies that share a check.
-BATCH = 8
+BATCH = 24
 FUNCTION = re.compile(r"^( *)(?:pub(?:\([^)]*\))? )?(?:const |unsafe )*fn (\w+)", re.M)
 IMPL = re.compile(r"^impl(?:<[^>]*>)? (?:(.*) for )?(\w+)", re.M)
 # A wrong body, with the paths of the functions that it turns, and its pairs: a file, the text that stands in it once, the new text.
