@@ -81,23 +81,10 @@ fn validate_text<O: Write, T: Write>(
     progress: &mut Progress<T>,
     out: &mut O,
 ) -> io::Result<bool> {
-    if settings.syntax.unwrap_or(Syntax::of(text)) == Syntax::Json {
-        return validate_json(alloc, settings, text, report, totals, progress, out);
+    if settings.syntax.unwrap_or(Syntax::of(text)) != Syntax::Json {
+        let read = Policies::of_text(alloc, text)?;
+        return validate_policies(alloc, settings, read, report, totals, progress, out);
     }
-    let read = Policies::of_text(alloc, text)?;
-    validate_policies(alloc, settings, read, report, totals, progress, out)
-}
-
-/// Validates the policies of a text of JSON. Whether all of it was read.
-fn validate_json<O: Write, T: Write>(
-    alloc: Global,
-    settings: &Settings<'_>,
-    text: &str,
-    report: &mut Report<'_>,
-    totals: &mut Totals,
-    progress: &mut Progress<T>,
-    out: &mut O,
-) -> io::Result<bool> {
     report.index_places()?;
     match value_alone(alloc, text) {
         Ok(root) => {
