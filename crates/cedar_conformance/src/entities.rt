@@ -1,7 +1,7 @@
 // Entities as a program has them.
-ghost use Rattle.std.specs.Prelude.{◌≡◌, [], ◌∷◌, ◌++◌, IfOk, OnOk, OnErr, option_map};
+ghost use Rattle.std.specs.Prelude.{◌≡◌, ◌↔◌, [], ◌∷◌, ◌++◌, IfOk, IsTrue, OnOk, OnErr, is_some, length, not, option_map};
 ghost use Rattle.cedar_types.specs.Names.{uid_of};
-ghost use Rattle.cedar_types.specs.Values.Stores.{entity_at};
+ghost use Rattle.cedar_types.specs.Values.Stores.{IsBare, entity_at};
 ghost use Rattle.cedar_conformance.specs.Entities.{entity_of, store_of, stored_all, IsSameStore};
 
 use crate::values::Record;
@@ -20,7 +20,9 @@ pub struct Entity {
 
 impl Entity {
     /// An entity without attributes, ancestors and tags.
-    pub fn bare(alloc: Global) -> Entity {
+    pub fn bare(alloc: Global) -> Entity
+        ensures { IsBare (entity_of result) }
+    {
         Entity {
             attributes: BTreeMap::new(alloc),
             ancestors: BTreeSet::new(alloc),
@@ -64,6 +66,8 @@ impl Entities {
     pub fn add(&mut self, id: EntityUID, entity: Entity) -> Result<bool, AllocError>
         ensures ok { OnOk result (IsSameStore (store_of self.new)
             (store_of self.old ++ (uid_of id, entity_of entity) ∷ [])) }
+        ensures counts { IfOk result (λ r.
+            r ≡ not (is_some (entity_at (store_of self.old) (uid_of id)))) }
         ensures err { OnErr result (store_of self.new ≡ store_of self.old) }
     {
         if self.entries.contains_key(&id) {
@@ -82,12 +86,16 @@ impl Entities {
     }
 
     /// How many entities there are.
-    pub fn len(&self) -> usize {
+    pub fn len(&self) -> usize
+        ensures { result ≡ length (store_of self.now) }
+    {
         self.entries.len()
     }
 
     /// Whether there are none.
-    pub fn is_empty(&self) -> bool {
-        self.entries.is_empty()
+    pub fn is_empty(&self) -> bool
+        ensures { IsTrue result ↔ (length (store_of self.now) ≡ 0) }
+    {
+        self.len() == 0
     }
 }

@@ -1,4 +1,4 @@
-use Rattle.std.proofs.Common.{◌∙◌, ap, sym, is_some}
+use Rattle.std.proofs.Common.{◌≡◌, ◌∙◌, ap, sym, true, false, is_some, not}
 use Rattle.cedar_types.specs.Names.{uid_of}
 use Rattle.cedar_types.specs.Values.Stores.{entity_at}
 use Rattle.cedar_types.proofs.Names.Ids.{uid_lookup, uids_cmp}
@@ -27,3 +27,23 @@ returns-clause-ok c u =
     (is_none _ (ap is_some (stored_at entries (uid_of id)) ∙ mapped_some entity_of _
     ∙ ap is_some (sym (uid_lookup _ (uid_of id) (λ k. uids_cmp id k) entries))
     ∙ sym c.contains_key.ensures ∙ c.if-contains_key.false)))
+
+pub returns-then-contains_key-clause-counts : goal.returns-then-contains_key-clause-counts
+returns-then-contains_key-clause-counts c =
+    let id = c.args.id in
+    let entries = c.args.self.now.entries.entries in
+    let there : is_some (entity_at (stored_all entries) (uid_of id)) ≡ true =
+    ap is_some (stored_at entries (uid_of id)) ∙ mapped_some entity_of _
+    ∙ ap is_some (sym (uid_lookup _ (uid_of id) (λ k. uids_cmp id k) entries))
+    ∙ sym c.contains_key.ensures ∙ c.if-contains_key.true in
+    ap not (sym there)
+
+pub returns-clause-counts : goal.returns-clause-counts
+returns-clause-counts c =
+    let id = c.args.id in
+    let entries = c.args.self.now.entries.entries in
+    let there : is_some (entity_at (stored_all entries) (uid_of id)) ≡ false =
+    ap is_some (stored_at entries (uid_of id)) ∙ mapped_some entity_of _
+    ∙ ap is_some (sym (uid_lookup _ (uid_of id) (λ k. uids_cmp id k) entries))
+    ∙ sym c.contains_key.ensures ∙ c.if-contains_key.false in
+    ap not (sym there)
