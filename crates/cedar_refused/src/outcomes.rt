@@ -26,6 +26,16 @@ pub fn finish<T: Debug + Drop, L: Debug>(
         Ok(answer) => Some(picture(alloc, &answer)?),
         Err(_) => None,
     };
+    finish_shown(alloc, answer, lent, was_refused)
+}
+
+/// Keeps the text of what a call answered, if it did, and what it was lent, after the refusal has ended.
+pub fn finish_shown<L: Debug>(
+    alloc: Global,
+    answer: Option<String>,
+    lent: &L,
+    was_refused: bool,
+) -> Result<Outcome, AllocError> {
     Ok(Outcome {
         answer,
         lent: picture(alloc, lent)?,

@@ -1,17 +1,17 @@
 // A line for each call: its name, and what came of it.
 use crate::calls::answers::FOLLOW_UPS;
-use crate::calls::capabilities::{SETS, STEPS, TAGS};
+use crate::calls::capabilities::{BASES, SETS, TAGS};
 use crate::calls::copies::COPIES;
 use crate::calls::environments::{
     ChecksMaking, ChecksWalk, LinkedMaking, LinkedWalk, MODE, NextWalk, OneCheck, Walk,
 };
 use crate::calls::expressions::{MORE, ONE_OPERAND, TWO_OPERANDS};
-use crate::calls::lines::{Basis, Line, LineCall, Probe};
+use crate::calls::lines::{Line, LineCall, Probe};
 use crate::calls::lookups::LOOKUPS;
 use crate::calls::names::NAMES;
-use crate::calls::passes::{Pass, PassWalk};
+use crate::calls::passes::{OfLiterals, Pass, PassWalk};
 use crate::calls::policies::WholeCheck;
-use crate::calls::request_envs::{ENVIRONMENTS, UNDECLARED};
+use crate::calls::request_envs::ENVIRONMENTS;
 use crate::calls::schemas::SCHEMAS;
 use crate::calls::templates::TEMPLATES;
 use crate::calls::typed_trees::TREES;
@@ -44,43 +44,42 @@ pub fn report<W: Write>(
     };
     writeln!(out, "{listener}")?;
     let validator = Validator::new(schema_of(alloc, SCHEMA)?, extensions);
-    let basis = Basis {
-        validator: &validator,
-        extensions,
-    };
-    write_parts(alloc, basis, out)?;
-    about_schemas(alloc, basis, out)?;
-    write_table(alloc, basis, &CHECKS, out)?;
-    write_table(alloc, basis, &TREES, out)?;
-    write_table(alloc, basis, &POLICIES, out)?;
-    walks(alloc, basis, out)?;
-    whole_checks(alloc, basis, out)?;
+    write_parts(alloc, &validator, out)?;
+    about_schemas(alloc, &validator, out)?;
+    write_table(alloc, &validator, &CHECKS, out)?;
+    write_table(alloc, &validator, &TREES, out)?;
+    write_table(alloc, &validator, &POLICIES, out)?;
+    walks(alloc, &validator, out)?;
+    whole_checks(alloc, &validator, out)?;
     all_passes(alloc, &validator, out)?;
     without_memory(alloc, &validator, out)
 }
 
 /// The tables of what is made of parts, and of copies.
-fn write_parts<W: Write>(alloc: Global, basis: Basis<'_>, out: &mut W) -> io::Result<()> {
-    write_table(alloc, basis, &TWO_OPERANDS, out)?;
-    write_table(alloc, basis, &ONE_OPERAND, out)?;
-    write_table(alloc, basis, &MORE, out)?;
-    write_table(alloc, basis, &NAMES, out)?;
-    write_table(alloc, basis, &TYPES, out)?;
-    write_table(alloc, basis, &COPIES, out)?;
-    write_table(alloc, basis, &SETS, out)?;
-    write_table(alloc, basis, &STEPS, out)?;
-    write_table(alloc, basis, &TAGS, out)?;
-    write_table(alloc, basis, &FOLLOW_UPS, out)
+fn write_parts<W: Write>(alloc: Global, validator: &Validator<'_>, out: &mut W) -> io::Result<()> {
+    write_table(alloc, validator, &TWO_OPERANDS, out)?;
+    write_table(alloc, validator, &ONE_OPERAND, out)?;
+    write_table(alloc, validator, &MORE, out)?;
+    write_table(alloc, validator, &NAMES, out)?;
+    write_table(alloc, validator, &TYPES, out)?;
+    write_table(alloc, validator, &COPIES, out)?;
+    write_table(alloc, validator, &SETS, out)?;
+    write_table(alloc, validator, &BASES, out)?;
+    write_table(alloc, validator, &TAGS, out)?;
+    write_table(alloc, validator, &FOLLOW_UPS, out)
 }
 
 /// The tables of what is asked of types, schemas, templates and environments.
-fn about_schemas<W: Write>(alloc: Global, basis: Basis<'_>, out: &mut W) -> io::Result<()> {
-    write_table(alloc, basis, &BOUNDS, out)?;
-    write_table(alloc, basis, &LOOKUPS, out)?;
-    write_table(alloc, basis, &SCHEMAS, out)?;
-    write_table(alloc, basis, &TEMPLATES, out)?;
-    write_table(alloc, basis, &ENVIRONMENTS, out)?;
-    write_table(alloc, basis, &UNDECLARED, out)
+fn about_schemas<W: Write>(
+    alloc: Global,
+    validator: &Validator<'_>,
+    out: &mut W,
+) -> io::Result<()> {
+    write_table(alloc, validator, &BOUNDS, out)?;
+    write_table(alloc, validator, &LOOKUPS, out)?;
+    write_table(alloc, validator, &SCHEMAS, out)?;
+    write_table(alloc, validator, &TEMPLATES, out)?;
+    write_table(alloc, validator, &ENVIRONMENTS, out)
 }
 
 fn write_sweep<C: Call, W: Write>(
@@ -96,27 +95,34 @@ fn write_sweep<C: Call, W: Write>(
 /// Writes what came of the lines of a table.
 fn write_table<T: Probe, W: Write>(
     alloc: Global,
-    basis: Basis<'_>,
+    validator: &Validator<'_>,
     lines: &[(T, &str)],
     out: &mut W,
 ) -> io::Result<()> {
     for (call, block) in lines {
-        write_lines(alloc, basis, *call, block, out)?;
+        write_lines(alloc, &*validator, *call, block, out)?;
     }
     Ok(())
 }
 
 /// Writes what came of the lines of one call.
-fn write_lines<T: Probe, W: Write>(
+fn write_lines<'x, T: Probe, W: Write>(
     alloc: Global,
-    basis: Basis<'_>,
+    validator: &'x Validator<'x>,
     call: T,
-    block: &str,
+    block: &'x str,
     out: &mut W,
 ) -> io::Result<()> {
     for line in block.trim().lines() {
         let line = Line::read(line);
-        let outcome = sweep(alloc, &LineCall { basis, call, line })?;
+        let outcome = sweep(
+            alloc,
+            &LineCall {
+                validator,
+                call,
+                line,
+            },
+        )?;
         let name = line.name;
         match (line.takes_none, outcome.as_str() == NOTHING_REFUSED) {
             (true, true) => writeln!(out, "{name}: {TAKES_NONE}")?,
@@ -127,13 +133,13 @@ fn write_lines<T: Probe, W: Write>(
     Ok(())
 }
 
-fn walks<W: Write>(alloc: Global, basis: Basis<'_>, out: &mut W) -> io::Result<()> {
-    let schema = basis.validator.schema();
+fn walks<W: Write>(alloc: Global, validator: &Validator<'_>, out: &mut W) -> io::Result<()> {
+    let schema = validator.schema();
     let policy = policy(alloc, KNOWN)?;
     // each of two actions with the slot linked in two ways, and the undeclared ones
     let walk = Walk {
         schema,
-        checker: &Typechecker::new(schema, basis.extensions, MODE),
+        checker: &Typechecker::new(schema, validator.extensions(), MODE),
         policy: &policy.template,
         environments: 5,
     };
@@ -155,9 +161,9 @@ fn walks<W: Write>(alloc: Global, basis: Basis<'_>, out: &mut W) -> io::Result<(
     write_sweep(alloc, out, "RequestEnvChecks::check", &OneCheck(walk))
 }
 
-fn whole_checks<W: Write>(alloc: Global, basis: Basis<'_>, out: &mut W) -> io::Result<()> {
-    let schema = basis.validator.schema();
-    let checker = Typechecker::new(schema, basis.extensions, ValidationMode::Strict);
+fn whole_checks<W: Write>(alloc: Global, validator: &Validator<'_>, out: &mut W) -> io::Result<()> {
+    let (schema, extensions) = (validator.schema(), validator.extensions());
+    let checker = Typechecker::new(schema, extensions, ValidationMode::Strict);
     whole_checks_by(alloc, &checker, out)
 }
 
@@ -196,19 +202,19 @@ fn all_passes<W: Write>(alloc: Global, validator: &Validator<'_>, out: &mut W) -
         (
             "LiteralErrors::next, validate_entity_types",
             &named,
-            Pass::EntityTypes,
+            Pass::Literals(OfLiterals::EntityTypes),
             4,
         ),
         (
             "LiteralErrors::next, validate_action_ids",
             &named,
-            Pass::ActionIds,
+            Pass::Literals(OfLiterals::ActionIds),
             2,
         ),
         (
             "LiteralErrors::next, validate_enum_entity",
             &named,
-            Pass::EnumEntities,
+            Pass::Literals(OfLiterals::EnumEntities),
             2,
         ),
         ("SlotTypeErrors::next", &bound, Pass::SlotTypes, 2),

@@ -11,6 +11,8 @@ mod choices;
 #[cfg(test)]
 mod collisions;
 #[cfg(test)]
+mod digested_bases;
+#[cfg(test)]
 mod error_texts;
 #[cfg(test)]
 mod escapes;

@@ -2,9 +2,11 @@
 use Rattle.std.specs.Prelude.{◌≡◌, Bool, false, ◌&&◌, ◌||◌, List}
 use Rattle.std.specs.List.{list_any}
 use Rattle.std.specs.declared.cmp.Ordering.{Ordering}
+use Rattle.cedar_types.specs.declared.base.expressions.Expr.{Expr}
 use Rattle.cedar_types.specs.declared.types.capability.digested.Capability.{Capability}
 use Rattle.cedar_types.specs.declared.types.capability.CapabilitySet.{CapabilitySet}
 use Rattle.cedar_types.specs.declared.types.capability.digested.Known.{Known}
+use Rattle.cedar_types.specs.declared.types.capability.bases.DigestedBase.{DigestedBase}
 use Rattle.cedar_types.specs.declared.types.capability.builder.CapabilitySetBuilder.{CapabilitySetBuilder}
 use Rattle.cedar_types.specs.contracts.types.capability.digested.CapabilityPartialEq.TheImpl as eq_impl
 use Rattle.cedar_types.specs.contracts.types.capability.digested.CapabilityOrd.TheImpl as ord_impl
@@ -32,6 +34,10 @@ known_of s (Known.Tag x) = tag s (shape_of x)
 
 unfoldable pub cap_of : Capability → Cap
 cap_of c = known_of (shape_on c.on_expr) c.known
+
+-- the expression that attributes are asked of
+unfoldable pub expr_in : DigestedBase → Expr (Unit {0})
+expr_in b = b.base.now
 
 -- the derived `==` and the derived order
 abbrev pub capability_eq : Capability → Capability → Bool

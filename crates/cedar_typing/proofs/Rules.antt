@@ -1,6 +1,7 @@
 -- The rules form by form, as the program follows them, and what holds of them all.
 pub mod Sequence
 pub mod Operands
+pub mod OneOperand
 pub mod TwoOperands
 pub mod OperandLists
 pub mod TypesGiven

@@ -32,29 +32,24 @@ pub fn success<'a>(alloc: Global) -> Result<TypecheckAnswer<'a>, AllocError> {
     Ok(TypecheckAnswer::success_with_capability(long(alloc, 7)?, known))
 }
 
-/// Follows up on a success, or on two.
-fn follow_up(alloc: Global, up: FollowUp, number: u16) -> Result<Outcome, AllocError> {
-    let answer = success(alloc)?;
-    let answers = vec![in alloc; Ok(success(alloc)?), Ok(success(alloc)?)]?;
-    refuse(alloc, number);
-    let followed = match up {
-        FollowUp::Map => answer.map_capability(|set| set.try_clone(alloc)),
-        FollowUp::Then => {
-            answer.then_typecheck(alloc, |expr, set| {
-                let copied = set.try_clone(alloc)?;
-                Ok(TypecheckAnswer::success_with_capability(expr, copied))
-            })
-        }
-        FollowUp::Sequence => {
-            TypecheckAnswer::sequence_all_then_typecheck(alloc, answers, |_| success(alloc))
-        }
-    };
-    finish(alloc, followed, &())
-}
-
 impl Probe for FollowUp {
-    fn run(self, trial: Trial<'_>) -> Result<Outcome, AllocError> {
-        follow_up(trial.alloc, self, trial.number)
+    fn run(self, alloc: Global, trial: Trial<'_>) -> Result<Outcome, AllocError> {
+        let answer = success(alloc)?;
+        let answers = vec![in alloc; Ok(success(alloc)?), Ok(success(alloc)?)]?;
+        refuse(alloc, trial.number);
+        let followed = match self {
+            FollowUp::Map => answer.map_capability(|set| set.try_clone(alloc)),
+            FollowUp::Then => {
+                answer.then_typecheck(alloc, |expr, set| {
+                    let copied = set.try_clone(alloc)?;
+                    Ok(TypecheckAnswer::success_with_capability(expr, copied))
+                })
+            }
+            FollowUp::Sequence => {
+                TypecheckAnswer::sequence_all_then_typecheck(alloc, answers, |_| success(alloc))
+            }
+        };
+        finish(alloc, followed, &())
     }
 }
 

@@ -4,8 +4,11 @@ use crate::outcomes::{Outcome, finish};
 use crate::pictures::picture;
 use crate::refusals::refuse;
 use cedar_types::base::{AttrChain, Expr, Literal, Var};
-use cedar_types::types::capability::{Capability, CapabilitySet, CapabilitySetBuilder, ChainStep};
+use cedar_types::types::capability::{
+    Capability, CapabilitySet, CapabilitySetBuilder, ChainStep, DigestedBase,
+};
 use std::alloc::{AllocError, Global};
+use std::fmt::Debug;
 use std::rc::RcStr;
 
 /// What is asked of sets.
@@ -42,80 +45,66 @@ pub fn having<'a>(
     Ok(set)
 }
 
-/// Asks it of two sets, which share one of two attributes.
-fn of_sets(alloc: Global, asked: OfSets, number: u16) -> Result<Outcome, AllocError> {
-    let sets = (having(alloc, "vip", "nick")?, having(alloc, "nick", "age")?);
-    let alone = has(alloc, "vip")?;
-    refuse(alloc, number);
+/// Asks it of two sets, or of a capability that is to be alone.
+fn of_sets<'a>(
+    alloc: Global,
+    trial: Trial<'_>,
+    asked: OfSets,
+    alone: Capability<'a>,
+    sets: (CapabilitySet<'a>, CapabilitySet<'a>),
+) -> Result<Outcome, AllocError> {
+    refuse(alloc, trial.number);
     match asked {
         OfSets::Insert | OfSets::Add | OfSets::Join | OfSets::Build | OfSets::Singleton => finish(
             alloc,
             CapabilitySet::singleton(alloc, alone),
             &sets,
         ),
-        OfSets::Copy => finish(alloc, sets.0.try_clone(alloc), &sets),
+        OfSets::Copy => finish(alloc, sets.1.try_clone(alloc), &sets),
         OfSets::Union => finish(alloc, sets.0.union(alloc, &sets.1), &sets),
         OfSets::Intersect => finish(alloc, sets.0.intersect(alloc, &sets.1), &sets),
     }
 }
 
-/// Asks for what knows the tag `t` of the principal, and an attribute of each, borrowed and owned.
-fn of_tags(alloc: Global, asked: OfSets, number: u16) -> Result<Outcome, AllocError> {
-    let (owner, name) = (
-        Expr::var(Var::Principal),
-        Expr::val(Literal::from_string(alloc, "t")?),
-    );
-    let owned = Capability::new_owned_tag(&owner, name.try_clone(alloc)?);
-    let lent = CapabilitySet::singleton(alloc, Capability::new_borrowed_tag(&owner, &name))?;
-    let alone = Capability::new_attribute(&owner, RcStr::from_str(alloc, "vip")?);
-    let set = CapabilitySet::singleton(alloc, owned)?;
-    refuse(alloc, number);
-    match asked {
-        OfSets::Insert | OfSets::Add | OfSets::Join | OfSets::Build | OfSets::Singleton => finish(
-            alloc,
-            CapabilitySet::singleton(alloc, alone),
-            &lent,
-        ),
-        OfSets::Copy => finish(alloc, set.try_clone(alloc), &lent),
-        OfSets::Union => finish(alloc, lent.union(alloc, &set), &lent),
-        OfSets::Intersect => finish(alloc, lent.intersect(alloc, &set), &lent),
-    }
-}
-
 /// Joins two sets, which both end in what comes of it.
-fn join(alloc: Global, number: u16) -> Result<Outcome, AllocError> {
+fn join(alloc: Global, trial: Trial<'_>) -> Result<Outcome, AllocError> {
     // four entries fill the room of the first set
     let (mut one, other) = (having(alloc, "vip", "nick")?, has(alloc, "names")?);
     one.insert(has(alloc, "age")?)?;
     one.insert(has(alloc, "boss")?)?;
     let other = CapabilitySet::singleton(alloc, other)?;
-    refuse(alloc, number);
+    refuse(alloc, trial.number);
     let joined = one.join(other);
     finish(alloc, joined, &())
 }
 
-/// Adds a capability to a set, which is as it was where memory was refused.
-fn insert(alloc: Global, number: u16) -> Result<Outcome, AllocError> {
+/// Adds a capability to a set.
+fn insert(alloc: Global, trial: Trial<'_>) -> Result<Outcome, AllocError> {
     let (mut set, another) = (CapabilitySet::new(alloc), has(alloc, "age")?);
     let before = picture(alloc, &set)?;
-    refuse(alloc, number);
+    refuse(alloc, trial.number);
     let answer = set.insert(another);
-    let outcome = finish(alloc, answer, &())?;
-    let is_kept = outcome.answer.is_some() || picture(alloc, &set)? == before;
-    Ok(Outcome {
-        lent: picture(alloc, &is_kept)?,
-        ..outcome
-    })
+    finish_insertion(alloc, answer, &before, &set)
 }
 
-/// Adds a capability to a builder, which is as it was where memory was refused.
-fn add(alloc: Global, number: u16) -> Result<Outcome, AllocError> {
+/// Adds a capability to a builder.
+fn add(alloc: Global, trial: Trial<'_>) -> Result<Outcome, AllocError> {
     let (mut builder, another) = (CapabilitySetBuilder::new(alloc), has(alloc, "age")?);
     let before = picture(alloc, &builder)?;
-    refuse(alloc, number);
+    refuse(alloc, trial.number);
     let answer = builder.insert(another);
+    finish_insertion(alloc, answer, &before, &builder)
+}
+
+/// What came of an insertion, after which the set or builder is as it was where memory was refused.
+fn finish_insertion<S: Debug>(
+    alloc: Global,
+    answer: Result<(), AllocError>,
+    before: &String,
+    after: &S,
+) -> Result<Outcome, AllocError> {
     let outcome = finish(alloc, answer, &())?;
-    let is_kept = outcome.answer.is_some() || picture(alloc, &builder)? == before;
+    let is_kept = outcome.answer.is_some() || picture(alloc, after)? == *before;
     Ok(Outcome {
         lent: picture(alloc, &is_kept)?,
         ..outcome
@@ -123,52 +112,79 @@ fn add(alloc: Global, number: u16) -> Result<Outcome, AllocError> {
 }
 
 /// Makes a set by a builder of two capabilities.
-fn build(alloc: Global, number: u16) -> Result<Outcome, AllocError> {
+fn build(alloc: Global, trial: Trial<'_>) -> Result<Outcome, AllocError> {
     let mut builder = CapabilitySetBuilder::new(alloc);
     builder.insert(has(alloc, "vip")?)?;
     builder.insert(has(alloc, "nick")?)?;
-    refuse(alloc, number);
+    refuse(alloc, trial.number);
     let set = builder.build(alloc);
     finish(alloc, set, &())
 }
 
-/// The first step of an extended `has`.
-#[derive(Clone, Copy)]
-pub struct OfSteps;
+/// The first step of an extended `has` with two attributes of this name.
+fn first_step(
+    alloc: Global,
+    number: u16,
+    base: &Expr,
+    first: RcStr,
+) -> Result<Outcome, AllocError> {
+    let rest = vec![in alloc; first.clone()?]?;
+    let attrs = AttrChain { first, rest };
+    let step = ChainStep::first(base, &attrs);
+    refuse(alloc, number);
+    finish(alloc, step.capability(), &attrs)
+}
 
-impl Probe for OfSteps {
-    fn run(self, trial: Trial<'_>) -> Result<Outcome, AllocError> {
-        let Trial {
-            alloc,
-            text,
-            number,
-            ..
-        } = trial;
-        let (base, first) = (Expr::var(Var::Principal), RcStr::from_str(alloc, text)?);
-        let rest = vec![in alloc; first.clone()?]?;
-        let attrs = AttrChain { first, rest };
-        let step = ChainStep::first(&base, &attrs);
-        refuse(alloc, number);
-        finish(alloc, step.capability(), &attrs)
+/// What is known of a base that has an attribute.
+#[derive(Clone, Copy)]
+pub enum OfBases {
+    Step,
+    Attribute,
+}
+
+impl Probe for OfBases {
+    fn run(self, alloc: Global, trial: Trial<'_>) -> Result<Outcome, AllocError> {
+        let attr = RcStr::from_str(alloc, trial.text)?;
+        let base = Expr::var(Var::Principal);
+        match self {
+            OfBases::Step => first_step(alloc, trial.number, &base, attr),
+            OfBases::Attribute => {
+                let mut base = DigestedBase::new(&base);
+                refuse(alloc, trial.number);
+                finish(alloc, base.attribute(&attr), &attr)
+            }
+        }
     }
 }
 
 impl Probe for OfSets {
-    fn run(self, trial: Trial<'_>) -> Result<Outcome, AllocError> {
-        let Trial { alloc, number, .. } = trial;
+    fn run(self, alloc: Global, trial: Trial<'_>) -> Result<Outcome, AllocError> {
         match self {
-            OfSets::Insert => insert(alloc, number),
-            OfSets::Join => join(alloc, number),
-            OfSets::Build => build(alloc, number),
-            OfSets::Add => add(alloc, number),
-            _ => of_sets(alloc, self, number),
+            OfSets::Insert => insert(alloc, trial),
+            OfSets::Join => join(alloc, trial),
+            OfSets::Build => build(alloc, trial),
+            OfSets::Add => add(alloc, trial),
+            _ => {
+                // they share one of two attributes
+                let sets = (having(alloc, "vip", "nick")?, having(alloc, "nick", "age")?);
+                of_sets(alloc, trial, self, has(alloc, "vip")?, sets)
+            }
         }
     }
 }
 
 impl Probe for OfTags {
-    fn run(self, trial: Trial<'_>) -> Result<Outcome, AllocError> {
-        of_tags(trial.alloc, self.0, trial.number)
+    fn run(self, alloc: Global, trial: Trial<'_>) -> Result<Outcome, AllocError> {
+        // of the tag `t` of the principal, and an attribute of each, borrowed and owned
+        let (owner, name) = (
+            Expr::var(Var::Principal),
+            Expr::val(Literal::from_string(alloc, "t")?),
+        );
+        let owned = Capability::new_owned_tag(&owner, name.try_clone(alloc)?);
+        let lent = CapabilitySet::singleton(alloc, Capability::new_borrowed_tag(&owner, &name))?;
+        let alone = Capability::new_attribute(&owner, RcStr::from_str(alloc, "vip")?);
+        let set = CapabilitySet::singleton(alloc, owned)?;
+        of_sets(alloc, trial, self.0, alone, (lent, set))
     }
 }
 
@@ -184,8 +200,14 @@ pub const SETS: [(OfSets, &str); 8] = [
     (OfSets::Copy, "CapabilitySet::try_clone | nick"),
 ];
 
-/// What a step of an extended `has` finds.
-pub const STEPS: [(OfSteps, &str); 1] = [(OfSteps, "- ChainStep::capability | boss | boss")];
+/// Questions about bases of attributes.
+pub const BASES: [(OfBases, &str); 2] = [
+    (OfBases::Step, "- ChainStep::capability | boss | boss"),
+    (
+        OfBases::Attribute,
+        "- DigestedBase::attribute | boss | boss",
+    ),
+];
 
 /// The same of sets that know tags.
 pub const TAGS: [(OfTags, &str); 4] = [

@@ -1,12 +1,11 @@
 // Checks of policies, and what a validator is asked.
-use crate::calls::lines::{Basis, Probe, Trial};
+use crate::calls::lines::{Probe, Trial};
 use crate::calls::surveys::{level_errors_at_0, survey};
-use crate::outcomes::{Outcome, finish};
+use crate::outcomes::{Outcome, finish, finish_shown};
 use crate::pictures::picture;
 use crate::refusals::{refuse, was_refused};
 use crate::samples::texts::policy;
 use cedar_typechecker::level_validate::{LevelErrors, LevelWarnings};
-use cedar_typechecker::rbac::Validator;
 use cedar_types::base::ValidationMode;
 use cedar_types::types::request_env::RequestEnv;
 use cedar_typing::typecheck::Typechecker;
@@ -21,34 +20,24 @@ pub enum InEnvironment {
     Undeclared,
 }
 
-/// Checks the policy of this text in the first environment of the schema.
-fn single(
-    alloc: Global,
-    basis: Basis<'_>,
-    mode: ValidationMode,
-    text: &str,
-    number: u16,
-) -> Result<Outcome, AllocError> {
-    let mut envs = basis.validator.schema().unlinked_request_envs(mode);
-    match envs.next() {
-        Some(env) => check_in(alloc, basis, mode, (env, text), number),
-        None => Err(AllocError),
+impl Probe for InEnvironment {
+    fn run(self, alloc: Global, trial: Trial<'_>) -> Result<Outcome, AllocError> {
+        let schema = trial.validator.schema();
+        let (mode, env) = match self {
+            InEnvironment::First(mode) => (mode, schema.unlinked_request_envs(mode).next()),
+            InEnvironment::Undeclared => {
+                (ValidationMode::Partial, Some(RequestEnv::UndeclaredAction))
+            }
+        };
+        let Some(env) = env else {
+            return Err(AllocError);
+        };
+        let policy = policy(alloc, trial.text)?;
+        let checker = Typechecker::new(schema, trial.validator.extensions(), mode);
+        refuse(alloc, trial.number);
+        let check = checker.typecheck_by_single_request_env(alloc, &policy.template, &env);
+        finish(alloc, check, &policy)
     }
-}
-
-/// Checks the policy of this text in an environment.
-fn check_in<'a>(
-    alloc: Global,
-    basis: Basis<'a>,
-    mode: ValidationMode,
-    (env, text): (RequestEnv<'a>, &str),
-    number: u16,
-) -> Result<Outcome, AllocError> {
-    let (schema, policy) = (basis.validator.schema(), policy(alloc, text)?);
-    let checker = Typechecker::new(schema, basis.extensions, mode);
-    refuse(alloc, number);
-    let check = checker.typecheck_by_single_request_env(alloc, &policy.template, &env);
-    finish(alloc, check, &policy)
 }
 
 /// What is asked of a validator.
@@ -65,17 +54,16 @@ pub enum OfValidator {
     SurveyedLevel,
 }
 
-/// Asks it of the policy of this text, in Strict.
+/// Asks it of the policy of the text, in Strict.
 fn of_validator(
     alloc: Global,
-    validator: &Validator<'_>,
+    trial: Trial<'_>,
     asked: OfValidator,
-    text: &str,
-    number: u16,
 ) -> Result<Outcome, AllocError> {
-    let (mode, policy) = (ValidationMode::Strict, policy(alloc, text)?);
+    let validator = trial.validator;
+    let (mode, policy) = (ValidationMode::Strict, policy(alloc, trial.text)?);
     let template = &*policy.template;
-    refuse(alloc, number);
+    refuse(alloc, trial.number);
     match asked {
         OfValidator::Principals => {
             let constraint = &template.principal_constraint;
@@ -112,26 +100,18 @@ fn of_validator(
     }
 }
 
-/// Validates the policy of this text in Strict, where no dereference is allowed.
-fn at_level_0(
-    alloc: Global,
-    validator: &Validator<'_>,
-    text: &str,
-    number: u16,
-) -> Result<Outcome, AllocError> {
-    let (mode, policy) = (ValidationMode::Strict, policy(alloc, text)?);
-    refuse(alloc, number);
+/// Validates the policy of the text in Strict, where no dereference is allowed.
+fn at_level_0(alloc: Global, trial: Trial<'_>) -> Result<Outcome, AllocError> {
+    let validator = trial.validator;
+    let (mode, policy) = (ValidationMode::Strict, policy(alloc, trial.text)?);
+    refuse(alloc, trial.number);
     let found = validator.validate_policy_with_level(alloc, &policy.template, mode, 0);
     let was_refused = was_refused(alloc);
     let answer = match found {
         Ok((errors, warnings)) => Some(find_all(alloc, errors, warnings)?),
         Err(_) => None,
     };
-    Ok(Outcome {
-        answer,
-        lent: picture(alloc, &policy)?,
-        was_refused,
-    })
+    finish_shown(alloc, answer, &policy, was_refused)
 }
 
 /// All errors and warnings, sorted by bytes.
@@ -151,39 +131,13 @@ fn find_all(
     picture(alloc, &lines)
 }
 
-impl Probe for InEnvironment {
-    fn run(self, trial: Trial<'_>) -> Result<Outcome, AllocError> {
-        let Trial {
-            alloc,
-            basis,
-            text,
-            number,
-        } = trial;
-        match self {
-            InEnvironment::First(mode) => single(alloc, basis, mode, text, number),
-            InEnvironment::Undeclared => {
-                let env = RequestEnv::UndeclaredAction;
-                check_in(alloc, basis, ValidationMode::Partial, (env, text), number)
-            }
-        }
-    }
-}
-
 impl Probe for OfValidator {
-    fn run(self, trial: Trial<'_>) -> Result<Outcome, AllocError> {
-        let Trial {
-            alloc,
-            basis,
-            text,
-            number,
-        } = trial;
+    fn run(self, alloc: Global, trial: Trial<'_>) -> Result<Outcome, AllocError> {
         match self {
-            OfValidator::Level => at_level_0(alloc, basis.validator, text, number),
-            OfValidator::Survey => survey(alloc, basis.validator, text, number),
-            OfValidator::SurveyedLevel => {
-                level_errors_at_0(alloc, basis.validator, text, number)
-            }
-            _ => of_validator(alloc, basis.validator, self, text, number),
+            OfValidator::Level => at_level_0(alloc, trial),
+            OfValidator::Survey => survey(alloc, trial),
+            OfValidator::SurveyedLevel => level_errors_at_0(alloc, trial),
+            _ => of_validator(alloc, trial, self),
         }
     }
 }

@@ -81,41 +81,36 @@ fn all_originals(alloc: Global) -> Result<Originals, AllocError> {
     })
 }
 
-/// Copies it.
-fn copy_of(alloc: Global, copied: Copied, number: u16) -> Result<Outcome, AllocError> {
-    let all = all_originals(alloc)?;
-    refuse(alloc, number);
-    match copied {
-        Copied::Expr => finish(alloc, all.expr.try_clone(alloc), &all),
-        Copied::OwnedShape => finish(alloc, all.shape.try_clone(alloc), &all),
-        Copied::BorrowedShape => {
-            let shape = ExprShapeOnly::Borrowed(&all.expr);
-            finish(alloc, shape.try_clone(alloc), &all)
-        }
-        Copied::Template => finish(alloc, all.template.try_clone(alloc), &all),
-        Copied::Name => finish(alloc, all.uid.entity_type.name.clone(), &all),
-        Copied::EntityType => finish(alloc, all.uid.entity_type.clone(), &all),
-        Copied::Uid => finish(alloc, all.uid.clone(), &all),
-        Copied::PolicyId => finish(alloc, all.template.id.clone(), &all),
-        Copied::Literal => finish(alloc, all.literal.clone(), &all),
-        Copied::Chain => finish(alloc, all.chain.clone(), &all),
-        Copied::Reference => finish(alloc, all.reference.clone(), &all),
-        Copied::Constraint => finish(alloc, all.constraint.clone(), &all),
-        Copied::Actions => {
-            let actions = &all.template.action_constraint;
-            finish(alloc, actions.try_clone(alloc), &all)
-        }
-        Copied::EntitySet => finish(alloc, all.entities.clone(), &all),
-        Copied::Entities => finish(alloc, all.kind.clone(), &all),
-        Copied::Attributes => finish(alloc, all.attributes.clone(), &all),
-        Copied::AttributeType => finish(alloc, all.attribute.clone(), &all),
-        Copied::Type => finish(alloc, all.record.clone(), &all),
-    }
-}
-
 impl Probe for Copied {
-    fn run(self, trial: Trial<'_>) -> Result<Outcome, AllocError> {
-        copy_of(trial.alloc, self, trial.number)
+    fn run(self, alloc: Global, trial: Trial<'_>) -> Result<Outcome, AllocError> {
+        let all = all_originals(alloc)?;
+        refuse(alloc, trial.number);
+        match self {
+            Copied::Expr => finish(alloc, all.expr.try_clone(alloc), &all),
+            Copied::OwnedShape => finish(alloc, all.shape.try_clone(alloc), &all),
+            Copied::BorrowedShape => {
+                let shape = ExprShapeOnly::Borrowed(&all.expr);
+                finish(alloc, shape.try_clone(alloc), &all)
+            }
+            Copied::Template => finish(alloc, all.template.try_clone(alloc), &all),
+            Copied::Name => finish(alloc, all.uid.entity_type.name.clone(), &all),
+            Copied::EntityType => finish(alloc, all.uid.entity_type.clone(), &all),
+            Copied::Uid => finish(alloc, all.uid.clone(), &all),
+            Copied::PolicyId => finish(alloc, all.template.id.clone(), &all),
+            Copied::Literal => finish(alloc, all.literal.clone(), &all),
+            Copied::Chain => finish(alloc, all.chain.clone(), &all),
+            Copied::Reference => finish(alloc, all.reference.clone(), &all),
+            Copied::Constraint => finish(alloc, all.constraint.clone(), &all),
+            Copied::Actions => {
+                let actions = &all.template.action_constraint;
+                finish(alloc, actions.try_clone(alloc), &all)
+            }
+            Copied::EntitySet => finish(alloc, all.entities.clone(), &all),
+            Copied::Entities => finish(alloc, all.kind.clone(), &all),
+            Copied::Attributes => finish(alloc, all.attributes.clone(), &all),
+            Copied::AttributeType => finish(alloc, all.attribute.clone(), &all),
+            Copied::Type => finish(alloc, all.record.clone(), &all),
+        }
     }
 }
 

@@ -26,28 +26,32 @@ pub enum OfTwo {
     HasTag,
 }
 
-/// Makes an expression of this one, twice.
-fn of_two(alloc: Global, form: OfTwo, text: &str, number: u16) -> Result<Outcome, AllocError> {
-    let (left, right) = (expression(alloc, text)?, expression(alloc, text)?);
-    refuse(alloc, number);
-    let made = match form {
-        OfTwo::And => Expr::and(alloc, left, right),
-        OfTwo::Or => Expr::or(alloc, left, right),
-        OfTwo::Operator(operator) => Expr::binary_app(alloc, operator, left, right),
-        OfTwo::Eq => Expr::is_eq(alloc, left, right),
-        OfTwo::Less => Expr::less(alloc, left, right),
-        OfTwo::LessEq => Expr::lesseq(alloc, left, right),
-        OfTwo::Add => Expr::add(alloc, left, right),
-        OfTwo::Sub => Expr::sub(alloc, left, right),
-        OfTwo::Mul => Expr::mul(alloc, left, right),
-        OfTwo::In => Expr::is_in(alloc, left, right),
-        OfTwo::Contains => Expr::contains(alloc, left, right),
-        OfTwo::ContainsAll => Expr::contains_all(alloc, left, right),
-        OfTwo::ContainsAny => Expr::contains_any(alloc, left, right),
-        OfTwo::GetTag => Expr::get_tag(alloc, left, right),
-        OfTwo::HasTag => Expr::has_tag(alloc, left, right),
-    };
-    finish(alloc, made, &())
+impl Probe for OfTwo {
+    fn run(self, alloc: Global, trial: Trial<'_>) -> Result<Outcome, AllocError> {
+        let (left, right) = (
+            expression(alloc, trial.text)?,
+            expression(alloc, trial.text)?,
+        );
+        refuse(alloc, trial.number);
+        let made = match self {
+            OfTwo::And => Expr::and(alloc, left, right),
+            OfTwo::Or => Expr::or(alloc, left, right),
+            OfTwo::Operator(operator) => Expr::binary_app(alloc, operator, left, right),
+            OfTwo::Eq => Expr::is_eq(alloc, left, right),
+            OfTwo::Less => Expr::less(alloc, left, right),
+            OfTwo::LessEq => Expr::lesseq(alloc, left, right),
+            OfTwo::Add => Expr::add(alloc, left, right),
+            OfTwo::Sub => Expr::sub(alloc, left, right),
+            OfTwo::Mul => Expr::mul(alloc, left, right),
+            OfTwo::In => Expr::is_in(alloc, left, right),
+            OfTwo::Contains => Expr::contains(alloc, left, right),
+            OfTwo::ContainsAll => Expr::contains_all(alloc, left, right),
+            OfTwo::ContainsAny => Expr::contains_any(alloc, left, right),
+            OfTwo::GetTag => Expr::get_tag(alloc, left, right),
+            OfTwo::HasTag => Expr::has_tag(alloc, left, right),
+        };
+        finish(alloc, made, &())
+    }
 }
 
 /// What makes an expression of one.
@@ -61,19 +65,20 @@ pub enum OfOne {
     HasAttr,
 }
 
-/// Makes an expression of this one.
-fn of_one(alloc: Global, form: OfOne, text: &str, number: u16) -> Result<Outcome, AllocError> {
-    let operand = expression(alloc, text)?;
-    refuse(alloc, number);
-    let made = match form {
-        OfOne::Not => Expr::not(alloc, operand),
-        OfOne::Neg => Expr::neg(alloc, operand),
-        OfOne::IsEmpty => Expr::is_empty(alloc, operand),
-        OfOne::Operator(operator) => Expr::unary_app(alloc, operator, operand),
-        OfOne::GetAttr => Expr::get_attr(alloc, operand, "vip"),
-        OfOne::HasAttr => Expr::has_attr(alloc, operand, "vip"),
-    };
-    finish(alloc, made, &())
+impl Probe for OfOne {
+    fn run(self, alloc: Global, trial: Trial<'_>) -> Result<Outcome, AllocError> {
+        let operand = expression(alloc, trial.text)?;
+        refuse(alloc, trial.number);
+        let made = match self {
+            OfOne::Not => Expr::not(alloc, operand),
+            OfOne::Neg => Expr::neg(alloc, operand),
+            OfOne::IsEmpty => Expr::is_empty(alloc, operand),
+            OfOne::Operator(operator) => Expr::unary_app(alloc, operator, operand),
+            OfOne::GetAttr => Expr::get_attr(alloc, operand, "vip"),
+            OfOne::HasAttr => Expr::has_attr(alloc, operand, "vip"),
+        };
+        finish(alloc, made, &())
+    }
 }
 
 /// What makes an expression of one and of something else.
@@ -85,38 +90,24 @@ pub enum OfMore {
     Is,
 }
 
-/// Makes an expression of this one, and of two others, a chain, a pattern or a type.
-fn of_more(alloc: Global, form: OfMore, text: &str, number: u16) -> Result<Outcome, AllocError> {
-    let operand = expression(alloc, text)?;
-    let (chosen, other) = (expression(alloc, text)?, expression(alloc, text)?);
-    let chain = AttrChain::new(alloc, "owner", &["vip"])?;
-    let pattern = vec![in alloc; PatternElem::Char('a'), PatternElem::Wildcard]?;
-    let named = entity_type(alloc, "User")?;
-    refuse(alloc, number);
-    let made = match form {
-        OfMore::If => Expr::ite(alloc, operand, chosen, other),
-        OfMore::ExtendedHas => Expr::extended_has_attr(alloc, operand, chain),
-        OfMore::Like => Expr::like(alloc, operand, pattern),
-        OfMore::Is => Expr::is_entity_type(alloc, operand, named),
-    };
-    finish(alloc, made, &())
-}
-
-impl Probe for OfTwo {
-    fn run(self, trial: Trial<'_>) -> Result<Outcome, AllocError> {
-        of_two(trial.alloc, self, trial.text, trial.number)
-    }
-}
-
-impl Probe for OfOne {
-    fn run(self, trial: Trial<'_>) -> Result<Outcome, AllocError> {
-        of_one(trial.alloc, self, trial.text, trial.number)
-    }
-}
-
 impl Probe for OfMore {
-    fn run(self, trial: Trial<'_>) -> Result<Outcome, AllocError> {
-        of_more(trial.alloc, self, trial.text, trial.number)
+    fn run(self, alloc: Global, trial: Trial<'_>) -> Result<Outcome, AllocError> {
+        let operand = expression(alloc, trial.text)?;
+        let (chosen, other) = (
+            expression(alloc, trial.text)?,
+            expression(alloc, trial.text)?,
+        );
+        let chain = AttrChain::new(alloc, "owner", &["vip"])?;
+        let pattern = vec![in alloc; PatternElem::Char('a'), PatternElem::Wildcard]?;
+        let named = entity_type(alloc, "User")?;
+        refuse(alloc, trial.number);
+        let made = match self {
+            OfMore::If => Expr::ite(alloc, operand, chosen, other),
+            OfMore::ExtendedHas => Expr::extended_has_attr(alloc, operand, chain),
+            OfMore::Like => Expr::like(alloc, operand, pattern),
+            OfMore::Is => Expr::is_entity_type(alloc, operand, named),
+        };
+        finish(alloc, made, &())
     }
 }
 

@@ -3,22 +3,13 @@ use crate::outcomes::Outcome;
 use crate::refusals::NEVER;
 use crate::sweep::{ANOTHER_ANSWER, ANOTHER_LATER, Attempt, Call, attempt_of};
 use cedar_typechecker::rbac::Validator;
-use cedar_types::base::ExtensionSchemas;
 use std::alloc::{AllocError, Global};
 
-/// What calls stand on.
-#[derive(Clone, Copy)]
-pub struct Basis<'a> {
-    pub validator: &'a Validator<'a>,
-    pub extensions: &'a ExtensionSchemas,
-}
-
-/// What one run of a call is given: what it stands on, the text that it is made on, and the number of the growth that is
-/// refused.
+/// What one run of a call is given: the validator that it stands on, the text that it is made on, and the number of the
+/// growth that is refused.
 #[derive(Clone, Copy)]
 pub struct Trial<'a> {
-    pub alloc: Global,
-    pub basis: Basis<'a>,
+    pub validator: &'a Validator<'a>,
     pub text: &'a str,
     pub number: u16,
 }
@@ -26,7 +17,7 @@ pub struct Trial<'a> {
 /// A call that is made on what a text says.
 pub trait Probe: Copy {
     /// Makes the call while the growth of that number is refused.
-    fn run(self, trial: Trial<'_>) -> Result<Outcome, AllocError>;
+    fn run(self, alloc: Global, trial: Trial<'_>) -> Result<Outcome, AllocError>;
 }
 
 /// A line of a table: the name of a call, what its answer shows among other things, and the text that it is made on, with
@@ -56,26 +47,25 @@ impl<'a> Line<'a> {
     }
 }
 
-/// A line with its call, and what that stands on.
+/// A line with its call, and the validator that this stands on.
 #[derive(Clone, Copy)]
 pub struct LineCall<'a, T> {
-    pub basis: Basis<'a>,
+    pub validator: &'a Validator<'a>,
     pub call: T,
     pub line: Line<'a>,
 }
 
 impl<T: Probe> Call for LineCall<'_, T> {
     fn attempt(&self, alloc: Global, number: u16) -> Result<Attempt, AllocError> {
-        let (basis, line) = (self.basis, self.line);
+        let line = self.line;
         let ample = Trial {
-            alloc,
-            basis,
+            validator: self.validator,
             text: line.text,
             number: NEVER,
         };
-        let wanted = self.call.run(ample)?;
-        let found = self.call.run(Trial { number, ..ample })?;
-        let again = self.call.run(ample)?;
+        let wanted = self.call.run(alloc, ample)?;
+        let found = self.call.run(alloc, Trial { number, ..ample })?;
+        let again = self.call.run(alloc, ample)?;
         let shown = wanted.answer.as_deref().unwrap_or("");
         let is_as_ever = found.answer.is_none() || found.answer == wanted.answer;
         Ok(

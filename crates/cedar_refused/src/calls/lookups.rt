@@ -20,73 +20,67 @@ pub enum Lookup {
 }
 
 /// Asks for the bound of users and photos.
-fn bound_of_entities(alloc: Global, number: u16) -> Result<Outcome, AllocError> {
+fn bound_of_entities(alloc: Global, trial: Trial<'_>) -> Result<Outcome, AllocError> {
     let sets = (entities(alloc, "User")?, entities(alloc, "Photo")?);
-    refuse(alloc, number);
+    refuse(alloc, trial.number);
     let bound = sets.0.least_upper_bound(alloc, &sets.1);
     finish(alloc, bound, &sets)
 }
 
-/// Asks for an owner of the first of the types of this text.
-fn attribute(alloc: Global, text: &str, number: u16) -> Result<Outcome, AllocError> {
+/// Asks for an owner of the first of the types of the text.
+fn attribute(alloc: Global, trial: Trial<'_>) -> Result<Outcome, AllocError> {
     let schema = schema_of(alloc, OWNERS)?;
-    let types = two_types(alloc, text)?;
+    let types = two_types(alloc, trial.text)?;
     let attr = RcStr::from_str(alloc, "owner")?;
-    refuse(alloc, number);
+    refuse(alloc, trial.number);
     let found = CedarType::lookup_attribute_type(alloc, &schema, &types.0, &attr);
     finish(alloc, found, &types)
 }
 
-/// Asks for all attributes of the first of the types of this text.
-fn attributes(alloc: Global, text: &str, number: u16) -> Result<Outcome, AllocError> {
+/// Asks for all attributes of the first of the types of the text.
+fn attributes(alloc: Global, trial: Trial<'_>) -> Result<Outcome, AllocError> {
     let schema = schema_of(alloc, OWNERS)?;
-    let types = two_types(alloc, text)?;
-    refuse(alloc, number);
+    let types = two_types(alloc, trial.text)?;
+    refuse(alloc, trial.number);
     let found = types.0.attributes(alloc, &schema);
     finish(alloc, found, &types)
 }
 
 /// Asks for the type of an entity.
-fn literal(alloc: Global, text: &str, number: u16) -> Result<Outcome, AllocError> {
-    let (schema, entity) = (schema_of(alloc, SCHEMA)?, uid(alloc, text)?);
-    refuse(alloc, number);
+fn literal(alloc: Global, trial: Trial<'_>) -> Result<Outcome, AllocError> {
+    let (schema, entity) = (schema_of(alloc, SCHEMA)?, uid(alloc, trial.text)?);
+    refuse(alloc, trial.number);
     let found = CedarType::euid_literal(alloc, &entity, &schema);
     finish(alloc, found, &entity)
 }
 
 /// Asks for the type of the entities of the type that this id has.
-fn reference(alloc: Global, text: &str, number: u16) -> Result<Outcome, AllocError> {
-    let (schema, entity) = (schema_of(alloc, SCHEMA)?, uid(alloc, text)?);
-    refuse(alloc, number);
+fn reference(alloc: Global, trial: Trial<'_>) -> Result<Outcome, AllocError> {
+    let (schema, entity) = (schema_of(alloc, SCHEMA)?, uid(alloc, trial.text)?);
+    refuse(alloc, trial.number);
     let found = CedarType::entity_reference(alloc, &entity.entity_type, &schema);
     finish(alloc, found, &entity)
 }
 
 /// Asks for the cost of a chain of which each entity is of two types.
-fn chain_cost(alloc: Global, text: &str, number: u16) -> Result<Outcome, AllocError> {
-    let (schema, root) = (schema_of(alloc, OWNERS)?, cedar_type(alloc, text)?);
+fn chain_cost(alloc: Global, trial: Trial<'_>) -> Result<Outcome, AllocError> {
+    let (schema, root) = (schema_of(alloc, OWNERS)?, cedar_type(alloc, trial.text)?);
     let owner = RcStr::from_str(alloc, "owner")?;
     let chain = vec![in alloc; owner.clone()?, owner.clone()?, owner]?;
-    refuse(alloc, number);
+    refuse(alloc, trial.number);
     let cost = attr_chain_cost_from_root(alloc, &schema, &root, chain.as_slice());
     finish(alloc, cost, &root)
 }
 
 impl Probe for Lookup {
-    fn run(self, trial: Trial<'_>) -> Result<Outcome, AllocError> {
-        let Trial {
-            alloc,
-            text,
-            number,
-            ..
-        } = trial;
+    fn run(self, alloc: Global, trial: Trial<'_>) -> Result<Outcome, AllocError> {
         match self {
-            Lookup::Bound => bound_of_entities(alloc, number),
-            Lookup::Attribute => attribute(alloc, text, number),
-            Lookup::Attributes => attributes(alloc, text, number),
-            Lookup::Literal => literal(alloc, text, number),
-            Lookup::Reference => reference(alloc, text, number),
-            Lookup::ChainCost => chain_cost(alloc, text, number),
+            Lookup::Bound => bound_of_entities(alloc, trial),
+            Lookup::Attribute => attribute(alloc, trial),
+            Lookup::Attributes => attributes(alloc, trial),
+            Lookup::Literal => literal(alloc, trial),
+            Lookup::Reference => reference(alloc, trial),
+            Lookup::ChainCost => chain_cost(alloc, trial),
         }
     }
 }

@@ -17,26 +17,21 @@ pub enum OfTexts {
     PolicyId,
 }
 
-/// Makes it.
-fn of_texts(alloc: Global, made: OfTexts, number: u16) -> Result<Outcome, AllocError> {
-    let user = entity_type(alloc, "User")?;
-    refuse(alloc, number);
-    match made {
-        OfTexts::Unqualified => finish(alloc, Name::unqualified_name(alloc, "User"), &()),
-        OfTexts::Qualified => finish(alloc, Name::new(alloc, "User", &["A", "B"]), &()),
-        OfTexts::Chain => finish(alloc, AttrChain::new(alloc, "a", &["b", "c"]), &()),
-        OfTexts::Literal => finish(alloc, Literal::from_string(alloc, "text"), &()),
-        OfTexts::Uid => {
-            let uid = EntityUID::from_components(alloc, user, "id", None);
-            finish(alloc, uid, &())
-        }
-        OfTexts::PolicyId => finish(alloc, PolicyID::from_string(alloc, "policy0"), &()),
-    }
-}
-
 impl Probe for OfTexts {
-    fn run(self, trial: Trial<'_>) -> Result<Outcome, AllocError> {
-        of_texts(trial.alloc, self, trial.number)
+    fn run(self, alloc: Global, trial: Trial<'_>) -> Result<Outcome, AllocError> {
+        let user = entity_type(alloc, "User")?;
+        refuse(alloc, trial.number);
+        match self {
+            OfTexts::Unqualified => finish(alloc, Name::unqualified_name(alloc, "User"), &()),
+            OfTexts::Qualified => finish(alloc, Name::new(alloc, "User", &["A", "B"]), &()),
+            OfTexts::Chain => finish(alloc, AttrChain::new(alloc, "a", &["b", "c"]), &()),
+            OfTexts::Literal => finish(alloc, Literal::from_string(alloc, "text"), &()),
+            OfTexts::Uid => {
+                let uid = EntityUID::from_components(alloc, user, "id", None);
+                finish(alloc, uid, &())
+            }
+            OfTexts::PolicyId => finish(alloc, PolicyID::from_string(alloc, "policy0"), &()),
+        }
     }
 }
 

@@ -4,7 +4,7 @@ use crate::pictures::picture;
 use crate::sweep::{ANOTHER_POLICY, Attempt, Call};
 use cedar_typechecker::rbac::{LiteralErrors, SlotTypeErrors, Validator};
 use cedar_types::base::{
-    Expr, ExprIterator, Mention, Mentions, Policy, ValidationError, ValidatorSchema,
+    Expr, ExprIterator, Mention, Mentions, Policy, Template, ValidationError, ValidatorSchema,
 };
 use std::alloc::{AllocError, Global};
 
@@ -13,16 +13,23 @@ use std::alloc::{AllocError, Global};
 pub enum Pass {
     /// `Template::mentions`.
     Mentions,
+    /// One that answers `LiteralErrors`.
+    Literals(OfLiterals),
+    /// `Validator::validate_entity_types_in_slots`.
+    SlotTypes,
+    /// `Expr::subexpressions` of the template's rest.
+    Subexpressions,
+}
+
+/// A pass over the names in a policy.
+#[derive(Clone, Copy)]
+pub enum OfLiterals {
     /// `Validator::validate_entity_types`.
     EntityTypes,
     /// `Validator::validate_action_ids`.
     ActionIds,
     /// `Validator::validate_enum_entity`.
     EnumEntities,
-    /// `Validator::validate_entity_types_in_slots`.
-    SlotTypes,
-    /// `Expr::subexpressions` of the template's rest.
-    Subexpressions,
 }
 
 /// Each step of a pass over this policy.
@@ -41,9 +48,10 @@ impl Call for PassWalk<'_> {
         let (validator, policy) = (self.validator, self.policy);
         let attempt = match self.pass {
             Pass::Mentions => mentions(alloc, policy, self.items, number)?,
-            Pass::EntityTypes => types(alloc, validator.schema(), policy, self.items, number)?,
-            Pass::ActionIds => actions(alloc, validator.schema(), policy, self.items, number)?,
-            Pass::EnumEntities => members(alloc, validator.schema(), policy, self.items, number)?,
+            Pass::Literals(pass) => {
+                let walked = (validator.schema(), policy);
+                literals(alloc, pass, walked, self.items, number)?
+            }
             Pass::SlotTypes => slots(alloc, validator, policy, self.items, number)?,
             Pass::Subexpressions => subexpressions(alloc, policy, self.items, number)?,
         };
@@ -66,50 +74,32 @@ fn mentions(
     attempt_walk(alloc, walks, items, number)
 }
 
-fn types<'x>(
+/// The errors that a pass over the names in a template gives.
+fn errors_of<'x>(
     alloc: Global,
+    pass: OfLiterals,
     schema: &'x ValidatorSchema,
-    policy: &'x Policy,
-    items: usize,
-    number: u16,
-) -> Result<Attempt, AllocError> {
-    let template = &*policy.template;
-    let walks = (
-        Validator::validate_entity_types(alloc, schema, template),
-        Validator::validate_entity_types(alloc, schema, template),
-        Validator::validate_entity_types(alloc, schema, template),
-    );
-    attempt_walk(alloc, walks, items, number)
+    template: &'x Template,
+) -> LiteralErrors<'x> {
+    match pass {
+        OfLiterals::EntityTypes => Validator::validate_entity_types(alloc, schema, template),
+        OfLiterals::ActionIds => Validator::validate_action_ids(alloc, schema, template),
+        OfLiterals::EnumEntities => Validator::validate_enum_entity(alloc, schema, template),
+    }
 }
 
-fn actions<'x>(
+fn literals<'x>(
     alloc: Global,
-    schema: &'x ValidatorSchema,
-    policy: &'x Policy,
+    pass: OfLiterals,
+    (schema, policy): (&'x ValidatorSchema, &'x Policy),
     items: usize,
     number: u16,
 ) -> Result<Attempt, AllocError> {
     let template = &*policy.template;
     let walks = (
-        Validator::validate_action_ids(alloc, schema, template),
-        Validator::validate_action_ids(alloc, schema, template),
-        Validator::validate_action_ids(alloc, schema, template),
-    );
-    attempt_walk(alloc, walks, items, number)
-}
-
-fn members<'x>(
-    alloc: Global,
-    schema: &'x ValidatorSchema,
-    policy: &'x Policy,
-    items: usize,
-    number: u16,
-) -> Result<Attempt, AllocError> {
-    let template = &*policy.template;
-    let walks = (
-        Validator::validate_enum_entity(alloc, schema, template),
-        Validator::validate_enum_entity(alloc, schema, template),
-        Validator::validate_enum_entity(alloc, schema, template),
+        errors_of(alloc, pass, schema, template),
+        errors_of(alloc, pass, schema, template),
+        errors_of(alloc, pass, schema, template),
     );
     attempt_walk(alloc, walks, items, number)
 }

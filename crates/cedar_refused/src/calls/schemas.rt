@@ -9,16 +9,15 @@ use std::alloc::{AllocError, Global};
 use std::rc::RcStr;
 
 /// Makes the schema of these declarations. The answer is that, or its fault.
-fn make_schema(alloc: Global, text: &str, number: u16) -> Result<Outcome, AllocError> {
-    let text = if text == "DECLARATIONS" {
-        DECLARATIONS
-    } else {
-        text
+fn make_schema(alloc: Global, trial: Trial<'_>) -> Result<Outcome, AllocError> {
+    let text = match trial.text {
+        "DECLARATIONS" => DECLARATIONS,
+        text => text,
     };
     let Ok(declared) = schema_declarations(alloc, text, Notation::AsGiven) else {
         return Err(AllocError);
     };
-    refuse(alloc, number);
+    refuse(alloc, trial.number);
     let made = match ValidatorSchema::new(alloc, declared.entity_types, declared.actions) {
         Err(SchemaError::Memory(error)) => Err(error),
         other => Ok(other),
@@ -27,10 +26,10 @@ fn make_schema(alloc: Global, text: &str, number: u16) -> Result<Outcome, AllocE
 }
 
 /// Makes the ids of an enumerated type that has this one alone.
-fn make_choices(alloc: Global, text: &str, number: u16) -> Result<Outcome, AllocError> {
-    let id = RcStr::from_str(alloc, text)?;
+fn make_choices(alloc: Global, trial: Trial<'_>) -> Result<Outcome, AllocError> {
+    let id = RcStr::from_str(alloc, trial.text)?;
     let ids = vec![in alloc; id]?;
-    refuse(alloc, number);
+    refuse(alloc, trial.number);
     finish(alloc, EnumChoices::new(alloc, ids), &())
 }
 
@@ -49,17 +48,12 @@ pub enum OfSchema {
 }
 
 /// Asks it. The text is that of an action.
-fn of_schema(
-    alloc: Global,
-    asked: OfSchema,
-    schema: &ValidatorSchema,
-    text: &str,
-    number: u16,
-) -> Result<Outcome, AllocError> {
+fn of_schema(alloc: Global, trial: Trial<'_>, asked: OfSchema) -> Result<Outcome, AllocError> {
+    let schema = trial.validator.schema();
     let group = entity_type(alloc, "Group")?;
     let tagged = EntityKind::Entity(entities(alloc, "User")?);
-    let actions = vec![in alloc; uid(alloc, text)?]?;
-    refuse(alloc, number);
+    let actions = vec![in alloc; uid(alloc, trial.text)?]?;
+    refuse(alloc, trial.number);
     match asked {
         OfSchema::Types => finish(alloc, schema.entity_types(alloc), schema),
         OfSchema::TypeNames => finish(alloc, schema.entity_type_names(alloc), schema),
@@ -78,17 +72,11 @@ fn of_schema(
 }
 
 impl Probe for OfSchema {
-    fn run(self, trial: Trial<'_>) -> Result<Outcome, AllocError> {
-        let Trial {
-            alloc,
-            basis,
-            text,
-            number,
-        } = trial;
+    fn run(self, alloc: Global, trial: Trial<'_>) -> Result<Outcome, AllocError> {
         match self {
-            OfSchema::New => make_schema(alloc, text, number),
-            OfSchema::Choices => make_choices(alloc, text, number),
-            _ => of_schema(alloc, self, basis.validator.schema(), text, number),
+            OfSchema::New => make_schema(alloc, trial),
+            OfSchema::Choices => make_choices(alloc, trial),
+            _ => of_schema(alloc, trial, self),
         }
     }
 }

@@ -19,45 +19,35 @@ pub enum OfTemplate {
     Parts,
 }
 
-/// Asks it of the template of this text.
-fn of_template(
-    alloc: Global,
-    asked: OfTemplate,
-    text: &str,
-    number: u16,
-) -> Result<Outcome, AllocError> {
-    let policy = policy(alloc, text)?;
-    let template = &*policy.template;
-    let whole = template.condition(alloc)?;
-    refuse(alloc, number);
-    match asked {
-        OfTemplate::Condition => finish(alloc, template.condition(alloc), template),
-        OfTemplate::ScopeCondition => finish(alloc, template.scope_condition(alloc), template),
-        OfTemplate::Uids => finish(alloc, template.policy_entity_uids(alloc), template),
-        OfTemplate::TypeNames => {
-            finish(alloc, template.policy_entity_type_names(alloc), template)
-        }
-        OfTemplate::Slot => {
-            finish(
-                alloc,
-                template.mentions_slot(alloc, SlotId::Principal),
-                template,
-            )
-        }
-        OfTemplate::SlotOfCondition => {
-            finish(alloc, whole.mentions_slot(alloc, SlotId::Principal), &whole)
-        }
-        OfTemplate::Subexpressions => {
-            let walk = whole.subexpressions(alloc);
-            finish(alloc, walk.map(|_| ()), &whole)
-        }
-        OfTemplate::Parts => finish(alloc, whole.parts(alloc), &whole),
-    }
-}
-
 impl Probe for OfTemplate {
-    fn run(self, trial: Trial<'_>) -> Result<Outcome, AllocError> {
-        of_template(trial.alloc, self, trial.text, trial.number)
+    fn run(self, alloc: Global, trial: Trial<'_>) -> Result<Outcome, AllocError> {
+        let policy = policy(alloc, trial.text)?;
+        let template = &*policy.template;
+        let whole = template.condition(alloc)?;
+        refuse(alloc, trial.number);
+        match self {
+            OfTemplate::Condition => finish(alloc, template.condition(alloc), template),
+            OfTemplate::ScopeCondition => finish(alloc, template.scope_condition(alloc), template),
+            OfTemplate::Uids => finish(alloc, template.policy_entity_uids(alloc), template),
+            OfTemplate::TypeNames => {
+                finish(alloc, template.policy_entity_type_names(alloc), template)
+            }
+            OfTemplate::Slot => {
+                finish(
+                    alloc,
+                    template.mentions_slot(alloc, SlotId::Principal),
+                    template,
+                )
+            }
+            OfTemplate::SlotOfCondition => {
+                finish(alloc, whole.mentions_slot(alloc, SlotId::Principal), &whole)
+            }
+            OfTemplate::Subexpressions => {
+                let walk = whole.subexpressions(alloc);
+                finish(alloc, walk.map(|_| ()), &whole)
+            }
+            OfTemplate::Parts => finish(alloc, whole.parts(alloc), &whole),
+        }
     }
 }
 

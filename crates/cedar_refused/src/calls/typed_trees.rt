@@ -6,7 +6,7 @@ use crate::samples::texts::policy;
 use cedar_types::base::ValidationMode;
 use cedar_types::types::capability::CapabilitySet;
 use cedar_typing::typecheck::Typechecker;
-use std::alloc::AllocError;
+use std::alloc::{AllocError, Global};
 
 /// What is checked of a policy in the first environment of the schema, in Strict.
 #[derive(Clone, Copy)]
@@ -17,39 +17,28 @@ pub enum OfPolicy {
     Rest,
 }
 
-/// Checks it of the policy of this text.
-fn check_of_policy(checked: OfPolicy, trial: Trial<'_>) -> Result<Outcome, AllocError> {
-    let Trial {
-        alloc,
-        basis,
-        text,
-        number,
-    } = trial;
-    let (mode, schema) = (ValidationMode::Strict, basis.validator.schema());
-    let policy = policy(alloc, text)?;
-    let template = &*policy.template;
-    let checker = Typechecker::new(schema, basis.extensions, mode);
-    let mut envs = schema.unlinked_request_envs(mode);
-    let (Some(env), Some(rest)) = (envs.next(), &template.non_scope_constraints) else {
-        return Err(AllocError);
-    };
-    let nothing = CapabilitySet::new(alloc);
-    refuse(alloc, number);
-    match checked {
-        OfPolicy::Condition => {
-            let check = checker.typecheck_condition(alloc, template, &env);
-            finish(alloc, check, template)
-        }
-        OfPolicy::Rest => {
-            let check = checker.typecheck_expr(alloc, &template.id, &env, &nothing, rest);
-            finish(alloc, check, template)
-        }
-    }
-}
-
 impl Probe for OfPolicy {
-    fn run(self, trial: Trial<'_>) -> Result<Outcome, AllocError> {
-        check_of_policy(self, trial)
+    fn run(self, alloc: Global, trial: Trial<'_>) -> Result<Outcome, AllocError> {
+        let (mode, schema) = (ValidationMode::Strict, trial.validator.schema());
+        let policy = policy(alloc, trial.text)?;
+        let template = &*policy.template;
+        let checker = Typechecker::new(schema, trial.validator.extensions(), mode);
+        let mut envs = schema.unlinked_request_envs(mode);
+        let (Some(env), Some(rest)) = (envs.next(), &template.non_scope_constraints) else {
+            return Err(AllocError);
+        };
+        let nothing = CapabilitySet::new(alloc);
+        refuse(alloc, trial.number);
+        match self {
+            OfPolicy::Condition => {
+                let check = checker.typecheck_condition(alloc, template, &env);
+                finish(alloc, check, template)
+            }
+            OfPolicy::Rest => {
+                let check = checker.typecheck_expr(alloc, &template.id, &env, &nothing, rest);
+                finish(alloc, check, template)
+            }
+        }
     }
 }
 

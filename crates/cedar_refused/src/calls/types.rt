@@ -24,29 +24,32 @@ pub enum TypeMaker {
     InOrder,
 }
 
-/// Makes it.
-fn make(alloc: Global, maker: TypeMaker, number: u16) -> Result<Outcome, AllocError> {
-    let name = Name::unqualified_name(alloc, "ipaddr")?;
-    let (user, users) = (entity_type(alloc, "User")?, only(alloc, "User")?);
-    let mut map = BTreeMap::new(alloc);
-    let number_attribute = AttributeType::required_attribute(CedarType::Long);
-    drop(map.insert(RcStr::from_str(alloc, "a")?, number_attribute)?);
-    let listed = AttributeType::optional_attribute(CedarType::String);
-    let list = vec![in alloc; ("a", listed)]?;
-    let types = vec![in alloc; CedarType::String, CedarType::Long]?;
-    refuse(alloc, number);
-    match maker {
-        TypeMaker::Set => finish(alloc, CedarType::set(alloc, CedarType::Long), &()),
-        TypeMaker::AnyRecord => finish(alloc, CedarType::any_record(alloc), &()),
-        TypeMaker::Entity => { finish(alloc, CedarType::named_entity_reference(alloc, user), &()) }
-        TypeMaker::Extension => finish(alloc, CedarType::extension(alloc, name), &()),
-        TypeMaker::AttributesOfMap => {
-            finish(alloc, Attributes::with_attributes(alloc, map), &())
+impl Probe for TypeMaker {
+    fn run(self, alloc: Global, trial: Trial<'_>) -> Result<Outcome, AllocError> {
+        let name = Name::unqualified_name(alloc, "ipaddr")?;
+        let (user, users) = (entity_type(alloc, "User")?, only(alloc, "User")?);
+        let mut map = BTreeMap::new(alloc);
+        let number_attribute = AttributeType::required_attribute(CedarType::Long);
+        drop(map.insert(RcStr::from_str(alloc, "a")?, number_attribute)?);
+        let listed = AttributeType::optional_attribute(CedarType::String);
+        let list = vec![in alloc; ("a", listed)]?;
+        let types = vec![in alloc; CedarType::String, CedarType::Long]?;
+        refuse(alloc, trial.number);
+        match self {
+            TypeMaker::Set => finish(alloc, CedarType::set(alloc, CedarType::Long), &()),
+            TypeMaker::AnyRecord => finish(alloc, CedarType::any_record(alloc), &()),
+            TypeMaker::Entity => {
+                finish(alloc, CedarType::named_entity_reference(alloc, user), &())
+            }
+            TypeMaker::Extension => finish(alloc, CedarType::extension(alloc, name), &()),
+            TypeMaker::AttributesOfMap => {
+                finish(alloc, Attributes::with_attributes(alloc, map), &())
+            }
+            TypeMaker::AttributesOfList => finish(alloc, Attributes::from_list(alloc, list), &()),
+            TypeMaker::SingleEntity => finish(alloc, EntityLUB::single_entity(alloc, user), &()),
+            TypeMaker::EntitiesOfSet => finish(alloc, EntityLUB::from_types(alloc, users), &()),
+            TypeMaker::InOrder => finish(alloc, types_in_order(alloc, types), &()),
         }
-        TypeMaker::AttributesOfList => finish(alloc, Attributes::from_list(alloc, list), &()),
-        TypeMaker::SingleEntity => finish(alloc, EntityLUB::single_entity(alloc, user), &()),
-        TypeMaker::EntitiesOfSet => finish(alloc, EntityLUB::from_types(alloc, users), &()),
-        TypeMaker::InOrder => finish(alloc, types_in_order(alloc, types), &()),
     }
 }
 
@@ -58,39 +61,28 @@ pub enum OfTypes {
     Subtype(ValidationMode),
 }
 
-/// Asks it of the types of this text.
-fn of_types(alloc: Global, asked: OfTypes, text: &str, number: u16) -> Result<Outcome, AllocError> {
-    let types = two_types(alloc, text)?;
-    let (left, right) = (&types.0, &types.1);
-    refuse(alloc, number);
-    match asked {
-        OfTypes::Bound(mode) => {
-            let bound = CedarType::least_upper_bound(alloc, left, right, mode);
-            finish(alloc, bound, &types)
-        }
-        OfTypes::BoundOfAll(mode) => {
-            let bound = CedarType::reduce_to_least_upper_bound(alloc, &[left, right], mode);
-            finish(alloc, bound, &types)
-        }
-        OfTypes::Subtype(mode) => {
-            finish(
-                alloc,
-                CedarType::is_subtype(alloc, left, right, mode),
-                &types,
-            )
-        }
-    }
-}
-
-impl Probe for TypeMaker {
-    fn run(self, trial: Trial<'_>) -> Result<Outcome, AllocError> {
-        make(trial.alloc, self, trial.number)
-    }
-}
-
 impl Probe for OfTypes {
-    fn run(self, trial: Trial<'_>) -> Result<Outcome, AllocError> {
-        of_types(trial.alloc, self, trial.text, trial.number)
+    fn run(self, alloc: Global, trial: Trial<'_>) -> Result<Outcome, AllocError> {
+        let types = two_types(alloc, trial.text)?;
+        let (left, right) = (&types.0, &types.1);
+        refuse(alloc, trial.number);
+        match self {
+            OfTypes::Bound(mode) => {
+                let bound = CedarType::least_upper_bound(alloc, left, right, mode);
+                finish(alloc, bound, &types)
+            }
+            OfTypes::BoundOfAll(mode) => {
+                let bound = CedarType::reduce_to_least_upper_bound(alloc, &[left, right], mode);
+                finish(alloc, bound, &types)
+            }
+            OfTypes::Subtype(mode) => {
+                finish(
+                    alloc,
+                    CedarType::is_subtype(alloc, left, right, mode),
+                    &types,
+                )
+            }
+        }
     }
 }
 

@@ -2,6 +2,7 @@
 ghost use Rattle.std.specs.Prelude.{◌≡◌, IfOk, OnOk, OnErr};
 
 mod accesses;
+mod bases;
 mod builder;
 mod chain_steps;
 mod digested;
@@ -9,6 +10,7 @@ mod digests;
 mod owners;
 
 pub use crate::types::capability::accesses::Accesses;
+pub use crate::types::capability::bases::DigestedBase;
 pub use crate::types::capability::builder::CapabilitySetBuilder;
 pub use crate::types::capability::chain_steps::ChainStep;
 pub use crate::types::capability::digested::{Capability, Known};

@@ -6,7 +6,7 @@ use Rattle.cedar_types.specs.declared.base.expressions.ExprKind.{ExprKind}
 use Rattle.cedar_types.specs.declared.base.expressions.ExprKind.TheVariants as K
 use Rattle.cedar_types.specs.declared.base.types.CedarType.{CedarType}
 use Rattle.cedar_types.specs.Types.{Ty, ty_of}
-use Rattle.cedar_types.specs.Expressions.View.{Places, Written, written}
+use Rattle.cedar_types.specs.Expressions.View.{Places, Written, shape, written}
 use Rattle.cedar_types.specs.Lemmas.Layers as layers
 use Rattle.cedar_typing.specs.TypedExpr.{Mark, annotation, place_of, typed_tree}
 
@@ -76,6 +76,14 @@ written_by_layer e = layers.seen_by_form (Unit {0}) Written node e ∙ layers.is
 pub written_as : (e : Expr (Unit {0})) (k : ExprKind (Unit {0})) → e.kind ≡ k
     → written e ≡ layers.layer (Unit {0}) Written node k (node tt e.loc)
 written_as e k h = written_by_layer e ∙ ap (λ k. layers.layer (Unit {0}) Written node k (node tt e.loc)) h
+
+-- the shape of an expression of a known form
+pub shape_as : (e : Expr (Unit {0})) (k : ExprKind (Unit {0})) → e.kind ≡ k
+    → shape e ≡ layers.layer (Unit {0}) (Unit {0}) (λ _ _ _. tt) k (λ _. tt)
+shape_as e k h =
+    layers.seen_by_form (Unit {0}) (Unit {0}) (λ _ _ _. tt) e
+    ∙ layers.is_layer (Unit {0}) (Unit {0}) (λ _ _ _. tt) e.kind (λ _. tt)
+    ∙ ap (λ k. layers.layer (Unit {0}) (Unit {0}) (λ _ _ _. tt) k (λ _. tt)) h
 
 -- the place at the root of the tree is that of the expression
 pub place_is : (e : Expr (Unit {0})) → place_of (written e) ≡ e.loc

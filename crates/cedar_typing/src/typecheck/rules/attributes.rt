@@ -4,7 +4,7 @@ ghost use Rattle.cedar_types.specs.Names.{text_of};
 ghost use Rattle.cedar_types.specs.Types.{ty_of};
 ghost use Rattle.cedar_types.specs.Expressions.Tree.{has_attr, get_attr};
 ghost use Rattle.cedar_types.specs.Expressions.View.{written};
-ghost use Rattle.cedar_types.specs.Capability.{cap_of};
+ghost use Rattle.cedar_types.specs.Capability.{cap_of, expr_in};
 ghost use Rattle.cedar_types.specs.Types.Lookups.{attribute_type};
 ghost use Rattle.cedar_types.specs.Errors.{unsafe_optional_attribute_access};
 ghost use Rattle.cedar_typing.specs.Rules.Attributes.{attribute_of, declared_has, undeclared_has, has_table, get_decides, get_table, undeclared_get};
@@ -22,15 +22,17 @@ use crate::typecheck::typed_nodes::node;
 use cedar_types::base::{
     BoolType, CedarType, Expr, ExprKind, Loc, ValidationError, ValidationMode,
 };
-use cedar_types::types::capability::Capability;
+use cedar_types::types::capability::{Capability, DigestedBase};
 use std::alloc::{AllocError, Global};
 use std::rc::RcStr;
 
 /// That the base has the attribute.
-fn attribute_of<'a>(base: &'a Expr, attr: &RcStr) -> Result<Capability<'a>, AllocError>
-    ensures { IfOk result (λ c. cap_of c ≡ attribute_of (written base.now) (text_of attr.now)) }
+fn attribute_of<'a>(base: &mut DigestedBase<'a>, attr: &RcStr) -> Result<Capability<'a>, AllocError>
+    ensures of_it { IfOk result (λ c.
+        cap_of c ≡ attribute_of (written (expr_in base.old)) (text_of attr.now)) }
+    ensures kept { expr_in base.new ≡ expr_in base.old }
 {
-    Ok(Capability::new_attribute(base, attr.clone()?))
+    base.attribute(attr)
 }
 
 impl TypeEnv<'_, '_, '_, '_> {
@@ -38,13 +40,14 @@ impl TypeEnv<'_, '_, '_, '_> {
     pub(crate) fn decide_has<'a>(
         &self,
         prior: &Prior<'_, 'a>,
-        base: &'a Expr,
+        base: &mut DigestedBase<'a>,
         attr: &RcStr,
         found: &Option<CedarType>,
     ) -> Result<Decision<'a>, AllocError>
-        ensures { IfOk result (λ d. decision_of d
-            ≡ has_table (env_at self.now) (text_of attr.now) (attribute_of (written base.now) (text_of attr.now))
-            (known_in prior.now (attribute_of (written base.now) (text_of attr.now))) (option_map ty_of found.now)) }
+        ensures decides { IfOk result (λ d. decision_of d
+            ≡ has_table (env_at self.now) (text_of attr.now) (attribute_of (written (expr_in base.old)) (text_of attr.now))
+            (known_in prior.now (attribute_of (written (expr_in base.old)) (text_of attr.now))) (option_map ty_of found.now)) }
+        ensures kept { expr_in base.new ≡ expr_in base.old }
     {
         let Some(owner) = found else {
             return Ok(Decision::Gives(any_bool(), no_capabilities(self.alloc)));
@@ -97,18 +100,19 @@ impl TypeEnv<'_, '_, '_, '_> {
         &self,
         prior: &Prior<'_, 'a>,
         loc: Option<Loc>,
-        base: &'a Expr,
+        base: &mut DigestedBase<'a>,
         attr: &RcStr,
         found: &Option<CedarType>,
     ) -> Result<Decision<'a>, AllocError>
-        ensures { IfOk result (λ d. decision_of d
+        ensures decides { IfOk result (λ d. decision_of d
             ≡ get_table (env_at self.now) loc (text_of attr.now)
-            (known_in prior.now (attribute_of (written base.now) (text_of attr.now))) (option_map ty_of found.now)) }
+            (known_in prior.now (attribute_of (written (expr_in base.old)) (text_of attr.now))) (option_map ty_of found.now)) }
+        ensures kept { expr_in base.new ≡ expr_in base.old }
     {
         let Some(owner) = found else {
             return Ok(Decision::Refuses(None, Vec::new(self.alloc)));
         };
-        // What is required needs no guard, so nothing is asked of what is known: a question costs a walk over the base.
+        // What is required needs no guard, so nothing is asked of what is known: a first question costs a walk over the base.
         if let Some(decision) = self.decide_required(owner, attr)? {
             return Ok(decision);
         }

@@ -1,16 +1,20 @@
 // Forms with one operand.
 ghost use Rattle.std.specs.Prelude.{◌≡◌, ◌≤◌, [], ◌∷◌, Some, IfOk, option_map};
+ghost use Rattle.cedar_types.specs.Capability.{expr_in};
 ghost use Rattle.cedar_types.specs.Types.{ty_of};
 ghost use Rattle.cedar_types.specs.Expressions.View.{written};
 ghost use Rattle.cedar_typing.specs.Eager.{first_expectation};
+ghost use Rattle.cedar_typing.specs.Infer.{infer};
 ghost use Rattle.cedar_typing.specs.Infer.Eager.{infer_decided};
+ghost use Rattle.cedar_typing.specs.Infer.Parts.{expect};
 ghost use Rattle.cedar_typing.specs.Judgments.{max_nesting};
-ghost use Rattle.cedar_typing.specs.TypedExpr.{annotation, typed_as, typed_tree};
+ghost use Rattle.cedar_typing.specs.TypedExpr.{annotation, place_of, typed_as, typed_tree};
 ghost use Rattle.cedar_typing.specs.Views.Settings.{setting_at, infer_one};
 ghost use Rattle.cedar_typing.specs.Views.{env_at, expected_types, answer_of, part_of, findings, decision_of, form_of_one, mark_of_one};
 ghost use Rattle.cedar_typing.specs.Capabilities.Priors.{known_in};
 
 use crate::typecheck::answer::{Part, TypecheckAnswer};
+use crate::typecheck::expressions::MAX_TYPED_DEPTH;
 use crate::typecheck::operands::Expected;
 use crate::typecheck::prior::Prior;
 use crate::typecheck::rules::attributes::{get_node, has_node};
@@ -21,9 +25,10 @@ use crate::typecheck::type_env::TypeEnv;
 use crate::typecheck::type_tests::any_bool;
 use crate::typecheck::typed_nodes::{chain_node, with_capabilities};
 use cedar_types::base::{
-    ArgumentCheck, AttrChain, CedarType, EntityType, Expr, Loc, PatternElem, UnaryOp,
+    ArgumentCheck, AttrChain, CedarType, EntityType, Expr, ExprKind, Loc, PatternElem, UnaryOp,
     ValidationError,
 };
+use cedar_types::types::capability::DigestedBase;
 use std::alloc::{AllocError, Global};
 use std::rc::RcStr;
 
@@ -86,7 +91,6 @@ impl OneOperand<'_> {
 impl<C: ArgumentCheck> SingleEnvTypechecker<'_, '_, '_, '_, C> {
     /// A form with one operand, at `loc`.
     #[cycle(typing)]
-    #[inline(never)]
     pub(crate) fn type_one_operand<'a>(
         &self,
         prior: &Prior<'_, 'a>,
@@ -102,15 +106,70 @@ impl<C: ArgumentCheck> SingleEnvTypechecker<'_, '_, '_, '_, C> {
             (findings errors.old.items)
             ≡ (answer_of r, findings errors.new.items)) }
     {
+        let (answer, _base) = self.type_over_base(prior, depth, loc, form, operand, errors)?;
+        Ok(answer)
+    }
+
+    /// The same, and the operand with its digest, if that was asked.
+    #[cycle(typing)]
+    #[inline(never)]
+    fn type_over_base<'a>(
+        &self,
+        prior: &Prior<'_, 'a>,
+        depth: usize,
+        loc: Option<Loc>,
+        form: OneOperand<'a>,
+        operand: &'a Expr,
+        errors: &mut Vec<ValidationError>,
+    ) -> Result<(TypecheckAnswer<'a>, DigestedBase<'a>), AllocError>
+        requires { depth ≤ max_nesting }
+        ensures typed { IfOk result (λ r.
+            infer_one (setting_at C.refusal self.now) (mark_of_one loc form.entry) (known_in prior.now) (written operand.now) depth form.entry
+            (findings errors.old.items)
+            ≡ (answer_of r.0, findings errors.new.items)) }
+        ensures base { IfOk result (λ r. expr_in r.1 ≡ operand.now) }
+    {
         let expected = form.expected();
-        let part = self.type_part(prior, depth + 1, expected, operand, errors)?;
+        let (part, base) = self.type_base(prior, depth + 1, expected, operand, errors)?;
         let Some(part) = part else {
-            return Ok(TypecheckAnswer::RecursionLimit);
+            return Ok((TypecheckAnswer::RecursionLimit, base));
         };
+        let mut base = base;
         let answer = self
             .env
-            .one_answer(prior, loc, form, operand, part, errors)?;
-        Ok(answer)
+            .one_answer(prior, loc, form, &mut base, part, errors)?;
+        Ok((answer, base))
+    }
+
+    /// A part that has to be of certain types, and that what is around it may ask for an attribute. Of an access that is known by
+    /// what was asked of its own base, so that digests are carried along a chain of accesses.
+    #[cycle(typing)]
+    fn type_base<'a>(
+        &self,
+        prior: &Prior<'_, 'a>,
+        depth: usize,
+        expected: Expected<'_>,
+        e: &'a Expr,
+        errors: &mut Vec<ValidationError>,
+    ) -> Result<(Option<Part<'a>>, DigestedBase<'a>), AllocError>
+        ensures typed { IfOk result (λ r.
+            expect (setting_at C.refusal self.now).env (expected_types expected.entry) (place_of (written e.now))
+            (infer (setting_at C.refusal self.now) (written e.now) (known_in prior.now) depth (findings errors.old.items))
+            ≡ (option_map part_of r.0, findings errors.new.items)) }
+        ensures base { IfOk result (λ r. expr_in r.1 ≡ e.now) }
+    {
+        match &e.kind {
+            ExprKind::GetAttr(owner, attr) if depth <= MAX_TYPED_DEPTH => {
+                let form = OneOperand::Get(attr);
+                let (answer, base) = self.type_over_base(prior, depth, e.loc, form, owner, errors)?;
+                let part = self.env.expect(expected, e.loc, answer, errors)?;
+                Ok((part, base.access(e, attr)))
+            }
+            _ => {
+                let part = self.type_part(prior, depth, expected, e, errors)?;
+                Ok((part, DigestedBase::new(e)))
+            }
+        }
     }
 }
 
@@ -122,18 +181,19 @@ impl TypeEnv<'_, '_, '_, '_> {
         prior: &Prior<'_, 'a>,
         loc: Option<Loc>,
         form: OneOperand<'a>,
-        operand: &'a Expr,
+        base: &mut DigestedBase<'a>,
         part: Part<'a>,
         errors: &mut Vec<ValidationError>,
     ) -> Result<TypecheckAnswer<'a>, AllocError>
-        ensures { IfOk result (λ r.
-            infer_decided (form_of_one (env_at self.now) (mark_of_one loc form.entry) (known_in prior.now) (written operand.now) form.entry)
+        ensures typed { IfOk result (λ r.
+            infer_decided (form_of_one (env_at self.now) (mark_of_one loc form.entry) (known_in prior.now) (written (expr_in base.old)) form.entry)
             part.entry.succeeded (typed_tree part.entry.typed.value ∷ []) (findings errors.old.items)
-            ((form_of_one (env_at self.now) (mark_of_one loc form.entry) (known_in prior.now) (written operand.now) form.entry).decides
+            ((form_of_one (env_at self.now) (mark_of_one loc form.entry) (known_in prior.now) (written (expr_in base.old)) form.entry).decides
             (annotation (typed_tree part.entry.typed.value) ∷ []))
             ≡ (answer_of r, findings errors.new.items)) }
+        ensures kept { expr_in base.new ≡ expr_in base.old }
     {
-        match self.decide_one(prior, loc, form, operand, &part.typed.annotation)? {
+        match self.decide_one(prior, loc, form, base, &part.typed.annotation)? {
             Decision::Gives(ty, capabilities) => {
                 let typed = form.node(self.alloc, loc, Some(ty), part.typed)?;
                 Ok(with_capabilities(part.succeeded, typed, capabilities))
@@ -152,22 +212,23 @@ impl TypeEnv<'_, '_, '_, '_> {
         prior: &Prior<'_, 'a>,
         loc: Option<Loc>,
         form: OneOperand<'a>,
-        operand: &'a Expr,
+        base: &mut DigestedBase<'a>,
         found: &Option<CedarType>,
     ) -> Result<Decision<'a>, AllocError>
-        ensures { IfOk result (λ d. decision_of d
-            ≡ (form_of_one (env_at self.now) (mark_of_one loc form.entry) (known_in prior.now) (written operand.now) form.entry).decides
+        ensures decides { IfOk result (λ d. decision_of d
+            ≡ (form_of_one (env_at self.now) (mark_of_one loc form.entry) (known_in prior.now) (written (expr_in base.old)) form.entry).decides
             (option_map ty_of found.now ∷ [])) }
+        ensures kept { expr_in base.new ≡ expr_in base.old }
     {
         match form {
             OneOperand::Unary(UnaryOp::Not) => Ok(decide_not(self.alloc, found)),
             OneOperand::Unary(UnaryOp::Neg) => Ok(gives(self.alloc, CedarType::Long)),
             OneOperand::Unary(UnaryOp::IsEmpty) => Ok(gives(self.alloc, any_bool())),
-            OneOperand::Has(attr) => self.decide_has(prior, operand, attr, found),
-            OneOperand::Get(attr) => self.decide_get(prior, loc, operand, attr, found),
+            OneOperand::Has(attr) => self.decide_has(prior, base, attr, found),
+            OneOperand::Get(attr) => self.decide_get(prior, loc, base, attr, found),
             OneOperand::Like(_) => Ok(gives(self.alloc, any_bool())),
             OneOperand::Is(entity_type) => Ok(decide_is(self.alloc, entity_type, found)),
-            OneOperand::Chain(chain) => self.decide_chain(prior, loc, operand, chain, found),
+            OneOperand::Chain(chain) => self.decide_chain(prior, loc, base.expr(), chain, found),
         }
     }
 }

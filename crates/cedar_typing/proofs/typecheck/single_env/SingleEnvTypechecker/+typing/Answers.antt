@@ -1,11 +1,11 @@
-use Rattle.std.proofs.Common.{◌≡◌, ◌<◌, ◌+◌, ◌∙◌, length, map, drop, arith, sym, ap, subst, true, ◌&&◌, [], ◌∷◌, ◌++◌, option_map, append_assoc, append-nil, refl}
+use Rattle.std.proofs.Common.{◌≡◌, ◌<◌, ◌+◌, ◌∙◌, length, map, drop, arith, sym, ap, subst, true, ◌&&◌, [], ◌∷◌, ◌++◌, option_map, append_assoc, append-nil, refl, Some}
 use Rattle.std.specs.Prelude.{IfOk}
 use Rattle.std.specs.List.Sorted.{IsStrictlySortedBy}
 use Rattle.std.specs.Map.{keys_of}
 use Rattle.cedar_types.specs.declared.base.expressions.ExprKind.TheVariants as K
 use Rattle.cedar_types.specs.Names.{path_of, text_of, type_of}
 use Rattle.cedar_types.specs.Expressions.Tree.{and, or, has_attr, get_attr, ext_has_attr, unary, binary, like, is_type}
-use Rattle.cedar_types.specs.Expressions.View.{written, Written, of_type, fields_written, chain_of}
+use Rattle.cedar_types.specs.Expressions.View.{shape, written, Written, of_type, fields_written, chain_of}
 use Rattle.cedar_types.specs.Types.{ty_of}
 use Rattle.cedar_types.proofs.Attributes.Entries.{Entry}
 use Rattle.cedar_types.proofs.Attributes.Records.{key_cmp}
@@ -15,19 +15,20 @@ use Rattle.cedar_typing.specs.Infer.Parts.{AnswerAndErrors, expect}
 use Rattle.cedar_typing.specs.TypedExpr.{Source, place_of, typed_tree}
 use Rattle.cedar_typing.specs.Views.Calls.{IsCallOf}
 use Rattle.cedar_typing.specs.Views.Settings.{setting_at}
-use Rattle.cedar_typing.specs.Views.{expected_types, first_wanted, answer_of, findings, operands_of, at, part_of, form_of_two, keys_in, trees_in}
+use Rattle.cedar_typing.specs.Views.{expected_types, first_wanted, answer_of, findings, operands_of, at, part_of, form_of_one, form_of_two, mark_of_one, keys_in, trees_in}
 use Rattle.cedar_typing.specs.Eager.{Form}
-use Rattle.cedar_typing.specs.Infer.Eager.{expect_operand, infer_form, infer_two_operands}
+use Rattle.cedar_typing.specs.Infer.Eager.{all_typed, expect_operand, infer_form, infer_two_operands}
 use Rattle.cedar_typing.specs.Rules.Calls.{expected_arguments}
 use Rattle.cedar_typing.specs.Rules.Records.{field_keys, record_form}
 use Rattle.cedar_typing.proofs.Rules.Calls.{written_call, written_set, call_inferred}
 use Rattle.cedar_typing.proofs.Agreement.Induction.{below_limit, infer_as}
 use Rattle.cedar_typing.proofs.Rules.Sets.{next_item}
 use Rattle.cedar_typing.proofs.Rules.OperandLists.{resumed, all_inferred, one_operand, last_operand, goes_further, goes_no_further}
-use Rattle.cedar_typing.proofs.Views.Typed.{written_as, place_is}
+use Rattle.cedar_typing.proofs.Views.Typed.{written_as, shape_as, place_is}
 use Rattle.cedar_typing.proofs.Rules.Records.{goes_last, key_is_last, keys_with_last, keys_written, trees_append}
 use Rattle.cedar_typing.proofs.Rules.FieldsInOrder.{finish, starts, goes_on, by_keys_typed}
 use Rattle.cedar_typing.proofs.Views.Fields.{written_record}
+use Rattle.cedar_typing.proofs.Rules.OneOperand.{one_typed}
 use Rattle.cedar_typing.proofs.Rules.TwoOperands.{is_limit, stops, typed_on, two_stopped, two_typed}
 use Rattle.cedar_typing.proofs.typecheck.single_env.SingleEnvTypechecker.+typing.Goals as goal
 
@@ -35,6 +36,41 @@ pub type_part-returns : goal.type_part-returns
 type_part-returns g t c =
     (λ i. expect (setting_at g.C.ArgumentCheck.refusal c.args.self.now).env (expected_types c.args.expected) (place_is c.args.e.now i) (c.in_ok-answer.ensures i))
     ∙ c.in_ok-part.ensures
+
+pub type_over_base-returns-clause-typed : goal.type_over_base-returns-clause-typed
+type_over_base-returns-clause-typed g t c =
+    let s = setting_at g.C.ArgumentCheck.refusal c.args.self.now in
+    let prior = known_in c.args.prior.now in
+    let m = mark_of_one c.args.loc c.args.form in
+    let e = written c.args.operand.now in
+    let es = findings c.args.errors.now.items in
+    let es' = findings c.type_base.new.errors.items in
+    let F : Source → Form = λ x. form_of_one s.env m prior x c.args.form in
+    let x = part_of c.in-Some.part in
+    let typed : expect s.env (expected_types c.expected-expected.result) (place_of e) (infer s e prior (c.args.depth + 1) es) ≡ (Some x, es') =
+    c.in_ok-part.ensures.typed ∙ ap (λ p. (option_map part_of p, es')) c.in-Some.is in
+    one_typed s.env (F e) (place_of e) (infer s e prior (c.args.depth + 1)) (expected_types c.expected-expected.result)
+    (c.expected-expected.ensures s.env m prior e) x es es' typed
+    ∙ (λ i. infer_form (F (written (sym c.in_ok-part.ensures.base i))) (all_typed x.succeeded (x.tree ∷ [])) es')
+    ∙ c.in_ok-answer.ensures.typed
+
+pub type_base-returns-in_ok-part-in-GetAttr-clause-typed : goal.type_base-returns-in_ok-part-in-GetAttr-clause-typed
+type_base-returns-in_ok-part-in-GetAttr-clause-typed g t c =
+    let s = setting_at g.C.ArgumentCheck.refusal c.args.self.now in
+    let m = at c.args.e.now.loc in
+    let tree : written c.args.e.now ≡ get_attr m (written c.deref.result.now) (text_of c.in-GetAttr.attr) =
+    written_as c.args.e.now (K.GetAttr c.in-GetAttr.owner c.in-GetAttr.attr) c.in-GetAttr.is
+    ∙ (λ i. get_attr m (written (sym c.deref.ensures i)) (text_of c.in-GetAttr.attr)) in
+    let P : AnswerAndErrors → Type 0 = λ z. z ≡ (answer_of c.in_ok-answer-in-GetAttr.answer, findings c.type_over_base.new.errors.items) in
+    let answered = infer_as P s (known_in c.args.prior.now) c.args.depth
+    (findings c.args.errors.now.items) c.if-depth-le-MAX_TYPED_DEPTH.true tree c.in_ok-answer-in-GetAttr.ensures.typed in
+    (λ i. expect s.env (expected_types c.args.expected) (place_is c.args.e.now i) (answered i)) ∙ c.in_ok-part-in-GetAttr.ensures
+
+pub type_base-access-requires : goal.type_base-access-requires
+type_base-access-requires g t c =
+    shape_as c.args.e.now (K.GetAttr c.in-GetAttr.owner c.in-GetAttr.attr) c.in-GetAttr.is
+    ∙ (λ i. get_attr tt (shape (sym c.deref.ensures i)) (text_of c.in-GetAttr.attr))
+    ∙ (λ i. get_attr tt (shape (sym c.in_ok-answer-in-GetAttr.ensures.base i)) (text_of c.in-GetAttr.attr))
 
 pub typecheck-returns-in-And : goal.typecheck-returns-in-And
 typecheck-returns-in-And g t c =

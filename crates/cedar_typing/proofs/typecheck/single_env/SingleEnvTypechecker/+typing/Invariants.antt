@@ -10,31 +10,37 @@ use Rattle.cedar_typing.proofs.Rules.FieldsInOrder.{finish}
 use Rattle.cedar_typing.proofs.typecheck.single_env.SingleEnvTypechecker.+typing.Given as goal
 
 abbrev pub decreases-typecheck : goal.decreases-typecheck
-decreases-typecheck g l = 3 * (402 - l.depth)
+decreases-typecheck g l = 5 * (402 - l.depth)
 
 abbrev pub decreases-type_short_circuit : goal.decreases-type_short_circuit
-decreases-type_short_circuit g l = 3 * (401 - l.depth) + 2
+decreases-type_short_circuit g l = 5 * (401 - l.depth) + 2
 
 abbrev pub decreases-type_one_operand : goal.decreases-type_one_operand
-decreases-type_one_operand g l = 3 * (401 - l.depth) + 2
+decreases-type_one_operand g l = 5 * (401 - l.depth) + 4
+
+abbrev pub decreases-type_over_base : goal.decreases-type_over_base
+decreases-type_over_base g l = 5 * (401 - l.depth) + 3
+
+abbrev pub decreases-type_base : goal.decreases-type_base
+decreases-type_base g l = 5 * (402 - l.depth) + 2
 
 abbrev pub decreases-type_if : goal.decreases-type_if
-decreases-type_if g l = 3 * (401 - l.depth) + 2
+decreases-type_if g l = 5 * (401 - l.depth) + 2
 
 abbrev pub decreases-type_part : goal.decreases-type_part
-decreases-type_part g l = 3 * (402 - l.depth) + 1
+decreases-type_part g l = 5 * (402 - l.depth) + 1
 
 abbrev pub decreases-type_two_operands : goal.decreases-type_two_operands
-decreases-type_two_operands g l = 3 * (401 - l.depth) + 2
+decreases-type_two_operands g l = 5 * (401 - l.depth) + 2
 
 abbrev pub decreases-type_operands : goal.decreases-type_operands
-decreases-type_operands g l = 3 * (401 - l.depth) + 1
+decreases-type_operands g l = 5 * (401 - l.depth) + 1
 
 abbrev pub decreases-type_call : goal.decreases-type_call
-decreases-type_call g l = 3 * (401 - l.depth) + 2
+decreases-type_call g l = 5 * (401 - l.depth) + 2
 
 abbrev pub decreases-type_set : goal.decreases-type_set
-decreases-type_set g l = 3 * (401 - l.depth) + 2
+decreases-type_set g l = 5 * (401 - l.depth) + 2
 
 -- the operands so far, before what those that are left result in, are what all result in
 abbrev pub invariant-type_operands-loop-operand : goal.invariant-type_operands-loop-operand
@@ -47,10 +53,10 @@ invariant-type_operands-loop-operand g l =
     (findings l.fn.errors.items)
 
 abbrev pub decreases-type_record : goal.decreases-type_record
-decreases-type_record g l = 3 * (401 - l.depth) + 2
+decreases-type_record g l = 5 * (401 - l.depth) + 2
 
 abbrev pub decreases-type_fields : goal.decreases-type_fields
-decreases-type_fields g l = 3 * (401 - l.depth) + 1
+decreases-type_fields g l = 5 * (401 - l.depth) + 1
 
 -- what the fields to come make of those so far is what all make
 abbrev pub invariant-type_fields-loop-key : goal.invariant-type_fields-loop-key
