@@ -8,7 +8,6 @@ mod names;
 mod refusals;
 mod report;
 
-pub use answers::Basis;
 pub use files::{CaseFile, FileFault};
 pub use refusals::{fault_of_columns, notation_of, run_refusals};
 pub use report::{CaseCounts, run_cases};

@@ -1,6 +1,6 @@
 // What the program does, over any files and any two writers.
 use crate::cases::{
-    Basis, CaseCounts, CaseFile, FileFault, fault_of_columns, notation_of, run_cases, run_refusals,
+    CaseCounts, CaseFile, FileFault, fault_of_columns, notation_of, run_cases, run_refusals,
 };
 use crate::tables::Tables;
 use cedar_reading::{
@@ -80,11 +80,7 @@ fn run_file<R: Files + AllocGlobal, O: Write>(
     };
     let extensions = tables.where_ordered(file.has_ordered_addresses);
     let validator = Validator::new(schema, extensions);
-    let basis = Basis {
-        validator: &validator,
-        extensions,
-    };
-    let counts = run_cases(alloc, name, &file, basis, out)?;
+    let counts = run_cases(alloc, name, &file, &validator, out)?;
     write_counts(out, name, counts)?;
     Ok(counts.wrong == 0)
 }

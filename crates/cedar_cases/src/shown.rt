@@ -2,7 +2,6 @@
 mod applications;
 mod environments;
 mod forms;
-mod nodes;
 mod outcomes;
 mod places;
 mod typed;

@@ -3,7 +3,7 @@ use crate::cases::columns::{Subject, Wanted};
 use crate::cases::names::about_names;
 use crate::shown::{Source, environment, level_outcome, outcome, policy_outcome, typed_condition};
 use cedar_typechecker::rbac::Validator;
-use cedar_types::base::{ExtensionSchemas, Policy, Template, ValidationMode};
+use cedar_types::base::{Policy, ValidationMode};
 use cedar_typing::typecheck::{PolicyCheck, Typechecker};
 use std::alloc::{AllocError, Global};
 use std::collections::HashSet;
@@ -11,137 +11,103 @@ use std::collections::HashSet;
 /// What stands between the environments of a field.
 const BETWEEN: &str = " | ";
 
-/// What policies are validated and typed by.
+/// A policy that is asked about, and the text that its places are in.
 #[derive(Clone, Copy)]
-pub struct Basis<'a> {
+pub struct Asked<'a> {
+    pub alloc: Global,
     pub validator: &'a Validator<'a>,
-    pub extensions: &'a ExtensionSchemas,
+    pub policy: &'a Policy,
+    pub source: Source<'a>,
 }
 
-/// What is shown of a policy: of its names and its scope, of its validation with levels, of the level
-/// that it requires, of all of its checks, or of the check in each environment, with ` | ` between
-/// them, sorted by bytes.
-pub fn answers(
-    alloc: Global,
-    basis: Basis<'_>,
-    policy: &Policy,
-    source: Source<'_>,
-    asked: Wanted,
-) -> Result<String, AllocError> {
-    match asked {
-        Wanted::Names(question) => about_names(alloc, basis.validator, policy, source, question),
-        Wanted::Checks(mode, subject) => {
-            about_checks(alloc, basis, &policy.template, source, mode, subject)
-        }
-        Wanted::Levels(mode, maximum) => {
-            about_levels(
-                alloc,
-                basis.validator,
-                &policy.template,
-                source,
-                mode,
-                maximum,
-            )
-        }
-        Wanted::RequiredLevel(mode) => {
-            about_required_level(alloc, basis.validator, &policy.template, mode)
-        }
-    }
-}
-
-/// The level that a policy requires, or `none`.
-fn about_required_level(
-    alloc: Global,
-    validator: &Validator<'_>,
-    policy: &Template,
-    mode: ValidationMode,
-) -> Result<String, AllocError> {
-    match validator.required_level(alloc, policy, mode)? {
-        Some(level) => level.to_string(alloc),
-        None => String::from_str(alloc, "none"),
-    }
-}
-
-/// What a policy's validation with levels answers for this maximum.
-fn about_levels(
-    alloc: Global,
-    validator: &Validator<'_>,
-    policy: &Template,
-    source: Source<'_>,
-    mode: ValidationMode,
-    maximum: u32,
-) -> Result<String, AllocError> {
-    let (errors, warnings) = validator.validate_policy_with_level(alloc, policy, mode, maximum)?;
-    level_outcome(alloc, errors, warnings, source)
-}
-
-fn about_checks(
-    alloc: Global,
-    basis: Basis<'_>,
-    policy: &Template,
-    source: Source<'_>,
-    mode: ValidationMode,
-    subject: Subject,
-) -> Result<String, AllocError> {
-    let schema = basis.validator.schema();
-    let typechecker = Typechecker::new(schema, basis.extensions, mode);
-    match subject {
-        Subject::Policy => whole(alloc, &typechecker, policy, source),
-        Subject::Environments => show_linked(alloc, &typechecker, policy, source),
-        Subject::Outcome | Subject::Typed => {
-            let mut shown = Vec::new(alloc);
-            for env in schema.unlinked_request_envs(mode) {
-                let check = typechecker.typecheck_by_single_request_env(alloc, policy, &env)?;
-                shown.push(show_unlinked(alloc, &check, source, subject)?)?;
+impl Asked<'_> {
+    /// What is shown of the policy: of its names and its scope, of its validation with levels, of the
+    /// level that it requires, of all of its checks, or of the check in each environment, with ` | `
+    /// between them, sorted by bytes.
+    pub fn about(self, wanted: Wanted) -> Result<String, AllocError> {
+        match wanted {
+            Wanted::Names(question) => {
+                about_names(
+                    self.alloc,
+                    self.validator,
+                    self.policy,
+                    self.source,
+                    question,
+                )
             }
-            shown.sort()?;
-            shown.as_slice().join(alloc, BETWEEN)
+            Wanted::Checks(mode, subject) => self.about_checks(mode, subject),
+            Wanted::Levels(mode, maximum) => self.at_level(mode, maximum),
+            Wanted::RequiredLevel(mode) => self.required_level(mode),
         }
     }
-}
 
-/// The check in an environment of the schema, whose slots are not linked.
-fn show_unlinked(
-    alloc: Global,
-    check: &PolicyCheck,
-    source: Source<'_>,
-    subject: Subject,
-) -> Result<String, AllocError> {
-    match subject {
-        Subject::Typed => typed_condition(alloc, check, source),
-        _ => outcome(alloc, check, source),
+    /// The level that the policy requires, or `none`.
+    fn required_level(self, mode: ValidationMode) -> Result<String, AllocError> {
+        let (alloc, policy) = (self.alloc, &*self.policy.template);
+        match self.validator.required_level(alloc, policy, mode)? {
+            Some(level) => level.to_string(alloc),
+            None => String::from_str(alloc, "none"),
+        }
     }
-}
 
-/// In each environment that the policy is checked in, with what it is.
-fn show_linked(
-    alloc: Global,
-    typechecker: &Typechecker<'_>,
-    policy: &Template,
-    source: Source<'_>,
-) -> Result<String, AllocError> {
-    let mut shown = Vec::new(alloc);
-    for item in typechecker.typecheck_by_request_env(alloc, policy)? {
-        let (env, check) = item?;
-        let env = environment(alloc, &env)?;
-        let outcome = outcome(alloc, &check, source)?;
-        shown.push(format!(in alloc; "{env}: {outcome}")?)?;
+    /// What the policy's validation with levels answers for this maximum.
+    fn at_level(self, mode: ValidationMode, maximum: u32) -> Result<String, AllocError> {
+        let (alloc, policy) = (self.alloc, &*self.policy.template);
+        let (errors, warnings) = self
+            .validator
+            .validate_policy_with_level(alloc, policy, mode, maximum)?;
+        level_outcome(alloc, errors, warnings, self.source)
     }
-    shown.sort()?;
-    shown.as_slice().join(alloc, BETWEEN)
-}
 
-/// Whether the policy passes, and what its check adds to empty sets.
-fn whole(
-    alloc: Global,
-    typechecker: &Typechecker<'_>,
-    policy: &Template,
-    source: Source<'_>,
-) -> Result<String, AllocError> {
-    let mut errors = HashSet::new(alloc);
-    let mut warnings = HashSet::new(alloc);
-    let passes = typechecker.typecheck_policy(alloc, policy, &mut errors, &mut warnings)?;
-    policy_outcome(alloc, passes, &errors, &warnings, source)
+    fn about_checks(self, mode: ValidationMode, subject: Subject) -> Result<String, AllocError> {
+        let schema = self.validator.schema();
+        let typechecker = Typechecker::new(schema, self.validator.extensions(), mode);
+        match subject {
+            Subject::Policy => self.in_all(&typechecker),
+            Subject::Environments => self.in_environments(&typechecker),
+            Subject::Outcome | Subject::Typed => {
+                let (alloc, policy) = (self.alloc, &*self.policy.template);
+                let mut shown = Vec::new(alloc);
+                for env in schema.unlinked_request_envs(mode) {
+                    let check = typechecker.typecheck_by_single_request_env(alloc, policy, &env)?;
+                    shown.push(self.show(&check, subject)?)?;
+                }
+                shown.sort()?;
+                shown.as_slice().join(alloc, BETWEEN)
+            }
+        }
+    }
+
+    /// The check in an environment of the schema, whose slots are not linked.
+    fn show(self, check: &PolicyCheck, subject: Subject) -> Result<String, AllocError> {
+        match subject {
+            Subject::Typed => typed_condition(self.alloc, check, self.source),
+            _ => outcome(self.alloc, check, self.source),
+        }
+    }
+
+    /// In each environment that the policy is checked in, with what it is.
+    fn in_environments(self, typechecker: &Typechecker<'_>) -> Result<String, AllocError> {
+        let alloc = self.alloc;
+        let mut shown = Vec::new(alloc);
+        for item in typechecker.typecheck_by_request_env(alloc, &self.policy.template)? {
+            let (env, check) = item?;
+            let env = environment(alloc, &env)?;
+            let outcome = outcome(alloc, &check, self.source)?;
+            shown.push(format!(in alloc; "{env}: {outcome}")?)?;
+        }
+        shown.sort()?;
+        shown.as_slice().join(alloc, BETWEEN)
+    }
+
+    /// Whether the policy passes, and what its check adds to empty sets.
+    fn in_all(self, typechecker: &Typechecker<'_>) -> Result<String, AllocError> {
+        let (alloc, policy) = (self.alloc, &*self.policy.template);
+        let mut errors = HashSet::new(alloc);
+        let mut warnings = HashSet::new(alloc);
+        let passes = typechecker.typecheck_policy(alloc, policy, &mut errors, &mut warnings)?;
+        policy_outcome(alloc, passes, &errors, &warnings, self.source)
+    }
 }
 
 /// The same environments, sorted by bytes: their order is open.

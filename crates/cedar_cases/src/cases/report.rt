@@ -1,10 +1,11 @@
 // What came of the cases of a file.
-use crate::cases::answers::{Basis, answers, in_order};
+use crate::cases::answers::{Asked, in_order};
 use crate::cases::costs::run_chain;
 use crate::cases::differences::{agrees, write_fault};
 use crate::cases::files::{Case, CaseFile, Field};
 use crate::shown::Source;
 use cedar_reading::{Fault, ReadError, condition, policy, scope_alone, uid_alone, whole_policy};
+use cedar_typechecker::rbac::Validator;
 use cedar_types::base::{Policy, SlotEnv, Template};
 use std::alloc::{AllocError, Global};
 use std::io;
@@ -25,7 +26,7 @@ pub fn run_cases<W: Write>(
     alloc: Global,
     name: &str,
     file: &CaseFile<'_>,
-    basis: Basis<'_>,
+    validator: &Validator<'_>,
     out: &mut W,
 ) -> io::Result<CaseCounts> {
     let mut counts = CaseCounts { ran: 0, wrong: 0 };
@@ -34,10 +35,8 @@ pub fn run_cases<W: Write>(
         counts.ran = counts.ran.saturating_add(1);
         let agrees = match file.fault_of_fields(case.line) {
             Some(fault) => write_fault(name, case.number, case.line, fault, out)?,
-            None if is_about_chains => {
-                run_chain(alloc, name, &case, basis.validator.schema(), out)?
-            }
-            None => run_policy(alloc, name, &case, basis, out)?,
+            None if is_about_chains => { run_chain(alloc, name, &case, validator.schema(), out)? }
+            None => run_policy(alloc, name, &case, &*validator, out)?,
         };
         if !agrees {
             counts.wrong = counts.wrong.saturating_add(1);
@@ -47,22 +46,27 @@ pub fn run_cases<W: Write>(
 }
 
 /// Runs the case of a policy, and answers whether it agrees.
-fn run_policy<W: Write>(
+fn run_policy<'x, W: Write>(
     alloc: Global,
     name: &str,
     case: &Case<'_>,
-    basis: Basis<'_>,
+    validator: &'x Validator<'x>,
     out: &mut W,
 ) -> io::Result<bool> {
     let policy = match policy_of(alloc, case)? {
         Ok(policy) => policy,
         Err(fault) => return write_fault(name, case.number, case.line, fault, out),
     };
-    let source = source_of(case, &policy.template);
+    let asked = Asked {
+        alloc,
+        validator,
+        policy: &policy,
+        source: source_of(case, &policy.template),
+    };
     let mut all_agree = true;
     for expectation in &case.wanted {
         let wanted = in_order(alloc, expectation.text)?;
-        let got = answers(alloc, basis, &policy, source, expectation.asked)?;
+        let got = asked.about(expectation.asked)?;
         let (wanted, got, column) = (wanted.as_str(), got.as_str(), expectation.column);
         if !agrees(name, case.number, column, wanted, got, out)? {
             all_agree = false;

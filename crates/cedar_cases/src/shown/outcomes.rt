@@ -1,7 +1,9 @@
 // The outcome of a check, with its errors.
+ghost use Rattle.std.specs.Iterator.{IsFinite};
+
 use crate::shown::places::{Source, push_place};
 use cedar_typechecker::level_validate::{LevelErrors, LevelWarnings};
-use cedar_types::base::{Message, ValidationError, ValidationWarning};
+use cedar_types::base::{Loc, Message, ValidationError, ValidationWarning};
 use cedar_typing::typecheck::PolicyCheck;
 use std::alloc::{AllocError, Global};
 use std::collections::HashSet;
@@ -17,12 +19,8 @@ pub fn outcome(
         PolicyCheck::Irrelevant(errors, _) => ("Irrelevant", errors),
         PolicyCheck::Fail(errors) => ("Fail", errors),
     };
-    let mut texts = Vec::new(alloc);
-    for error in errors {
-        texts.push(error_text(alloc, error, source)?)?;
-    }
     let mut shown = String::from_str(alloc, outcome)?;
-    push_sorted(&mut shown, texts)?;
+    push_all(&mut shown, &sorted_texts(alloc, errors.iter(), source)?)?;
     Ok(shown)
 }
 
@@ -35,16 +33,8 @@ pub fn policy_outcome(
     source: Source<'_>,
 ) -> Result<String, AllocError> {
     let mut shown = format!(in alloc; "{passes}")?;
-    let mut texts = Vec::new(alloc);
-    for error in errors {
-        texts.push(error_text(alloc, error, source)?)?;
-    }
-    push_sorted(&mut shown, texts)?;
-    let mut texts = Vec::new(alloc);
-    for warning in warnings {
-        texts.push(warning_text(alloc, warning, source)?)?;
-    }
-    push_sorted(&mut shown, texts)?;
+    push_all(&mut shown, &sorted_texts(alloc, errors.iter(), source)?)?;
+    push_all(&mut shown, &sorted_texts(alloc, warnings.iter(), source)?)?;
     Ok(shown)
 }
 
@@ -55,34 +45,25 @@ pub fn level_outcome(
     warnings: LevelWarnings,
     source: Source<'_>,
 ) -> Result<String, AllocError> {
-    let mut shown = sorted_errors(alloc, errors, source)?;
-    for warning in sorted_warnings(alloc, warnings, source)? {
+    let mut shown = sorted_texts(alloc, errors, source)?;
+    for warning in sorted_texts(alloc, warnings, source)? {
         shown.push(warning)?;
     }
     shown.as_slice().join(alloc, "; ")
 }
 
-fn sorted_errors(
+/// How each of these is shown, sorted by bytes.
+fn sorted_texts<F: Finding + Drop, I: Iterator<Item = F> + Drop>(
     alloc: Global,
-    errors: LevelErrors,
+    findings: I,
     source: Source<'_>,
-) -> Result<Vec<String>, AllocError> {
+) -> Result<Vec<String>, AllocError>
+    requires can { I.can_next findings }
+    requires ends { IsFinite (I.remaining findings) }
+{
     let mut texts = Vec::new(alloc);
-    for error in errors {
-        texts.push(error_text(alloc, &error, source)?)?;
-    }
-    texts.sort()?;
-    Ok(texts)
-}
-
-fn sorted_warnings(
-    alloc: Global,
-    warnings: LevelWarnings,
-    source: Source<'_>,
-) -> Result<Vec<String>, AllocError> {
-    let mut texts = Vec::new(alloc);
-    for warning in warnings {
-        texts.push(warning_text(alloc, &warning, source)?)?;
+    for finding in findings {
+        texts.push(finding.show(alloc, source)?)?;
     }
     texts.sort()?;
     Ok(texts)
@@ -98,7 +79,7 @@ pub fn findings(
     let mut texts = Vec::new(alloc);
     for error in errors {
         texts.push(match error.source_loc() {
-            Some(_) => error_text(alloc, error, source)?,
+            Some(_) => error.show(alloc, source)?,
             None => Message(error).to_string(alloc)?,
         })?;
     }
@@ -106,34 +87,45 @@ pub fn findings(
     texts.as_slice().join(alloc, "; ")
 }
 
-/// Adds each text, in ascending order, behind `; `.
-fn push_sorted(shown: &mut String, mut texts: Vec<String>) -> Result<(), AllocError> {
-    texts.sort()?;
-    for text in &texts {
+/// Adds each text behind `; `.
+fn push_all(shown: &mut String, texts: &Vec<String>) -> Result<(), AllocError> {
+    for text in texts {
         shown.push_str("; ")?;
         shown.push_str(text.as_str())?;
     }
     Ok(())
 }
 
-/// An error's text, and the text that it stands at.
-fn error_text(
-    alloc: Global,
-    error: &ValidationError,
-    source: Source<'_>,
-) -> Result<String, AllocError> {
-    let mut shown = Message(error).to_string(alloc)?;
-    push_place(&mut shown, error.source_loc(), source)?;
-    Ok(shown)
+/// An error or a warning.
+trait Finding {
+    /// Its text, and the text that it stands at.
+    fn show(&self, alloc: Global, source: Source<'_>) -> Result<String, AllocError>;
 }
 
-/// A warning's text, and the text that it stands at.
-fn warning_text(
-    alloc: Global,
-    warning: &ValidationWarning,
+impl Finding for ValidationError {
+    fn show(&self, alloc: Global, source: Source<'_>) -> Result<String, AllocError> {
+        with_place(Message(self).to_string(alloc)?, self.source_loc(), source)
+    }
+}
+
+impl Finding for ValidationWarning {
+    fn show(&self, alloc: Global, source: Source<'_>) -> Result<String, AllocError> {
+        with_place(Message(self).to_string(alloc)?, self.source_loc(), source)
+    }
+}
+
+impl<F: Finding> Finding for &F {
+    fn show(&self, alloc: Global, source: Source<'_>) -> Result<String, AllocError> {
+        (**self).show(alloc, source)
+    }
+}
+
+/// The text of a finding, and the text that it stands at.
+fn with_place(
+    mut text: String,
+    place: Option<Loc>,
     source: Source<'_>,
 ) -> Result<String, AllocError> {
-    let mut shown = Message(warning).to_string(alloc)?;
-    push_place(&mut shown, warning.source_loc(), source)?;
-    Ok(shown)
+    push_place(&mut text, place, source)?;
+    Ok(text)
 }

@@ -1,6 +1,5 @@
 // Typed conditions: each node with its type and the text that it stands at.
 use crate::shown::forms::form_name;
-use crate::shown::nodes::parts;
 use crate::shown::places::{Source, push_place};
 use cedar_types::base::{CedarType, Expr, ExprKind, Literal, PatternElem, SlotId, Var};
 use cedar_typing::typecheck::PolicyCheck;
@@ -57,7 +56,7 @@ fn push_steps<'a>(
 ) -> Result<(), AllocError> {
     steps.push(Step::End(node))?;
     let mut is_last = true;
-    for part in parts(alloc, node)?.into_iter().rev() {
+    for part in node.parts(alloc)?.into_iter().rev() {
         steps.push(Step::Text(if is_last { ")" } else { ", " }))?;
         steps.push(Step::Node(part))?;
         is_last = false;

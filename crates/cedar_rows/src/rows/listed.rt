@@ -49,7 +49,7 @@ const CONDITIONALS: [Nested; 1] = [Nested {
 }];
 
 /// The rows, in the order in which they run.
-pub const WORKED: [NamedRow<Steps>; 55] = [
+pub const WORKED: [NamedRow<Steps<'static>>; 55] = [
     NamedRow {
         name: "1",
         row: Steps(dereferences::NO_DEREFERENCE, &[]),

@@ -17,7 +17,7 @@ const BEFORE_STEP: &str = "\n? ";
 /// the program prints, and behind `! ` each finding, as often as it is found, in any order. Beside
 /// the text stands what words in it stand for.
 #[derive(Clone, Copy)]
-pub struct Steps(pub &'static str, pub &'static [Nested]);
+pub struct Steps<'a>(pub &'a str, pub &'a [Nested]);
 
 /// A word, and what it stands for: a text within others.
 #[derive(Clone, Copy)]
@@ -39,7 +39,7 @@ impl Nested {
     }
 }
 
-impl Steps {
+impl Steps<'_> {
     /// The text with what its words stand for.
     fn expand(&self, alloc: Global) -> Result<String, AllocError> {
         let mut text = String::from_str(alloc, self.0)?;
@@ -50,7 +50,7 @@ impl Steps {
     }
 }
 
-impl Row for Steps {
+impl Row for Steps<'_> {
     fn report(
         &self,
         alloc: Global,

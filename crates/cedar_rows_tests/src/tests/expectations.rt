@@ -2,8 +2,8 @@
 use crate::tests::tables::{x1, x2};
 use crate::tests::wrong_expectations::{ERRORS, NAMES, OUTCOMES, UNREAD, WARNINGS};
 use crate::tests::wrong_levels::{LEVELS, OUTCOMES_AT_LEVELS, UNREAD_LEVELS};
-use cedar_rows::rows::{Report, Row, Steps, WORKED};
-use std::alloc::Global;
+use cedar_rows::rows::{NamedRow, Report, Row, Steps, WORKED};
+use std::alloc::{AllocError, Global};
 use std::process::Abort;
 use std::test::Fail;
 
@@ -56,14 +56,83 @@ none
 "#;
 
 /// What comes of a row of this text.
-fn report_of(alloc: Global, text: &'static str) -> Result<Report, Fail> {
+fn report_of(alloc: Global, text: &str) -> Result<Report, Fail> {
     Ok(Steps(text, &[]).report(alloc, &x1(alloc)?, &x2(alloc)?)?)
+}
+
+/// The right step that stands before changes: the step of a row where only its question does.
+fn right_step(rows: &[NamedRow<Steps<'static>>], text: &'static str) -> &'static str {
+    let (right, _) = text.split_once("\n~ ").unwrap_or((text, ""));
+    for row in rows {
+        let Steps(steps, _) = row.row;
+        for step in steps.split("\n? ").skip(1) {
+            if step.split('\n').next() == Some(right) {
+                return step.trim_end();
+            }
+        }
+    }
+    right
+}
+
+/// The step with one change, which makes wrong what it expects.
+fn change_step(alloc: Global, step: &str, change: &str) -> Result<String, AllocError> {
+    let (question, answer) = step.split_once('\n').unwrap_or((step, ""));
+    let (before, last) = step.rsplit_once("\n! ").unwrap_or((step, ""));
+    let Some((old, new)) = change.split_once("=> ") else {
+        return match change.trim_end() {
+            "nothing" => String::from_str(alloc, question),
+            "without the last" => String::from_str(alloc, before),
+            _ => format!(in alloc; "{step}\n! {last}"),
+        };
+    };
+    match old.trim_end() {
+        "the last" => format!(in alloc; "{before}\n! {new}"),
+        "" => format!(in alloc; "{question}\n{new}"),
+        old => {
+            let answer = answer.replace(alloc, old, new)?;
+            format!(in alloc; "{question}\n{answer}")
+        }
+    }
+}
+
+/// Each right step of a text with each of its changes.
+fn wrong_steps(alloc: Global, text: &'static str) -> Result<Vec<String>, AllocError> {
+    let mut wrong = Vec::new(alloc);
+    for step in text.trim_end().split("\n? ").skip(1) {
+        let right = right_step(&WORKED, step);
+        for change in step.split("\n~ ").skip(1) {
+            wrong.push(change_step(alloc, right, change)?)?;
+        }
+    }
+    Ok(wrong)
 }
 
 #[test]
 fn what_is_expected_is_met(rt: HostRuntime) -> Result<(), Fail> {
     for step in EXPECTED.split("\n? ").skip(1) {
         assert!(rt; report_of(rt.alloc(), step)?.is_expected, "{step}");
+    }
+    Ok(())
+}
+
+/// The texts of changes, and how many wrong steps each has.
+const CHANGED: [(&str, usize); 6] = [
+    (OUTCOMES, 17),
+    (ERRORS, 27),
+    (NAMES, 14),
+    (WARNINGS, 9),
+    (OUTCOMES_AT_LEVELS, 20),
+    (LEVELS, 13),
+];
+
+#[test]
+fn what_is_changed_was_right(rt: HostRuntime) -> Result<(), Fail> {
+    for (text, count) in CHANGED {
+        assert_eq!(rt; wrong_steps(rt.alloc(), text)?.len(), count);
+        for step in text.trim_end().split("\n? ").skip(1) {
+            let right = right_step(&WORKED, step);
+            assert!(rt; report_of(rt.alloc(), right)?.is_expected, "{right}");
+        }
     }
     Ok(())
 }
@@ -76,7 +145,8 @@ fn expected_outcome(step: &str) -> &str {
 #[test]
 fn other_findings_are_not_taken_for_it(rt: HostRuntime) -> Result<(), Fail> {
     for text in [ERRORS, NAMES, WARNINGS, LEVELS] {
-        for step in text.split("\n? ").skip(1) {
+        for step in &wrong_steps(rt.alloc(), text)? {
+            let step = step.as_str();
             let report = report_of(rt.alloc(), step)?;
             let outcome = report.outcomes.as_slice().join(rt.alloc(), "; ")?;
             assert!(rt; !report.is_expected, "{step}");
@@ -86,19 +156,25 @@ fn other_findings_are_not_taken_for_it(rt: HostRuntime) -> Result<(), Fail> {
     Ok(())
 }
 
+/// That a step is not met, and that its outcome says so where it is not read.
+fn check_outcome(rt: &impl Abort, alloc: Global, step: &str, is_read: bool) -> Result<(), Fail> {
+    let report = report_of(alloc, step)?;
+    let outcome = report.outcomes.as_slice().join(alloc, "; ")?;
+    assert!(rt; !report.is_expected, "{step}");
+    assert_eq!(rt; outcome.ends_with("is expected"), !is_read, "{step}");
+    Ok(())
+}
+
 #[test]
 fn other_outcomes_are_not_taken_for_it(rt: HostRuntime) -> Result<(), Fail> {
-    for (text, is_read) in [
-        (OUTCOMES, true),
-        (OUTCOMES_AT_LEVELS, true),
-        (UNREAD, false),
-        (UNREAD_LEVELS, false),
-    ] {
+    for text in [OUTCOMES, OUTCOMES_AT_LEVELS] {
+        for step in &wrong_steps(rt.alloc(), text)? {
+            check_outcome(&rt, rt.alloc(), step.as_str(), true)?;
+        }
+    }
+    for text in [UNREAD, UNREAD_LEVELS] {
         for step in text.split("\n? ").skip(1) {
-            let report = report_of(rt.alloc(), step)?;
-            let outcome = report.outcomes.as_slice().join(rt.alloc(), "; ")?;
-            assert!(rt; !report.is_expected, "{step}");
-            assert_eq!(rt; outcome.ends_with("is expected"), !is_read, "{step}");
+            check_outcome(&rt, rt.alloc(), step, false)?;
         }
     }
     Ok(())

@@ -1,110 +1,65 @@
-// Steps on levels and on what chains cost that come to something else than they expect.
+// Steps on levels and on what chains cost that come to something else than they expect, as changes of right ones.
 
 /// The outcome is another; what is found is right.
 pub const OUTCOMES_AT_LEVELS: &str = r#"
 ? S1 Strict level 0: {foo: principal}.foo is User
-errors=1 warnings=0
-? S1 Strict level 0: {foo: principal}.foo is User
-errors=0 warnings=1
-? S1 Strict level 0: {foo: principal}.foo is User
-errors=0
-? S1 Strict level 0: {foo: principal}.foo is User
-Success
+~ errors=0 => errors=1
+~ warnings=0 => warnings=1
+~ => errors=0
+~ => Success
 ? S1 Strict level 0: principal.bool
-errors=0 warnings=0
-! MaximumLevelExceeded @ principal.bool
-for policy `policy0`, this policy requires level 1, which exceeds the maximum allowed level (0)
+~ errors=1 => errors=0
 ? S1 Strict level 0: permit(principal in ?principal, action, resource)
-errors=2 warnings=0
-! MaximumLevelExceeded @ the policy
-for policy `policy0`, this policy requires level 1, which exceeds the maximum allowed level (0)
+~ errors=1 => errors=2
 ? S1 Strict level 0: false && principal.bool
-errors=0 warnings=0
-! ImpossiblePolicy @ the policy
-for policy `policy0`, policy is impossible: it evaluates to false for every valid request
+~ warnings=1 => warnings=0
 ? S1 chain cost: User.user
-0
-? S1 chain cost: User.user
-2
-? S1 chain cost: User.user
-errors=0
-? S1 chain cost: User.user
+~ => 0
+~ => 2
+~ => errors=0
+~ nothing
 ? S1 chain cost: User
-1
+~ => 1
 ? S1 chain cost: User.user.bool
-3
+~ => 3
 ? S1 chain cost: {user: User}.user
-1
+~ => 1
 ? S1 chain cost: {user: User}.user.bool
-0
+~ => 0
 ? S1 Strict required level: principal.bool
-0
-? S1 Strict required level: principal.bool
-none
-? S1 Strict required level: principal.bool
-errors=1 warnings=0
-? S1 Strict required level: {foo: User::"alice", bar: User::"bob"}.foo.bool
 1
+~ => 0
+~ => none
+~ => errors=1 warnings=0
 ? S1 Strict required level: {foo: User::"alice", bar: User::"bob"}.foo.bool
-no
+~ => 1
+~ => no
 "#;
 
 /// A finding of a level run is missing, or one too many, or of another kind, place or text.
 pub const LEVELS: &str = r#"
 ? S1 Strict level 0: principal.bool
-errors=1 warnings=0
-? S1 Strict level 0: principal.bool
-errors=1 warnings=0
-! MaximumLevelExceeded @ principal.bool
-for policy `policy0`, this policy requires level 1, which exceeds the maximum allowed level (0)
-! MaximumLevelExceeded @ principal.bool
-for policy `policy0`, this policy requires level 1, which exceeds the maximum allowed level (0)
-? S1 Strict level 0: principal.bool
-errors=1 warnings=0
-! MaximumLevelExceeded @ principal
-for policy `policy0`, this policy requires level 1, which exceeds the maximum allowed level (0)
-? S1 Strict level 0: principal.bool
-errors=1 warnings=0
-! MaximumLevelExceeded @ the policy
-for policy `policy0`, this policy requires level 1, which exceeds the maximum allowed level (0)
-? S1 Strict level 0: principal.bool
-errors=1 warnings=0
-! MaximumLevelExceeded @ principal.bool
-for policy `policy0`, this policy requires level 2, which exceeds the maximum allowed level (0)
-? S1 Strict level 0: principal.bool
-errors=1 warnings=0
-! MaximumLevelExceeded @ principal.bool
-for policy `policy0`, this policy requires level 1, which exceeds the maximum allowed level (1)
-? S1 Strict level 0: principal.bool
-errors=1 warnings=0
-! LiteralDereferenceTarget @ principal.bool
-for policy `policy0`, this policy requires level 1, which exceeds the maximum allowed level (0)
+~ without the last
+~ the last twice
+~ @ principal.bool => @ principal
+~ @ principal.bool => @ the policy
+~ requires level 1 => requires level 2
+~ level (0) => level (1)
+~ MaximumLevelExceeded => LiteralDereferenceTarget
 ? S1 Strict level 1: {foo: User::"alice", bar: User::"bob"}.foo.bool
-errors=1 warnings=0
-! LiteralDereferenceTarget @ User::"bob"
-for policy `policy0`, entity literals cannot be dereferenced at any level
-? S1 Strict level 1: {foo: User::"alice", bar: User::"bob"}.foo.bool
-errors=1 warnings=0
-! LiteralDereferenceTarget @ User::"alice"
+~ @ User::"alice" => @ User::"bob"
+~ @ User::"alice" => @ User::"alice"
 for policy `policy0`, entity literals cannot be dereferenced at any level
 ! LiteralDereferenceTarget @ User::"bob"
-for policy `policy0`, entity literals cannot be dereferenced at any level
 ? S1 Strict level 0: principal.bool && false
-errors=1 warnings=1
-! MaximumLevelExceeded @ principal.bool
-for policy `policy0`, this policy requires level 1, which exceeds the maximum allowed level (0)
-? S1 Strict level 0: principal.bool && false
-errors=1 warnings=1
+~ without the last
+~ => errors=1 warnings=1
 ! ImpossiblePolicy @ the policy
 for policy `policy0`, policy is impossible: it evaluates to false for every valid request
 ? S1 Strict level 0: permit(principal in ?principal, action, resource)
-errors=1 warnings=0
-! MaximumLevelExceeded @ the policy
-for policy `policy0`, this policy requires level 1, which exceeds the maximum allowed level (0)
-! MaximumLevelExceeded @ the policy
-for policy `policy0`, this policy requires level 1, which exceeds the maximum allowed level (0)
+~ the last twice
 ? S1 chain cost: User.user
-1
+~ => 1
 ! MaximumLevelExceeded @ the policy
 for policy `policy0`, this policy requires level 1, which exceeds the maximum allowed level (0)
 "#;
