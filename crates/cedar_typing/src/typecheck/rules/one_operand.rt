@@ -141,8 +141,8 @@ impl<C: ArgumentCheck> SingleEnvTypechecker<'_, '_, '_, '_, C> {
         Ok((answer, base))
     }
 
-    /// A part that has to be of certain types, and that what is around it may ask for an attribute. Of an access that is known by
-    /// what was asked of its own base, so that digests are carried along a chain of accesses.
+    /// A part that has to be of certain types, and the same part as a base of accesses. The base that an access is comes from its
+    /// own base, so that digests are carried along a chain.
     #[cycle(typing)]
     fn type_base<'a>(
         &self,
