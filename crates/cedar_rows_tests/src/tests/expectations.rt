@@ -74,7 +74,8 @@ fn right_step(rows: &[NamedRow<Steps<'static>>], text: &'static str) -> &'static
     right
 }
 
-/// The step with one change, which makes wrong what it expects.
+/// The step with one change, which makes wrong what it expects: `old => new` in it, `=> new` in its place, `the last => new` in
+/// the place of its last finding, that one twice or left out, or `nothing` expected.
 fn change_step(alloc: Global, step: &str, change: &str) -> Result<String, AllocError> {
     let (question, answer) = step.split_once('\n').unwrap_or((step, ""));
     let (before, last) = step.rsplit_once("\n! ").unwrap_or((step, ""));
