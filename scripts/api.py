@@ -1,17 +1,35 @@
-"""The public types and calls of the libraries, which docs/API.md shows.
+"""The public types and calls of the libraries, which docs/API.md shows, and what is proved of each call.
 
-They stand under the path by which another crate names them, with their doc comments, without clauses, bodies and private
-fields. The sources are read line by line, as rt fmt lays them out. scripts/pages.py writes them into the page.
+They stand under the path by which another crate names them, with their doc comments, without bodies and private fields. Of a
+clause there is its name, and the definitions that it cites: propositions, whose names begin with a capital, or where there is
+none what it says the answer to be, or else the clause itself. The sources are read line by line, as rt fmt lays them out. scripts/pages.py writes all
+into the page.
 """
 import re
+from textwrap import wrap
 
-LIBRARIES = ("cedar_types", "cedar_typing", "cedar_typechecker", "cedar_reading", "cedar_json", "cedar_conformance", "cedar_data", "cedar_host", "cedar_texts")
+import files
+import trusted
+
+LIBRARIES = (
+    "cedar_types",
+    "cedar_typing",
+    "cedar_typechecker",
+    "cedar_reading",
+    "cedar_json",
+    "cedar_conformance",
+    "cedar_data",
+    "cedar_host",
+    "cedar_texts",
+)
 MODULE = re.compile(r"^(?:(pub) |pub\(\w+\) )?mod (\w+);", re.M)
 USE = re.compile(r"^pub use ([^;]+);", re.M)
 ITEM = re.compile(r" *pub (?:const )?(?P<kind>fn|struct|enum|trait|type|const) (?P<name>\w+)")
 IMPL = re.compile(r"impl(?:<.*?>)? (?:(?P<of>[\w:]+)(?:<.*>)? for )?(?P<type>\w+)")
 DERIVED = re.compile(r"\s*#\[derive(?:_where)?\((.*)\)\]")
 CLAUSE = re.compile(r"\s*(?:ensures|requires|ghost)\b")
+ENSURES = re.compile(r"ensures (\w*) ?\{(.*?)\}\s*(?=\n *(?:ensures|\{|requires|ghost|decreases|where)|$)", re.S)
+WIDTH = 100
 # What a caller makes no use of.
 UNNAMED = {"Drop", "Model", "skip"}
 
@@ -40,6 +58,30 @@ def signature(lines):
             break
     shown[-1] = shown[-1].rstrip(";") + ";"
     return shown
+
+
+def head(lines):
+    """What stands from a function's name to its body."""
+    indent = re.match(" *", lines[0])[0]
+    last = next((at for at, line in enumerate(lines) if at and line.startswith((indent + "{", indent + "}"))), len(lines))
+    return "\n".join(lines[:last])
+
+
+def cited(clause, definitions):
+    """The definitions that a clause cites."""
+    words = [word for word in dict.fromkeys(trusted.NAME.findall(clause)) if word in definitions]
+    propositions = [word for word in words if word[0].isupper()]
+    return propositions or words
+
+
+def clauses(lines, definitions):
+    """What is proved of a function, as comments below its head."""
+    shown = {}
+    for name, clause in ENSURES.findall(head(lines)):
+        words = " ".join(cited(clause, definitions) or clause.split())
+        shown.setdefault(f"{name or 'the answer'}: {words}")
+    mark = re.match(" *", lines[0])[0] + "    // "
+    return [line for text in shown for line in wrap(text, WIDTH, initial_indent=mark, subsequent_indent=mark + "    ")]
 
 
 def fields(lines):
@@ -76,10 +118,10 @@ def methods(lines):
 BODIES = {"struct": fields, "enum": variants, "trait": methods}
 
 
-def shown_item(kind, lines):
+def shown_item(kind, lines, definitions):
     """An item as the page has it."""
     if kind == "fn":
-        return signature(lines)
+        return signature(lines) + clauses(lines, definitions)
     if kind not in BODIES or not lines[0].endswith("{"):
         return lines
     body = BODIES[kind](lines[1:-1])
@@ -94,6 +136,8 @@ class Module:
         self.modules = {name: bool(public) for public, name in MODULE.findall(text)}
         self.uses = dict(used for tree in USE.findall(text) for used in leaves(tree))
         self.items, self.calls, self.traits = {}, {}, {}
+        imported, _ = trusted.imports_of(text)
+        self.definitions = {name for name, (path, _) in imported.items() if not path.startswith("crates/std/")}
         self.read(text.splitlines())
 
     def read(self, lines):
@@ -107,7 +151,7 @@ class Module:
                 traits += re.findall(r"\w+", derived[1])
             elif item:
                 end = end_of(lines, at)
-                self.items[item["name"]] = item["kind"], comments + shown_item(item["kind"], lines[at:end + 1])
+                self.items[item["name"]] = item["kind"], comments + shown_item(item["kind"], lines[at:end + 1], self.definitions)
                 self.traits.setdefault(item["name"], []).extend(traits)
             elif impl:
                 end = end_of(lines, at)
@@ -127,7 +171,7 @@ class Module:
                 comments.append(line)
             elif item:
                 end = end_of(lines, at)
-                shown += comments + shown_item(item["kind"], lines[at:end + 1])
+                shown += comments + shown_item(item["kind"], lines[at:end + 1], self.definitions)
             if line and not line.strip().startswith(("///", "#")):
                 comments = []
             at = end + 1
@@ -152,10 +196,10 @@ def leaves(tree, path=()):
 
 
 class Crate:
-    """The modules of a library by their paths, which begin with its name."""
+    """The modules of a library by their paths, which begin with its name; and what errors say, by their names."""
 
     def __init__(self, name, texts):
-        self.name, self.modules = name, {}
+        self.name, self.modules, self.messages = name, {}, files.messages(texts)
         self.add((name,), f"crates/{name}/src", "lib", texts)
 
     def add(self, path, folder, stem, texts):
@@ -203,7 +247,8 @@ class Crate:
         impls = [line for head, more in calls.items() for line in [head, *more, "}"]]
         named = {trait for module in self.modules.values() for trait in module.traits.get(name, [])}
         traits = sorted(trait for trait in map(plain, named) if trait not in UNNAMED)
-        return [*lines, *([f"// {', '.join(traits)}"] if traits else []), *impls]
+        says = [f"// its text: {self.messages[name]}"] if name in self.messages else []
+        return [*lines, *says, *([f"// {', '.join(traits)}"] if traits else []), *impls]
 
 
 def plain(trait):
@@ -217,12 +262,10 @@ def pages(crate):
         items, others = crate.listed(path)
         if not items and not others:
             continue
-        yield f"\n## {'::'.join(path)}\n\n" + "".join(f"{line}\n" for line in crate.modules[path].about)
-        if others:
-            yield f"\nIt has `{'`, `'.join(sorted(others))}` too.\n"
-        blocks = ["\n".join(crate.shown(items[name])) for name in sorted(items, key=str.lower)]
-        if blocks:
-            yield "\n```rust\n" + "\n\n".join(blocks) + "\n```\n"
+        about = "\n".join(f"//! {line}".rstrip() for line in crate.modules[path].about)
+        uses = "\n".join(f"pub use {other};" for other in sorted(others))
+        blocks = [about, uses, *("\n".join(crate.shown(items[name])) for name in sorted(items, key=str.lower))]
+        yield f"\n## {'::'.join(path)}\n\n```rust\n" + "\n\n".join(filter(None, blocks)) + "\n```\n"
 
 
 def listing(texts):

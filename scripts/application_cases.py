@@ -506,9 +506,8 @@ def shown_runs():
     for page in ("README.md", "docs/TOUR.md"):
         lines = (TOP / page).read_text(encoding="utf8").splitlines()
         for at, line in enumerate(lines):
-            if line.startswith("    $ scripts/validate "):
-                shown = itertools.takewhile(lambda it: it.startswith("    "), lines[at + 1:])
-                yield page, line.split()[2:], [it[4:] for it in shown]
+            if line.startswith("$ scripts/validate "):
+                yield page, line.split()[2:], [*itertools.takewhile(lambda it: it not in ("", "```"), lines[at + 1:])]
 
 
 def differs(program, words, shown):

@@ -29,15 +29,17 @@ PARAMETER = "T" + "1"
 CRATE = f"//! A crate.\n#![tactic(auto)]\n\npub fn same<{PARAMETER}>(it: {PARAMETER}) -> {PARAMETER} {{\n    it\n}}\n"
 # What scripts/rows.py makes of the one row below.
 ROWS = """
-| Schema | What it declares |
-|---|---|
+```text
+```
 
-| Row | Schema | Asked | About | Expected | What it shows |
-|---|---|---|---|---|---|
-| 1 | S1 | check | `true` | Success | One. |
+```text
+row 1: One.
+? S1 check: true
+Success
+```
 
-| Word in capitals | Text that it stands for |
-|---|---|
+```text
+```
 
 """
 GOOD = {

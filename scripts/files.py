@@ -1,8 +1,8 @@
 #!/usr/bin/env python3
-"""The crates, the files of the libraries, faults, errors and codes, as tables of their own comments: scripts/files.py prints them.
+"""The crates, the files of the libraries and codes, as tables of their own comments: scripts/files.py prints them.
 
-docs/ARCHITECTURE.md shows the crates, docs/PROFILE.md the faults and errors and docs/READING.md the codes; scripts/pages.py writes
-them there. The files are printed alone.
+docs/ARCHITECTURE.md shows the crates and docs/READING.md the codes; scripts/pages.py writes them there. The files are printed
+alone. The texts of errors, which docs/API.md shows, are read here too.
 """
 import re
 import sys
@@ -12,20 +12,12 @@ TOP = Path(__file__).resolve().parent.parent
 FOLDERS = ("src", "specs")
 TESTS = "_tests"
 COMMENT = re.compile(r"^(?://!|//|--) ?(.*)$")
-ERROR = re.compile(
-    r'((?:/// [^\n]*\n)+)#\[derive[^\n]*\n#\[error\("for policy `\{policy_id\}`, \{0\}", Message\(self\)\)\]\npub struct (\w+)'
-)
+ERROR = re.compile(r'#\[error\("for policy `\{policy_id\}`, \{0\}", Message\(self\)\)\]\npub struct (\w+)')
 ERRORS = "crates/cedar_types/src/base/errors/"
 MESSAGE = re.compile(r"^impl fmt::Display for Message<'_, (\w+)> \{\n(.*?)\n\}$", re.M | re.S)
 WRITTEN = re.compile(r'(?:write!\(\s*f,\s*|write_str\()"([^"]*)"')
 LOCAL = re.compile(r"let (\w+) = [^;]*?self\.0\.(\w+)(\(\))?")
-
-FAULTS = (
-    ("a table", "crates/cedar_types/src/base/expressions/extensions.rt", "ExtensionTableError"),
-    ("a schema", "crates/cedar_types/src/base/schema/errors.rt", "SchemaError"),
-)
 CODES = "/src/codes.rt"
-VARIANT = re.compile(r'/// ([^\n]*)\n    #\[error\("(\w+)"\)\]')
 
 
 def cell(text):
@@ -50,23 +42,12 @@ def crates_of(files):
     return [(name, below.split()) for name, _, below in (line.partition(":") for line in lines)]
 
 
-def lines_of(crate, folder, files):
-    return sum(text.count("\n") for path, text in files.items() if path.startswith(f"crates/{crate}/{folder}/"))
-
-
-def rounded(count):
-    """A count in hundreds, so that not every edit makes the page stale."""
-    return f"{round(count, -2):,}" if count >= 100 else "few" if count else "none"
-
-
 def crates(files):
     """What ARCHITECTURE shows."""
-    lines = ["| Crate | What it has | Stands on `cedar_..` | Lines of `src`, `specs`, `proofs` |", "|---|---|---|---|"]
-    for crate, below in crates_of(files):
+    lines = ["| Crate | What it has |", "|---|---|"]
+    for crate, _ in crates_of(files):
         root = files.get(f"crates/{crate}/src/lib.rt") or files.get(f"crates/{crate}/src/main.rt") or ""
-        counts = ", ".join(rounded(lines_of(crate, folder, files)) for folder in (*FOLDERS, "proofs"))
-        stands = ", ".join(name.removeprefix("cedar_") for name in below)
-        lines.append(f"| `{crate}` | {cell(first_sentence(root))} | {stands} | {counts} |")
+        lines.append(f"| `{crate}` | {cell(first_sentence(root))} |")
     return lines
 
 
@@ -83,16 +64,11 @@ def listed(files):
     return lines[:-1]
 
 
-def errors(files):
-    """What PROFILE shows: each error and warning, when it comes, and its text."""
-    lines = ["| Error | When | Text |", "|---|---|---|"]
-    messages = dict(MESSAGE.findall(files.get(f"{ERRORS}messages.rt", "")))
-    for path, text in sorted(files.items()):
-        if path.startswith(ERRORS):
-            for comment, name in ERROR.findall(text):
-                when = first_sentence(comment.replace("///", "//"))
-                lines.append(f"| {name} | {cell(when)} | {cell(message(messages[name], text))} |")
-    return lines
+def messages(files):
+    """The text of each error and warning, by its name."""
+    written = dict(MESSAGE.findall(files.get(f"{ERRORS}messages.rt", "")))
+    texts = [text for path, text in sorted(files.items()) if path.startswith(ERRORS)]
+    return {name: message(written[name], text) for text in texts for name in ERROR.findall(text)}
 
 
 def message(body, text):
@@ -102,17 +78,7 @@ def message(body, text):
         field = " or ".join(texts_of(shows, text)) if call else shows
         shown = shown.replace("{" + local + "}", "{" + field + "}")
     joined = re.search(r'between: "([^"]*)"', body)
-    return f"`` {shown} ``{f', joined by `{joined[1]}`' if joined else ''}"
-
-
-def faults(files):
-    """What PROFILE shows of schemas and of tables of functions: each fault, in the order in which they count."""
-    lines = ["| Refused | For | What is wrong |", "|---|---|---|"]
-    for refused, path, enum in FAULTS:
-        variants = re.search(rf"pub enum {enum} \{{\n(.*?)\n\}}", files.get(path, ""), re.S)
-        for wrong, name in VARIANT.findall(variants[1] if variants else ""):
-            lines.append(f"| {refused} | `{name}` | {cell(wrong)} |")
-    return lines
+    return shown + (f" (joined by `{joined[1]}`)" if joined else "")
 
 
 def codes(files):
@@ -136,7 +102,7 @@ def texts_of(function, text):
 def main():
     paths = [TOP / "crates.txt", *(path for path in TOP.glob("crates/*/*/**/*") if path.suffix in (".rt", ".antt"))]
     files = {str(path.relative_to(TOP)): path.read_text() for path in paths if "/out/" not in str(path)}
-    print("\n".join([*crates(files), "", *listed(files), "", *faults(files), "", *errors(files), "", *codes(files)]))
+    print("\n".join([*crates(files), "", *listed(files), "", *codes(files)]))
     return 0
 
 

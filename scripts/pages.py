@@ -10,7 +10,6 @@ import sys
 from pathlib import Path
 
 import api
-import claims
 import files as listings
 import rows
 import trusted
@@ -18,12 +17,9 @@ import trusted
 TOP = Path(__file__).resolve().parent.parent
 MAKERS = {
     "rows": rows.table,
-    "claims": claims.table,
     "trusted": trusted.table,
     "promise": trusted.sentence,
     "crates": listings.crates,
-    "faults": listings.faults,
-    "errors": listings.errors,
     "codes": listings.codes,
     "calls": api.listing,
 }

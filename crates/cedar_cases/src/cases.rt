@@ -9,5 +9,5 @@ mod refusals;
 mod report;
 
 pub use files::{CaseFile, FileFault};
-pub use refusals::{fault_of_columns, notation_of, run_refusals};
+pub use refusals::{Notation, fault_of_columns, notation_of, run_refusals};
 pub use report::{CaseCounts, run_cases};

@@ -1,10 +1,11 @@
 // What the program does, over any files and any two writers.
 use crate::cases::{
-    CaseCounts, CaseFile, FileFault, fault_of_columns, notation_of, run_cases, run_refusals,
+    CaseCounts, CaseFile, FileFault, Notation, fault_of_columns, notation_of, run_cases,
+    run_refusals,
 };
 use crate::tables::Tables;
 use cedar_reading::{
-    Fault, MAX_LENGTH, Notation, Position, ReadError, SchemaReadError, refused_name, schema,
+    Fault, MAX_LENGTH, Position, ReadError, SchemaReadError, refused_name, schema,
 };
 use cedar_typechecker::rbac::Validator;
 use cedar_types::base::{SchemaError, ValidatorSchema};

@@ -11,14 +11,7 @@ use Rattle.cedar_types.specs.Values.Stores.{declares_ancestor}
 use Rattle.cedar_types.specs.declared.base.schema.ValidatorSchema.{ValidatorSchema}
 use Rattle.cedar_types.proofs.Schema.Faultless.{faultless}
 use Rattle.cedar_types.proofs.Tests.{found}
-
-neither_left : (a b : Bool) → (a || b) ≡ false → a ≡ false
-neither_left true b h = cc
-neither_left false b h = refl
-
-neither_right : (a b : Bool) → (a || b) ≡ false → b ≡ false
-neither_right true b h = cc
-neither_right false b h = h
+use Rattle.cedar_typing.proofs.Basics.{neither_left, neither_right}
 
 -- where no other action has the name of a, none of them is an ancestor of that name
 named_once : (a : DeclaredAction) (acts : List DeclaredAction) (u v : Uid) → v ≡ a.name → list_any (λ b. uid_eq a.name b.name) acts ≡ false

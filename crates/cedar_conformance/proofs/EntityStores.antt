@@ -18,10 +18,11 @@ use Rattle.cedar_types.specs.Schemas.{has_repeat}
 use Rattle.cedar_types.specs.Values.Stores as store
 use Rattle.cedar_types.specs.Values.Stores.{Store, entity_at}
 use Rattle.cedar_types.specs.declared.base.names.entities.EntityUID.{EntityUID}
-use Rattle.cedar_types.proofs.Names.Ids.{uid_ties}
+use Rattle.cedar_types.proofs.Names.Ids.{uid_ties, uid_lookup}
 use Rattle.cedar_conformance.specs.Entities.{entity_of, stored_of, stored_all, IsSameStore}
 use Rattle.cedar_conformance.specs.StoreTests.{IsApart}
 use Rattle.cedar_conformance.specs.declared.entities.Entity.{Entity}
+use Rattle.cedar_conformance.proofs.Records.{mapped_some}
 
 -- what the entries have of an id
 pub stored_at : (es : List (EntityUID × Entity)) (u : Uid)
@@ -34,6 +35,14 @@ stored_at (e ∷ es) u = at (uid_eq u (uid_of e.0)) (stored_at es u)
         ≡ option_map entity_of (cond b (Some e.1) (lookup (λ k. uid_eq u (uid_of k)) es))
     at true h = refl
     at false h = h
+
+-- whether they have one, as a map finds it
+pub stored_there : (R : EntityUID → Ordering) (u : Uid) → ((k : EntityUID) → R k ≡ uid_cmp u (uid_of k))
+    → (es : List (EntityUID × Entity))
+    → is_some (entity_at (stored_all es) u) ≡ is_some (lookup (λ k. is_eq (R k)) es)
+stored_there R u h es =
+    ap is_some (stored_at es u) ∙ mapped_some entity_of (lookup (λ k. uid_eq u (uid_of k)) es)
+    ∙ ap is_some (sym (uid_lookup R u h es))
 
 -- an entity that is lent is seen as what it is
 pub lent : (r : Option (Bor Entity)) → option_map (λ e. entity_of e.now) r ≡ option_map entity_of (option_copied r)

@@ -111,20 +111,13 @@ not_closed schema external c = true≢false (sym external ∙ closed_of schema c
 
 module _ (schema : ValidatorSchema) (template : Template) (values : BTreeMap SlotId EntityUID)
     (request : Request) (entities : Entities) where
-  abbrev RestIsMet : Type 0
-  RestIsMet = IsWellFormed (template_of template) (slots_of values) × DataConforms schema request entities
-
-  -- where the policy is well-formed, the data decides
-  pub rest_decided : {A E : Type 0} (r : Result A E) → IsWellFormed (template_of template) (slots_of values)
-      → IsOk r ↔ DataConforms schema request entities → IsOk r ↔ RestIsMet
-  rest_decided r formed h = (λ ok. (formed, h.0 ok), λ rest. h.1 rest.1)
-
-  -- where nothing of the schema is external, the rest decides
+  -- where nothing of the schema is external and the policy is well-formed, the data decides
   pub all_decided : {A E : Type 0} (r : Result A E) → has_external (schema_of schema) ≡ false
-      → IsOk r ↔ RestIsMet → IsOk r ↔ ArePremises schema template values request entities
-  all_decided r closed h = (
-    λ ok. record { closed = is_closed schema closed; well_formed = (h.0 ok).0; conforming = (h.0 ok).1 },
-    λ p. h.1 (p.well_formed, p.conforming),
+      → IsWellFormed (template_of template) (slots_of values) → IsOk r ↔ DataConforms schema request entities
+      → IsOk r ↔ ArePremises schema template values request entities
+  all_decided r closed formed h = (
+    λ ok. record { closed = is_closed schema closed; well_formed = formed; conforming = h.0 ok },
+    λ p. h.1 p.conforming,
   )
 
   -- the first that is not met of the data is the first of all, behind a closed schema and a well-formed policy

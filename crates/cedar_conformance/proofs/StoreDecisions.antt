@@ -13,6 +13,7 @@ use Rattle.cedar_types.specs.Values.{Entries, no_entries, more_entries, HasType}
 use Rattle.cedar_types.specs.Values.Stores.{Entity, Store, entity_at, TagsFit, AncestorsFit, IsBare, FitsStandard, FitsKind}
 use Rattle.cedar_types.specs.Values.Stores.{declares_ancestor, FitsAction, FitsDeclaration, ConformingStore}
 use Rattle.cedar_types.proofs.Tests.{found, each, and_left, and_right, and_both, alike}
+use Rattle.cedar_typing.proofs.Basics.{neither_left, neither_right}
 use Rattle.cedar_conformance.specs.StoreTests.{is_empty_record, are_no_ids, tags_fit, ancestor_fits, is_bare, fits_standard, fits_kind}
 use Rattle.cedar_conformance.specs.StoreTests.{has_its_ancestor, fits_action, fits_declaration, fits_schema, store_fits, IsApart}
 use Rattle.cedar_conformance.specs.Tests.{keys_among, has_type, have_attrs}
@@ -165,14 +166,6 @@ unnamed k (x ∷ store) h = at (uid_eq k x.0) h (unnamed k store)
         → if◌then◌else◌ {A = Option Entity} b (Some x.1) (entity_at store k) ≡ None
     at true h f = cc
     at false h f = f h
-
-neither_left : (a b : Bool) → (a || b) ≡ false → a ≡ false
-neither_left true b h = cc
-neither_left false b h = refl
-
-neither_right : (a b : Bool) → (a || b) ≡ false → b ≡ false
-neither_right true b h = cc
-neither_right false b h = h
 
 -- where no two entries have one id, what each that is found passes, each entry passes
 all_fit : (p : Uid × Entity → Bool) (store : Store) → IsApart store

@@ -59,11 +59,17 @@ fits_declaration s u (Some t) e = fits_kind s.types u.entity_type t.kind e
 abbrev pub fits_schema : Schema → Uid × Entity → Bool
 fits_schema s e = fits_declaration s e.0 (type_named s.types e.0.entity_type) e.1
 
--- each entry fits, and each declared action is there
+-- each entity is as the schema says
+abbrev pub each_fits : Schema → Store → Bool
+each_fits s store = list_all (fits_schema s) store
+
+-- each of these actions is there
+abbrev pub are_there : List DeclaredAction → Store → Bool
+are_there acts store = list_all (λ a. is_some (entity_at store a.name)) acts
+
+-- both
 abbrev pub store_fits : Schema → Store → Bool
-store_fits s store =
-    list_all (fits_schema s) store
-    && list_all (λ a. is_some (entity_at store a.name)) s.actions
+store_fits s store = each_fits s store && are_there s.actions store
 
 -- no two entries have one id
 abbrev pub IsApart : Store → Type 0

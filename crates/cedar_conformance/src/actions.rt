@@ -6,15 +6,16 @@ ghost use Rattle.cedar_types.specs.Schemas.Contents.{schema_of};
 ghost use Rattle.cedar_types.specs.Schemas.Declarations.{declared_action, uids_of};
 ghost use Rattle.cedar_types.specs.Schemas.{declares_action};
 ghost use Rattle.cedar_types.specs.Values.Stores.{declares_ancestor};
-ghost use Rattle.cedar_conformance.specs.Answers.{finds_none};
+ghost use Rattle.cedar_conformance.specs.Answers.{FindsNoneWhere};
 ghost use Rattle.cedar_conformance.specs.Entities.{entity_of};
 ghost use Rattle.cedar_conformance.specs.StoreTests.{fits_action, has_its_ancestor};
 
+use crate::answers::Found;
 use crate::entities::Entity;
 use crate::entity_faults::EntityProblem;
 use crate::sets::{has_id, is_empty};
 use cedar_types::base::{EntityUID, ValidatorActionId, ValidatorSchema};
-use std::alloc::{AllocError, Global};
+use std::alloc::Global;
 use std::collections::BTreeSet;
 
 /// How what is stored under an id is not a declared action, with its declared ancestors and nothing else.
@@ -23,10 +24,9 @@ pub(crate) fn find_in_action(
     schema: &ValidatorSchema,
     id: &EntityUID,
     entity: &Entity,
-) -> Result<Option<EntityProblem>, AllocError>
-    ensures { IfOk result (λ o. finds_none o
-        ≡ (declares_action (schema_of schema.now).actions (uid_of id.now)
-        && fits_action (schema_of schema.now).actions (uid_of id.now) (entity_of entity.now))) }
+) -> Found<EntityProblem>
+    ensures { FindsNoneWhere result (declares_action (schema_of schema.now).actions (uid_of id.now)
+        && fits_action (schema_of schema.now).actions (uid_of id.now) (entity_of entity.now)) }
 {
     if !schema.is_known_action_id(id) {
         return Ok(Some(EntityProblem::Undeclared));
@@ -48,9 +48,9 @@ fn find_undeclared_ancestor(
     schema: &ValidatorSchema,
     id: &EntityUID,
     ancestors: &BTreeSet<EntityUID>,
-) -> Result<Option<EntityProblem>, AllocError>
-    ensures { IfOk result (λ o. finds_none o
-        ≡ list_all (declares_ancestor (schema_of schema.now).actions (uid_of id.now))
+) -> Found<EntityProblem>
+    ensures { FindsNoneWhere result
+        (list_all (declares_ancestor (schema_of schema.now).actions (uid_of id.now))
         (uids_of ancestors.now)) }
 {
     for ancestor in ancestors.iter() {
@@ -77,9 +77,9 @@ fn find_missing_ancestor(
     schema: &ValidatorSchema,
     id: &EntityUID,
     entity: &Entity,
-) -> Result<Option<EntityProblem>, AllocError>
-    ensures { IfOk result (λ o. finds_none o
-        ≡ list_all (has_its_ancestor (uid_of id.now) (entity_of entity.now))
+) -> Found<EntityProblem>
+    ensures { FindsNoneWhere result
+        (list_all (has_its_ancestor (uid_of id.now) (entity_of entity.now))
         (schema_of schema.now).actions) }
 {
     let actions = schema.action_ids(alloc)?;

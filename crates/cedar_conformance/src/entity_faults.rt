@@ -1,6 +1,6 @@
 // How entities are not as a schema says.
-ghost use Rattle.std.specs.Prelude.{◌≡◌, ◌&&◌, OnOk};
-ghost use Rattle.cedar_conformance.specs.Answers.{finds_none, lists_none};
+ghost use Rattle.std.specs.Prelude.{OnOk};
+ghost use Rattle.cedar_conformance.specs.Answers.{finds_none, AddsNoneWhere};
 
 use crate::faults::ValueFault;
 use cedar_types::base::EntityUID;
@@ -72,8 +72,8 @@ pub(crate) fn add_found(
     id: &EntityUID,
     found: Option<EntityProblem>,
 ) -> Result<(), AllocError>
-    ensures { OnOk result (lists_none faults.new.items
-        ≡ (lists_none faults.old.items && finds_none found)) }
+    ensures { OnOk result
+        (AddsNoneWhere (finds_none found) faults.old.items faults.new.items) }
 {
     if let Some(problem) = found {
         let id = id.clone()?;

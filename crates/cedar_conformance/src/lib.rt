@@ -3,6 +3,7 @@
 #![tactic(auto)]
 
 mod actions;
+pub mod answers;
 mod copies;
 pub mod entities;
 pub mod entity_faults;

@@ -1,16 +1,15 @@
 // What the promises ask of a policy and of its links.
 ghost use Rattle.std.specs.Prelude.{◌≡◌, false, ◌↔◌, IfOk, IsOk, option_map, is_some};
-ghost use Rattle.std.specs.List.{list_any};
-ghost use Rattle.cedar_types.specs.Expressions.Parts.{subexpressions};
 ghost use Rattle.cedar_types.specs.Expressions.View.{written};
 ghost use Rattle.cedar_types.specs.Templates.{template_of, condition_of};
 ghost use Rattle.cedar_typing.specs.Composition.{SlotsInScopeAlone};
 ghost use Rattle.cedar_typing.specs.Evaluation.Conformance.{SlotsBound};
 ghost use Rattle.cedar_typing.specs.Silence.{is_unknown, HasNoUnknowns};
 ghost use Rattle.cedar_typing.specs.Soundness.Policies.{IsWellFormed};
-ghost use Rattle.cedar_conformance.specs.Answers.{finds_none};
+ghost use Rattle.cedar_conformance.specs.Answers.{FindsNoneWhere};
 ghost use Rattle.cedar_conformance.specs.PolicyTests.{slots_of, rest_has_unknown, mentions_any_slot, rest_mentions_slot, slot_fits, slots_fit, policy_fits};
 
+use crate::answers::{Checked, Found, answer};
 use cedar_types::base::{Expr, ExprKind, SlotEnv, SlotId, Template};
 use std::alloc::{AllocError, Global};
 use std::fmt;
@@ -39,27 +38,17 @@ impl fmt::Display for PolicyFault {
 
 /// Whether the policy has no unknowns, its slots stand in the scope alone, and each that occurs is bound. Else the first
 /// fault. Where memory is refused, the answer is an `AllocError`.
-pub fn check_policy(
-    alloc: Global,
-    template: &Template,
-    values: &SlotEnv,
-) -> Result<Result<(), PolicyFault>, AllocError>
+pub fn check_policy(alloc: Global, template: &Template, values: &SlotEnv) -> Checked<PolicyFault>
     ensures { IfOk result (λ r.
         IsOk r ↔ IsWellFormed (template_of template.now) (slots_of values.now)) }
 {
-    match find_in_policy(alloc, template, values)? {
-        None => Ok(Ok(())),
-        Some(fault) => Ok(Err(fault)),
-    }
+    let found = find_in_policy(alloc, template, values)?;
+    Ok(answer(found))
 }
 
-fn find_in_policy(
-    alloc: Global,
-    template: &Template,
-    values: &SlotEnv,
-) -> Result<Option<PolicyFault>, AllocError>
-    ensures { IfOk result (λ o.
-        finds_none o ≡ policy_fits (template_of template.now) (slots_of values.now)) }
+fn find_in_policy(alloc: Global, template: &Template, values: &SlotEnv) -> Found<PolicyFault>
+    ensures { FindsNoneWhere result
+        (policy_fits (template_of template.now) (slots_of values.now)) }
 {
     if rest_has_unknown(alloc, &template.non_scope_constraints)? {
         return Ok(Some(PolicyFault::Unknown));
@@ -75,27 +64,17 @@ fn find_in_policy(
 
 /// Whether each slot that occurs in the template is bound; else the first that is not. Where memory is refused, the answer
 /// is an `AllocError`.
-pub fn check_slots(
-    alloc: Global,
-    template: &Template,
-    values: &SlotEnv,
-) -> Result<Result<(), SlotId>, AllocError>
+pub fn check_slots(alloc: Global, template: &Template, values: &SlotEnv) -> Checked<SlotId>
     ensures { IfOk result (λ r.
         IsOk r ↔ SlotsBound (slots_of values.now) (condition_of (template_of template.now))) }
 {
-    match find_unbound(alloc, template, values)? {
-        None => Ok(Ok(())),
-        Some(slot) => Ok(Err(slot)),
-    }
+    let found = find_unbound(alloc, template, values)?;
+    Ok(answer(found))
 }
 
-fn find_unbound(
-    alloc: Global,
-    template: &Template,
-    values: &SlotEnv,
-) -> Result<Option<SlotId>, AllocError>
-    ensures { IfOk result (λ o.
-        finds_none o ≡ slots_fit (template_of template.now) (slots_of values.now)) }
+fn find_unbound(alloc: Global, template: &Template, values: &SlotEnv) -> Found<SlotId>
+    ensures { FindsNoneWhere result
+        (slots_fit (template_of template.now) (slots_of values.now)) }
 {
     if !slot_fits(alloc, template, values, SlotId::Principal)? {
         return Ok(Some(SlotId::Principal));
@@ -138,16 +117,10 @@ pub fn has_unknowns(alloc: Global, template: &Template) -> Result<bool, AllocErr
 fn rest_has_unknown(alloc: Global, rest: &Option<Expr>) -> Result<bool, AllocError>
     ensures { IfOk result (λ b. b ≡ rest_has_unknown (option_map written rest.now)) }
 {
-    match rest {
-        Some(rest) => has_unknown(alloc, rest),
-        None => Ok(false),
-    }
-}
-
-fn has_unknown(alloc: Global, expr: &Expr) -> Result<bool, AllocError>
-    ensures { IfOk result (λ b. b ≡ list_any is_unknown (subexpressions (written expr.now))) }
-{
-    for part in expr.subexpressions(alloc)? {
+    let Some(rest) = rest else {
+        return Ok(false);
+    };
+    for part in rest.subexpressions(alloc)? {
         if is_unknown(part?) {
             return Ok(true);
         }

@@ -10,6 +10,7 @@ ghost use Rattle.cedar_conformance.specs.PolicyTests.{slots_of};
 ghost use Rattle.cedar_conformance.specs.Premises.{ArePremises, DataConforms, IsFirstOfData, IsFirstUnmet};
 ghost use Rattle.cedar_conformance.specs.Requests.{request_of};
 
+use crate::answers::Checked;
 use crate::entities::Entities;
 use crate::entity_faults::EntityFault;
 use crate::policies::{PolicyFault, check_policy};
@@ -17,7 +18,7 @@ use crate::requests::{Request, RequestFault, check_request};
 use crate::schemas::has_external;
 use crate::stores::check_entities;
 use cedar_types::base::{SlotEnv, Template, ValidatorSchema};
-use std::alloc::{AllocError, Global};
+use std::alloc::Global;
 
 /// Which premise is not met: the first of these.
 #[derive(Debug, PartialEq, Eq, Drop)]
@@ -41,7 +42,7 @@ pub fn check_data(
     schema: &ValidatorSchema,
     request: &Request,
     entities: &Entities,
-) -> Result<Result<(), PremiseFault>, AllocError>
+) -> Checked<PremiseFault>
     ensures exact { IfOk result (λ r.
         IsOk r ↔ DataConforms schema.now request.now entities.now) }
     ensures first { IfOk result (λ r.
@@ -61,7 +62,7 @@ fn check_stored(
     alloc: Global,
     schema: &ValidatorSchema,
     entities: &Entities,
-) -> Result<Result<(), PremiseFault>, AllocError>
+) -> Checked<PremiseFault>
     ensures exact { IfOk result (λ r.
         IsOk r ↔ ConformingStore (schema_of schema.now) (store_of entities.now)) }
     ensures first { IfOk result (λ r. IfErr r (λ f. (request : _)
@@ -85,7 +86,7 @@ pub fn check_premises(
     values: &SlotEnv,
     request: &Request,
     entities: &Entities,
-) -> Result<Result<(), PremiseFault>, AllocError>
+) -> Checked<PremiseFault>
     ensures exact { IfOk result (λ r.
         IsOk r ↔ ArePremises schema.now template.now values.now request.now entities.now) }
     ensures first { IfOk result (λ r. IfErr r (λ f.
@@ -95,25 +96,6 @@ pub fn check_premises(
     if is_external {
         return Ok(Err(PremiseFault::External));
     }
-    let checked = check_closed(alloc, schema, template, values, request, entities)?;
-    Ok(checked)
-}
-
-/// All but the schema, behind one that is closed.
-fn check_closed(
-    alloc: Global,
-    schema: &ValidatorSchema,
-    template: &Template,
-    values: &SlotEnv,
-    request: &Request,
-    entities: &Entities,
-) -> Result<Result<(), PremiseFault>, AllocError>
-    ensures exact { IfOk result (λ r. IsOk r
-        ↔ (IsWellFormed (template_of template.now) (slots_of values.now)
-        × DataConforms schema.now request.now entities.now)) }
-    ensures first { IfOk result (λ r. IfErr r (λ f. has_external (schema_of schema.now) ≡ false
-        → IsFirstUnmet f schema.now template.now values.now request.now entities.now)) }
-{
     match check_policy(alloc, template, values)? {
         Ok(()) => {
             let checked = check_data(alloc, schema, request, entities)?;

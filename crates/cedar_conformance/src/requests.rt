@@ -6,12 +6,13 @@ ghost use Rattle.cedar_types.specs.Names.{type_of, uid_of};
 ghost use Rattle.cedar_types.specs.Types.{ty_of, kind_of};
 ghost use Rattle.cedar_types.specs.Values.{VRecord};
 ghost use Rattle.cedar_typing.specs.Evaluation.Conformance.{ConformingRequest};
-ghost use Rattle.cedar_conformance.specs.Answers.{finds_none};
+ghost use Rattle.cedar_conformance.specs.Answers.{FindsNoneWhere};
 ghost use Rattle.cedar_conformance.specs.Requests.{request_of};
 ghost use Rattle.cedar_conformance.specs.RequestTests.{request_fits, application_fits};
 ghost use Rattle.cedar_conformance.specs.Tests.{has_type};
 ghost use Rattle.cedar_conformance.specs.Values.{record_of};
 
+use crate::answers::{Checked, Found, answer};
 use crate::faults::{Mismatch, ValueFault, ValueKind};
 use crate::sets::is_among_types;
 use crate::typed::find_in_record;
@@ -73,23 +74,21 @@ pub fn check_request(
     alloc: Global,
     schema: &ValidatorSchema,
     request: &Request,
-) -> Result<Result<(), RequestFault>, AllocError>
+) -> Checked<RequestFault>
     ensures { IfOk result (λ r.
         IsOk r ↔ ConformingRequest (schema_of schema.now) (request_of request.now)) }
 {
-    match find_in_request(alloc, schema, request)? {
-        None => Ok(Ok(())),
-        Some(fault) => Ok(Err(fault)),
-    }
+    let found = find_in_request(alloc, schema, request)?;
+    Ok(answer(found))
 }
 
 fn find_in_request(
     alloc: Global,
     schema: &ValidatorSchema,
     request: &Request,
-) -> Result<Option<RequestFault>, AllocError>
-    ensures { IfOk result (λ o.
-        finds_none o ≡ request_fits (schema_of schema.now) (uid_of request.now.principal)
+) -> Found<RequestFault>
+    ensures { FindsNoneWhere result
+        (request_fits (schema_of schema.now) (uid_of request.now.principal)
         (uid_of request.now.action) (uid_of request.now.resource)
         (record_of request.now.context)) }
 {
@@ -107,9 +106,9 @@ fn find_in_application(
     alloc: Global,
     applies_to: &ValidatorApplySpec,
     request: &Request,
-) -> Result<Option<RequestFault>, AllocError>
-    ensures { IfOk result (λ o. finds_none o
-        ≡ application_fits (Some (application applies_to.now)) (type_of request.now.principal.entity_type)
+) -> Found<RequestFault>
+    ensures { FindsNoneWhere result
+        (application_fits (Some (application applies_to.now)) (type_of request.now.principal.entity_type)
         (type_of request.now.resource.entity_type) (record_of request.now.context)) }
 {
     if !is_among_types(
@@ -133,13 +132,9 @@ fn find_in_application(
 }
 
 /// Where the context is not as its type says.
-fn find_in_context(
-    alloc: Global,
-    ty: &CedarType,
-    context: &Record,
-) -> Result<Option<ValueFault>, AllocError>
-    ensures { IfOk result (λ o.
-        finds_none o ≡ has_type (ty_of ty.now) (VRecord (record_of context.now))) }
+fn find_in_context(alloc: Global, ty: &CedarType, context: &Record) -> Found<ValueFault>
+    ensures { FindsNoneWhere result
+        (has_type (ty_of ty.now) (VRecord (record_of context.now))) }
 {
     match ty {
         CedarType::Record {
@@ -171,8 +166,8 @@ fn entities_are_no_records(kind: &EntityKind, context: &Record)
 }
 
 /// That a record is of another type than this.
-fn no_record(alloc: Global, ty: &CedarType) -> Result<Option<ValueFault>, AllocError>
-    ensures { IfOk result (λ o. finds_none o ≡ false) }
+fn no_record(alloc: Global, ty: &CedarType) -> Found<ValueFault>
+    ensures { FindsNoneWhere result false }
 {
     let expected = ty.clone()?;
     let found = ValueKind::Record;

@@ -30,12 +30,7 @@ fn has_external_type(alloc: Global, schema: &ValidatorSchema) -> Result<bool, Al
         (schema_of schema.now).types) }
 {
     let types = schema.entity_types(alloc)?;
-    for entity_type in &types {
-        if is_external_type(entity_type) {
-            return Ok(true);
-        }
-    }
-    Ok(false)
+    Ok(types.iter().any(|declared| is_external_type(declared)))
 }
 
 fn is_external_type(entity_type: &ValidatorEntityType) -> bool
@@ -53,12 +48,7 @@ fn has_external_action(alloc: Global, schema: &ValidatorSchema) -> Result<bool, 
         (schema_of schema.now).actions) }
 {
     let actions = schema.action_ids(alloc)?;
-    for action in &actions {
-        if is_external_action(action) {
-            return Ok(true);
-        }
-    }
-    Ok(false)
+    Ok(actions.iter().any(|action| is_external_action(action)))
 }
 
 fn is_external_action(action: &ValidatorActionId) -> bool

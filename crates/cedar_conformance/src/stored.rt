@@ -7,13 +7,14 @@ ghost use Rattle.cedar_types.specs.Schemas.Declarations.{uids_of};
 ghost use Rattle.cedar_types.specs.Schemas.{type_named};
 ghost use Rattle.cedar_types.specs.Types.{ty_of, attributes_of};
 ghost use Rattle.cedar_types.specs.Values.Stores.{FitsDeclaration};
-ghost use Rattle.cedar_conformance.specs.Answers.{finds_none};
+ghost use Rattle.cedar_conformance.specs.Answers.{finds_none, FindsNoneWhere};
 ghost use Rattle.cedar_conformance.specs.Entities.{entity_of};
 ghost use Rattle.cedar_conformance.specs.StoreTests.{tags_fit, ancestor_fits, is_bare, fits_standard, fits_declaration};
 ghost use Rattle.cedar_conformance.specs.Tests.{all_entries, has_type};
 ghost use Rattle.cedar_conformance.specs.Values.{record_of};
 
 use crate::actions::find_in_action;
+use crate::answers::{Checked, Found, answer};
 use crate::entities::Entity;
 use crate::entity_faults::EntityProblem;
 use crate::faults::{Step, ValueFault};
@@ -24,7 +25,7 @@ use cedar_types::base::{
     CedarType, EntityUID, OpenTag, StandardValidatorEntityType, ValidatorEntityTypeKind,
     ValidatorSchema,
 };
-use std::alloc::{AllocError, Global};
+use std::alloc::Global;
 use std::collections::BTreeSet;
 
 /// Whether what is stored of the entity of this id is as the schema says; else how it is not, first. Of an entity of a type
@@ -36,15 +37,13 @@ pub fn check_entity(
     schema: &ValidatorSchema,
     id: &EntityUID,
     entity: &Entity,
-) -> Result<Result<(), EntityProblem>, AllocError>
+) -> Checked<EntityProblem>
     ensures { IfOk result (λ r. IsOk r ↔ FitsDeclaration (schema_of schema.now) (uid_of id.now)
         (type_named (schema_of schema.now).types (uid_of id.now).entity_type)
         (entity_of entity.now)) }
 {
-    match find_in_entity(alloc, schema, id, entity)? {
-        None => Ok(Ok(())),
-        Some(problem) => Ok(Err(problem)),
-    }
+    let found = find_in_entity(alloc, schema, id, entity)?;
+    Ok(answer(found))
 }
 
 pub(crate) fn find_in_entity(
@@ -52,9 +51,8 @@ pub(crate) fn find_in_entity(
     schema: &ValidatorSchema,
     id: &EntityUID,
     entity: &Entity,
-) -> Result<Option<EntityProblem>, AllocError>
-    ensures { IfOk result (λ o. finds_none o
-        ≡ fits_declaration (schema_of schema.now) (uid_of id.now)
+) -> Found<EntityProblem>
+    ensures { FindsNoneWhere result (fits_declaration (schema_of schema.now) (uid_of id.now)
         (type_named (schema_of schema.now).types (uid_of id.now).entity_type)
         (entity_of entity.now)) }
 {
@@ -76,9 +74,9 @@ fn find_in_standard(
     id: &EntityUID,
     standard: &StandardValidatorEntityType,
     entity: &Entity,
-) -> Result<Option<EntityProblem>, AllocError>
-    ensures { IfOk result (λ o. finds_none o
-        ≡ fits_standard (schema_of schema.now).types (type_of id.now.entity_type)
+) -> Found<EntityProblem>
+    ensures { FindsNoneWhere result
+        (fits_standard (schema_of schema.now).types (type_of id.now.entity_type)
         (attributes_of standard.now.attributes) (option_map ty_of standard.now.tags)
         (entity_of entity.now)) }
 {
@@ -92,13 +90,9 @@ fn find_in_standard(
     find_in_ancestors(schema, id, &entity.ancestors)
 }
 
-fn find_in_tags(
-    alloc: Global,
-    tags: &Option<CedarType>,
-    entries: &Record,
-) -> Result<Option<EntityProblem>, AllocError>
-    ensures { IfOk result (λ o.
-        finds_none o ≡ tags_fit (option_map ty_of tags.now) (record_of entries.now)) }
+fn find_in_tags(alloc: Global, tags: &Option<CedarType>, entries: &Record) -> Found<EntityProblem>
+    ensures { FindsNoneWhere result
+        (tags_fit (option_map ty_of tags.now) (record_of entries.now)) }
 {
     match tags {
         Some(ty) => match find_in_typed_tags(alloc, ty, entries)? {
@@ -110,13 +104,9 @@ fn find_in_tags(
     }
 }
 
-fn find_in_typed_tags(
-    alloc: Global,
-    ty: &CedarType,
-    entries: &Record,
-) -> Result<Option<ValueFault>, AllocError>
-    ensures { IfOk result (λ o.
-        finds_none o ≡ all_entries (has_type (ty_of ty.now)) (record_of entries.now)) }
+fn find_in_typed_tags(alloc: Global, ty: &CedarType, entries: &Record) -> Found<ValueFault>
+    ensures { FindsNoneWhere result
+        (all_entries (has_type (ty_of ty.now)) (record_of entries.now)) }
 {
     for (name, value) in entries.iter() {
         if let Some(fault) = find_fault(alloc, ty, value)? {
@@ -131,9 +121,9 @@ fn find_in_ancestors(
     schema: &ValidatorSchema,
     id: &EntityUID,
     ancestors: &BTreeSet<EntityUID>,
-) -> Result<Option<EntityProblem>, AllocError>
-    ensures { IfOk result (λ o. finds_none o
-        ≡ list_all (ancestor_fits (schema_of schema.now).types (type_of id.now.entity_type))
+) -> Found<EntityProblem>
+    ensures { FindsNoneWhere result
+        (list_all (ancestor_fits (schema_of schema.now).types (type_of id.now.entity_type))
         (uids_of ancestors.now)) }
 {
     for ancestor in ancestors.iter() {

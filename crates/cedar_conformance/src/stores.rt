@@ -1,18 +1,19 @@
 // Whether entities are as a schema says.
-ghost use Rattle.std.specs.Prelude.{◌≡◌, ◌&&◌, ◌↔◌, IfOk, IsOk, OnOk};
-ghost use Rattle.std.specs.List.{list_all};
+ghost use Rattle.std.specs.Prelude.{◌≡◌, ◌↔◌, IfOk, IsOk, OnOk, map};
 ghost use Rattle.std.specs.Option.{is_some};
 ghost use Rattle.cedar_types.specs.Names.{uid_of};
 ghost use Rattle.cedar_types.specs.Schemas.Contents.{schema_of};
+ghost use Rattle.cedar_types.specs.Schemas.Declarations.{declared_action};
 ghost use Rattle.cedar_types.specs.Values.Stores.{ConformingStore, entity_at};
-ghost use Rattle.cedar_conformance.specs.Answers.{finds_none, lists_none};
+ghost use Rattle.cedar_conformance.specs.Answers.{finds_none, lists_none, AddsNoneWhere};
 ghost use Rattle.cedar_conformance.specs.Entities.{store_of};
-ghost use Rattle.cedar_conformance.specs.StoreTests.{fits_schema, store_fits, IsApart};
+ghost use Rattle.cedar_conformance.specs.StoreTests.{each_fits, are_there, store_fits, IsApart};
 
+use crate::answers::Checked;
 use crate::entities::Entities;
 use crate::entity_faults::{EntityFault, EntityProblem, add_found};
 use crate::stored::find_in_entity;
-use cedar_types::base::{EntityUID, ValidatorSchema};
+use cedar_types::base::{EntityUID, ValidatorActionId, ValidatorSchema};
 use std::alloc::{AllocError, Global};
 
 /// How many entities are looked for that are not as a schema says.
@@ -25,7 +26,7 @@ pub fn check_entities(
     alloc: Global,
     schema: &ValidatorSchema,
     entities: &Entities,
-) -> Result<Result<(), Vec<EntityFault>>, AllocError>
+) -> Checked<Vec<EntityFault>>
     ensures { IfOk result (λ r.
         IsOk r ↔ ConformingStore (schema_of schema.now) (store_of entities.now)) }
 {
@@ -55,7 +56,8 @@ fn find_in_store(
 {
     let mut faults = Vec::new(alloc);
     add_unfit(alloc, &mut faults, schema, entities)?;
-    add_missing_actions(alloc, &mut faults, schema, entities)?;
+    let actions = schema.action_ids(alloc)?;
+    add_missing_actions(&mut faults, &actions, entities)?;
     Ok(faults)
 }
 
@@ -66,8 +68,8 @@ fn add_unfit(
     schema: &ValidatorSchema,
     entities: &Entities,
 ) -> Result<(), AllocError>
-    ensures { OnOk result (lists_none faults.new.items ≡ (lists_none faults.old.items
-        && list_all (fits_schema (schema_of schema.now)) (store_of entities.now))) }
+    ensures { OnOk result (AddsNoneWhere (each_fits (schema_of schema.now) (store_of entities.now))
+        faults.old.items faults.new.items) }
 {
     for (id, entity) in entities.entries.iter() {
         if faults.len() >= MAX_FAULTS {
@@ -81,17 +83,15 @@ fn add_unfit(
 
 /// Adds the declared actions that are not there.
 fn add_missing_actions(
-    alloc: Global,
     faults: &mut Vec<EntityFault>,
-    schema: &ValidatorSchema,
+    actions: &Vec<&ValidatorActionId>,
     entities: &Entities,
 ) -> Result<(), AllocError>
-    ensures { OnOk result (lists_none faults.new.items ≡ (lists_none faults.old.items
-        && list_all (λ a. is_some (entity_at (store_of entities.now) a.name))
-        (schema_of schema.now).actions)) }
+    ensures { OnOk result (AddsNoneWhere
+        (are_there (map (λ a. declared_action a.now) actions.now.items) (store_of entities.now))
+        faults.old.items faults.new.items) }
 {
-    let actions = schema.action_ids(alloc)?;
-    for action in &actions {
+    for action in actions {
         if faults.len() >= MAX_FAULTS {
             return Ok(());
         }

@@ -5,27 +5,23 @@ ghost use Rattle.cedar_types.specs.Types.{ty_of, kind_of, attributes_of, attr_na
 ghost use Rattle.cedar_types.specs.Names.{text_of, path_of, text_eq, path_eq};
 ghost use Rattle.cedar_conformance.specs.Values.{value_of, record_of, values_of};
 ghost use Rattle.cedar_conformance.specs.Tests.{has_type, has_kind, has_attr, passes, all_values, have_attrs, keys_among, is_closed_by, bool_in, extension_in};
-ghost use Rattle.cedar_conformance.specs.Answers.{finds_none};
+ghost use Rattle.cedar_conformance.specs.Answers.{FindsNoneWhere};
 
+use crate::answers::Found;
 use crate::faults::{Mismatch, Step, ValueFault, ValueKind};
 use crate::sets::value_at;
-use crate::values::Value;
+use crate::values::{Record, Value};
 use cedar_types::base::{
     AttributeType, Attributes, BoolType, CedarType, EntityKind, Name, OpenTag,
 };
-use std::alloc::{AllocError, Global};
-use std::collections::BTreeMap;
+use std::alloc::Global;
 use std::rc::RcStr;
 
 /// The first place where the value lacks the type; `None` where it has it. The recursion goes as deep as the type, whatever
 /// the value.
 #[cycle(typed)]
-pub(crate) fn find_fault(
-    alloc: Global,
-    ty: &CedarType,
-    value: &Value,
-) -> Result<Option<ValueFault>, AllocError>
-    ensures { IfOk result (λ o. finds_none o ≡ has_type (ty_of ty.now) (value_of value.now)) }
+pub(crate) fn find_fault(alloc: Global, ty: &CedarType, value: &Value) -> Found<ValueFault>
+    ensures { FindsNoneWhere result (has_type (ty_of ty.now) (value_of value.now)) }
 {
     match ty {
         CedarType::Never => wrong_type(alloc, ty, value),
@@ -51,13 +47,9 @@ pub(crate) fn find_fault(
 
 /// The first member that lacks the type.
 #[cycle(typed)]
-fn find_in_members(
-    alloc: Global,
-    element: &CedarType,
-    members: &Vec<Value>,
-) -> Result<Option<ValueFault>, AllocError>
-    ensures { IfOk result (λ o.
-        finds_none o ≡ all_values (has_type (ty_of element.now)) (values_of members.now.items)) }
+fn find_in_members(alloc: Global, element: &CedarType, members: &Vec<Value>) -> Found<ValueFault>
+    ensures { FindsNoneWhere result
+        (all_values (has_type (ty_of element.now)) (values_of members.now.items)) }
 {
     for (index, member) in members.iter().enumerate() {
         if let Some(fault) = find_fault(alloc, element, member)? {
@@ -73,12 +65,12 @@ pub(crate) fn find_in_record(
     alloc: Global,
     attributes: &Attributes,
     is_open: OpenTag,
-    entries: &BTreeMap<RcStr, Value>,
-) -> Result<Option<ValueFault>, AllocError>
-    ensures { IfOk result (λ o. finds_none o
-        ≡ (have_attrs (attributes_of attributes.now) (record_of entries.now)
+    entries: &Record,
+) -> Found<ValueFault>
+    ensures { FindsNoneWhere result
+        (have_attrs (attributes_of attributes.now) (record_of entries.now)
         && is_closed_by (is_open_tag is_open) (attr_names (attributes_of attributes.now))
-        (record_of entries.now))) }
+        (record_of entries.now)) }
 {
     if let Some(fault) = find_in_declared(alloc, attributes, entries)? {
         return Ok(Some(fault));
@@ -91,13 +83,9 @@ pub(crate) fn find_in_record(
 
 /// The first declared attribute that lacks its type, or that is required and missing.
 #[cycle(typed)]
-fn find_in_declared(
-    alloc: Global,
-    attributes: &Attributes,
-    entries: &BTreeMap<RcStr, Value>,
-) -> Result<Option<ValueFault>, AllocError>
-    ensures { IfOk result (λ o. finds_none o
-        ≡ have_attrs (attributes_of attributes.now) (record_of entries.now)) }
+fn find_in_declared(alloc: Global, attributes: &Attributes, entries: &Record) -> Found<ValueFault>
+    ensures { FindsNoneWhere result
+        (have_attrs (attributes_of attributes.now) (record_of entries.now)) }
 {
     for (name, attribute) in attributes.attrs.iter() {
         if let Some(fault) = find_in_attribute(alloc, attribute, value_at(entries, name))? {
@@ -113,9 +101,9 @@ fn find_in_attribute(
     alloc: Global,
     attribute: &AttributeType,
     value: Option<&Value>,
-) -> Result<Option<ValueFault>, AllocError>
-    ensures { IfOk result (λ o. finds_none o
-        ≡ has_attr attribute.now.is_required (has_type (ty_of attribute.now.attr_type))
+) -> Found<ValueFault>
+    ensures { FindsNoneWhere result
+        (has_attr attribute.now.is_required (has_type (ty_of attribute.now.attr_type))
         (option_map (λ v. value_of v.now) value.entry)) }
 {
     match value {
@@ -124,8 +112,8 @@ fn find_in_attribute(
     }
 }
 
-fn find_missing(alloc: Global, attribute: &AttributeType) -> Result<Option<ValueFault>, AllocError>
-    ensures { IfOk result (λ o. finds_none o ≡ not attribute.now.is_required) }
+fn find_missing(alloc: Global, attribute: &AttributeType) -> Found<ValueFault>
+    ensures { FindsNoneWhere result (not attribute.now.is_required) }
 {
     if !attribute.is_required {
         return Ok(None);
@@ -135,13 +123,9 @@ fn find_missing(alloc: Global, attribute: &AttributeType) -> Result<Option<Value
 }
 
 /// The first attribute that is not declared.
-fn find_undeclared(
-    alloc: Global,
-    attributes: &Attributes,
-    entries: &BTreeMap<RcStr, Value>,
-) -> Result<Option<ValueFault>, AllocError>
-    ensures { IfOk result (λ o. finds_none o
-        ≡ keys_among (attr_names (attributes_of attributes.now)) (record_of entries.now)) }
+fn find_undeclared(alloc: Global, attributes: &Attributes, entries: &Record) -> Found<ValueFault>
+    ensures { FindsNoneWhere result
+        (keys_among (attr_names (attributes_of attributes.now)) (record_of entries.now)) }
 {
     for (name, _value) in entries.iter() {
         if !is_declared(attributes, name) {
@@ -160,13 +144,8 @@ fn is_declared(attributes: &Attributes, name: &RcStr) -> bool
 }
 
 /// No fault if it fits, and else that the value is of another type.
-fn fault_unless(
-    alloc: Global,
-    fits: bool,
-    ty: &CedarType,
-    value: &Value,
-) -> Result<Option<ValueFault>, AllocError>
-    ensures { IfOk result (λ o. finds_none o ≡ fits) }
+fn fault_unless(alloc: Global, fits: bool, ty: &CedarType, value: &Value) -> Found<ValueFault>
+    ensures { FindsNoneWhere result fits }
 {
     if fits {
         return Ok(None);
@@ -175,12 +154,8 @@ fn fault_unless(
 }
 
 /// That the value is of another type than this.
-fn wrong_type(
-    alloc: Global,
-    ty: &CedarType,
-    value: &Value,
-) -> Result<Option<ValueFault>, AllocError>
-    ensures { IfOk result (λ o. finds_none o ≡ false) }
+fn wrong_type(alloc: Global, ty: &CedarType, value: &Value) -> Found<ValueFault>
+    ensures { FindsNoneWhere result false }
 {
     let expected = ty.clone()?;
     let found = ValueKind::of_value(value)?;

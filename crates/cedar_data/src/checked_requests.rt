@@ -198,13 +198,22 @@ fn add_unfit(
     let declared = schema.get_action_id(&request.action);
     if let Some(applies_to) = declared.and_then(|action| action.defined()) {
         add_unfit_types(collected, request, object, applies_to)?;
-        add_in_context(collected, request, object, applies_to)?;
+        add_in_context(collected, object, &applies_to.context, &request.context)?;
     }
     if collected.faults.is_empty() {
-        let place = place_at(object, key_of(&fault));
-        collected.faults.add(place, Problem::Request(fault))?;
+        add_fault(collected, object, fault)?;
     }
     Ok(())
+}
+
+/// Lists a mistake of a request at its key.
+fn add_fault(
+    collected: &mut Collected<'_>,
+    object: Object<'_>,
+    fault: RequestFault,
+) -> Result<(), AllocError> {
+    let place = place_at(object, key_of(&fault));
+    collected.faults.add(place, Problem::Request(fault))
 }
 
 /// Lists that the action applies to no principal and to no resource of these types.
@@ -217,30 +226,27 @@ fn add_unfit_types(
     let principal = &request.principal.entity_type;
     if !applies_to.principal_apply_spec.contains(principal) {
         let fault = RequestFault::PrincipalType(principal.clone()?);
-        let place = place_at(object, "principal");
-        collected.faults.add(place, Problem::Request(fault))?;
+        add_fault(collected, object, fault)?;
     }
     let resource = &request.resource.entity_type;
     if !applies_to.resource_apply_spec.contains(resource) {
         let fault = RequestFault::ResourceType(resource.clone()?);
-        let place = place_at(object, "resource");
-        collected.faults.add(place, Problem::Request(fault))?;
+        add_fault(collected, object, fault)?;
     }
     Ok(())
 }
 
-/// Lists the mistakes of a context.
+/// Lists the mistakes of a context, by its type.
 fn add_in_context(
     collected: &mut Collected<'_>,
-    request: &Request,
     object: Object<'_>,
-    applies_to: &ValidatorApplySpec,
+    ty: &CedarType,
+    context: &Record,
 ) -> Result<(), AllocError> {
     let Some(entries) = context_in(object) else {
         return Ok(());
     };
-    let context: &CedarType = &applies_to.context;
-    match context {
+    match ty {
         CedarType::Record {
             attributes,
             is_open,
@@ -248,7 +254,7 @@ fn add_in_context(
             let alloc = collected.alloc;
             let is_open: OpenTag = *is_open;
             let mut found = Mismatches::new(alloc, &mut collected.faults, None);
-            found.add_in_record(attributes, is_open, &request.context, entries)
+            found.add_in_record(attributes, is_open, context, entries)
         }
         _ => Ok(()),
     }

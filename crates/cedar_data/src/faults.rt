@@ -2,11 +2,9 @@
 use cedar_conformance::entity_faults::EntityFault;
 use cedar_conformance::faults::{Mismatch, Step};
 use cedar_conformance::requests::RequestFault;
-use cedar_json::{Fault, FormFault, ReadError};
+use cedar_json::{FormFault, ReadError};
 use cedar_types::base::{EntityUID, Loc};
-use std::alloc::{AllocError, AllocFailed};
 use std::fmt;
-use thiserror::Error;
 
 /// Whose value has a mistake.
 #[derive(Debug, Drop)]
@@ -101,31 +99,4 @@ pub struct DataFault {
 }
 
 /// Why a text is no data: it is no JSON that is read, by its first fault and at which byte it stands; or memory was refused.
-#[derive(Debug, Drop, Error)]
-pub enum DataError {
-    #[error("memory was refused")]
-    Memory(AllocError),
-    #[error("at byte {0}: {1}")]
-    At(usize, Fault),
-}
-
-impl From<AllocError> for DataError {
-    fn from(error: AllocError) -> DataError {
-        DataError::Memory(error)
-    }
-}
-
-impl<T: Drop> From<AllocFailed<T>> for DataError {
-    fn from(error: AllocFailed<T>) -> DataError {
-        DataError::Memory(AllocError::from(error))
-    }
-}
-
-impl From<ReadError> for DataError {
-    fn from(error: ReadError) -> DataError {
-        match error {
-            ReadError::Memory(error) => DataError::Memory(error),
-            ReadError::At(start, fault) => DataError::At(start, fault),
-        }
-    }
-}
+pub type DataError = ReadError;

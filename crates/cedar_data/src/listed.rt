@@ -112,11 +112,10 @@ fn read_listed<'a>(
         return Ok(None);
     };
     collected.check_id(uid.place, &id)?;
-    let schema = collected.schema;
     let entity = Entity {
-        attributes: read_attributes(collected, schema, &id, object)?,
+        attributes: read_attributes(collected, &id, object)?,
         ancestors: BTreeSet::new(collected.alloc),
-        tags: read_tags(collected, schema, &id, object)?,
+        tags: read_tags(collected, &id, object)?,
     };
     let parents = read_parents(collected, object)?;
     Ok(Some(Listed {
@@ -141,25 +140,27 @@ fn check_keys(collected: &mut Collected<'_>, object: Object<'_>) -> Result<(), A
 
 fn read_attributes(
     collected: &mut Collected<'_>,
-    schema: &ValidatorSchema,
     id: &EntityUID,
     object: Object<'_>,
 ) -> Result<Record, AllocError> {
+    let types = attribute_types(collected.schema, id);
     let attributes = object.need("attrs");
     let Some(attributes) = collected.keep(attributes)? else {
         return Ok(BTreeMap::new(collected.alloc));
     };
-    read_part(collected, attributes, attribute_types(schema, id))
+    read_part(collected, attributes, types)
 }
 
 fn read_tags(
     collected: &mut Collected<'_>,
-    schema: &ValidatorSchema,
     id: &EntityUID,
     object: Object<'_>,
 ) -> Result<Record, AllocError> {
     match object.get("tags") {
-        Some(tags) => read_part(collected, tags, tag_types(schema, id)),
+        Some(tags) => {
+            let types = tag_types(collected.schema, id);
+            read_part(collected, tags, types)
+        }
         None => Ok(BTreeMap::new(collected.alloc)),
     }
 }

@@ -116,47 +116,44 @@ fn below_one(alloc: Global) -> Result<Expr, AllocError> {
 /// `(if principal has vip then principal else resource).contact == principal`, where the `if` is at
 /// its place
 pub fn of_either(alloc: Global) -> Result<Template, AllocError> {
-    let marked = Expr::has_attr(alloc, Expr::var(Var::Principal), "vip")?;
-    let either = Expr::ite(
-        alloc,
-        marked,
-        Expr::var(Var::Principal),
-        Expr::var(Var::Resource),
-    )?;
     let place = place_in(
         OF_EITHER,
         "if principal has vip then principal else resource",
     );
-    let contact = Expr::get_attr(alloc, either.with_maybe_source_loc(place), "contact")?;
-    permit_when(
-        alloc,
-        OF_EITHER,
-        Expr::is_eq(alloc, contact, Expr::var(Var::Principal))?,
-    )
+    let either = user_or_document(alloc)?.with_maybe_source_loc(place);
+    by_contact(alloc, OF_EITHER, either, None)
+}
+
+/// `if principal has vip then principal else resource`
+fn user_or_document(alloc: Global) -> Result<Expr, AllocError> {
+    let is_marked = Expr::has_attr(alloc, Expr::var(Var::Principal), "vip")?;
+    let user = Expr::var(Var::Principal);
+    let document = Expr::var(Var::Resource);
+    Expr::ite(alloc, is_marked, user, document)
 }
 
 /// `resource.contact == principal`, where the access is at its place
 pub fn by_its_contact(alloc: Global) -> Result<Template, AllocError> {
-    let contact = Expr::get_attr(alloc, Expr::var(Var::Resource), "contact")?;
     let place = place_in(BY_ITS_CONTACT, "resource.contact");
-    by_principal(alloc, BY_ITS_CONTACT, contact.with_maybe_source_loc(place))
+    by_contact(alloc, BY_ITS_CONTACT, Expr::var(Var::Resource), place)
 }
 
 /// `resource.contact.contact == principal`, where the second access is at its place
 pub fn by_their_contact(alloc: Global) -> Result<Template, AllocError> {
-    let contact = Expr::get_attr(alloc, Expr::var(Var::Resource), "contact")?;
-    let contact = Expr::get_attr(alloc, contact, "contact")?;
+    let user = Expr::get_attr(alloc, Expr::var(Var::Resource), "contact")?;
     let place = place_in(BY_THEIR_CONTACT, "resource.contact.contact");
-    by_principal(
-        alloc,
-        BY_THEIR_CONTACT,
-        contact.with_maybe_source_loc(place),
-    )
+    by_contact(alloc, BY_THEIR_CONTACT, user, place)
 }
 
-/// The policy of this text, where this is the principal.
-fn by_principal(alloc: Global, text: &str, user: Expr) -> Result<Template, AllocError> {
-    let condition = Expr::is_eq(alloc, user, Expr::var(Var::Principal))?;
+/// The policy of this text, where the contact of this is the principal; the access of it is at this place.
+fn by_contact(
+    alloc: Global,
+    text: &str,
+    owner: Expr,
+    place: Option<Loc>,
+) -> Result<Template, AllocError> {
+    let contact = Expr::get_attr(alloc, owner, "contact")?.with_maybe_source_loc(place);
+    let condition = Expr::is_eq(alloc, contact, Expr::var(Var::Principal))?;
     permit_when(alloc, text, condition)
 }
 

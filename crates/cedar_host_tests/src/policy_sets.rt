@@ -79,25 +79,18 @@ const DISAGREES: Want = Want {
     ..REFUSED
 };
 
-const IN_STRICT: &[Want] = &[
-    ACCEPTED,
-    UNGUARDED_WANTED,
-    MISSPELT_WANTED,
-    HAUNTED_WANTED,
-    ACCEPTED,
-    UNFIT_WANTED,
-    DISAGREES,
-];
-
-const IN_PERMISSIVE: &[Want] = &[
-    ACCEPTED,
-    UNGUARDED_WANTED,
-    MISSPELT_WANTED,
-    HAUNTED_WANTED,
-    ACCEPTED,
-    UNFIT_WANTED,
-    ACCEPTED,
-];
+/// Of all, where this is said of the last one.
+fn wanted(last: Want) -> [Want; 7] {
+    [
+        ACCEPTED,
+        UNGUARDED_WANTED,
+        MISSPELT_WANTED,
+        HAUNTED_WANTED,
+        ACCEPTED,
+        UNFIT_WANTED,
+        last,
+    ]
+}
 
 /// That these are said of the policies in this mode, by the schema of documents and these functions.
 fn are_said_by(
@@ -131,12 +124,12 @@ fn are_said_of_all(
 
 #[test]
 fn each_policy_of_a_set_has_its_report(rt: HostRuntime) -> Result<(), Fail> {
-    Ok(are_said_of_all(&rt, rt.alloc(), SoundMode::Strict, IN_STRICT)?)
+    Ok(are_said_of_all(&rt, rt.alloc(), SoundMode::Strict, &wanted(DISAGREES))?)
 }
 
 #[test]
 fn in_permissive_a_policy_may_unite_types(rt: HostRuntime) -> Result<(), Fail> {
-    Ok(are_said_of_all(&rt, rt.alloc(), SoundMode::Permissive, IN_PERMISSIVE)?)
+    Ok(are_said_of_all(&rt, rt.alloc(), SoundMode::Permissive, &wanted(ACCEPTED))?)
 }
 
 /// That the check alone passes a policy, and finds nothing.
@@ -164,6 +157,11 @@ fn the_check_alone_passes_what_names_an_unknown_type(rt: HostRuntime) -> Result<
     Ok(())
 }
 
+/// A policy that is refused with these errors.
+fn refused(errors: &'static [&'static str]) -> Want {
+    Want { errors, ..REFUSED }
+}
+
 /// Of a policy alone, by the table of Cedar's functions.
 fn is_said_alone(
     rt: &impl Abort,
@@ -186,11 +184,14 @@ fn a_policy_may_call_functions_of_the_table(rt: HostRuntime) -> Result<(), Fail>
 #[test]
 fn what_a_check_refuses_is_refused_at_its_place(rt: HostRuntime) -> Result<(), Fail> {
     let alloc = rt.alloc();
-    let want = Want {
-        errors: &["71..77 `ip(\"\")`: for policy `policy0`, invalid argument: the text is empty"],
-        ..REFUSED
-    };
-    is_said_alone(&rt, alloc, from_nowhere(alloc)?, FROM_NOWHERE, want)
+    let errors = &["71..77 `ip(\"\")`: for policy `policy0`, invalid argument: the text is empty"];
+    is_said_alone(
+        &rt,
+        alloc,
+        from_nowhere(alloc)?,
+        FROM_NOWHERE,
+        refused(errors),
+    )
 }
 
 /// `principal.vip && false`
@@ -217,11 +218,8 @@ fn an_error_counts_where_a_policy_is_impossible_too(rt: HostRuntime) -> Result<(
 #[test]
 fn a_policy_that_is_refused_without_an_error_has_a_line(rt: HostRuntime) -> Result<(), Fail> {
     let alloc = rt.alloc();
-    let want = Want {
-        errors: &["for policy `policy0`, no error says why: an unknown, or too deep a nesting"],
-        ..REFUSED
-    };
-    is_said_alone(&rt, alloc, of_an_unknown(alloc)?, "", want)
+    let errors = &["for policy `policy0`, no error says why: an unknown, or too deep a nesting"];
+    is_said_alone(&rt, alloc, of_an_unknown(alloc)?, "", refused(errors))
 }
 
 /// An access to an attribute with a line break in its name.
@@ -237,11 +235,8 @@ fn of_a_forged_name(alloc: Global) -> Result<Template, AllocError> {
 #[test]
 fn a_name_with_a_line_break_begins_no_line(rt: HostRuntime) -> Result<(), Fail> {
     let alloc = rt.alloc();
-    let want = Want {
-        errors: &[
-            "for policy `policy0`, attribute `x`\\nfor policy `policy1`, \\u{202e}` does not exist on `User`",
-        ],
-        ..REFUSED
-    };
-    is_said_alone(&rt, alloc, of_a_forged_name(alloc)?, "", want)
+    let errors = &[
+        "for policy `policy0`, attribute `x`\\nfor policy `policy1`, \\u{202e}` does not exist on `User`",
+    ];
+    is_said_alone(&rt, alloc, of_a_forged_name(alloc)?, "", refused(errors))
 }

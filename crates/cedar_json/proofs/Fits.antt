@@ -21,3 +21,18 @@ pub members_more : (depth low high high' : ℕ) (es : List (Key × Value)) (k : 
 members_more depth low high high' [] k v above fit begins ordered ends last = (begins, ordered, ends, last, tt)
 members_more depth low high high' (e ∷ es) k v above fit begins ordered ends last =
     (fit.0, fit.1, omega (arith, fit.2), wider depth low low high high' (tree_of e.1) (omega arith) above fit.3, members_more depth low high high' es k v above fit.4 begins ordered ends last)
+
+-- one more item was read behind the others
+pub items_on : (depth low before behind high : ℕ) (vs : List Value) (v : Value) → low ≤ before → before ≤ behind → behind ≤ high
+    → ItemsFit depth low before (items_view vs) → FitsIn depth before behind (tree_of v) → ItemsFit depth low high (items_view (vs ++ v ∷ []))
+items_on depth low before behind high vs v below read above fit last =
+    items_more depth low low before high vs v (omega arith) (omega (arith, read, above)) fit (wider depth before low behind high (tree_of v) below above last)
+
+-- one more entry was read behind the others: its key, and then its value
+pub members_on : (depth low before keyed behind high : ℕ) (es : List (Key × Value)) (k : Key) (v : Value)
+    → low ≤ before → before ≤ keyed → keyed ≤ behind → behind ≤ high → MembersFit depth low before (members_view es)
+    → (before ≤ k.place.start) × (k.place.start ≤ k.place.end) × (k.place.end ≤ keyed) → FitsIn depth keyed behind (tree_of v)
+    → MembersFit depth low high (members_view (es ++ (k, v) ∷ []))
+members_on depth low before keyed behind high es k v below key read above fit stands last =
+    members_more depth low before high es k v (omega (arith, key, read, above)) fit (omega (arith, below, stands.0)) stands.1
+    (omega (arith, stands.2, read, above)) (wider depth keyed low behind high (tree_of v) (omega (arith, below, key)) above last)

@@ -18,32 +18,26 @@ use std::rc::RcStr;
 /// Reads an expression. At most `MAX_GRAMMAR_STEPS` nodes stand inside each other in it, and at most as many brackets and operators
 /// are begun at any place.
 pub fn expression(cursor: &mut Cursor<'_>) -> Result<Part, ReadError> {
+    whole_expression(cursor, false)
+}
+
+/// Reads a text up to its end, where an expression ends that needs nothing more: the largest one that ends there.
+pub fn last_whole(cursor: &mut Cursor<'_>) -> Result<Part, ReadError> {
+    whole_expression(cursor, true)
+}
+
+/// Reads an expression: up to the end of the text, though more is begun there, or else whole.
+fn whole_expression(cursor: &mut Cursor<'_>, may_be_cut: bool) -> Result<Part, ReadError> {
     let mut open = Vec::new(cursor.alloc);
     let mut next = Next::Operand;
     // each turn reads a token, or ends what began with one
     for _ in 0..cursor.most_left().saturating_mul(2) {
         next = match next {
             Next::Operand => operand(cursor, &mut open)?,
-            Next::Behind(part, follows) => behind(cursor, &mut open, part, follows)?,
-            Next::End(part) => return Ok(part),
-        };
-    }
-    Err(cursor.fault(Fault::TooDeep))
-}
-
-/// Reads a text up to its end, where an expression ends that needs nothing more: the largest one that ends there.
-pub fn last_whole(cursor: &mut Cursor<'_>) -> Result<Part, ReadError> {
-    let mut open = Vec::new(cursor.alloc);
-    let mut next = Next::Operand;
-    for _ in 0..cursor.most_left().saturating_mul(2) {
-        next = match next {
-            Next::Operand => operand(cursor, &mut open)?,
-            Next::Behind(part, follows) => {
-                if cursor.is_at_end() {
-                    return close_whole(cursor, &mut open, part);
-                }
-                behind(cursor, &mut open, part, follows)?
+            Next::Behind(part, _) if may_be_cut && cursor.is_at_end() => {
+                return close_whole(cursor, &mut open, part);
             }
+            Next::Behind(part, follows) => behind(cursor, &mut open, part, follows)?,
             Next::End(part) => return Ok(part),
         };
     }
@@ -176,24 +170,20 @@ fn with_operator(
 }
 
 fn with_has(cursor: &mut Cursor<'_>, base: Part) -> Result<Next, ReadError> {
-    let Part {
-        expr,
-        covers,
-        depth,
-    } = base;
-    let whole = has(cursor, expr)?;
-    Ok(Next::Behind(part_since(cursor, covers.start, depth, whole)?, Level::And))
+    let whole = has(cursor, base.expr)?;
+    Ok(Next::Behind(
+        part_since(cursor, base.covers.start, base.depth, whole)?,
+        Level::And,
+    ))
 }
 
 fn with_like(cursor: &mut Cursor<'_>, base: Part) -> Result<Next, ReadError> {
-    let Part {
-        expr,
-        covers,
-        depth,
-    } = base;
     let pattern = pattern(cursor)?;
-    let whole = Expr::like(cursor.alloc, expr, pattern)?;
-    Ok(Next::Behind(part_since(cursor, covers.start, depth, whole)?, Level::And))
+    let whole = Expr::like(cursor.alloc, base.expr, pattern)?;
+    Ok(Next::Behind(
+        part_since(cursor, base.covers.start, base.depth, whole)?,
+        Level::And,
+    ))
 }
 
 /// Reads a type, and perhaps an `in` before an operand.
@@ -208,13 +198,11 @@ fn with_is(cursor: &mut Cursor<'_>, open: &mut Vec<Open>, base: Part) -> Result<
         cursor.take();
         return begin(open, Open::Within(entity_type, base));
     }
-    let Part {
-        expr,
-        covers,
-        depth,
-    } = base;
-    let whole = Expr::is_entity_type(cursor.alloc, expr, entity_type)?;
-    Ok(Next::Behind(part_since(cursor, covers.start, depth, whole)?, Level::And))
+    let whole = Expr::is_entity_type(cursor.alloc, base.expr, entity_type)?;
+    Ok(Next::Behind(
+        part_since(cursor, base.covers.start, base.depth, whole)?,
+        Level::And,
+    ))
 }
 
 /// Reads an attribute, or a method and the beginning of its arguments.
@@ -237,16 +225,11 @@ fn with_point(
 
 /// Reads an attribute in quotes, and the bracket behind it.
 fn with_bracket(cursor: &mut Cursor<'_>, base: Part) -> Result<Next, ReadError> {
-    let Part {
-        expr,
-        covers,
-        depth,
-    } = base;
     let attr = text(cursor)?;
     cursor.expect("]")?;
-    let whole = Expr::get_attr(cursor.alloc, expr, attr.as_str())?;
+    let whole = Expr::get_attr(cursor.alloc, base.expr, attr.as_str())?;
     Ok(Next::Behind(
-        part_since(cursor, covers.start, depth, whole)?,
+        part_since(cursor, base.covers.start, base.depth, whole)?,
         Level::Member,
     ))
 }

@@ -8,6 +8,7 @@ mod cursor;
 mod expressions;
 mod faults;
 mod faulty_policies;
+mod given;
 mod members;
 mod names;
 mod notes;
@@ -27,11 +28,12 @@ pub use annotations::Annotation;
 pub use cursor::{MAX_GRAMMAR_STEPS, MAX_LENGTH};
 pub use faults::{Expected, Fault, ReadError};
 pub use faulty_policies::{FaultyPolicy, policies_with_faults};
+pub use given::{declarations_as_given, schema_as_given};
 pub use policies::{Policies, ReadPolicy};
 pub use positions::Position;
 pub use schemas::{
-    Notation, RefusedName, SchemaDeclarations, SchemaFault, SchemaReadError, refused_name, schema,
-    schema_as_given, schema_declarations, schema_faults, shadowing_name,
+    RefusedName, SchemaDeclarations, SchemaFault, SchemaReadError, refused_name, schema,
+    schema_declarations, schema_faults, shadowing_name,
 };
 pub use scopes::{condition, name_alone, policy, scope_alone, uid_alone, whole_policy};
 pub use shown_types::type_alone;

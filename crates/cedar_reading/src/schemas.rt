@@ -1,14 +1,14 @@
 // Schemas, as Cedar's own syntax has them.
-mod actions;
+pub mod actions;
 mod all_faults;
 mod blocks;
-mod closed;
+pub mod closed;
 mod cycles;
 mod declarations;
 mod descendants;
-mod entity_types;
+pub mod entity_types;
 mod groups;
-mod lists;
+pub mod lists;
 mod meanings;
 mod recovery;
 mod refusals;
@@ -24,7 +24,6 @@ use cedar_types::base::{SchemaError, ValidatorActionId, ValidatorEntityType, Val
 use closed::{closed_actions, closed_types};
 use declarations::Declarations;
 use meanings::Names;
-pub use meanings::Notation;
 pub use refusals::{RefusedName, refused_name};
 pub use shadows::shadowing_name;
 use std::alloc::Global;
@@ -62,17 +61,11 @@ impl From<SchemaError> for SchemaReadError {
 ///
 /// Descendants are what `in` says, over any number of steps. An action without `appliesTo` applies to nothing.
 pub fn schema(alloc: Global, text: &str) -> Result<ValidatorSchema, SchemaReadError> {
-    schema_of(alloc, schema_declarations(alloc, text, Notation::Schema)?)
+    schema_of(alloc, schema_declarations(alloc, text)?)
 }
 
-/// The schema of declarations that are given one by one, which Cedar's syntax cannot say: types may be any that are shown,
-/// `above [B, C]` in the place of `in` gives the descendants, and none are added, an action may be named by its whole id,
-/// and `external` may stand before `entity` or `action`. It fails as `schema` does.
-pub fn schema_as_given(alloc: Global, text: &str) -> Result<ValidatorSchema, SchemaReadError> {
-    schema_of(alloc, schema_declarations(alloc, text, Notation::AsGiven)?)
-}
-
-fn schema_of(
+/// The schema of these declarations.
+pub fn schema_of(
     alloc: Global,
     declared: SchemaDeclarations,
 ) -> Result<ValidatorSchema, SchemaReadError> {
@@ -88,12 +81,8 @@ pub struct SchemaDeclarations {
 
 /// What a text declares, each name on its own. It fails where the text cannot be read, and where a parent in it is declared
 /// nowhere.
-pub fn schema_declarations(
-    alloc: Global,
-    text: &str,
-    notation: Notation,
-) -> Result<SchemaDeclarations, ReadError> {
-    let read = declarations_of(alloc, text, notation)?;
+pub fn schema_declarations(alloc: Global, text: &str) -> Result<SchemaDeclarations, ReadError> {
+    let read = declarations_of(alloc, text)?;
     read.check_parents()?;
     Ok(SchemaDeclarations {
         entity_types: closed_types(alloc, &read)?,
@@ -102,14 +91,10 @@ pub fn schema_declarations(
 }
 
 /// What a text declares.
-fn declarations_of(
-    alloc: Global,
-    text: &str,
-    notation: Notation,
-) -> Result<Declarations, ReadError> {
+fn declarations_of(alloc: Global, text: &str) -> Result<Declarations, ReadError> {
     // what a name means depends on what stands behind it, so the first reading only finds what is
     // declared
     let nothing = Declarations::new(alloc);
-    let first = all_declarations(text, Names::outside(alloc, &nothing, notation))?;
-    all_declarations(text, Names::outside(alloc, &first, notation))
+    let first = all_declarations(text, Names::outside(alloc, &nothing))?;
+    all_declarations(text, Names::outside(alloc, &first))
 }

@@ -1,8 +1,7 @@
 // Policies as a line: what was read of each.
+use cedar_fixtures::shown::push_constraint;
 use cedar_reading::{FaultyPolicy, ReadError, ReadPolicy, policies_with_faults};
-use cedar_types::base::{
-    ActionConstraint, Effect, EntityReference, Expr, Loc, PrincipalOrResourceConstraint,
-};
+use cedar_types::base::{ActionConstraint, Expr, Loc};
 use std::alloc::{AllocError, Global};
 
 /// The policies of a text, each on a line. Of one with a fault: its fault and the byte of that, its place, and what was read.
@@ -25,12 +24,7 @@ pub fn show(alloc: Global, text: &str) -> Result<String, AllocError> {
 
 fn push_read(out: &mut String, read: &ReadPolicy) -> Result<(), AllocError> {
     let Loc { start, end } = read.template.loc.unwrap_or(Loc { start: 0, end: 0 });
-    write!(
-        out,
-        "{} {start}..{end} {}",
-        read.template.id,
-        effect_name(read.effect)
-    )
+    write!(out, "{} {start}..{end} {}", read.template.id, read.effect)
 }
 
 fn push_faulty(out: &mut String, text: &str, faulty: &FaultyPolicy) -> Result<(), AllocError> {
@@ -44,56 +38,21 @@ fn push_faulty(out: &mut String, text: &str, faulty: &FaultyPolicy) -> Result<()
         write!(out, " @{}={}", annotation.key, annotation.value)?;
     }
     if let Some(effect) = faulty.effect {
-        write!(out, " {}", effect_name(effect))?;
+        write!(out, " {effect}")?;
     }
     if let Some(principal) = &faulty.principal {
-        push_constraint(out, " principal", &principal.constraint)?;
+        out.push_str(" principal")?;
+        push_constraint(out, &principal.constraint)?;
     }
     if let Some(action) = &faulty.action {
         push_action(out, action)?;
     }
     if let Some(resource) = &faulty.resource {
-        push_constraint(out, " resource", &resource.constraint)?;
+        out.push_str(" resource")?;
+        push_constraint(out, &resource.constraint)?;
     }
     push_condition(out, " when ", text, &faulty.condition)?;
     push_condition(out, " left ", text, &faulty.unfinished)
-}
-
-fn effect_name(effect: Effect) -> &'static str {
-    if effect == Effect::Permit {
-        "permit"
-    } else {
-        "forbid"
-    }
-}
-
-fn push_constraint(
-    out: &mut String,
-    variable: &str,
-    constraint: &PrincipalOrResourceConstraint,
-) -> Result<(), AllocError> {
-    out.push_str(variable)?;
-    match constraint {
-        PrincipalOrResourceConstraint::Any => Ok(()),
-        PrincipalOrResourceConstraint::Eq(reference) => push_reference(out, " == ", reference),
-        PrincipalOrResourceConstraint::In(reference) => push_reference(out, " in ", reference),
-        PrincipalOrResourceConstraint::Is(name) => write!(out, " is {name}"),
-        PrincipalOrResourceConstraint::IsIn(name, reference) => {
-            write!(out, " is {name}")?;
-            push_reference(out, " in ", reference)
-        }
-    }
-}
-
-fn push_reference(
-    out: &mut String,
-    word: &str,
-    reference: &EntityReference,
-) -> Result<(), AllocError> {
-    match reference {
-        EntityReference::EUID(uid) => write!(out, "{word}{uid}"),
-        EntityReference::Slot => write!(out, "{word}?"),
-    }
 }
 
 fn push_action(out: &mut String, constraint: &ActionConstraint) -> Result<(), AllocError> {

@@ -87,7 +87,7 @@ fn answer(alloc: Global, condition: &str) -> Result<String, AllocError> {
 fn what_is_whole_is_left_of_the_fault(rt: HostRuntime) -> Result<(), Fail> {
     for (text, want) in &CONDITIONS {
         let got = answer(rt.alloc(), text)?;
-        assert!(rt; got.as_str() == *want, "{text}: {got}");
+        assert_eq!(rt; got.as_str(), *want, "{text}");
     }
     Ok(())
 }

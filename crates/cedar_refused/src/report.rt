@@ -2,9 +2,7 @@
 use crate::calls::answers::FOLLOW_UPS;
 use crate::calls::capabilities::{BASES, SETS, TAGS};
 use crate::calls::copies::COPIES;
-use crate::calls::environments::{
-    ChecksMaking, ChecksWalk, LinkedMaking, LinkedWalk, MODE, NextWalk, OneCheck, Walk,
-};
+use crate::calls::environments::{MODE, OfWalk, Walk, WalkCall};
 use crate::calls::expressions::{MORE, ONE_OPERAND, TWO_OPERANDS};
 use crate::calls::lines::{Line, LineCall, Probe};
 use crate::calls::lookups::LOOKUPS;
@@ -143,22 +141,17 @@ fn walks<W: Write>(alloc: Global, validator: &Validator<'_>, out: &mut W) -> io:
         policy: &policy.template,
         environments: 5,
     };
-    write_sweep(
-        alloc,
-        out,
-        "ValidatorSchema::linked_request_envs",
-        &LinkedMaking(walk),
-    )?;
-    write_sweep(alloc, out, "LinkedRequestEnvs::next", &LinkedWalk(walk))?;
-    write_sweep(
-        alloc,
-        out,
-        "Typechecker::typecheck_by_request_env",
-        &ChecksMaking(walk),
-    )?;
-    write_sweep(alloc, out, "RequestEnvChecks::next", &ChecksWalk(walk))?;
-    write_sweep(alloc, out, "RequestEnvChecks::next_env", &NextWalk(walk))?;
-    write_sweep(alloc, out, "RequestEnvChecks::check", &OneCheck(walk))
+    for (name, called) in [
+        ("ValidatorSchema::linked_request_envs", OfWalk::MakesLinked),
+        ("LinkedRequestEnvs::next", OfWalk::WalksLinked),
+        ("Typechecker::typecheck_by_request_env", OfWalk::MakesChecks),
+        ("RequestEnvChecks::next", OfWalk::WalksChecks),
+        ("RequestEnvChecks::next_env", OfWalk::WalksNext),
+        ("RequestEnvChecks::check", OfWalk::ChecksOne),
+    ] {
+        write_sweep(alloc, out, name, &WalkCall { walk, called })?;
+    }
+    Ok(())
 }
 
 fn whole_checks<W: Write>(alloc: Global, validator: &Validator<'_>, out: &mut W) -> io::Result<()> {

@@ -1,12 +1,6 @@
 // The checks of policies, and the questions about them, that are made while memory is refused.
 use crate::calls::checks::{InEnvironment, OfValidator};
-use cedar_types::base::ValidationMode;
-
-const STRICT: ValidationMode = ValidationMode::Strict;
-
-const PERMISSIVE: ValidationMode = ValidationMode::Permissive;
-
-const PARTIAL: ValidationMode = ValidationMode::Partial;
+use crate::calls::types::{PARTIAL, PERMISSIVE, STRICT};
 
 /// Checks of conditions, by what they show.
 pub const CHECKS: [(InEnvironment, &str); 4] = [

@@ -68,6 +68,15 @@ fits_listed s t ps rs apps principals resources same =
     && same_types (is_among a.resources) (admitted_types s t.resource) rs resources i)
     ∙ same (fits (admitted_types s t.principal) (admitted_types s t.resource))
 
+-- so it is by lists that hold what was listed
+pub fits_held : (s : Schema) (t : PlainTemplate) (ps ps' rs rs' : List Path) (apps apps' : List Application)
+    → ps ≡ ps' → rs ≡ rs' → apps ≡ apps' → ListsTypes (admitted_types s t.principal) ps'
+    → ListsTypes (admitted_types s t.resource) rs'
+    → SameMembers apps' (admitted_applications s t.action)
+    → list_any (fits ps rs) apps ≡ has_fitting_action s t
+fits_held s t ps ps' rs rs' apps apps' p r a principals resources same =
+    (λ i. list_any (fits (p i) (r i)) (a i)) ∙ fits_listed s t ps' rs' apps' principals resources same
+
 -- a flag, by the applications that were listed
 pub flag_listed : (s : Schema) (side : Side) (c : Scope) (apps wanted : List Application) → SameMembers apps wanted
     → in_might_help s side apps c ≡ in_might_help s side wanted c

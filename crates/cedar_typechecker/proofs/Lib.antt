@@ -7,3 +7,4 @@ pub mod Surveys
 pub mod Representatives
 pub mod Levels
 pub mod Slices
+pub mod ValidatorPromises

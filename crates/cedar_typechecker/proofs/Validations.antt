@@ -19,12 +19,13 @@ use Rattle.cedar_typing.specs.Capabilities.{no_caps}
 use Rattle.cedar_typing.specs.Evaluation.Conformance.{IsOneOf}
 use Rattle.cedar_typing.specs.PolicyCheck.{Verdict, succeeds, irrelevant, fails, PolicyChecks}
 use Rattle.cedar_typing.specs.PolicyCheck.Outcome.{is_silent, passes, errors_in, VerdictsOf, all_pass, all_errors, impossible, warnings_of}
-use Rattle.cedar_typing.specs.Soundness.Policies.{Basis, IsNamedBySchema, setting_on, CheckedOn}
+use Rattle.cedar_typing.specs.Soundness.Policies.{Basis, IsNamedBySchema, setting_on, CheckedOn, AreBothKeptIn}
 use Rattle.cedar_typing.specs.Rules.Laws.{IsCut}
 use Rattle.cedar_typing.specs.Setting.{Setting}
 use Rattle.cedar_typing.specs.Silence.{HasNoUnknowns, IsWellNamed}
 use Rattle.cedar_typing.specs.TypedExpr.{Source}
 use Rattle.cedar_typing.proofs.Basics.Members.{reordered}
+use Rattle.cedar_typing.proofs.Refinement.Parts.{nil_left, nil_right}
 use Rattle.cedar_typing.proofs.Soundness.Policies.{promises_are_kept, promises_are_kept_in_permissive}
 use Rattle.cedar_typing.proofs.Silence.Checks.{silent_cut}
 use Rattle.cedar_typing.proofs.Silence.Names.{condition_is_well_named}
@@ -32,20 +33,12 @@ use Rattle.cedar_typing.proofs.Silence.Policies.{checked_of_schema}
 use Rattle.cedar_typing.proofs.Silence.Settled.{Settled}
 use Rattle.cedar_typechecker.specs.Applications.{has_fitting_action, application_warning}
 use Rattle.cedar_typechecker.specs.Levels.Outcome.{ChecksOn, name_findings, application_warnings, ValidationOutcome}
-use Rattle.cedar_typechecker.specs.Slices.Validation.{IsCutNowhere}
-use Rattle.cedar_typechecker.specs.Validations.{ValidationsAreKept, ValidationsAreKeptInPermissive}
+use Rattle.cedar_typechecker.specs.Slices.Validation.{IsCutNowhere, WarnedIsNeverTrueIn}
+use Rattle.cedar_typechecker.specs.Validations.{HasWrongMembersAlone, ValidationsAreKept, ValidationsAreKeptInPermissive}
 
 -- ---- lists
 
 module _ {A : Type 0} where
-  pub left_empty : (xs ys : List A) → xs ++ ys ≡ [] → xs ≡ []
-  left_empty [] ys e = refl
-  left_empty (x ∷ xs) ys e = cc
-
-  pub right_empty : (xs ys : List A) → xs ++ ys ≡ [] → ys ≡ []
-  right_empty [] ys e = e
-  right_empty (x ∷ xs) ys e = cc
-
   pub nothing_in : (xs : List A) → ((x : A) → IsOneOf x xs → ⊥) → xs ≡ []
   nothing_in [] h = refl
   nothing_in (x ∷ xs) h = absurd (h x (inl refl))
@@ -87,8 +80,8 @@ module _ (b : Basis) (t : PlainTemplate) where
   all_passing [] (v ∷ vs) c f q = absurd c
   all_passing (env ∷ envs) [] c f q = absurd c
   all_passing (env ∷ envs) (v ∷ vs) c f q =
-      and_both (passes v) (all_pass vs) (f env (inl refl) v c.0 (left_empty (errors_in v) (all_errors vs) q))
-      (all_passing envs vs c.1 (λ e k. f e (inr k)) (right_empty (errors_in v) (all_errors vs) q))
+      and_both (passes v) (all_pass vs) (f env (inl refl) v c.0 (nil_left (errors_in v) (all_errors vs) q))
+      (all_passing envs vs c.1 (λ e k. f e (inr k)) (nil_right (errors_in v) (all_errors vs) q))
 
 -- ---- warnings
 
@@ -109,20 +102,22 @@ module _ (s : Schema) (t : PlainTemplate) where
 
   -- ---- names
 
+  -- where there is none among their findings, all names are known
+  both_known : unknown_types s t ++ unknown_actions s t ≡ [] → IsNamedBySchema s t
+  both_known e = record {
+    types = nil_left (unknown_types s t) (unknown_actions s t) e;
+    actions = nil_right (unknown_types s t) (unknown_actions s t) e;
+  }
+
+  of_findings : wrong_members s t ++ (unknown_types s t ++ unknown_actions s t) ≡ []
+      → IsNamedBySchema s t
+  of_findings e =
+      both_known (nil_right (wrong_members s t) (unknown_types s t ++ unknown_actions s t) e)
+
   -- in the modes that make the passes, no finding of them is none of types and of actions
   pub names_known : (m : ValidationMode) → is_partial m ≡ false → name_findings m s t ≡ [] → IsNamedBySchema s t
-  names_known Strict p e =
-      let q = right_empty (wrong_members s t) (unknown_types s t ++ unknown_actions s t) e in
-      record {
-        types = left_empty (unknown_types s t) (unknown_actions s t) q;
-        actions = right_empty (unknown_types s t) (unknown_actions s t) q;
-      }
-  names_known Permissive p e =
-      let q = right_empty (wrong_members s t) (unknown_types s t ++ unknown_actions s t) e in
-      record {
-        types = left_empty (unknown_types s t) (unknown_actions s t) q;
-        actions = right_empty (unknown_types s t) (unknown_actions s t) q;
-      }
+  names_known Strict p e = of_findings e
+  names_known Permissive p e = of_findings e
   names_known Partial p e = cc
 
   -- where there are no more errors than wrong members, all names are known, and no check finds an error
@@ -132,13 +127,7 @@ module _ (s : Schema) (t : PlainTemplate) where
   both_none errors types given few =
       let unknown : List Finding = unknown_types s t ++ unknown_actions s t in
       let others = no_more errors (wrong_members s t) unknown types given few in
-      let known = left_empty unknown types others in (
-        record {
-          types = left_empty (unknown_types s t) (unknown_actions s t) known;
-          actions = right_empty (unknown_types s t) (unknown_actions s t) known;
-        },
-        right_empty unknown types others,
-      )
+      (both_known (nil_left unknown types others), nil_right unknown types others)
 
   wrong_members_alone : (m : ValidationMode) → is_partial m ≡ false → (errors types : List Finding)
       → IsPermutation errors (name_findings m s t ++ types) → length errors ≤ length (wrong_members s t)
@@ -170,11 +159,23 @@ module _ (b : Basis) (t : PlainTemplate) (listed : List Env) (verdicts : List Ve
   }
 
   -- a warning that the policy is impossible is one of the check
-  pub due : (warnings : List Warning) → warnings ≡ application_warnings b.mode b.schema t ++ warnings_of t verdicts
+  due : (warnings : List Warning) → warnings ≡ application_warnings b.mode b.schema t ++ warnings_of t verdicts
       → IsOneOf (impossible t) warnings → IsOneOf (impossible t) (warnings_of t verdicts)
   due warnings warned h =
       of_second (impossible t) (application_warnings b.mode b.schema t) (warnings_of t verdicts)
       (not_among b.schema t b.mode) (subst (IsOneOf (impossible t)) warned h)
+
+  pub alone : CheckedOn b t (all_pass verdicts) [] (all_errors verdicts) [] (warnings_of t verdicts)
+  alone = checked_alone (all_pass verdicts) refl
+
+  -- so what the check promises of the warning is so of all warnings
+  pub warned_is_never_true : (m : ValidationMode)
+      → AreBothKeptIn m b t (all_pass verdicts) [] (warnings_of t verdicts)
+      → (warnings : List Warning)
+      → warnings ≡ application_warnings b.mode b.schema t ++ warnings_of t verdicts
+      → WarnedIsNeverTrueIn m b t warnings
+  warned_is_never_true m both warnings warned absent there k alone_in_scope world i =
+      both.never_true absent (due warnings warned there) k alone_in_scope world i
 
   module _ (strictly : Bool) (strict : is_strict b.mode ≡ strictly) (total : is_partial b.mode ≡ false)
       (formed : (strictly || has_formed_types b.schema) ≡ true) (schema : has_fault b.schema ≡ false)
@@ -191,9 +192,10 @@ module _ (b : Basis) (t : PlainTemplate) (listed : List Env) (verdicts : List Ve
       strict = strict;
       total = total;
       formed = formed;
-      schema = schema;
-      functions = functions;
-      environment = checked_of_schema b.schema b.mode total t env k;
+      settled = record {
+        faultless = record { mode = refl; schema = schema; functions = functions };
+        environment = checked_of_schema b.schema b.mode total t env k;
+      };
     }
 
     passes_there : (env : Env) → IsOneOf env (checked_envs b.schema b.mode t) → (v : Verdict)
@@ -215,41 +217,45 @@ module _ (b : Basis) (t : PlainTemplate) (listed : List Env) (verdicts : List Ve
 
 -- ---- in both modes
 
+-- where no error is another one, all names are known and the check passes
+passes_alone : (b : Basis) (t : PlainTemplate) (errors : List Finding) (warnings : List Warning)
+    (o : ValidationOutcome b t errors warnings)
+    → has_fault b.schema ≡ false → table_fault b.table.functions ≡ None
+    → (strictly : Bool) → is_strict b.mode ≡ strictly → is_partial b.mode ≡ false
+    → (strictly || has_formed_types b.schema) ≡ true → HasWrongMembersAlone b.schema t errors
+    → IsCutNowhere b t → HasNoUnknowns (condition_of t)
+    → IsNamedBySchema b.schema t
+    × CheckedOn b t true [] (all_errors o.verdicts) [] (warnings_of t o.verdicts)
+passes_alone b t errors warnings o schema functions strictly strict total formed few uncut unknowns =
+    let known = wrong_members_alone b.schema t b.mode total errors o.type_errors o.given few in
+    let none = none_of_checks o.type_errors (all_errors o.verdicts) o.types known.1 in (
+      known.0,
+      passed b t o.listed o.verdicts o.in_some_order o.checked strictly strict total formed schema
+          functions none known.0 uncut unknowns,
+    )
+
 pub validations_are_kept : ValidationsAreKept
-validations_are_kept b t schema functions errors warnings o =
-    let all : List Finding = all_errors o.verdicts in
-    let due_of_check : List Warning = warnings_of t o.verdicts in
-    let alone = checked_alone b t o.listed o.verdicts o.in_some_order o.checked (all_pass o.verdicts) refl in
-    record {
-      silent = λ few uncut k world w i.
-          let total = ap is_partial k.mode in
-          let known = wrong_members_alone b.schema t b.mode total errors o.type_errors o.given few in
-          let none = none_of_checks o.type_errors all o.types known.1 in
-          let p = passed b t o.listed o.verdicts o.in_some_order o.checked true (ap is_strict k.mode) total refl
-          schema functions none known.0 uncut w.no_unknowns in
-          (promises_are_kept b t schema functions true [] all [] due_of_check p).safe refl k known.0 world w i;
-      never_true = λ absent there k alone_in_scope world i.
-          (promises_are_kept b t schema functions (all_pass o.verdicts) [] all [] due_of_check alone).never_true
-          absent (due b t o.listed o.verdicts o.in_some_order o.checked warnings o.warned there) k
-          alone_in_scope world i;
-    }
+validations_are_kept b t schema functions errors warnings o = record {
+  silent = λ few uncut k world w i.
+      let p = passes_alone b t errors warnings o schema functions true (ap is_strict k.mode)
+      (ap is_partial k.mode) refl few uncut w.no_unknowns in
+      (promises_are_kept b t schema functions true [] _ [] _ p.1).safe refl k p.0 world w i;
+  never_true =
+      warned_is_never_true b t o.listed o.verdicts o.in_some_order o.checked Strict
+      (promises_are_kept b t schema functions (all_pass o.verdicts) [] _ [] _
+      (alone b t o.listed o.verdicts o.in_some_order o.checked)) warnings o.warned;
+}
 
 pub validations_are_kept_in_permissive : ValidationsAreKeptInPermissive
 validations_are_kept_in_permissive b t schema formed functions errors warnings o =
-    let all : List Finding = all_errors o.verdicts in
-    let due_of_check : List Warning = warnings_of t o.verdicts in
-    let alone = checked_alone b t o.listed o.verdicts o.in_some_order o.checked (all_pass o.verdicts) refl in
+    let promises = promises_are_kept_in_permissive b t schema formed functions in
     record {
       silent = λ few uncut k world w i.
-          let total = ap is_partial k.mode in
-          let known = wrong_members_alone b.schema t b.mode total errors o.type_errors o.given few in
-          let none = none_of_checks o.type_errors all o.types known.1 in
-          let p = passed b t o.listed o.verdicts o.in_some_order o.checked false (ap is_strict k.mode) total formed
-          schema functions none known.0 uncut w.no_unknowns in
-          (promises_are_kept_in_permissive b t schema formed functions true [] all [] due_of_check p).safe refl k
-          known.0 world w i;
-      never_true = λ absent there k alone_in_scope world i.
-          (promises_are_kept_in_permissive b t schema formed functions (all_pass o.verdicts) [] all [] due_of_check
-          alone).never_true absent
-          (due b t o.listed o.verdicts o.in_some_order o.checked warnings o.warned there) k alone_in_scope world i;
+          let p = passes_alone b t errors warnings o schema functions false (ap is_strict k.mode)
+          (ap is_partial k.mode) formed few uncut w.no_unknowns in
+          (promises true [] _ [] _ p.1).safe refl k p.0 world w i;
+      never_true =
+          warned_is_never_true b t o.listed o.verdicts o.in_some_order o.checked Permissive
+          (promises (all_pass o.verdicts) [] _ [] _
+          (alone b t o.listed o.verdicts o.in_some_order o.checked)) warnings o.warned;
     }

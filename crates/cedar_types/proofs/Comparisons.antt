@@ -4,4 +4,3 @@ pub mod SameTypes
 pub mod TypeOrder
 pub mod Errors
 pub mod ErrorsDecided
-pub mod TypesDecided

@@ -1,5 +1,5 @@
 -- What the condition of a template names: that of its parts, and the ids and types among it.
-use Rattle.std.proofs.Common.{◌≡◌, refl, sym, ◌∙◌, List, [], ◌∷◌, ◌++◌, map, reverse, Option, Some, None}
+use Rattle.std.proofs.Common.{arith, ◌≡◌, refl, sym, ◌∙◌, List, [], ◌∷◌, ◌++◌, map, reverse, Option, Some, None}
 use Rattle.std.proofs.lemmas.Grind.{reverse_onto}
 use Rattle.std.proofs.lemmas.List.{append-nil}
 use Rattle.std.proofs.lemmas.List.Elements.{filter_map-append}
@@ -14,7 +14,7 @@ use Rattle.cedar_types.specs.Templates.Mentions.{template_mentions, scope_mentio
 use Rattle.cedar_types.specs.Templates.Mentions.{mentions_by_part}
 use Rattle.cedar_types.specs.Names.{PlacedUid}
 use Rattle.cedar_types.specs.Expressions.Parts.{subexpressions, subexpressions_of_all}
-use Rattle.cedar_types.specs.Templates.{to_entity, to_slot, Scope, any, equal, within, typed, typed_within, ActionScope, any_action}
+use Rattle.cedar_types.specs.Templates.{Scope, ActionScope, any_action}
 use Rattle.cedar_types.specs.Templates.{equal_action, within_actions, PlainTemplate, scope_at, uid_at, action_scope_at, scope_condition}
 use Rattle.cedar_types.specs.Templates.{with_rest, condition_of}
 use Rattle.cedar_types.specs.Expressions.Tree.{Tree}
@@ -22,14 +22,7 @@ use Rattle.cedar_types.specs.Expressions.View.{Written, trees_of}
 
 scope_named : (l : Option Loc) (v : Var) (s : SlotId) (c : Scope)
     → mentions_of (scope_at l v s c) ≡ scope_mentions c
-scope_named l v s any = refl
-scope_named l v s (equal (to_entity u)) = refl
-scope_named l v s (equal to_slot) = refl
-scope_named l v s (within (to_entity u)) = refl
-scope_named l v s (within to_slot) = refl
-scope_named l v s (typed t) = refl
-scope_named l v s (typed_within t (to_entity u)) = refl
-scope_named l v s (typed_within t to_slot) = refl
+scope_named l v s c = grind arith
 
 listed_named : (l : Option Loc) (us : List PlacedUid)
     → filter_map own_mention (subexpressions_of_all (trees_of (map (uid_at l) us)))

@@ -1,5 +1,5 @@
 -- Tests of some or all elements of a list.
-use Rattle.std.proofs.Common.{◌≡◌, refl, sym, ap, ◌∙◌, Bool, true, false, ◌||◌, ◌&&◌, not, List, [], ◌∷◌}
+use Rattle.std.proofs.Common.{◌≡◌, refl, sym, ap, ◌∙◌, arith, Bool, true, false, ◌||◌, ◌&&◌, not, List, [], ◌∷◌}
 use Rattle.std.specs.List.{list_any, list_all}
 use Rattle.std.proofs.Math.Bool.{or-true}
 
@@ -57,6 +57,13 @@ and_right false b h = cc
 
 pub and_both : (a b : Bool) → a ≡ true → b ≡ true → (a && b) ≡ true
 and_both a b h k = ap (λ r. r && b) h ∙ k
+
+-- what neither of two tests passes, each fails
+pub or_left : (a b : Bool) → (a || b) ≡ false → a ≡ false
+or_left a b h = grind arith
+
+pub or_right : (a b : Bool) → (a || b) ≡ false → b ≡ false
+or_right a b h = grind arith
 
 -- two tests that pass alike are equal
 pub alike : (a b : Bool) → (a ≡ true → b ≡ true) → (b ≡ true → a ≡ true) → a ≡ b

@@ -3,5 +3,6 @@ pub mod Layers
 pub mod TreeSame
 pub mod Same
 pub mod Comparisons
+pub mod Decided
 pub mod ShapeOnly
 pub mod Accesses

@@ -1,5 +1,6 @@
--- Facts about truth values and options that several proofs use.
-use Rattle.std.proofs.Common.{◌≡◌, Bool, true, false, ◌||◌, not, Some, None, refl}
+-- Facts about truth values, options and lists that several proofs use.
+use Rattle.std.proofs.Common.{◌≡◌, Bool, true, false, ◌||◌, not, List, ◌∷◌, Some, None, refl}
+use Rattle.cedar_types.proofs.Schema.Listings.{or_left as none_left, or_right as none_right}
 pub mod Members
 pub mod Gains
 
@@ -8,6 +9,12 @@ some_is e = cc
 
 pub none_is : {A : Type 0} {x : A} → None ≡ Some x → ⊥
 none_is e = cc
+
+pub first_is : {A : Type 0} {x y : A} {xs ys : List A} → x ∷ xs ≡ y ∷ ys → x ≡ y
+first_is e = cc
+
+pub rest_is : {A : Type 0} {x y : A} {xs ys : List A} → x ∷ xs ≡ y ∷ ys → xs ≡ ys
+rest_is e = cc
 
 pub not_true : (b : Bool) → not b ≡ true → b ≡ false
 not_true true h = cc
@@ -28,9 +35,7 @@ or_cases false b P f g h = g h
 
 -- what is not so in either way is not so in each
 pub neither_left : (a b : Bool) → (a || b) ≡ false → a ≡ false
-neither_left true b h = cc
-neither_left false b h = refl
+neither_left = none_left
 
 pub neither_right : (a b : Bool) → (a || b) ≡ false → b ≡ false
-neither_right true b h = cc
-neither_right false b h = h
+neither_right = none_right

@@ -1,37 +1,17 @@
 -- What the tests of types say.
 use Rattle.std.proofs.Common.{◌≡◌, true, false, Option, Some, None, refl, ap}
-use Rattle.cedar_types.specs.declared.base.types.BoolType.TheVariants.{AnyBool, True, False}
-use Rattle.cedar_types.specs.Types.{Ty, TNever, TBool, TLong, TString, TSet, TAnySet, TRecord, TEntity, TAnyEntity, TExtension}
+use Rattle.cedar_types.specs.declared.base.types.BoolType.TheVariants.{True, False}
+use Rattle.cedar_types.specs.Types.{Ty, TBool}
 use Rattle.cedar_typing.specs.TypeTests.{is_false, is_true, annotation_passes}
 pub mod VariableTypes
 
 pub false_type : (t : Ty) → is_false t ≡ true → t ≡ TBool False
 false_type (TBool False) h = refl
-false_type (TBool True) h = cc
-false_type (TBool AnyBool) h = cc
-false_type TNever h = cc
-false_type TLong h = cc
-false_type TString h = cc
-false_type (TSet t) h = cc
-false_type TAnySet h = cc
-false_type (TRecord xs o) h = cc
-false_type (TEntity ps) h = cc
-false_type TAnyEntity h = cc
-false_type (TExtension n) h = cc
+false_type t h = cc
 
 pub true_type : (t : Ty) → is_true t ≡ true → t ≡ TBool True
 true_type (TBool True) h = refl
-true_type (TBool False) h = cc
-true_type (TBool AnyBool) h = cc
-true_type TNever h = cc
-true_type TLong h = cc
-true_type TString h = cc
-true_type (TSet t) h = cc
-true_type TAnySet h = cc
-true_type (TRecord xs o) h = cc
-true_type (TEntity ps) h = cc
-true_type TAnyEntity h = cc
-true_type (TExtension n) h = cc
+true_type t h = cc
 
 -- no type is both True and False
 pub true_is_not_false : (x : Option Ty) → annotation_passes is_true x ≡ true → annotation_passes is_false x ≡ false

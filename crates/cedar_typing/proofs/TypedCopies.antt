@@ -1,6 +1,5 @@
 -- Typed copies evaluate as the expressions that they are copies of.
 pub mod Same
-pub mod Marks
 pub mod Leaves
 pub mod Choices
 pub mod Operands

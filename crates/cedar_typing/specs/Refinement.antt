@@ -97,32 +97,30 @@ HasSameVerdicts b t =
     → PolicyChecks (setting_on (basis_in_mode Strict b) t.id env) (condition_of t) v
     ↔ PolicyChecks (setting_on (basis_in_mode Permissive b) t.id env) (condition_of t) v
 
--- so it has where it passes in Strict
-abbrev pub StrictVerdictsAreKept : Type 0
-StrictVerdictsAreKept =
+-- what holds of each policy that passes in Strict, by a schema whose types are formed and a table without faults
+abbrev pub WhereStrictPasses : (Basis → PlainTemplate → Type 0) → Type 0
+WhereStrictPasses Holds =
     (b : Basis) (t : PlainTemplate)
     → has_formed_types b.schema ≡ true → table_fault b.table.functions ≡ None
     → (errors errors' : List Finding) (old new : List Warning)
-    → CheckedOn (basis_in_mode Strict b) t true errors errors' old new → HasSameVerdicts b t
+    → CheckedOn (basis_in_mode Strict b) t true errors errors' old new → Holds b t
+
+-- so it has where it passes in Strict
+abbrev pub StrictVerdictsAreKept : Type 0
+StrictVerdictsAreKept = WhereStrictPasses HasSameVerdicts
 
 -- and its check results in the same in both modes: the same answer, errors and warnings
 abbrev pub StrictPolicyIsKept : Type 0
 StrictPolicyIsKept =
-    (b : Basis) (t : PlainTemplate)
-    → has_formed_types b.schema ≡ true → table_fault b.table.functions ≡ None
-    → (errors errors' : List Finding) (old new : List Warning)
-    → CheckedOn (basis_in_mode Strict b) t true errors errors' old new
-    → (answer : Bool) (found found' : List Finding) (before after : List Warning)
+    WhereStrictPasses
+    (λ b t. (answer : Bool) (found found' : List Finding) (before after : List Warning)
     → CheckedOn (basis_in_mode Strict b) t answer found found' before after
-    ↔ CheckedOn (basis_in_mode Permissive b) t answer found found' before after
+    ↔ CheckedOn (basis_in_mode Permissive b) t answer found found' before after)
 
 -- so it passes in Permissive, and the set of errors gets no other member there
 abbrev pub StrictPassesInPermissive : Type 0
 StrictPassesInPermissive =
-    (b : Basis) (t : PlainTemplate)
-    → has_formed_types b.schema ≡ true → table_fault b.table.functions ≡ None
-    → (errors errors' : List Finding) (old new : List Warning)
-    → CheckedOn (basis_in_mode Strict b) t true errors errors' old new
-    → (answer : Bool) (found found' : List Finding) (before after : List Warning)
+    WhereStrictPasses
+    (λ b t. (answer : Bool) (found found' : List Finding) (before after : List Warning)
     → CheckedOn (basis_in_mode Permissive b) t answer found found' before after
-    → (answer ≡ true) × Adds found [] found'
+    → (answer ≡ true) × Adds found [] found')

@@ -88,24 +88,32 @@ pub record IsReliableIn (m : ValidationMode) (s : Setting) : Type 0 where
 abbrev pub IsReliable : Setting → Type 0
 IsReliable = IsReliableIn Strict
 
--- what has a type does not go wrong, by a schema and a table without faults
-abbrev pub TypeSoundness : Type 0
-TypeSoundness =
+-- by a schema and a table without faults, in a setting that is reliable in Strict and one of its worlds: what holds of each
+-- expression whose slots are bound, where some capabilities are known
+abbrev pub InReliableWorlds : (Setting → World → Source → Caps → ℕ → Type 0) → Type 0
+InReliableWorlds Holds =
     (s : Setting) (world : World)
     → has_fault s.env.schema ≡ false → table_fault s.functions ≡ None
     → IsReliable s → IsWorldOf s world
     → (e : Source) → SlotsBound world.slots e
     → (prior : Caps) (d : ℕ) → AllHold world prior
-    → IsSoundAt s world e prior d
+    → Holds s world e prior d
 
 -- the same in Permissive, which joins records by width: by a schema in whose types names ascend, as they do in every schema
 -- of the program
-abbrev pub TypeSoundnessInPermissive : Type 0
-TypeSoundnessInPermissive =
+abbrev pub InReliablePermissiveWorlds : (Setting → World → Source → Caps → ℕ → Type 0) → Type 0
+InReliablePermissiveWorlds Holds =
     (s : Setting) (world : World)
     → has_fault s.env.schema ≡ false → has_formed_types s.env.schema ≡ true
     → table_fault s.functions ≡ None
     → IsReliableIn Permissive s → IsWorldOf s world
     → (e : Source) → SlotsBound world.slots e
     → (prior : Caps) (d : ℕ) → AllHold world prior
-    → IsSoundAt s world e prior d
+    → Holds s world e prior d
+
+-- what has a type does not go wrong
+abbrev pub TypeSoundness : Type 0
+TypeSoundness = InReliableWorlds IsSoundAt
+
+abbrev pub TypeSoundnessInPermissive : Type 0
+TypeSoundnessInPermissive = InReliablePermissiveWorlds IsSoundAt

@@ -9,13 +9,12 @@ use Rattle.cedar_types.specs.Schemas.Formed.{has_formed_types}
 use Rattle.cedar_types.specs.Expressions.Tree.{map_tree}
 use Rattle.cedar_types.specs.Types.{Ty}
 use Rattle.cedar_typing.specs.Capabilities.{Caps}
-use Rattle.cedar_typing.specs.Evaluation.Conformance.{SlotsBound, AllHold}
 use Rattle.cedar_typing.specs.Evaluation.Eval.{eval}
 use Rattle.cedar_typing.specs.Evaluation.World.{World}
 use Rattle.cedar_typing.specs.PolicyCheck.{Verdict, succeeds, irrelevant, fails, PolicyChecks}
 use Rattle.cedar_typing.specs.Rules.{Derives, Recovers}
 use Rattle.cedar_typing.specs.Setting.{Setting}
-use Rattle.cedar_typing.specs.Soundness.{IsReliableIn, IsWorldOf}
+use Rattle.cedar_typing.specs.Soundness.{IsReliableIn, IsWorldOf, InReliableWorlds, InReliablePermissiveWorlds}
 use Rattle.cedar_typing.specs.TypedExpr.{Source, TypedTree, Mark}
 pub mod Policies
 
@@ -40,26 +39,13 @@ pub record MeansTheSame (s : Setting) (world : World) (e : Source) (prior : Caps
   -- and that of a refused one
   pub recovered : (x : TypedTree) (es : List Finding) → Recovers s e prior d x es → EvaluatesAs world x e
 
--- in Strict, in each world of the setting's environment, by a schema and a table without faults
+-- in Strict, in each world of a reliable setting
 abbrev pub CopiesMeanTheSame : Type 0
-CopiesMeanTheSame =
-    (s : Setting) (world : World)
-    → has_fault s.env.schema ≡ false → table_fault s.functions ≡ None
-    → IsReliableIn Strict s → IsWorldOf s world
-    → (e : Source) → SlotsBound world.slots e
-    → (prior : Caps) (d : ℕ) → AllHold world prior
-    → MeansTheSame s world e prior d
+CopiesMeanTheSame = InReliableWorlds MeansTheSame
 
--- in Permissive, where names also ascend in the types of the schema, as in every schema of the program
+-- in Permissive, by a schema in whose types names ascend
 abbrev pub CopiesMeanTheSameInPermissive : Type 0
-CopiesMeanTheSameInPermissive =
-    (s : Setting) (world : World)
-    → has_fault s.env.schema ≡ false → has_formed_types s.env.schema ≡ true
-    → table_fault s.functions ≡ None
-    → IsReliableIn Permissive s → IsWorldOf s world
-    → (e : Source) → SlotsBound world.slots e
-    → (prior : Caps) (d : ℕ) → AllHold world prior
-    → MeansTheSame s world e prior d
+CopiesMeanTheSameInPermissive = InReliablePermissiveWorlds MeansTheSame
 
 -- ---- the check of a condition in one environment
 

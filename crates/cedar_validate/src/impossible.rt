@@ -161,29 +161,33 @@ fn smallest_false(condition: &Typed) -> Option<Loc> {
 fn false_operand(expr: &Typed) -> Option<&Typed> {
     match &expr.kind {
         ExprKind::And(left, right) => {
-            if is_always(left, BoolType::False) {
-                Some(left)
-            } else if is_always(right, BoolType::False) {
-                Some(right)
-            } else {
-                None
-            }
+            part_behind([
+                (left, BoolType::False, left),
+                (right, BoolType::False, right),
+            ])
         }
         ExprKind::If {
             test_expr,
             then_expr,
             else_expr,
         } => {
-            if is_always(test_expr, BoolType::True) {
-                Some(then_expr)
-            } else if is_always(test_expr, BoolType::False) {
-                Some(else_expr)
-            } else {
-                None
-            }
+            part_behind([
+                (test_expr, BoolType::True, then_expr),
+                (test_expr, BoolType::False, else_expr),
+            ])
         }
         _ => None,
     }
+}
+
+/// The part behind the first test that is always as is said beside it, if one is.
+fn part_behind<'a>(tests: [(&Typed, BoolType, &'a Typed); 2]) -> Option<&'a Typed> {
+    for (test, value, part) in tests {
+        if is_always(test, value) {
+            return Some(part);
+        }
+    }
+    None
 }
 
 fn is_always(expr: &Typed, value: BoolType) -> bool {

@@ -2,9 +2,7 @@
 use crate::cases::differences::{agrees, write_fault};
 use crate::cases::files::FileFault;
 use crate::cases::report::CaseCounts;
-use cedar_reading::{
-    Expected, Fault, Notation, ReadError, SchemaReadError, schema, schema_as_given,
-};
+use cedar_reading::{Expected, Fault, ReadError, SchemaReadError, schema, schema_as_given};
 use std::alloc::{AllocError, Global};
 use std::io;
 use std::io::Write;
@@ -24,10 +22,19 @@ const NO_REFUSAL: &str = "ok";
 /// How many lines there are before the cases.
 const HEAD: usize = 2;
 
+/// How declarations are written.
+#[derive(Clone, Copy, PartialEq, Eq, Debug)]
+pub enum Notation {
+    /// In Cedar's own syntax.
+    Cedar,
+    /// One by one.
+    AsGiven,
+}
+
 /// How the declarations of each case are written, where the cases of a file of this text bring their own.
 pub fn notation_of(text: &str) -> Option<Notation> {
     match text.lines().next() {
-        Some(FIRST) => Some(Notation::Schema),
+        Some(FIRST) => Some(Notation::Cedar),
         Some(FIRST_AS_GIVEN) => Some(Notation::AsGiven),
         _ => None,
     }
@@ -112,7 +119,7 @@ fn refusal_of(
     notation: Notation,
 ) -> Result<Result<String, (usize, Fault)>, AllocError> {
     let answer = match notation {
-        Notation::Schema => schema(alloc, declarations),
+        Notation::Cedar => schema(alloc, declarations),
         Notation::AsGiven => schema_as_given(alloc, declarations),
     };
     match answer {

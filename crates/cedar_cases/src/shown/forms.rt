@@ -1,5 +1,6 @@
 // The forms of expressions by name.
-use cedar_types::base::{BinaryOp, ExprKind, UnaryOp};
+use cedar_fixtures::shown::binary_name;
+use cedar_types::base::{ExprKind, UnaryOp};
 
 /// The name of a form, as a condition writes it.
 pub fn form_name<T>(kind: &ExprKind<T>) -> &'static str {
@@ -30,23 +31,5 @@ pub fn unary_name(operator: UnaryOp) -> &'static str {
         UnaryOp::Not => "!",
         UnaryOp::Neg => "-",
         UnaryOp::IsEmpty => "isEmpty",
-    }
-}
-
-/// How an operator on two operands is written.
-pub fn binary_name(operator: BinaryOp) -> &'static str {
-    match operator {
-        BinaryOp::Eq => "==",
-        BinaryOp::Less => "<",
-        BinaryOp::LessEq => "<=",
-        BinaryOp::Add => "+",
-        BinaryOp::Sub => "-",
-        BinaryOp::Mul => "*",
-        BinaryOp::In => "in",
-        BinaryOp::Contains => "contains",
-        BinaryOp::ContainsAll => "containsAll",
-        BinaryOp::ContainsAny => "containsAny",
-        BinaryOp::GetTag => "getTag",
-        BinaryOp::HasTag => "hasTag",
     }
 }

@@ -1,7 +1,8 @@
 // Typed conditions: each node with its type and the text that it stands at.
 use crate::shown::forms::form_name;
 use crate::shown::places::{Source, push_place};
-use cedar_types::base::{CedarType, Expr, ExprKind, Literal, PatternElem, SlotId, Var};
+use cedar_fixtures::shown::variable_name;
+use cedar_types::base::{CedarType, Expr, ExprKind, Literal, PatternElem, SlotId};
 use cedar_typing::typecheck::PolicyCheck;
 use std::alloc::{AllocError, Global};
 use std::collections::BTreeMap;
@@ -104,15 +105,6 @@ fn push_literal(shown: &mut String, literal: &Literal) -> Result<(), AllocError>
         Literal::Long(value) => write!(shown, "{value}"),
         Literal::String(text) => write!(shown, "\"{text}\""),
         Literal::EntityUID(uid) => write!(shown, "{uid}"),
-    }
-}
-
-fn variable_name(variable: Var) -> &'static str {
-    match variable {
-        Var::Principal => "principal",
-        Var::Action => "action",
-        Var::Resource => "resource",
-        Var::Context => "context",
     }
 }
 

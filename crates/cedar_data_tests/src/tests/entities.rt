@@ -11,65 +11,35 @@ const OF_A_USER: Frame<'_> = (
     "}}]",
 );
 
-#[test]
-fn good_entities(rt: HostRuntime) -> Result<(), Fail> {
-    let cases = [
-        ("", ""),
-        (
-            r#"{"uid": {"type": "Org", "id": "o"}, "attrs": {}, "parents": []}"#,
-            "",
-        ),
-        (
-            r#"{"uid": {"__entity": {"type": "Org", "id": "o"}}, "attrs": {}, "parents": [], "tags": {}}"#,
-            "",
-        ),
-        (
-            r#"{"parents": [], "tags": {"k": ["a", "b"], "l": []}, "attrs": {"name": ""}, "uid": {"id": "", "type": "User"}}"#,
-            "",
-        ),
-        (
-            r#"{"uid": {"type": "Color", "id": "red"}, "attrs": {}, "parents": []}"#,
-            "",
-        ),
-        (
-            r#"{"uid": {"type": "Action", "id": "write"}, "attrs": {}, "parents": []}"#,
-            "",
-        ),
-        (
-            r#"{"uid": {"type": "Action", "id": "view"}, "attrs": {}, "parents": [{"type": "Action", "id": "read"}]}"#,
-            "",
-        ),
-    ];
-    check_entities(&rt, rt.alloc(), ALONE, &cases)
-}
+/// Entities without a mistake.
+const GOOD_ENTITIES: [&str; 7] = [
+    "",
+    r#"{"uid": {"type": "Org", "id": "o"}, "attrs": {}, "parents": []}"#,
+    r#"{"uid": {"__entity": {"type": "Org", "id": "o"}}, "attrs": {}, "parents": [], "tags": {}}"#,
+    r#"{"parents": [], "tags": {"k": ["a", "b"], "l": []}, "attrs": {"name": ""}, "uid": {"id": "", "type": "User"}}"#,
+    r#"{"uid": {"type": "Color", "id": "red"}, "attrs": {}, "parents": []}"#,
+    r#"{"uid": {"type": "Action", "id": "write"}, "attrs": {}, "parents": []}"#,
+    r#"{"uid": {"type": "Action", "id": "view"}, "attrs": {}, "parents": [{"type": "Action", "id": "read"}]}"#,
+];
 
-#[test]
-fn good_values(rt: HostRuntime) -> Result<(), Fail> {
-    let cases = [
-        (r#""age": -9223372036854775808"#, ""),
-        (r#""boss": {"type": "User", "id": "b"}"#, ""),
-        (r#""boss": {"__entity": {"type": "User", "id": "b"}}"#, ""),
-        (r#""address": {"street": "s", "zip": 1}"#, ""),
-        (r#""homes": []"#, ""),
-        (
-            r#""homes": [{"street": "s", "zip": 1}, {"zip": 2, "street": "t"}]"#,
-            "",
-        ),
-        (r#""from": "10.0.0.1""#, ""),
-        (r#""from": {"fn": "ip", "arg": "10.0.0.1"}"#, ""),
-        (r#""from": {"fn": "ip", "args": ["10.0.0.1"]}"#, ""),
-        (r#""from": {"__extn": {"fn": "ip", "arg": "10.0.0.1"}}"#, ""),
-        (
-            r#""seen": ["2024-01-01", {"fn": "datetime", "arg": "2024-01-02"}]"#,
-            "",
-        ),
-        (r#""call": {"fn": "ip", "arg": 3}"#, ""),
-    ];
-    check_entities(&rt, rt.alloc(), OF_A_USER, &cases)
-}
+/// Attributes without a mistake.
+const GOOD_VALUES: [&str; 12] = [
+    r#""age": -9223372036854775808"#,
+    r#""boss": {"type": "User", "id": "b"}"#,
+    r#""boss": {"__entity": {"type": "User", "id": "b"}}"#,
+    r#""address": {"street": "s", "zip": 1}"#,
+    r#""homes": []"#,
+    r#""homes": [{"street": "s", "zip": 1}, {"zip": 2, "street": "t"}]"#,
+    r#""from": "10.0.0.1""#,
+    r#""from": {"fn": "ip", "arg": "10.0.0.1"}"#,
+    r#""from": {"fn": "ip", "args": ["10.0.0.1"]}"#,
+    r#""from": {"__extn": {"fn": "ip", "arg": "10.0.0.1"}}"#,
+    r#""seen": ["2024-01-01", {"fn": "datetime", "arg": "2024-01-02"}]"#,
+    r#""call": {"fn": "ip", "arg": 3}"#,
+];
 
 /// Attributes with values of other types, and the mistakes of each.
-const OTHER_TYPES: [(&str, &str); 13] = [
+const VALUES_OF_OTHER_TYPES: [(&str, &str); 13] = [
     (
         r#""age": "3""#,
         "\"3\" | User::\"a\".age: expected Long, found String\n",
@@ -124,50 +94,59 @@ const OTHER_TYPES: [(&str, &str); 13] = [
     ),
 ];
 
+/// Entities of other forms, and the mistakes of each.
+const ENTITIES_OF_OTHER_FORMS: [(&str, &str); 9] = [
+    (
+        r#"{"uid": {"type": "Usr", "id": "a"}, "attrs": {"x": 1}, "parents": []}"#,
+        "{\"type\": \"Usr\", \"id\": \"a\"} | Usr::\"a\": it is not declared\n",
+    ),
+    (
+        r#"{"uid": {"type": "User", "id": "a"}, "attrs": {}, "parents": []}"#,
+        "{} | User::\"a\".name: expected String, found nothing\n",
+    ),
+    (
+        r#"{"uid": {"type": "Org", "id": "o"}, "attrs": {}, "parents": [], "tags": {"a": 1}}"#,
+        "\"tags\" | Org::\"o\": its type has no tags\n",
+    ),
+    (
+        r#"{"uid": {"type": "User", "id": "a"}, "attrs": {"name": "A"}, "parents": [], "tags": {"a": ["x", 1], "b": 2}}"#,
+        "1 | User::\"a\".getTag(\"a\")[1]: expected String, found Long\n2 | User::\"a\".getTag(\"b\"): expected Set<String>, found Long\n",
+    ),
+    (
+        r#"{"uid": {"type": "Color", "id": "blue"}, "attrs": {}, "parents": []}"#,
+        "{\"type\": \"Color\", \"id\": \"blue\"} | Color::\"blue\": the type `Color` does not have this id\n",
+    ),
+    (
+        r#"{"uid": {"type": "Color", "id": "red"}, "attrs": {"x": 1}, "parents": []}"#,
+        "\"attrs\" | Color::\"red\": it may have no attributes\n",
+    ),
+    (
+        r#"{"uid": {"type": "Action", "id": "vew"}, "attrs": {}, "parents": []}"#,
+        "{\"type\": \"Action\", \"id\": \"vew\"} | Action::\"vew\": it is not declared\n",
+    ),
+    (
+        r#"{"uid": {"type": "Action", "id": "read"}, "attrs": {}, "parents": []}"#,
+        "\"parents\" | Action::\"read\": it is declared to be in Action::\"write\", and is not\n",
+    ),
+    (
+        r#"{"uid": {"type": "Action", "id": "read"}, "attrs": {}, "parents": [{"type": "Action", "id": "view"}]}"#,
+        "{\"type\": \"Action\", \"id\": \"view\"} | Action::\"read\": it is not declared to be in Action::\"view\"\n",
+    ),
+];
+
 #[test]
-fn values_of_other_types(rt: HostRuntime) -> Result<(), Fail> {
-    check_entities(&rt, rt.alloc(), OF_A_USER, &OTHER_TYPES)
+fn without_a_mistake(rt: HostRuntime) -> Result<(), Fail> {
+    for entity in GOOD_ENTITIES {
+        check_entities(&rt, rt.alloc(), ALONE, &[(entity, "")])?;
+    }
+    for attributes in GOOD_VALUES {
+        check_entities(&rt, rt.alloc(), OF_A_USER, &[(attributes, "")])?;
+    }
+    Ok(())
 }
 
 #[test]
-fn entities_of_other_forms(rt: HostRuntime) -> Result<(), Fail> {
-    let cases = [
-        (
-            r#"{"uid": {"type": "Usr", "id": "a"}, "attrs": {"x": 1}, "parents": []}"#,
-            "{\"type\": \"Usr\", \"id\": \"a\"} | Usr::\"a\": it is not declared\n",
-        ),
-        (
-            r#"{"uid": {"type": "User", "id": "a"}, "attrs": {}, "parents": []}"#,
-            "{} | User::\"a\".name: expected String, found nothing\n",
-        ),
-        (
-            r#"{"uid": {"type": "Org", "id": "o"}, "attrs": {}, "parents": [], "tags": {"a": 1}}"#,
-            "\"tags\" | Org::\"o\": its type has no tags\n",
-        ),
-        (
-            r#"{"uid": {"type": "User", "id": "a"}, "attrs": {"name": "A"}, "parents": [], "tags": {"a": ["x", 1], "b": 2}}"#,
-            "1 | User::\"a\".getTag(\"a\")[1]: expected String, found Long\n2 | User::\"a\".getTag(\"b\"): expected Set<String>, found Long\n",
-        ),
-        (
-            r#"{"uid": {"type": "Color", "id": "blue"}, "attrs": {}, "parents": []}"#,
-            "{\"type\": \"Color\", \"id\": \"blue\"} | Color::\"blue\": the type `Color` does not have this id\n",
-        ),
-        (
-            r#"{"uid": {"type": "Color", "id": "red"}, "attrs": {"x": 1}, "parents": []}"#,
-            "\"attrs\" | Color::\"red\": it may have no attributes\n",
-        ),
-        (
-            r#"{"uid": {"type": "Action", "id": "vew"}, "attrs": {}, "parents": []}"#,
-            "{\"type\": \"Action\", \"id\": \"vew\"} | Action::\"vew\": it is not declared\n",
-        ),
-        (
-            r#"{"uid": {"type": "Action", "id": "read"}, "attrs": {}, "parents": []}"#,
-            "\"parents\" | Action::\"read\": it is declared to be in Action::\"write\", and is not\n",
-        ),
-        (
-            r#"{"uid": {"type": "Action", "id": "read"}, "attrs": {}, "parents": [{"type": "Action", "id": "view"}]}"#,
-            "{\"type\": \"Action\", \"id\": \"view\"} | Action::\"read\": it is not declared to be in Action::\"view\"\n",
-        ),
-    ];
-    check_entities(&rt, rt.alloc(), ALONE, &cases)
+fn with_mistakes(rt: HostRuntime) -> Result<(), Fail> {
+    check_entities(&rt, rt.alloc(), OF_A_USER, &VALUES_OF_OTHER_TYPES)?;
+    check_entities(&rt, rt.alloc(), ALONE, &ENTITIES_OF_OTHER_FORMS)
 }

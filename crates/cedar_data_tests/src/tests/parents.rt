@@ -36,90 +36,87 @@ fn push_entity(text: &mut String, entity: &[(&str, &str)]) -> Result<(), AllocEr
     text.push_str("]},")
 }
 
-#[test]
-fn good_parents(rt: HostRuntime) -> Result<(), Fail> {
-    let chain: [&[(&str, &str)]; 3] = [
-        &[("Group", "a"), ("Group", "b")],
-        &[("Group", "b"), ("Group", "c")],
-        &[("Group", "c"), ("Org", "o"), ("Group", "d")],
-    ];
-    let diamond: [&[(&str, &str)]; 3] = [
-        &[("Group", "a"), ("Group", "b"), ("Group", "c")],
-        &[("Group", "b"), ("Org", "o")],
-        &[("Group", "c"), ("Org", "o")],
-    ];
-    let twice: [&[(&str, &str)]; 1] = [&[("Group", "a"), ("Group", "b"), ("Group", "b")]];
-    let cases: [(&[&[(&str, &str)]], &str); 3] = [(&chain, ""), (&diamond, ""), (&twice, "")];
-    check(&rt, rt.alloc(), &cases)
-}
+/// A chain, two ways to one entity, and a parent that is named twice.
+const GOOD_PARENTS: [(&[&[(&str, &str)]], &str); 3] = [
+    (
+        &[
+            &[("Group", "a"), ("Group", "b")],
+            &[("Group", "b"), ("Group", "c")],
+            &[("Group", "c"), ("Org", "o"), ("Group", "d")],
+        ],
+        "",
+    ),
+    (
+        &[
+            &[("Group", "a"), ("Group", "b"), ("Group", "c")],
+            &[("Group", "b"), ("Org", "o")],
+            &[("Group", "c"), ("Org", "o")],
+        ],
+        "",
+    ),
+    (&[&[("Group", "a"), ("Group", "b"), ("Group", "b")]], ""),
+];
+
+/// Circles, alone and beside others.
+const CIRCLES: [(&[&[(&str, &str)]], &str); 4] = [
+    (
+        &[&[("Group", "a"), ("Group", "a")]],
+        "{\"type\":\"Group\",\"id\":\"a\"} | parents in a circle: Group::\"a\" in Group::\"a\"\n",
+    ),
+    (
+        &[
+            &[("Group", "a"), ("Group", "b")],
+            &[("Group", "b"), ("Org", "o"), ("Group", "a")],
+        ],
+        "{\"type\":\"Group\",\"id\":\"b\"} | parents in a circle: Group::\"a\" in Group::\"b\" in Group::\"a\"\n",
+    ),
+    (
+        &[
+            &[("Group", "x"), ("Group", "a")],
+            &[("Group", "a"), ("Group", "b")],
+            &[("Group", "b"), ("Group", "a")],
+        ],
+        "{\"type\":\"Group\",\"id\":\"b\"} | parents in a circle: Group::\"a\" in Group::\"b\" in Group::\"a\"\n",
+    ),
+    (
+        &[
+            &[("Group", "a"), ("Group", "a")],
+            &[("Group", "b"), ("Org", "o")],
+            &[("Group", "c"), ("Group", "c")],
+        ],
+        "{\"type\":\"Group\",\"id\":\"a\"} | parents in a circle: Group::\"a\" in Group::\"a\"\n{\"type\":\"Group\",\"id\":\"c\"} | parents in a circle: Group::\"c\" in Group::\"c\"\n",
+    ),
+];
+
+/// Parents that there may not be, and an entity that is listed twice.
+const OTHER_PARENTS: [(&[&[(&str, &str)]], &str); 4] = [
+    (
+        &[&[("Org", "o"), ("Group", "a")]],
+        "{\"type\":\"Group\",\"id\":\"a\"} | Org::\"o\": it may not be in Group::\"a\"\n",
+    ),
+    (
+        &[
+            &[("Group", "a"), ("Group", "b")],
+            &[("Group", "b"), ("Color", "red")],
+            &[("Group", "c"), ("Group", "b")],
+        ],
+        "{\"type\":\"Color\",\"id\":\"red\"} | Group::\"b\": it may not be in Color::\"red\"\n",
+    ),
+    (
+        &[&[("Group", "a"), ("Color", "blue")]],
+        "{\"type\":\"Color\",\"id\":\"blue\"} | Color::\"blue\": the type `Color` does not have this id\n{\"type\":\"Color\",\"id\":\"blue\"} | Group::\"a\": it may not be in Color::\"blue\"\n",
+    ),
+    (
+        &[&[("Org", "o")], &[("Org", "o")]],
+        "{\"type\":\"Org\",\"id\":\"o\"} | Org::\"o\": it is listed twice\n",
+    ),
+];
 
 #[test]
-fn circles(rt: HostRuntime) -> Result<(), Fail> {
-    let own: [&[(&str, &str)]; 1] = [&[("Group", "a"), ("Group", "a")]];
-    let two: [&[(&str, &str)]; 2] = [
-        &[("Group", "a"), ("Group", "b")],
-        &[("Group", "b"), ("Org", "o"), ("Group", "a")],
-    ];
-    let below: [&[(&str, &str)]; 3] = [
-        &[("Group", "x"), ("Group", "a")],
-        &[("Group", "a"), ("Group", "b")],
-        &[("Group", "b"), ("Group", "a")],
-    ];
-    let apart: [&[(&str, &str)]; 3] = [
-        &[("Group", "a"), ("Group", "a")],
-        &[("Group", "b"), ("Org", "o")],
-        &[("Group", "c"), ("Group", "c")],
-    ];
-    let cases: [(&[&[(&str, &str)]], &str); 4] = [
-        (
-            &own,
-            "{\"type\":\"Group\",\"id\":\"a\"} | parents in a circle: Group::\"a\" in Group::\"a\"\n",
-        ),
-        (
-            &two,
-            "{\"type\":\"Group\",\"id\":\"b\"} | parents in a circle: Group::\"a\" in Group::\"b\" in Group::\"a\"\n",
-        ),
-        (
-            &below,
-            "{\"type\":\"Group\",\"id\":\"b\"} | parents in a circle: Group::\"a\" in Group::\"b\" in Group::\"a\"\n",
-        ),
-        (
-            &apart,
-            "{\"type\":\"Group\",\"id\":\"a\"} | parents in a circle: Group::\"a\" in Group::\"a\"\n{\"type\":\"Group\",\"id\":\"c\"} | parents in a circle: Group::\"c\" in Group::\"c\"\n",
-        ),
-    ];
-    check(&rt, rt.alloc(), &cases)
-}
-
-#[test]
-fn other_parents(rt: HostRuntime) -> Result<(), Fail> {
-    let types: [&[(&str, &str)]; 1] = [&[("Org", "o"), ("Group", "a")]];
-    let above: [&[(&str, &str)]; 3] = [
-        &[("Group", "a"), ("Group", "b")],
-        &[("Group", "b"), ("Color", "red")],
-        &[("Group", "c"), ("Group", "b")],
-    ];
-    let unknown: [&[(&str, &str)]; 1] = [&[("Group", "a"), ("Color", "blue")]];
-    let listed_twice: [&[(&str, &str)]; 2] = [&[("Org", "o")], &[("Org", "o")]];
-    let cases: [(&[&[(&str, &str)]], &str); 4] = [
-        (
-            &types,
-            "{\"type\":\"Group\",\"id\":\"a\"} | Org::\"o\": it may not be in Group::\"a\"\n",
-        ),
-        (
-            &above,
-            "{\"type\":\"Color\",\"id\":\"red\"} | Group::\"b\": it may not be in Color::\"red\"\n",
-        ),
-        (
-            &unknown,
-            "{\"type\":\"Color\",\"id\":\"blue\"} | Color::\"blue\": the type `Color` does not have this id\n{\"type\":\"Color\",\"id\":\"blue\"} | Group::\"a\": it may not be in Color::\"blue\"\n",
-        ),
-        (
-            &listed_twice,
-            "{\"type\":\"Org\",\"id\":\"o\"} | Org::\"o\": it is listed twice\n",
-        ),
-    ];
-    check(&rt, rt.alloc(), &cases)
+fn parents(rt: HostRuntime) -> Result<(), Fail> {
+    check(&rt, rt.alloc(), &GOOD_PARENTS)?;
+    check(&rt, rt.alloc(), &CIRCLES)?;
+    check(&rt, rt.alloc(), &OTHER_PARENTS)
 }
 
 /// Of a hundred and one mistakes a hundred are shown.

@@ -1,5 +1,5 @@
 // What the words of a command line ask for.
-use crate::tests::cases::{Question, check};
+use crate::tests::cases::check;
 use cedar_findings::arguments::{Arguments, Asked, read_arguments};
 use cedar_findings::formats::Format;
 use cedar_findings::syntaxes::Syntax;
@@ -127,56 +127,52 @@ const LINES: [(&str, &str); 53] = [
     ("--entity e s p", "there is no option `--entity`"),
 ];
 
-#[test]
-fn what_is_asked(rt: HostRuntime) -> Result<(), Fail> {
-    check(&rt, rt.alloc(), &AskedFor, &LINES)
+/// What a command line asks for, in words.
+fn show_arguments(alloc: Global, line: &str) -> Result<String, Fail> {
+    let mut words = Vec::new(alloc);
+    for word in line.split(' ') {
+        words.push(String::from_str(alloc, word)?)?;
+    }
+    let arguments = match read_arguments(alloc, words.as_slice())? {
+        Ok(Asked::Validation(arguments)) => arguments,
+        Ok(Asked::Help) => return Ok(String::from_str(alloc, "help")?),
+        Ok(Asked::Version) => return Ok(String::from_str(alloc, "version")?),
+        Err(misuse) => return Ok(misuse.to_string(alloc)?),
+    };
+    let mut got = String::from_str(alloc, mode_text(arguments.mode))?;
+    match arguments.level {
+        Some(level) => write!(got, ", level {level}")?,
+        None => got.push_str(", no level")?,
+    }
+    if arguments.denies_warnings {
+        got.push_str(", no warnings")?;
+    }
+    got.push_str(match arguments.syntax {
+        None => "",
+        Some(Syntax::Cedar) => ", in text",
+        Some(Syntax::Json) => ", in json",
+    })?;
+    got.push_str(match arguments.format {
+        Format::Lines(_) => ", lines: ",
+        Format::Objects(_) => ", objects: ",
+        Format::Sarif(_) => ", sarif: ",
+    })?;
+    push_files(&mut got, &arguments)?;
+    if arguments.schemas.len() > 1 {
+        write!(got, ", {} schemas", arguments.schemas.len())?;
+    }
+    if let Some(name) = &arguments.entities {
+        write!(got, ", entities {name}")?;
+    }
+    if let Some(name) = &arguments.request {
+        write!(got, ", request {name}")?;
+    }
+    Ok(got)
 }
 
-/// What a command line asks for, in words.
-struct AskedFor;
-
-impl Question for AskedFor {
-    fn answer(&self, alloc: Global, line: &str) -> Result<String, Fail> {
-        let mut words = Vec::new(alloc);
-        for word in line.split(' ') {
-            words.push(String::from_str(alloc, word)?)?;
-        }
-        let arguments = match read_arguments(alloc, words.as_slice())? {
-            Ok(Asked::Validation(arguments)) => arguments,
-            Ok(Asked::Help) => return Ok(String::from_str(alloc, "help")?),
-            Ok(Asked::Version) => return Ok(String::from_str(alloc, "version")?),
-            Err(misuse) => return Ok(misuse.to_string(alloc)?),
-        };
-        let mut got = String::from_str(alloc, mode_text(arguments.mode))?;
-        match arguments.level {
-            Some(level) => write!(got, ", level {level}")?,
-            None => got.push_str(", no level")?,
-        }
-        if arguments.denies_warnings {
-            got.push_str(", no warnings")?;
-        }
-        got.push_str(match arguments.syntax {
-            None => "",
-            Some(Syntax::Cedar) => ", in text",
-            Some(Syntax::Json) => ", in json",
-        })?;
-        got.push_str(match arguments.format {
-            Format::Lines(_) => ", lines: ",
-            Format::Objects(_) => ", objects: ",
-            Format::Sarif(_) => ", sarif: ",
-        })?;
-        push_files(&mut got, &arguments)?;
-        if arguments.schemas.len() > 1 {
-            write!(got, ", {} schemas", arguments.schemas.len())?;
-        }
-        if let Some(name) = &arguments.entities {
-            write!(got, ", entities {name}")?;
-        }
-        if let Some(name) = &arguments.request {
-            write!(got, ", request {name}")?;
-        }
-        Ok(got)
-    }
+#[test]
+fn what_is_asked(rt: HostRuntime) -> Result<(), Fail> {
+    check(&rt, show_arguments, &LINES)
 }
 
 /// Adds the files of the schema and of policies.

@@ -3,21 +3,16 @@ use std::alloc::Global;
 use std::process::Abort;
 use std::test::Fail;
 
-/// What is asked of a text.
-pub trait Question {
-    /// What is shown of it.
-    fn answer(&self, alloc: Global, text: &str) -> Result<String, Fail>;
-}
-
 /// Each text gives what stands beside it.
-pub fn check<Q: Question>(
-    rt: &impl Abort,
-    alloc: Global,
-    question: &Q,
+pub fn check<F: Fn(Global, &str) -> Result<String, Fail>>(
+    rt: &(impl Abort + AllocGlobal),
+    answer: F,
     cases: &[(&str, &str)],
-) -> Result<(), Fail> {
+) -> Result<(), Fail>
+    requires { F.IsAlwaysCallable answer }
+{
     for (text, wanted) in cases {
-        let given = question.answer(alloc, text)?;
+        let given = answer(rt.alloc(), text)?;
         assert_eq!(rt; given.as_str(), *wanted, "for {text}");
     }
     Ok(())

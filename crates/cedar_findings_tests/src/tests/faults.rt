@@ -1,4 +1,5 @@
 // Policies with a fault: which it is, and where.
+use crate::tests::cases::check;
 use cedar_findings::faults::{TextFault, Written, read_fault};
 use cedar_reading::{Policies, Position};
 use std::alloc::{AllocError, Global};
@@ -120,15 +121,15 @@ const CONDITIONS: [(&str, &str); 26] = [
     ),
 ];
 
+/// The fault of the first policy, which has this condition.
+fn describe_condition(alloc: Global, condition: &str) -> Result<String, Fail> {
+    let text = format!(in alloc; "{BEFORE}{condition}")?;
+    fault_of_policy(alloc, text.as_str())
+}
+
 #[test]
 fn conditions(rt: HostRuntime) -> Result<(), Fail> {
-    let alloc = rt.alloc();
-    for (condition, wanted) in &CONDITIONS {
-        let text = format!(in alloc; "{BEFORE}{condition}")?;
-        let got = fault_of_policy(alloc, text.as_str())?;
-        assert_eq!(rt; got.as_str(), *wanted, "for {condition}");
-    }
-    Ok(())
+    check(&rt, describe_condition, &CONDITIONS)
 }
 
 /// Whole policies.
@@ -187,11 +188,7 @@ const POLICIES: [(&str, &str); 13] = [
 
 #[test]
 fn policies(rt: HostRuntime) -> Result<(), Fail> {
-    for (text, wanted) in &POLICIES {
-        let got = fault_of_policy(rt.alloc(), text)?;
-        assert_eq!(rt; got.as_str(), *wanted, "for {text}");
-    }
-    Ok(())
+    check(&rt, fault_of_policy, &POLICIES)
 }
 
 /// What is written so often, what stands in the middle, what is written as often behind it, and the fault. 800 brackets and
@@ -242,17 +239,17 @@ fn nesting(rt: HostRuntime) -> Result<(), Fail> {
 }
 
 /// The fault of the first policy.
-fn fault_of_policy(alloc: Global, text: &str) -> Result<String, AllocError> {
+fn fault_of_policy(alloc: Global, text: &str) -> Result<String, Fail> {
     let read = match Policies::new(alloc, text) {
         Ok(mut policies) => policies.next_policy(),
         Err(error) => Some(Err(error)),
     };
     match read {
-        None => String::from_str(alloc, "nothing"),
-        Some(Ok(_policy)) => String::from_str(alloc, "no fault"),
+        None => Ok(String::from_str(alloc, "nothing")?),
+        Some(Ok(_policy)) => Ok(String::from_str(alloc, "no fault")?),
         Some(Err(error)) => {
             let fault = read_fault(alloc, Written::Policies, text, error)?;
-            describe(alloc, text, &fault)
+            Ok(describe(alloc, text, &fault)?)
         }
     }
 }

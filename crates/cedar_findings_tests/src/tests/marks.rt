@@ -1,5 +1,5 @@
 // Marks of direction in policies.
-use crate::tests::cases::{Question, check};
+use crate::tests::cases::check;
 use cedar_findings::marks::marked_parts;
 use cedar_reading::Policies;
 use std::alloc::Global;
@@ -50,24 +50,20 @@ const ATTRIBUTE_TWICE: &str =
     "an attribute with marks of direction, which may be shown in another order;an attribute with \
      marks of direction, which may be shown in another order;";
 
-#[test]
-fn warnings(rt: HostRuntime) -> Result<(), Fail> {
-    check(&rt, rt.alloc(), &WarningTexts, &POLICIES)
+/// The texts of a policy's warnings.
+fn show_warnings(alloc: Global, text: &str) -> Result<String, Fail> {
+    let mut got = String::new(alloc);
+    let mut policies = Policies::new(alloc, text)?;
+    if let Some(read) = policies.next_policy() {
+        for marked in marked_parts(alloc, &read?.template)? {
+            got.push_str(marked.text)?;
+            got.push_str(";")?;
+        }
+    }
+    Ok(got)
 }
 
-/// The texts of a policy's warnings.
-struct WarningTexts;
-
-impl Question for WarningTexts {
-    fn answer(&self, alloc: Global, text: &str) -> Result<String, Fail> {
-        let mut got = String::new(alloc);
-        let mut policies = Policies::new(alloc, text)?;
-        if let Some(read) = policies.next_policy() {
-            for marked in marked_parts(alloc, &read?.template)? {
-                got.push_str(marked.text)?;
-                got.push_str(";")?;
-            }
-        }
-        Ok(got)
-    }
+#[test]
+fn warnings(rt: HostRuntime) -> Result<(), Fail> {
+    check(&rt, show_warnings, &POLICIES)
 }

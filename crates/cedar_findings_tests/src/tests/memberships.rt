@@ -1,6 +1,6 @@
 // What is in what, over any number of steps.
-use crate::tests::cases::{Question, check};
-use cedar_reading::{Notation, schema_declarations};
+use crate::tests::cases::check;
+use cedar_reading::schema_declarations;
 use cedar_types::base::EntityUID;
 use std::alloc::Global;
 use std::collections::BTreeSet;
@@ -36,31 +36,27 @@ const SCHEMAS: [(&str, &str); 8] = [
     ),
 ];
 
-#[test]
-fn descendants(rt: HostRuntime) -> Result<(), Fail> {
-    check(&rt, rt.alloc(), &AllDescendants, &SCHEMAS)
+/// What is in each type and each action of a schema.
+fn show_descendants(alloc: Global, text: &str) -> Result<String, Fail> {
+    let declared = schema_declarations(alloc, text)?;
+    let mut got = String::new(alloc);
+    for own in &declared.entity_types {
+        push_name(&mut got)?;
+        write!(got, "{}:", own.name)?;
+        for other in &own.descendants {
+            write!(got, " {other}")?;
+        }
+    }
+    for own in &declared.actions {
+        push_name(&mut got)?;
+        push_actions(&mut got, &own.name, &own.descendants)?;
+    }
+    Ok(got)
 }
 
-/// What is in each type and each action of a schema.
-struct AllDescendants;
-
-impl Question for AllDescendants {
-    fn answer(&self, alloc: Global, text: &str) -> Result<String, Fail> {
-        let declared = schema_declarations(alloc, text, Notation::Schema)?;
-        let mut got = String::new(alloc);
-        for own in &declared.entity_types {
-            push_name(&mut got)?;
-            write!(got, "{}:", own.name)?;
-            for other in &own.descendants {
-                write!(got, " {other}")?;
-            }
-        }
-        for own in &declared.actions {
-            push_name(&mut got)?;
-            push_actions(&mut got, &own.name, &own.descendants)?;
-        }
-        Ok(got)
-    }
+#[test]
+fn descendants(rt: HostRuntime) -> Result<(), Fail> {
+    check(&rt, show_descendants, &SCHEMAS)
 }
 
 fn push_name(got: &mut String) -> Result<(), Fail> {

@@ -1,30 +1,22 @@
 // Texts that are a name or an id, and nothing else.
-use crate::tests::cases::{Question, check};
+use crate::tests::cases::check;
 use cedar_reading::{name_alone, uid_alone};
 use std::alloc::Global;
 use std::test::Fail;
 
 /// The name that a text is, as it is shown; `-` where it is none.
-struct NameAlone;
-
-impl Question for NameAlone {
-    fn answer(&self, alloc: Global, text: &str) -> Result<String, Fail> {
-        match name_alone(alloc, text) {
-            Ok(name) => Ok(format!(in alloc; "{name}")?),
-            Err(_fault) => Ok(String::from_str(alloc, "-")?),
-        }
+fn show_name(alloc: Global, text: &str) -> Result<String, Fail> {
+    match name_alone(alloc, text) {
+        Ok(name) => Ok(format!(in alloc; "{name}")?),
+        Err(_fault) => Ok(String::from_str(alloc, "-")?),
     }
 }
 
 /// The id that a text is, as it is shown; `-` where it is none.
-struct IdAlone;
-
-impl Question for IdAlone {
-    fn answer(&self, alloc: Global, text: &str) -> Result<String, Fail> {
-        match uid_alone(alloc, text) {
-            Ok(uid) => Ok(format!(in alloc; "{uid}")?),
-            Err(_fault) => Ok(String::from_str(alloc, "-")?),
-        }
+fn show_id(alloc: Global, text: &str) -> Result<String, Fail> {
+    match uid_alone(alloc, text) {
+        Ok(uid) => Ok(format!(in alloc; "{uid}")?),
+        Err(_fault) => Ok(String::from_str(alloc, "-")?),
     }
 }
 
@@ -38,7 +30,7 @@ fn a_name_is_the_whole_text(rt: HostRuntime) -> Result<(), Fail> {
         (r#"User::"alice""#, "-"),
         ("", "-"),
     ];
-    check(&rt, rt.alloc(), &NameAlone, &cases)
+    check(&rt, show_name, &cases)
 }
 
 #[test]
@@ -48,5 +40,5 @@ fn an_id_is_the_whole_text(rt: HostRuntime) -> Result<(), Fail> {
         ("User", "-"),
         (r#"User::"alice".age"#, "-"),
     ];
-    check(&rt, rt.alloc(), &IdAlone, &cases)
+    check(&rt, show_id, &cases)
 }

@@ -1,5 +1,5 @@
 // Schemas with faults: the first of each, and all at once.
-use crate::tests::cases::{Question, check};
+use crate::tests::cases::check;
 use crate::tests::faults::describe;
 use cedar_findings::faults::{TextFault, all_schema_faults, schema_fault, shadowing_fault};
 use cedar_reading::schema;
@@ -99,27 +99,23 @@ const SCHEMAS: [(&str, &str); 22] = [
     ),
 ];
 
-#[test]
-fn first(rt: HostRuntime) -> Result<(), Fail> {
-    check(&rt, rt.alloc(), &FirstFault, &SCHEMAS)
-}
-
 /// The first fault of a schema.
-struct FirstFault;
-
-impl Question for FirstFault {
-    fn answer(&self, alloc: Global, text: &str) -> Result<String, Fail> {
-        match schema(alloc, text) {
-            Ok(_schema) => match shadowing_fault(alloc, text)? {
-                None => Ok(String::from_str(alloc, "no fault")?),
-                Some(fault) => Ok(describe(alloc, text, &fault)?),
-            },
-            Err(error) => {
-                let fault = schema_fault(alloc, text, error)?;
-                Ok(describe(alloc, text, &fault)?)
-            }
+fn describe_first(alloc: Global, text: &str) -> Result<String, Fail> {
+    match schema(alloc, text) {
+        Ok(_schema) => match shadowing_fault(alloc, text)? {
+            None => Ok(String::from_str(alloc, "no fault")?),
+            Some(fault) => Ok(describe(alloc, text, &fault)?),
+        },
+        Err(error) => {
+            let fault = schema_fault(alloc, text, error)?;
+            Ok(describe(alloc, text, &fault)?)
         }
     }
+}
+
+#[test]
+fn first(rt: HostRuntime) -> Result<(), Fail> {
+    check(&rt, describe_first, &SCHEMAS)
 }
 
 /// Schemas with several faults.
@@ -205,9 +201,23 @@ const FAULTY: [(&str, &str); 10] = [
     ),
 ];
 
+/// All faults of a text, a line for each; `the first`, where none is found.
+fn describe_all(alloc: Global, text: &str) -> Result<String, Fail> {
+    let first = TextFault {
+        place: Loc { start: 0, end: 0 },
+        text: String::from_str(alloc, "the first")?,
+    };
+    let mut got = String::new(alloc);
+    for fault in &all_schema_faults(alloc, text, first)? {
+        got.push_str(describe(alloc, text, fault)?.as_str())?;
+        got.push_str("\n")?;
+    }
+    Ok(got)
+}
+
 #[test]
 fn several(rt: HostRuntime) -> Result<(), Fail> {
-    check(&rt, rt.alloc(), &AllFaults, &FAULTY)
+    check(&rt, describe_all, &FAULTY)
 }
 
 /// A fault alone is told as ever, but for a type in itself, of which the name in it is told.
@@ -223,7 +233,7 @@ fn one(rt: HostRuntime) -> Result<(), Fail> {
             }
             other => format!(in alloc; "{other}\n")?,
         };
-        let got = AllFaults.answer(alloc, text)?;
+        let got = describe_all(alloc, text)?;
         assert_eq!(rt; got.as_str(), wanted.as_str(), "for {text}");
     }
     Ok(())
@@ -236,25 +246,7 @@ fn many(rt: HostRuntime) -> Result<(), Fail> {
     for _ in 0..60 {
         text.push_str("entity A { a: B } c; ")?;
     }
-    let got = AllFaults.answer(rt.alloc(), text.as_str())?;
+    let got = describe_all(rt.alloc(), text.as_str())?;
     assert_eq!(rt; got.as_str().lines().count(), 100);
     Ok(())
-}
-
-/// All faults of a text, a line for each; `the first`, where none is found.
-struct AllFaults;
-
-impl Question for AllFaults {
-    fn answer(&self, alloc: Global, text: &str) -> Result<String, Fail> {
-        let first = TextFault {
-            place: Loc { start: 0, end: 0 },
-            text: String::from_str(alloc, "the first")?,
-        };
-        let mut got = String::new(alloc);
-        for fault in &all_schema_faults(alloc, text, first)? {
-            got.push_str(describe(alloc, text, fault)?.as_str())?;
-            got.push_str("\n")?;
-        }
-        Ok(got)
-    }
 }

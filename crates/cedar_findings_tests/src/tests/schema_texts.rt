@@ -1,5 +1,5 @@
 // A schema in several files.
-use crate::tests::cases::{Question, check};
+use crate::tests::cases::check;
 use cedar_findings::faults::{TextFault, schema_fault};
 use cedar_findings::schema_texts::SchemaTexts;
 use cedar_reading::schema;
@@ -53,26 +53,22 @@ const SCHEMAS: [(&str, &str); 12] = [
     ),
 ];
 
-#[test]
-fn faults(rt: HostRuntime) -> Result<(), Fail> {
-    check(&rt, rt.alloc(), &FaultInFiles, &SCHEMAS)
+/// The number of the file in which the fault of some texts stands, the byte, and what is wrong.
+fn describe_in_files(alloc: Global, all: &str) -> Result<String, Fail> {
+    let mut texts = SchemaTexts::new(alloc);
+    for text in all.split('|') {
+        texts.add(text)?;
+    }
+    let fault = match schema(alloc, texts.text()) {
+        Ok(_) => return Ok(String::new(alloc)),
+        Err(error) => schema_fault(alloc, texts.text(), error)?,
+    };
+    let (number, TextFault { place, text }) = texts.own_fault(alloc, fault)?;
+    let Loc { start, .. } = place;
+    Ok(format!(in alloc; "{number} at {start}: {text}")?)
 }
 
-/// The number of the file in which the fault of some texts stands, the byte, and what is wrong.
-struct FaultInFiles;
-
-impl Question for FaultInFiles {
-    fn answer(&self, alloc: Global, all: &str) -> Result<String, Fail> {
-        let mut texts = SchemaTexts::new(alloc);
-        for text in all.split('|') {
-            texts.add(text)?;
-        }
-        let fault = match schema(alloc, texts.text()) {
-            Ok(_) => return Ok(String::new(alloc)),
-            Err(error) => schema_fault(alloc, texts.text(), error)?,
-        };
-        let (number, TextFault { place, text }) = texts.own_fault(alloc, fault)?;
-        let Loc { start, .. } = place;
-        Ok(format!(in alloc; "{number} at {start}: {text}")?)
-    }
+#[test]
+fn faults(rt: HostRuntime) -> Result<(), Fail> {
+    check(&rt, describe_in_files, &SCHEMAS)
 }

@@ -3,21 +3,17 @@ use std::alloc::{AllocError, Global};
 use std::process::Abort;
 use std::test::Fail;
 
-/// What is asked of a text.
-pub trait Question {
-    /// What it gives, or its fault and the byte at which that stands.
-    fn answer(&self, alloc: Global, text: &str) -> Result<String, AllocError>;
-}
-
 /// Each text gives what stands beside it.
-pub fn check<Q: Question>(
+pub fn check<F: Fn(Global, &str) -> Result<String, AllocError>>(
     rt: &impl Abort,
     alloc: Global,
-    question: &Q,
+    answer: F,
     cases: &[(&str, &str)],
-) -> Result<(), Fail> {
+) -> Result<(), Fail>
+    requires { F.IsAlwaysCallable answer }
+{
     for (text, wanted) in cases {
-        let given = question.answer(alloc, text)?;
+        let given = answer(alloc, text)?;
         assert_eq!(rt; given.as_str(), *wanted, "{text}");
     }
     Ok(())
@@ -27,18 +23,20 @@ pub fn check<Q: Question>(
 pub type Frame<'a> = (&'a str, &'a str);
 
 /// Each part has, in this frame, the fault beside it, at the mark `§` in it. A policy of several ends with `;`.
-pub fn check_faults<Q: Question>(
+pub fn check_faults<F: Fn(Global, &str) -> Result<String, AllocError>>(
     rt: &impl Abort,
     alloc: Global,
-    question: &Q,
+    answer: F,
     frame: Frame<'_>,
     cases: &[(&str, &str)],
-) -> Result<(), Fail> {
+) -> Result<(), Fail>
+    requires { F.IsAlwaysCallable answer }
+{
     let (before, behind) = frame;
     for (part, fault) in cases {
         let text = format!(in alloc; "{before}{part}{behind}")?;
         let (json, at) = split_at_mark(alloc, text.as_str())?;
-        let given = question.answer(alloc, json.as_str())?;
+        let given = answer(alloc, json.as_str())?;
         let wanted = format!(in alloc; "{at} {fault}")?;
         assert_eq!(rt;
             given.as_str().trim_end_matches(';'),

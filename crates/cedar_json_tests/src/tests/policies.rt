@@ -1,6 +1,6 @@
 // Policies of JSON: their conditions and scopes as trees, or their faults.
-use crate::tests::cases::{Frame, Question, check};
-use crate::tests::policy_trees::PolicyTrees;
+use crate::tests::cases::{Frame, check};
+use crate::tests::policy_trees::show_policies;
 use cedar_json::{Policies, ReadPolicy, value_alone};
 use cedar_types::base::Loc;
 use std::alloc::{AllocError, Global};
@@ -13,16 +13,12 @@ pub const CONDITION: Frame<'static> = (
 );
 
 /// What the condition of a policy without constraints is.
-struct ConditionTree;
-
-impl Question for ConditionTree {
-    fn answer(&self, alloc: Global, condition: &str) -> Result<String, AllocError> {
-        let (before, behind) = CONDITION;
-        let json = format!(in alloc; "{before}{condition}{behind}")?;
-        let given = PolicyTrees.answer(alloc, json.as_str())?;
-        let rest = given.as_str().strip_prefix("policy0 permit any any any ");
-        String::from_str(alloc, rest.unwrap_or(given.as_str()).trim_end_matches(';'))
-    }
+fn show_condition(alloc: Global, condition: &str) -> Result<String, AllocError> {
+    let (before, behind) = CONDITION;
+    let json = format!(in alloc; "{before}{condition}{behind}")?;
+    let given = show_policies(alloc, json.as_str())?;
+    let rest = given.as_str().strip_prefix("policy0 permit any any any ");
+    String::from_str(alloc, rest.unwrap_or(given.as_str()).trim_end_matches(';'))
 }
 
 /// Values, variables, sets and records.
@@ -60,39 +56,33 @@ const VALUES: [(&str, &str); 16] = [
     ),
 ];
 
-#[test]
-fn values(rt: HostRuntime) -> Result<(), Fail> {
-    check(&rt, rt.alloc(), &ConditionTree, &VALUES)
-}
+/// Operators on two operands, and what each is of 1 and 2.
+const OPERATORS: [(&str, &str); 17] = [
+    ("==", "(== 1 2)"),
+    ("!=", "(not (== 1 2))"),
+    ("<", "(< 1 2)"),
+    ("<=", "(<= 1 2)"),
+    (">", "(not (<= 1 2))"),
+    (">=", "(not (< 1 2))"),
+    ("in", "(in 1 2)"),
+    ("&&", "(and 1 2)"),
+    ("||", "(or 1 2)"),
+    ("+", "(+ 1 2)"),
+    ("-", "(- 1 2)"),
+    ("*", "(* 1 2)"),
+    ("contains", "(contains 1 2)"),
+    ("containsAll", "(containsAll 1 2)"),
+    ("containsAny", "(containsAny 1 2)"),
+    ("getTag", "(getTag 1 2)"),
+    ("hasTag", "(hasTag 1 2)"),
+];
 
-#[test]
-fn operators(rt: HostRuntime) -> Result<(), Fail> {
-    let alloc = rt.alloc();
-    for (key, wanted) in [
-        ("==", "(== 1 2)"),
-        ("!=", "(not (== 1 2))"),
-        ("<", "(< 1 2)"),
-        ("<=", "(<= 1 2)"),
-        (">", "(not (<= 1 2))"),
-        (">=", "(not (< 1 2))"),
-        ("in", "(in 1 2)"),
-        ("&&", "(and 1 2)"),
-        ("||", "(or 1 2)"),
-        ("+", "(+ 1 2)"),
-        ("-", "(- 1 2)"),
-        ("*", "(* 1 2)"),
-        ("contains", "(contains 1 2)"),
-        ("containsAll", "(containsAll 1 2)"),
-        ("containsAny", "(containsAny 1 2)"),
-        ("getTag", "(getTag 1 2)"),
-        ("hasTag", "(hasTag 1 2)"),
-    ] {
-        let condition = format!(in alloc;
-            "{{\"{key}\": {{\"left\": {{\"Value\": 1}}, \"right\": {{\"Value\": 2}}}}}}"
-        )?;
-        check(&rt, alloc, &ConditionTree, &[(condition.as_str(), wanted)])?;
-    }
-    Ok(())
+/// What the condition of such an operator, of 1 and 2, is.
+fn show_operator(alloc: Global, key: &str) -> Result<String, AllocError> {
+    let condition = format!(in alloc;
+        "{{\"{key}\": {{\"left\": {{\"Value\": 1}}, \"right\": {{\"Value\": 2}}}}}}"
+    )?;
+    show_condition(alloc, condition.as_str())
 }
 
 /// The other forms.
@@ -140,8 +130,10 @@ const OTHER_FORMS: [(&str, &str); 13] = [
 ];
 
 #[test]
-fn other_forms(rt: HostRuntime) -> Result<(), Fail> {
-    check(&rt, rt.alloc(), &ConditionTree, &OTHER_FORMS)
+fn conditions(rt: HostRuntime) -> Result<(), Fail> {
+    check(&rt, rt.alloc(), show_condition, &VALUES)?;
+    check(&rt, rt.alloc(), show_operator, &OPERATORS)?;
+    check(&rt, rt.alloc(), show_condition, &OTHER_FORMS)
 }
 
 /// Policies with constraints, and with several conditions.
@@ -166,7 +158,7 @@ const SCOPES: [(&str, &str); 4] = [
 
 #[test]
 fn scopes(rt: HostRuntime) -> Result<(), Fail> {
-    check(&rt, rt.alloc(), &PolicyTrees, &SCOPES)
+    check(&rt, rt.alloc(), show_policies, &SCOPES)
 }
 
 const SET: &str =
@@ -199,7 +191,7 @@ fn sets(rt: HostRuntime) -> Result<(), Fail> {
             "",
         ),
     ];
-    check(&rt, alloc, &PolicyTrees, &cases)
+    check(&rt, alloc, show_policies, &cases)
 }
 
 #[test]

@@ -1,7 +1,7 @@
 // Policies of JSON with a fault: which it is, and where.
 use crate::tests::cases::check_faults;
 use crate::tests::policies::CONDITION;
-use crate::tests::policy_trees::PolicyTrees;
+use crate::tests::policy_trees::show_policies;
 use std::test::Fail;
 
 /// Conditions with a fault at the mark, and which.
@@ -58,7 +58,7 @@ const CONDITIONS: [(&str, &str); 18] = [
 
 #[test]
 fn in_conditions(rt: HostRuntime) -> Result<(), Fail> {
-    check_faults(&rt, rt.alloc(), &PolicyTrees, CONDITION, &CONDITIONS)
+    check_faults(&rt, rt.alloc(), show_policies, CONDITION, &CONDITIONS)
 }
 
 /// Policies and sets of policies with a fault at the mark, and which.
@@ -110,5 +110,5 @@ const POLICIES: [(&str, &str); 16] = [
 
 #[test]
 fn in_policies(rt: HostRuntime) -> Result<(), Fail> {
-    check_faults(&rt, rt.alloc(), &PolicyTrees, ("", ""), &POLICIES)
+    check_faults(&rt, rt.alloc(), show_policies, ("", ""), &POLICIES)
 }

@@ -1,21 +1,17 @@
 // Policies as lines: the effect, the constraints and the condition of each.
-use crate::tests::cases::Question;
 use crate::tests::trees::push_expr;
+use cedar_fixtures::shown::push_constraint;
 use cedar_json::{FormError, Policies, ReadPolicy, value_alone};
-use cedar_types::base::{ActionConstraint, Effect, EntityReference, PrincipalOrResourceConstraint};
+use cedar_types::base::{ActionConstraint, PrincipalOrResourceConstraint};
 use std::alloc::{AllocError, Global};
 
 /// What the policies of a text are, each with `;` behind it.
-pub struct PolicyTrees;
-
-impl Question for PolicyTrees {
-    fn answer(&self, alloc: Global, json: &str) -> Result<String, AllocError> {
-        let mut out = String::new(alloc);
-        match push_policies(alloc, &mut out, json) {
-            Ok(()) => Ok(out),
-            Err(FormError::Memory(error)) => Err(error),
-            Err(FormError::At(at, fault)) => format!(in alloc; "{at} {fault:?}"),
-        }
+pub fn show_policies(alloc: Global, json: &str) -> Result<String, AllocError> {
+    let mut out = String::new(alloc);
+    match push_policies(alloc, &mut out, json) {
+        Ok(()) => Ok(out),
+        Err(FormError::Memory(error)) => Err(error),
+        Err(FormError::At(at, fault)) => format!(in alloc; "{at} {fault:?}"),
     }
 }
 
@@ -38,15 +34,10 @@ fn push_policy(out: &mut String, read: Result<ReadPolicy, FormError>) -> Result<
         Err(FormError::At(at, fault)) => return write!(out, "{at} {fault:?};"),
     };
     let policy = &read.template;
-    let effect = if read.effect == Effect::Permit {
-        "permit"
-    } else {
-        "forbid"
-    };
-    write!(out, "{} {effect}", policy.id)?;
-    push_constraint(out, &policy.principal_constraint.constraint)?;
+    write!(out, "{} {}", policy.id, read.effect)?;
+    push_scope(out, &policy.principal_constraint.constraint)?;
     push_action(out, &policy.action_constraint)?;
-    push_constraint(out, &policy.resource_constraint.constraint)?;
+    push_scope(out, &policy.resource_constraint.constraint)?;
     if let Some(rest) = &policy.non_scope_constraints {
         out.push(' ')?;
         push_expr(out, rest)?;
@@ -54,30 +45,13 @@ fn push_policy(out: &mut String, read: Result<ReadPolicy, FormError>) -> Result<
     out.push(';')
 }
 
-fn push_constraint(
+fn push_scope(
     out: &mut String,
     constraint: &PrincipalOrResourceConstraint,
 ) -> Result<(), AllocError> {
     match constraint {
         PrincipalOrResourceConstraint::Any => out.push_str(" any"),
-        PrincipalOrResourceConstraint::Eq(reference) => push_reference(out, " ==", reference),
-        PrincipalOrResourceConstraint::In(reference) => push_reference(out, " in", reference),
-        PrincipalOrResourceConstraint::Is(name) => write!(out, " is {name}"),
-        PrincipalOrResourceConstraint::IsIn(name, reference) => {
-            write!(out, " is {name}")?;
-            push_reference(out, " in", reference)
-        }
-    }
-}
-
-fn push_reference(
-    out: &mut String,
-    word: &str,
-    reference: &EntityReference,
-) -> Result<(), AllocError> {
-    match reference {
-        EntityReference::EUID(uid) => write!(out, "{word} {uid}"),
-        EntityReference::Slot => write!(out, "{word} ?"),
+        _ => push_constraint(out, constraint),
     }
 }
 

@@ -1,5 +1,5 @@
 // Schemas of JSON, read in Cedar's own syntax: what they declare, and the places of their faults in the text of JSON.
-use crate::tests::cases::{Question, check_faults};
+use crate::tests::cases::check_faults;
 use cedar_json::{FormError, schema_text};
 use cedar_reading::{
     ReadError, RefusedName, SchemaReadError, refused_name, schema, shadowing_name,
@@ -8,32 +8,28 @@ use std::alloc::{AllocError, Global};
 use std::test::Fail;
 
 /// `read`, or the fault of a schema, and the byte of the text of JSON at which it stands.
-struct ReadSchema;
-
-impl Question for ReadSchema {
-    fn answer(&self, alloc: Global, json: &str) -> Result<String, AllocError> {
-        let written = match schema_text(alloc, json) {
-            Ok(written) => written,
-            Err(FormError::Memory(error)) => return Err(error),
-            Err(FormError::At(at, fault)) => return format!(in alloc; "{at} {fault:?}"),
-        };
-        let text = written.text();
-        let (at, fault) = match schema(alloc, text) {
-            Ok(_) => match shadowing_name(alloc, text)? {
-                Some(hidden) => (hidden.start, String::from_str(alloc, "Shadowing")?),
-                None => return String::from_str(alloc, "read"),
-            },
-            Err(SchemaReadError::Read(ReadError::Memory(error))) => return Err(error),
-            Err(SchemaReadError::Read(ReadError::At(at, fault))) => {
-                (at, format!(in alloc; "{fault:?}")?)
-            }
-            Err(SchemaReadError::Refused(fault)) => {
-                let name = refused_name(alloc, text, &fault)?;
-                (start_of(name), format!(in alloc; "{fault:?}")?)
-            }
-        };
-        format!(in alloc; "{} {fault}", written.origin_of(at).start)
-    }
+fn read_schema(alloc: Global, json: &str) -> Result<String, AllocError> {
+    let written = match schema_text(alloc, json) {
+        Ok(written) => written,
+        Err(FormError::Memory(error)) => return Err(error),
+        Err(FormError::At(at, fault)) => return format!(in alloc; "{at} {fault:?}"),
+    };
+    let text = written.text();
+    let (at, fault) = match schema(alloc, text) {
+        Ok(_) => match shadowing_name(alloc, text)? {
+            Some(hidden) => (hidden.start, String::from_str(alloc, "Shadowing")?),
+            None => return String::from_str(alloc, "read"),
+        },
+        Err(SchemaReadError::Read(ReadError::Memory(error))) => return Err(error),
+        Err(SchemaReadError::Read(ReadError::At(at, fault))) => {
+            (at, format!(in alloc; "{fault:?}")?)
+        }
+        Err(SchemaReadError::Refused(fault)) => {
+            let name = refused_name(alloc, text, &fault)?;
+            (start_of(name), format!(in alloc; "{fault:?}")?)
+        }
+    };
+    format!(in alloc; "{} {fault}", written.origin_of(at).start)
 }
 
 fn start_of(name: Option<RefusedName>) -> usize {
@@ -80,7 +76,7 @@ fn schemas(rt: HostRuntime) -> Result<(), Fail> {
         "{}",
         r#"{"": {"entityTypes": {}, "actions": {"a": {"memberOf": [{"id": "b", "type": "Action"}]}, "b": {}}}}"#,
     ] {
-        let given = ReadSchema.answer(alloc, json)?;
+        let given = read_schema(alloc, json)?;
         assert_eq!(rt; given.as_str(), "read", "{json}");
     }
     Ok(())
@@ -148,5 +144,5 @@ const FAULTS: [(&str, &str); 14] = [
 
 #[test]
 fn faults(rt: HostRuntime) -> Result<(), Fail> {
-    check_faults(&rt, rt.alloc(), &ReadSchema, ("", ""), &FAULTS)
+    check_faults(&rt, rt.alloc(), read_schema, ("", ""), &FAULTS)
 }

@@ -1,6 +1,6 @@
 // Schemas of JSON with a fault: which it is, and where.
 use crate::tests::cases::{Frame, check_faults};
-use crate::tests::schemas::SchemaText;
+use crate::tests::schemas::show_schema;
 use std::alloc::Global;
 use std::process::Abort;
 use std::test::Fail;
@@ -48,7 +48,7 @@ const WHOLE: [(&str, &str); 13] = [
 
 #[test]
 fn in_schemas(rt: HostRuntime) -> Result<(), Fail> {
-    check_faults(&rt, rt.alloc(), &SchemaText, ("", ""), &WHOLE)
+    check_faults(&rt, rt.alloc(), show_schema, ("", ""), &WHOLE)
 }
 
 /// What stands before and behind an entity type `A` of the namespace `N`.
@@ -65,7 +65,7 @@ const ENTITY_TYPES: [(&str, &str); 5] = [
 
 #[test]
 fn in_entity_types(rt: HostRuntime) -> Result<(), Fail> {
-    check_faults(&rt, rt.alloc(), &SchemaText, ENTITY_TYPE, &ENTITY_TYPES)
+    check_faults(&rt, rt.alloc(), show_schema, ENTITY_TYPE, &ENTITY_TYPES)
 }
 
 /// Types, here those of the tags of an entity type.
@@ -115,7 +115,7 @@ fn check_member(
     let before = format!(in alloc; "{before}{{\"{name}\": ")?;
     let behind = format!(in alloc; "}}{behind}")?;
     let frame = (before.as_str(), behind.as_str());
-    check_faults(rt, alloc, &SchemaText, frame, cases)
+    check_faults(rt, alloc, show_schema, frame, cases)
 }
 
 /// What actions have.
@@ -132,5 +132,5 @@ const ACTIONS: [(&str, &str); 4] = [
 #[test]
 fn in_actions(rt: HostRuntime) -> Result<(), Fail> {
     let before = r#"{"N": {"entityTypes": {}, "actions": {"a": "#;
-    check_faults(&rt, rt.alloc(), &SchemaText, (before, "}}}"), &ACTIONS)
+    check_faults(&rt, rt.alloc(), show_schema, (before, "}}}"), &ACTIONS)
 }

@@ -1,21 +1,16 @@
 // Values as a line: each with its first byte and the one behind its last.
-use crate::tests::cases::Question;
 use cedar_json::{ReadError, Value, ValueKind, value_alone};
 use std::alloc::{AllocError, Global};
 
 /// The value of a text.
-pub struct ValueAlone;
-
-impl Question for ValueAlone {
-    fn answer(&self, alloc: Global, text: &str) -> Result<String, AllocError> {
-        let mut out = String::new(alloc);
-        match value_alone(alloc, text) {
-            Ok(value) => push_value(&mut out, &value)?,
-            Err(ReadError::Memory(error)) => return Err(error),
-            Err(ReadError::At(at, fault)) => write!(out, "{at} {fault:?}")?,
-        }
-        Ok(out)
+pub fn show_value(alloc: Global, text: &str) -> Result<String, AllocError> {
+    let mut out = String::new(alloc);
+    match value_alone(alloc, text) {
+        Ok(value) => push_value(&mut out, &value)?,
+        Err(ReadError::Memory(error)) => return Err(error),
+        Err(ReadError::At(at, fault)) => write!(out, "{at} {fault:?}")?,
     }
+    Ok(out)
 }
 
 fn push_value(out: &mut String, value: &Value) -> Result<(), AllocError> {

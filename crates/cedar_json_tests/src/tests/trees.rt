@@ -1,5 +1,6 @@
 // Expressions as a line: a form and its parts in parentheses.
-use cedar_types::base::{BinaryOp, Expr, ExprKind, Literal, PatternElem, SlotId, UnaryOp, Var};
+use cedar_fixtures::shown::{binary_name, variable_name};
+use cedar_types::base::{Expr, ExprKind, Literal, PatternElem, SlotId, UnaryOp};
 use std::alloc::AllocError;
 use std::collections::BTreeMap;
 use std::rc::RcStr;
@@ -71,7 +72,7 @@ fn push_fields(out: &mut String, fields: &BTreeMap<RcStr, Expr>) -> Result<(), A
 fn push_opening(out: &mut String, kind: &ExprKind) -> Result<(), AllocError> {
     match kind {
         ExprKind::Lit(literal) => push_literal(out, literal),
-        ExprKind::Var(variable) => out.push_str(show_variable(*variable)),
+        ExprKind::Var(variable) => out.push_str(variable_name(*variable)),
         ExprKind::Slot(SlotId::Principal) => out.push_str("?principal"),
         ExprKind::Slot(SlotId::Resource) => out.push_str("?resource"),
         ExprKind::Unknown(name) => write!(out, "unknown:{name}"),
@@ -79,7 +80,7 @@ fn push_opening(out: &mut String, kind: &ExprKind) -> Result<(), AllocError> {
         ExprKind::And(_, _) => out.push_str("(and "),
         ExprKind::Or(_, _) => out.push_str("(or "),
         ExprKind::UnaryApp(operator, _) => write!(out, "({} ", show_unary(*operator)),
-        ExprKind::BinaryApp(operator, _, _) => write!(out, "({} ", show_binary(*operator)),
+        ExprKind::BinaryApp(operator, _, _) => write!(out, "({} ", binary_name(*operator)),
         ExprKind::ExtensionFunctionApp(name, _) => write!(out, "({name}"),
         ExprKind::GetAttr(_, _) => out.push_str("(. "),
         ExprKind::HasAttr(_, _) | ExprKind::ExtHasAttr(_, _) => out.push_str("(has "),
@@ -133,36 +134,10 @@ fn push_pattern(out: &mut String, pattern: &[PatternElem]) -> Result<(), AllocEr
     Ok(())
 }
 
-fn show_variable(variable: Var) -> &'static str {
-    match variable {
-        Var::Principal => "principal",
-        Var::Action => "action",
-        Var::Resource => "resource",
-        Var::Context => "context",
-    }
-}
-
 fn show_unary(operator: UnaryOp) -> &'static str {
     match operator {
         UnaryOp::Not => "not",
         UnaryOp::Neg => "neg",
         UnaryOp::IsEmpty => "isEmpty",
-    }
-}
-
-fn show_binary(operator: BinaryOp) -> &'static str {
-    match operator {
-        BinaryOp::Eq => "==",
-        BinaryOp::Less => "<",
-        BinaryOp::LessEq => "<=",
-        BinaryOp::Add => "+",
-        BinaryOp::Sub => "-",
-        BinaryOp::Mul => "*",
-        BinaryOp::In => "in",
-        BinaryOp::Contains => "contains",
-        BinaryOp::ContainsAll => "containsAll",
-        BinaryOp::ContainsAny => "containsAny",
-        BinaryOp::GetTag => "getTag",
-        BinaryOp::HasTag => "hasTag",
     }
 }

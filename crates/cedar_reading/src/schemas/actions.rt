@@ -1,12 +1,11 @@
 // Declarations of actions.
-use crate::cursor::{Cursor, MAX_GRAMMAR_STEPS};
+use crate::cursor::Cursor;
 use crate::faults::{Expected, Fault, ReadError};
 use crate::members::key;
 use crate::names::placed_name;
 use crate::notes::Met;
-use crate::schemas::declarations::{Declaration, Placed};
-use crate::schemas::entity_types::one_or_more_types;
-use crate::schemas::lists::{Listing, one_or_in_brackets};
+use crate::schemas::declarations::{ActionDeclaration, Declaration};
+use crate::schemas::lists::{Listable, Place, one_or_more, own_names};
 use crate::schemas::meanings::Names;
 use crate::schemas::types::cedar_type;
 use crate::texts::text;
@@ -23,108 +22,33 @@ use std::rc::Rc;
 pub fn action_declaration(
     cursor: &mut Cursor<'_>,
     names: &Names<'_>,
-) -> Result<Declaration<EntityUID, ValidatorActionKind>, ReadError> {
-    let declared = own_actions(cursor, names)?;
-    let given = if names.are_as_given() {
-        Some(actions_above(cursor, names)?)
-    } else {
-        None
-    };
-    let parents = if given.is_none() && cursor.takes("in") {
-        one_or_more_actions(cursor, names)?
+) -> Result<ActionDeclaration, ReadError> {
+    let declared = own_names(cursor, names)?;
+    let parents = if cursor.takes("in") {
+        one_or_more(cursor, names)?
     } else {
         Vec::new(cursor.alloc)
     };
     let applies_to = if cursor.takes("appliesTo") {
         application(cursor, names)?
     } else {
-        nothing(cursor.alloc)?
+        application_to_nothing(cursor.alloc)?
     };
     cursor.expect(";")?;
     Ok(Declaration {
         names: declared,
         parents,
-        given,
         kind: ValidatorActionKind::Defined(applies_to),
     })
 }
 
-/// Reads a declaration of external actions behind its first two words.
-pub fn external_actions(
-    cursor: &mut Cursor<'_>,
-    names: &Names<'_>,
-) -> Result<Declaration<EntityUID, ValidatorActionKind>, ReadError> {
-    let declared = own_actions(cursor, names)?;
-    let given = actions_above(cursor, names)?;
-    cursor.expect(";")?;
-    Ok(Declaration {
-        names: declared,
-        parents: Vec::new(cursor.alloc),
-        given: Some(given),
-        kind: ValidatorActionKind::External,
-    })
-}
-
-/// Reads the descendants behind `above`: none where it is missing.
-fn actions_above(
-    cursor: &mut Cursor<'_>,
-    names: &Names<'_>,
-) -> Result<Vec<Placed<EntityUID>>, ReadError> {
-    if cursor.takes("above") {
-        one_or_more_actions(cursor, names)
-    } else {
-        Ok(Vec::new(cursor.alloc))
-    }
-}
-
-/// Reads the ids that are declared.
-fn own_actions(
-    cursor: &mut Cursor<'_>,
-    names: &Names<'_>,
-) -> Result<Vec<Placed<EntityUID>>, ReadError> {
-    let mut declared = Vec::new(cursor.alloc);
-    for _ in 0..cursor.most_left() {
-        if !Listing::WithCommas.goes_on(cursor, declared.len())? {
-            break;
+impl Listable for EntityUID {
+    fn read(cursor: &mut Cursor<'_>, names: &Names<'_>, place: Place) -> Result<Self, ReadError> {
+        match place {
+            Place::Declared => Ok(names.own_action(key(cursor)?.as_str())?),
+            Place::Named => named_action(cursor, names),
         }
-        let start = cursor.start();
-        let name = own_action(cursor, names)?;
-        declared.push(Placed { name, start })?;
     }
-    Ok(declared)
-}
-
-/// Reads an id that is declared: the whole of it where declarations are as given, if it has a type.
-fn own_action(cursor: &mut Cursor<'_>, names: &Names<'_>) -> Result<EntityUID, ReadError> {
-    if !names.are_as_given() || cursor.peek().kind != TokenKind::Word {
-        let eid = key(cursor)?;
-        return Ok(names.own_action(eid.as_str())?);
-    }
-    let read = placed_name(cursor)?;
-    if !read.is_of_id {
-        return Ok(names.own_action(read.name.basename.as_str())?);
-    }
-    let eid = text(cursor)?;
-    let action_type = EntityType::new(read.name, None);
-    Ok(EntityUID::from_components(cursor.alloc, action_type, eid.as_str(), None)?)
-}
-
-/// Reads an action, or any number of them in brackets.
-fn one_or_more_actions(
-    cursor: &mut Cursor<'_>,
-    names: &Names<'_>,
-) -> Result<Vec<Placed<EntityUID>>, ReadError> {
-    let listing = one_or_in_brackets(cursor);
-    let mut actions = Vec::new(cursor.alloc);
-    for _ in 0..cursor.most_left() {
-        if !listing.goes_on(cursor, actions.len())? {
-            break;
-        }
-        let start = cursor.start();
-        let name = named_action(cursor, names)?;
-        actions.push(Placed { name, start })?;
-    }
-    Ok(actions)
 }
 
 /// Reads an action: its id as a name or as a text, or as a text behind its type.
@@ -154,6 +78,33 @@ struct AppliedTo {
     context: Option<CedarType>,
 }
 
+impl AppliedTo {
+    /// Reads a part that is not there so far.
+    fn read_part(&mut self, cursor: &mut Cursor<'_>, names: &Names<'_>) -> Result<(), ReadError> {
+        match cursor.peek().text {
+            "principal" if self.principals.is_none() => {
+                self.principals = Some(applied_types(cursor, names, "principal")?);
+            }
+            "resource" if self.resources.is_none() => {
+                self.resources = Some(applied_types(cursor, names, "resource")?);
+            }
+            "context" if self.context.is_none() => {
+                cursor.take();
+                cursor.expect(":")?;
+                let start = cursor.start();
+                let context = cedar_type(cursor, names)?;
+                names.check_context(cursor, &context, start)?;
+                self.context = Some(context);
+            }
+            "principal" | "resource" | "context" => {
+                return Err(cursor.fault(Fault::Expected(Expected::OtherApplication)));
+            }
+            _ => return Err(cursor.fault(Fault::Expected(Expected::Application))),
+        }
+        Ok(())
+    }
+}
+
 /// Reads what an action applies to: its principals and its resources, and perhaps a context, in any order.
 fn application(
     cursor: &mut Cursor<'_>,
@@ -169,7 +120,7 @@ fn application(
         if cursor.is_at("}") {
             break;
         }
-        part_of_application(cursor, names, &mut read)?;
+        read.read_part(cursor, names)?;
         if !cursor.takes(",") {
             break;
         }
@@ -177,35 +128,6 @@ fn application(
     let whole = whole_application(cursor, read)?;
     cursor.expect("}")?;
     Ok(whole)
-}
-
-/// Reads a part that is not there so far.
-fn part_of_application(
-    cursor: &mut Cursor<'_>,
-    names: &Names<'_>,
-    read: &mut AppliedTo,
-) -> Result<(), ReadError> {
-    match cursor.peek().text {
-        "principal" if read.principals.is_none() => {
-            read.principals = Some(applied_types(cursor, names, "principal")?);
-        }
-        "resource" if read.resources.is_none() => {
-            read.resources = Some(applied_types(cursor, names, "resource")?);
-        }
-        "context" if read.context.is_none() => {
-            cursor.take();
-            cursor.expect(":")?;
-            let start = cursor.start();
-            let context = cedar_type(cursor, names, MAX_GRAMMAR_STEPS)?;
-            names.check_context(cursor, &context, start)?;
-            read.context = Some(context);
-        }
-        "principal" | "resource" | "context" => {
-            return Err(cursor.fault(Fault::Expected(Expected::OtherApplication)));
-        }
-        _ => return Err(cursor.fault(Fault::Expected(Expected::Application))),
-    }
-    Ok(())
 }
 
 /// The parts together. Principals and resources have to be there.
@@ -245,18 +167,19 @@ fn applied_types(
     cursor.expect(":")?;
     let start = cursor.start();
     let mut types = BTreeSet::new(cursor.alloc);
-    for read in one_or_more_types(cursor, names)? {
+    for read in one_or_more::<EntityType>(cursor, names)? {
         types.insert(read.name)?;
     }
     // an action that applies to nothing has no `appliesTo`
-    if types.is_empty() && !names.are_as_given() {
+    if types.is_empty() {
         let none = Met::Fault(Fault::Expected(Expected::SomeType));
         cursor.notes.meet(start, none)?;
     }
     Ok(types)
 }
 
-fn nothing(alloc: Global) -> Result<ValidatorApplySpec, AllocError> {
+/// What an action without `appliesTo` applies to.
+pub fn application_to_nothing(alloc: Global) -> Result<ValidatorApplySpec, AllocError> {
     Ok(ValidatorApplySpec {
         principal_apply_spec: BTreeSet::new(alloc),
         resource_apply_spec: BTreeSet::new(alloc),
@@ -264,7 +187,8 @@ fn nothing(alloc: Global) -> Result<ValidatorApplySpec, AllocError> {
     })
 }
 
-fn empty_record(alloc: Global) -> Result<CedarType, AllocError> {
+/// The type of a context that is not given.
+pub fn empty_record(alloc: Global) -> Result<CedarType, AllocError> {
     let attributes = Attributes::with_attributes(alloc, BTreeMap::new(alloc))?;
     Ok(CedarType::record_with_attributes(attributes, OpenTag::ClosedAttributes))
 }

@@ -6,7 +6,7 @@ use crate::notes::Met;
 use crate::schemas::blocks::declarations_behind;
 use crate::schemas::cycles::alias_cycles;
 use crate::schemas::declarations::Declarations;
-use crate::schemas::meanings::{Names, Notation};
+use crate::schemas::meanings::Names;
 use crate::schemas::refusals::{RefusedName, add_refusals};
 use crate::schemas::shadows::hiding_names;
 use cedar_types::base::SchemaError;
@@ -71,11 +71,11 @@ fn first_by_place(
 fn unsorted_faults(alloc: Global, text: &str) -> Result<Vec<SchemaFault>, ReadError> {
     // what is declared has to be known before names are looked up
     let nothing = Declarations::new(alloc);
-    let outside = Names::outside(alloc, &nothing, Notation::Schema);
+    let outside = Names::outside(alloc, &nothing);
     let declared = declarations_behind(&mut Cursor::noting(alloc, text)?, outside)?;
     let names = Names {
         have_to_be_known: true,
-        ..Names::outside(alloc, &declared, Notation::Schema)
+        ..Names::outside(alloc, &declared)
     };
     let mut cursor = Cursor::noting(alloc, text)?;
     let read = declarations_behind(&mut cursor, names)?;

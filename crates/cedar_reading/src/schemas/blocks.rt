@@ -1,12 +1,12 @@
 // The whole of a schema's text, and its namespaces.
 use crate::annotations::pass_annotations;
-use crate::cursor::{Cursor, MAX_GRAMMAR_STEPS};
+use crate::cursor::Cursor;
 use crate::faults::{Expected, Fault, ReadError};
 use crate::notes::Met;
-use crate::schemas::actions::{action_declaration, external_actions};
+use crate::schemas::actions::action_declaration;
 use crate::schemas::declarations::{Alias, Declarations};
-use crate::schemas::entity_types::{entity_declaration, external_types};
-use crate::schemas::meanings::{Names, Notation};
+use crate::schemas::entity_types::entity_declaration;
+use crate::schemas::meanings::Names;
 use crate::schemas::recovery::{go_on_behind, go_on_inside};
 use crate::schemas::reserved::{free_alias, free_word};
 use crate::schemas::types::cedar_type;
@@ -55,7 +55,7 @@ fn namespace(
     outside: Names<'_>,
     read: &mut Declarations,
 ) -> Result<(), ReadError> {
-    let path = match head(cursor, outside.notation) {
+    let path = match head(cursor) {
         Ok(path) => path,
         Err(error) => {
             if !go_on_inside(cursor, error, &mut read.unsure)? {
@@ -85,17 +85,17 @@ fn namespace(
 }
 
 /// Reads the name of a namespace, and the brace behind it.
-fn head<'a>(cursor: &mut Cursor<'a>, notation: Notation) -> Result<Vec<&'a str>, ReadError> {
-    let path = path(cursor, notation)?;
+fn head<'a>(cursor: &mut Cursor<'a>) -> Result<Vec<&'a str>, ReadError> {
+    let path = path(cursor)?;
     cursor.expect("{")?;
     Ok(path)
 }
 
 /// Reads words with `::` between them.
-fn path<'a>(cursor: &mut Cursor<'a>, notation: Notation) -> Result<Vec<&'a str>, ReadError> {
+fn path<'a>(cursor: &mut Cursor<'a>) -> Result<Vec<&'a str>, ReadError> {
     let mut words = Vec::new(cursor.alloc);
     for _ in 0..cursor.most_left() {
-        words.push(free_word(cursor, notation)?)?;
+        words.push(free_word(cursor)?)?;
         if !cursor.takes("::") {
             break;
         }
@@ -114,27 +114,10 @@ fn declaration(
         read.add_types(entity_declaration(cursor, names)?)?;
     } else if cursor.takes("action") {
         read.add_actions(action_declaration(cursor, names)?)?;
-    } else if names.are_as_given() && cursor.takes("external") {
-        external(cursor, names, read)?;
     } else if cursor.takes("type") {
         alias_declaration(cursor, names, read)?;
     } else {
         return Err(cursor.fault(Fault::Expected(Expected::Declaration)));
-    }
-    Ok(())
-}
-
-/// Reads an external declaration behind its first word, and adds it.
-fn external(
-    cursor: &mut Cursor<'_>,
-    names: &Names<'_>,
-    read: &mut Declarations,
-) -> Result<(), ReadError> {
-    if cursor.takes("entity") {
-        read.add_types(external_types(cursor, names)?)?;
-    } else {
-        cursor.expect("action")?;
-        read.add_actions(external_actions(cursor, names)?)?;
     }
     Ok(())
 }
@@ -146,7 +129,7 @@ fn alias_declaration(
     read: &mut Declarations,
 ) -> Result<(), ReadError> {
     let own_start = cursor.start();
-    let word = free_alias(cursor, names.notation)?;
+    let word = free_alias(cursor)?;
     let name = Name::new(cursor.alloc, word, names.namespace)?;
     let is_there = read.alias(&name).is_some();
     if is_there {
@@ -155,7 +138,7 @@ fn alias_declaration(
     cursor.expect("=")?;
     let start = cursor.start();
     cursor.notes.read_alias(Some(own_start));
-    cedar_type(cursor, names, MAX_GRAMMAR_STEPS)?;
+    cedar_type(cursor, names)?;
     cursor.notes.read_alias(None);
     cursor.expect(";")?;
     if !is_there {

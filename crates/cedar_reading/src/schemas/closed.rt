@@ -19,7 +19,7 @@ pub fn closed_types(
     let mut count = 0usize;
     for declaration in declared {
         for own in &declaration.names {
-            let descendants = family.descendants_of(declaration, &own.name)?;
+            let descendants = family.descendants_of(&own.name)?;
             count = add_count(count, descendants.len(), own.start)?;
             types.push(ValidatorEntityType {
                 name: own.name.clone()?,
@@ -41,7 +41,8 @@ fn add_count(before: usize, more: usize, start: usize) -> Result<usize, ReadErro
     }
 }
 
-fn copy_of_kind(
+/// A copy.
+pub fn copy_of_kind(
     alloc: Global,
     kind: &ValidatorEntityTypeKind,
 ) -> Result<ValidatorEntityTypeKind, AllocError> {
@@ -78,7 +79,7 @@ pub fn closed_actions(
     let mut count = 0usize;
     for declaration in declared {
         for own in &declaration.names {
-            let descendants = family.descendants_of(declaration, &own.name)?;
+            let descendants = family.descendants_of(&own.name)?;
             count = add_count(count, descendants.len(), own.start)?;
             actions.push(ValidatorActionId {
                 name: own.name.clone()?,
@@ -90,7 +91,8 @@ pub fn closed_actions(
     Ok(actions)
 }
 
-fn copy_of_action_kind(kind: &ValidatorActionKind) -> Result<ValidatorActionKind, AllocError> {
+/// A copy.
+pub fn copy_of_action_kind(kind: &ValidatorActionKind) -> Result<ValidatorActionKind, AllocError> {
     match kind {
         ValidatorActionKind::Defined(applies_to) => {
             Ok(ValidatorActionKind::Defined(copy_of_application(applies_to)?))

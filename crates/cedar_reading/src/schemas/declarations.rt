@@ -20,8 +20,6 @@ pub struct Declaration<N, K> {
     pub names: Vec<Placed<N>>,
     /// What each of them is in, as the declaration says.
     pub parents: Vec<Placed<N>>,
-    /// The descendants of each, where they are given.
-    pub given: Option<Vec<Placed<N>>>,
     pub kind: K,
 }
 

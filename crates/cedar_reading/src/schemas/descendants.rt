@@ -1,6 +1,6 @@
 // What is in what, over any number of steps.
 use crate::faults::{Fault, ReadError};
-use crate::schemas::declarations::{Declaration, Placed, add_names};
+use crate::schemas::declarations::{Declaration, Placed};
 use crate::schemas::groups::{Graph, Groups};
 use std::alloc::{AllocError, Global};
 use std::collections::{BTreeMap, BTreeSet};
@@ -43,18 +43,9 @@ impl<'a, N: Ord + Clone + Drop> Family<'a, N> {
         })
     }
 
-    /// The descendants of a name that this declaration declares: those that it gives, or what is in that name. It is among
-    /// them itself where it is in one of them.
-    pub fn descendants_of<K>(
-        &self,
-        declaration: &Declaration<N, K>,
-        own: &'a N,
-    ) -> Result<BTreeSet<N>, AllocError> {
+    /// The descendants of a name that is declared. It is among them itself where it is in one of them.
+    pub fn descendants_of(&self, own: &'a N) -> Result<BTreeSet<N>, AllocError> {
         let mut found = BTreeSet::new(self.alloc);
-        if let Some(given) = &declaration.given {
-            add_names(given.as_slice(), &mut found)?;
-            return Ok(found);
-        }
         let Some(number) = self.numbers.get(&own) else {
             return Ok(found);
         };

@@ -1,9 +1,9 @@
 // Declarations of entity types.
-use crate::cursor::{Cursor, MAX_GRAMMAR_STEPS};
+use crate::cursor::Cursor;
 use crate::faults::ReadError;
 use crate::names::placed_name;
-use crate::schemas::declarations::{Declaration, Placed};
-use crate::schemas::lists::{Listing, one_or_in_brackets};
+use crate::schemas::declarations::{Declaration, TypeDeclaration};
+use crate::schemas::lists::{Listable, Listing, Place, one_or_more, own_names};
 use crate::schemas::meanings::Names;
 use crate::schemas::reserved::free_word;
 use crate::schemas::types::{attributes, cedar_type};
@@ -18,19 +18,14 @@ use std::rc::RcStr;
 pub fn entity_declaration(
     cursor: &mut Cursor<'_>,
     names: &Names<'_>,
-) -> Result<Declaration<EntityType, ValidatorEntityTypeKind>, ReadError> {
-    let declared = own_types(cursor, names)?;
-    let given = if names.are_as_given() {
-        Some(types_above(cursor, names)?)
-    } else {
-        None
-    };
+) -> Result<TypeDeclaration, ReadError> {
+    let declared = own_names(cursor, names)?;
     let mut parents = Vec::new(cursor.alloc);
     let kind = if cursor.takes("enum") {
         ValidatorEntityTypeKind::Enum(ids(cursor)?)
     } else {
-        if given.is_none() && cursor.takes("in") {
-            parents = one_or_more_types(cursor, names)?;
+        if cursor.takes("in") {
+            parents = one_or_more(cursor, names)?;
         }
         ValidatorEntityTypeKind::Standard(standard(cursor, names)?)
     };
@@ -38,58 +33,21 @@ pub fn entity_declaration(
     Ok(Declaration {
         names: declared,
         parents,
-        given,
         kind,
     })
 }
 
-/// Reads a declaration of external entity types behind its first two words.
-pub fn external_types(
-    cursor: &mut Cursor<'_>,
-    names: &Names<'_>,
-) -> Result<Declaration<EntityType, ValidatorEntityTypeKind>, ReadError> {
-    let declared = own_types(cursor, names)?;
-    let given = types_above(cursor, names)?;
-    cursor.expect(";")?;
-    Ok(Declaration {
-        names: declared,
-        parents: Vec::new(cursor.alloc),
-        given: Some(given),
-        kind: ValidatorEntityTypeKind::External,
-    })
-}
-
-/// Reads the descendants behind `above`: none where it is missing.
-fn types_above(
-    cursor: &mut Cursor<'_>,
-    names: &Names<'_>,
-) -> Result<Vec<Placed<EntityType>>, ReadError> {
-    if cursor.takes("above") {
-        one_or_more_types(cursor, names)
-    } else {
-        Ok(Vec::new(cursor.alloc))
-    }
-}
-
-/// Reads the names that are declared.
-fn own_types(
-    cursor: &mut Cursor<'_>,
-    names: &Names<'_>,
-) -> Result<Vec<Placed<EntityType>>, ReadError> {
-    let mut declared = Vec::new(cursor.alloc);
-    for _ in 0..cursor.most_left() {
-        if !Listing::WithCommas.goes_on(cursor, declared.len())? {
-            break;
+impl Listable for EntityType {
+    fn read(cursor: &mut Cursor<'_>, names: &Names<'_>, place: Place) -> Result<Self, ReadError> {
+        match place {
+            Place::Declared => Ok(names.own_type(free_word(cursor)?)?),
+            Place::Named => named_type(cursor, names),
         }
-        let start = cursor.start();
-        let name = names.own_type(free_word(cursor, names.notation)?)?;
-        declared.push(Placed { name, start })?;
     }
-    Ok(declared)
 }
 
 /// Reads the ids of an enumerated type.
-fn ids(cursor: &mut Cursor<'_>) -> Result<EnumChoices, ReadError> {
+pub fn ids(cursor: &mut Cursor<'_>) -> Result<EnumChoices, ReadError> {
     cursor.expect("[")?;
     let mut ids = Vec::new(cursor.alloc);
     for _ in 0..cursor.most_left() {
@@ -102,23 +60,12 @@ fn ids(cursor: &mut Cursor<'_>) -> Result<EnumChoices, ReadError> {
     Ok(EnumChoices::new(cursor.alloc, ids)?)
 }
 
-/// Reads the name of an entity type, or any number of them in brackets.
-pub fn one_or_more_types(
-    cursor: &mut Cursor<'_>,
-    names: &Names<'_>,
-) -> Result<Vec<Placed<EntityType>>, ReadError> {
-    let listing = one_or_in_brackets(cursor);
-    let mut types = Vec::new(cursor.alloc);
-    for _ in 0..cursor.most_left() {
-        if !listing.goes_on(cursor, types.len())? {
-            break;
-        }
-        let start = cursor.start();
-        let name = names.entity_type(placed_name(cursor)?.name)?;
-        names.check_known(cursor, &name, start)?;
-        types.push(Placed { name, start })?;
-    }
-    Ok(types)
+/// Reads the name of an entity type.
+fn named_type(cursor: &mut Cursor<'_>, names: &Names<'_>) -> Result<EntityType, ReadError> {
+    let start = cursor.start();
+    let name = names.entity_type(placed_name(cursor)?.name)?;
+    names.check_known(cursor, &name, start)?;
+    Ok(name)
 }
 
 /// Reads attributes and tags, of which both may be missing.
@@ -128,12 +75,12 @@ fn standard(
 ) -> Result<StandardValidatorEntityType, ReadError> {
     let has_attributes = cursor.takes("=") || cursor.is_at("{");
     let attributes = if has_attributes {
-        attributes(cursor, names, MAX_GRAMMAR_STEPS)?
+        attributes(cursor, names)?
     } else {
         Attributes::with_attributes(cursor.alloc, BTreeMap::new(cursor.alloc))?
     };
     let tags = if cursor.takes("tags") {
-        Some(cedar_type(cursor, names, MAX_GRAMMAR_STEPS)?)
+        Some(cedar_type(cursor, names)?)
     } else {
         None
     };

@@ -1,19 +1,12 @@
 // What the names of a schema's text mean. None has a place: places are those of a policy's text.
-use crate::cursor::Cursor;
-use crate::faults::ReadError;
+ghost use Rattle.std.specs.Prelude.{◌≡◌, ◌+◌, IfOk};
+
+use crate::cursor::{Cursor, MAX_GRAMMAR_STEPS};
+use crate::faults::{Fault, ReadError};
 use crate::notes::Met;
 use crate::schemas::declarations::{Alias, Declarations};
 use cedar_types::base::{CedarType, EntityType, EntityUID, Name};
 use std::alloc::{AllocError, Global};
-
-/// How declarations are written.
-#[derive(Clone, Copy, PartialEq, Eq, Debug)]
-pub enum Notation {
-    /// In Cedar's own syntax.
-    Schema,
-    /// One by one, as a schema takes them.
-    AsGiven,
-}
 
 /// What names mean where they are read.
 #[derive(Clone, Copy)]
@@ -25,24 +18,30 @@ pub struct Names<'a> {
     pub declared: &'a Declarations,
     /// Whether an entity type that is named has to be declared, or be one of actions.
     pub have_to_be_known: bool,
-    pub notation: Notation,
+    /// How many steps deeper into the grammar a type may go.
+    pub left: usize,
 }
 
 impl<'a> Names<'a> {
     /// Outside of namespaces, where any name may be used.
-    pub fn outside(alloc: Global, declared: &'a Declarations, notation: Notation) -> Names<'a> {
+    pub fn outside(alloc: Global, declared: &'a Declarations) -> Names<'a> {
         Names {
             alloc,
             namespace: &[],
             declared,
             have_to_be_known: false,
-            notation,
+            left: MAX_GRAMMAR_STEPS,
         }
     }
 
-    /// Whether declarations are given one by one.
-    pub fn are_as_given(&self) -> bool {
-        self.notation == Notation::AsGiven
+    /// One step deeper into the grammar, which fails where none is left.
+    pub fn deeper(&self, cursor: &Cursor<'_>) -> Result<Names<'a>, ReadError>
+        ensures { IfOk result (λ names. names.left + 1 ≡ self.now.left) }
+    {
+        match self.left.checked_sub(1) {
+            Some(left) => Ok(Names { left, ..*self }),
+            None => Err(cursor.fault(Fault::TooDeep)),
+        }
     }
 
     /// The alias that a name means, if it means one: without a path one of the namespace, unless that declares an entity type

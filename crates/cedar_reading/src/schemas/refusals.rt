@@ -6,7 +6,7 @@ use crate::schemas::all_faults::SchemaFault;
 use crate::schemas::blocks::all_declarations;
 use crate::schemas::declarations::{Declaration, Declarations, Placed};
 use crate::schemas::declarations_of;
-use crate::schemas::meanings::{Names, Notation};
+use crate::schemas::meanings::Names;
 use cedar_types::base::{EntityType, SchemaError, ValidatorEntityTypeKind};
 use std::alloc::{AllocError, Global};
 use std::collections::BTreeSet;
@@ -42,7 +42,7 @@ fn name_of_fault(
     text: &str,
     fault: &SchemaError,
 ) -> Result<Option<RefusedName>, ReadError> {
-    let read = declarations_of(alloc, text, Notation::Schema)?;
+    let read = declarations_of(alloc, text)?;
     let types = read.entity_types.as_slice();
     let found = match fault {
         SchemaError::DuplicateEntityType => show(alloc, find_repeated(alloc, types)?)?,
@@ -176,7 +176,7 @@ fn unfit(
 ) -> Result<Option<RefusedName>, ReadError> {
     let names = Names {
         have_to_be_known: true,
-        ..Names::outside(alloc, declared, Notation::Schema)
+        ..Names::outside(alloc, declared)
     };
     let start = match all_declarations(text, names) {
         Ok(_) => return Ok(None),

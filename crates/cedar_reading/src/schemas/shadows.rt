@@ -2,7 +2,6 @@
 use crate::faults::ReadError;
 use crate::schemas::declarations::Declarations;
 use crate::schemas::declarations_of;
-use crate::schemas::meanings::Notation;
 use crate::schemas::refusals::{RefusedName, refused};
 use cedar_types::base::Name;
 use std::alloc::{AllocError, Global};
@@ -12,7 +11,7 @@ use std::collections::BTreeSet;
 /// an alias with the last part of another, or an action with the id of another. Cedar refuses a schema with such a name.
 /// `None` where there is none, and where the text cannot be read.
 pub fn shadowing_name(alloc: Global, text: &str) -> Result<Option<RefusedName>, AllocError> {
-    let read = match declarations_of(alloc, text, Notation::Schema) {
+    let read = match declarations_of(alloc, text) {
         Ok(read) => read,
         Err(ReadError::Memory(error)) => return Err(error),
         Err(ReadError::At(_, _)) => return Ok(None),

@@ -7,7 +7,6 @@ use crate::names::{is_extension, placed_name};
 use crate::notes::Met;
 use crate::schemas::declarations::Alias;
 use crate::schemas::meanings::Names;
-use crate::shown_types::read_shown_type;
 use cedar_types::base::{AttributeType, Attributes, CedarType, Name, OpenTag};
 use std::alloc::{AllocError, Global};
 use std::collections::BTreeMap;
@@ -15,56 +14,35 @@ use std::rc::RcStr;
 
 /// Reads a type.
 #[cycle(types)]
-pub fn cedar_type(
-    cursor: &mut Cursor<'_>,
-    names: &Names<'_>,
-    left: usize,
-) -> Result<CedarType, ReadError> {
-    let Some(left) = left.checked_sub(1) else {
-        return Err(cursor.fault(Fault::TooDeep));
-    };
-    if names.are_as_given() {
-        return read_shown_type(cursor, left);
-    }
+pub fn cedar_type(cursor: &mut Cursor<'_>, names: &Names<'_>) -> Result<CedarType, ReadError> {
+    let inner = names.deeper(cursor)?;
     if cursor.is_at("{") {
-        return record(cursor, names, left);
+        return record(cursor, &inner);
     }
     if cursor.is_at("[") {
         return Err(cursor.fault(Fault::Expected(Expected::Type)));
     }
     if !cursor.takes("Set") {
-        return named_type(cursor, names, left);
+        return named_type(cursor, &inner);
     }
     cursor.expect("<")?;
-    let element = cedar_type(cursor, names, left)?;
+    let element = cedar_type(cursor, &inner)?;
     cursor.expect(">")?;
     Ok(CedarType::set(cursor.alloc, element)?)
 }
 
 /// Reads the type of a record.
 #[cycle(types)]
-pub fn record(
-    cursor: &mut Cursor<'_>,
-    names: &Names<'_>,
-    left: usize,
-) -> Result<CedarType, ReadError> {
-    let Some(left) = left.checked_sub(1) else {
-        return Err(cursor.fault(Fault::TooDeep));
-    };
-    let attributes = attributes(cursor, names, left)?;
+pub fn record(cursor: &mut Cursor<'_>, names: &Names<'_>) -> Result<CedarType, ReadError> {
+    let inner = names.deeper(cursor)?;
+    let attributes = attributes(cursor, &inner)?;
     Ok(CedarType::record_with_attributes(attributes, OpenTag::ClosedAttributes))
 }
 
 /// Reads attributes in braces, with commas between them, and perhaps one behind the last.
 #[cycle(types)]
-pub fn attributes(
-    cursor: &mut Cursor<'_>,
-    names: &Names<'_>,
-    left: usize,
-) -> Result<Attributes, ReadError> {
-    let Some(left) = left.checked_sub(1) else {
-        return Err(cursor.fault(Fault::TooDeep));
-    };
+pub fn attributes(cursor: &mut Cursor<'_>, names: &Names<'_>) -> Result<Attributes, ReadError> {
+    let inner = names.deeper(cursor)?;
     cursor.expect("{")?;
     let mut attrs = BTreeMap::new(cursor.alloc);
     for _ in 0..cursor.most_left() {
@@ -76,7 +54,7 @@ pub fn attributes(
         let key = key(cursor)?;
         let is_required = !cursor.takes("?");
         cursor.expect(":")?;
-        let attr_type = cedar_type(cursor, names, left)?;
+        let attr_type = cedar_type(cursor, &inner)?;
         let attribute = AttributeType::new(attr_type, is_required);
         if attrs.insert(key, attribute)?.is_some() {
             cursor.notes.meet(start, Met::Fault(Fault::SameKey))?;
@@ -101,20 +79,14 @@ fn behind_attribute(cursor: &Cursor<'_>) -> Expected {
 
 /// Reads the name of a type.
 #[cycle(types)]
-fn named_type(
-    cursor: &mut Cursor<'_>,
-    names: &Names<'_>,
-    left: usize,
-) -> Result<CedarType, ReadError> {
-    let Some(left) = left.checked_sub(1) else {
-        return Err(cursor.fault(Fault::TooDeep));
-    };
+fn named_type(cursor: &mut Cursor<'_>, names: &Names<'_>) -> Result<CedarType, ReadError> {
+    let inner = names.deeper(cursor)?;
     let start = cursor.start();
     let name = placed_name(cursor)?.name;
     match names.alias(&name)? {
         Some(alias) => {
             cursor.notes.use_alias(start, alias.own_start)?;
-            expand_alias(cursor, names, alias, left)
+            expand_alias(cursor, &inner, alias)
         }
         None => type_of_name(cursor, names, name, start),
     }
@@ -126,26 +98,23 @@ fn expand_alias(
     cursor: &mut Cursor<'_>,
     names: &Names<'_>,
     alias: &Alias,
-    left: usize,
 ) -> Result<CedarType, ReadError> {
-    let Some(left) = left.checked_sub(1) else {
-        return Err(cursor.fault(Fault::TooDeep));
-    };
+    let inner = names.deeper(cursor)?;
     let namespace = words(cursor.alloc, alias.name.path.as_slice())?;
     let names = Names {
         namespace: namespace.as_slice(),
-        ..*names
+        ..inner
     };
     let mut declaration = cursor.at(alias.start);
     if cursor.notes.are_taken() {
         if declaration.is_at("{") || cursor.has_repeated_much() {
             return Ok(unsure_type(cursor.alloc)?);
         }
-        let read = cedar_type(&mut declaration, &names, left);
+        let read = cedar_type(&mut declaration, &names);
         let _ = cursor.count(&declaration);
         return or_unsure(cursor.alloc, read);
     }
-    let read = cedar_type(&mut declaration, &names, left)?;
+    let read = cedar_type(&mut declaration, &names)?;
     cursor.count(&declaration)?;
     Ok(read)
 }

@@ -20,103 +20,94 @@ pub struct Walk<'a> {
     pub environments: usize,
 }
 
-/// Each step of what `ValidatorSchema::linked_request_envs` answers.
+/// What is called.
 #[derive(Clone, Copy)]
-pub struct LinkedWalk<'a>(pub Walk<'a>);
+pub enum OfWalk {
+    /// `ValidatorSchema::linked_request_envs` alone.
+    MakesLinked,
+    /// Each step of what it answers.
+    WalksLinked,
+    /// `Typechecker::typecheck_by_request_env` alone.
+    MakesChecks,
+    /// Each step of what it answers.
+    WalksChecks,
+    /// Each step of `RequestEnvChecks::next_env`.
+    WalksNext,
+    /// `RequestEnvChecks::check` in the environment of undeclared actions, of checks that are made for it.
+    ChecksOne,
+}
 
-/// `ValidatorSchema::linked_request_envs` alone.
+/// This call on this template, which it leaves as it is.
 #[derive(Clone, Copy)]
-pub struct LinkedMaking<'a>(pub Walk<'a>);
+pub struct WalkCall<'a> {
+    pub walk: Walk<'a>,
+    pub called: OfWalk,
+}
 
-/// `Typechecker::typecheck_by_request_env` alone.
+/// What is asked where `ValidatorSchema::linked_request_envs` is called alone.
 #[derive(Clone, Copy)]
-pub struct ChecksMaking<'a>(pub Walk<'a>);
+struct LinkedMaking<'a>(Walk<'a>);
 
-/// Each step of what it answers.
+/// The same of `Typechecker::typecheck_by_request_env`.
 #[derive(Clone, Copy)]
-pub struct ChecksWalk<'a>(pub Walk<'a>);
+struct ChecksMaking<'a>(Walk<'a>);
 
-/// Each step of `RequestEnvChecks::next_env`.
+/// The same of `RequestEnvChecks::check`.
 #[derive(Clone, Copy)]
-pub struct NextWalk<'a>(pub Walk<'a>);
+struct OneCheck<'a>(Walk<'a>);
 
-/// `RequestEnvChecks::check` in the environment of undeclared actions, of checks that are made for it.
-#[derive(Clone, Copy)]
-pub struct OneCheck<'a>(pub Walk<'a>);
-
-impl Call for LinkedWalk<'_> {
+impl Call for WalkCall<'_> {
     fn attempt(&self, alloc: Global, number: u16) -> Result<Attempt, AllocError> {
-        let (schema, policy) = (self.0.schema, self.0.policy);
+        let (walk, policy) = (self.walk, self.walk.policy);
         let before = picture(alloc, policy)?;
-        let walks = (
-            schema.linked_request_envs(alloc, MODE, policy)?,
-            schema.linked_request_envs(alloc, MODE, policy)?,
-            schema.linked_request_envs(alloc, MODE, policy)?,
-        );
-        let attempt = attempt_walk(alloc, walks, self.0.environments, number)?;
+        let attempt = match self.called {
+            OfWalk::MakesLinked => attempt_question(alloc, &LinkedMaking(walk), number)?,
+            OfWalk::WalksLinked => walk_linked(alloc, walk, number)?,
+            OfWalk::MakesChecks => attempt_question(alloc, &ChecksMaking(walk), number)?,
+            OfWalk::WalksChecks => walk_checks(alloc, walk, number)?,
+            OfWalk::WalksNext => walk_next(alloc, walk, number)?,
+            OfWalk::ChecksOne => attempt_question(alloc, &OneCheck(walk), number)?,
+        };
         Ok(attempt.only_if(picture(alloc, policy)? == before, ANOTHER_POLICY))
     }
 }
 
-impl Call for ChecksWalk<'_> {
-    fn attempt(&self, alloc: Global, number: u16) -> Result<Attempt, AllocError> {
-        let (checker, policy) = (self.0.checker, self.0.policy);
-        let before = picture(alloc, policy)?;
-        let walks = (
-            checker.typecheck_by_request_env(alloc, policy)?,
-            checker.typecheck_by_request_env(alloc, policy)?,
-            checker.typecheck_by_request_env(alloc, policy)?,
-        );
-        let attempt = attempt_walk(alloc, walks, self.0.environments, number)?;
-        Ok(attempt.only_if(picture(alloc, policy)? == before, ANOTHER_POLICY))
-    }
+fn walk_linked(alloc: Global, walk: Walk<'_>, number: u16) -> Result<Attempt, AllocError> {
+    let (schema, policy) = (walk.schema, walk.policy);
+    let walks = (
+        schema.linked_request_envs(alloc, MODE, policy)?,
+        schema.linked_request_envs(alloc, MODE, policy)?,
+        schema.linked_request_envs(alloc, MODE, policy)?,
+    );
+    attempt_walk(alloc, walks, walk.environments, number)
 }
 
-impl Call for NextWalk<'_> {
-    fn attempt(&self, alloc: Global, number: u16) -> Result<Attempt, AllocError> {
-        let (checker, policy) = (self.0.checker, self.0.policy);
-        let before = picture(alloc, policy)?;
-        let walks = (
-            NextEnvs(checker.typecheck_by_request_env(alloc, policy)?),
-            NextEnvs(checker.typecheck_by_request_env(alloc, policy)?),
-            NextEnvs(checker.typecheck_by_request_env(alloc, policy)?),
-        );
-        let attempt = attempt_walk(alloc, walks, self.0.environments, number)?;
-        Ok(attempt.only_if(picture(alloc, policy)? == before, ANOTHER_POLICY))
-    }
+fn walk_checks(alloc: Global, walk: Walk<'_>, number: u16) -> Result<Attempt, AllocError> {
+    let (checker, policy) = (walk.checker, walk.policy);
+    let walks = (
+        checker.typecheck_by_request_env(alloc, policy)?,
+        checker.typecheck_by_request_env(alloc, policy)?,
+        checker.typecheck_by_request_env(alloc, policy)?,
+    );
+    attempt_walk(alloc, walks, walk.environments, number)
 }
 
-impl Question for OneCheck<'_> {
-    type Answer = PolicyCheck;
-
-    fn ask(&self, alloc: Global) -> Result<PolicyCheck, AllocError> {
-        let checks = self
-            .0
-            .checker
-            .typecheck_by_request_env(alloc, self.0.policy)?;
-        checks.check(&RequestEnv::UndeclaredAction)
-    }
-
-    fn show(&self, alloc: Global, answer: PolicyCheck) -> Result<String, AllocError> {
-        picture(alloc, &answer)
-    }
-}
-
-impl Call for OneCheck<'_> {
-    fn attempt(&self, alloc: Global, number: u16) -> Result<Attempt, AllocError> {
-        let before = picture(alloc, self.0.policy)?;
-        let attempt = attempt_question(alloc, self, number)?;
-        Ok(attempt.only_if(picture(alloc, self.0.policy)? == before, ANOTHER_POLICY))
-    }
+fn walk_next(alloc: Global, walk: Walk<'_>, number: u16) -> Result<Attempt, AllocError> {
+    let (checker, policy) = (walk.checker, walk.policy);
+    let walks = (
+        NextEnvs(checker.typecheck_by_request_env(alloc, policy)?),
+        NextEnvs(checker.typecheck_by_request_env(alloc, policy)?),
+        NextEnvs(checker.typecheck_by_request_env(alloc, policy)?),
+    );
+    attempt_walk(alloc, walks, walk.environments, number)
 }
 
 impl<'a> Question for LinkedMaking<'a> {
     type Answer = LinkedRequestEnvs<'a>;
 
     fn ask(&self, alloc: Global) -> Result<LinkedRequestEnvs<'a>, AllocError> {
-        self.0
-            .schema
-            .linked_request_envs(alloc, MODE, self.0.policy)
+        let LinkedMaking(walk) = self;
+        walk.schema.linked_request_envs(alloc, MODE, walk.policy)
     }
 
     fn show(&self, alloc: Global, answer: LinkedRequestEnvs<'a>) -> Result<String, AllocError> {
@@ -124,21 +115,12 @@ impl<'a> Question for LinkedMaking<'a> {
     }
 }
 
-impl Call for LinkedMaking<'_> {
-    fn attempt(&self, alloc: Global, number: u16) -> Result<Attempt, AllocError> {
-        let before = picture(alloc, self.0.policy)?;
-        let attempt = attempt_question(alloc, self, number)?;
-        Ok(attempt.only_if(picture(alloc, self.0.policy)? == before, ANOTHER_POLICY))
-    }
-}
-
 impl<'a> Question for ChecksMaking<'a> {
     type Answer = RequestEnvChecks<'a>;
 
     fn ask(&self, alloc: Global) -> Result<RequestEnvChecks<'a>, AllocError> {
-        self.0
-            .checker
-            .typecheck_by_request_env(alloc, self.0.policy)
+        let ChecksMaking(walk) = self;
+        walk.checker.typecheck_by_request_env(alloc, walk.policy)
     }
 
     fn show(&self, alloc: Global, answer: RequestEnvChecks<'a>) -> Result<String, AllocError> {
@@ -146,11 +128,17 @@ impl<'a> Question for ChecksMaking<'a> {
     }
 }
 
-impl Call for ChecksMaking<'_> {
-    fn attempt(&self, alloc: Global, number: u16) -> Result<Attempt, AllocError> {
-        let before = picture(alloc, self.0.policy)?;
-        let attempt = attempt_question(alloc, self, number)?;
-        Ok(attempt.only_if(picture(alloc, self.0.policy)? == before, ANOTHER_POLICY))
+impl Question for OneCheck<'_> {
+    type Answer = PolicyCheck;
+
+    fn ask(&self, alloc: Global) -> Result<PolicyCheck, AllocError> {
+        let OneCheck(walk) = self;
+        let checks = walk.checker.typecheck_by_request_env(alloc, walk.policy)?;
+        checks.check(&RequestEnv::UndeclaredAction)
+    }
+
+    fn show(&self, alloc: Global, answer: PolicyCheck) -> Result<String, AllocError> {
+        picture(alloc, &answer)
     }
 }
 

@@ -3,7 +3,7 @@ use crate::calls::lines::{Probe, Trial};
 use crate::outcomes::{Outcome, finish};
 use crate::refusals::refuse;
 use crate::samples::texts::{entities, entity_type, uid};
-use cedar_reading::{Notation, schema_declarations};
+use cedar_reading::declarations_as_given;
 use cedar_types::base::{EntityKind, EnumChoices, SchemaError, ValidatorSchema};
 use std::alloc::{AllocError, Global};
 use std::rc::RcStr;
@@ -14,7 +14,7 @@ fn make_schema(alloc: Global, trial: Trial<'_>) -> Result<Outcome, AllocError> {
         "DECLARATIONS" => DECLARATIONS,
         text => text,
     };
-    let Ok(declared) = schema_declarations(alloc, text, Notation::AsGiven) else {
+    let Ok(declared) = declarations_as_given(alloc, text) else {
         return Err(AllocError);
     };
     refuse(alloc, trial.number);

@@ -108,11 +108,11 @@ pub const TYPES: [(TypeMaker, &str); 9] = [
     (TypeMaker::InOrder, "types_in_order | Long"),
 ];
 
-const STRICT: ValidationMode = ValidationMode::Strict;
+pub const STRICT: ValidationMode = ValidationMode::Strict;
 
-const PERMISSIVE: ValidationMode = ValidationMode::Permissive;
+pub const PERMISSIVE: ValidationMode = ValidationMode::Permissive;
 
-const PARTIAL: ValidationMode = ValidationMode::Partial;
+pub const PARTIAL: ValidationMode = ValidationMode::Partial;
 
 /// Questions about two types.
 pub const BOUNDS: [(OfTypes, &str); 6] = [

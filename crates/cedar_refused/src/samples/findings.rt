@@ -5,6 +5,7 @@ use cedar_types::base::{
 };
 use std::alloc::{AllocError, Global};
 use std::collections::HashSet;
+use std::hash::Hash;
 
 /// The place of this number.
 fn place(number: usize) -> Option<Loc> {
@@ -13,18 +14,30 @@ fn place(number: usize) -> Option<Loc> {
     Some(Loc { start, end })
 }
 
-fn other_policy(alloc: Global) -> Result<PolicyID, AllocError> {
-    PolicyID::from_string(alloc, "other")
+/// So many findings of another policy, each made of a place of its own.
+fn findings<T: Eq + Hash + Drop, F: Fn(Option<Loc>, PolicyID) -> T>(
+    alloc: Global,
+    count: usize,
+    finding: F,
+) -> Result<HashSet<T>, AllocError>
+    requires { F.IsAlwaysCallable finding }
+{
+    let mut findings = HashSet::new(alloc);
+    for number in 0..count {
+        let policy = PolicyID::from_string(alloc, "other")?;
+        findings.insert(finding(place(number), policy))?;
+    }
+    Ok(findings)
 }
 
 /// So many errors of another policy.
 pub fn errors(alloc: Global, count: usize) -> Result<HashSet<ValidationError>, AllocError> {
-    let mut errors = HashSet::new(alloc);
-    for number in 0..count {
-        let policy = other_policy(alloc)?;
-        errors.insert(ValidationError::empty_set_forbidden(place(number), policy))?;
-    }
-    Ok(errors)
+    findings(alloc, count, ValidationError::empty_set_forbidden)
+}
+
+/// So many warnings of another policy.
+pub fn warnings(alloc: Global, count: usize) -> Result<HashSet<ValidationWarning>, AllocError> {
+    findings(alloc, count, ValidationWarning::impossible_policy)
 }
 
 /// The first of many findings: a string where a Long is expected.
@@ -37,14 +50,4 @@ pub fn first_finding(alloc: Global) -> Result<ValidationError, AllocError> {
         end: start.saturating_add(3),
     });
     Ok(ValidationError::expected_one_of_types(first, policy, expected, actual))
-}
-
-/// So many warnings of another policy.
-pub fn warnings(alloc: Global, count: usize) -> Result<HashSet<ValidationWarning>, AllocError> {
-    let mut warnings = HashSet::new(alloc);
-    for number in 0..count {
-        let policy = other_policy(alloc)?;
-        warnings.insert(ValidationWarning::impossible_policy(place(number), policy))?;
-    }
-    Ok(warnings)
 }

@@ -2,7 +2,7 @@
 -- told, n meets all demands, also those that it hides.
 use Rattle.std.proofs.Common.{◌≡◌, ℕ, ◌+◌, ◌≤◌, ◌<◌, max, Bool, true, false, nat_lt, nat_le, List, [], ◌∷◌, ◌++◌, map, Option, Some, None}
 use Rattle.std.proofs.Common.{suc, is_some, ◌⊎◌, inl, inr, if◌then◌else◌, refl, sym, ap, subst, ◌∙◌, arith}
-use Rattle.std.proofs.lemmas.Bool.{ltb-true, ltb-false, leb-true, leb-false}
+use Rattle.std.proofs.lemmas.Bool.{ltb-true, ltb-false, leb-true, leb-false, lt-ltb}
 use Rattle.cedar_types.specs.Errors.{Fault, Finding, maximum_level_exceeded, internal_invariant_violation, literal_dereference_target}
 use Rattle.cedar_types.specs.Names.{Text, text_eq}
 use Rattle.cedar_types.specs.Expressions.Tree.{Fields, no_fields, field}
@@ -56,29 +56,15 @@ both_within h c n i j = omega arith
 not_less : (n h : ℕ) → n < h → h ≤ n → ⊥
 not_less n h i j = omega arith
 
-first_above : (h c n : ℕ) → n < h → max h c ≤ n → ⊥
-first_above h c n i j = omega arith
-
-second_above : (h c n : ℕ) → n < c → max h c ≤ n → ⊥
-second_above h c n i j = omega arith
-
 above_first : (h c n : ℕ) → n < max h c → h ≤ n → c ≤ n → ⊥
 above_first h c n i j k = omega arith
 
 -- hidden below both or below one of two
 hidden_more : (h c n : ℕ) → nat_lt n h ≡ true → nat_lt n (max h c) ≡ true
-hidden_more h c n e = go (nat_lt n (max h c)) refl
-  where
-    go : (b : Bool) → nat_lt n (max h c) ≡ b → b ≡ true
-    go true q = refl
-    go false q = absurd (first_above h c n (ltb-true n h e) (ltb-false n (max h c) q))
+hidden_more h c n e = let above = ltb-true n h e in lt-ltb n (max h c) (omega arith)
 
 hidden_by_cost : (h c n : ℕ) → nat_le c n ≡ false → nat_lt n (max h c) ≡ true
-hidden_by_cost h c n e = go (nat_lt n (max h c)) refl
-  where
-    go : (b : Bool) → nat_lt n (max h c) ≡ b → b ≡ true
-    go true q = refl
-    go false q = absurd (second_above h c n (leb-false c n e) (ltb-false n (max h c) q))
+hidden_by_cost h c n e = let above = leb-false c n e in lt-ltb n (max h c) (omega arith)
 
 shown_by_both : (h c n : ℕ) → nat_lt n h ≡ false → nat_le c n ≡ true → nat_lt n (max h c) ≡ false
 shown_by_both h c n e f = go (nat_lt n (max h c)) refl

@@ -212,16 +212,4 @@ module _ (s : LevelSetting) where
       λ e h. in_right e (found_at s m (faults s (ext_has_attr m b x xs))) _
       (chain_targets (base_of (annotation b)) (cost_of s.schema (annotation b) x xs)
       (keys_of s.schema (annotation b) x xs) b z i e h)
-  targets_in (lit m x) z i = absurd i
-  targets_in (var m x) z i = absurd i
-  targets_in (slot m x) z i = absurd i
-  targets_in (unknown m x) z i = absurd i
-  targets_in (if_then_else m b c d) z i = absurd i
-  targets_in (and m b c) z i = absurd i
-  targets_in (or m b c) z i = absurd i
-  targets_in (unary m o b) z i = absurd i
-  targets_in (call m f ts) z i = absurd i
-  targets_in (like m b p) z i = absurd i
-  targets_in (is_type m b p) z i = absurd i
-  targets_in (set_of m ts) z i = absurd i
-  targets_in (record_of m fs) z i = absurd i
+  targets_in x z i = absurd i

@@ -3,8 +3,8 @@ use Rattle.std.proofs.Common.{◌≡◌, Bool, true, false, List, [], ◌∷◌,
 use Rattle.cedar_types.specs.Errors.{Finding}
 use Rattle.cedar_types.specs.Names.{Text, text_eq}
 use Rattle.cedar_types.specs.Expressions.Parts.{field_values}
-use Rattle.cedar_types.specs.Expressions.Tree.{lit, var, slot, unknown, if_then_else, and, or, unary, binary, call, get_attr, has_attr}
-use Rattle.cedar_types.specs.Expressions.Tree.{ext_has_attr, like, is_type, set_of, record_of, Fields, no_fields, field}
+use Rattle.cedar_types.specs.Expressions.Tree.{if_then_else, binary, get_attr}
+use Rattle.cedar_types.specs.Expressions.Tree.{record_of, Fields, no_fields, field}
 use Rattle.cedar_typing.specs.Evaluation.Conformance.{IsOneOf}
 use Rattle.cedar_typing.specs.TypedExpr.{TypedTree, Mark, annotation}
 use Rattle.cedar_typing.proofs.Basics.{some_is}
@@ -63,20 +63,7 @@ module _ (s : LevelSetting) where
   below_in (record_of m fs) (p ∷ path) y i =
       λ e h. in_right e (leaf_errors s (record_of m fs) m (p ∷ path)) _
       (record_parts fs p path (field_at p fs) y i e h)
-  below_in (lit m x) path y i = absurd i
-  below_in (var m x) path y i = absurd i
-  below_in (slot m x) path y i = absurd i
-  below_in (unknown m x) path y i = absurd i
-  below_in (and m b c) path y i = absurd i
-  below_in (or m b c) path y i = absurd i
-  below_in (unary m o b) path y i = absurd i
-  below_in (call m f ts) path y i = absurd i
-  below_in (get_attr m b x) path y i = absurd i
-  below_in (has_attr m b x) path y i = absurd i
-  below_in (ext_has_attr m b x xs) path y i = absurd i
-  below_in (like m b p) path y i = absurd i
-  below_in (is_type m b p) path y i = absurd i
-  below_in (set_of m ts) path y i = absurd i
+  below_in x path y i = absurd i
 
   tag_next : (c : Bool) (x : TypedTree) (path : List Text) (z : Target) (es : List Finding)
       → IsOneOf z (if c then along x path ∷ [] else [])
@@ -135,16 +122,4 @@ module _ (s : LevelSetting) where
   next_in (record_of m fs) (p ∷ path) z i =
       λ e h. in_right e (leaf_errors s (record_of m fs) m (p ∷ path)) _
       (record_next fs p path (field_at p fs) refl z i e h)
-  next_in (lit m x) path z i = absurd i
-  next_in (var m x) path z i = absurd i
-  next_in (slot m x) path z i = absurd i
-  next_in (unknown m x) path z i = absurd i
-  next_in (and m b c) path z i = absurd i
-  next_in (or m b c) path z i = absurd i
-  next_in (unary m o b) path z i = absurd i
-  next_in (call m f ts) path z i = absurd i
-  next_in (has_attr m b x) path z i = absurd i
-  next_in (ext_has_attr m b x xs) path z i = absurd i
-  next_in (like m b p) path z i = absurd i
-  next_in (is_type m b p) path z i = absurd i
-  next_in (set_of m ts) path z i = absurd i
+  next_in x path z i = absurd i

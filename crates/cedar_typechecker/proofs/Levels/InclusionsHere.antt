@@ -38,19 +38,7 @@ module _ (s : LevelSetting) where
   node_in (ext_has_attr m b x xs) f i =
       in_left (level_finding s m f) (found_at s m (faults s (ext_has_attr m b x xs))) _
       (node_here (ext_has_attr m b x xs) f i)
-  node_in (lit m x) f i = absurd i
-  node_in (var m x) f i = absurd i
-  node_in (slot m x) f i = absurd i
-  node_in (unknown m x) f i = absurd i
-  node_in (if_then_else m b c d) f i = absurd i
-  node_in (and m b c) f i = absurd i
-  node_in (or m b c) f i = absurd i
-  node_in (unary m o b) f i = absurd i
-  node_in (call m g ts) f i = absurd i
-  node_in (like m b p) f i = absurd i
-  node_in (is_type m b p) f i = absurd i
-  node_in (set_of m ts) f i = absurd i
-  node_in (record_of m fs) f i = absurd i
+  node_in x f i = absurd i
 
   pub leaf_in : (x : TypedTree) (path : List Text) (f : Fault)
       → IsOneOf f (faults_at_end (leaf_of s.action x path))

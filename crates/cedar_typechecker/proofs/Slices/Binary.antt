@@ -163,37 +163,23 @@ module _ (q : Request) (store part : Store) (s : LevelSetting) (P : ℕ → Uid 
                 (got_tag w.0 path p o t.ids);
           }
 
+    -- an operator that accesses the first operand, and is no target
+    access_same : (op : BinaryOp)
+        → ((t : Ty) (y z : TypedTree) → Silent s (node op t y z)
+        → Spends s.maximum (Targeted s y []) × Silent s z)
+        → ((t : Ty) (y z : TypedTree) (path : List Text) (k : ℕ)
+        → Targeted s (node op t y z) path k → ⊥)
+        → IsWholeSame op
+    access_same op f g =
+        two_same s P env (form op) (here op o p) (there op o' p') l l' J J'
+        (record {
+          checked = λ t u v c c' y z d d' h. accessed u v c c' y z d d' op (f t y z h);
+          target = λ t u v c c' y z d d' path k le h. absurd (g t y z path k h);
+        })
+
     pub binary_same : (op : BinaryOp) → IsWholeSame op
-    binary_same BinaryOp.Eq =
-        plain_same BinaryOp.Eq refl (λ t y z h. h) (λ t y z path k h. h)
-    binary_same BinaryOp.Less =
-        plain_same BinaryOp.Less refl (λ t y z h. h) (λ t y z path k h. h)
-    binary_same BinaryOp.LessEq =
-        plain_same BinaryOp.LessEq refl (λ t y z h. h) (λ t y z path k h. h)
-    binary_same BinaryOp.Add =
-        plain_same BinaryOp.Add refl (λ t y z h. h) (λ t y z path k h. h)
-    binary_same BinaryOp.Sub =
-        plain_same BinaryOp.Sub refl (λ t y z h. h) (λ t y z path k h. h)
-    binary_same BinaryOp.Mul =
-        plain_same BinaryOp.Mul refl (λ t y z h. h) (λ t y z path k h. h)
-    binary_same BinaryOp.Contains =
-        plain_same BinaryOp.Contains refl (λ t y z h. h) (λ t y z path k h. h)
-    binary_same BinaryOp.ContainsAll =
-        plain_same BinaryOp.ContainsAll refl (λ t y z h. h) (λ t y z path k h. h)
-    binary_same BinaryOp.ContainsAny =
-        plain_same BinaryOp.ContainsAny refl (λ t y z h. h) (λ t y z path k h. h)
-    binary_same BinaryOp.In =
-        two_same s P env _ _ _ l l' J J'
-        (record {
-          checked = λ t u v c c' y z d d' h. accessed u v c c' y z d d' BinaryOp.In h;
-          target = λ t u v c c' y z d d' path k le h. absurd h;
-        })
-    binary_same BinaryOp.HasTag =
-        two_same s P env _ _ _ l l' J J'
-        (record {
-          checked = λ t u v c c' y z d d' h. accessed u v c c' y z d d' BinaryOp.HasTag h;
-          target = λ t u v c c' y z d d' path k le h. absurd h;
-        })
+    binary_same BinaryOp.In = access_same BinaryOp.In (λ t y z h. h) (λ t y z path k h. h)
+    binary_same BinaryOp.HasTag = access_same BinaryOp.HasTag (λ t y z h. h) (λ t y z path k h. h)
     binary_same BinaryOp.GetTag =
         two_same s P env _ _ _ l l' J J'
         (record {
@@ -201,3 +187,4 @@ module _ (q : Request) (store part : Store) (s : LevelSetting) (P : ℕ → Uid 
           target = λ t u v c c' y z d d' path k le h.
               tag_targeted u v c c' y z d d' path k le h;
         })
+    binary_same op = plain_same op refl (λ t y z h. h) (λ t y z path k h. h)

@@ -1,5 +1,6 @@
 -- The examples of slices compute.
 pub mod Levels
+pub mod Modes
 pub mod World
 pub mod Premises
 pub mod NeededLevels

@@ -163,16 +163,14 @@ same_in m total s world n part formed i =
     i.slice
 
 pub slice_soundness : SliceSoundness
-slice_soundness s world n part i =
-    evaluates_alike s world n part (same_in Strict refl s world n part refl i)
+slice_soundness s world n part i = evaluates_alike s world n part (same_in Strict refl s world n part refl i)
 
 pub slice_soundness_in_permissive : SliceSoundnessInPermissive
 slice_soundness_in_permissive s world n part formed i =
     evaluates_alike s world n part (same_in Permissive refl s world n part formed i)
 
 pub targets_are_reached : TargetsAreReached
-targets_are_reached s world n part i =
-    targets_reach s world n part (same_in Strict refl s world n part refl i)
+targets_are_reached s world n part i = targets_reach s world n part (same_in Strict refl s world n part refl i)
 
 pub targets_are_reached_in_permissive : TargetsAreReachedInPermissive
 targets_are_reached_in_permissive s world n part formed i =

@@ -3,7 +3,7 @@ use Rattle.std.proofs.Common.{ℕ, suc, ◌+◌, ◌≤◌, Bool, true, false, a
 use Rattle.std.proofs.Math.Nat.{le-max_left, le-max_right}
 use Rattle.std.specs.Prelude.{max}
 use Rattle.cedar_types.specs.Templates.{condition_of}
-use Rattle.cedar_types.specs.Expressions.Tree.{lit, var, slot, unknown, if_then_else, and, or, unary, binary, call, get_attr, has_attr}
+use Rattle.cedar_types.specs.Expressions.Tree.{lit, if_then_else, and, or, unary, binary, call, get_attr, has_attr}
 use Rattle.cedar_types.specs.Expressions.Tree.{ext_has_attr, like, is_type, set_of, record_of, Trees, no_trees, tree, Fields, no_fields}
 use Rattle.cedar_types.specs.Expressions.Tree.{field}
 use Rattle.cedar_types.specs.Expressions.View.{Written}
@@ -21,22 +21,7 @@ use Rattle.cedar_typechecker.specs.Slices.Nesting.{nesting, nesting_of_all, nest
 -- the whole is a part
 nested : (e : Source) → 1 ≤ nesting e
 nested (lit m x) = omega arith
-nested (var m x) = omega arith
-nested (slot m x) = omega arith
-nested (unknown m x) = omega arith
-nested (if_then_else m a b c) = omega arith
-nested (and m a b) = omega arith
-nested (or m a b) = omega arith
-nested (unary m o a) = omega arith
-nested (binary m o a b) = omega arith
-nested (call m f ts) = omega arith
-nested (get_attr m a x) = omega arith
-nested (has_attr m a x) = omega arith
-nested (ext_has_attr m a x xs) = omega arith
-nested (like m a p) = omega arith
-nested (is_type m a p) = omega arith
-nested (set_of m ts) = omega arith
-nested (record_of m fs) = omega arith
+nested e = omega arith
 
 -- of one part, and of one of two
 deeper : (k d n : ℕ) → k + 1 ≤ d + 1 + n → k + 1 ≤ d + suc n

@@ -7,15 +7,18 @@ use Rattle.cedar_types.specs.declared.base.types.ValidationMode.TheVariants.{Str
 use Rattle.cedar_types.specs.Environments.Linking.{checked_envs}
 use Rattle.cedar_types.specs.Environments.RequestEnvs.{Env, is_partial}
 use Rattle.cedar_types.specs.Errors.{Fault, Finding, Warning}
-use Rattle.cedar_types.specs.Expressions.Tree.{lit, var, slot, unknown, if_then_else, and, or, unary, binary, call, get_attr, has_attr}
-use Rattle.cedar_types.specs.Expressions.Tree.{ext_has_attr, like, is_type, set_of, record_of}
+use Rattle.cedar_types.specs.Expressions.Tree.{binary, get_attr, has_attr}
+use Rattle.cedar_types.specs.Expressions.Tree.{ext_has_attr}
+use Rattle.cedar_types.specs.Extensions.Functions.{table_fault}
 use Rattle.cedar_types.specs.Names.{Text}
-use Rattle.cedar_types.specs.Schemas.{Schema}
+use Rattle.cedar_types.specs.Schemas.Formed.{has_formed_types}
+use Rattle.cedar_types.specs.Schemas.{Schema, has_fault}
 use Rattle.cedar_types.specs.Templates.Findings.{unknown_types, unknown_actions, wrong_members}
 use Rattle.cedar_types.specs.Templates.{PlainTemplate}
 use Rattle.cedar_typing.specs.Evaluation.Conformance.{IsOneOf}
+use Rattle.cedar_typing.specs.Evaluation.World.{World}
 use Rattle.cedar_typing.specs.PolicyCheck.{Verdict, succeeds, irrelevant, fails}
-use Rattle.cedar_typing.specs.Soundness.Policies.{Basis, IsNamedBySchema}
+use Rattle.cedar_typing.specs.Soundness.Policies.{Basis, IsClosedIn, IsNamedBySchema, IsWellFormed, IsConforming, CheckedOn}
 use Rattle.cedar_typing.specs.TypedExpr.{TypedTree, annotation}
 use Rattle.cedar_typing.proofs.Basics.Members.{moved, in_left, in_right, reordered}
 use Rattle.cedar_typing.proofs.Soundness.Policies.{promises_are_kept, promises_are_kept_in_permissive}
@@ -31,6 +34,7 @@ use Rattle.cedar_typechecker.specs.Levels.Setting.{LevelSetting}
 use Rattle.cedar_typechecker.specs.Slices.Passing.{is_of_names_or_levels, NoneOfNamesOrLevels, PassingIsKept, PassingIsKeptInPermissive}
 use Rattle.cedar_typechecker.specs.Slices.Passing.{RequiredLevelSuffices, RequiredLevelSufficesInPermissive}
 use Rattle.cedar_typechecker.specs.Slices.Policies.{PolicyIsWithinLevel}
+use Rattle.cedar_typechecker.specs.Slices.Validation.{IsKeptInSlices}
 use Rattle.cedar_typechecker.proofs.Slices.Policies.{passing_needs_slice_alone, passing_needs_slice_alone_in_permissive}
 use Rattle.cedar_typechecker.proofs.Slices.Validation.{listed_within, IsWithin}
 use Rattle.cedar_typechecker.proofs.Validations.{nothing_in}
@@ -74,26 +78,14 @@ module _ (s : LevelSetting) where
 
   -- of a checked expression
   checked_faults : (x : TypedTree) → AreOfLevels (faults s x)
-  checked_faults (lit m x) = none_are
-  checked_faults (var m x) = none_are
-  checked_faults (slot m x) = none_are
-  checked_faults (unknown m x) = none_are
-  checked_faults (if_then_else m a b c) = none_are
-  checked_faults (and m a b) = none_are
-  checked_faults (or m a b) = none_are
-  checked_faults (unary m o a) = none_are
   checked_faults (binary m o a b) =
       if_either (accesses_first o) _ [] (below_faults s.maximum (level s.action a [])) none_are
-  checked_faults (call m f ts) = none_are
   checked_faults (get_attr m a x) = base_faults (base_of (annotation a)) a
   checked_faults (has_attr m a x) = base_faults (base_of (annotation a)) a
   checked_faults (ext_has_attr m a x xs) =
       chain_faults (base_of (annotation a)) (cost_of s.schema (annotation a) x xs) a
       (keys_of s.schema (annotation a) x xs)
-  checked_faults (like m a p) = none_are
-  checked_faults (is_type m a p) = none_are
-  checked_faults (set_of m ts) = none_are
-  checked_faults (record_of m fs) = none_are
+  checked_faults x = none_are
 
   -- of a target
   leaf_faults : (l : Leaf) → AreOfLevels (faults_at_leaf l)
@@ -138,22 +130,19 @@ module _ (found : List Finding) (quiet : NoneOfNamesOrLevels found) where
   both_known : (s : Schema) (t : PlainTemplate)
       → ((e : Finding) → IsOneOf e (wrong_members s t ++ (unknown_types s t ++ unknown_actions s t)) → IsOneOf e found)
       → IsNamedBySchema s t
-  both_known s t among = record {
-    types =
-        nothing_in (unknown_types s t)
-        (λ e i. not_there e
-        (among e
-        (in_right e (wrong_members s t) (unknown_types s t ++ unknown_actions s t)
-        (in_left e (unknown_types s t) (unknown_actions s t) i)))
-        (of_mapped _ (λ n. refl) _ e i));
-    actions =
-        nothing_in (unknown_actions s t)
-        (λ e i. not_there e
-        (among e
-        (in_right e (wrong_members s t) (unknown_types s t ++ unknown_actions s t)
-        (in_right e (unknown_types s t) (unknown_actions s t) i)))
-        (of_mapped _ (λ n. refl) _ e i));
-  }
+  both_known s t among =
+      let types = unknown_types s t in
+      let actions = unknown_actions s t in
+      let of_names : (e : Finding) → IsOneOf e (types ++ actions) → IsOneOf e found =
+      λ e i. among e (in_right e (wrong_members s t) (types ++ actions) i) in
+      record {
+        types =
+            nothing_in types
+            (λ e i. not_there e (of_names e (in_left e types actions i)) (of_mapped _ (λ n. refl) _ e i));
+        actions =
+            nothing_in actions
+            (λ e i. not_there e (of_names e (in_right e types actions i)) (of_mapped _ (λ n. refl) _ e i));
+      }
 
   -- in the modes that make the passes, all names are known
   names_known : (m : ValidationMode) (s : Schema) (t : PlainTemplate) → is_partial m ≡ false
@@ -192,46 +181,52 @@ module _ (found : List Finding) (quiet : NoneOfNamesOrLevels found) where
 
 -- ---- the laws
 
+module _ (b : Basis) (t : PlainTemplate) (schema : has_fault b.schema ≡ false)
+    (functions : table_fault b.table.functions ≡ None) (errors errors' : List Finding)
+    (old new : List Warning) (passed : CheckedOn b t true errors errors' old new) where
+  -- both halves of the promise, where the policy is within the level and its names are known
+  kept : (n : ℕ) → PolicyIsWithinLevel b t n → IsClosedIn Strict b → IsNamedBySchema b.schema t
+      → (world : World) → IsWellFormed t world.slots → IsConforming b world
+      → IsKeptInSlices t n world
+  kept n enough k names world w i = record {
+    safe = (promises_are_kept b t schema functions true errors errors' old new passed).safe refl k names world w i;
+    same =
+        passing_needs_slice_alone b t schema functions errors errors' old new passed n k names enough
+        world w i;
+  }
+
+  kept_in_permissive : has_formed_types b.schema ≡ true → (n : ℕ) → PolicyIsWithinLevel b t n
+      → IsClosedIn Permissive b → IsNamedBySchema b.schema t
+      → (world : World) → IsWellFormed t world.slots → IsConforming b world
+      → IsKeptInSlices t n world
+  kept_in_permissive formed n enough k names world w i =
+      let promises = promises_are_kept_in_permissive b t schema formed functions true errors errors' old
+      new passed in
+      record {
+        safe = promises.safe refl k names world w i;
+        same =
+            passing_needs_slice_alone_in_permissive b t schema formed functions errors errors' old new
+            passed n k names enough world w i;
+      }
+
 pub passing_is_kept : PassingIsKept
-passing_is_kept b t schema functions errors errors' old new passed n found warnings o quiet k world w i =
-    let names = named found quiet b t n warnings o (ap is_partial k.mode) in
-    record {
-      safe = (promises_are_kept b t schema functions true errors errors' old new passed).safe refl k names world w i;
-      same =
-          passing_needs_slice_alone b t schema functions errors errors' old new passed n k names
-          (within found quiet b t n warnings o) world w i;
-    }
+passing_is_kept b t schema functions errors errors' old new passed n found warnings o quiet k =
+    kept b t schema functions errors errors' old new passed n (within found quiet b t n warnings o) k
+    (named found quiet b t n warnings o (ap is_partial k.mode))
 
 pub passing_is_kept_in_permissive : PassingIsKeptInPermissive
-passing_is_kept_in_permissive b t schema formed functions errors errors' old new passed n found warnings o quiet k world w i =
-    let names = named found quiet b t n warnings o (ap is_partial k.mode) in
-    record {
-      safe =
-          (promises_are_kept_in_permissive b t schema formed functions true errors errors' old new passed).safe refl k
-          names world w i;
-      same =
-          passing_needs_slice_alone_in_permissive b t schema formed functions errors errors' old new passed n k names
-          (within found quiet b t n warnings o) world w i;
-    }
+passing_is_kept_in_permissive b t schema formed functions errors errors' old new passed n found warnings o quiet k =
+    kept_in_permissive b t schema functions errors errors' old new passed formed n
+    (within found quiet b t n warnings o) k (named found quiet b t n warnings o (ap is_partial k.mode))
 
 within_required : (b : Basis) (t : PlainTemplate) (n : ℕ) → IsRequiredLevel b t (Some n) → PolicyIsWithinLevel b t n
 within_required b t n (bounded, enough, least) = enough
 
 pub required_level_suffices : RequiredLevelSuffices
-required_level_suffices b t schema functions errors errors' old new passed n r k names world w i = record {
-  safe = (promises_are_kept b t schema functions true errors errors' old new passed).safe refl k names world w i;
-  same =
-      passing_needs_slice_alone b t schema functions errors errors' old new passed n k names
-      (within_required b t n r) world w i;
-}
+required_level_suffices b t schema functions errors errors' old new passed n r k names world w i =
+    kept b t schema functions errors errors' old new passed n (within_required b t n r) k names world w i
 
 pub required_level_suffices_in_permissive : RequiredLevelSufficesInPermissive
 required_level_suffices_in_permissive b t schema formed functions errors errors' old new passed n r k names world w i =
-    record {
-      safe =
-          (promises_are_kept_in_permissive b t schema formed functions true errors errors' old new passed).safe refl k
-          names world w i;
-      same =
-          passing_needs_slice_alone_in_permissive b t schema formed functions errors errors' old new passed n k names
-          (within_required b t n r) world w i;
-    }
+    kept_in_permissive b t schema functions errors errors' old new passed formed n
+    (within_required b t n r) k names world w i

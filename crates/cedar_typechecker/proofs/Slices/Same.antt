@@ -1,6 +1,6 @@
 -- What is shown of an expression by induction: that it evaluates to the same in a part of the
 -- store, and what it reaches where it is a target.
-use Rattle.std.proofs.Common.{◌≡◌, ℕ, ◌≤◌, true, false, List, Some, refl, ap}
+use Rattle.std.proofs.Common.{◌≡◌, ℕ, ◌≤◌, true, false, List, Some, refl, ap, subst}
 use Rattle.cedar_types.specs.declared.base.types.BoolType.TheVariants.{True, False}
 use Rattle.cedar_types.specs.Names.{Text, Uid}
 use Rattle.cedar_types.specs.Types.{Ty, TBool}
@@ -72,39 +72,40 @@ pub test_ids : (Q : Uid → Type 0) (path : List Text) (t : Test)
 test_ids Q path (Says b) = select_bool Q path b
 test_ids Q path (Stops f) = tt
 
+-- what has a value of the type True is not false, nor the other way round
+not_false : (o : Outcome) → HasFound (Some (TBool True)) o → o ≡ Gives (VBool false) → ⊥
+not_false o h e = let k : HasFound (Some (TBool True)) (Gives (VBool false)) = subst (HasFound (Some (TBool True))) e h in cc
+
+not_true : (o : Outcome) → HasFound (Some (TBool False)) o → IsTrueOutcome o → ⊥
+not_true (Gives (VBool true)) h t = cc
+not_true (Gives (VBool false)) h t = cc
+not_true (Gives v) h t = absurd h
+not_true (Fails f) h t = t
+
 -- what holds of both branches, or of the one that is taken, and of each failure, holds of an `if`
 module _ (Q : Outcome → Outcome → Type 0) (fails : (f : Failure) → Q (Fails f) (Fails f))
     (p q p' q' : Outcome) where
+  chosen : (o : Outcome) → (IsTrueOutcome o → Q p p') → (o ≡ Gives (VBool false) → Q q q')
+      → Q (choose (test_of o) p q) (choose (test_of o) p' q')
+  chosen (Gives (VBool true)) f g = f refl
+  chosen (Gives (VBool false)) f g = g refl
+  chosen (Gives v) f g = fails _
+  chosen (Fails e) f g = fails e
+
   pub chosen_true : (o : Outcome) → HasFound (Some (TBool True)) o → Q p p'
       → Q (choose (test_of o) p q) (choose (test_of o) p' q')
-  chosen_true (Gives (VBool true)) h e = e
-  chosen_true (Gives (VBool false)) h e = cc
-  chosen_true (Gives v) h e = absurd h
-  chosen_true (Fails f) h e = fails f
+  chosen_true o h e = chosen o (λ t. e) (λ f. absurd (not_false o h f))
 
   pub chosen_false : (o : Outcome) → HasFound (Some (TBool False)) o → Q q q'
       → Q (choose (test_of o) p q) (choose (test_of o) p' q')
-  chosen_false (Gives (VBool true)) h e = cc
-  chosen_false (Gives (VBool false)) h e = e
-  chosen_false (Gives v) h e = absurd h
-  chosen_false (Fails f) h e = fails f
+  chosen_false o h e = chosen o (λ t. absurd (not_true o h t)) (λ f. e)
 
   pub chosen_open : (o : Outcome) → (IsTrueOutcome o → Q p p') → Q q q'
       → Q (choose (test_of o) p q) (choose (test_of o) p' q')
-  chosen_open (Gives (VBool true)) f e = f refl
-  chosen_open (Gives (VBool false)) f e = e
-  chosen_open (Gives v) f e = fails _
-  chosen_open (Fails g) f e = fails g
+  chosen_open o f e = chosen o f (λ g. e)
 
 -- the right side of `&&` counts where the left one is true, that of `||` where it is not
 module _ (p p' : Outcome) where
-  pub and_left_false : (o : Outcome) → HasFound (Some (TBool False)) o
-      → of_test (and_test (test_of o) (test_of p')) ≡ of_test (and_test (test_of o) (test_of p))
-  and_left_false (Gives (VBool true)) h = cc
-  and_left_false (Gives (VBool false)) h = refl
-  and_left_false (Gives v) h = absurd h
-  and_left_false (Fails f) h = refl
-
   pub or_left_true : (o : Outcome) → HasFound (Some (TBool True)) o
       → of_test (or_test (test_of o) (test_of p')) ≡ of_test (or_test (test_of o) (test_of p))
   or_left_true (Gives (VBool true)) h = refl
@@ -118,3 +119,7 @@ module _ (p p' : Outcome) where
   and_sides (Gives (VBool false)) f = refl
   and_sides (Gives v) f = refl
   and_sides (Fails g) f = refl
+
+  pub and_left_false : (o : Outcome) → HasFound (Some (TBool False)) o
+      → of_test (and_test (test_of o) (test_of p')) ≡ of_test (and_test (test_of o) (test_of p))
+  and_left_false o h = and_sides o (λ t. absurd (not_true o h t))

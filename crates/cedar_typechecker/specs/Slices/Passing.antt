@@ -1,19 +1,17 @@
 -- What a policy that passes is promised where validation with levels finds some error, but none that
 -- the promise is about; and where it requires so many levels.
-use Rattle.std.specs.Prelude.{◌≡◌, ℕ, Bool, true, false, List, Some, None}
+use Rattle.std.specs.Prelude.{◌≡◌, ℕ, Bool, true, false, List, Some}
 use Rattle.cedar_types.specs.declared.base.types.ValidationMode.{ValidationMode}
 use Rattle.cedar_types.specs.declared.base.types.ValidationMode.TheVariants.{Strict, Permissive}
 use Rattle.cedar_types.specs.Errors.{Fault, Finding, Warning, unrecognized_entity_type, unrecognized_action_id, internal_invariant_violation}
 use Rattle.cedar_types.specs.Errors.{maximum_level_exceeded, literal_dereference_target}
-use Rattle.cedar_types.specs.Extensions.Functions.{table_fault}
-use Rattle.cedar_types.specs.Schemas.Formed.{has_formed_types}
-use Rattle.cedar_types.specs.Schemas.{has_fault}
 use Rattle.cedar_types.specs.Templates.{PlainTemplate}
 use Rattle.cedar_typing.specs.Evaluation.Conformance.{IsOneOf}
 use Rattle.cedar_typing.specs.Evaluation.World.{World}
-use Rattle.cedar_typing.specs.Soundness.Policies.{Basis, IsClosedIn, IsNamedBySchema, IsWellFormed, IsConforming, CheckedOn}
+use Rattle.cedar_typing.specs.Soundness.Policies.{Basis, IsClosedIn, IsNamedBySchema, IsWellFormed, IsConforming}
 use Rattle.cedar_typechecker.specs.Levels.Outcome.{LevelOutcome}
 use Rattle.cedar_typechecker.specs.Levels.Required.{IsRequiredLevel}
+use Rattle.cedar_typechecker.specs.Slices.Policies.{OfEachPassing, OfEachPassingFormed}
 use Rattle.cedar_typechecker.specs.Slices.Validation.{IsKeptInSlices}
 
 -- ---- by the errors of the call
@@ -44,23 +42,16 @@ PassingIsKeptIn m b t n errors =
 -- and a table without faults
 abbrev pub PassingIsKept : Type 0
 PassingIsKept =
-    (b : Basis) (t : PlainTemplate)
-    → has_fault b.schema ≡ false → table_fault b.table.functions ≡ None
-    → (errors errors' : List Finding) (old new : List Warning)
-    → CheckedOn b t true errors errors' old new
-    → (n : ℕ) (found : List Finding) (warnings : List Warning)
-    → LevelOutcome b t n found warnings → PassingIsKeptIn Strict b t n found
+    OfEachPassing
+    (λ b t. (n : ℕ) (found : List Finding) (warnings : List Warning)
+    → LevelOutcome b t n found warnings → PassingIsKeptIn Strict b t n found)
 
 -- in Permissive, where names also ascend in the types of the schema
 abbrev pub PassingIsKeptInPermissive : Type 0
 PassingIsKeptInPermissive =
-    (b : Basis) (t : PlainTemplate)
-    → has_fault b.schema ≡ false → has_formed_types b.schema ≡ true
-    → table_fault b.table.functions ≡ None
-    → (errors errors' : List Finding) (old new : List Warning)
-    → CheckedOn b t true errors errors' old new
-    → (n : ℕ) (found : List Finding) (warnings : List Warning)
-    → LevelOutcome b t n found warnings → PassingIsKeptIn Permissive b t n found
+    OfEachPassingFormed
+    (λ b t. (n : ℕ) (found : List Finding) (warnings : List Warning)
+    → LevelOutcome b t n found warnings → PassingIsKeptIn Permissive b t n found)
 
 -- ---- by the required level
 
@@ -74,16 +65,7 @@ RequiredLevelSufficesIn m b t =
 
 -- it follows where the check of the policy passes
 abbrev pub RequiredLevelSuffices : Type 0
-RequiredLevelSuffices =
-    (b : Basis) (t : PlainTemplate)
-    → has_fault b.schema ≡ false → table_fault b.table.functions ≡ None
-    → (errors errors' : List Finding) (old new : List Warning)
-    → CheckedOn b t true errors errors' old new → RequiredLevelSufficesIn Strict b t
+RequiredLevelSuffices = OfEachPassing (RequiredLevelSufficesIn Strict)
 
 abbrev pub RequiredLevelSufficesInPermissive : Type 0
-RequiredLevelSufficesInPermissive =
-    (b : Basis) (t : PlainTemplate)
-    → has_fault b.schema ≡ false → has_formed_types b.schema ≡ true
-    → table_fault b.table.functions ≡ None
-    → (errors errors' : List Finding) (old new : List Warning)
-    → CheckedOn b t true errors errors' old new → RequiredLevelSufficesIn Permissive b t
+RequiredLevelSufficesInPermissive = OfEachPassingFormed (RequiredLevelSufficesIn Permissive)

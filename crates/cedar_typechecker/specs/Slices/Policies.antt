@@ -53,19 +53,25 @@ SliceSufficesIn m b t =
 
 -- ---- of each policy that passes
 
--- by a schema and a table without faults it follows from what the check of the policy came to
-abbrev pub PassingNeedsSliceAlone : Type 0
-PassingNeedsSliceAlone =
+-- by a schema and a table without faults this follows from what the check of the policy came to
+abbrev pub OfEachPassing : (Basis → PlainTemplate → Type 0) → Type 0
+OfEachPassing P =
     (b : Basis) (t : PlainTemplate)
     → has_fault b.schema ≡ false → table_fault b.table.functions ≡ None
     → (errors errors' : List Finding) (old new : List Warning)
-    → CheckedOn b t true errors errors' old new → SliceSufficesIn Strict b t
+    → CheckedOn b t true errors errors' old new → P b t
 
--- in Permissive, where names also ascend in the types of the schema
-abbrev pub PassingNeedsSliceAloneInPermissive : Type 0
-PassingNeedsSliceAloneInPermissive =
+-- where names also ascend in the types of the schema
+abbrev pub OfEachPassingFormed : (Basis → PlainTemplate → Type 0) → Type 0
+OfEachPassingFormed P =
     (b : Basis) (t : PlainTemplate)
     → has_fault b.schema ≡ false → has_formed_types b.schema ≡ true
     → table_fault b.table.functions ≡ None
     → (errors errors' : List Finding) (old new : List Warning)
-    → CheckedOn b t true errors errors' old new → SliceSufficesIn Permissive b t
+    → CheckedOn b t true errors errors' old new → P b t
+
+abbrev pub PassingNeedsSliceAlone : Type 0
+PassingNeedsSliceAlone = OfEachPassing (SliceSufficesIn Strict)
+
+abbrev pub PassingNeedsSliceAloneInPermissive : Type 0
+PassingNeedsSliceAloneInPermissive = OfEachPassingFormed (SliceSufficesIn Permissive)

@@ -90,27 +90,28 @@ TargetsReach s world n =
     → OnValue (λ v. (u : Uid) → IsOneOf u (ids_along path v)
     → IsReachedIn world (level (levels_in s n).action x path) u) (eval world e)
 
--- ---- in Strict
+-- ---- where they hold
+
+-- in Strict
+abbrev pub OfEachSlice : (Setting → World → ℕ → Store → Type 0) → Type 0
+OfEachSlice P =
+    (s : Setting) (world : World) (n : ℕ) (part : Store) → IsSlicedIn Strict s world n part
+    → P s world n part
+
+-- in Permissive, by a schema in whose types names ascend, as they do in every schema of the program
+abbrev pub OfEachFormedSlice : (Setting → World → ℕ → Store → Type 0) → Type 0
+OfEachFormedSlice P =
+    (s : Setting) (world : World) (n : ℕ) (part : Store) → has_formed_types s.env.schema ≡ true
+    → IsSlicedIn Permissive s world n part → P s world n part
 
 abbrev pub SliceSoundness : Type 0
-SliceSoundness =
-    (s : Setting) (world : World) (n : ℕ) (part : Store) → IsSlicedIn Strict s world n part
-    → EvaluatesAlike s world n part
+SliceSoundness = OfEachSlice EvaluatesAlike
 
 abbrev pub TargetsAreReached : Type 0
-TargetsAreReached =
-    (s : Setting) (world : World) (n : ℕ) (part : Store) → IsSlicedIn Strict s world n part
-    → TargetsReach s world n
-
--- ---- in Permissive, by a schema in whose types names ascend, as they do in every schema of the
--- program
+TargetsAreReached = OfEachSlice (λ s world n part. TargetsReach s world n)
 
 abbrev pub SliceSoundnessInPermissive : Type 0
-SliceSoundnessInPermissive =
-    (s : Setting) (world : World) (n : ℕ) (part : Store) → has_formed_types s.env.schema ≡ true
-    → IsSlicedIn Permissive s world n part → EvaluatesAlike s world n part
+SliceSoundnessInPermissive = OfEachFormedSlice EvaluatesAlike
 
 abbrev pub TargetsAreReachedInPermissive : Type 0
-TargetsAreReachedInPermissive =
-    (s : Setting) (world : World) (n : ℕ) (part : Store) → has_formed_types s.env.schema ≡ true
-    → IsSlicedIn Permissive s world n part → TargetsReach s world n
+TargetsAreReachedInPermissive = OfEachFormedSlice (λ s world n part. TargetsReach s world n)

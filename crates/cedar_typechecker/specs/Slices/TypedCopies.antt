@@ -1,12 +1,8 @@
 -- What a host that goes on with typed conditions over parts of a store may rely on.
-use Rattle.std.specs.Prelude.{◌≡◌, ℕ, true, false, List, None}
+use Rattle.std.specs.Prelude.{◌≡◌, ℕ}
 use Rattle.cedar_types.specs.declared.base.types.ValidationMode.{ValidationMode}
 use Rattle.cedar_types.specs.declared.base.types.ValidationMode.TheVariants.{Strict, Permissive}
 use Rattle.cedar_types.specs.Environments.{DeclaredEnv, environments_of}
-use Rattle.cedar_types.specs.Errors.{Finding, Warning}
-use Rattle.cedar_types.specs.Extensions.Functions.{table_fault}
-use Rattle.cedar_types.specs.Schemas.{has_fault}
-use Rattle.cedar_types.specs.Schemas.Formed.{has_formed_types}
 use Rattle.cedar_types.specs.Templates.{PlainTemplate, condition_of}
 use Rattle.cedar_types.specs.Types.{Ty}
 use Rattle.cedar_types.specs.Values.Stores.{Store}
@@ -18,13 +14,13 @@ use Rattle.cedar_typing.specs.Evaluation.World.{World}
 use Rattle.cedar_typing.specs.PolicyCheck.{Verdict, succeeds, irrelevant, fails}
 use Rattle.cedar_typing.specs.Rules.{Derives}
 use Rattle.cedar_typing.specs.Setting.{Setting}
-use Rattle.cedar_typing.specs.Soundness.Policies.{Basis, IsClosedIn, IsNamedBySchema, IsWellFormed, IsConforming, CheckedOn}
+use Rattle.cedar_typing.specs.Soundness.Policies.{Basis, IsClosedIn, IsNamedBySchema, IsWellFormed, IsConforming}
 use Rattle.cedar_typing.specs.TypedExpr.{Source, TypedTree}
 use Rattle.cedar_typechecker.specs.Levels.Errors.{IsWithinLevel}
 use Rattle.cedar_typechecker.specs.Levels.Outcome.{ChecksOn}
-use Rattle.cedar_typechecker.specs.Slices.Policies.{PolicyIsWithinLevel}
+use Rattle.cedar_typechecker.specs.Slices.Policies.{PolicyIsWithinLevel, OfEachPassing, OfEachPassingFormed}
 use Rattle.cedar_typechecker.specs.Slices.Reach.{HoldsSlice}
-use Rattle.cedar_typechecker.specs.Slices.Soundness.{with_store, levels_in, IsSlicedIn}
+use Rattle.cedar_typechecker.specs.Slices.Soundness.{with_store, levels_in, OfEachSlice, OfEachFormedSlice}
 
 -- ---- an expression
 
@@ -42,14 +38,10 @@ CopiesMeanTheSameInPart s world n part =
 
 -- where typing can be relied on in the world, and a part of its store holds the slice of n steps
 abbrev pub CopiesNeedSliceAlone : Type 0
-CopiesNeedSliceAlone =
-    (s : Setting) (world : World) (n : ℕ) (part : Store) → IsSlicedIn Strict s world n part
-    → CopiesMeanTheSameInPart s world n part
+CopiesNeedSliceAlone = OfEachSlice CopiesMeanTheSameInPart
 
 abbrev pub CopiesNeedSliceAloneInPermissive : Type 0
-CopiesNeedSliceAloneInPermissive =
-    (s : Setting) (world : World) (n : ℕ) (part : Store) → has_formed_types s.env.schema ≡ true
-    → IsSlicedIn Permissive s world n part → CopiesMeanTheSameInPart s world n part
+CopiesNeedSliceAloneInPermissive = OfEachFormedSlice CopiesMeanTheSameInPart
 
 -- ---- a policy
 
@@ -71,17 +63,8 @@ OwnCopySufficesIn m b t =
 
 -- of each policy that passes, by a schema and a table without faults
 abbrev pub PassingCopyNeedsSliceAlone : Type 0
-PassingCopyNeedsSliceAlone =
-    (b : Basis) (t : PlainTemplate)
-    → has_fault b.schema ≡ false → table_fault b.table.functions ≡ None
-    → (errors errors' : List Finding) (old new : List Warning)
-    → CheckedOn b t true errors errors' old new → OwnCopySufficesIn Strict b t
+PassingCopyNeedsSliceAlone = OfEachPassing (OwnCopySufficesIn Strict)
 
 -- in Permissive, where names also ascend in the types of the schema
 abbrev pub PassingCopyNeedsSliceAloneInPermissive : Type 0
-PassingCopyNeedsSliceAloneInPermissive =
-    (b : Basis) (t : PlainTemplate)
-    → has_fault b.schema ≡ false → has_formed_types b.schema ≡ true
-    → table_fault b.table.functions ≡ None
-    → (errors errors' : List Finding) (old new : List Warning)
-    → CheckedOn b t true errors errors' old new → OwnCopySufficesIn Permissive b t
+PassingCopyNeedsSliceAloneInPermissive = OfEachPassingFormed (OwnCopySufficesIn Permissive)

@@ -1,6 +1,6 @@
 // What typed conditions demand of levels, whatever the maximum is.
 ghost use Rattle.std.specs.Prelude.{◌≡◌, IfOk, OnOk};
-ghost use Rattle.cedar_typechecker.specs.Levels.Demands.{Need, no_literal, a_rule, demands};
+ghost use Rattle.cedar_typechecker.specs.Levels.Demands.{Need, demands};
 ghost use Rattle.cedar_typechecker.specs.Levels.Views.{need_of, demands_of};
 
 use crate::level_validate::walk::LevelWalk;
@@ -47,33 +47,20 @@ impl LevelWalk<'_> {
         Ok(())
     }
 
-    /// A target that is the same in each request: an entity literal or a slot.
-    pub(crate) fn constant_target(
+    /// A target for which no level is enough, by what it needs: no literal, where it is the same in each request as an entity
+    /// literal or a slot is, or a rule, where no typed condition that passes has it.
+    pub(crate) fn refused_target(
         &self,
         loc: Option<Loc>,
+        need: Need,
         found: &mut Vec<Demand>,
     ) -> Result<u64, AllocError>
         ensures level { IfOk result (λ k. k ≡ 0) }
         ensures demands { OnOk result (
-            demands loc no_literal self.now.hidden_below (demands_of found.old.items)
+            demands loc (need_of need) self.now.hidden_below (demands_of found.old.items)
             ≡ demands_of found.new.items) }
     {
-        self.demand(loc, Need::NoLiteral, found)?;
-        Ok(0)
-    }
-
-    /// A target that no typed condition has, where it passes.
-    pub(crate) fn broken_target(
-        &self,
-        loc: Option<Loc>,
-        found: &mut Vec<Demand>,
-    ) -> Result<u64, AllocError>
-        ensures level { IfOk result (λ k. k ≡ 0) }
-        ensures demands { OnOk result (
-            demands loc a_rule self.now.hidden_below (demands_of found.old.items)
-            ≡ demands_of found.new.items) }
-    {
-        self.demand(loc, Need::Rule, found)?;
+        self.demand(loc, need, found)?;
         Ok(0)
     }
 }

@@ -3,13 +3,13 @@ ghost use Rattle.std.specs.Prelude.{◌≡◌, [], ◌∷◌, max, option_map, I
 ghost use Rattle.cedar_types.specs.Names.{text_of, uid_of, text_eq, uid_eq};
 ghost use Rattle.cedar_types.specs.Expressions.View.{lit_of};
 ghost use Rattle.cedar_typing.specs.TypedExpr.{typed_tree, annotation};
-ghost use Rattle.cedar_typechecker.specs.Levels.Chains.{is_get_tag, entity_leaf, leaf_of_literal, base_of};
-ghost use Rattle.cedar_typechecker.specs.Levels.Demands.{no_literal, a_rule, demands, at_leaf, counted_level, counted_at_key, add_target_demands, add_demands_along, has_key, raised, by_base, on_path};
+ghost use Rattle.cedar_typechecker.specs.Levels.Chains.{is_get_tag, good_leaf, literal_leaf, entity_leaf, leaf_of_literal, base_of};
+ghost use Rattle.cedar_typechecker.specs.Levels.Demands.{a_rule, demands, at_leaf, counted_level, counted_at_key, add_target_demands, add_demands_along, has_key, raised, by_base, on_path};
 ghost use Rattle.cedar_typechecker.specs.Levels.Paths.{keys_along};
 ghost use Rattle.cedar_typechecker.specs.Levels.Views.{surroundings_of, demands_of, typed_fields};
 
 use crate::level_validate::bases::{Base, base_of, is_constant};
-use crate::level_validate::demands::Demand;
+use crate::level_validate::demands::{Demand, Need};
 use crate::level_validate::paths::{Path, longer, split};
 use crate::level_validate::walk::LevelWalk;
 use cedar_types::base::{BinaryOp, CedarType, EntityUID, Expr, ExprKind, Literal, Loc};
@@ -34,9 +34,11 @@ impl LevelWalk<'_> {
             ≡ demands_of found.new.items) }
     {
         match &e.kind {
+            // a request has the ids of its entities
             ExprKind::Var(_) => Ok(0),
             ExprKind::Lit(literal) => self.literal_target(e.loc, literal, found),
-            ExprKind::Slot(_) => self.constant_target(e.loc, found),
+            // a slice begins at the request, and what is bound to a slot need not be in that
+            ExprKind::Slot(_) => self.refused_target(e.loc, Need::NoLiteral, found),
             ExprKind::If {
                 test_expr,
                 then_expr,
@@ -52,25 +54,23 @@ impl LevelWalk<'_> {
                 Ok(first.max(second))
             }
             ExprKind::GetAttr(base, attr) => self.access_target(e.loc, base, attr, path, found),
-            ExprKind::BinaryApp(op, left, right) => {
-                if !is_get_tag(*op) {
-                    return self.broken_target(e.loc, found);
-                }
+            ExprKind::BinaryApp(op, left, right) if is_get_tag(*op) => {
                 let level = self.target_level(left, path, found)?;
                 self.check(right, found)?;
                 Ok(level.saturating_add(1))
             }
             ExprKind::Record(fields) => self.record_target(e.loc, fields, path, found),
-            ExprKind::Unknown(_) => self.broken_target(e.loc, found),
-            ExprKind::And(_, _) => self.broken_target(e.loc, found),
-            ExprKind::Or(_, _) => self.broken_target(e.loc, found),
-            ExprKind::UnaryApp(_, _) => self.broken_target(e.loc, found),
-            ExprKind::ExtensionFunctionApp(_, _) => self.broken_target(e.loc, found),
-            ExprKind::HasAttr(_, _) => self.broken_target(e.loc, found),
-            ExprKind::ExtHasAttr(_, _) => self.broken_target(e.loc, found),
-            ExprKind::Like(_, _) => self.broken_target(e.loc, found),
-            ExprKind::Is(_, _) => self.broken_target(e.loc, found),
-            ExprKind::Set(_) => self.broken_target(e.loc, found),
+            ExprKind::Unknown(_)
+            | ExprKind::And(_, _)
+            | ExprKind::Or(_, _)
+            | ExprKind::UnaryApp(_, _)
+            | ExprKind::BinaryApp(_, _, _)
+            | ExprKind::ExtensionFunctionApp(_, _)
+            | ExprKind::HasAttr(_, _)
+            | ExprKind::ExtHasAttr(_, _)
+            | ExprKind::Like(_, _)
+            | ExprKind::Is(_, _)
+            | ExprKind::Set(_) => self.refused_target(e.loc, Need::Rule, found),
         }
     }
 
@@ -103,8 +103,9 @@ impl LevelWalk<'_> {
                 let level = self.target_level(base, path, found)?;
                 Ok(level.saturating_add(1))
             }
+            // a record is part of its entity's entry, so nothing further is reached
             Base::Record => self.target_level(base, longer(attr, &path), found),
-            Base::Other => self.broken_target(loc, found),
+            Base::Other => self.refused_target(loc, Need::Rule, found),
         }
     }
 
@@ -132,10 +133,10 @@ impl LevelWalk<'_> {
             ≡ demands_of found.new.items) }
     {
         let Some((key, rest)) = split(path) else {
-            return self.broken_target(loc, found);
+            return self.refused_target(loc, Need::Rule, found);
         };
         if !has_key(fields, key) {
-            return self.broken_target(loc, found);
+            return self.refused_target(loc, Need::Rule, found);
         }
         self.follow(fields, key, rest, found)
     }
@@ -184,34 +185,27 @@ impl LevelWalk<'_> {
             ≡ demands_of found.new.items) }
     {
         match literal {
-            Literal::EntityUID(uid) => self.entity_target(loc, uid, found),
-            Literal::Bool(_) => self.broken_target(loc, found),
-            Literal::Long(_) => self.broken_target(loc, found),
-            Literal::String(_) => self.broken_target(loc, found),
+            Literal::EntityUID(uid) => {
+                if self.is_own_action(uid) {
+                    return Ok(0);
+                }
+                self.refused_target(loc, Need::NoLiteral, found)
+            }
+            Literal::Bool(_) => self.refused_target(loc, Need::Rule, found),
+            Literal::Long(_) => self.refused_target(loc, Need::Rule, found),
+            Literal::String(_) => self.refused_target(loc, Need::Rule, found),
         }
     }
 
-    fn entity_target(
-        &self,
-        loc: Option<Loc>,
-        uid: &EntityUID,
-        found: &mut Vec<Demand>,
-    ) -> Result<u64, AllocError>
-        ensures level { IfOk result (λ k. k ≡ 0) }
-        ensures demands { OnOk result (
-            at_leaf loc
-            (entity_leaf (option_map (λ u. uid_of u.now) self.now.action) (uid_of uid.now))
-            self.now.hidden_below (demands_of found.old.items)
-            ≡ demands_of found.new.items) }
+    /// Whether this is the environment's own action.
+    fn is_own_action(&self, uid: &EntityUID) -> bool
+        ensures { (if result then good_leaf else literal_leaf)
+            ≡ entity_leaf (option_map (λ u. uid_of u.now) self.now.action) (uid_of uid.now) }
     {
         match self.action {
-            Some(action) => {
-                if is_same_entity(uid, action) {
-                    return Ok(0);
-                }
-                self.constant_target(loc, found)
-            }
-            None => self.constant_target(loc, found),
+            // each slice has the action of its request
+            Some(action) => is_same_entity(uid, action),
+            None => false,
         }
     }
 }

@@ -7,7 +7,7 @@ ghost use Rattle.cedar_types.specs.Schemas.Contents.{schema_of};
 ghost use Rattle.cedar_types.specs.Schemas.{is_among, descendants_of};
 ghost use Rattle.cedar_types.specs.Templates.{scope_of};
 ghost use Rattle.cedar_types.specs.Types.{types_of};
-ghost use Rattle.cedar_typechecker.specs.Applications.{types_on, equal_type, lists_only_below, in_might_help};
+ghost use Rattle.cedar_typechecker.specs.Applications.{types_on, equal_type, in_might_help};
 
 use crate::rbac::members::{has_declared_below, has_type};
 use cedar_types::base::{
@@ -34,7 +34,9 @@ pub(crate) fn in_might_help(
         (map (λ a. application a.now) applications.now) (scope_of constraint.now) }
 {
     match equal_type(constraint) {
-        Some(named) => lists_only_below(schema, side, applications, named),
+        Some(named) => {
+            !list_type(side, applications, named) && list_below(schema, side, applications, named)
+        }
         None => false,
     }
 }
@@ -47,19 +49,6 @@ fn equal_type(constraint: &PrincipalOrResourceConstraint) -> Option<&EntityType>
         PrincipalOrResourceConstraint::Eq(EntityReference::EUID(uid)) => Some(&uid.entity_type),
         _ => None,
     }
-}
-
-fn lists_only_below(
-    schema: &ValidatorSchema,
-    side: Side,
-    applications: &[&ValidatorApplySpec],
-    named: &EntityType,
-) -> bool
-    ensures { result
-        ≡ lists_only_below (schema_of schema.now) side
-        (map (λ a. application a.now) applications.now) (type_of named.now) }
-{
-    !list_type(side, applications, named) && list_below(schema, side, applications, named)
 }
 
 /// Whether some action lists this type.

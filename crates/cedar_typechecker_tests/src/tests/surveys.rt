@@ -9,6 +9,7 @@ use cedar_typechecker::base::{
 use cedar_typechecker::rbac::Validator;
 use cedar_typechecker::survey::Survey;
 use std::alloc::{AllocError, Global};
+use std::process::Abort;
 use std::test::Fail;
 
 /// `permit(principal, action, resource) when { principal.ATTRIBUTE.ATTRIBUTE };`
@@ -26,14 +27,19 @@ fn survey(alloc: Global, first: &str, second: &str) -> Result<Survey, Fail> {
     Ok(validator.survey(alloc, &policy, ValidationMode::Strict)?)
 }
 
+/// That the policy passes or not, and may apply, in one environment.
+fn applies_once(rt: &impl Abort, survey: &Survey, passes: bool) {
+    assert_eq!(rt; survey.passes(), passes);
+    assert_eq!(rt; survey.is_impossible(), false);
+    assert_eq!(rt; survey.applicable_environments(), 1);
+}
+
 #[test]
 fn what_passes_has_its_levels(rt: HostRuntime) -> Result<(), Fail> {
     let alloc = rt.alloc();
     let survey = survey(alloc, "user", "bool")?;
-    assert_eq!(rt; survey.passes(), true);
-    assert_eq!(rt; survey.is_impossible(), false);
+    applies_once(&rt, &survey, true);
     assert_eq!(rt; survey.fails_without_error(), false);
-    assert_eq!(rt; survey.applicable_environments(), 1);
     assert_eq!(rt; survey.errors().len(), 0);
     assert_eq!(rt; survey.level_errors(alloc, 1)?.len(), 1);
     assert_eq!(rt; survey.level_errors(alloc, 2)?.len(), 0);
@@ -45,9 +51,7 @@ fn what_passes_has_its_levels(rt: HostRuntime) -> Result<(), Fail> {
 fn an_error_has_its_environments(rt: HostRuntime) -> Result<(), Fail> {
     let alloc = rt.alloc();
     let survey = survey(alloc, "user", "gone")?;
-    assert_eq!(rt; survey.passes(), false);
-    assert_eq!(rt; survey.is_impossible(), false);
-    assert_eq!(rt; survey.applicable_environments(), 1);
+    applies_once(&rt, &survey, false);
     let viewed = RequestType {
         principal: entity_type_of(alloc, "User")?,
         action: uid(alloc, "Action", "view")?,

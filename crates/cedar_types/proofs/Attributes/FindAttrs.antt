@@ -1,9 +1,8 @@
 -- Attributes by their names: what ascending attributes hold is told by their look-ups.
-use Rattle.std.proofs.Common.{◌≡◌, refl, sym, ap, ◌∙◌, subst, Bool, true, false, true≢false, Option, Some, None, if◌then◌else◌}
+use Rattle.std.proofs.Common.{◌≡◌, refl, sym, ap, ◌∙◌, subst, Bool, true, false, Option, Some, None, if◌then◌else◌}
 use Rattle.std.specs.declared.cmp.Ordering.{Ordering}
 use Rattle.std.specs.declared.cmp.Ordering.TheVariants.{Less, Equal, Greater}
-use Rattle.std.specs.Ordering.{is_lt, is_eq, ordering_reverse}
-use Rattle.std.specs.Cmp.{tied_itself}
+use Rattle.std.specs.Ordering.{is_lt, is_eq}
 use Rattle.std.specs.Cmp.Lexicographic.{nat_list_cmp_total, texts_ties}
 use Rattle.std.specs.List.{list_all}
 use Rattle.cedar_types.specs.Names.{Text, text_cmp, text_eq}
@@ -11,19 +10,11 @@ use Rattle.cedar_types.specs.Names.Ascending.{texts_ascending}
 use Rattle.cedar_types.specs.Types.{Ty, Attrs, no_attrs, attr, attr_names, is_well_formed, are_well_formed}
 use Rattle.cedar_types.specs.Types.Bounds.{find_attr}
 use Rattle.cedar_types.proofs.Comparisons.SameTypes.{and_left, and_right, and_both, text_decides, text_itself}
+use Rattle.cedar_types.proofs.Entries.Ascending.{turned, not_below_itself, not_both_ways}
 use Rattle.cedar_types.proofs.Names.Unions.{less_is, not_true}
 
 pub text_to : (k l : Text) → text_eq k l ≡ true → k ≡ l
 text_to k l e = (text_decides k l).0 e
-
-text_not_below_itself : (k : Text) → text_cmp k k ≡ Less → ⊥
-text_not_below_itself k e = true≢false (sym (ap is_lt (sym (tied_itself nat_list_cmp_total k) ∙ e)))
-
-text_not_both_ways : (k l : Text) → text_cmp k l ≡ Less → text_cmp l k ≡ Less → ⊥
-text_not_both_ways k l e f = text_not_below_itself k (nat_list_cmp_total.trans k l k e f)
-
-text_turned : (k l : Text) → text_cmp k l ≡ Greater → text_cmp l k ≡ Less
-text_turned k l e = nat_list_cmp_total.antisymm l k ∙ ap ordering_reverse e
 
 tied_texts : (k l : Text) → text_cmp k l ≡ Equal → k ≡ l
 tied_texts k l e = text_to k l (texts_ties k l ∙ ap is_eq e)
@@ -67,7 +58,7 @@ later_found : (j l : Text) (t : Ty) (r : Bool) (xs : Attrs) (a : Ty × Bool) →
     → find_attr l xs ≡ Some a → find_attr l (attr j t r xs) ≡ Some a
 later_found j l t r xs a less e =
     found_later l j t r xs (not_true (text_eq l j)
-    (λ f. text_not_below_itself l (subst (λ m. text_cmp m l ≡ Less) (sym (text_to l j f)) less))) ∙ e
+    (λ f. not_below_itself nat_list_cmp_total l (subst (λ m. text_cmp m l ≡ Less) (sym (text_to l j f)) less))) ∙ e
 
 pub names_above_to : (k : Text) (xs : Attrs) → names_ascend xs ≡ true → NamesAbove k xs
     → list_all (λ l. is_lt (text_cmp k l)) (attr_names xs) ≡ true
@@ -94,7 +85,7 @@ option_none None h = refl
 option_none (Some a) h = absurd (h a refl)
 
 pub name_absent : (k : Text) (xs : Attrs) → NamesAbove k xs → find_attr k xs ≡ None
-name_absent k xs h = option_none (find_attr k xs) (λ a e. text_not_below_itself k (h k a e))
+name_absent k xs h = option_none (find_attr k xs) (λ a e. not_below_itself nat_list_cmp_total k (h k a e))
 
 some_type : (a b : Ty × Bool) → ◌≡◌ {A = Option (Ty × Bool)} (Some a) (Some b) → a ≡ b
 some_type a b e = cc
@@ -109,15 +100,15 @@ same_look_ups (attr k s r xs) (attr l t q ys) a b h =
     by (same_look_ups xs ys (rest_names_ascend k s r xs a) (rest_names_ascend l t q ys b)) (text_cmp k l) refl
   where
     first_of_l : text_cmp k l ≡ Less → (c : Bool) → text_eq k l ≡ c → ⊥
-    first_of_l e true f = text_not_below_itself k (subst (λ m. text_cmp k m ≡ Less) (sym (text_to k l f)) e)
+    first_of_l e true f = not_below_itself nat_list_cmp_total k (subst (λ m. text_cmp k m ≡ Less) (sym (text_to k l f)) e)
     first_of_l e false f =
-        text_not_both_ways k l e
+        not_both_ways nat_list_cmp_total k l e
         (first_name_below l t q ys b k (s, r) (sym (found_later k l t q ys f) ∙ sym (h k) ∙ found_first k s r xs))
 
     first_of_k : text_cmp l k ≡ Less → (c : Bool) → text_eq l k ≡ c → ⊥
-    first_of_k e true f = text_not_below_itself l (subst (λ m. text_cmp l m ≡ Less) (sym (text_to l k f)) e)
+    first_of_k e true f = not_below_itself nat_list_cmp_total l (subst (λ m. text_cmp l m ≡ Less) (sym (text_to l k f)) e)
     first_of_k e false f =
-        text_not_both_ways l k e
+        not_both_ways nat_list_cmp_total l k e
         (first_name_below k s r xs a l (t, q) (sym (found_later l k s r xs f) ∙ h l ∙ found_first l t q ys))
 
     rest : k ≡ l → (j : Text) (c : Bool) → text_eq j k ≡ c → find_attr j xs ≡ find_attr j ys
@@ -133,7 +124,7 @@ same_look_ups (attr k s r xs) (attr l t q ys) a b h =
         let same = tied_texts k l e in
         let here = some_type (s, r) (t, q) (sym (found_first k s r xs) ∙ h k ∙ found_here k l t q ys ((text_decides k l).1 same)) in
         λ i. attr (same i) (here i).0 (here i).1 (others (λ j. rest same j (text_eq j k) refl) i)
-    by others Greater e = absurd (first_of_k (text_turned k l e) (text_eq l k) refl)
+    by others Greater e = absurd (first_of_k (turned nat_list_cmp_total k l e) (text_eq l k) refl)
 
 -- ---- what holds of each attribute's type
 abbrev pub AllTypes : (Ty → Type 0) → Attrs → Type 0

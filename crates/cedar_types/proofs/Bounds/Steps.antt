@@ -1,12 +1,12 @@
 -- The bound of two types, kind by kind.
-use Rattle.std.proofs.Common.{◌≡◌, refl, sym, ap, ◌∙◌, subst, ℕ, Bool, true, false, ◌&&◌, ◌||◌, not, nat_eq, List, Option, Some, None}
+use Rattle.std.proofs.Common.{arith, ◌≡◌, refl, sym, ap, ◌∙◌, subst, ℕ, Bool, true, false, ◌&&◌, ◌||◌, not, nat_eq, List, Option, Some, None}
 use Rattle.std.proofs.Common.{option_map, if◌then◌else◌}
 use Rattle.std.specs.Cmp.Lexicographic.{pointwise}
 use borrow.Author.Tests.{eq-eqb}
 use Rattle.cedar_types.specs.declared.base.types.ValidationMode.{ValidationMode}
 use Rattle.cedar_types.specs.Names.{Text, Path, text_eq, path_eq}
 use Rattle.cedar_types.specs.Names.Ascending.{paths_ascending}
-use Rattle.cedar_types.specs.Types.{Ty, TNever, TBool, TLong, TString, TSet, TAnySet, TRecord, TEntity, TAnyEntity, TExtension, Attrs}
+use Rattle.cedar_types.specs.Types.{Ty, TNever, TSet, TRecord, TEntity, Attrs}
 use Rattle.cedar_types.specs.Types.{no_attrs, attr}
 use Rattle.cedar_types.specs.Types.Bounds.{attr_count, mark_eq, ty_eq, attrs_eq, find_attr, union, is_strict, is_never, apart_lub, lub}
 use Rattle.cedar_types.specs.Types.Bounds.{closed_lub, wide_lub, with_both, with_bound, with_common, both_attrs, common_attrs}
@@ -36,16 +36,7 @@ pub never_right : (m : ValidationMode) (s : Ty) → lub m s TNever ≡ Some s
 never_right m s = either_same (ty_eq s TNever) (Some s)
 
 pub never_left : (m : ValidationMode) (t : Ty) → lub m TNever t ≡ Some t
-never_left m TNever = refl
-never_left m (TBool k) = refl
-never_left m TLong = refl
-never_left m TString = refl
-never_left m (TSet t) = refl
-never_left m TAnySet = refl
-never_left m (TRecord xs o) = refl
-never_left m (TEntity ps) = refl
-never_left m TAnyEntity = refl
-never_left m (TExtension n) = refl
+never_left m t = grind arith
 
 -- ---- sets
 pub set_is : (m : ValidationMode) (s t : Ty) → lub m (TSet s) (TSet t) ≡ option_map TSet (lub m s t)

@@ -1,23 +1,24 @@
 -- Tests of equality of plain errors and warnings, and that they decide it.
-use Rattle.std.proofs.Common.{◌≡◌, refl, sym, ap, subst, Bool, true, false, ◌&&◌, true≢false, List, Option, Some, None, nat_eq}
+use Rattle.std.proofs.Common.{◌≡◌, refl, sym, ap, arith, Bool, true, false, ◌&&◌, true≢false, List, Option, Some, None, nat_eq}
 use Rattle.std.specs.Bool.{Decides}
 use Rattle.std.specs.Option.{option_eq}
 use Rattle.std.specs.Cmp.Lexicographic.{pointwise}
 use Rattle.cedar_types.specs.declared.base.location.Loc.{Loc}
 use Rattle.cedar_types.specs.declared.base.errors.type_errors.LubContext.{LubContext}
 use Rattle.cedar_types.specs.contracts.base.errors.type_errors.LubContextPartialEq.TheImpl as context_impl
-use Rattle.cedar_types.specs.Names.{Path, text_eq, path_eq, uid_eq}
+use Rattle.cedar_types.specs.Names.{Text, Path, text_eq, path_eq, uid_eq}
 use Rattle.cedar_types.specs.Types.{Ty}
 use Rattle.cedar_types.specs.Types.Bounds.{ty_eq}
 use Rattle.cedar_types.specs.Names.Comparisons.{bool_eq}
 use Rattle.cedar_types.specs.Lemmas.Comparisons.{Same, and_left, and_right, and_both, list_same, nat_same, text_same, path_same, uid_same}
 use Rattle.cedar_types.specs.Lemmas.Comparisons.{bool_same}
+use Rattle.cedar_types.specs.Lemmas.Decided.{decides, of_two, of_three}
 use Rattle.cedar_types.specs.Errors.{Fault, unrecognized_entity_type, unrecognized_action_id, invalid_enum_entity, unexpected_type}
 use Rattle.cedar_types.specs.Errors.{incompatible_types, unsafe_attribute_access, unsafe_optional_attribute_access, unsafe_tag_access}
 use Rattle.cedar_types.specs.Errors.{no_tags_allowed, undefined_function, wrong_number_arguments, function_argument_validation}
 use Rattle.cedar_types.specs.Errors.{empty_set_forbidden, non_lit_ext_constructor, internal_invariant_violation, maximum_level_exceeded}
 use Rattle.cedar_types.specs.Errors.{literal_dereference_target, Finding, Slip, impossible_policy, invalid_action_application, Warning}
-use Rattle.cedar_types.proofs.Comparisons.TypesDecided.{ty_same}
+use Rattle.cedar_types.proofs.Comparisons.SameTypes.{ty_same}
 
 -- ---- the parts of errors
 
@@ -49,25 +50,8 @@ loc_same = record {
 abbrev pub context_eq : LubContext → LubContext → Bool
 context_eq = context_impl.ghosts.eq
 
-context_to : (x y : LubContext) → context_eq x y ≡ true → x ≡ y
-context_to LubContext.Conditional LubContext.Conditional h = refl
-context_to LubContext.Set LubContext.Set h = refl
-context_to LubContext.Equality LubContext.Equality h = refl
-context_to LubContext.Contains LubContext.Contains h = refl
-context_to LubContext.ContainsAnyAll LubContext.ContainsAnyAll h = refl
-context_to LubContext.GetTag LubContext.GetTag h = refl
-context_to x y h = absurd (true≢false (sym h))
-
-context_itself : (x : LubContext) → context_eq x x ≡ true
-context_itself LubContext.Conditional = refl
-context_itself LubContext.Set = refl
-context_itself LubContext.Equality = refl
-context_itself LubContext.Contains = refl
-context_itself LubContext.ContainsAnyAll = refl
-context_itself LubContext.GetTag = refl
-
 context_same : Same context_eq
-context_same = record { to = context_to; itself = context_itself }
+context_same = record { to = λ x y h. grind arith; itself = λ x. grind arith }
 
 abbrev pub tys_eq : List Ty → List Ty → Bool
 tys_eq = pointwise ty_eq
@@ -110,33 +94,26 @@ warning_eq v w = option_eq loc_eq v.place w.place && (text_eq v.policy w.policy 
 
 -- ---- these tests decide equality
 
--- two tests together, and what they say of a value made of two parts
-abbrev both_to : {A B C : Type 0} {D : A → A → Bool} {E : B → B → Bool} → Same D → Same E → (f : A → B → C)
-    → (a b : A) (x y : B) → (D a b && E x y) ≡ true → f a x ≡ f b y
-both_to {D = D} {E = E} s t f a b x y h = λ i. f (s.to a b (and_left (D a b) (E x y) h) i) (t.to x y (and_right (D a b) (E x y) h) i)
-
 fault_to : (f g : Fault) → fault_eq f g ≡ true → f ≡ g
 fault_to (unrecognized_entity_type t) (unrecognized_entity_type u) h = ap unrecognized_entity_type (path_same.to t u h)
 fault_to (unrecognized_action_id t) (unrecognized_action_id u) h = ap unrecognized_action_id (uid_same.to t u h)
 fault_to (invalid_enum_entity t) (invalid_enum_entity u) h = ap invalid_enum_entity (uid_same.to t u h)
-fault_to (unexpected_type ts a) (unexpected_type us b) h = both_to (list_same ty_same) ty_same unexpected_type ts us a b h
-fault_to (incompatible_types ts c) (incompatible_types us d) h = both_to (list_same ty_same) context_same incompatible_types ts us c d h
+fault_to (unexpected_type ts a) (unexpected_type us b) h = of_two unexpected_type ((list_same ty_same).to ts us) (ty_same.to a b) h
+fault_to (incompatible_types ts c) (incompatible_types us d) h =
+    of_two incompatible_types ((list_same ty_same).to ts us) (context_same.to c d) h
 fault_to (unsafe_attribute_access t a m) (unsafe_attribute_access u b n) h =
-    let rest = and_right (ty_eq t u) (text_eq a b && bool_eq m n) h in
-    λ i. unsafe_attribute_access (ty_same.to t u (and_left (ty_eq t u) (text_eq a b && bool_eq m n) h) i)
-    (text_same.to a b (and_left (text_eq a b) (bool_eq m n) rest) i)
-    (bool_same.to m n (and_right (text_eq a b) (bool_eq m n) rest) i)
+    of_three unsafe_attribute_access (ty_same.to t u) (text_same.to a b) (bool_same.to m n) h
 fault_to (unsafe_optional_attribute_access t a) (unsafe_optional_attribute_access u b) h =
-    both_to ty_same text_same unsafe_optional_attribute_access t u a b h
+    of_two unsafe_optional_attribute_access (ty_same.to t u) (text_same.to a b) h
 fault_to (unsafe_tag_access t) (unsafe_tag_access u) h = ap unsafe_tag_access ((opt_same (list_same path_same)).to t u h)
 fault_to (no_tags_allowed t) (no_tags_allowed u) h = ap no_tags_allowed ((opt_same path_same).to t u h)
 fault_to (undefined_function m) (undefined_function n) h = ap undefined_function (path_same.to m n h)
-fault_to (wrong_number_arguments k m) (wrong_number_arguments l n) h = both_to nat_same nat_same wrong_number_arguments k l m n h
+fault_to (wrong_number_arguments k m) (wrong_number_arguments l n) h = of_two wrong_number_arguments (nat_same.to k l) (nat_same.to m n) h
 fault_to (function_argument_validation m) (function_argument_validation n) h = ap function_argument_validation (text_same.to m n h)
 fault_to empty_set_forbidden empty_set_forbidden h = refl
 fault_to non_lit_ext_constructor non_lit_ext_constructor h = refl
 fault_to internal_invariant_violation internal_invariant_violation h = refl
-fault_to (maximum_level_exceeded k m) (maximum_level_exceeded l n) h = both_to nat_same nat_same maximum_level_exceeded k l m n h
+fault_to (maximum_level_exceeded k m) (maximum_level_exceeded l n) h = of_two maximum_level_exceeded (nat_same.to k l) (nat_same.to m n) h
 fault_to literal_dereference_target literal_dereference_target h = refl
 fault_to f g h = absurd (true≢false (sym h))
 
@@ -167,51 +144,36 @@ fault_same = record { to = fault_to; itself = fault_itself }
 place_same : Same (option_eq loc_eq)
 place_same = opt_same loc_same
 
+abbrev finding_at : Option Loc → Text → Fault → Finding
+finding_at place policy fault = record { place = place; policy = policy; fault = fault }
+
 pub finding_same : Same finding_eq
 finding_same = record {
-  to = λ f g h.
-      let rest = and_right (option_eq loc_eq f.place g.place) (text_eq f.policy g.policy && fault_eq f.fault g.fault) h in
-      λ i. record {
-        place =
-            place_same.to f.place g.place
-            (and_left (option_eq loc_eq f.place g.place) (text_eq f.policy g.policy && fault_eq f.fault g.fault) h)
-            i;
-        policy = text_same.to f.policy g.policy (and_left (text_eq f.policy g.policy) (fault_eq f.fault g.fault) rest) i;
-        fault = fault_same.to f.fault g.fault (and_right (text_eq f.policy g.policy) (fault_eq f.fault g.fault) rest) i;
-      };
-  itself =
-      λ f. and_both (option_eq loc_eq f.place f.place) (text_eq f.policy f.policy && fault_eq f.fault f.fault)
-      (place_same.itself f.place)
-      (and_both (text_eq f.policy f.policy) (fault_eq f.fault f.fault) (text_same.itself f.policy) (fault_same.itself f.fault));
+  to = λ f g. of_three finding_at (place_same.to f.place g.place) (text_same.to f.policy g.policy) (fault_same.to f.fault g.fault);
+  itself = λ f i. place_same.itself f.place i && (text_same.itself f.policy i && fault_same.itself f.fault i);
 }
 
 slip_to : (s t : Slip) → slip_eq s t ≡ true → s ≡ t
 slip_to impossible_policy impossible_policy h = refl
 slip_to (invalid_action_application p r) (invalid_action_application q s) h =
-    both_to bool_same bool_same invalid_action_application p q r s h
+    of_two invalid_action_application (bool_same.to p q) (bool_same.to r s) h
 slip_to s t h = absurd (true≢false (sym h))
 
 slip_itself : (s : Slip) → slip_eq s s ≡ true
 slip_itself impossible_policy = refl
 slip_itself (invalid_action_application p r) = and_both (bool_eq p p) (bool_eq r r) (bool_same.itself p) (bool_same.itself r)
 
+abbrev warning_at : Option Loc → Text → Slip → Warning
+warning_at place policy slip = record { place = place; policy = policy; slip = slip }
+
 pub warning_same : Same warning_eq
 warning_same = record {
-  to = λ v w h.
-      let rest = and_right (option_eq loc_eq v.place w.place) (text_eq v.policy w.policy && slip_eq v.slip w.slip) h in
-      λ i. record {
-        place =
-            place_same.to v.place w.place
-            (and_left (option_eq loc_eq v.place w.place) (text_eq v.policy w.policy && slip_eq v.slip w.slip) h) i;
-        policy = text_same.to v.policy w.policy (and_left (text_eq v.policy w.policy) (slip_eq v.slip w.slip) rest) i;
-        slip = slip_to v.slip w.slip (and_right (text_eq v.policy w.policy) (slip_eq v.slip w.slip) rest) i;
-      };
-  itself = λ v. and_both (option_eq loc_eq v.place v.place) (text_eq v.policy v.policy && slip_eq v.slip v.slip) (place_same.itself v.place)
-      (and_both (text_eq v.policy v.policy) (slip_eq v.slip v.slip) (text_same.itself v.policy) (slip_itself v.slip));
+  to = λ v w. of_three warning_at (place_same.to v.place w.place) (text_same.to v.policy w.policy) (slip_to v.slip w.slip);
+  itself = λ v i. place_same.itself v.place i && (text_same.itself v.policy i && slip_itself v.slip i);
 }
 
 pub finding_eq-Decides : (f g : Finding) → Decides (finding_eq f g) (f ≡ g)
-finding_eq-Decides f g = (finding_same.to f g, λ e. subst (λ h. finding_eq f h ≡ true) e (finding_same.itself f))
+finding_eq-Decides = decides finding_same
 
 pub warning_eq-Decides : (v w : Warning) → Decides (warning_eq v w) (v ≡ w)
-warning_eq-Decides v w = (warning_same.to v w, λ e. subst (λ u. warning_eq v u ≡ true) e (warning_same.itself v))
+warning_eq-Decides = decides warning_same

@@ -1,71 +1,45 @@
 -- Equality of plain types, as a test, is equality.
-use Rattle.std.proofs.Common.{◌≡◌, refl, sym, ap, subst, Bool, true, false, ◌&&◌, List, true≢false}
+use Rattle.std.proofs.Common.{◌≡◌, refl, sym, ap, arith, Bool, true, ◌&&◌, List, true≢false}
 use Rattle.std.specs.Bool.{Decides}
-use Rattle.std.specs.Cmp.Lexicographic.{pointwise, pointwise_decides, bytes_decides}
+use Rattle.std.specs.Cmp.Lexicographic.{pointwise}
 use Rattle.cedar_types.specs.declared.base.types.BoolType.{BoolType}
-use Rattle.cedar_types.specs.declared.base.types.BoolType.TheVariants.{AnyBool, True, False}
 use Rattle.cedar_types.specs.Names.{Text, Path, text_eq, path_eq}
 use Rattle.cedar_types.specs.Types.{Ty, TNever, TBool, TLong, TString, TSet, TAnySet, TRecord, TEntity, TAnyEntity, TExtension, Attrs}
 use Rattle.cedar_types.specs.Types.{no_attrs, attr}
 use Rattle.cedar_types.specs.Types.Bounds.{kind_eq, mark_eq, ty_eq, attrs_eq}
-
-pub and_left : (a b : Bool) → (a && b) ≡ true → a ≡ true
-and_left true b h = refl
-and_left false b h = h
-
-pub and_right : (a b : Bool) → (a && b) ≡ true → b ≡ true
-and_right true b h = h
-and_right false b h = absurd (true≢false (sym h))
-
-pub and_both : (a b : Bool) → a ≡ true → b ≡ true → (a && b) ≡ true
-and_both a b p q = λ i. p i && q i
+pub use Rattle.cedar_types.specs.Lemmas.Comparisons.{and_left, and_right, and_both}
+use Rattle.cedar_types.specs.Lemmas.Comparisons.{Same, list_same, text_same, path_same}
+use Rattle.cedar_types.specs.Lemmas.Decided.{decides, of_two}
 
 pub text_decides : (a b : Text) → Decides (text_eq a b) (a ≡ b)
-text_decides a b = bytes_decides a b
+text_decides = decides text_same
 
 pub text_itself : (a : Text) → text_eq a a ≡ true
-text_itself a = (text_decides a a).1 refl
-
-texts_decide : (a b : List Text) → Decides (pointwise text_eq a b) (a ≡ b)
-texts_decide a b = pointwise_decides text_decides a b
+text_itself = text_same.itself
 
 pub path_to : (p q : Path) → path_eq p q ≡ true → p ≡ q
-path_to p q h = λ i. record {
-  path = (texts_decide p.path q.path).0 (and_left (pointwise text_eq p.path q.path) (text_eq p.basename q.basename) h) i;
-  basename = (text_decides p.basename q.basename).0 (and_right (pointwise text_eq p.path q.path) (text_eq p.basename q.basename) h) i;
-}
+path_to = path_same.to
 
 pub path_itself : (p : Path) → path_eq p p ≡ true
-path_itself p =
-    and_both (pointwise text_eq p.path p.path) (text_eq p.basename p.basename) ((texts_decide p.path p.path).1 refl)
-    (text_itself p.basename)
+path_itself = path_same.itself
 
 pub path_decides : (p q : Path) → Decides (path_eq p q) (p ≡ q)
-path_decides p q = (path_to p q, λ e. subst (λ r. path_eq p r ≡ true) e (path_itself p))
+path_decides = decides path_same
 
 pub paths_decide : (ps qs : List Path) → Decides (pointwise path_eq ps qs) (ps ≡ qs)
-paths_decide ps qs = pointwise_decides path_decides ps qs
+paths_decide = decides (list_same path_same)
 
 kind_to : (j k : BoolType) → kind_eq j k ≡ true → j ≡ k
-kind_to AnyBool AnyBool h = refl
-kind_to True True h = refl
-kind_to False False h = refl
-kind_to j k h = absurd (true≢false (sym h))
+kind_to j k h = grind arith
 
 pub kind_itself : (k : BoolType) → kind_eq k k ≡ true
-kind_itself AnyBool = refl
-kind_itself True = refl
-kind_itself False = refl
+kind_itself k = grind arith
 
 pub mark_to : (a b : Bool) → mark_eq a b ≡ true → a ≡ b
-mark_to true true h = refl
-mark_to true false h = absurd (true≢false (sym h))
-mark_to false true h = absurd (true≢false (sym h))
-mark_to false false h = refl
+mark_to a b h = grind arith
 
 pub mark_itself : (a : Bool) → mark_eq a a ≡ true
-mark_itself true = refl
-mark_itself false = refl
+mark_itself a = grind arith
 
 mutual
   pub ty_to : (s t : Ty) → ty_eq s t ≡ true → s ≡ t
@@ -75,9 +49,7 @@ mutual
   ty_to TString TString h = refl
   ty_to (TSet s) (TSet t) h = ap TSet (ty_to s t h)
   ty_to TAnySet TAnySet h = refl
-  ty_to (TRecord xs o) (TRecord ys p) h =
-      λ i. TRecord (attrs_to xs ys (and_left (attrs_eq xs ys) (mark_eq o p) h) i)
-      (mark_to o p (and_right (attrs_eq xs ys) (mark_eq o p) h) i)
+  ty_to (TRecord xs o) (TRecord ys p) h = of_two TRecord (attrs_to xs ys) (mark_to o p) h
   ty_to (TEntity ps) (TEntity qs) h = ap TEntity ((paths_decide ps qs).0 h)
   ty_to TAnyEntity TAnyEntity h = refl
   ty_to (TExtension m) (TExtension n) h = ap TExtension (path_to m n h)
@@ -114,5 +86,8 @@ mutual
       (and_both (text_eq k k) (ty_eq t t && mark_eq r r) (text_itself k)
       (and_both (ty_eq t t) (mark_eq r r) (ty_itself t) (mark_itself r))) (attrs_itself xs)
 
+pub ty_same : Same ty_eq
+ty_same = record { to = ty_to; itself = ty_itself }
+
 pub ty_decides : (s t : Ty) → Decides (ty_eq s t) (s ≡ t)
-ty_decides s t = (ty_to s t, λ e. subst (λ u. ty_eq s u ≡ true) e (ty_itself s))
+ty_decides = decides ty_same

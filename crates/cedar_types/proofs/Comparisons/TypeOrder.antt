@@ -1,5 +1,5 @@
 -- The order of types in the program is the order of plain types.
-use Rattle.std.proofs.Common.{◌≡◌, refl, sym, ◌∙◌, subst, Bool, true, false, List, [], ◌∷◌, map}
+use Rattle.std.proofs.Common.{◌≡◌, refl, sym, ◌∙◌, subst, arith, Bool, List, [], ◌∷◌, map}
 use Rattle.std.specs.declared.cmp.Ordering.{Ordering}
 use Rattle.std.specs.declared.cmp.Ordering.TheVariants.{Less, Equal, Greater}
 use Rattle.std.specs.Ordering.{nat_cmp, bool_cmp, ordering_then, match_ordering}
@@ -11,14 +11,12 @@ use Rattle.std.specs.declared.rc.RcStr.{RcStr}
 use denote.Hole.Carrier.{out}
 use Rattle.cedar_types.specs.declared.base.names.entities.EntityType.{EntityType}
 use Rattle.cedar_types.specs.declared.base.types.BoolType.{BoolType}
-use Rattle.cedar_types.specs.declared.base.types.BoolType.TheVariants.{AnyBool, True, False}
 use Rattle.cedar_types.specs.declared.base.types.OpenTag.{OpenTag}
-use Rattle.cedar_types.specs.declared.base.types.OpenTag.TheVariants.{OpenAttributes, ClosedAttributes}
 use Rattle.cedar_types.specs.declared.base.types.EntityKind.{EntityKind}
 use Rattle.cedar_types.specs.declared.base.types.EntityKind.TheVariants as kind
 use Rattle.cedar_types.specs.declared.base.types.AttributeType.{AttributeType}
 use Rattle.cedar_types.specs.declared.base.types.Attributes.{Attributes}
-use Rattle.cedar_types.specs.declared.base.types.CedarType.{CedarType}
+use Rattle.cedar_types.specs.declared.base.types.CedarType.{CedarType, fold_out-CedarType, map-CedarType}
 use Rattle.cedar_types.specs.declared.base.types.CedarType.TheViews.{out-CedarType, out-Attributes}
 use Rattle.cedar_types.specs.declared.base.types.CedarType.TheBlock.{struct-Attributes, Row_of-AttributeType, end_of-AttributeType}
 use Rattle.cedar_types.specs.declared.base.types.CedarType.TheBlock.{more_of-AttributeType, items-the_row-AttributeType}
@@ -34,12 +32,12 @@ use Rattle.cedar_types.specs.contracts.base.types.AttributesOrd.TheImpl as attri
 use Rattle.cedar_types.specs.contracts.base.types.AttributesOrd.TheImpl.Laws as attributes_laws
 use Rattle.cedar_types.specs.contracts.base.types.AttributeTypeOrd.TheImpl as attribute_impl
 use Rattle.cedar_types.specs.contracts.base.types.AttributeTypeOrd.TheImpl.Laws as attribute_laws
-use Rattle.cedar_types.specs.Names.{text_of, type_of, text_cmp, path_cmp}
-use Rattle.cedar_types.specs.Types.{is_open_tag, lub_of, kind_of, ty_of, attributes_of, entries_of}
+use Rattle.cedar_types.specs.Names.{path_of, text_of, type_of, text_cmp, path_cmp}
+use Rattle.cedar_types.specs.Types.{Ty, TNever, TBool, TLong, TString, TSet, TAnySet, TRecord, TExtension, Attrs, is_open_tag, lub_of}
+use Rattle.cedar_types.specs.Types.{kind_of, ty_step, attribute_step, attributes_step, ty_of, attribute_of, attributes_of, entries_of}
 use Rattle.cedar_types.specs.Types.Order.{bool_rank, open_rank, required_rank, ty_cmp, attrs_cmp, insert_ty}
 use Rattle.cedar_types.proofs.Names.Paths.{names_cmp}
 use Rattle.cedar_types.proofs.Attributes.{attributes_are}
-use Rattle.cedar_types.proofs.Comparisons.Types.{tview, is_view}
 
 abbrev order : CedarType → CedarType → Ordering
 order = type_impl.ghosts.cmp
@@ -64,27 +62,42 @@ kind_is kind.AnyEntity (kind.Entity t) = refl
 kind_is kind.AnyEntity kind.AnyEntity = refl
 
 tag_is : (o p : OpenTag) → tag_impl.ghosts.cmp o p ≡ nat_cmp (open_rank (is_open_tag o)) (open_rank (is_open_tag p))
-tag_is OpenAttributes OpenAttributes = refl
-tag_is OpenAttributes ClosedAttributes = refl
-tag_is ClosedAttributes OpenAttributes = refl
-tag_is ClosedAttributes ClosedAttributes = refl
+tag_is o p = grind arith
 
 bool_is : (j k : BoolType) → bool_impl.ghosts.cmp j k ≡ nat_cmp (bool_rank j) (bool_rank k)
-bool_is AnyBool AnyBool = refl
-bool_is AnyBool True = refl
-bool_is AnyBool False = refl
-bool_is True AnyBool = refl
-bool_is True True = refl
-bool_is True False = refl
-bool_is False AnyBool = refl
-bool_is False True = refl
-bool_is False False = refl
+bool_is j k = grind arith
 
 mark_is : (a b : Bool) → bool_cmp a b ≡ nat_cmp (required_rank a) (required_rank b)
-mark_is true true = refl
-mark_is true false = refl
-mark_is false true = refl
-mark_is false false = refl
+mark_is a b = grind arith
+
+-- a type, one level deep
+abbrev tview : CedarType → Ty
+tview T.Never = TNever
+tview (T.Bool k) = TBool k
+tview T.Long = TLong
+tview T.String = TString
+tview (T.Set' p t) = TSet (ty_of t)
+tview T.AnySet = TAnySet
+tview (T.Record a o) = TRecord (attributes_of a) (is_open_tag o)
+tview (T.Entity k) = kind_of k
+tview (T.Extension n) = TExtension (path_of n.value)
+
+opened : (x : CedarType)
+    → ty_of x ≡ ty_step (map-CedarType CedarType AttributeType Attributes Ty (Ty × Bool)
+    Attrs ty_of attribute_of attributes_of (out-CedarType x))
+opened x = fold_out-CedarType Ty (Ty × Bool) Attrs ty_step attribute_step attributes_step x
+
+is_view : (x : CedarType) → ty_of x ≡ tview x
+unfolding out-CedarType out
+is_view T.Never = opened T.Never
+is_view (T.Bool k) = opened (T.Bool k)
+is_view T.Long = opened T.Long
+is_view T.String = opened T.String
+is_view (T.Set' p t) = opened (T.Set' p t)
+is_view T.AnySet = opened T.AnySet
+is_view (T.Record a o) = opened (T.Record a o)
+is_view (T.Entity k) = opened (T.Entity k)
+is_view (T.Extension n) = opened (T.Extension n)
 
 -- the two orders agree at x
 abbrev Agrees : AttributeType → Type 0

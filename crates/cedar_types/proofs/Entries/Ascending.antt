@@ -1,9 +1,9 @@
 -- Lists in strictly ascending order: their heads, their tails, and one entry more at the end.
-use Rattle.std.proofs.Common.{◌≡◌, List, [], ◌∷◌, ◌++◌, ap, ◌∙◌}
+use Rattle.std.proofs.Common.{◌≡◌, true≢false, List, [], ◌∷◌, ◌++◌, sym, ap, ◌∙◌}
 use Rattle.std.specs.List.{AllByRecursion}
 use Rattle.std.specs.List.Sorted.{IsStrictlySortedBy}
-use Rattle.std.specs.Cmp.{IsTotalOrder}
-use Rattle.std.specs.Ordering.{ordering_reverse}
+use Rattle.std.specs.Cmp.{IsTotalOrder, tied_itself}
+use Rattle.std.specs.Ordering.{is_lt, ordering_reverse}
 use Rattle.std.specs.declared.cmp.Ordering.{Ordering}
 use Rattle.std.specs.declared.cmp.Ordering.TheVariants.{Less, Equal, Greater}
 use Rattle.std.proofs.lemmas.Cmp.{alike_right}
@@ -35,6 +35,12 @@ module _ {K : Type 0} {cmp : K → K → Ordering} (o : IsTotalOrder cmp) where
 
   pub turned : (x y : K) → cmp x y ≡ Greater → cmp y x ≡ Less
   turned x y e = o.antisymm y x ∙ ap ordering_reverse e
+
+  pub not_below_itself : (x : K) → cmp x x ≡ Less → ⊥
+  not_below_itself x e = true≢false (sym (ap is_lt (sym (tied_itself o x) ∙ e)))
+
+  pub not_both_ways : (x y : K) → cmp x y ≡ Less → cmp y x ≡ Less → ⊥
+  not_both_ways x y e f = not_below_itself x (o.trans x y x e f)
 
   pub below_more : (x y : K) (zs : List K) → cmp x y ≡ Less → Below y zs → Below x zs
   below_more x y zs h = all_map (λ z. o.trans x y z h) zs

@@ -10,15 +10,7 @@ use Rattle.cedar_types.specs.declared.base.expressions.extensions.ExtensionTable
 use Rattle.cedar_types.specs.Extensions.Functions.{ExtensionFunction, function_named, has_two_alike, has_bad_return, lacks_arguments}
 use Rattle.cedar_types.specs.Extensions.Functions.{table_fault}
 use Rattle.cedar_types.proofs.Comparisons.SameTypes.{path_to, path_itself}
-use Rattle.cedar_types.proofs.Tests.{alike}
-
-or_left : (a b : Bool) → (a || b) ≡ false → a ≡ false
-or_left true b h = absurd (true≢false h)
-or_left false b h = refl
-
-or_right : (a b : Bool) → (a || b) ≡ false → b ≡ false
-or_right true b h = absurd (true≢false h)
-or_right false b h = h
+use Rattle.cedar_types.proofs.Tests.{or_left, or_right, alike}
 
 pub neither : (a b : Bool) → a ≡ false → b ≡ false → (a || b) ≡ false
 neither a b h k = ap (λ r. r || b) h ∙ k

@@ -1,7 +1,6 @@
 -- Ids of entities: their order and their equality; and equality of names and ids.
 use Rattle.std.proofs.Common.{◌≡◌, refl, sym, ap, ◌∙◌, ◌&&◌, ◌||◌, List, [], ◌∷◌, map}
 use Rattle.std.specs.declared.cmp.Ordering.{Ordering}
-use Rattle.std.specs.declared.cmp.Ordering.TheVariants.{Less, Equal, Greater}
 use Rattle.std.specs.Ordering.{ordering_then, is_eq}
 use Rattle.std.specs.Bool.{Decides}
 use Rattle.std.specs.Cmp.Lexicographic.{pointwise, slice_cmp, texts_ties}
@@ -12,7 +11,7 @@ use Rattle.std.proofs.lemmas.Slice.Eq.{slice_eq-Decides, bytes_eq-Decides}
 use Rattle.cedar_types.specs.declared.base.names.entities.EntityType.{EntityType}
 use Rattle.cedar_types.specs.declared.base.names.entities.EntityUID.{EntityUID}
 use Rattle.cedar_types.specs.Names.{Path, Uid, text_of, type_of, uid_of, text_cmp, path_cmp, uid_cmp, text_eq, path_eq, uid_eq}
-use Rattle.cedar_types.proofs.Names.Paths.{names_eq, names_cmp, path_ties}
+use Rattle.cedar_types.proofs.Names.Paths.{names_eq, names_cmp, tied_then, path_ties}
 
 -- ---- equality is what the tests decide
 
@@ -42,11 +41,6 @@ pub uids_eq : (u v : EntityUID)
 uids_eq u v = ap (λ r. r && text_eq (text_of u.eid) (text_of v.eid)) (names_eq u.entity_type.name v.entity_type.name)
 
 -- ---- the order of ids
-
-tied_then : (o p : Ordering) → (is_eq o && is_eq p) ≡ is_eq (ordering_then o p)
-tied_then Less p = refl
-tied_then Equal p = refl
-tied_then Greater p = refl
 
 pub uid_ties : (u v : Uid) → uid_eq u v ≡ is_eq (uid_cmp u v)
 uid_ties u v =

@@ -28,7 +28,8 @@ names_cmp a b =
     ap (λ r. ordering_then r (text_cmp (text_of a.basename) (text_of b.basename)))
     (sym (lex_map text_of text_cmp a.path.items b.path.items))
 
-tied_then : (o p : Ordering) → (is_eq o && is_eq p) ≡ is_eq (ordering_then o p)
+-- two ties together are a tie of the two orders, one after the other
+pub tied_then : (o p : Ordering) → (is_eq o && is_eq p) ≡ is_eq (ordering_then o p)
 tied_then Less p = refl
 tied_then Equal p = refl
 tied_then Greater p = refl

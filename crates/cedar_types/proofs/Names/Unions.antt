@@ -2,14 +2,15 @@
 use Rattle.std.proofs.Common.{◌≡◌, ◌⊎◌, inl, inr, refl, sym, ap, ◌∙◌, subst, Bool, true, false, ◌||◌, List, [], ◌∷◌, true≢false}
 use Rattle.std.specs.declared.cmp.Ordering.{Ordering}
 use Rattle.std.specs.declared.cmp.Ordering.TheVariants.{Less, Equal, Greater}
-use Rattle.std.specs.Ordering.{is_lt, is_eq, ordering_reverse, match_ordering}
-use Rattle.std.specs.Cmp.{IsTotalOrder, on_total, then_total, tied_itself}
+use Rattle.std.specs.Ordering.{is_lt, is_eq, match_ordering}
+use Rattle.std.specs.Cmp.{IsTotalOrder, on_total, then_total}
 use Rattle.std.specs.Cmp.Lexicographic.{nat_list_cmp_total, lists_total}
 use Rattle.std.specs.List.{list_all, list_any}
 use Rattle.cedar_types.specs.Names.{Path, path_cmp, path_eq}
 use Rattle.cedar_types.specs.Names.Ascending.{paths_ascending}
 use Rattle.cedar_types.specs.Types.Bounds.{insert_path, union}
 use Rattle.cedar_types.proofs.Names.Paths.{path_ties}
+use Rattle.cedar_types.proofs.Entries.Ascending.{turned, not_below_itself, not_both_ways}
 use Rattle.cedar_types.proofs.Comparisons.SameTypes.{and_left, and_right, and_both, path_to, path_itself}
 
 pub or_cases : (a b : Bool) → (a || b) ≡ true → (a ≡ true) ⊎ (b ≡ true)
@@ -35,15 +36,6 @@ path_total = then_total (on_total (λ p. p.path) (lists_total nat_list_cmp_total
 
 pub tied_paths : (p q : Path) → path_cmp p q ≡ Equal → p ≡ q
 tied_paths p q e = path_to p q (path_ties p q ∙ ap is_eq e)
-
-not_below_itself : (p : Path) → path_cmp p p ≡ Less → ⊥
-not_below_itself p e = true≢false (sym (ap is_lt (sym (tied_itself path_total p) ∙ e)))
-
-not_both_ways : (p q : Path) → path_cmp p q ≡ Less → path_cmp q p ≡ Less → ⊥
-not_both_ways p q e f = not_below_itself p (path_total.trans p q p e f)
-
-turned : (p q : Path) → path_cmp p q ≡ Greater → path_cmp q p ≡ Less
-turned p q e = path_total.antisymm q p ∙ ap ordering_reverse e
 
 -- whether a name is among some
 abbrev pub has : Path → List Path → Bool
@@ -82,7 +74,7 @@ pub rest_ascends : (p : Path) (ps : List Path) → paths_ascending (p ∷ ps) �
 rest_ascends p ps h = and_right (list_all (λ q. is_lt (path_cmp p q)) ps) (paths_ascending ps) h
 
 absent : (p : Path) (ps : List Path) → Above p ps → has p ps ≡ false
-absent p ps h = not_true (has p ps) (λ e. not_below_itself p (h p e))
+absent p ps h = not_true (has p ps) (λ e. not_below_itself path_total p (h p e))
 
 -- ascending names are told by their members
 pub same_members : (ps qs : List Path) → paths_ascending ps ≡ true → paths_ascending qs ≡ true
@@ -95,15 +87,15 @@ same_members (p ∷ ps) (q ∷ qs) a b h = by (same_members ps qs (rest_ascends 
     first_of_q : path_cmp p q ≡ Less → ⊥
     first_of_q e =
         elim (or_cases (path_eq p q) (has p qs) (sym (h p) ∙ has_first p ps)) [
-          | inl f ↦ not_below_itself p (subst (λ r. path_cmp p r ≡ Less) (sym (path_to p q f)) e)
-          | inr f ↦ not_both_ways p q e (first_above q qs b p f)
+          | inl f ↦ not_below_itself path_total p (subst (λ r. path_cmp p r ≡ Less) (sym (path_to p q f)) e)
+          | inr f ↦ not_both_ways path_total p q e (first_above q qs b p f)
         ]
 
     first_of_p : path_cmp q p ≡ Less → ⊥
     first_of_p e =
         elim (or_cases (path_eq q p) (has q ps) (h q ∙ has_first q qs)) [
-          | inl f ↦ not_below_itself q (subst (λ r. path_cmp q r ≡ Less) (sym (path_to q p f)) e)
-          | inr f ↦ not_both_ways q p e (first_above p ps a q f)
+          | inl f ↦ not_below_itself path_total q (subst (λ r. path_cmp q r ≡ Less) (sym (path_to q p f)) e)
+          | inr f ↦ not_both_ways path_total q p e (first_above p ps a q f)
         ]
 
     rest : p ≡ q → (r : Path) (t : Bool) → path_eq r p ≡ t → has r ps ≡ has r qs
@@ -116,7 +108,7 @@ same_members (p ∷ ps) (q ∷ qs) a b h = by (same_members ps qs (rest_ascends 
     by : (((r : Path) → has r ps ≡ has r qs) → ps ≡ qs) → (o : Ordering) → path_cmp p q ≡ o → p ∷ ps ≡ q ∷ qs
     by others Less e = absurd (first_of_q e)
     by others Equal e = λ i. tied_paths p q e i ∷ others (λ r. rest (tied_paths p q e) r (path_eq r p) refl) i
-    by others Greater e = absurd (first_of_p (turned p q e))
+    by others Greater e = absurd (first_of_p (turned path_total p q e))
 
 -- ---- a name put in
 or_twice : (a b : Bool) → (a || b) ≡ (a || (a || b))
@@ -152,7 +144,7 @@ inserted_ascends p (q ∷ qs) a = by (inserted_ascends p qs (rest_ascends q qs a
     still : path_cmp p q ≡ Greater → Above q (insert_path p qs)
     still e r f =
         elim (or_cases (path_eq r p) (has r qs) (sym (has_inserted r p qs) ∙ f)) [
-          | inl g ↦ subst (λ x. path_cmp q x ≡ Less) (sym (path_to r p g)) (turned p q e)
+          | inl g ↦ subst (λ x. path_cmp q x ≡ Less) (sym (path_to r p g)) (turned path_total p q e)
           | inr g ↦ first_above q qs a r g
         ]
 

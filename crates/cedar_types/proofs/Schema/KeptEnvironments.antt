@@ -12,7 +12,7 @@ use Rattle.cedar_types.specs.declared.base.schema.ValidatorSchema.{ValidatorSche
 use Rattle.cedar_types.specs.contracts.base.types.ValidationModePartialEq.TheImpl as mode_test
 use Rattle.cedar_types.specs.declared.base.types.ValidationMode.{ValidationMode}
 use Rattle.cedar_types.specs.declared.base.types.ValidationMode.TheVariants.{Strict, Permissive, Partial}
-use Rattle.cedar_types.proofs.Comparisons.TypesDecided.{ty_same}
+use Rattle.cedar_types.proofs.Comparisons.SameTypes.{ty_same}
 
 -- two equal things are told apart by no test
 told : {A : Type 0} {E : A → A → Bool} → Same E → (x y : A) → ∥ x ≡ y ∥₁ → x ≡ y

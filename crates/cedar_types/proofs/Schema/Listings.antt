@@ -9,6 +9,7 @@ use Rattle.std.specs.List.Sorted.{IsStrictlySortedBy}
 use Rattle.std.specs.BTreeSet.{insert_key}
 use Rattle.std.proofs.lemmas.List.Folds.{list_any-append, list_all-map, list_all_at}
 use Rattle.std.proofs.lemmas.Grind.{flat_map-append}
+pub use Rattle.cedar_types.proofs.Tests.{or_left, or_right}
 use Rattle.cedar_types.specs.Names.{Path, Uid, path_eq, uid_eq}
 use Rattle.cedar_types.specs.Schemas.{has_repeat, is_among, uid_is_among, DeclaredAction, descendants_of_action}
 use Rattle.cedar_types.specs.Schemas.Listings.{ListsTypes, actions_within}
@@ -50,14 +51,6 @@ not_itself p (d ∷ ds) = along (path_eq p d) refl (not_itself p ds)
         → list_any (path_eq p) (cond (not b) (d ∷ others p ds) (others p ds)) ≡ false
     along true e h = h
     along false e h = ap (λ b. b || list_any (path_eq p) (others p ds)) (sym e) ∙ h
-
-pub or_left : (a b : Bool) → (a || b) ≡ false → a ≡ false
-or_left true b h = h
-or_left false b h = refl
-
-pub or_right : (a b : Bool) → (a || b) ≡ false → b ≡ false
-or_right true b h = cc
-or_right false b h = h
 
 none_kept : {X : Type 0} (p r : X → Bool) (xs : List X) → list_any p xs ≡ false → list_any p (filter r xs) ≡ false
 none_kept p r [] h = refl

@@ -11,7 +11,7 @@ use Rattle.cedar_types.specs.contracts.base.expressions.operators.BinaryOpHash.T
 use Rattle.cedar_types.specs.contracts.base.expressions.patterns.PatternElemHash.TheImpl as pattern_impl
 use Rattle.cedar_types.specs.Names.{Text, text_of, Path, Uid}
 use Rattle.cedar_types.specs.Expressions.ShapeOnly.{shape_of}
-use Rattle.cedar_types.specs.Expressions.Tree.{Lit, bool, long, string, entity, Tree, lit, var, slot, unknown, if_then_else, and, or, unary}
+use Rattle.cedar_types.specs.Expressions.Tree.{Lit, bool, long, string, entity, lit, var, slot, unknown, if_then_else, and, or, unary}
 use Rattle.cedar_types.specs.Expressions.Tree.{binary, call, get_attr, has_attr, ext_has_attr, like, is_type, set_of, record_of, Shape}
 use Rattle.cedar_types.specs.Expressions.Tree.{Trees, no_trees, tree, Fields, no_fields, field}
 

@@ -1,5 +1,5 @@
 -- What the iterator over the environments of a template holds, as plain data.
-use Rattle.std.specs.Prelude.{ℕ, ◌≤◌, Bool, List, [], ◌++◌, map, drop, cond, Option, Some, None, option_map}
+use Rattle.std.specs.Prelude.{◌≡◌, ℕ, ◌≤◌, Bool, List, [], ◌++◌, map, drop, cond, Option, Some, None, option_map}
 use Rattle.std.specs.List.{flat_map}
 use Rattle.std.specs.Borrow.{Bor}
 use Rattle.cedar_types.specs.declared.base.names.entities.EntityType.{EntityType}
@@ -18,6 +18,10 @@ use Rattle.cedar_types.specs.Environments.SlotLinks.{links_held, most_links}
 -- a slot's link, by the type's name
 abbrev pub link_of : Option (Bor EntityType) → Option Path
 link_of = option_map (λ t. type_of t.now)
+
+-- after the links that were there, one to each of these types
+abbrev pub AddsLinks : List (Option (Bor EntityType)) → List Path → List (Option (Bor EntityType)) → Type 0
+AddsLinks before ps after = map link_of after ≡ map link_of before ++ map (λ p. Some p) ps
 
 abbrev pub place_env : Place → DeclaredEnv
 place_env p = record {

@@ -1,9 +1,8 @@
 -- Which actions the scope of a template admits, and environments of actions that it does not admit.
-use Rattle.std.specs.Prelude.{◌≡◌, Bool, true, false, ◌||◌, List, map, Option}
+use Rattle.std.specs.Prelude.{◌≡◌, Bool, true, false, ◌||◌, List, map}
 use Rattle.std.specs.List.{list_any}
-use Rattle.cedar_types.specs.Names.{Path, Uid, uid_eq}
+use Rattle.cedar_types.specs.Names.{Uid, uid_eq}
 use Rattle.cedar_types.specs.Schemas.{DeclaredAction, Schema, uid_is_among, descendants_of_action, declares_action}
-use Rattle.cedar_types.specs.Environments.{DeclaredEnv}
 use Rattle.cedar_types.specs.Environments.RequestEnvs.{Env, Declared, Undeclared}
 use Rattle.cedar_types.specs.Templates.{ActionScope, any_action, equal_action, within_actions, PlainTemplate}
 

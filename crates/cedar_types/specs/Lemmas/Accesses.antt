@@ -1,26 +1,23 @@
 -- The equality and the order of what capabilities are about are lawful.
 use Rattle.std.proofs.Common.{◌≡◌, Bool, true, false, ◌&&◌, List, [], ◌∷◌, Option, fold, refl, sym, ap, ◌∙◌, true≢false}
-use Rattle.std.specs.Cmp.{IsTotalOrder, IsEquivalence, on_total, on_equiv, decided, then_total, both_tied}
+use Rattle.std.specs.Cmp.{IsTotalOrder, IsEquivalence, on_total, on_equiv, decided, then_total}
 use Rattle.std.specs.Cmp.Lexicographic.{slice_cmp, lists_total, nat_list_cmp_total, texts_ties}
 use Rattle.std.specs.Ordering.{is_eq, ordering_then}
 use Rattle.std.specs.declared.cmp.Ordering.{Ordering}
 use Rattle.std.specs.declared.cmp.Ordering.TheVariants.{Less, Equal, Greater}
 use denote.Builtin.{unit}
-use denote.Hole.Carrier.{out}
 use Rattle.cedar_types.specs.declared.base.location.Loc.{Loc}
 use Rattle.cedar_types.specs.declared.base.expressions.Expr.{Expr}
 use Rattle.cedar_types.specs.declared.base.expressions.ExprKind.{ExprKind}
 use Rattle.cedar_types.specs.declared.base.expressions.ExprKind.TheVariants as K
-use Rattle.cedar_types.specs.declared.base.expressions.ExprKind.TheViews.{out-ExprKind}
-use Rattle.cedar_types.specs.declared.types.capability.accesses.Accesses.{Accesses}
 use Rattle.cedar_types.specs.declared.types.capability.owners.Owner.{Owner}
 use Rattle.cedar_types.specs.contracts.base.expressions.ExprOrd.TheImpl.Laws as expr_ord_laws
-use Rattle.cedar_types.specs.Accesses.{got, shape_at, Spine, push, spine_of, spine, spine_at, bottom_cmp, spine_cmp, shape_on, spine_on}
+use Rattle.cedar_types.specs.Accesses.{got, Spine, push, spine_of, spine, bottom_cmp, spine_cmp, shape_on, spine_on}
 use Rattle.cedar_types.specs.Accesses.{owner_eq, owner_cmp, texts_at}
 use Rattle.cedar_types.specs.Lemmas.Layers as layers
 use Rattle.cedar_types.specs.Lemmas.Same.{expr_is}
 use Rattle.cedar_types.specs.Lemmas.TreeSame.{tree_eq-Decides}
-use Rattle.cedar_types.specs.Names.{Text, text_of, text_eq, text_cmp}
+use Rattle.cedar_types.specs.Names.{Text, text_of, text_cmp}
 use Rattle.cedar_types.specs.Expressions.Tree.{Shape, get_attr}
 use Rattle.cedar_types.specs.Expressions.TreeEq.{tree_eq}
 use Rattle.cedar_types.specs.Expressions.View.{shape}

@@ -1,94 +1,29 @@
 -- `tree_eq` decides equality of shapes.
-use Rattle.std.proofs.Common.{◌≡◌, true, ◌&&◌, true≢false, refl, sym, ap, subst}
+use Rattle.std.proofs.Common.{◌≡◌, true, ◌&&◌, true≢false, refl, sym, ap, arith}
 use Rattle.std.specs.Bool.{Decides}
 use borrow.Author.Tests.{eqb-true, eq-eqb}
-use Rattle.cedar_types.specs.declared.base.expressions.operators.Var.{Var}
-use Rattle.cedar_types.specs.declared.base.expressions.operators.UnaryOp.{UnaryOp}
-use Rattle.cedar_types.specs.declared.base.expressions.operators.BinaryOp.{BinaryOp}
 use Rattle.cedar_types.specs.declared.base.expressions.patterns.PatternElem.{PatternElem}
-use Rattle.cedar_types.specs.declared.base.names.slots.SlotId.{SlotId}
 use Rattle.cedar_types.specs.contracts.base.expressions.patterns.PatternElemPartialEq.TheImpl as pattern_impl
 use Rattle.cedar_types.specs.Lemmas.Comparisons.{Same, and_left, and_right, and_both, list_same, text_same, texts_same, path_same, uid_same}
 use Rattle.cedar_types.specs.Lemmas.Comparisons.{bool_same, int_same}
+use Rattle.cedar_types.specs.Lemmas.Decided.{decides, of_two, of_three}
 use Rattle.cedar_types.specs.Names.{text_eq, texts_eq, path_eq}
 use Rattle.cedar_types.specs.Expressions.Tree.{Lit, bool, long, string, entity, lit, var, slot, unknown, if_then_else, and, or, unary}
 use Rattle.cedar_types.specs.Expressions.Tree.{binary, call, get_attr, has_attr, ext_has_attr, like, is_type, set_of, record_of, Trees}
 use Rattle.cedar_types.specs.Expressions.Tree.{no_trees, tree, Fields, no_fields, field, Shape}
 use Rattle.cedar_types.specs.Expressions.TreeEq.{lit_eq, var_eq, slot_eq, unary_eq, binary_eq, pattern_eq, tree_eq, trees_eq, fields_eq}
 
-var_to : (x y : Var) → var_eq x y ≡ true → x ≡ y
-var_to Var.Principal Var.Principal h = refl
-var_to Var.Action Var.Action h = refl
-var_to Var.Resource Var.Resource h = refl
-var_to Var.Context Var.Context h = refl
-var_to x y h = absurd (true≢false (sym h))
-
-var_itself : (x : Var) → var_eq x x ≡ true
-var_itself Var.Principal = refl
-var_itself Var.Action = refl
-var_itself Var.Resource = refl
-var_itself Var.Context = refl
-
 pub var_same : Same var_eq
-var_same = record { to = var_to; itself = var_itself }
-
-slot_to : (x y : SlotId) → slot_eq x y ≡ true → x ≡ y
-slot_to SlotId.Principal SlotId.Principal h = refl
-slot_to SlotId.Resource SlotId.Resource h = refl
-slot_to x y h = absurd (true≢false (sym h))
-
-slot_itself : (x : SlotId) → slot_eq x x ≡ true
-slot_itself SlotId.Principal = refl
-slot_itself SlotId.Resource = refl
+var_same = record { to = λ x y h. grind arith; itself = λ x. grind arith }
 
 pub slot_same : Same slot_eq
-slot_same = record { to = slot_to; itself = slot_itself }
-
-unary_to : (x y : UnaryOp) → unary_eq x y ≡ true → x ≡ y
-unary_to UnaryOp.Not UnaryOp.Not h = refl
-unary_to UnaryOp.Neg UnaryOp.Neg h = refl
-unary_to UnaryOp.IsEmpty UnaryOp.IsEmpty h = refl
-unary_to x y h = absurd (true≢false (sym h))
-
-unary_itself : (x : UnaryOp) → unary_eq x x ≡ true
-unary_itself UnaryOp.Not = refl
-unary_itself UnaryOp.Neg = refl
-unary_itself UnaryOp.IsEmpty = refl
+slot_same = record { to = λ x y h. grind arith; itself = λ x. grind arith }
 
 pub unary_same : Same unary_eq
-unary_same = record { to = unary_to; itself = unary_itself }
-
-binary_to : (x y : BinaryOp) → binary_eq x y ≡ true → x ≡ y
-binary_to BinaryOp.Eq BinaryOp.Eq h = refl
-binary_to BinaryOp.Less BinaryOp.Less h = refl
-binary_to BinaryOp.LessEq BinaryOp.LessEq h = refl
-binary_to BinaryOp.Add BinaryOp.Add h = refl
-binary_to BinaryOp.Sub BinaryOp.Sub h = refl
-binary_to BinaryOp.Mul BinaryOp.Mul h = refl
-binary_to BinaryOp.In BinaryOp.In h = refl
-binary_to BinaryOp.Contains BinaryOp.Contains h = refl
-binary_to BinaryOp.ContainsAll BinaryOp.ContainsAll h = refl
-binary_to BinaryOp.ContainsAny BinaryOp.ContainsAny h = refl
-binary_to BinaryOp.GetTag BinaryOp.GetTag h = refl
-binary_to BinaryOp.HasTag BinaryOp.HasTag h = refl
-binary_to x y h = absurd (true≢false (sym h))
-
-binary_itself : (x : BinaryOp) → binary_eq x x ≡ true
-binary_itself BinaryOp.Eq = refl
-binary_itself BinaryOp.Less = refl
-binary_itself BinaryOp.LessEq = refl
-binary_itself BinaryOp.Add = refl
-binary_itself BinaryOp.Sub = refl
-binary_itself BinaryOp.Mul = refl
-binary_itself BinaryOp.In = refl
-binary_itself BinaryOp.Contains = refl
-binary_itself BinaryOp.ContainsAll = refl
-binary_itself BinaryOp.ContainsAny = refl
-binary_itself BinaryOp.GetTag = refl
-binary_itself BinaryOp.HasTag = refl
+unary_same = record { to = λ x y h. grind arith; itself = λ x. grind arith }
 
 pub binary_same : Same binary_eq
-binary_same = record { to = binary_to; itself = binary_itself }
+binary_same = record { to = λ x y h. grind arith; itself = λ x. grind arith }
 
 elem_to : (x y : PatternElem) → pattern_impl.ghosts.eq x y ≡ true → x ≡ y
 elem_to (PatternElem.Char c) (PatternElem.Char d) h = ap PatternElem.Char (eqb-true c d h)
@@ -125,56 +60,26 @@ mutual
   tree_to (slot d x1) (slot e x2) h = λ i. slot tt (slot_same.to x1 x2 h i)
   tree_to (unknown d x1) (unknown e x2) h = λ i. unknown tt (path_same.to x1 x2 h i)
   tree_to (if_then_else d x1 y1 z1) (if_then_else e x2 y2 z2) h =
-      λ i. if_then_else tt (tree_to x1 x2 (and_left (tree_eq x1 x2) (tree_eq y1 y2 && tree_eq z1 z2) h) i)
-      (tree_to y1 y2 (and_left (tree_eq y1 y2) (tree_eq z1 z2)
-      (and_right (tree_eq x1 x2) (tree_eq y1 y2 && tree_eq z1 z2) h)) i)
-      (tree_to z1 z2 (and_right (tree_eq y1 y2) (tree_eq z1 z2)
-      (and_right (tree_eq x1 x2) (tree_eq y1 y2 && tree_eq z1 z2) h)) i)
-  tree_to (and d x1 y1) (and e x2 y2) h =
-      λ i. and tt (tree_to x1 x2 (and_left (tree_eq x1 x2) (tree_eq y1 y2) h) i)
-      (tree_to y1 y2 (and_right (tree_eq x1 x2) (tree_eq y1 y2) h) i)
-  tree_to (or d x1 y1) (or e x2 y2) h =
-      λ i. or tt (tree_to x1 x2 (and_left (tree_eq x1 x2) (tree_eq y1 y2) h) i)
-      (tree_to y1 y2 (and_right (tree_eq x1 x2) (tree_eq y1 y2) h) i)
-  tree_to (unary d x1 y1) (unary e x2 y2) h =
-      λ i. unary tt (unary_same.to x1 x2 (and_left (unary_eq x1 x2) (tree_eq y1 y2) h) i)
-      (tree_to y1 y2 (and_right (unary_eq x1 x2) (tree_eq y1 y2) h) i)
+      of_three (if_then_else tt) (tree_to x1 x2) (tree_to y1 y2) (tree_to z1 z2) h
+  tree_to (and d x1 y1) (and e x2 y2) h = of_two (and tt) (tree_to x1 x2) (tree_to y1 y2) h
+  tree_to (or d x1 y1) (or e x2 y2) h = of_two (or tt) (tree_to x1 x2) (tree_to y1 y2) h
+  tree_to (unary d x1 y1) (unary e x2 y2) h = of_two (unary tt) (unary_same.to x1 x2) (tree_to y1 y2) h
   tree_to (binary d x1 y1 z1) (binary e x2 y2 z2) h =
-      λ i. binary tt (binary_same.to x1 x2 (and_left (binary_eq x1 x2) (tree_eq y1 y2 && tree_eq z1 z2) h) i)
-      (tree_to y1 y2 (and_left (tree_eq y1 y2) (tree_eq z1 z2)
-      (and_right (binary_eq x1 x2) (tree_eq y1 y2 && tree_eq z1 z2) h)) i)
-      (tree_to z1 z2 (and_right (tree_eq y1 y2) (tree_eq z1 z2)
-      (and_right (binary_eq x1 x2) (tree_eq y1 y2 && tree_eq z1 z2) h)) i)
-  tree_to (call d x1 y1) (call e x2 y2) h =
-      λ i. call tt (path_same.to x1 x2 (and_left (path_eq x1 x2) (trees_eq y1 y2) h) i)
-      (trees_to y1 y2 (and_right (path_eq x1 x2) (trees_eq y1 y2) h) i)
-  tree_to (get_attr d x1 y1) (get_attr e x2 y2) h =
-      λ i. get_attr tt (tree_to x1 x2 (and_left (tree_eq x1 x2) (text_eq y1 y2) h) i)
-      (text_same.to y1 y2 (and_right (tree_eq x1 x2) (text_eq y1 y2) h) i)
-  tree_to (has_attr d x1 y1) (has_attr e x2 y2) h =
-      λ i. has_attr tt (tree_to x1 x2 (and_left (tree_eq x1 x2) (text_eq y1 y2) h) i)
-      (text_same.to y1 y2 (and_right (tree_eq x1 x2) (text_eq y1 y2) h) i)
+      of_three (binary tt) (binary_same.to x1 x2) (tree_to y1 y2) (tree_to z1 z2) h
+  tree_to (call d x1 y1) (call e x2 y2) h = of_two (call tt) (path_same.to x1 x2) (trees_to y1 y2) h
+  tree_to (get_attr d x1 y1) (get_attr e x2 y2) h = of_two (get_attr tt) (tree_to x1 x2) (text_same.to y1 y2) h
+  tree_to (has_attr d x1 y1) (has_attr e x2 y2) h = of_two (has_attr tt) (tree_to x1 x2) (text_same.to y1 y2) h
   tree_to (ext_has_attr d x1 y1 z1) (ext_has_attr e x2 y2 z2) h =
-      λ i. ext_has_attr tt (tree_to x1 x2 (and_left (tree_eq x1 x2) (text_eq y1 y2 && texts_eq z1 z2) h) i)
-      (text_same.to y1 y2 (and_left (text_eq y1 y2) (texts_eq z1 z2)
-      (and_right (tree_eq x1 x2) (text_eq y1 y2 && texts_eq z1 z2) h)) i)
-      (texts_same.to z1 z2 (and_right (text_eq y1 y2) (texts_eq z1 z2)
-      (and_right (tree_eq x1 x2) (text_eq y1 y2 && texts_eq z1 z2) h)) i)
-  tree_to (like d x1 y1) (like e x2 y2) h =
-      λ i. like tt (tree_to x1 x2 (and_left (tree_eq x1 x2) (pattern_eq y1 y2) h) i)
-      (pattern_same.to y1 y2 (and_right (tree_eq x1 x2) (pattern_eq y1 y2) h) i)
-  tree_to (is_type d x1 y1) (is_type e x2 y2) h =
-      λ i. is_type tt (tree_to x1 x2 (and_left (tree_eq x1 x2) (path_eq y1 y2) h) i)
-      (path_same.to y1 y2 (and_right (tree_eq x1 x2) (path_eq y1 y2) h) i)
+      of_three (ext_has_attr tt) (tree_to x1 x2) (text_same.to y1 y2) (texts_same.to z1 z2) h
+  tree_to (like d x1 y1) (like e x2 y2) h = of_two (like tt) (tree_to x1 x2) (pattern_same.to y1 y2) h
+  tree_to (is_type d x1 y1) (is_type e x2 y2) h = of_two (is_type tt) (tree_to x1 x2) (path_same.to y1 y2) h
   tree_to (set_of d x1) (set_of e x2) h = λ i. set_of tt (trees_to x1 x2 h i)
   tree_to (record_of d x1) (record_of e x2) h = λ i. record_of tt (fields_to x1 x2 h i)
   tree_to t u h = absurd (true≢false (sym h))
 
   trees_to : (t u : Trees (Unit {0})) → trees_eq t u ≡ true → t ≡ u
   trees_to no_trees no_trees h = refl
-  trees_to (tree t ts) (tree u us) h =
-      λ i. tree (tree_to t u (and_left (tree_eq t u) (trees_eq ts us) h) i)
-      (trees_to ts us (and_right (tree_eq t u) (trees_eq ts us) h) i)
+  trees_to (tree t ts) (tree u us) h = of_two tree (tree_to t u) (trees_to ts us) h
   trees_to t u h = absurd (true≢false (sym h))
 
   fields_to : (t u : Fields (Unit {0})) → fields_eq t u ≡ true → t ≡ u
@@ -225,4 +130,4 @@ pub tree_same : Same {A = Shape} tree_eq
 tree_same = record { to = tree_to; itself = tree_itself }
 
 pub tree_eq-Decides : (t u : Shape) → Decides (tree_eq t u) (t ≡ u)
-tree_eq-Decides t u = (tree_same.to t u, λ e. subst (λ v. tree_eq t v ≡ true) e (tree_same.itself t))
+tree_eq-Decides = decides tree_same

@@ -27,7 +27,7 @@ impl<'a> CapabilitySet<'a> {
     ghost use Rattle.cedar_types.specs.Capability.{among, cap_of, caps, HasNone, HasJust, AddsJust, IsUnionOf, IsIntersectionOf, IsSame};
 
     /// The empty set. It takes no memory.
-    pub fn new(alloc: Global) -> CapabilitySet<'a>
+    pub fn new(alloc: Global) -> Self
         ensures { HasNone (caps result) }
     {
         CapabilitySet {
@@ -36,7 +36,7 @@ impl<'a> CapabilitySet<'a> {
     }
 
     /// The set of this one.
-    pub fn singleton(alloc: Global, c: Capability<'a>) -> Result<CapabilitySet<'a>, AllocError>
+    pub fn singleton(alloc: Global, c: Capability<'a>) -> Result<Self, AllocError>
         ensures { IfOk result (λ r. HasJust (cap_of c.entry) (caps r)) }
     {
         let mut set = SortedSet::new(alloc);
@@ -67,7 +67,7 @@ impl<'a> CapabilitySet<'a> {
     }
 
     /// A copy.
-    pub fn try_clone(&self, alloc: Global) -> Result<CapabilitySet<'a>, AllocError>
+    pub fn try_clone(&self, alloc: Global) -> Result<Self, AllocError>
         ensures { IfOk result (λ r. IsSame (caps self.now) (caps r)) }
     {
         let set = self.set.try_clone(alloc)?;
@@ -75,11 +75,7 @@ impl<'a> CapabilitySet<'a> {
     }
 
     /// What either set has.
-    pub fn union(
-        &self,
-        alloc: Global,
-        other: &CapabilitySet<'a>,
-    ) -> Result<CapabilitySet<'a>, AllocError>
+    pub fn union(&self, alloc: Global, other: &Self) -> Result<Self, AllocError>
         ensures { IfOk result (λ r. IsUnionOf (caps self.now) (caps other.now) (caps r)) }
     {
         let set = self.set.union(alloc, &other.set)?;
@@ -87,7 +83,7 @@ impl<'a> CapabilitySet<'a> {
     }
 
     /// What either set has, without a copy: both end in it. Where memory is refused, the answer is an `AllocError`.
-    pub fn join(self, other: CapabilitySet<'a>) -> Result<CapabilitySet<'a>, AllocError>
+    pub fn join(self, other: Self) -> Result<Self, AllocError>
         ensures { IfOk result (λ r. IsUnionOf (caps self.entry) (caps other.entry) (caps r)) }
     {
         let set = self.set.join(other.set)?;
@@ -95,11 +91,7 @@ impl<'a> CapabilitySet<'a> {
     }
 
     /// What both sets have.
-    pub fn intersect(
-        &self,
-        alloc: Global,
-        other: &CapabilitySet<'a>,
-    ) -> Result<CapabilitySet<'a>, AllocError>
+    pub fn intersect(&self, alloc: Global, other: &Self) -> Result<Self, AllocError>
         ensures { IfOk result (λ r. IsIntersectionOf (caps self.now) (caps other.now) (caps r)) }
     {
         let set = self.set.intersect(alloc, &other.set)?;

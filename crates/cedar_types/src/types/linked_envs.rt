@@ -82,17 +82,9 @@ impl<'a> Iterator for LinkedRequestEnvs<'a> {
         if self.ended {
             return None;
         }
-        match self.next_env() {
-            Ok(Some(env)) => Some(Ok(env)),
-            Ok(None) => {
-                self.ended = true;
-                None
-            }
-            Err(refused) => {
-                self.ended = true;
-                Some(Err(refused))
-            }
-        }
+        let found = self.next_env().transpose();
+        self.ended = !matches!(found, Some(Ok(_)));
+        found
     }
 }
 

@@ -18,8 +18,8 @@ use Rattle.cedar_typing.specs.Rules.Conditional.{if_false_cut, if_then_cut, if_e
 use Rattle.cedar_typing.specs.TypeEnv.{TypeEnv}
 use Rattle.cedar_typing.specs.TypeTests.{bool_types, is_false, is_true, annotation_passes}
 use Rattle.cedar_typing.specs.TypedExpr.{TypedTree, typed_as, annotation}
-use Rattle.cedar_typing.proofs.Agreement.OpenTest.{open_found, open_typed, open_then_cut, open_else_cut}
-use Rattle.cedar_typing.proofs.Agreement.Parts.{is_given, is_cut, Answers, a_derived, a_recovered, a_cut, Found, Marks, Agrees}
+use Rattle.cedar_typing.proofs.Agreement.OpenTest.{Answered as AnsweredBy, Branch as BranchOf, open_found, open_typed, open_then_cut, open_else_cut}
+use Rattle.cedar_typing.proofs.Agreement.Parts.{is_given, is_cut, a_derived, a_recovered, a_cut, Found, Marks, Agrees}
 use Rattle.cedar_typing.proofs.Agreement.Parts.{operand_found, good_operand, later, after_operand, after_part, operand_only, cut_only}
 use Rattle.cedar_typing.proofs.Agreement.Parts.{derived_operand, part_found, any_only, good_part_of, says_at}
 use Rattle.cedar_typing.proofs.TypeTests.{true_type, false_type, false_is_not_true}
@@ -32,10 +32,10 @@ module _ (env : TypeEnv) (m : Written) (l : Option Loc) (A : Judgment) (B : Caps
   Rules = if_rules env m l A B E prior
 
   abbrev Answered : Answer → List Finding → Type 0
-  Answered = Answers Rules
+  Answered = AnsweredBy env m l A B E prior
 
   abbrev Branch : Caps → Bool → Caps → TypedTree → List Finding → Type 0
-  Branch c = PartResult (B (union prior c))
+  Branch = BranchOf env m l A B E prior
 
   abbrev whole : List Finding → AnswerAndErrors
   whole es = after (expect env bool_types l (jt es)) (λ p es'. infer_branches env m prior p es' jb je)

@@ -51,7 +51,7 @@ module _ {A : Type 0} where
   in_right x [] ys h = h
   in_right x (y ∷ xs) ys h = inr (in_right x xs ys h)
 
-  all_joined : (P : A → Type 0) (xs ys : List A) → AreAll P xs → AreAll P ys → AreAll P (xs ++ ys)
+  pub all_joined : (P : A → Type 0) (xs ys : List A) → AreAll P xs → AreAll P ys → AreAll P (xs ++ ys)
   all_joined P [] ys f g x h = g x h
   all_joined P (y ∷ xs) ys f g x (inl e) = f x (inl e)
   all_joined P (y ∷ xs) ys f g x (inr h) = all_joined P xs ys (λ z k. f z (inr k)) g x h
@@ -61,6 +61,12 @@ module _ {A : Type 0} where
   in_mapped f b [] h = absurd h
   in_mapped f b (c ∷ bs) (inl e) = inl (ap f e)
   in_mapped f b (c ∷ bs) (inr h) = inr (in_mapped f b bs h)
+
+  -- it holds of each under a function
+  pub all_mapped : {B : Type 0} (P : A → Type 0) (f : B → A) (bs : List B) → ((b : B) → IsOneOf b bs → P (f b)) → AreAll P (map f bs)
+  all_mapped P f [] h x k = absurd k
+  all_mapped P f (b ∷ bs) h x (inl e) = subst P (sym e) (h b (inl refl))
+  all_mapped P f (b ∷ bs) h x (inr k) = all_mapped P f bs (λ c i. h c (inr i)) x k
 
   module _ {B : Type 0} (f : B → List A) where
     -- one of the list that belongs to one

@@ -1,5 +1,5 @@
 -- What several entity types declare holds of an attribute of which one of them declares it.
-use Rattle.std.proofs.Common.{◌≡◌, Bool, true, false, ◌||◌, ◌&&◌, List, [], ◌∷◌, Option, Some, None, option_map, is_some, fold}
+use Rattle.std.proofs.Common.{◌≡◌, Bool, true, false, ◌&&◌, List, [], ◌∷◌, Option, Some, None, option_map, is_some, fold}
 use Rattle.std.proofs.Common.{if◌then◌else◌, refl, sym, subst}
 use Rattle.std.specs.List.{list_any}
 use Rattle.cedar_types.specs.declared.base.types.ValidationMode.TheVariants.{Permissive}
@@ -29,14 +29,6 @@ found_at k (attr l t r xs) es h = by (text_eq k l) refl (found_at k xs es h.1)
         → AttrAt (if b then Some (t, r) else find_attr k xs) (entry_at k es)
     by true e others = subst (λ j. HasAttr r (HasType t) (entry_at j es)) (sym (text_same.to k l e)) h.0
     by false e others = others
-
-pub or_second : (a b : Bool) → b ≡ true → (a || b) ≡ true
-or_second true b h = refl
-or_second false b h = h
-
-pub or_first : (a b : Bool) → a ≡ true → (a || b) ≡ true
-or_first true b h = refl
-or_first false b h = cc
 
 some_if : {A : Type 0} (b : Bool) (a : A) (o : Option A) → (b ≡ false → is_some o ≡ true) → is_some (if b then Some a else o) ≡ true
 some_if true a o h = refl

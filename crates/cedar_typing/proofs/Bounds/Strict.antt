@@ -1,5 +1,5 @@
 -- In Strict a value of the right of two types has their bound, whether or not they are well-formed.
-use Rattle.std.proofs.Common.{◌≡◌, Bool, true, false, ◌&&◌, List, ◌∷◌, Option, Some, if◌then◌else◌, refl, sym, ap, subst, ◌∙◌}
+use Rattle.std.proofs.Common.{◌≡◌, Bool, true, false, ◌&&◌, List, Option, Some, if◌then◌else◌, refl, sym, ap, subst, ◌∙◌}
 use Rattle.cedar_types.specs.declared.base.types.ValidationMode.{ValidationMode}
 use Rattle.cedar_types.specs.declared.base.types.ValidationMode.TheVariants.{Strict}
 use Rattle.cedar_types.specs.Names.{Text, Path, text_eq}
@@ -9,8 +9,8 @@ use Rattle.cedar_types.specs.Types.Bounds.{mark_eq, ty_eq, is_strict, is_never, 
 use Rattle.cedar_types.specs.Types.Bounds.{with_both, apart_lub, both_attrs, lub}
 use Rattle.cedar_types.specs.Values.{Value, Entries, entry_at, VRecord, HasAttr, IsClosedBy, HasType, HasAttrs}
 use Rattle.cedar_types.proofs.Comparisons.SameTypes.{and_left, and_right, ty_to, text_decides, mark_to}
-use Rattle.cedar_typing.proofs.Bounds.Values.{Under, any_set, any_bool, any_entity, set_under, UnderAttrs, NamesAre, both_under, both_named}
-use Rattle.cedar_typing.proofs.Bounds.Values.{if_under, if_named, closed_under}
+use Rattle.cedar_typing.proofs.Bounds.Values.{Under, any_set, any_bool, any_entity, set_under, UnderAttrs, both_under, both_names}
+use Rattle.cedar_typing.proofs.Bounds.Values.{if_under, closed_under}
 
 moved_attr : (k l : Text) (r q : Bool) (P : Value → Type 0) (es : Entries) → (text_eq k l && mark_eq r q) ≡ true
     → HasAttr q P (entry_at l es) → HasAttr r P (entry_at k es)
@@ -18,16 +18,6 @@ moved_attr k l r q P es e h =
     let same : k ≡ l = (text_decides k l).0 (and_left (text_eq k l) (mark_eq r q) e) in
     let mark : r ≡ q = mark_to r q (and_right (text_eq k l) (mark_eq r q) e) in
     subst (λ x. HasAttr x P (entry_at k es)) (sym mark) (subst (λ x. HasAttr q P (entry_at x es)) (sym same) h)
-
-both_names_right : (m : ValidationMode) (xs ys : Attrs) → NamesAre (both_attrs m xs ys) (attr_names ys)
-both_names_right m no_attrs no_attrs = refl
-both_names_right m no_attrs (attr l t q ys) = tt
-both_names_right m (attr k s r xs) no_attrs = tt
-both_names_right m (attr k s r xs) (attr l t q ys) =
-    if_named (text_eq k l && mark_eq r q) (with_both k (lub m s t) r (both_attrs m xs ys)) (l ∷ attr_names ys)
-    (λ e. subst (λ j. NamesAre (with_both k (lub m s t) r (both_attrs m xs ys)) (j ∷ attr_names ys))
-    ((text_decides k l).0 (and_left (text_eq k l) (mark_eq r q) e))
-    (both_named k r (lub m s t) (both_attrs m xs ys) (attr_names ys) (both_names_right m xs ys)))
 
 if_under_type : (b : Bool) (o p : Option Ty) (v : Value) → (b ≡ true → Under o v) → Under p v → Under (if b then o else p) v
 if_under_type true o p v h g = h refl
@@ -73,7 +63,7 @@ mutual
   apart_right (TRecord xs o) (TRecord ys p) (VRecord es) h =
       let P : Bool → Type 0 = λ q. IsClosedBy q (attr_names ys) es in
       closed_under o p (both_attrs Strict xs ys) (attr_names ys) es (both_right xs ys es h.0)
-      (both_names_right Strict xs ys) (λ e f. subst P f h.1)
+      (both_names Strict xs ys).1 (λ e f. subst P f h.1)
   apart_right (TRecord xs o) (TRecord ys p) v h = absurd h
   apart_right (TRecord xs o) t v h = tt
   apart_right (TEntity ps) t v h = entity_right ps t v h

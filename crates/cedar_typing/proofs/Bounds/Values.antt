@@ -13,9 +13,9 @@ use Rattle.cedar_types.specs.Schemas.{is_among}
 use Rattle.cedar_types.specs.Types.Bounds.{mark_eq, ty_eq, union, find_attr, attr_count, is_strict, is_never, bool_lub, any_set_lub}
 use Rattle.cedar_types.specs.Types.Bounds.{entity_lub, any_entity_lub, closed_lub, wide_lub, record_lub, with_both, with_bound, with_common}
 use Rattle.cedar_types.specs.Types.Bounds.{apart_lub, both_attrs, common_attrs, lub}
-use Rattle.cedar_types.specs.Values.{Value, Values, no_values, more_values, Entries, entry_at, VBool, VEntity, VSet, VRecord, OnBool}
-use Rattle.cedar_types.specs.Values.{OnEntity, OnSet, OnRecord, AllValues, HasKind, HasAttr, IsClosedBy, HasType, HasAttrs}
-use Rattle.cedar_types.proofs.Comparisons.SameTypes.{and_left}
+use Rattle.cedar_types.specs.Values.{Value, Values, no_values, more_values, Entries, entry_at, VBool, VEntity, VSet, VRecord}
+use Rattle.cedar_types.specs.Values.{OnEntity, OnSet, AllValues, HasAttr, IsClosedBy, HasType, HasAttrs}
+use Rattle.cedar_types.proofs.Comparisons.SameTypes.{and_left, text_decides}
 use Rattle.cedar_types.proofs.Names.Unions.{has_union}
 use Rattle.cedar_types.proofs.Bounds.Symmetric.{symmetric}
 use Rattle.cedar_typing.proofs.Basics.{or_left}
@@ -27,10 +27,6 @@ Under (Some t) v = HasType t v
 
 -- ---- by kinds
 
-on_bool : (P Q : Bool → Type 0) → ((b : Bool) → P b → Q b) → (v : Value) → OnBool P v → OnBool Q v
-on_bool P Q f (VBool b) h = f b h
-on_bool P Q f v h = absurd h
-
 on_entity : (P Q : Uid → Type 0) → ((u : Uid) → P u → Q u) → (v : Value) → OnEntity P v → OnEntity Q v
 on_entity P Q f (VEntity u) h = f u h
 on_entity P Q f v h = absurd h
@@ -38,10 +34,6 @@ on_entity P Q f v h = absurd h
 on_set : (P Q : Values → Type 0) → ((vs : Values) → P vs → Q vs) → (v : Value) → OnSet P v → OnSet Q v
 on_set P Q f (VSet vs) h = f vs h
 on_set P Q f v h = absurd h
-
-on_record : (P Q : Entries → Type 0) → ((es : Entries) → P es → Q es) → (v : Value) → OnRecord P v → OnRecord Q v
-on_record P Q f (VRecord es) h = f es h
-on_record P Q f v h = absurd h
 
 all_values : (P Q : Value → Type 0) → ((v : Value) → P v → Q v) → (vs : Values) → AllValues P vs → AllValues Q vs
 all_values P Q f no_values h = tt
@@ -56,7 +48,8 @@ pub any_set : (t : Ty) (v : Value) → HasType (TSet t) v → HasType TAnySet v
 any_set t v h = on_set (AllValues (HasType t)) (λ vs. Unit {0}) (λ vs g. tt) v h
 
 pub any_bool : (k : BoolType) (v : Value) → HasType (TBool k) v → HasType (TBool AnyBool) v
-any_bool k v h = on_bool (HasKind k) (λ b. Unit {0}) (λ b g. tt) v h
+any_bool k (VBool b) h = tt
+any_bool k v h = absurd h
 
 pub any_entity : (ps : List Path) (v : Value) → HasType (TEntity ps) v → HasType TAnyEntity v
 any_entity ps v h = on_entity (λ u. IsTrue (is_among ps u.entity_type)) (λ u. Unit {0}) (λ u g. tt) v h
@@ -91,7 +84,7 @@ both_under k r None zs es P f h g = tt
 both_under k r (Some u) None es P f h g = tt
 both_under k r (Some u) (Some zs) es P f h g = (attr_under r r P (HasType u) f (λ e. e) (entry_at k es) h, g)
 
-pub both_named : (k : Text) (r : Bool) (o : Option Ty) (zs : Option Attrs) (ks : List Text) → NamesAre zs ks
+both_named : (k : Text) (r : Bool) (o : Option Ty) (zs : Option Attrs) (ks : List Text) → NamesAre zs ks
     → NamesAre (with_both k o r zs) (k ∷ ks)
 both_named k r None zs ks h = tt
 both_named k r (Some u) None ks h = tt
@@ -101,7 +94,7 @@ pub if_under : (b : Bool) (zs : Option Attrs) (es : Entries) → (b ≡ true →
 if_under true zs es h = h refl
 if_under false zs es h = tt
 
-pub if_named : (b : Bool) (zs : Option Attrs) (ks : List Text) → (b ≡ true → NamesAre zs ks) → NamesAre (if b then zs else None) ks
+if_named : (b : Bool) (zs : Option Attrs) (ks : List Text) → (b ≡ true → NamesAre zs ks) → NamesAre (if b then zs else None) ks
 if_named true zs ks h = h refl
 if_named false zs ks h = tt
 
@@ -185,13 +178,21 @@ record_left m xs ys o p n es h g c =
           (attr_names (common_attrs m xs ys)) es (λ e. as_failed m xs ys (eqb-true _ _ e)) c,
     )
 
-both_names_left : (m : ValidationMode) (xs ys : Attrs) → NamesAre (both_attrs m xs ys) (attr_names xs)
-both_names_left m no_attrs no_attrs = refl
-both_names_left m no_attrs (attr l t q ys) = tt
-both_names_left m (attr k s r xs) no_attrs = tt
-both_names_left m (attr k s r xs) (attr l t q ys) =
-    if_named (text_eq k l && mark_eq r q) (with_both k (lub m s t) r (both_attrs m xs ys)) (k ∷ attr_names xs)
-    (λ e. both_named k r (lub m s t) (both_attrs m xs ys) (attr_names xs) (both_names_left m xs ys))
+-- the attributes of both have the names of each of the two
+pub both_names : (m : ValidationMode) (xs ys : Attrs)
+    → NamesAre (both_attrs m xs ys) (attr_names xs) × NamesAre (both_attrs m xs ys) (attr_names ys)
+both_names m no_attrs no_attrs = (refl, refl)
+both_names m no_attrs (attr l t q ys) = (tt, tt)
+both_names m (attr k s r xs) no_attrs = (tt, tt)
+both_names m (attr k s r xs) (attr l t q ys) =
+    let later = both_names m xs ys in
+    let whole = with_both k (lub m s t) r (both_attrs m xs ys) in (
+      if_named (text_eq k l && mark_eq r q) whole (k ∷ attr_names xs)
+          (λ e. both_named k r (lub m s t) (both_attrs m xs ys) (attr_names xs) later.0),
+      if_named (text_eq k l && mark_eq r q) whole (l ∷ attr_names ys)
+          (λ e. subst (λ j. NamesAre whole (j ∷ attr_names ys)) ((text_decides k l).0 (and_left (text_eq k l) (mark_eq r q) e))
+          (both_named k r (lub m s t) (both_attrs m xs ys) (attr_names ys) later.1)),
+    )
 
 -- ---- the left side
 
@@ -228,7 +229,7 @@ mutual
   apart_left m (TSet s) t v h = tt
   apart_left m TAnySet t v h = any_set_left t v h
   apart_left m (TRecord xs o) (TRecord ys p) (VRecord es) h =
-      record_left m xs ys o p (both_names_left m xs ys) es (both_left m xs ys es h.0)
+      record_left m xs ys o p (both_names m xs ys).0 es (both_left m xs ys es h.0)
       (common_left m xs ys es h.0) h.1
   apart_left m (TRecord xs o) (TRecord ys p) v h = absurd h
   apart_left m (TRecord xs o) t v h = tt

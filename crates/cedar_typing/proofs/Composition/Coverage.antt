@@ -1,5 +1,5 @@
 -- Where the scope is true, the slots are bound to entities of types that the slots are linked to.
-use Rattle.std.proofs.Common.{◌≡◌, inl, inr, Bool, true, false, true≢false, ◌&&◌, ◌||◌, if◌then◌else◌, List, [], ◌∷◌, map, filter, Option, Some, None, refl, sym, ◌∙◌, ap, subst}
+use Rattle.std.proofs.Common.{◌≡◌, inl, inr, Bool, true, false, true≢false, ◌&&◌, ◌||◌, if◌then◌else◌, List, [], ◌∷◌, filter, Option, Some, None, refl, sym, ◌∙◌, ap, subst}
 use Rattle.std.specs.List.{list_all, list_any}
 use Rattle.cedar_types.specs.declared.base.location.Loc.{Loc}
 use Rattle.cedar_types.specs.declared.base.expressions.operators.BinaryOp.{BinaryOp}
@@ -14,24 +14,18 @@ use Rattle.cedar_types.specs.Templates.{to_entity, to_slot, Scope, any, equal, w
 use Rattle.cedar_types.specs.Values.{Value, VBool, VEntity}
 use Rattle.cedar_types.specs.Values.Stores.{Entity, Store, entity_at, FitsDeclaration, FitsKind, ConformingStore}
 use Rattle.cedar_types.proofs.Schema.Faultless.{faultless}
-use Rattle.cedar_types.specs.Environments.Linking.{types_above, type_names, slot_types, slot_links, has_slot}
+use Rattle.cedar_types.specs.Environments.Linking.{types_above, type_names, slot_types, slot_links, names_slot, has_slot}
 use Rattle.cedar_typing.specs.Composition.{Coverage, OwnEnvIsCheckedOfTypes, own_link}
 use Rattle.cedar_typing.specs.Evaluation.Conformance.{IsOneOf, FitsSlot, has_external}
-use Rattle.cedar_typing.specs.Evaluation.Eval.{bound_outcome, binary_outcome, has_ancestor, is_in, eval}
+use Rattle.cedar_typing.specs.Evaluation.Eval.{variable_value, bound_outcome, binary_outcome, has_ancestor, is_in, eval}
 use Rattle.cedar_typing.specs.Evaluation.Outcomes.{test_of, of_test, and_test, on_value}
 use Rattle.cedar_typing.specs.Evaluation.World.{World, Outcome, Gives, Fails}
 use Rattle.cedar_typing.specs.Soundness.{IsTrueOutcome}
 use Rattle.cedar_typing.proofs.Basics.{none_is, some_is, or_cases, neither_left}
-use Rattle.cedar_typing.proofs.Basics.Members.{AreAll, in_left, in_right, in_mapped, all_flat, found_in, all_pass, none_passes}
-use Rattle.cedar_typing.proofs.Composition.Links.{names_slot, has_principal, has_resource, is_checked, own_linked}
+use Rattle.cedar_typing.proofs.Basics.Members.{AreAll, in_left, in_right, in_mapped, all_mapped, all_flat, found_in, all_pass, none_passes}
+use Rattle.cedar_typing.proofs.Composition.Links.{has_principal, has_resource, is_checked, own_linked}
 
 -- ---- lists
-
-module _ {A B : Type 0} (P : A → Type 0) (f : B → A) where
-  all_under : (bs : List B) → ((b : B) → IsOneOf b bs → P (f b)) → AreAll P (map f bs)
-  all_under [] h x k = absurd k
-  all_under (b ∷ bs) h x (inl e) = subst P (sym e) (h b (inl refl))
-  all_under (b ∷ bs) h x (inr k) = all_under bs (λ c i. h c (inr i)) x k
 
 module _ {A : Type 0} (p : A → Bool) where
   in_filter : (x : A) (xs : List A) → IsOneOf x xs → p x ≡ true → IsOneOf x (filter p xs)
@@ -61,7 +55,7 @@ action_known ts a (Some x) h d k =
     let ps = all_pass (knows_type ts) x.principals (and_left (list_all (knows_type ts) x.principals) (list_all (knows_type ts) x.resources) both) in
     let rs = all_pass (knows_type ts) x.resources (and_right (list_all (knows_type ts) x.principals) (list_all (knows_type ts) x.resources) both) in
     all_flat (principal_environments a.name x.context x.resources) (AreKnown ts) x.principals
-    (λ p i. all_under (AreKnown ts) (λ r. record { principal = p; action = a.name; resource = r; context = x.context }) x.resources
+    (λ p i. all_mapped (AreKnown ts) (λ r. record { principal = p; action = a.name; resource = r; context = x.context }) x.resources
     (λ r j. (ps p i, rs r j))) d k
 
 known_types : (s : Schema) → has_fault s ≡ false → AreAll (AreKnown s.types) (environments_of s.actions)
@@ -211,44 +205,30 @@ right_true (Gives (VBool false)) p h = absurd (true≢false (sym h))
 right_true (Gives v) p h = absurd h
 right_true (Fails f) p h = absurd h
 
-module _ (s : Schema) (closed : has_external s ≡ false) (world : World) (conforms : ConformingStore s world.store) (l : Option Loc) where
-  module _ (declared : declares_type s.types world.request.principal.entity_type ≡ true) where
-    abbrev PrincipalType : Scope → Type 0
-    PrincipalType c = IsOfSlotType s closed world.store conforms world.request.principal declared c (world.slots SlotId.Principal)
+-- a variable that is a declared entity
+module _ (s : Schema) (closed : has_external s ≡ false) (world : World) (conforms : ConformingStore s world.store) (l : Option Loc)
+    (v : Var) (x : SlotId) (own : Uid) (is : VEntity own ≡ variable_value world.request v) (declared : declares_type s.types own.entity_type ≡ true) where
+  abbrev SlotTest : BinaryOp → Value → Type 0
+  SlotTest op w = IsTrueOutcome (on_value (bound_outcome (world.slots x)) (binary_outcome world.store world.functions op w))
 
-    -- where the principal's constraint names the slot and is true, the slot is bound to an entity of one of its types
-    principal_bound : (c : Scope) → names_slot c ≡ true → IsTrueOutcome (eval world (scope_at l Var.Principal SlotId.Principal c)) → PrincipalType c
-    principal_bound any n k = cc
-    principal_bound (equal (to_entity u)) n k = cc
-    principal_bound (equal to_slot) n k =
-        equal_type s closed world.store conforms world.request.principal declared world refl (world.slots SlotId.Principal) k
-    principal_bound (within (to_entity u)) n k = cc
-    principal_bound (within to_slot) n k =
-        within_type s closed world.store conforms world.request.principal declared world refl (world.slots SlotId.Principal) k
-    principal_bound (typed p) n k = cc
-    principal_bound (typed_within p (to_entity u)) n k = cc
-    principal_bound (typed_within p to_slot) n k =
-        within_type s closed world.store conforms world.request.principal declared world refl (world.slots SlotId.Principal)
-        (right_true (eval world (typed_at l Var.Principal p)) _ k)
+  own_test : (op : BinaryOp) → SlotTest op (variable_value world.request v) → SlotTest op (VEntity own)
+  own_test op k = subst (SlotTest op) (sym is) k
 
-  module _ (declared : declares_type s.types world.request.resource.entity_type ≡ true) where
-    abbrev ResourceType : Scope → Type 0
-    ResourceType c = IsOfSlotType s closed world.store conforms world.request.resource declared c (world.slots SlotId.Resource)
-
-    -- where the resource's constraint names the slot and is true, the slot is bound to an entity of one of its types
-    resource_bound : (c : Scope) → names_slot c ≡ true → IsTrueOutcome (eval world (scope_at l Var.Resource SlotId.Resource c)) → ResourceType c
-    resource_bound any n k = cc
-    resource_bound (equal (to_entity u)) n k = cc
-    resource_bound (equal to_slot) n k =
-        equal_type s closed world.store conforms world.request.resource declared world refl (world.slots SlotId.Resource) k
-    resource_bound (within (to_entity u)) n k = cc
-    resource_bound (within to_slot) n k =
-        within_type s closed world.store conforms world.request.resource declared world refl (world.slots SlotId.Resource) k
-    resource_bound (typed p) n k = cc
-    resource_bound (typed_within p (to_entity u)) n k = cc
-    resource_bound (typed_within p to_slot) n k =
-        within_type s closed world.store conforms world.request.resource declared world refl (world.slots SlotId.Resource)
-        (right_true (eval world (typed_at l Var.Resource p)) _ k)
+  -- where its constraint names the slot and is true, the slot is bound to an entity of one of its types
+  slot_bound : (c : Scope) → names_slot c ≡ true → IsTrueOutcome (eval world (scope_at l v x c))
+      → IsOfSlotType s closed world.store conforms own declared c (world.slots x)
+  slot_bound any n k = cc
+  slot_bound (equal (to_entity u)) n k = cc
+  slot_bound (equal to_slot) n k =
+      equal_type s closed world.store conforms own declared world refl (world.slots x) (own_test BinaryOp.Eq k)
+  slot_bound (within (to_entity u)) n k = cc
+  slot_bound (within to_slot) n k =
+      within_type s closed world.store conforms own declared world refl (world.slots x) (own_test BinaryOp.In k)
+  slot_bound (typed p) n k = cc
+  slot_bound (typed_within p (to_entity u)) n k = cc
+  slot_bound (typed_within p to_slot) n k =
+      within_type s closed world.store conforms own declared world refl (world.slots x)
+      (own_test BinaryOp.In (right_true (eval world (typed_at l v p)) _ k))
 
 pub coverage : Coverage
 coverage s m t world faults closed alone d one fits not_principal not_resource conforms bound h =
@@ -264,10 +244,12 @@ coverage s m t world faults closed alone d one fits not_principal not_resource c
     subst (λ p. declares_type s.types p ≡ true) (sym fits.resource) (declared_type s.types d.resource known.1 not_resource) in
     let p = link_of s closed world.store conforms world.request.principal declared_p (has_slot SlotId.Principal t) t.principal
     (world.slots SlotId.Principal)
-    (λ e. principal_bound s closed world conforms l declared_p t.principal (sym (has_principal t alone) ∙ e) (left_true scope_p scope_a left)) in
+    (λ e. slot_bound s closed world conforms l Var.Principal SlotId.Principal world.request.principal refl declared_p t.principal
+    (sym (has_principal t alone) ∙ e) (left_true scope_p scope_a left)) in
     let r = link_of s closed world.store conforms world.request.resource declared_r (has_slot SlotId.Resource t) t.resource
     (world.slots SlotId.Resource)
-    (λ e. resource_bound s closed world conforms l declared_r t.resource (sym (has_resource t alone) ∙ e)
+    (λ e. slot_bound s closed world conforms l Var.Resource SlotId.Resource world.request.resource refl declared_r t.resource
+    (sym (has_resource t alone) ∙ e)
     (right_true (of_test (and_test (test_of scope_p) (test_of scope_a))) scope_r h)) in
     let in_p : IsOneOf p.0 (slot_links (has_slot SlotId.Principal t) s.types t.principal d.principal) =
     subst (λ q. IsOneOf p.0 (slot_links (has_slot SlotId.Principal t) s.types t.principal q)) fits.principal p.1 in

@@ -1,19 +1,17 @@
 -- Which slots a template has, and which environments it is checked in.
 use Rattle.std.proofs.Common.{◌≡◌, inl, Bool, true, false, ◌||◌, List, [], ◌∷◌, map, Option, Some, None, refl, sym, ◌∙◌, ap}
 use Rattle.cedar_types.specs.declared.base.location.Loc.{Loc}
-use Rattle.cedar_types.specs.declared.base.expressions.operators.Var.{Var}
 use Rattle.cedar_types.specs.declared.base.names.slots.SlotId.{SlotId}
 use Rattle.cedar_types.specs.declared.base.types.ValidationMode.{ValidationMode}
-use Rattle.cedar_types.specs.Names.{Path, PlacedUid}
-use Rattle.cedar_types.specs.Expressions.View.{trees_of}
+use Rattle.cedar_types.specs.Names.{Path}
 use Rattle.cedar_types.specs.Schemas.{DeclaredType, Schema}
 use Rattle.cedar_types.specs.Environments.{DeclaredEnv, environments_of}
 use Rattle.cedar_types.specs.Environments.RequestEnvs.{Declared, unlinked, unlinked_envs, undeclared_envs, is_partial}
-use Rattle.cedar_types.specs.Templates.{Reference, to_entity, to_slot, Scope, any, equal, within, typed, typed_within, ActionScope}
-use Rattle.cedar_types.specs.Templates.{any_action, equal_action, within_actions, PlainTemplate, uid_at, scope_at, action_scope_at}
+use Rattle.cedar_types.specs.Templates.{Scope, any, equal, within, typed, typed_within, ActionScope, PlainTemplate, action_scope_at}
 use Rattle.cedar_types.specs.Templates.{scope_condition, with_rest}
-use Rattle.cedar_types.specs.Expressions.Parts.{mentions_slot, any_mentions_slot}
-use Rattle.cedar_types.specs.Environments.Linking.{types_above, slot_types, slot_links, has_slot, linked_envs, checked_envs}
+use Rattle.cedar_types.specs.Expressions.Parts.{mentions_slot}
+use Rattle.cedar_types.specs.Environments.Linking.{types_above, slot_types, slot_links, names_slot, has_slot, linked_envs, checked_envs}
+use Rattle.cedar_types.proofs.Linking.Mentions.{action_scope, principal_slot, resource_slot}
 use Rattle.cedar_typing.specs.Composition.{NoSlotIn, SlotsInScopeAlone, own_link, OwnEnvIsChecked}
 use Rattle.cedar_typing.specs.Evaluation.Conformance.{IsOneOf}
 use Rattle.cedar_typing.specs.TypedExpr.{Source}
@@ -21,92 +19,24 @@ use Rattle.cedar_typing.proofs.Basics.Members.{in_left, in_right, in_mapped, in_
 
 -- ---- the slots of a scope
 
-abbrev pub is_slot : Reference → Bool
-is_slot (to_entity u) = false
-is_slot to_slot = true
+-- the action's constraint has none
+pub no_action : (l : Option Loc) (x : SlotId) (a : ActionScope) → mentions_slot x (action_scope_at l a) ≡ false
+no_action l x a = action_scope x l a
 
--- whether a constraint names the slot of its variable
-abbrev pub names_slot : Scope → Bool
-names_slot any = false
-names_slot (equal r) = is_slot r
-names_slot (within r) = is_slot r
-names_slot (typed p) = false
-names_slot (typed_within p r) = is_slot r
-
-module _ (l : Option Loc) where
-  principal_of : (c : Scope) → mentions_slot SlotId.Principal (scope_at l Var.Principal SlotId.Principal c) ≡ names_slot c
-  principal_of any = refl
-  principal_of (equal (to_entity u)) = refl
-  principal_of (equal to_slot) = refl
-  principal_of (within (to_entity u)) = refl
-  principal_of (within to_slot) = refl
-  principal_of (typed p) = refl
-  principal_of (typed_within p (to_entity u)) = refl
-  principal_of (typed_within p to_slot) = refl
-
-  resource_of : (c : Scope) → mentions_slot SlotId.Resource (scope_at l Var.Resource SlotId.Resource c) ≡ names_slot c
-  resource_of any = refl
-  resource_of (equal (to_entity u)) = refl
-  resource_of (equal to_slot) = refl
-  resource_of (within (to_entity u)) = refl
-  resource_of (within to_slot) = refl
-  resource_of (typed p) = refl
-  resource_of (typed_within p (to_entity u)) = refl
-  resource_of (typed_within p to_slot) = refl
-
-  no_principal : (c : Scope) → mentions_slot SlotId.Principal (scope_at l Var.Resource SlotId.Resource c) ≡ false
-  no_principal any = refl
-  no_principal (equal (to_entity u)) = refl
-  no_principal (equal to_slot) = refl
-  no_principal (within (to_entity u)) = refl
-  no_principal (within to_slot) = refl
-  no_principal (typed p) = refl
-  no_principal (typed_within p (to_entity u)) = refl
-  no_principal (typed_within p to_slot) = refl
-
-  no_resource : (c : Scope) → mentions_slot SlotId.Resource (scope_at l Var.Principal SlotId.Principal c) ≡ false
-  no_resource any = refl
-  no_resource (equal (to_entity u)) = refl
-  no_resource (equal to_slot) = refl
-  no_resource (within (to_entity u)) = refl
-  no_resource (within to_slot) = refl
-  no_resource (typed p) = refl
-  no_resource (typed_within p (to_entity u)) = refl
-  no_resource (typed_within p to_slot) = refl
-
-  -- the action's constraint has none
-  no_listed : (x : SlotId) (us : List PlacedUid) → any_mentions_slot x (trees_of (map (uid_at l) us)) ≡ false
-  no_listed x [] = refl
-  no_listed x (u ∷ us) = no_listed x us
-
-  pub no_action : (x : SlotId) (a : ActionScope) → mentions_slot x (action_scope_at l a) ≡ false
-  no_action x any_action = refl
-  no_action x (equal_action u) = refl
-  no_action x (within_actions us) = no_listed x us
-
-  of_rest : (x : SlotId) (e : Source) (rest : Option Source) → NoSlotIn rest → mentions_slot x (with_rest l e rest) ≡ mentions_slot x e
-  of_rest x e None h = refl
-  of_rest x e (Some f) h = ap (λ b. mentions_slot x e || b) (h x) ∙ or_none (mentions_slot x e)
-    where
-      or_none : (b : Bool) → (b || false) ≡ b
-      or_none true = refl
-      or_none false = refl
-
-left_of_two : (a : Bool) → ((a || false) || false) ≡ a
-left_of_two true = refl
-left_of_two false = refl
+of_rest : (l : Option Loc) (x : SlotId) (e : Source) (rest : Option Source) → NoSlotIn rest → mentions_slot x (with_rest l e rest) ≡ mentions_slot x e
+of_rest l x e None h = refl
+of_rest l x e (Some f) h = ap (λ b. mentions_slot x e || b) (h x) ∙ or_none (mentions_slot x e)
+  where
+    or_none : (b : Bool) → (b || false) ≡ b
+    or_none true = refl
+    or_none false = refl
 
 -- where slots stand in the scope alone, a slot occurs where its variable's constraint names it
 pub has_principal : (t : PlainTemplate) → SlotsInScopeAlone t → has_slot SlotId.Principal t ≡ names_slot t.principal
-has_principal t h =
-    of_rest t.place SlotId.Principal (scope_condition t) t.rest h
-    ∙ (λ i. (principal_of t.place t.principal i || no_action t.place SlotId.Principal t.action i) || no_principal t.place t.resource i)
-    ∙ left_of_two (names_slot t.principal)
+has_principal t h = of_rest t.place SlotId.Principal (scope_condition t) t.rest h ∙ principal_slot t
 
 pub has_resource : (t : PlainTemplate) → SlotsInScopeAlone t → has_slot SlotId.Resource t ≡ names_slot t.resource
-has_resource t h =
-    of_rest t.place SlotId.Resource (scope_condition t) t.rest h
-    ∙ (λ i. (no_resource t.place t.principal i || no_action t.place SlotId.Resource t.action i) || resource_of t.place t.resource i)
+has_resource t h = of_rest t.place SlotId.Resource (scope_condition t) t.rest h ∙ resource_slot t
 
 -- ---- the environments that are checked
 

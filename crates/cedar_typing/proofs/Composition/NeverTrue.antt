@@ -1,8 +1,9 @@
 -- What the check in the own environment says of each world of the request.
-use Rattle.std.proofs.Common.{◌≡◌, Bool, true, false, true≢false, ◌||◌, Some, None, refl, ap, sym}
+use Rattle.std.proofs.Common.{◌≡◌, Bool, true, false, true≢false, ◌||◌, Some, None, refl, ap, sym, ◌∙◌}
 use Rattle.cedar_types.specs.declared.base.names.slots.SlotId.{SlotId}
 use Rattle.cedar_types.specs.declared.base.types.BoolType.TheVariants.{False}
-use Rattle.cedar_types.specs.declared.base.types.ValidationMode.TheVariants.{Permissive}
+use Rattle.cedar_types.specs.declared.base.types.ValidationMode.{ValidationMode}
+use Rattle.cedar_types.specs.declared.base.types.ValidationMode.TheVariants.{Strict, Permissive}
 use Rattle.cedar_types.specs.Types.{TBool}
 use Rattle.cedar_types.specs.Types.Bounds.{is_strict}
 use Rattle.cedar_types.specs.Extensions.Functions.{table_fault}
@@ -83,25 +84,22 @@ pub record Sure (strictly : Bool) (s : Setting) : Type 0 where
   pub functions : table_fault s.functions ≡ None
   pub closed : has_external s.env.schema ≡ false
 
-pub sure_in_strict : (s : Setting) → IsFaultless s → Sure true s
-sure_in_strict s f = record {
+sure_in : (m : ValidationMode) (s : Setting) → IsFaultlessIn m s → is_partial m ≡ false → (is_strict m || has_formed_types s.env.schema) ≡ true
+    → Sure (is_strict m) s
+sure_in m s f total formed = record {
   strict = ap is_strict f.mode;
-  total = ap is_partial f.mode;
-  formed = refl;
-  schema = f.schema;
-  functions = f.functions;
-  closed = f.closed;
-}
-
-pub sure_in_permissive : (s : Setting) → IsFaultlessIn Permissive s → has_formed_types s.env.schema ≡ true → Sure false s
-sure_in_permissive s f formed = record {
-  strict = ap is_strict f.mode;
-  total = ap is_partial f.mode;
+  total = ap is_partial f.mode ∙ total;
   formed = formed;
   schema = f.schema;
   functions = f.functions;
   closed = f.closed;
 }
+
+pub sure_in_strict : (s : Setting) → IsFaultless s → Sure true s
+sure_in_strict s f = sure_in Strict s f refl refl
+
+pub sure_in_permissive : (s : Setting) → IsFaultlessIn Permissive s → has_formed_types s.env.schema ≡ true → Sure false s
+sure_in_permissive s f formed = sure_in Permissive s f refl formed
 
 module _ (strictly : Bool) (s : Setting) (t : PlainTemplate) (f : Sure strictly s) (d : DeclaredEnv)
     (one : IsOneOf d (environments_of s.env.schema.actions))

@@ -12,7 +12,7 @@ use Rattle.cedar_types.specs.Templates.{scope_at, action_scope_at, scope_conditi
 use Rattle.cedar_types.specs.Values.{Value, VBool, VEntity}
 use Rattle.cedar_typing.specs.Composition.{MentionsNoSlot, NoSlotIn, SlotsInScopeAlone}
 use Rattle.cedar_typing.specs.Evaluation.Conformance.{IsBound, SlotsBound}
-use Rattle.cedar_typing.specs.Evaluation.Eval.{bound_outcome, binary_outcome, is_in, has_ancestor, eval}
+use Rattle.cedar_typing.specs.Evaluation.Eval.{variable_value, bound_outcome, binary_outcome, is_in, has_ancestor, eval}
 use Rattle.cedar_types.specs.Values.Stores.{entity_at}
 use Rattle.cedar_typing.specs.Evaluation.Outcomes.{Test, Says, Stops, test_of, of_test, and_test, on_value}
 use Rattle.cedar_typing.specs.Evaluation.World.{Request, Slots, World, UnlinkedSlot, Outcome, Gives, Fails}
@@ -96,32 +96,30 @@ module _ (U : Type 0) where
     abbrev EvalAtMost : Source → Type 0
     EvalAtMost e = IsAtMost (eval world e) (eval (own_world world) e)
 
-    module _ (l : Option Loc) where
-      principal_most : (c : Scope) → UnboundIs (scope_at l Var.Principal SlotId.Principal c)
-          → EvalAtMost (scope_at l Var.Principal SlotId.Principal c)
-      principal_most any u = itself
-      principal_most (equal (to_entity w)) u = itself
-      principal_most (equal to_slot) u = equal_most world.request.principal (world.slots SlotId.Principal) (λ n. u (λ b. n b.1))
-      principal_most (within (to_entity w)) u = itself
-      principal_most (within to_slot) u = within_most world.request.principal (world.slots SlotId.Principal) (λ n. u (λ b. n b.1))
-      principal_most (typed p) u = itself
-      principal_most (typed_within p (to_entity w)) u = itself
-      principal_most (typed_within p to_slot) u =
-          and_most (eval world (typed_at l Var.Principal p)) (eval (own_world world) (typed_at l Var.Principal p)) _ _ itself
-          (within_most world.request.principal (world.slots SlotId.Principal) (λ n. u (λ b. n b.1.1)))
+    -- the constraint of a variable that is the entity which its slot is bound to in the own world
+    module _ (l : Option Loc) (v : Var) (x : SlotId) (own : Uid) (is : VEntity own ≡ variable_value world.request v)
+        (bound : own_slots world.request x ≡ Some own) where
+      abbrev tested : BinaryOp → Value → Option Uid → Outcome
+      tested op w b = on_value (bound_outcome b) (binary_outcome world.store world.functions op w)
 
-      resource_most : (c : Scope) → UnboundIs (scope_at l Var.Resource SlotId.Resource c)
-          → EvalAtMost (scope_at l Var.Resource SlotId.Resource c)
-      resource_most any u = itself
-      resource_most (equal (to_entity w)) u = itself
-      resource_most (equal to_slot) u = equal_most world.request.resource (world.slots SlotId.Resource) (λ n. u (λ b. n b.1))
-      resource_most (within (to_entity w)) u = itself
-      resource_most (within to_slot) u = within_most world.request.resource (world.slots SlotId.Resource) (λ n. u (λ b. n b.1))
-      resource_most (typed p) u = itself
-      resource_most (typed_within p (to_entity w)) u = itself
-      resource_most (typed_within p to_slot) u =
-          and_most (eval world (typed_at l Var.Resource p)) (eval (own_world world) (typed_at l Var.Resource p)) _ _ itself
-          (within_most world.request.resource (world.slots SlotId.Resource) (λ n. u (λ b. n b.1.1)))
+      own_test : (op : BinaryOp) → IsAtMost (tested op (VEntity own) (world.slots x)) (tested op (VEntity own) (Some own))
+          → IsAtMost (tested op (variable_value world.request v) (world.slots x))
+          (tested op (variable_value world.request v) (own_slots world.request x))
+      own_test op h =
+          subst (λ b. IsAtMost (tested op (variable_value world.request v) (world.slots x)) (tested op (variable_value world.request v) b)) (sym bound)
+          (subst (λ w. IsAtMost (tested op w (world.slots x)) (tested op w (Some own))) is h)
+
+      constraint_most : (c : Scope) → UnboundIs (scope_at l v x c) → EvalAtMost (scope_at l v x c)
+      constraint_most any u = itself
+      constraint_most (equal (to_entity w)) u = itself
+      constraint_most (equal to_slot) u = own_test BinaryOp.Eq (equal_most own (world.slots x) (λ n. u (λ b. n b.1)))
+      constraint_most (within (to_entity w)) u = itself
+      constraint_most (within to_slot) u = own_test BinaryOp.In (within_most own (world.slots x) (λ n. u (λ b. n b.1)))
+      constraint_most (typed p) u = itself
+      constraint_most (typed_within p (to_entity w)) u = itself
+      constraint_most (typed_within p to_slot) u =
+          and_most (eval world (typed_at l v p)) (eval (own_world world) (typed_at l v p)) _ _ itself
+          (own_test BinaryOp.In (within_most own (world.slots x) (λ n. u (λ b. n b.1.1))))
 
     -- what mentions no slot is the same
     pub unmentioned : (e : Source) → MentionsNoSlot e → EvalAtMost e
@@ -132,9 +130,10 @@ module _ (U : Type 0) where
     scope_most : (t : PlainTemplate) → UnboundIs (scope_condition t) → EvalAtMost (scope_condition t)
     scope_most t u =
         and_most _ _ _ _
-        (and_most _ _ _ _ (principal_most t.place t.principal (λ n. u (λ b. n b.0.0)))
+        (and_most _ _ _ _
+        (constraint_most t.place Var.Principal SlotId.Principal world.request.principal refl refl t.principal (λ n. u (λ b. n b.0.0)))
         (unmentioned (action_scope_at t.place t.action) (λ x. no_action t.place x t.action)))
-        (resource_most t.place t.resource (λ n. u (λ b. n b.1)))
+        (constraint_most t.place Var.Resource SlotId.Resource world.request.resource refl refl t.resource (λ n. u (λ b. n b.1)))
 
     with_rest_most : (l : Option Loc) (e : Source) (rest : Option Source) → NoSlotIn rest
         → (UnboundIs e → EvalAtMost e) → UnboundIs (with_rest l e rest) → EvalAtMost (with_rest l e rest)

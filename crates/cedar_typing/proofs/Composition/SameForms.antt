@@ -11,14 +11,13 @@ use Rattle.cedar_types.specs.Names.{Text, Path}
 use Rattle.cedar_types.specs.Types.{Ty, TBool}
 use Rattle.cedar_types.specs.Expressions.Tree.{if_then_else, binary, get_attr, has_attr, ext_has_attr, set_of, record_of}
 use Rattle.cedar_types.specs.Expressions.View.{Written, trees_of}
-use Rattle.cedar_types.specs.Types.Bounds.{is_strict, is_never, lub, list_lub}
-use Rattle.cedar_types.specs.Types.Lookups.{tag_types}
+use Rattle.cedar_types.specs.Types.Bounds.{is_strict, lub, list_lub}
 use Rattle.cedar_types.specs.Environments.RequestEnvs.{Env}
-use Rattle.cedar_types.specs.Errors.{Finding, unsafe_tag_access, internal_invariant_violation}
+use Rattle.cedar_types.specs.Errors.{Finding}
 use Rattle.cedar_types.specs.Extensions.Functions.{ExtensionFunction, function_named}
 use Rattle.cedar_typing.specs.Capabilities.{Caps, no_caps, union, intersection}
 use Rattle.cedar_typing.specs.Composition.{in_env}
-use Rattle.cedar_typing.specs.Eager.{Expectation, gives, refuses, Form, gives_unless, first_expectation, later_expectations, first_type, second_type, first_tree, second_tree, on_one, on_two}
+use Rattle.cedar_typing.specs.Eager.{Expectation, gives, Form, gives_unless, first_expectation, later_expectations, first_type, second_type, first_tree, second_tree, on_one, on_two}
 use Rattle.cedar_typing.specs.Infer.Conditional.{infer_constant_test, infer_open_parts, infer_branches}
 use Rattle.cedar_typing.specs.Infer.Eager.{OperandsAndErrors, infer_none, expect_operand, infer_rest, infer_one_more, infer_eager, infer_one_operand, infer_two_operands}
 use Rattle.cedar_typing.specs.Infer.Parts.{Part, AnswerAndErrors, answer_if, part_from, expect_type, expect_part, expect, any_part, after}
@@ -33,9 +32,9 @@ use Rattle.cedar_typing.specs.Rules.Sets.{all_types, set_of_types, set_decides, 
 use Rattle.cedar_typing.specs.Rules.Equality.{variable_literal, literal_of, equality_type, equality_decides, equality_form, member_type}
 use Rattle.cedar_typing.specs.Rules.Membership.{entity_of, ancestors_of, in_form}
 use Rattle.cedar_typing.specs.Rules.ShortCircuit.{Connective}
-use Rattle.cedar_typing.specs.Rules.Tags.{tag_of, get_known_tag, get_tag_table, types_named}
+use Rattle.cedar_typing.specs.Rules.Tags.{tag_of, get_known_tag, get_tag_table}
 use Rattle.cedar_typing.specs.Setting.{Setting}
-use Rattle.cedar_typing.specs.TypeEnv.{TypeEnv, finding}
+use Rattle.cedar_typing.specs.TypeEnv.{TypeEnv}
 use Rattle.cedar_typing.specs.TypeTests.{bool_types, string_types, set_types, entity_types, ancestor_types, object_types, is_any_bool, is_true, is_false, annotation_passes}
 use Rattle.cedar_typing.specs.TypedExpr.{Source, annotation, at_place, place_of, typed_as}
 use Rattle.cedar_typing.proofs.Rules.SameTables as same
@@ -210,11 +209,7 @@ module _ (s : Setting) (here elsewhere : Env) where
   tag_known l t (u ∷ ts) = same.tag_bounded s.env s.env.mode s.env.mode here elsewhere l (u ∷ ts) (list_lub s.env.mode (u ∷ ts))
 
   get_tagged : (l : Option Loc) (known : Bool) (t : Option Ty) → get_tag_table e1 l known t ≡ get_tag_table e2 l known t
-  get_tagged l known None = refl
-  get_tagged l known (Some t) =
-      λ i. if is_never t then refuses None (finding e1 l internal_invariant_violation ∷ [])
-      else if known then tag_known l t (tag_types s.env.schema t) i
-      else refuses None (finding e1 l (unsafe_tag_access (types_named t)) ∷ [])
+  get_tagged l = same.get_tagged s.env s.env.mode s.env.mode here elsewhere l (tag_known l)
 
   module _ (vars : (x : Var) → variable_literal here x ≡ variable_literal elsewhere x) where
     pub binary_form_same : (m : Written) (prior : Caps) (a b : Source) (o : BinaryOp) → binary_form e1 m prior a b o ≡ binary_form e2 m prior a b o

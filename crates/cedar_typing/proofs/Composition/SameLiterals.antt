@@ -1,8 +1,7 @@
 -- Which expressions are literals or actions is the same in two environments where it is so of the variables.
 use Rattle.std.proofs.Common.{◌≡◌, [], ◌∷◌, option_map, refl, ap}
 use Rattle.cedar_types.specs.declared.base.expressions.operators.Var.{Var}
-use Rattle.cedar_types.specs.Expressions.Tree.{lit, var, slot, unknown, if_then_else, and, or, unary, binary, call, get_attr, has_attr}
-use Rattle.cedar_types.specs.Expressions.Tree.{ext_has_attr, like, is_type, set_of, record_of, Trees, no_trees, tree}
+use Rattle.cedar_types.specs.Expressions.Tree.{var, set_of, Trees, no_trees, tree}
 use Rattle.cedar_types.specs.Expressions.View.{Written}
 use Rattle.cedar_types.specs.Environments.RequestEnvs.{Env}
 use Rattle.cedar_typing.specs.Rules.Equality.{variable_literal, literal_of}
@@ -11,23 +10,8 @@ use Rattle.cedar_typing.specs.TypedExpr.{Source}
 
 module _ (here elsewhere : Env) (same : (x : Var) → variable_literal here x ≡ variable_literal elsewhere x) where
   pub literal_same : (e : Source) → literal_of here e ≡ literal_of elsewhere e
-  literal_same (lit m x) = refl
   literal_same (var m x) = same x
-  literal_same (slot m x) = refl
-  literal_same (unknown m n) = refl
-  literal_same (if_then_else m x y z) = refl
-  literal_same (and m x y) = refl
-  literal_same (or m x y) = refl
-  literal_same (unary m o x) = refl
-  literal_same (binary m o x y) = refl
-  literal_same (call m n ts) = refl
-  literal_same (get_attr m x a) = refl
-  literal_same (has_attr m x a) = refl
-  literal_same (ext_has_attr m x a xs) = refl
-  literal_same (like m x q) = refl
-  literal_same (is_type m x n) = refl
-  literal_same (set_of m ts) = refl
-  literal_same (record_of m fs) = refl
+  literal_same e = refl
 
   pub entity_same : (e : Source) → entity_of here e ≡ entity_of elsewhere e
   entity_same e = ap literal_entity (literal_same e)
@@ -39,18 +23,4 @@ module _ (here elsewhere : Env) (same : (x : Var) → variable_literal here x �
   pub ancestors_same : (e : Source) → ancestors_of here e ≡ ancestors_of elsewhere e
   ancestors_same (set_of m ts) = entities_same ts
   ancestors_same (var m x) = ap (λ o. option_map (λ u. u ∷ []) (literal_entity o)) (same x)
-  ancestors_same (lit m x) = refl
-  ancestors_same (slot m x) = refl
-  ancestors_same (unknown m n) = refl
-  ancestors_same (if_then_else m x y z) = refl
-  ancestors_same (and m x y) = refl
-  ancestors_same (or m x y) = refl
-  ancestors_same (unary m o x) = refl
-  ancestors_same (binary m o x y) = refl
-  ancestors_same (call m n ts) = refl
-  ancestors_same (get_attr m x a) = refl
-  ancestors_same (has_attr m x a) = refl
-  ancestors_same (ext_has_attr m x a xs) = refl
-  ancestors_same (like m x q) = refl
-  ancestors_same (is_type m x n) = refl
-  ancestors_same (record_of m fs) = refl
+  ancestors_same e = refl

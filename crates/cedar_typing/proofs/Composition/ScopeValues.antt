@@ -1,9 +1,9 @@
 -- The scope of a template is a boolean where its slots are bound.
-use Rattle.std.proofs.Common.{◌≡◌, Bool, true, false, ◌&&◌, if◌then◌else◌, List, [], ◌∷◌, map, Option, Some, None, refl, ◌∙◌, ap}
+use Rattle.std.proofs.Common.{◌≡◌, Bool, true, false, ◌&&◌, if◌then◌else◌, List, [], ◌∷◌, map, Option, Some, None, refl, ◌∙◌, ap, subst}
 use Rattle.cedar_types.specs.declared.base.location.Loc.{Loc}
 use Rattle.cedar_types.specs.declared.base.names.slots.SlotId.{SlotId}
 use Rattle.cedar_types.specs.declared.base.expressions.operators.Var.{Var}
-use Rattle.cedar_types.specs.Names.{PlacedUid, Uid}
+use Rattle.cedar_types.specs.Names.{PlacedType, PlacedUid, Uid, path_eq}
 use Rattle.cedar_types.specs.Expressions.View.{trees_of}
 use Rattle.cedar_types.specs.Templates.{to_entity, to_slot, Scope, any, equal, within, typed, typed_within, ActionScope, any_action}
 use Rattle.cedar_types.specs.Templates.{equal_action, within_actions, typed_at, uid_at, scope_at, action_scope_at}
@@ -11,7 +11,7 @@ use Rattle.cedar_types.specs.Values.{Value, Values, VBool, VEntity, VSet, no_val
 use Rattle.cedar_typing.specs.Composition.{ScopeIsBoolean}
 use Rattle.cedar_typing.specs.Evaluation.Conformance.{IsBound, SlotsBound}
 use Rattle.cedar_typing.specs.Evaluation.Equality.{all_values, any_value}
-use Rattle.cedar_typing.specs.Evaluation.Eval.{bound_outcome, is_some_entity, is_in_entity, value_in, eval, eval_all}
+use Rattle.cedar_typing.specs.Evaluation.Eval.{variable_value, bound_outcome, is_some_entity, is_in, is_in_entity, value_in, is_of, eval, eval_all}
 use Rattle.cedar_typing.specs.Evaluation.Outcomes.{Says, test_of, of_test, and_test, on_value, GiveAll, more_outcomes, on_values}
 use Rattle.cedar_typing.specs.Evaluation.World.{World, Outcome, Gives, Fails, TypeFailure}
 
@@ -51,35 +51,29 @@ module _ (world : World) (l : Option Loc) where
             ∙ ap (λ c. if c then Gives (VBool b) else Fails TypeFailure) r.2,
       )
 
-  principal_bool : (c : Scope) → SlotsBound world.slots (scope_at l Var.Principal SlotId.Principal c)
-      → IsBool (eval world (scope_at l Var.Principal SlotId.Principal c))
-  principal_bool any b = (true, refl)
-  principal_bool (equal (to_entity u)) b = (_, refl)
-  principal_bool (equal to_slot) b = bound_bool (world.slots SlotId.Principal) _ b.1 (λ u. (_, refl))
-  principal_bool (within (to_entity u)) b = (_, refl)
-  principal_bool (within to_slot) b = bound_bool (world.slots SlotId.Principal) _ b.1 (λ u. (_, refl))
-  principal_bool (typed p) b = (_, refl)
-  principal_bool (typed_within p (to_entity u)) b = and_bool (eval world (typed_at l Var.Principal p)) (Gives (VBool _)) (_, refl) (_, refl)
-  principal_bool (typed_within p to_slot) b =
-      and_bool (eval world (typed_at l Var.Principal p)) _ (_, refl)
-      (bound_bool (world.slots SlotId.Principal) (value_in world.store (VEntity world.request.principal))
-      b.1.1 (λ u. (_, refl)))
+-- the constraint of a variable that is an entity
+module _ (world : World) (l : Option Loc) (v : Var) (x : SlotId) (own : Uid) (is : VEntity own ≡ variable_value world.request v) where
+  in_bool : (u : Uid) → IsBool (value_in world.store (variable_value world.request v) (VEntity u))
+  in_bool u = subst (λ w. IsBool (value_in world.store w (VEntity u))) is (is_in world.store own u, refl)
 
-  resource_bool : (c : Scope) → SlotsBound world.slots (scope_at l Var.Resource SlotId.Resource c)
-      → IsBool (eval world (scope_at l Var.Resource SlotId.Resource c))
-  resource_bool any b = (true, refl)
-  resource_bool (equal (to_entity u)) b = (_, refl)
-  resource_bool (equal to_slot) b = bound_bool (world.slots SlotId.Resource) _ b.1 (λ u. (_, refl))
-  resource_bool (within (to_entity u)) b = (_, refl)
-  resource_bool (within to_slot) b = bound_bool (world.slots SlotId.Resource) _ b.1 (λ u. (_, refl))
-  resource_bool (typed p) b = (_, refl)
-  resource_bool (typed_within p (to_entity u)) b = and_bool (eval world (typed_at l Var.Resource p)) (Gives (VBool _)) (_, refl) (_, refl)
-  resource_bool (typed_within p to_slot) b =
-      and_bool (eval world (typed_at l Var.Resource p)) _ (_, refl)
-      (bound_bool (world.slots SlotId.Resource) (value_in world.store (VEntity world.request.resource))
-      b.1.1 (λ u. (_, refl)))
+  typed_bool : (p : PlacedType) → IsBool (eval world (typed_at l v p))
+  typed_bool p = subst (λ w. IsBool (is_of p.name w)) is (path_eq own.entity_type p.name, refl)
+
+  scope_bool : (c : Scope) → SlotsBound world.slots (scope_at l v x c) → IsBool (eval world (scope_at l v x c))
+  scope_bool any b = (true, refl)
+  scope_bool (equal (to_entity u)) b = (_, refl)
+  scope_bool (equal to_slot) b = bound_bool (world.slots x) _ b.1 (λ u. (_, refl))
+  scope_bool (within (to_entity u)) b = in_bool u.uid
+  scope_bool (within to_slot) b = bound_bool (world.slots x) (value_in world.store (variable_value world.request v)) b.1 in_bool
+  scope_bool (typed p) b = typed_bool p
+  scope_bool (typed_within p (to_entity u)) b = and_bool (eval world (typed_at l v p)) _ (typed_bool p) (in_bool u.uid)
+  scope_bool (typed_within p to_slot) b =
+      and_bool (eval world (typed_at l v p)) _ (typed_bool p)
+      (bound_bool (world.slots x) (value_in world.store (variable_value world.request v)) b.1.1 in_bool)
 
 pub scope_is_boolean : ScopeIsBoolean
 scope_is_boolean t world b =
-    and_bool _ _ (and_bool _ _ (principal_bool world t.place t.principal b.0.0)
-    (action_bool world t.place t.action)) (resource_bool world t.place t.resource b.1)
+    and_bool _ _
+    (and_bool _ _ (scope_bool world t.place Var.Principal SlotId.Principal world.request.principal refl t.principal b.0.0)
+    (action_bool world t.place t.action))
+    (scope_bool world t.place Var.Resource SlotId.Resource world.request.resource refl t.resource b.1)

@@ -19,14 +19,15 @@ use Rattle.cedar_typing.specs.Eager.{Expectation, first_expectation, later_expec
 use Rattle.cedar_typing.specs.Infer.{unless_too_deep, infer, infer_within, infer_all, infer_fields}
 use Rattle.cedar_typing.specs.Infer.Eager.{infer_eager}
 use Rattle.cedar_typing.specs.Infer.Leaves.{infer_leaf}
-use Rattle.cedar_typing.specs.Infer.Parts.{success, failure, limit, Answer, AnswerAndErrors, after}
+use Rattle.cedar_typing.specs.Infer.Parts.{success, failure, limit, Answer, AnswerAndErrors, expect, after}
+use Rattle.cedar_typing.specs.Infer.ShortCircuit.{infer_right}
 use Rattle.cedar_typing.specs.Judgments.{Judgment}
 use Rattle.cedar_typing.specs.Rules.{rules, Derives}
 use Rattle.cedar_typing.specs.Rules.Calls.{arguments}
 use Rattle.cedar_typing.specs.Rules.Equality.{variable_literal}
 use Rattle.cedar_typing.specs.Rules.Records.{field_keys}
 use Rattle.cedar_typing.specs.Rules.Leaves.{variable_type, type_of_literal}
-use Rattle.cedar_typing.specs.Rules.ShortCircuit.{conjunction, disjunction}
+use Rattle.cedar_typing.specs.Rules.ShortCircuit.{Connective, conjunction, disjunction}
 use Rattle.cedar_typing.specs.Rules.Unary.{unary_form, like_form, is_form}
 use Rattle.cedar_typing.specs.Setting.{Setting}
 use Rattle.cedar_typing.specs.TypeTests.{bool_types}
@@ -80,6 +81,22 @@ module _ (s : Setting) (d : DeclaredEnv) (p r p' r' : Option Path) where
   literal_typed (string t) = refl
   literal_typed (entity u) = refl
 
+  -- `&&` or `||`, as it is inferred, of two sides that are the same
+  abbrev sides : Setting → Connective → Written → Source → Source → Caps → ℕ → List Finding → AnswerAndErrors
+  sides t f m a b prior k es =
+      after (expect t.env bool_types (place_of a) (unless_too_deep (k + 1) es (infer_within t a prior (k + 1) es)))
+      (λ q es'. infer_right t.env f m (place_of b) prior q es'
+      (λ known es''. unless_too_deep (k + 1) es'' (infer_within t b known (k + 1) es'')))
+
+  sides_same : (f : Connective) (m : Written) (a b : Source) (prior : Caps) (k : ℕ)
+      → infer_within s1 a prior (k + 1) ≡ infer_within s2 a prior (k + 1)
+      → ((known : Caps) → infer_within s1 b known (k + 1) ≡ infer_within s2 b known (k + 1))
+      → sides s1 f m a b prior k ≡ sides s2 f m a b prior k
+  sides_same f m a b prior k left right =
+      λ i es. after (expect_same s here elsewhere bool_types (place_of a) (unless_too_deep (k + 1) es (left i es)) i)
+      (λ q es'. right_same s here elsewhere f m (place_of b) prior q es'
+      (λ known es''. unless_too_deep (k + 1) es'' (right known i es'')) i)
+
   mutual
     same_within : (e : Source) → MentionsNoSlot e → (prior : Caps) (k : ℕ) → infer_within s1 e prior k ≡ infer_within s2 e prior k
     same_within (lit m x) h prior k = λ i es. (infer_leaf (literal_typed x i) m (λ q. lit q x), es)
@@ -97,19 +114,11 @@ module _ (s : Setting) (d : DeclaredEnv) (p r p' r' : Option Path) where
         (λ known es''. unless_too_deep (k + 1) es'' (same_within b hb known (k + 1) i es''))
         (λ es''. unless_too_deep (k + 1) es'' (same_within c hc prior (k + 1) i es'')) i)
     same_within (and m a b) h prior k =
-        let ha = first_of (λ x. mentions_slot x a) (λ x. mentions_slot x b) h in
-        let hb = rest_of (λ x. mentions_slot x a) (λ x. mentions_slot x b) h in
-        λ i es. after (expect_same s here elsewhere bool_types (place_of a)
-        (unless_too_deep (k + 1) es (same_within a ha prior (k + 1) i es)) i)
-        (λ q es'. right_same s here elsewhere conjunction m (place_of b) prior q es'
-        (λ known es''. unless_too_deep (k + 1) es'' (same_within b hb known (k + 1) i es'')) i)
+        sides_same conjunction m a b prior k (same_within a (first_of (λ x. mentions_slot x a) (λ x. mentions_slot x b) h) prior (k + 1))
+        (λ known. same_within b (rest_of (λ x. mentions_slot x a) (λ x. mentions_slot x b) h) known (k + 1))
     same_within (or m a b) h prior k =
-        let ha = first_of (λ x. mentions_slot x a) (λ x. mentions_slot x b) h in
-        let hb = rest_of (λ x. mentions_slot x a) (λ x. mentions_slot x b) h in
-        λ i es. after (expect_same s here elsewhere bool_types (place_of a)
-        (unless_too_deep (k + 1) es (same_within a ha prior (k + 1) i es)) i)
-        (λ q es'. right_same s here elsewhere disjunction m (place_of b) prior q es'
-        (λ known es''. unless_too_deep (k + 1) es'' (same_within b hb known (k + 1) i es'')) i)
+        sides_same disjunction m a b prior k (same_within a (first_of (λ x. mentions_slot x a) (λ x. mentions_slot x b) h) prior (k + 1))
+        (λ known. same_within b (rest_of (λ x. mentions_slot x a) (λ x. mentions_slot x b) h) known (k + 1))
     same_within (unary m o a) h prior k =
         λ i. one_same s here elsewhere (unary_form m o) (place_of a) (λ es. unless_too_deep (k + 1) es (same_within a h prior (k + 1) i es)) i
     same_within (binary m o a b) h prior k =

@@ -13,18 +13,19 @@ use Rattle.cedar_types.specs.Types.{Ty, TBool, TEntity}
 use Rattle.cedar_types.specs.Expressions.Tree.{var, slot, binary}
 use Rattle.cedar_types.specs.Expressions.View.{Written}
 use Rattle.cedar_types.specs.Environments.RequestEnvs.{Declared}
-use Rattle.cedar_types.specs.Environments.{DeclaredEnv}
-use Rattle.cedar_typing.specs.Capabilities.{no_caps}
+use Rattle.cedar_typing.specs.Capabilities.{Caps, no_caps}
 use Rattle.cedar_typing.specs.Composition.{in_env, IsTypedBool, OwnTestsAreBool}
 use Rattle.cedar_typing.specs.Eager.{gives, gives_unless}
 use Rattle.cedar_typing.specs.TypeTests.Joins.{join_errors, strict_errors}
 use Rattle.cedar_typing.specs.Judgments.{max_nesting}
 use Rattle.cedar_typing.specs.Rules.Eager.{none_derived, also_derived, eager_typed}
-use Rattle.cedar_typing.specs.Rules.Equality.{equality_type, equality_decides}
-use Rattle.cedar_typing.specs.Rules.Leaves.{leaf}
-use Rattle.cedar_typing.specs.Rules.Membership.{entity_decides}
+use Rattle.cedar_typing.specs.Rules.Equality.{equality_type, equality_decides, literal_of}
+use Rattle.cedar_typing.specs.Rules.Leaves.{leaf, variable_type, slot_ty}
+use Rattle.cedar_typing.specs.Rules.Membership.{entity_decides, in_decides, literal_entity}
+use Rattle.cedar_typing.specs.Rules.{Derives, rules_within}
 use Rattle.cedar_typing.specs.Setting.{Setting}
 use Rattle.cedar_typing.specs.TypeEnv.{TypeEnv}
+use Rattle.cedar_typing.specs.TypedExpr.{TypedTree}
 
 -- ---- the tables
 
@@ -49,63 +50,47 @@ module _ (env : TypeEnv) (own : Path) where
   equal_decides : (l : Option Loc) → equality_decides env l (equality_type None None Own Own) Own Own ≡ gives (TBool AnyBool) no_caps
   equal_decides l = ap (λ u. equality_decides env l u Own Own) not_apart ∙ ap (λ es. gives_unless es (TBool AnyBool)) (no_errors l)
 
-  in_decides : entity_decides env Own Own ≡ gives (TBool AnyBool) no_caps
-  in_decides = rw (path_same.itself own) refl
+  entity_in_decides : entity_decides env Own Own ≡ gives (TBool AnyBool) no_caps
+  entity_in_decides = rw (path_same.itself own) refl
 
 -- ---- the tests
 
 shallower : (k : ℕ) → k + 1 ≤ max_nesting → k ≤ max_nesting
 shallower k h = grind (arith, common_steps)
 
-module _ (s : Setting) (d : DeclaredEnv) (link : Option Path) (m n o : Written) where
-  abbrev OwnPrincipal : Setting
-  OwnPrincipal = in_env s (Declared d (Some d.principal) link)
+-- a variable that is no literal, against its slot, where both are of the own type
+module _ (t : Setting) (own : Path) (v : Var) (x : SlotId) (of_variable : variable_type t.env v ≡ Some (TEntity (own ∷ [])))
+    (of_slot : Some (slot_ty t.env.request_env x) ≡ Some (TEntity (own ∷ []))) (m n o : Written)
+    (no_literal : literal_of t.env.request_env (var n v) ≡ None) where
+  -- a test of the two that the rules find Bool within the limit is typed as Bool
+  found_bool : (op : BinaryOp) (prior : Caps) (k : ℕ) (y : TypedTree) → k + 1 ≤ max_nesting
+      → (rules_within t (binary m op (var n v) (slot o x)) prior k).derives (TBool AnyBool) no_caps y
+      → (y : TypedTree) × Derives t (binary m op (var n v) (slot o x)) prior k (TBool AnyBool) no_caps y
+  found_bool op prior k y h r = (y, (shallower k h, r))
 
-  abbrev OwnResource : Setting
-  OwnResource = in_env s (Declared d link (Some d.resource))
+  equal_typed : IsTypedBool t (binary m BinaryOp.Eq (var n v) (slot o x))
+  equal_typed prior k h =
+      found_bool BinaryOp.Eq prior k _ h
+      (eager_typed (also_derived (h, leaf of_variable) refl (also_derived (h, leaf of_slot) refl none_derived))
+      (ap (λ q. equality_decides t.env m.place (equality_type q None (Own t.env own) (Own t.env own)) (Own t.env own) (Own t.env own)) no_literal
+      ∙ equal_decides t.env own m.place))
 
-  principal_equal : IsTypedBool OwnPrincipal (binary m BinaryOp.Eq (var n Var.Principal) (slot o SlotId.Principal))
-  principal_equal prior k h = (
-    _,
-    (
-      shallower k h,
-      eager_typed (also_derived (h, leaf refl) refl (also_derived (h, leaf refl) refl none_derived))
-          (equal_decides OwnPrincipal.env d.principal m.place),
-    ),
-  )
-
-  principal_in : IsTypedBool OwnPrincipal (binary m BinaryOp.In (var n Var.Principal) (slot o SlotId.Principal))
-  principal_in prior k h = (
-    _,
-    (
-      shallower k h,
-      eager_typed (also_derived (h, leaf refl) refl (also_derived (h, leaf refl) refl none_derived))
-          (in_decides OwnPrincipal.env d.principal),
-    ),
-  )
-
-  resource_equal : IsTypedBool OwnResource (binary m BinaryOp.Eq (var n Var.Resource) (slot o SlotId.Resource))
-  resource_equal prior k h = (
-    _,
-    (
-      shallower k h,
-      eager_typed (also_derived (h, leaf refl) refl (also_derived (h, leaf refl) refl none_derived))
-          (equal_decides OwnResource.env d.resource m.place),
-    ),
-  )
-
-  resource_in : IsTypedBool OwnResource (binary m BinaryOp.In (var n Var.Resource) (slot o SlotId.Resource))
-  resource_in prior k h = (
-    _,
-    (
-      shallower k h,
-      eager_typed (also_derived (h, leaf refl) refl (also_derived (h, leaf refl) refl none_derived))
-          (in_decides OwnResource.env d.resource),
-    ),
-  )
+  in_typed : IsTypedBool t (binary m BinaryOp.In (var n v) (slot o x))
+  in_typed prior k h =
+      found_bool BinaryOp.In prior k _ h
+      (eager_typed (also_derived (h, leaf of_variable) refl (also_derived (h, leaf of_slot) refl none_derived))
+      (ap (λ q. in_decides t.env (literal_entity q) None (Own t.env own) (Own t.env own)) no_literal ∙ entity_in_decides t.env own))
 
 pub own_tests_are_bool : OwnTestsAreBool
-own_tests_are_bool s d link = (
-  λ m n o. (principal_equal s d link m n o, principal_in s d link m n o),
-  λ m n o. (resource_equal s d link m n o, resource_in s d link m n o),
-)
+own_tests_are_bool s d link =
+    let p = in_env s (Declared d (Some d.principal) link) in
+    let r = in_env s (Declared d link (Some d.resource)) in (
+      λ m n o. (
+        equal_typed p d.principal Var.Principal SlotId.Principal refl refl m n o refl,
+        in_typed p d.principal Var.Principal SlotId.Principal refl refl m n o refl,
+      ),
+      λ m n o. (
+        equal_typed r d.resource Var.Resource SlotId.Resource refl refl m n o refl,
+        in_typed r d.resource Var.Resource SlotId.Resource refl refl m n o refl,
+      ),
+    )

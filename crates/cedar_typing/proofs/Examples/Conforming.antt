@@ -1,13 +1,11 @@
 -- A world that conforms although much is open in it: all premises hold, and the policies' outcomes are computed.
-use Rattle.std.proofs.Common.{◌≡◌, inl, Bool, true, false, ◌&&◌, ◌||◌, List, [], ◌∷◌, Some, refl, sym, subst}
-use Rattle.std.specs.Prelude.{IsTrue}
+use Rattle.std.proofs.Common.{◌≡◌, inl, Bool, true, false, ◌&&◌, ◌||◌, [], ◌∷◌, refl, sym, ◌∙◌}
 use Rattle.cedar_types.specs.declared.base.names.slots.SlotId.{SlotId}
 use Rattle.cedar_types.specs.declared.base.types.ValidationMode.{ValidationMode}
 use Rattle.cedar_types.specs.declared.base.types.ValidationMode.TheVariants.{Strict, Permissive}
-use Rattle.cedar_types.specs.Lemmas.Comparisons.{uid_same}
 use Rattle.cedar_types.specs.Names.{Uid, uid_eq}
-use Rattle.cedar_types.specs.Schemas.{is_among, uid_is_among, type_named, declares_type, declares_action, descendants_of}
-use Rattle.cedar_types.specs.Values.Stores.{Entity, entity_at, declares_ancestor, FitsDeclaration, ConformingStore}
+use Rattle.cedar_types.specs.Schemas.{declares_action}
+use Rattle.cedar_types.specs.Values.Stores.{ConformingStore}
 use Rattle.cedar_types.specs.Templates.{condition_of}
 use Rattle.cedar_typing.specs.Evaluation.Conformance.{IsBound, ConformingRequest}
 use Rattle.cedar_typing.specs.Examples.Conforming.{document, attic, review, edit, review_schema, review_basis, review_store, reviewing}
@@ -15,47 +13,28 @@ use Rattle.cedar_typing.specs.Examples.Conforming.{reviewed_policy, linked_polic
 use Rattle.cedar_typing.specs.Examples.PolicySoundness.{Passes}
 use Rattle.cedar_typing.proofs.Composition.Slots.{slots_bound}
 use Rattle.cedar_typing.proofs.Examples.PolicySoundness.{passing, meeting_conforms}
-use Rattle.cedar_typing.proofs.Examples.World.{AllEntities, all_found, none_among, only_one}
+use Rattle.cedar_typing.proofs.Examples.World.{AllEntities, none_among, Fitting, IsStored, stored_as, all_fit, in_one, left_out, counted}
+use Rattle.cedar_typing.proofs.Examples.World.{HasDeclaredAncestors}
 
 -- ---- the store
 
-abbrev Fitting : Uid → Entity → Type 0
-Fitting u e = FitsDeclaration review_schema u (type_named review_schema.types u.entity_type) e
-
--- documents may be in what the type of v declares
-abbrev MayHoldDocuments : Uid → Type 0
-MayHoldDocuments v =
-    IsTrue (declares_type review_schema.types v.entity_type && is_among (descendants_of review_schema.types v.entity_type) document)
-
-attics_type : (v : Uid) → (uid_eq v attic || false) ≡ true → MayHoldDocuments v
-attics_type v h = subst MayHoldDocuments (sym (uid_same.to v attic (only_one (uid_eq v attic) h))) refl
-
 -- the actions have the ancestors that the schema declares
-abbrev HasDeclaredAncestors : Uid → List Uid → Type 0
-HasDeclaredAncestors u vs = (v : Uid) → uid_is_among vs v ≡ declares_ancestor review_schema.actions u v
-
-ancestors_of_review : HasDeclaredAncestors review (edit ∷ [])
+ancestors_of_review : HasDeclaredAncestors review_schema review (edit ∷ [])
 ancestors_of_review v = go (uid_eq v review) (uid_eq v edit)
   where
     go : (a b : Bool) → (b || false) ≡ ((a && false) || ((b && true) || false))
-    go true true = refl
-    go true false = refl
-    go false true = refl
-    go false false = refl
+    go a b = sym (left_out a _ ∙ counted b false)
 
-ancestors_of_edit : HasDeclaredAncestors edit []
+ancestors_of_edit : HasDeclaredAncestors review_schema edit []
 ancestors_of_edit v = go (uid_eq v review) (uid_eq v edit)
   where
     go : (a b : Bool) → false ≡ ((a && false) || ((b && false) || false))
-    go true true = refl
-    go true false = refl
-    go false true = refl
-    go false false = refl
+    go a b = sym (left_out a _ ∙ left_out b false)
 
 -- the report, the status that is no member, and the actions
-fitting : AllEntities Fitting review_store
+fitting : AllEntities (Fitting review_schema) review_store
 fitting = (
-  record { attributes = ((refl, tt), (refl, tt)); tagged = refl; ancestors = λ v h. attics_type v h },
+  record { attributes = ((refl, tt), (refl, tt)); tagged = refl; ancestors = λ v h. in_one review_schema document attic v refl h },
   (
     record { attributes = refl; ancestors = refl; tags = refl },
     (
@@ -65,22 +44,16 @@ fitting = (
   ),
 )
 
-abbrev IsStored : Uid → Type 0
-IsStored u = (e : Entity) × (entity_at review_store u ≡ Some e)
-
-actions_are_stored : (u : Uid) → declares_action review_schema.actions u ≡ true → IsStored u
+actions_are_stored : (u : Uid) → declares_action review_schema.actions u ≡ true → IsStored review_store u
 actions_are_stored u = go (uid_eq u review) (uid_eq u edit) refl refl
   where
-    go : (a b : Bool) → uid_eq u review ≡ a → uid_eq u edit ≡ b → (a || (b || false)) ≡ true → IsStored u
-    go true b p q h = subst IsStored (sym (uid_same.to u review p)) (_, refl)
-    go false true p q h = subst IsStored (sym (uid_same.to u edit q)) (_, refl)
+    go : (a b : Bool) → uid_eq u review ≡ a → uid_eq u edit ≡ b → (a || (b || false)) ≡ true → IsStored review_store u
+    go true b p q h = stored_as review_store u review p (_, refl)
+    go false true p q h = stored_as review_store u edit q (_, refl)
     go false false p q h = none_among h
 
 store_conforms : ConformingStore review_schema review_store
-store_conforms = record {
-  entities = λ u e h. all_found Fitting review_store fitting u e h;
-  actions = λ u h. actions_are_stored u h;
-}
+store_conforms = all_fit review_schema review_store fitting (λ u h. actions_are_stored u h)
 
 -- ---- the request and the slots
 

@@ -1,30 +1,32 @@
 -- The policies that go wrong, or are true, where one premise does not hold, computed. What is the same in Strict and in Permissive is
 -- proved once, of the checks' outcomes, which are computed in each mode.
-use Rattle.std.proofs.Common.{◌≡◌, inl, Bool, true, false, ◌&&◌, ◌||◌, [], Some, refl, sym, subst}
+use Rattle.std.proofs.Common.{◌≡◌, inl, false, List, [], ◌∷◌, refl, sym}
 use Rattle.cedar_types.specs.declared.base.names.slots.SlotId.{SlotId}
 use Rattle.cedar_types.specs.declared.base.types.ValidationMode.{ValidationMode}
 use Rattle.cedar_types.specs.declared.base.types.ValidationMode.TheVariants.{Strict, Permissive, Partial}
-use Rattle.cedar_types.specs.Lemmas.Comparisons.{uid_same}
-use Rattle.cedar_types.specs.Names.{Uid, uid_eq}
-use Rattle.cedar_types.specs.Schemas.{Schema, uid_is_among, type_named, declares_action}
-use Rattle.cedar_types.specs.Values.Stores.{Entity, entity_at, declares_ancestor, FitsDeclaration, ConformingStore}
-use Rattle.cedar_types.specs.Templates.{condition_of}
+use Rattle.cedar_types.specs.Errors.{Warning}
+use Rattle.cedar_types.specs.Names.{uid_eq}
+use Rattle.cedar_types.specs.Schemas.{Schema}
+use Rattle.cedar_types.specs.Values.Stores.{ConformingStore}
+use Rattle.cedar_types.specs.Templates.{PlainTemplate, condition_of}
 use Rattle.cedar_typing.specs.Evaluation.Conformance.{IsBound}
-use Rattle.cedar_typing.specs.Evaluation.World.{Slots}
+use Rattle.cedar_typing.specs.Evaluation.Eval.{eval}
+use Rattle.cedar_typing.specs.Evaluation.World.{Slots, World, Failure, Fails}
 use Rattle.cedar_typing.specs.Examples.Composition.{robots_template, robot_slots}
 use Rattle.cedar_typing.specs.Examples.Greeting.{greeting}
-use Rattle.cedar_typing.specs.Examples.NeededPremises.{IsAsAskedIn, of_unknown_type, of_unknown_action, of_unknown, slot_in_rest}
+use Rattle.cedar_typing.specs.Examples.NeededPremises.{IsAsAskedIn, BreaksPromise, GoesWrongIn, of_unknown_type, of_unknown_action, of_unknown, slot_in_rest}
 use Rattle.cedar_typing.specs.Examples.NeededPremises.{equal_to_slot, robots_only, young, decimals_in_order, guest_basis, guest_greeting}
 use Rattle.cedar_typing.specs.Examples.NeededPremises.{guest_has_role, guest_goes_wrong, attribute_of_one, NamesMustBeKnownIn}
 use Rattle.cedar_typing.specs.Examples.NeededPremises.{UnknownsGoWrongIn, SlotsInTheRestGoWrongIn, UnboundSlotsGoWrongIn}
 use Rattle.cedar_typing.specs.Examples.NeededPremises.{RequestsMustConformIn, StoresMustConformIn, FunctionsMustKeepTheTableIn}
 use Rattle.cedar_typing.specs.Examples.NeededPremises.{ExternalTypesGoWrongIn, PartialGoesWrong, PremisesAreNeededIn, PremisesAreNeeded}
 use Rattle.cedar_typing.specs.Examples.PolicySoundness.{sample_basis, Passes, PassesWarned, policy_when, meeting_slots, meeting}
-use Rattle.cedar_typing.specs.Examples.World.{greet}
-use Rattle.cedar_typing.specs.Soundness.Policies.{IsClosedIn, IsConforming}
+use Rattle.cedar_typing.specs.Examples.World.{greet, sample_schema}
+use Rattle.cedar_typing.specs.PolicyCheck.Outcome.{impossible}
+use Rattle.cedar_typing.specs.Soundness.Policies.{Basis, IsClosedIn, IsNamedBySchema, IsWellFormed, IsConforming}
 use Rattle.cedar_typing.proofs.Composition.Slots.{slots_bound}
-use Rattle.cedar_typing.proofs.Examples.PolicySoundness.{passing, formed, both_bound, meeting_conforms}
-use Rattle.cedar_typing.proofs.Examples.World.{greets, AllEntities, all_found, only_one}
+use Rattle.cedar_typing.proofs.Examples.PolicySoundness.{passing, AllPass, all_passing, formed, both_bound, meeting_conforms}
+use Rattle.cedar_typing.proofs.Examples.World.{left_out, conforms, greets}
 
 closed : (m : ValidationMode) → IsClosedIn m (sample_basis m)
 closed m = record { mode = refl; closed = refl }
@@ -36,6 +38,12 @@ conforming m slots =
 
 as_asked : (m : ValidationMode) (slots : Slots) → IsAsAskedIn m (record meeting { slots = slots })
 as_asked m slots = record { basis = closed m; conforming = conforming m slots }
+
+goes_wrong : {m : ValidationMode} {Passing : Basis → PlainTemplate → Type 0} {t : PlainTemplate} {world : World} {f : Failure}
+    → Passing (sample_basis m) t → IsNamedBySchema sample_schema t → IsWellFormed t world.slots
+    → eval world (condition_of t) ≡ Fails f → BreaksPromise world t → GoesWrongIn m Passing t world f
+goes_wrong {m} {Passing} {t} {world} {f} p n w e b =
+    record { basis = closed m; passes = p; named = n; well_formed = w; wrong = e; broken = b }
 
 module _ (m : ValidationMode) where
   -- ---- names, unknowns and slots
@@ -98,38 +106,23 @@ module _ (m : ValidationMode) where
 
   requests : PassesWarned (sample_basis m) robots_only → RequestsMustConformIn m
   requests p = record {
-    basis = closed m;
-    passes = p;
-    named = record { types = refl; actions = refl };
-    well_formed = formed robots_only refl (λ x. refl);
+    goes_wrong = goes_wrong p (record { types = refl; actions = refl }) (formed robots_only refl (λ x. refl)) refl (λ h. h.0);
     store = meeting_conforms.store;
     functions = meeting_conforms.functions;
-    wrong = refl;
-    broken = λ h. h.0;
   }
 
   stores : Passes (sample_basis m) young → StoresMustConformIn m
   stores p = record {
-    basis = closed m;
-    passes = p;
-    named = record { types = refl; actions = refl };
-    well_formed = formed young refl (λ x. refl);
+    goes_wrong = goes_wrong p (record { types = refl; actions = refl }) (formed young refl (λ x. refl)) refl (λ h. h.0);
     request = meeting_conforms.request;
     functions = meeting_conforms.functions;
-    wrong = refl;
-    broken = λ h. h.0;
   }
 
   functions : Passes (sample_basis m) decimals_in_order → FunctionsMustKeepTheTableIn m
   functions p = record {
-    basis = closed m;
-    passes = p;
-    named = record { types = refl; actions = refl };
-    well_formed = formed decimals_in_order refl (λ x. refl);
+    goes_wrong = goes_wrong p (record { types = refl; actions = refl }) (formed decimals_in_order refl (λ x. refl)) refl (λ h. h.0);
     request = meeting_conforms.request;
     store = meeting_conforms.store;
-    wrong = refl;
-    broken = λ h. h.0;
   }
 
 -- ---- external types
@@ -137,32 +130,11 @@ module _ (m : ValidationMode) where
 abbrev guest_schema : Schema
 guest_schema = (guest_basis Strict).schema
 
-abbrev Fitting : Uid → Entity → Type 0
-Fitting u e = FitsDeclaration guest_schema u (type_named guest_schema.types u.entity_type) e
-
--- greet has no ancestors
-no_ancestors : (v : Uid) → uid_is_among [] v ≡ declares_ancestor guest_schema.actions greet v
-no_ancestors v = go (uid_eq v greet)
-  where
-    go : (a : Bool) → false ≡ ((a && false) || false)
-    go true = refl
-    go false = refl
-
--- the guest, of whom nothing is asked, and greet
-fitting : AllEntities Fitting guest_greeting.store
-fitting = (tt, ((refl, record { attributes = refl; ancestors = λ v. no_ancestors v; tags = refl }), tt))
-
-abbrev IsStored : Uid → Type 0
-IsStored u = (e : Entity) × (entity_at guest_greeting.store u ≡ Some e)
-
-greet_is_stored : (u : Uid) → declares_action guest_schema.actions u ≡ true → IsStored u
-greet_is_stored u h = subst IsStored (sym (uid_same.to u greet (only_one (uid_eq u greet) h))) (_, refl)
-
+-- the guest, of whom nothing is asked, and greet, which has no ancestors
 pub guests_conform : ConformingStore guest_schema guest_greeting.store
-guests_conform = record {
-  entities = λ u e h. all_found Fitting guest_greeting.store fitting u e h;
-  actions = λ u h. greet_is_stored u h;
-}
+guests_conform =
+    conforms guest_schema greet (λ v. refl) guest_greeting.store
+    (tt, ((refl, record { attributes = refl; ancestors = λ v. sym (left_out (uid_eq v greet) false); tags = refl }), tt)) (_, refl)
 
 external : (m : ValidationMode) → PassesWarned (guest_basis m) guest_goes_wrong
     → PassesWarned (guest_basis m) (policy_when guest_has_role) → ExternalTypesGoWrongIn m
@@ -182,38 +154,52 @@ external m p q = record {
 
 -- ---- in each mode
 
-strict : PremisesAreNeededIn Strict
-strict = record {
-  names = names Strict (passing _ _ _ refl refl refl) (passing _ _ _ refl refl refl);
-  unknowns = unknowns Strict (passing _ _ _ refl refl refl);
-  slots_in_scope = slots_in_rest Strict (passing _ _ _ refl refl refl) (passing _ _ _ refl refl refl);
-  bound = unbound Strict (passing _ _ _ refl refl refl);
-  request = requests Strict (passing _ _ _ refl refl refl);
-  store = stores Strict (passing _ _ _ refl refl refl);
-  functions = functions Strict (passing _ _ _ refl refl refl);
-  closed = external Strict (passing _ _ _ refl refl refl) (passing _ _ _ refl refl refl);
+-- the policies that pass, those that are warned to be impossible, and those of these that speak of guests
+abbrev plain : List PlainTemplate
+plain = equal_to_slot ∷ young ∷ decimals_in_order ∷ []
+
+abbrev warned : List PlainTemplate
+warned = of_unknown_type ∷ of_unknown_action ∷ of_unknown ∷ slot_in_rest ∷ robots_template ∷ robots_only ∷ []
+
+abbrev of_guests : List PlainTemplate
+of_guests = guest_goes_wrong ∷ policy_when guest_has_role ∷ []
+
+abbrev no_warning : PlainTemplate → List Warning
+no_warning t = []
+
+abbrev is_impossible : PlainTemplate → List Warning
+is_impossible t = impossible t ∷ []
+
+in_mode : (m : ValidationMode) → AllPass (sample_basis m) no_warning plain → AllPass (sample_basis m) is_impossible warned
+    → AllPass (guest_basis m) is_impossible of_guests → PremisesAreNeededIn m
+in_mode m p w g = record {
+  names = names m w.0 w.1.0;
+  unknowns = unknowns m w.1.1.0;
+  slots_in_scope = slots_in_rest m w.1.1.1.0 w.1.1.1.1.0;
+  bound = unbound m p.0;
+  request = requests m w.1.1.1.1.1.0;
+  store = stores m p.1.0;
+  functions = functions m p.1.1.0;
+  closed = external m g.0 g.1.0;
 }
 
+strict : PremisesAreNeededIn Strict
+strict =
+    in_mode Strict (all_passing (sample_basis Strict) no_warning plain refl)
+    (all_passing (sample_basis Strict) is_impossible warned refl) (all_passing (guest_basis Strict) is_impossible of_guests refl)
+
 permissive : PremisesAreNeededIn Permissive
-permissive = record {
-  names = names Permissive (passing _ _ _ refl refl refl) (passing _ _ _ refl refl refl);
-  unknowns = unknowns Permissive (passing _ _ _ refl refl refl);
-  slots_in_scope = slots_in_rest Permissive (passing _ _ _ refl refl refl) (passing _ _ _ refl refl refl);
-  bound = unbound Permissive (passing _ _ _ refl refl refl);
-  request = requests Permissive (passing _ _ _ refl refl refl);
-  store = stores Permissive (passing _ _ _ refl refl refl);
-  functions = functions Permissive (passing _ _ _ refl refl refl);
-  closed = external Permissive (passing _ _ _ refl refl refl) (passing _ _ _ refl refl refl);
-}
+permissive =
+    in_mode Permissive (all_passing (sample_basis Permissive) no_warning plain refl)
+    (all_passing (sample_basis Permissive) is_impossible warned refl)
+    (all_passing (guest_basis Permissive) is_impossible of_guests refl)
 
 partial : PartialGoesWrong
 partial = record {
-  others = as_asked Partial meeting_slots;
-  passes = passing _ _ _ refl refl refl;
-  named = record { types = refl; actions = refl };
-  well_formed = formed attribute_of_one refl (λ x. refl);
-  wrong = refl;
-  broken = λ h. h.0;
+  goes_wrong =
+      goes_wrong (passing _ _ _ refl refl refl)
+      (record { types = refl; actions = refl }) (formed attribute_of_one refl (λ x. refl)) refl (λ h. h.0);
+  conforming = conforming Partial meeting_slots;
 }
 
 pub premises_needed : PremisesAreNeeded

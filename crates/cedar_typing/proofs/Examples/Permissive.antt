@@ -1,37 +1,19 @@
 -- In Permissive all premises hold together, a bound of records that keeps an attribute of one side alone as required is none, and that
 -- names ascend is needed.
-use Rattle.std.proofs.Common.{◌≡◌, inl, Bool, true, false, ◌&&◌, ◌||◌, Some, refl, sym, subst}
-use Rattle.cedar_types.specs.Lemmas.Comparisons.{uid_same}
-use Rattle.cedar_types.specs.Names.{Uid, uid_eq}
-use Rattle.cedar_types.specs.Schemas.{Schema, type_named, declares_action}
-use Rattle.cedar_types.specs.Values.Stores.{Entity, Store, entity_at, FitsDeclaration, ConformingStore}
+use Rattle.std.proofs.Common.{◌≡◌, inl, true, false, refl, sym}
+use Rattle.cedar_types.specs.Names.{uid_eq}
+use Rattle.cedar_types.specs.Values.{VRecord, HasType}
+use Rattle.cedar_types.specs.Values.Stores.{ConformingStore}
 use Rattle.cedar_types.specs.Templates.{condition_of}
-use Rattle.cedar_typing.specs.Examples.Permissive.{join, team_schema, team_store, owners, twice_schema, twice_greeting, has_b_goes_wrong}
+use Rattle.cedar_typing.specs.Evaluation.Conformance.{FitsRequest}
+use Rattle.cedar_typing.specs.Examples.Permissive.{join, team_schema, team_store, owners, twice_context, twice_schema, twice_greeting}
+use Rattle.cedar_typing.specs.Examples.Permissive.{has_b_goes_wrong}
 use Rattle.cedar_typing.specs.Examples.Permissive.{PermissivePremisesAreMet, WrongBoundIsRefuted, FormIsNeeded}
 use Rattle.cedar_typing.specs.Examples.PolicySoundness.{meeting_slots}
-use Rattle.cedar_typing.specs.Examples.World.{greet}
+use Rattle.cedar_typing.specs.Examples.World.{greet, users_greet}
 use Rattle.cedar_typing.proofs.Composition.Slots.{slots_bound}
 use Rattle.cedar_typing.proofs.Examples.PolicySoundness.{passing, formed, both_bound}
-use Rattle.cedar_typing.proofs.Examples.World.{AllEntities, all_found, none_among, only_one, greeting_conforms}
-
--- ---- stores of a schema with one action, which has no ancestors
-
-module _ (s : Schema) (u : Uid) (one : (v : Uid) → declares_action s.actions v ≡ (uid_eq v u || false)) (store : Store) where
-  abbrev Fitting : Uid → Entity → Type 0
-  Fitting v e = FitsDeclaration s v (type_named s.types v.entity_type) e
-
-  abbrev IsStored : Uid → Type 0
-  IsStored v = (e : Entity) × (entity_at store v ≡ Some e)
-
-  conforms : AllEntities Fitting store → IsStored u → ConformingStore s store
-  conforms fitting there = record {
-    entities = λ v e h. all_found Fitting store fitting v e h;
-    actions = λ v h. subst IsStored (sym (uid_same.to v u (only_one (uid_eq v u) (subst (λ b. b ≡ true) (one v) h)))) there;
-  }
-
-no_ancestors : (a : Bool) → false ≡ ((a && false) || false)
-no_ancestors true = refl
-no_ancestors false = refl
+use Rattle.cedar_typing.proofs.Examples.World.{none_among, left_out, conforms, greeting_conforms}
 
 -- ---- all premises hold
 
@@ -41,7 +23,7 @@ team_conforms =
       record { attributes = ((tt, (refl, (refl, tt))), (refl, (refl, tt))); tagged = (tt, tt); ancestors = λ v h. none_among h },
       (
         record { attributes = ((tt, (refl, (refl, tt))), (refl, (refl, tt))); tagged = tt; ancestors = λ v h. none_among h },
-        ((refl, record { attributes = refl; ancestors = λ v. no_ancestors (uid_eq v join); tags = refl }), tt),
+        ((refl, record { attributes = refl; ancestors = λ v. sym (left_out (uid_eq v join) false); tags = refl }), tt),
       ),
     )
     (_, refl)
@@ -83,30 +65,24 @@ wrong_bound_refuted = record { has = (tt, tt); lacks = λ h. no_value h.0.0 }
 twice_conforms : ConformingStore twice_schema twice_greeting.store
 twice_conforms =
     conforms twice_schema greet (λ v. refl) twice_greeting.store
-    ((refl, record { attributes = refl; ancestors = λ v. no_ancestors (uid_eq v greet); tags = refl }), tt) (_, refl)
+    ((refl, record { attributes = refl; ancestors = λ v. sym (left_out (uid_eq v greet) false); tags = refl }), tt) (_, refl)
+
+-- the context fits, and so does the request
+twice_context_fits : HasType twice_context (VRecord twice_greeting.request.context)
+twice_context_fits = (
+  (((tt, (tt, tt)), (refl, (refl, tt))), (((tt, (tt, tt)), (refl, tt)), tt)),
+  (refl, (refl, tt)),
+)
+
+pub twice_fits : FitsRequest (users_greet twice_context) twice_greeting.request
+twice_fits = record { principal = refl; action = refl; resource = refl; context = twice_context_fits }
 
 pub form_is_needed : FormIsNeeded
 form_is_needed = record {
   faultless = refl;
   unformed = refl;
   basis = record { mode = refl; closed = refl };
-  conforming = record {
-    request = (
-      _,
-      inl refl,
-      record {
-        principal = refl;
-        action = refl;
-        resource = refl;
-        context = (
-          (((tt, (tt, tt)), (refl, (refl, tt))), (((tt, (tt, tt)), (refl, tt)), tt)),
-          (refl, (refl, tt)),
-        );
-      },
-    );
-    store = twice_conforms;
-    functions = greeting_conforms.functions;
-  };
+  conforming = record { request = (_, inl refl, twice_fits); store = twice_conforms; functions = greeting_conforms.functions };
   passes = passing _ _ _ refl refl refl;
   named = record { types = refl; actions = refl };
   well_formed = formed has_b_goes_wrong refl (λ x. refl);

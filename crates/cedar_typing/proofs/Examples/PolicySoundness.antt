@@ -1,9 +1,9 @@
 -- What the checks of the example policies come to, and that the premises of safety hold together.
-use Rattle.std.proofs.Common.{◌≡◌, inl, true, List, [], ◌∷◌, map, refl, sym, subst}
+use Rattle.std.proofs.Common.{◌≡◌, inl, Bool, true, List, [], ◌∷◌, map, refl, sym, ap, subst}
 use Rattle.std.proofs.lemmas.List.Sorted.{IsPermutation-refl}
 use Rattle.cedar_types.specs.declared.base.names.slots.SlotId.{SlotId}
 use Rattle.cedar_types.specs.declared.base.types.ValidationMode.TheVariants.{Strict}
-use Rattle.cedar_types.specs.Errors.{Warning}
+use Rattle.cedar_types.specs.Errors.{Finding, Warning}
 use Rattle.cedar_types.specs.Environments.Linking.{checked_envs}
 use Rattle.cedar_types.specs.Environments.RequestEnvs.{Env}
 use Rattle.cedar_types.specs.Templates.{PlainTemplate, condition_of}
@@ -14,6 +14,7 @@ use Rattle.cedar_typing.specs.PolicyCheck.{Verdict, PolicyChecks, policy_check}
 use Rattle.cedar_typing.specs.PolicyCheck.Outcome.{Adds, VerdictsOf, all_pass, all_errors, warnings_of}
 use Rattle.cedar_typing.specs.Soundness.Policies.{Basis, IsStrictAndClosed, IsWellFormed, IsConforming, setting_on, CheckedOn}
 use Rattle.cedar_typing.specs.Silence.{HasNoUnknowns}
+use Rattle.cedar_typing.proofs.Basics.{first_is, rest_is}
 use Rattle.cedar_typing.proofs.Composition.Slots.{slots_bound}
 use Rattle.cedar_typing.proofs.Examples.World.{greets, greeting_conforms}
 use Rattle.cedar_typing.proofs.Policies.Check.{checked}
@@ -43,6 +44,27 @@ module _ (b : Basis) (t : PlainTemplate) where
     errors_added = all_new _ _ e;
     warnings_added = all_new _ _ w;
   }
+
+  -- whether it passes, its errors and its warnings
+  abbrev pub comes_to : Bool × (List Finding × List Warning)
+  comes_to =
+      let vs : List Verdict = map verdict_in (checked_envs b.schema b.mode t) in
+      (all_pass vs, (all_errors vs, warnings_of t vs))
+
+  pub passing_so : (ws : List Warning) → comes_to ≡ (true, ([], ws)) → CheckedOn b t true [] [] [] ws
+  passing_so ws h =
+      passing ws (ap (λ (x : Bool × (List Finding × List Warning)). x.0) h)
+      (ap (λ (x : Bool × (List Finding × List Warning)). x.1.0) h) (ap (λ (x : Bool × (List Finding × List Warning)). x.1.1) h)
+
+-- the same of several policies, with these warnings of each
+module _ (b : Basis) (warnings : PlainTemplate → List Warning) where
+  abbrev pub AllPass : List PlainTemplate → Type 0
+  AllPass [] = Unit {0}
+  AllPass (t ∷ ts) = CheckedOn b t true [] [] [] (warnings t) × AllPass ts
+
+  pub all_passing : (ts : List PlainTemplate) → map (λ t. comes_to b t) ts ≡ map (λ t. (true, ([], warnings t))) ts → AllPass ts
+  all_passing [] h = tt
+  all_passing (t ∷ ts) h = (passing_so b t (warnings t) (first_is h), all_passing ts (rest_is h))
 
 pub both_bound : (x : SlotId) → IsBound (meeting_slots x)
 both_bound x = tt

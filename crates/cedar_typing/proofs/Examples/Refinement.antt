@@ -22,10 +22,10 @@ found_open None = false
 found_open (Some t) = is_open t
 
 strict_set : IsTypedIn (with_twice Strict) both_records (TSet (twice AnyBool))
-strict_set = is_typed refl refl
+strict_set = is_typed refl
 
 permissive_set : IsTypedIn (with_twice Permissive) both_records (TSet one_a)
-permissive_set = is_typed refl refl
+permissive_set = is_typed refl
 
 breaks : IsKept (with_twice Strict) (numbered both_records) no_caps 1 → ⊥
 breaks h =

@@ -2,7 +2,8 @@
 pub mod Entities
 pub mod Calls
 pub mod Nesting
-use Rattle.std.proofs.Common.{◌≡◌, ℕ, false, List, [], Option, Some, refl, sym, ◌∙◌, subst}
+pub mod Operators
+use Rattle.std.proofs.Common.{◌≡◌, ℕ, Bool, false, List, [], ◌∷◌, map, Option, Some, refl, sym, ◌∙◌, ap, subst}
 use Rattle.std.specs.Prelude.{codes}
 use Rattle.cedar_types.specs.declared.base.types.BoolType.TheVariants.{AnyBool}
 use Rattle.cedar_types.specs.declared.base.types.ValidationMode.TheVariants.{Strict}
@@ -12,13 +13,11 @@ use Rattle.cedar_types.specs.Types.{Ty, TBool}
 use Rattle.cedar_types.specs.Errors.{Finding}
 use Rattle.cedar_typing.specs.Capabilities.{Caps, no_caps}
 use Rattle.cedar_typing.specs.Examples.Expressions.{principal, numbered}
-use Rattle.cedar_typing.specs.Examples.Rules.{TypesAsIn, FailsWithIn, IsTypedIn, IsRefusedIn, IsRefusedKnowingIn, CutsAt, ChecksAs, HandsOnNeither, typed_false}
+use Rattle.cedar_typing.specs.Examples.Rules.{TypesAsIn, FailsWithIn, Failing, EachFails, AllFail, IsTypedIn, IsRefusedKnowingIn, CutsAt, ChecksAs, HandsOnNeither, typed_false}
 use Rattle.cedar_typing.specs.Examples.Rules.Records.{RecordTyping}
 use Rattle.cedar_typing.specs.Examples.Rules.Sets.{SetTyping}
 use Rattle.cedar_typing.specs.Examples.Rules.Conditional.{ConditionalTyping}
-use Rattle.cedar_typing.specs.Examples.Rules.Equality.{EqualityTyping, MemberTyping}
 use Rattle.cedar_typing.specs.Examples.Rules.Leaves.{LeafTyping}
-use Rattle.cedar_typing.specs.Examples.Rules.Numbers.{OperatorTyping, NumberTyping}
 use Rattle.cedar_typing.specs.Examples.Rules.ShortCircuit.{AndTyping, OrTyping}
 use Rattle.cedar_typing.specs.Examples.Rules.Unary.{UnaryTyping}
 use Rattle.cedar_typing.specs.Examples.World.{sample}
@@ -30,7 +29,7 @@ use Rattle.cedar_typing.specs.Setting.{Setting}
 use Rattle.cedar_typing.specs.TypedExpr.{Source, TypedTree, annotation}
 use Rattle.cedar_typing.proofs.Agreement.Induction.{agrees}
 use Rattle.cedar_typing.proofs.Agreement.Parts.{Answers, a_derived, a_recovered, a_cut}
-use Rattle.cedar_typing.proofs.Basics.{some_is}
+use Rattle.cedar_typing.proofs.Basics.{some_is, first_is, rest_is}
 use Rattle.cedar_typing.proofs.Policies.Check.{checked}
 
 module _ (s : Setting) (e : Source) (p : Caps) (d : ℕ) where
@@ -65,12 +64,31 @@ module _ (s : Setting) (e : Source) (p : Caps) (d : ℕ) where
   pub cuts : (es : List Finding) → infer s e p d [] ≡ (limit, es) → Cuts s e p d es
   cuts es h = of_limit es (by_judge limit es h)
 
-pub types_as : {s : Setting} {p : Caps} {e : Shape} {t : Ty} {c : Caps} {x : TypedTree} → annotation x ≡ Some t
-    → infer s (numbered e) p 1 [] ≡ (success x c, []) → TypesAsIn s p e t c x
-types_as {s} {p} {e} {t} {c} {x} m h = record { has = has s (numbered e) p 1 t c x m h }
+-- the type that a typed expression has, beside what typing comes to
+abbrev Outcome : Type 0
+Outcome = Option Ty × AnswerAndErrors
+
+pub types_as : {s : Setting} {p : Caps} {e : Shape} {t : Ty} {c : Caps} {x : TypedTree}
+    → ◌≡◌ {A = Outcome} (annotation x, infer s (numbered e) p 1 []) (Some t, (success x c, [])) → TypesAsIn s p e t c x
+types_as {s} {p} {e} {t} {c} {x} h =
+    record { has = has s (numbered e) p 1 t c x (ap (λ (o : Outcome). o.0) h) (ap (λ (o : Outcome). o.1) h) }
 
 pub fails_with : {s : Setting} {e : Shape} {x : TypedTree} {es : List Finding} → infer s (numbered e) no_caps 1 [] ≡ (failure x, es) → FailsWithIn s e x es
 fails_with {s} {e} {x} {es} h = record { recovers = recovers s (numbered e) no_caps 1 x es h }
+
+-- the same of several expressions
+abbrev typing_of : Failing → AnswerAndErrors
+typing_of x = infer (sample Strict) (numbered x.0) no_caps 1 []
+
+abbrev failing : Failing → AnswerAndErrors
+failing x = (failure x.1.0, x.1.1)
+
+each_fails : (xs : List Failing) → map typing_of xs ≡ map failing xs → EachFails xs
+each_fails [] h = tt
+each_fails (x ∷ xs) h = (fails_with (first_is h), each_fails xs (rest_is h))
+
+pub all_fail : {xs : List Failing} → map typing_of xs ≡ map failing xs → AllFail xs
+all_fail {xs} h = record { each = each_fails xs h }
 
 pub cuts_at : {d : ℕ} {e : Shape} {es : List Finding} → infer (sample Strict) (numbered e) no_caps d [] ≡ (limit, es) → CutsAt d e es
 cuts_at {d} {e} {es} h = record { cuts = cuts (sample Strict) (numbered e) no_caps d es h }
@@ -81,24 +99,26 @@ copy_of (success x c) = x
 copy_of (failure x) = x
 copy_of limit = typed_false 1
 
-abbrev copy_in : Setting → Shape → TypedTree
-copy_in s e = copy_of (infer s (numbered e) no_caps 1 []).0
+abbrev copy_in : Setting → Caps → Shape → TypedTree
+copy_in s p e = copy_of (infer s (numbered e) p 1 []).0
 
-pub is_typed : {s : Setting} {e : Shape} {t : Ty} → annotation (copy_in s e) ≡ Some t → infer s (numbered e) no_caps 1 []
-    ≡ (success (copy_in s e) no_caps, []) → IsTypedIn s e t
-is_typed {s} {e} {t} m h = record { copy = copy_in s e; has = has s (numbered e) no_caps 1 t no_caps (copy_in s e) m h }
+abbrev outcome : Setting → Caps → Shape → Outcome
+outcome s p e = (annotation (copy_in s p e), infer s (numbered e) p 1 [])
 
-pub is_refused : {s : Setting} {e : Shape} {t : Option Ty} {es : List Finding} → annotation (copy_in s e) ≡ t
-    → infer s (numbered e) no_caps 1 [] ≡ (failure (copy_in s e), es) → IsRefusedIn s e t es
-is_refused {s} {e} {t} {es} m h = record { copy = copy_in s e; stays = m; recovers = recovers s (numbered e) no_caps 1 (copy_in s e) es h }
+pub is_typed : {s : Setting} {e : Shape} {t : Ty} → outcome s no_caps e ≡ (Some t, (success (copy_in s no_caps e) no_caps, []))
+    → IsTypedIn s e t
+is_typed {s} {e} {t} h = record {
+  copy = copy_in s no_caps e;
+  has = has s (numbered e) no_caps 1 t no_caps (copy_in s no_caps e) (ap (λ (o : Outcome). o.0) h) (ap (λ (o : Outcome). o.1) h);
+}
 
--- the same of a failure, where p is known
-abbrev copy_knowing : Setting → Caps → Shape → TypedTree
-copy_knowing s p e = copy_of (infer s (numbered e) p 1 []).0
-
-pub refused_knowing : {s : Setting} {p : Caps} {e : Shape} {t : Option Ty} {es : List Finding} → annotation (copy_knowing s p e) ≡ t
-    → infer s (numbered e) p 1 [] ≡ (failure (copy_knowing s p e), es) → IsRefusedKnowingIn s p e t es
-refused_knowing {s} {p} {e} {t} {es} m h = record { copy = copy_knowing s p e; stays = m; recovers = recovers s (numbered e) p 1 (copy_knowing s p e) es h }
+pub is_refused : {s : Setting} {p : Caps} {e : Shape} {t : Option Ty} {es : List Finding}
+    → outcome s p e ≡ (t, (failure (copy_in s p e), es)) → IsRefusedKnowingIn s p e t es
+is_refused {s} {p} {e} {t} {es} h = record {
+  copy = copy_in s p e;
+  stays = ap (λ (o : Outcome). o.0) h;
+  recovers = recovers s (numbered e) p 1 (copy_in s p e) es (ap (λ (o : Outcome). o.1) h);
+}
 
 pub checks_as : {e : Shape} {v : Verdict} → policy_check (sample Strict) (numbered e) ≡ v → ChecksAs e v
 checks_as {e} {v} h = record { checks = subst (PolicyChecks (sample Strict) (numbered e)) h (checked (sample Strict) (numbered e)) }
@@ -112,74 +132,76 @@ handed limit = no_caps
 abbrev answer : Shape → Answer
 answer e = (infer (sample Strict) (numbered e) no_caps 1 []).0
 
-neither : (e : Shape) → annotation (copy_of (answer e)) ≡ Some (TBool AnyBool) → infer (sample Strict) (numbered e) no_caps 1 []
-    ≡ (success (copy_of (answer e)) (handed (answer e)), [])
-    → handed (answer e) (attribute principal (codes "vip")) ≡ false → handed (answer e) (attribute principal (codes "age")) ≡ false → HandsOnNeither e
-neither e m h p q = record {
+-- whether the mark and the age of the principal are handed on
+abbrev Told : Type 0
+Told = Bool × Bool
+
+abbrev told : Shape → Told
+told e = (handed (answer e) (attribute principal (codes "vip")), handed (answer e) (attribute principal (codes "age")))
+
+neither : {e : Shape} → ◌≡◌ {A = Outcome × Told} (outcome (sample Strict) no_caps e, told e)
+    ((Some (TBool AnyBool), (success (copy_of (answer e)) (handed (answer e)), [])), (false, false)) → HandsOnNeither e
+neither {e} h = record {
   caps = handed (answer e);
   typed = copy_of (answer e);
-  has = has (sample Strict) (numbered e) no_caps 1 (TBool AnyBool) (handed (answer e)) (copy_of (answer e)) m h;
-  no_mark = p;
-  no_age = q;
+  has =
+      has (sample Strict) (numbered e) no_caps 1 (TBool AnyBool) (handed (answer e)) (copy_of (answer e))
+      (ap (λ (o : Outcome × Told). o.0.0) h) (ap (λ (o : Outcome × Told). o.0.1) h);
+  no_mark = ap (λ (o : Outcome × Told). o.1.0) h;
+  no_age = ap (λ (o : Outcome × Told). o.1.1) h;
 }
 
 pub leaf_typing : LeafTyping
 leaf_typing = record {
-  literal_bool = types_as refl refl;
-  literal_long = types_as refl refl;
-  literal_string = types_as refl refl;
-  literal_entity = types_as refl refl;
+  literal_bool = types_as refl;
+  literal_long = types_as refl;
+  literal_string = types_as refl;
+  literal_entity = types_as refl;
   unknown_entity = fails_with refl;
-  unknown_entity_partial = types_as refl refl;
-  variable_principal = types_as refl refl;
-  variable_action = types_as refl refl;
-  variable_hidden = types_as refl refl;
+  unknown_entity_partial = types_as refl;
+  variable_principal = types_as refl;
+  variable_action = types_as refl;
+  variable_hidden = types_as refl;
   variable_missing = fails_with refl;
-  slot_linked = types_as refl refl;
-  slot_free = types_as refl refl;
+  slot_linked = types_as refl;
+  slot_free = types_as refl;
   unknown_value = fails_with refl;
 }
 
 pub and_typing : AndTyping
 and_typing = record {
-  and_left = types_as refl refl;
-  and_left_drops = types_as refl refl;
-  and_guarded = types_as refl refl;
-  and_right = types_as refl refl;
-  and_true = types_as refl refl;
-  and_right_true = types_as refl refl;
-  and_hands_on_left = types_as refl refl;
-  and_hands_on_right = types_as refl refl;
-  and_refused = fails_with refl;
-  and_failed_left = fails_with refl;
-  and_missing_left = fails_with refl;
-  and_missing_right = fails_with refl;
+  and_left = types_as refl;
+  and_left_drops = types_as refl;
+  and_guarded = types_as refl;
+  and_right = types_as refl;
+  and_true = types_as refl;
+  and_right_true = types_as refl;
+  and_hands_on_left = types_as refl;
+  and_hands_on_right = types_as refl;
+  and_fails = all_fail refl;
 }
 
 pub or_typing : OrTyping
 or_typing = record {
-  or_left = types_as refl refl;
-  or_open = types_as refl refl;
-  or_hands_on = types_as refl refl;
-  or_neither = neither _ refl refl refl refl;
-  or_right_true = types_as refl refl;
-  or_right_known = types_as refl refl;
-  or_right_false = types_as refl refl;
-  or_left_false = types_as refl refl;
-  or_both_false = types_as refl refl;
-  or_both_false_right = types_as refl refl;
+  or_left = types_as refl;
+  or_open = types_as refl;
+  or_hands_on = types_as refl;
+  or_neither = neither refl;
+  or_right_true = types_as refl;
+  or_right_known = types_as refl;
+  or_right_false = types_as refl;
+  or_left_false = types_as refl;
+  or_both_false = types_as refl;
+  or_both_false_right = types_as refl;
   or_unguarded = fails_with refl;
-  or_refused = fails_with refl;
-  or_failed_left = fails_with refl;
-  or_missing_left = fails_with refl;
-  or_missing_right = fails_with refl;
+  or_fails = all_fail refl;
 }
 
 pub unary_typing : UnaryTyping
 unary_typing = record {
-  not_true = types_as refl refl;
-  not_false = types_as refl refl;
-  not_open = types_as refl refl;
+  not_true = types_as refl;
+  not_false = types_as refl;
+  not_open = types_as refl;
   not_refused = fails_with refl;
   not_failed = fails_with refl;
   not_missing = fails_with refl;
@@ -187,12 +209,12 @@ unary_typing = record {
 
 pub conditional_typing : ConditionalTyping
 conditional_typing = record {
-  if_true = types_as refl refl;
-  if_false = types_as refl refl;
-  if_false_drops = types_as refl refl;
-  if_open = types_as refl refl;
-  if_neither = neither _ refl refl refl refl;
-  if_known = types_as refl refl;
+  if_true = types_as refl;
+  if_false = types_as refl;
+  if_false_drops = types_as refl;
+  if_open = types_as refl;
+  if_neither = neither refl;
+  if_known = types_as refl;
   if_unbound = fails_with refl;
   if_missing = fails_with refl;
   if_test_missing = fails_with refl;
@@ -202,99 +224,22 @@ conditional_typing = record {
   if_false_failed = fails_with refl;
 }
 
-pub operator_typing : OperatorTyping
-operator_typing = record {
-  negation = is_typed refl refl;
-  negation_refused = is_refused refl refl;
-  negation_missing = is_refused refl refl;
-  empty = is_typed refl refl;
-  empty_refused = is_refused refl refl;
-  like_text = is_typed refl refl;
-  like_refused = is_refused refl refl;
-  is_it = is_typed refl refl;
-  is_another = is_typed refl refl;
-  is_one_of_two = is_typed refl refl;
-  is_none_of_two = is_typed refl refl;
-  is_of_any = is_typed refl refl;
-  is_of_never = is_refused refl refl;
-  is_refused = is_refused refl refl;
-  is_missing = is_refused refl refl;
-}
-
-pub number_typing : NumberTyping
-number_typing = record {
-  sum = is_typed refl refl;
-  sum_refused = is_refused refl refl;
-  difference = is_typed refl refl;
-  product = is_typed refl refl;
-  compared = is_typed refl refl;
-  compared_at_most = is_typed refl refl;
-  left_is_long = is_refused refl refl;
-  right_is_long = is_refused refl refl;
-  decimal_and_long = is_refused refl refl;
-  long_and_decimal = is_refused refl refl;
-  decimals = is_typed refl refl;
-  decimals_at_most = is_typed refl refl;
-  left_is_decimal = is_refused refl refl;
-  right_is_decimal = is_refused refl refl;
-  decimal_and_duration = is_refused refl refl;
-  neither_compared = is_refused refl refl;
-  addresses = is_refused refl refl;
-  in_order = is_refused refl refl;
-  decimal_failed = is_refused refl refl;
-  side_missing = is_refused refl refl;
-  never_and_long = is_typed refl refl;
-  long_and_never = is_typed refl refl;
-  never_and_decimal = is_typed refl refl;
-  duration_and_never = is_typed refl refl;
-  never_and_text = is_refused refl refl;
-  text_and_never = is_refused refl refl;
-  two_nevers = is_refused refl refl;
-}
-
-pub equality_typing : EqualityTyping
-equality_typing = record {
-  same_literals = is_typed refl refl;
-  other_literals = is_typed refl refl;
-  mixed_literals = is_typed refl refl;
-  action_is = is_typed refl refl;
-  action_is_itself = is_typed refl refl;
-  undeclared_action = is_refused refl refl;
-  disjoint = is_typed refl refl;
-  of_one_type = is_typed refl refl;
-  unbound = is_refused refl refl;
-  unbound_permissive = is_typed refl refl;
-  side_missing = is_refused refl refl;
-}
-
-pub member_typing : MemberTyping
-member_typing = record {
-  has_member = is_typed refl refl;
-  no_member = is_refused refl refl;
-  no_member_permissive = is_typed refl refl;
-  no_set = is_refused refl refl;
-  has_members = is_typed refl refl;
-  has_some_members = is_typed refl refl;
-  no_members = is_refused refl refl;
-  no_right_set = is_refused refl refl;
-}
-
 pub set_typing : SetTyping
 set_typing = record {
-  of_one_type = is_typed refl refl;
-  of_their_bound = is_typed refl refl;
-  unbound = is_refused refl refl;
-  without_elements = is_refused refl refl;
-  without_elements_permissive = is_typed refl refl;
-  element_missing = is_refused refl refl;
-  element_failed = is_refused refl refl;
+  of_one_type = is_typed refl;
+  of_their_bound = is_typed refl;
+  unbound = is_refused refl;
+  without_elements = is_refused refl;
+  without_elements_permissive = is_typed refl;
+  element_missing = is_refused refl;
+  element_failed = is_refused refl;
 }
 
 pub record_typing : RecordTyping
 record_typing = record {
-  of_both = is_typed refl refl;
-  value_missing = is_refused refl refl;
-  value_failed = is_refused refl refl;
-  keys_descend = is_refused refl refl;
-  key_twice = is_refused refl refl;
+  of_both = is_typed refl;
+  value_missing = is_refused refl;
+  value_failed = is_refused refl;
+  keys_descend = is_refused refl;
+  key_twice = is_refused refl;
 }

@@ -1,12 +1,12 @@
 -- The world of the examples conforms.
 use Rattle.std.proofs.Common.{◌≡◌, inl, Bool, true, false, ◌&&◌, ◌||◌, if◌then◌else◌, List, [], ◌∷◌, Option, Some, None, true≢false, refl}
-use Rattle.std.proofs.Common.{sym, subst}
+use Rattle.std.proofs.Common.{sym, ◌∙◌, ap, subst}
 use Rattle.std.specs.Prelude.{IsTrue}
 use Rattle.cedar_types.specs.declared.base.types.ValidationMode.TheVariants.{Strict}
 use Rattle.cedar_types.specs.Names.{Path, Uid, uid_eq, path_eq}
 use Rattle.cedar_types.specs.Extensions.Functions.{ExtensionFunction, function_named}
 use Rattle.cedar_types.specs.Lemmas.Comparisons.{path_same, uid_same}
-use Rattle.cedar_types.specs.Schemas.{is_among, uid_is_among, type_named, declares_type, declares_action, descendants_of}
+use Rattle.cedar_types.specs.Schemas.{Schema, is_among, uid_is_among, type_named, declares_type, declares_action, descendants_of}
 use Rattle.cedar_types.specs.Values.{Value, Values, HasType}
 use Rattle.cedar_types.specs.Values.Stores.{Entity, Store, entity_at, declares_ancestor, FitsDeclaration, ConformingStore}
 use Rattle.cedar_typing.specs.Evaluation.Conformance.{FitsRequest, KeepsTable}
@@ -35,8 +35,21 @@ module _ (P : Uid → Entity → Type 0) where
   all_found [] h u e n = absurd (none_is n)
   all_found (x ∷ xs) h u e n = at_first (uid_eq u x.0) u x.0 x.1 e (entity_at xs u) refl h.0 (all_found xs h.1 u e) n
 
-abbrev Fitting : Uid → Entity → Type 0
-Fitting u e = FitsDeclaration sample_schema u (type_named sample_schema.types u.entity_type) e
+-- what an entity is to be, by the declaration of its type
+abbrev pub Fitting : Schema → Uid → Entity → Type 0
+Fitting s u e = FitsDeclaration s u (type_named s.types u.entity_type) e
+
+abbrev pub IsStored : Store → Uid → Type 0
+IsStored es u = (e : Entity) × (entity_at es u ≡ Some e)
+
+-- a store conforms where all entities fit and all actions are stored
+pub all_fit : (s : Schema) (es : Store) → AllEntities (Fitting s) es
+    → ((u : Uid) → declares_action s.actions u ≡ true → IsStored es u) → ConformingStore s es
+all_fit s es fitting there =
+    record { entities = λ u e h. all_found (Fitting s) es fitting u e h; actions = λ u h. there u h }
+
+pub stored_as : (es : Store) (u v : Uid) → uid_eq u v ≡ true → IsStored es v → IsStored es u
+stored_as es u v q h = subst (IsStored es) (sym (uid_same.to u v q)) h
 
 pub none_among : {P : Type 0} → false ≡ true → P
 none_among h = absurd (true≢false (sym h))
@@ -46,63 +59,52 @@ pub only_one : (b : Bool) → (b || false) ≡ true → b ≡ true
 only_one true n = refl
 only_one false n = n
 
--- bob, who is a user, may be an ancestor of users
-bobs_type : (v : Uid) → (uid_eq v bob || false) ≡ true
-    → IsTrue (declares_type sample_schema.types v.entity_type
-    && is_among (descendants_of sample_schema.types v.entity_type) user)
-bobs_type v h =
-    let P : Uid → Type 0 = λ z. IsTrue (declares_type sample_schema.types z.entity_type
-    && is_among (descendants_of sample_schema.types z.entity_type) user) in
-    subst P (sym (uid_same.to v bob (only_one (uid_eq v bob) h))) refl
+-- entities of the type p may be in what the type of v declares
+abbrev pub MayBeIn : Schema → Path → Uid → Type 0
+MayBeIn s p v = IsTrue (declares_type s.types v.entity_type && is_among (descendants_of s.types v.entity_type) p)
+
+-- where u is the one ancestor
+pub in_one : (s : Schema) (p : Path) (u v : Uid) → MayBeIn s p u → (uid_eq v u || false) ≡ true → MayBeIn s p v
+in_one s p u v h q = subst (MayBeIn s p) (sym (uid_same.to v u (only_one (uid_eq v u) q))) h
+
+-- an action of which u is no descendant, and one of which it is
+pub left_out : (a rest : Bool) → ((a && false) || rest) ≡ rest
+left_out true rest = refl
+left_out false rest = refl
+
+pub counted : (a rest : Bool) → ((a && true) || rest) ≡ (a || rest)
+counted true rest = refl
+counted false rest = refl
 
 -- the actions have the ancestors that the schema declares
-abbrev HasDeclaredAncestors : Uid → List Uid → Type 0
-HasDeclaredAncestors u vs = (v : Uid) → uid_is_among vs v ≡ declares_ancestor sample_schema.actions u v
+abbrev pub HasDeclaredAncestors : Schema → Uid → List Uid → Type 0
+HasDeclaredAncestors s u vs = (v : Uid) → uid_is_among vs v ≡ declares_ancestor s.actions u v
 
-ancestors_of_greet : HasDeclaredAncestors greet (meet ∷ act ∷ [])
+ancestors_of_greet : HasDeclaredAncestors sample_schema greet (meet ∷ act ∷ [])
 ancestors_of_greet v = go (uid_eq v greet) (uid_eq v meet) (uid_eq v act)
   where
     go : (a b c : Bool) → (b || (c || false)) ≡ ((a && false) || ((b && true) || ((c && true) || false)))
-    go true true c = refl
-    go true false true = refl
-    go true false false = refl
-    go false true c = refl
-    go false false true = refl
-    go false false false = refl
+    go a b c = sym (left_out a _ ∙ (counted b _ ∙ ap (λ x. b || x) (counted c false)))
 
-ancestors_of_meet : HasDeclaredAncestors meet (act ∷ [])
+ancestors_of_meet : HasDeclaredAncestors sample_schema meet (act ∷ [])
 ancestors_of_meet v = go (uid_eq v greet) (uid_eq v meet) (uid_eq v act)
   where
     go : (a b c : Bool) → (c || false) ≡ ((a && false) || ((b && false) || ((c && true) || false)))
-    go true true true = refl
-    go true true false = refl
-    go true false true = refl
-    go true false false = refl
-    go false true true = refl
-    go false true false = refl
-    go false false true = refl
-    go false false false = refl
+    go a b c = sym (left_out a _ ∙ (left_out b _ ∙ counted c false))
 
-ancestors_of_act : HasDeclaredAncestors act []
+ancestors_of_act : HasDeclaredAncestors sample_schema act []
 ancestors_of_act v = go (uid_eq v greet) (uid_eq v meet) (uid_eq v act)
   where
     go : (a b c : Bool) → false ≡ ((a && false) || ((b && false) || ((c && false) || false)))
-    go true true true = refl
-    go true true false = refl
-    go true false true = refl
-    go true false false = refl
-    go false true true = refl
-    go false true false = refl
-    go false false true = refl
-    go false false false = refl
+    go a b c = sym (left_out a _ ∙ (left_out b _ ∙ left_out c false))
 
 -- alice, bob and the actions
-fitting : AllEntities Fitting sample_store
+fitting : AllEntities (Fitting sample_schema) sample_store
 fitting = (
   record {
     attributes = ((tt, (refl, (((tt, tt), (refl, tt)), (tt, tt)))), (refl, (refl, (refl, (refl, tt)))));
     tagged = (tt, tt);
-    ancestors = λ v h. bobs_type v h;
+    ancestors = λ v h. in_one sample_schema user bob v refl h;
   },
   (
     record { attributes = ((tt, (refl, (refl, (refl, tt)))), (refl, tt)); tagged = tt; ancestors = λ v h. none_among h },
@@ -116,26 +118,24 @@ fitting = (
   ),
 )
 
-abbrev IsStored : Uid → Type 0
-IsStored u = (e : Entity) × (entity_at sample_store u ≡ Some e)
-
-stored_as : (u v : Uid) → uid_eq u v ≡ true → IsStored v → IsStored u
-stored_as u v q h = subst IsStored (sym (uid_same.to u v q)) h
-
-actions_are_stored : (u : Uid) → declares_action sample_schema.actions u ≡ true → IsStored u
+actions_are_stored : (u : Uid) → declares_action sample_schema.actions u ≡ true → IsStored sample_store u
 actions_are_stored u = go (uid_eq u greet) (uid_eq u meet) (uid_eq u act) refl refl refl
   where
-    go : (a b c : Bool) → uid_eq u greet ≡ a → uid_eq u meet ≡ b → uid_eq u act ≡ c → (a || (b || (c || false))) ≡ true → IsStored u
-    go true b c p q r h = stored_as u greet p (_, refl)
-    go false true c p q r h = stored_as u meet q (_, refl)
-    go false false true p q r h = stored_as u act r (_, refl)
+    go : (a b c : Bool) → uid_eq u greet ≡ a → uid_eq u meet ≡ b → uid_eq u act ≡ c → (a || (b || (c || false))) ≡ true
+        → IsStored sample_store u
+    go true b c p q r h = stored_as sample_store u greet p (_, refl)
+    go false true c p q r h = stored_as sample_store u meet q (_, refl)
+    go false false true p q r h = stored_as sample_store u act r (_, refl)
     go false false false p q r h = none_among h
 
 pub store_conforms : ConformingStore sample_schema sample_store
-store_conforms = record {
-  entities = λ u e h. all_found Fitting sample_store fitting u e h;
-  actions = λ u h. actions_are_stored u h;
-}
+store_conforms = all_fit sample_schema sample_store fitting (λ u h. actions_are_stored u h)
+
+-- a store of a schema with one action, which has no ancestors
+module _ (s : Schema) (u : Uid) (one : (v : Uid) → declares_action s.actions v ≡ (uid_eq v u || false)) (store : Store) where
+  pub conforms : AllEntities (Fitting s) store → IsStored store u → ConformingStore s store
+  conforms fitting there =
+      all_fit s store fitting (λ v h. stored_as store v u (only_one (uid_eq v u) (subst (λ b. b ≡ true) (one v) h)) there)
 
 -- ---- the extension functions
 

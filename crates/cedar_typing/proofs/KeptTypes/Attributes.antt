@@ -4,7 +4,7 @@ use Rattle.std.specs.List.{list_all}
 use Rattle.cedar_types.specs.declared.base.types.ValidationMode.TheVariants.{Permissive}
 use Rattle.cedar_types.specs.Names.{Text, Path, path_eq}
 use Rattle.cedar_types.specs.Lemmas.Comparisons.{and_left}
-use Rattle.cedar_types.specs.Types.{Ty, TNever, TBool, TLong, TString, TSet, TAnySet, TRecord, TEntity, TAnyEntity, TExtension}
+use Rattle.cedar_types.specs.Types.{Ty, TRecord, TEntity}
 use Rattle.cedar_types.specs.Types.{is_well_formed}
 use Rattle.cedar_types.specs.Types.Bounds.{is_strict, lub}
 use Rattle.cedar_types.specs.Schemas.{Schema, DeclaredType, DeclaredAction, TypeKind, StandardKind, EnumKind, ExternalKind, has_fault}
@@ -91,16 +91,9 @@ module _ (k : Keeping) where
 
     pub attribute_kept : (b : Ty) (x : Text) (t : Ty) (r : Bool) → IsKept k b
         → ◌≡◌ {A = Option (Ty × Bool)} (attribute_type s b x) (Some (t, r)) → IsKept k t
-    attribute_kept TNever x t r n e = cc
-    attribute_kept (TBool j) x t r n e = cc
-    attribute_kept TLong x t r n e = cc
-    attribute_kept TString x t r n e = cc
-    attribute_kept (TSet u) x t r n e = cc
-    attribute_kept TAnySet x t r n e = cc
     attribute_kept (TRecord xs o) x t r n e = field_kept k x xs o t r n e
     attribute_kept (TEntity ps) x t r n e = subst FoundKept e (types_kept x ps n)
-    attribute_kept TAnyEntity x t r n e = cc
-    attribute_kept (TExtension m) x t r n e = cc
+    attribute_kept b x t r n e = cc
 
 -- the types of declared attributes are well-formed
 formed_found : (o : Option (Ty × Bool)) (a : Ty × Bool) → FoundKept ascending o → o ≡ Some a → is_well_formed a.0 ≡ true

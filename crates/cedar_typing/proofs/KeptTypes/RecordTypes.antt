@@ -21,7 +21,7 @@ above_kept k (l ∷ ls) (t ∷ ts) h =
     (and_left below others h) (above_kept k ls ts (and_right below others h))
 
 -- the names of attributes ascend where the keys do
-names_ascend : (ks : List Text) (ts : List Ty) → texts_ascending ks ≡ true → texts_ascending (attr_names (required_attrs ks ts)) ≡ true
+pub names_ascend : (ks : List Text) (ts : List Ty) → texts_ascending ks ≡ true → texts_ascending (attr_names (required_attrs ks ts)) ≡ true
 names_ascend [] ts h = refl
 names_ascend (k ∷ ks) [] h = refl
 names_ascend (k ∷ ks) (t ∷ ts) h =

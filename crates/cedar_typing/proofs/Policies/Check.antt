@@ -1,13 +1,12 @@
 -- The check as a function follows the rules.
-use Rattle.std.proofs.Common.{◌≡◌, Bool, true, false, List, [], Option, refl, sym, subst}
+use Rattle.std.proofs.Common.{◌≡◌, Bool, true, false, List, Option, refl, sym, subst}
 use Rattle.std.specs.Prelude.{if◌then◌else◌, IsPermutation}
 use Rattle.std.proofs.lemmas.List.Sorted.{IsPermutation-refl}
 use Rattle.cedar_types.specs.declared.base.types.BoolType.TheVariants.{False}
 use Rattle.cedar_types.specs.Types.{Ty, TBool}
 use Rattle.cedar_types.specs.Errors.{Finding}
 use Rattle.cedar_typing.specs.Capabilities.{Caps, no_caps}
-use Rattle.cedar_typing.specs.Infer.{infer}
-use Rattle.cedar_typing.specs.Infer.Parts.{Part, PartAndErrors}
+use Rattle.cedar_typing.specs.Infer.Parts.{Part}
 use Rattle.cedar_typing.specs.Judgments.{Operand}
 use Rattle.cedar_typing.specs.PolicyCheck.{irrelevant, PolicyChecks, verdict_if, part_verdict, out_verdict, policy_check, check_true}
 use Rattle.cedar_typing.specs.PolicyCheck.{check_false, check_refused_false, check_refused, check_cut}
@@ -16,7 +15,8 @@ use Rattle.cedar_typing.specs.Setting.{Setting}
 use Rattle.cedar_typing.specs.TypeTests.{bool_types, is_false, annotation_passes}
 use Rattle.cedar_typing.specs.TypedExpr.{Source, TypedTree, annotation, place_of}
 use Rattle.cedar_typing.proofs.Agreement.Induction.{agrees}
-use Rattle.cedar_typing.proofs.Agreement.Parts.{is_given, is_cut, OperandAnswer, operand_found, good_operand, says_at}
+use Rattle.cedar_typing.proofs.Agreement.Parts.{is_given, is_cut, OperandAnswer, good_operand, says_at}
+use Rattle.cedar_typing.proofs.Policies.Trees.{of_inferred}
 use Rattle.cedar_typing.proofs.TypeTests.{false_type}
 
 module _ (s : Setting) (e : Source) where
@@ -57,8 +57,4 @@ module _ (s : Setting) (e : Source) where
       by_mark succeeded c e' es (annotation_passes is_false (annotation e')) o refl
 
   pub checked : PolicyChecks s e (policy_check s e)
-  checked =
-      let f = operand_found s.env bool_types (place_of e) (rules s e no_caps 1) (infer s e no_caps 1 []) []
-      ((agrees s e no_caps 1).found []) in
-      let P : PartAndErrors → Type 0 = λ o. PolicyChecks s e (out_verdict o) in
-      subst P (sym f.is) (by_answer f.operand f.added f.rules)
+  checked = of_inferred s e (λ o. PolicyChecks s e (out_verdict o)) by_answer

@@ -4,7 +4,7 @@ use Rattle.std.specs.Prelude.{option_map}
 use Rattle.cedar_types.specs.Errors.{Finding}
 use Rattle.cedar_typing.specs.Capabilities.{Caps, no_caps}
 use Rattle.cedar_typing.specs.Infer.{infer}
-use Rattle.cedar_typing.specs.Infer.Parts.{Part, PartAndErrors}
+use Rattle.cedar_typing.specs.Infer.Parts.{Part, PartAndErrors, expect}
 use Rattle.cedar_typing.specs.PolicyCheck.Trees.{HasTypedCondition, typed_condition, refused_condition, cut_condition, part_tree, out_tree, condition_tree}
 use Rattle.cedar_typing.specs.Judgments.{Operand}
 use Rattle.cedar_typing.specs.Rules.{rules}
@@ -15,6 +15,15 @@ use Rattle.cedar_typing.proofs.Agreement.Induction.{agrees}
 use Rattle.cedar_typing.proofs.Agreement.Parts.{is_given, is_cut, OperandAnswer, operand_found, good_operand}
 
 module _ (s : Setting) (e : Source) where
+  -- what holds of every operand that the rules answer with holds of the one that is inferred
+  pub of_inferred : (P : PartAndErrors → Type 0)
+      → ((g : Option Part) (es : List Finding) → OperandAnswer s.env bool_types (place_of e) (rules s e no_caps 1) g es → P (g, es))
+      → P (expect s.env bool_types (place_of e) (infer s e no_caps 1 []))
+  of_inferred P by =
+      let f = operand_found s.env bool_types (place_of e) (rules s e no_caps 1) (infer s e no_caps 1 []) []
+      ((agrees s e no_caps 1).found []) in
+      subst P (sym f.is) (by f.operand f.added f.rules)
+
   given : (succeeded : Bool) (c : Caps) (x : TypedTree) (es : List Finding)
       → Operand s.env bool_types (place_of e) (rules s e no_caps 1) succeeded c x es
       → HasTypedCondition s e (Some x)
@@ -30,8 +39,4 @@ module _ (s : Setting) (e : Source) where
   by_answer g es (is_given {succeeded = succeeded} {c = c} {e = x} o) = given succeeded c x es o
 
   pub has_typed_condition : HasTypedCondition s e (condition_tree s e)
-  has_typed_condition =
-      let f = operand_found s.env bool_types (place_of e) (rules s e no_caps 1) (infer s e no_caps 1 []) []
-      ((agrees s e no_caps 1).found []) in
-      let P : PartAndErrors → Type 0 = λ o. HasTypedCondition s e (out_tree o) in
-      subst P (sym f.is) (by_answer f.operand f.added f.rules)
+  has_typed_condition = of_inferred (λ o. HasTypedCondition s e (out_tree o)) by_answer

@@ -1,6 +1,8 @@
 -- What one judgment says without an error another says just the same: forms whose operands are all typed first.
-use Rattle.std.proofs.Common.{◌≡◌, Bool, false, List, [], Option, Some, None, ◌∙◌, ap}
+use Rattle.std.proofs.Common.{◌≡◌, Bool, false, List, [], Option, Some, None, refl, ◌∙◌, ap}
 use Rattle.cedar_types.specs.declared.base.location.Loc.{Loc}
+use Rattle.cedar_types.specs.declared.base.expressions.operators.BinaryOp.{BinaryOp}
+use Rattle.cedar_types.specs.Expressions.View.{Written}
 use Rattle.cedar_types.specs.Types.{Ty}
 use Rattle.cedar_types.specs.Errors.{Finding}
 use Rattle.cedar_typing.specs.Capabilities.{Caps}
@@ -9,9 +11,10 @@ use Rattle.cedar_typing.specs.Judgments.{Judgment}
 use Rattle.cedar_typing.specs.Rules.Eager.{Judgments, no_operands, ExpectedOperand, also_derived, also_given}
 use Rattle.cedar_typing.specs.Rules.Eager.{one_more, eager_typed, operand_failed, table_refused, eager_rules, one_operand_rules}
 use Rattle.cedar_typing.specs.Rules.Eager.{two_operand_rules}
+use Rattle.cedar_typing.specs.Rules.Binary.{binary_form}
 use Rattle.cedar_typing.specs.Rules.Sets.{errors_of}
 use Rattle.cedar_typing.specs.TypeEnv.{TypeEnv}
-use Rattle.cedar_typing.specs.TypedExpr.{TypedTree}
+use Rattle.cedar_typing.specs.TypedExpr.{Source, TypedTree}
 use Rattle.cedar_typing.proofs.KeptTypes.Eager.{KeepsAll, none_kept, more_kept}
 use Rattle.cedar_typing.proofs.KeptTypes.Keeping.{AllKept}
 use Rattle.cedar_typing.proofs.KeptTypes.Rules.{KeepsTypes}
@@ -61,6 +64,13 @@ SaysTheSame Kept f table = (ts : List (Option Ty)) → AllKept Kept ts → error
 -- the form with another table
 abbrev pub with_table : Form → (List (Option Ty) → Decision) → (List (Option Ty) → List Finding) → Form
 with_table f table limit = record f { decides = table; at_limit = limit }
+
+-- but for its table the form of an operator is the same in two environments
+pub operator_is : (env env' : TypeEnv) (m : Written) (prior : Caps) (a b : Source) (o : BinaryOp)
+    → with_table (binary_form env m prior a b o) (binary_form env' m prior a b o).decides (binary_form env' m prior a b o).at_limit
+    ≡ binary_form env' m prior a b o
+operator_is env env' m prior a b BinaryOp.Eq = refl
+operator_is env env' m prior a b o = refl
 
 module _ (Kept : Ty → Type 0) (f : Form) (table : List (Option Ty) → Decision) (limit : List (Option Ty) → List Finding)
     (same : SaysTheSame Kept f table) where

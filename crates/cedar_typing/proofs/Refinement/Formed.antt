@@ -1,14 +1,13 @@
 -- By a schema whose types are formed, each type that is found is well-formed.
 use Rattle.std.proofs.Common.{◌≡◌, inl, inr, Bool, true, false, ◌&&◌, List, [], ◌∷◌, map, Option, Some, None, option_map, fold, if◌then◌else◌, refl, sym, subst}
 use Rattle.std.specs.List.{list_all}
-use Rattle.std.specs.Ordering.{is_lt}
 use Rattle.cedar_types.specs.declared.base.names.slots.SlotId.{SlotId}
 use Rattle.cedar_types.specs.declared.base.types.ValidationMode.{ValidationMode}
 use Rattle.cedar_types.specs.declared.base.types.ValidationMode.TheVariants.{Permissive}
-use Rattle.cedar_types.specs.Names.{Text, Path, Uid, text_cmp, path_eq}
+use Rattle.cedar_types.specs.Names.{Text, Path, Uid, path_eq}
 use Rattle.cedar_types.specs.Names.Ascending.{texts_ascending}
 use Rattle.cedar_types.specs.Lemmas.Comparisons.{and_left, and_right, and_both}
-use Rattle.cedar_types.specs.Types.{Ty, TNever, TBool, TLong, TString, TSet, TAnySet, TRecord, TEntity, TAnyEntity, TExtension, Attrs}
+use Rattle.cedar_types.specs.Types.{Ty, TRecord, TEntity, TAnyEntity, Attrs}
 use Rattle.cedar_types.specs.Types.{attr_names, is_well_formed, are_well_formed}
 use Rattle.cedar_types.specs.Types.Bounds.{find_attr, lub}
 use Rattle.cedar_types.specs.Types.Lookups.{kind_attribute, declared_kind_attribute, declared_attribute, joined_attribute, types_attribute}
@@ -33,6 +32,7 @@ use Rattle.cedar_typing.proofs.Basics.Members.{AreAll, all_flat, found_in, all_p
 use Rattle.cedar_typing.proofs.Bounds.Lists.{in_order_all}
 use Rattle.cedar_typing.proofs.KeptTypes.Calls.{returns_kept}
 use Rattle.cedar_typing.proofs.KeptTypes.Keeping.{HasKept, AreKept, IsKeeping}
+use Rattle.cedar_typing.proofs.KeptTypes.RecordTypes.{names_ascend}
 
 abbrev pub IsFormed : Ty → Type 0
 IsFormed t = is_well_formed t ≡ true
@@ -48,25 +48,6 @@ lub_formed m s t h k = by (lub m s t) refl
 
 -- ---- records
 
-above_formed : (k : Text) (ks : List Text) (ts : List Ty) → list_all (λ l. is_lt (text_cmp k l)) ks ≡ true
-    → list_all (λ l. is_lt (text_cmp k l)) (attr_names (required_attrs ks ts)) ≡ true
-above_formed k [] ts h = refl
-above_formed k (l ∷ ls) [] h = refl
-above_formed k (l ∷ ls) (t ∷ ts) h =
-    let below = is_lt (text_cmp k l) in
-    let others = list_all (λ j. is_lt (text_cmp k j)) ls in
-    and_both below (list_all (λ j. is_lt (text_cmp k j)) (attr_names (required_attrs ls ts)))
-    (and_left below others h) (above_formed k ls ts (and_right below others h))
-
-names_formed : (ks : List Text) (ts : List Ty) → texts_ascending ks ≡ true → texts_ascending (attr_names (required_attrs ks ts)) ≡ true
-names_formed [] ts h = refl
-names_formed (k ∷ ks) [] h = refl
-names_formed (k ∷ ks) (t ∷ ts) h =
-    let above = list_all (λ l. is_lt (text_cmp k l)) ks in
-    and_both (list_all (λ l. is_lt (text_cmp k l)) (attr_names (required_attrs ks ts)))
-    (texts_ascending (attr_names (required_attrs ks ts)))
-    (above_formed k ks ts (and_left above (texts_ascending ks) h)) (names_formed ks ts (and_right above (texts_ascending ks) h))
-
 fields_formed : (ks : List Text) (ts : List Ty) → AreKept IsFormed ts → are_well_formed (required_attrs ks ts) ≡ true
 fields_formed [] ts h = refl
 fields_formed (x ∷ ks) [] h = refl
@@ -76,7 +57,7 @@ record_formed : (ks : List Text) (ts : List Ty) → texts_ascending ks ≡ true 
     → IsFormed (TRecord (required_attrs ks ts) false)
 record_formed ks ts a h =
     let xs = required_attrs ks ts in
-    and_both (texts_ascending (attr_names xs)) (are_well_formed xs) (names_formed ks ts a) (fields_formed ks ts h)
+    and_both (texts_ascending (attr_names xs)) (are_well_formed xs) (names_ascend ks ts a) (fields_formed ks ts h)
 
 -- ---- attributes
 
@@ -154,16 +135,9 @@ module _ (s : Schema) (w : has_formed_types s ≡ true) where
 
   attribute_formed : (b : Ty) (x : Text) (t : Ty) (r : Bool) → IsFormed b
       → ◌≡◌ {A = Option (Ty × Bool)} (attribute_type s b x) (Some (t, r)) → IsFormed t
-  attribute_formed TNever x t r n e = cc
-  attribute_formed (TBool j) x t r n e = cc
-  attribute_formed TLong x t r n e = cc
-  attribute_formed TString x t r n e = cc
-  attribute_formed (TSet u) x t r n e = cc
-  attribute_formed TAnySet x t r n e = cc
   attribute_formed (TRecord xs o) x t r n e = field_formed x xs o (t, r) n e
   attribute_formed (TEntity ps) x t r n e = subst FoundFormed e (types_formed x ps)
-  attribute_formed TAnyEntity x t r n e = cc
-  attribute_formed (TExtension m) x t r n e = cc
+  attribute_formed b x t r n e = cc
 
   declared_formed : (p : Path) (o : Option DeclaredType) → type_named s.types p ≡ o → AreAll IsFormed (declared_tags o)
   declared_formed p None e t h = absurd h

@@ -10,14 +10,14 @@ use Rattle.cedar_types.specs.Environments.RequestEnvs.{Env}
 use Rattle.cedar_types.specs.Names.{Text, Path, Uid}
 use Rattle.cedar_types.specs.Types.{Ty, TBool}
 use Rattle.cedar_types.specs.Types.Order.{in_order}
-use Rattle.cedar_types.specs.Types.Bounds.{is_never, list_lub}
-use Rattle.cedar_types.specs.Types.Lookups.{attribute_type, tag_types, literal_type}
+use Rattle.cedar_types.specs.Types.Bounds.{list_lub}
+use Rattle.cedar_types.specs.Types.Lookups.{attribute_type, literal_type}
 use Rattle.cedar_types.specs.Expressions.Tree.{Lit, bool, long, string, entity}
 use Rattle.cedar_types.specs.Expressions.View.{Written}
 use Rattle.cedar_types.specs.Extensions.Functions.{ExtensionFunction, function_named}
 use Rattle.cedar_types.specs.Schemas.{declares_action}
 use Rattle.cedar_types.specs.Capability.{Cap}
-use Rattle.cedar_types.specs.Errors.{Finding, unexpected_type, unsafe_tag_access, internal_invariant_violation}
+use Rattle.cedar_types.specs.Errors.{Finding, unexpected_type}
 use Rattle.cedar_typing.specs.Capabilities.{Caps, no_caps, union}
 use Rattle.cedar_typing.specs.Eager.{Decision, gives, refuses, Form, first_type, second_type}
 use Rattle.cedar_typing.specs.Refinement.{in_mode}
@@ -30,14 +30,15 @@ use Rattle.cedar_typing.specs.Rules.Leaves.{variable_type, type_of_literal, know
 use Rattle.cedar_typing.specs.Rules.Membership.{is_action, only_actions, entity_of, ancestors_of, action_decides, in_decides}
 use Rattle.cedar_typing.specs.Rules.Records.{record_form}
 use Rattle.cedar_typing.specs.Rules.Sets.{all_types, set_by_bound, set_of_types, set_form}
-use Rattle.cedar_typing.specs.Rules.Tags.{tag_of, tag_by_bound, get_known_tag, get_tag_table, types_named}
+use Rattle.cedar_typing.specs.Rules.Tags.{tag_of, tag_by_bound, get_known_tag, get_tag_table}
 use Rattle.cedar_typing.specs.Setting.{Setting}
 use Rattle.cedar_typing.specs.TypeEnv.{TypeEnv, finding}
 use Rattle.cedar_typing.specs.TypeTests.{object_types, is_false}
 use Rattle.cedar_typing.specs.TypedExpr.{Source, place_of}
 use Rattle.cedar_typing.proofs.Rules.SameTables as same
 use Rattle.cedar_typing.proofs.Basics.{none_is}
-use Rattle.cedar_typing.proofs.Refinement.Eager.{with_table}
+use Rattle.cedar_typing.proofs.Refinement.Eager.{with_table, operator_is}
+use Rattle.cedar_typing.proofs.Refinement.Tables.{permissive_env}
 use Rattle.cedar_typing.proofs.Refinement.PartialBounds.{list_same}
 
 -- whether a table gives a type
@@ -68,7 +69,7 @@ choice_gives false d d' k k' f g = g
 
 module _ (s : Setting) where
   abbrev pub wide : TypeEnv
-  wide = (in_mode Permissive s).env
+  wide = permissive_env s
 
   abbrev pub part : TypeEnv
   part = (in_mode Partial s).env
@@ -165,11 +166,7 @@ module _ (s : Setting) where
       ap (tag_by_bound part l (u ∷ us)) (list_same (u ∷ us)) ∙ same.tag_bounded s.env Partial Permissive r r l (u ∷ us) (list_lub Permissive (u ∷ us))
 
   get_tagged : (l : Option Loc) (known : Bool) (t : Option Ty) → get_tag_table part l known t ≡ get_tag_table wide l known t
-  get_tagged l known None = refl
-  get_tagged l known (Some t) =
-      λ i. if is_never t then refuses None (finding wide l internal_invariant_violation ∷ [])
-      else if known then tag_known l t (tag_types s.env.schema t) i
-      else refuses None (finding wide l (unsafe_tag_access (types_named t)) ∷ [])
+  get_tagged l = same.get_tagged s.env Partial Permissive r r l (tag_known l)
 
   set_typed : (l : Option Loc) (found : Option (List Ty)) → set_of_types part l found ≡ set_of_types wide l found
   set_typed l None = refl
@@ -222,15 +219,4 @@ module _ (s : Setting) where
     pub binary_is : (o : BinaryOp)
         → with_table (binary_form wide m prior a b o) (binary_form part m prior a b o).decides (binary_form part m prior a b o).at_limit
         ≡ binary_form part m prior a b o
-    binary_is BinaryOp.Eq = refl
-    binary_is BinaryOp.Less = refl
-    binary_is BinaryOp.LessEq = refl
-    binary_is BinaryOp.Add = refl
-    binary_is BinaryOp.Sub = refl
-    binary_is BinaryOp.Mul = refl
-    binary_is BinaryOp.In = refl
-    binary_is BinaryOp.Contains = refl
-    binary_is BinaryOp.ContainsAll = refl
-    binary_is BinaryOp.ContainsAny = refl
-    binary_is BinaryOp.GetTag = refl
-    binary_is BinaryOp.HasTag = refl
+    binary_is = operator_is wide part m prior a b

@@ -36,7 +36,7 @@ use Rattle.cedar_typing.proofs.Basics.{none_is}
 use Rattle.cedar_typing.proofs.Basics.Members.{AreAll}
 use Rattle.cedar_typing.proofs.KeptTypes.Keeping.{AreKept}
 use Rattle.cedar_typing.proofs.KeptTypes.Sets.{found_kept}
-use Rattle.cedar_typing.proofs.Refinement.Eager.{SaysTheSame, with_table}
+use Rattle.cedar_typing.proofs.Refinement.Eager.{SaysTheSame, with_table, operator_is}
 use Rattle.cedar_typing.proofs.Refinement.Parts.{not_nil}
 
 -- without errors the type is given
@@ -177,18 +177,7 @@ module _ (s : Setting) where
             → with_table (binary_form strict_env m prior a b o) (binary_form permissive_env m prior a b o).decides
             (binary_form permissive_env m prior a b o).at_limit
             ≡ binary_form permissive_env m prior a b o
-        binary_is BinaryOp.Eq = refl
-        binary_is BinaryOp.Less = refl
-        binary_is BinaryOp.LessEq = refl
-        binary_is BinaryOp.Add = refl
-        binary_is BinaryOp.Sub = refl
-        binary_is BinaryOp.Mul = refl
-        binary_is BinaryOp.In = refl
-        binary_is BinaryOp.Contains = refl
-        binary_is BinaryOp.ContainsAll = refl
-        binary_is BinaryOp.ContainsAny = refl
-        binary_is BinaryOp.GetTag = refl
-        binary_is BinaryOp.HasTag = refl
+        binary_is = operator_is strict_env permissive_env m prior a b
 
   -- ---- forms of one operand, and records
 

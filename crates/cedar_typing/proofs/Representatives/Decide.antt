@@ -5,8 +5,7 @@ use Rattle.cedar_types.specs.declared.base.location.Loc.{Loc}
 use Rattle.cedar_types.specs.declared.base.expressions.operators.Var.{Var}
 use Rattle.cedar_types.specs.declared.base.names.slots.SlotId.{SlotId}
 use Rattle.cedar_types.specs.Errors.{Finding, unexpected_type}
-use Rattle.cedar_types.specs.Expressions.Tree.{lit, var, slot, unknown, if_then_else, and, or, unary, binary, call, get_attr}
-use Rattle.cedar_types.specs.Expressions.Tree.{has_attr, ext_has_attr, like, is_type, set_of, record_of}
+use Rattle.cedar_types.specs.Expressions.Tree.{lit}
 use Rattle.cedar_types.specs.Expressions.View.{Written}
 use Rattle.cedar_types.specs.Templates.{PlainTemplate, made, scope_at, action_scope_at, scope_condition, condition_of, with_rest}
 use Rattle.cedar_types.specs.Types.{Ty}
@@ -34,22 +33,7 @@ tree_place x = (mark_of x).at.place
 
 own_mark : (x : TypedTree) → with_mark (mark_of x) x ≡ x
 own_mark (lit m k) = refl
-own_mark (var m k) = refl
-own_mark (slot m k) = refl
-own_mark (unknown m n) = refl
-own_mark (if_then_else m a b c) = refl
-own_mark (and m a b) = refl
-own_mark (or m a b) = refl
-own_mark (unary m o a) = refl
-own_mark (binary m o a b) = refl
-own_mark (call m n ts) = refl
-own_mark (get_attr m a k) = refl
-own_mark (has_attr m a k) = refl
-own_mark (ext_has_attr m a k ks) = refl
-own_mark (like m a q) = refl
-own_mark (is_type m a n) = refl
-own_mark (set_of m ts) = refl
-own_mark (record_of m fs) = refl
+own_mark x = refl
 
 -- what stands there already stays as it is
 stays : (l : Option Loc) (x : TypedTree) → tree_place x ≡ l → at_place l x ≡ x

@@ -27,6 +27,7 @@ use Rattle.cedar_typing.specs.Infer.Leaves.{infer_leaf}
 use Rattle.cedar_typing.specs.Infer.Parts.{after}
 use Rattle.cedar_typing.specs.PolicyCheck.{out_verdict, policy_check}
 use Rattle.cedar_typing.specs.Representatives.{first_tests}
+use Rattle.cedar_typing.specs.Rules.Binary.{binary_form}
 use Rattle.cedar_typing.specs.Rules.Equality.{are_apart, literal_of, equality_form}
 use Rattle.cedar_typing.specs.Rules.Leaves.{linked_ty, slot_ty, bool_ty}
 use Rattle.cedar_typing.specs.Rules.Membership.{is_action, entities_of, ancestors_of, with_entity, is_action_in, only_actions, entity_decides, in_decides, in_form}
@@ -83,19 +84,25 @@ module _ (s : Setting) (here elsewhere : Env) (l : Option Loc) where
     ancestors (to_entity u) = refl
     ancestors to_slot = refl
 
+    -- a test of the two whose forms are the same
+    same_test : (op : BinaryOp) (r : Reference) (prior : Caps) (k : ℕ)
+        → binary_form s1.env (made l) prior (var (made l) Var.Principal) (named r) op
+        ≡ binary_form s2.env (made l) prior (var (made l) Var.Principal) (named r) op
+        → infer_within s1 (binary (made l) op (var (made l) Var.Principal) (named r)) prior k
+        ≡ infer_within s2 (binary (made l) op (var (made l) Var.Principal) (named r)) prior k
+    same_test op r prior k form =
+        λ i. two_same s here elsewhere (form i) l (place_of (named r)) (λ es. unless_too_deep (k + 1) es (variable prior (k + 1) i es))
+        (λ es. unless_too_deep (k + 1) es (reference r prior (k + 1) i es)) i
+
     is_equal : (r : Reference) (prior : Caps) (k : ℕ)
         → infer_within s1 (equal_at l Var.Principal (named r)) prior k ≡ infer_within s2 (equal_at l Var.Principal (named r)) prior k
     is_equal r prior k =
-        λ i. two_same s here elsewhere
-        (equal_same s here elsewhere (made l) (var (made l) Var.Principal) (named r) refl (literal r) i) l (place_of (named r))
-        (λ es. unless_too_deep (k + 1) es (variable prior (k + 1) i es)) (λ es. unless_too_deep (k + 1) es (reference r prior (k + 1) i es)) i
+        same_test BinaryOp.Eq r prior k (equal_same s here elsewhere (made l) (var (made l) Var.Principal) (named r) refl (literal r))
 
     is_in : (r : Reference) (prior : Caps) (k : ℕ)
         → infer_within s1 (within_at l Var.Principal (named r)) prior k ≡ infer_within s2 (within_at l Var.Principal (named r)) prior k
     is_in r prior k =
-        λ i. two_same s here elsewhere
-        (in_same s here elsewhere (made l) (var (made l) Var.Principal) (named r) refl (ancestors r) i) l (place_of (named r))
-        (λ es. unless_too_deep (k + 1) es (variable prior (k + 1) i es)) (λ es. unless_too_deep (k + 1) es (reference r prior (k + 1) i es)) i
+        same_test BinaryOp.In r prior k (in_same s here elsewhere (made l) (var (made l) Var.Principal) (named r) refl (ancestors r))
 
     abbrev written_at : PlacedType → Written
     written_at t = record { place = l; names = of_type t.place }

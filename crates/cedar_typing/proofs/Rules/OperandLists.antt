@@ -10,12 +10,14 @@ use Rattle.cedar_typing.specs.Capabilities.{Caps}
 use Rattle.cedar_typing.specs.Eager.{Expectation, first_expectation, later_expectations}
 use Rattle.cedar_typing.specs.Infer.{infer, infer_all}
 use Rattle.cedar_typing.specs.Infer.Eager.{Operands, all_typed, cut_after, OperandsAndErrors, expect_operand, with_operand, infer_rest}
-use Rattle.cedar_typing.specs.Infer.Parts.{Part, PartAndErrors}
+use Rattle.cedar_typing.specs.Infer.Parts.{Part, AnswerAndErrors, PartAndErrors}
 use Rattle.cedar_typing.specs.Rules.Calls.{expected_arguments}
 use Rattle.cedar_typing.specs.Setting.{Setting}
+use Rattle.cedar_typing.specs.TypeEnv.{TypeEnv}
 use Rattle.cedar_typing.specs.TypedExpr.{Source, TypedTree, place_of}
 use Rattle.cedar_typing.specs.Views.{first_wanted, later_types, part_of, with_element}
 use Rattle.cedar_typing.specs.declared.typecheck.answer.Part.{Part as TypedPart}
+use Rattle.cedar_typing.proofs.Views.Typed.{place_is}
 
 -- ---- operands so far, before those that are left
 
@@ -95,6 +97,11 @@ abbrev pub all_inferred : Setting → Bool → List Ty → Caps → ℕ → List
 all_inferred s b ts prior d xs es =
     infer_all s b (expected_arguments ts (map written xs)) (trees_of (map written xs)) prior d es
 
+-- what an operand is found to be, by what the program infers of it and expects of it
+pub operand_found : (env : TypeEnv) (x : Untyped) {q q' : Expectation} {o o' : AnswerAndErrors} {found : PartAndErrors}
+    → q' ≡ q → o ≡ o' → expect_operand env q' x.loc o' ≡ found → expect_operand env q (place_of (written x)) o ≡ found
+operand_found env x wanted inferred expected = (λ i. expect_operand env (sym wanted i) (place_is x i) (inferred i)) ∙ expected
+
 -- by what is expected, and how the others are inferred
 abbrev by_first : Setting → Bool → Untyped → Caps → ℕ → List Finding → Expectation → (List Finding → OperandsAndErrors) → OperandsAndErrors
 by_first s b x prior d es q rest =
@@ -116,23 +123,25 @@ by_the_first s b ts prior d x xs es es' g typed =
 
 -- one more operand is typed
 pub one_operand : (s : Setting) (b : Bool) (ts us : List Ty) (prior : Caps) (d : ℕ) (r r' : Operands) (x : Untyped)
-    (xs : List Untyped) (es es' : List Finding) (g : Option Part)
-    → ◌≡◌ {A = PartAndErrors} (expect_operand s.env (first_wanted ts) (place_of (written x)) (infer s (written x) prior d es)) (g, es')
+    (xs left : List Untyped) (es es' : List Finding) (g : Option Part) {q : Expectation} {o : AnswerAndErrors} → left ≡ x ∷ xs
+    → q ≡ first_wanted ts → infer s (written x) prior d es ≡ o → ◌≡◌ {A = PartAndErrors} (expect_operand s.env q x.loc o) (g, es')
     → (not (is_some g) && not b) ≡ false → r' ≡ with_element r g → us ≡ later_types ts
-    → resumed r' (all_inferred s b us prior d xs es') ≡ resumed r (all_inferred s b ts prior d (x ∷ xs) es)
-one_operand s b ts us prior d r r' x xs es es' g typed on more left =
-    (λ i. resumed (more i) (all_inferred s b (left i) prior d xs es'))
+    → resumed r' (all_inferred s b us prior d xs es') ≡ resumed r (all_inferred s b ts prior d left es)
+one_operand s b ts us prior d r r' x xs left es es' g are wanted inferred expected on more later =
+    (λ i. resumed (more i) (all_inferred s b (later i) prior d xs es'))
     ∙ resumed_next b r g es' (all_inferred s b (later_types ts) prior d xs) on
-    ∙ ap (resumed r) (sym (by_the_first s b ts prior d x xs es es' g typed))
+    ∙ ap (resumed r) (sym (by_the_first s b ts prior d x xs es es' g (operand_found s.env x wanted inferred expected)))
+    ∙ ap (λ ys. resumed r (all_inferred s b ts prior d ys es)) (sym are)
 
 -- none is typed after one that is too deep
 pub last_operand : (s : Setting) (b : Bool) (ts : List Ty) (prior : Caps) (d : ℕ) (r r' : Operands) (x : Untyped)
-    (xs : List Untyped) (es es' : List Finding) (g : Option Part)
-    → ◌≡◌ {A = PartAndErrors} (expect_operand s.env (first_wanted ts) (place_of (written x)) (infer s (written x) prior d es)) (g, es')
+    (xs left : List Untyped) (es es' : List Finding) (g : Option Part) {q : Expectation} {o : AnswerAndErrors} → left ≡ x ∷ xs
+    → q ≡ first_wanted ts → infer s (written x) prior d es ≡ o → ◌≡◌ {A = PartAndErrors} (expect_operand s.env q x.loc o) (g, es')
     → (not (is_some g) && not b) ≡ true → r' ≡ with_element r g
-    → resumed r (all_inferred s b ts prior d (x ∷ xs) es) ≡ (r', es')
-last_operand s b ts prior d r r' x xs es es' g typed off more =
-    ap (resumed r) (by_the_first s b ts prior d x xs es es' g typed)
+    → resumed r (all_inferred s b ts prior d left es) ≡ (r', es')
+last_operand s b ts prior d r r' x xs left es es' g are wanted inferred expected off more =
+    ap (λ ys. resumed r (all_inferred s b ts prior d ys es)) are
+    ∙ ap (resumed r) (by_the_first s b ts prior d x xs es es' g (operand_found s.env x wanted inferred expected))
     ∙ sym (resumed_end b r g es' (all_inferred s b (later_types ts) prior d xs) off)
     ∙ ap (λ z. (z, es')) (sym more)
 

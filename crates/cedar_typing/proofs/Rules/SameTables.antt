@@ -7,11 +7,12 @@ use Rattle.cedar_types.specs.declared.base.types.BoolType.TheVariants.{AnyBool}
 use Rattle.cedar_types.specs.declared.base.types.ValidationMode.{ValidationMode}
 use Rattle.cedar_types.specs.Capability.{Cap}
 use Rattle.cedar_types.specs.Environments.RequestEnvs.{Env, is_partial}
-use Rattle.cedar_types.specs.Errors.{unexpected_type, unsafe_attribute_access}
+use Rattle.cedar_types.specs.Errors.{unexpected_type, unsafe_attribute_access, unsafe_tag_access, internal_invariant_violation}
 use Rattle.cedar_types.specs.Names.{Text, Uid}
 use Rattle.cedar_types.specs.Schemas.{declares_action}
 use Rattle.cedar_types.specs.Types.{Ty, TNever, TBool}
-use Rattle.cedar_types.specs.Types.Lookups.{attribute_type, may_have}
+use Rattle.cedar_types.specs.Types.Bounds.{is_never}
+use Rattle.cedar_types.specs.Types.Lookups.{attribute_type, may_have, tag_types}
 use Rattle.cedar_types.specs.Types.Order.{in_order}
 use Rattle.cedar_typing.specs.Capabilities.{Caps, no_caps, union}
 use Rattle.cedar_typing.specs.Eager.{Decision, gives, refuses}
@@ -23,7 +24,7 @@ use Rattle.cedar_typing.specs.Rules.Membership.{is_action, is_action_in, only_ac
 use Rattle.cedar_typing.specs.Rules.Numbers.{compare_decides}
 use Rattle.cedar_typing.specs.Rules.Records.{record_of_types}
 use Rattle.cedar_typing.specs.Rules.Sets.{set_by_bound}
-use Rattle.cedar_typing.specs.Rules.Tags.{has_tag_table, tag_by_bound}
+use Rattle.cedar_typing.specs.Rules.Tags.{has_tag_table, tag_by_bound, get_known_tag, get_tag_table, types_named}
 use Rattle.cedar_typing.specs.TypeEnv.{TypeEnv, finding}
 use Rattle.cedar_typing.specs.TypeTests.{object_types}
 use Rattle.cedar_typing.specs.TypedExpr.{Source, place_of}
@@ -73,6 +74,15 @@ module _ (env : TypeEnv) (m m' : ValidationMode) (r r' : Env) where
   pub tag_bounded : (l : Option Loc) (ts : List Ty) (o : Option Ty) → tag_by_bound one l ts o ≡ tag_by_bound other l ts o
   tag_bounded l ts None = refl
   tag_bounded l ts (Some u) = refl
+
+  -- where it says the same of a tag that is known to be there
+  pub get_tagged : (l : Option Loc) → ((t : Ty) (ts : List Ty) → get_known_tag one l t ts ≡ get_known_tag other l t ts)
+      → (known : Bool) (t : Option Ty) → get_tag_table one l known t ≡ get_tag_table other l known t
+  get_tagged l same known None = refl
+  get_tagged l same known (Some t) =
+      λ i. if is_never t then refuses None (finding env l internal_invariant_violation ∷ [])
+      else if known then same t (tag_types env.schema t) i
+      else refuses None (finding env l (unsafe_tag_access (types_named t)) ∷ [])
 
   pub set_bounded : (l : Option Loc) (ts : List Ty) (o : Option Ty) → set_by_bound one l ts o ≡ set_by_bound other l ts o
   set_bounded l ts None = refl

@@ -62,7 +62,8 @@ module _ (strictly : Bool) (s : Setting) (ok : Settled strictly s) where
   single : (e : Source) (prior : Caps) (d : ℕ) → Knows (rules_within s e prior d)
   single e prior d =
       knows_of strictly _ (kept_within (KeptIn strictly) s
-      (keeps_in_mode strictly s.env ok.strict ok.total ok.schema ok.formed) ok.functions ok.environment e prior d)
+      (keeps_in_mode strictly s.env ok.strict ok.total ok.settled.faultless.schema ok.formed)
+      ok.settled.faultless.functions ok.settled.environment e prior d)
 
   entity_typed : (b : Bool) (t : Ty) (other : Option Ty) → b ≡ true → known_entity_type (if b then Some t else None) other ≡ None → ⊥
   entity_typed true t other h e = cc
@@ -78,7 +79,7 @@ module _ (strictly : Bool) (s : Setting) (ok : Settled strictly s) where
 
   variable_typed : (x : Var) → variable_type s.env x ≡ None → ⊥
   variable_typed Var.Principal e = cc
-  variable_typed Var.Action e = action_typed s.env.schema ok.schema s.env.request_env ok.environment e
+  variable_typed Var.Action e = action_typed s.env.schema ok.settled.faultless.schema s.env.request_env ok.settled.environment e
   variable_typed Var.Resource e = cc
   variable_typed Var.Context e = cc
 
@@ -119,7 +120,7 @@ module _ (strictly : Bool) (s : Setting) (ok : Settled strictly s) where
         _ (within_loud (d + 1) _ (loud_within a h.1 prior (d + 1))) (single (unary m o a) prior d)
     loud_within (binary m o a b) h prior d =
         two_operands_loud s.env (binary_form s.env m prior a b o)
-        (binary_loud s.env ok.schema ok.environment m prior a b o (right_of a b h.1))
+        (binary_loud s.env ok.settled.faultless.schema ok.settled.environment m prior a b o (right_of a b h.1))
         (place_of a) (place_of b) _ _
         (within_loud (d + 1) _ (loud_within a (left_of a b h.1) prior (d + 1)))
         (within_loud (d + 1) _ (loud_within b (right_of a b h.1) prior (d + 1)))

@@ -1,5 +1,5 @@
 -- A policy that passes is derived in each of the environments that it is checked in.
-use Rattle.std.proofs.Common.{◌≡◌, inl, inr, Bool, true, false, ◌||◌, None, ap, List, [], ◌∷◌, ◌++◌, map, Option, refl, sym, subst}
+use Rattle.std.proofs.Common.{◌≡◌, Bool, true, false, ◌||◌, None, ap, List, [], ◌++◌, map, Option, refl, sym}
 use Rattle.cedar_types.specs.declared.base.names.slots.SlotId.{SlotId}
 use Rattle.cedar_types.specs.declared.base.types.ValidationMode.{ValidationMode}
 use Rattle.cedar_types.specs.Types.Bounds.{is_strict}
@@ -16,7 +16,7 @@ use Rattle.cedar_typing.specs.Evaluation.Conformance.{IsOneOf, IsEnvironmentOf}
 use Rattle.cedar_typing.specs.PolicyCheck.Outcome.{passes, PolicyOutcome}
 use Rattle.cedar_typing.specs.Silence.{IsWellNamedTemplate, ChecksOf, IsDerivedIn, PassingPolicyIsDerived, PassingPolicyIsDerivedInPermissive}
 use Rattle.cedar_typing.proofs.Policies.EachEnvironment.{each_has_passing}
-use Rattle.cedar_typing.proofs.Basics.Members.{all_flat}
+use Rattle.cedar_typing.proofs.Basics.Members.{all_flat, all_joined, all_mapped}
 use Rattle.cedar_typing.proofs.Silence.Checks.{passing_derived}
 use Rattle.cedar_typing.proofs.Silence.Names.{condition_is_well_named}
 use Rattle.cedar_typing.proofs.Silence.Settled.{Settled}
@@ -28,18 +28,13 @@ use Rattle.cedar_typing.specs.Setting.{Setting}
 module _ (s : Schema) where
   of_schema : (ds : List DeclaredEnv) → ((d : DeclaredEnv) → IsOneOf d ds → IsOneOf d (environments_of s.actions))
       → (e : Env) → IsOneOf e (map unlinked ds ++ []) → IsEnvironmentOf s e
-  of_schema [] f e h = absurd h
-  of_schema (d ∷ ds) f e (inl q) = subst (IsEnvironmentOf s) (sym q) (f d (inl refl))
-  of_schema (d ∷ ds) f e (inr h) = of_schema ds (λ z k. f z (inr k)) e h
+  of_schema ds f =
+      all_joined (IsEnvironmentOf s) (map unlinked ds) [] (all_mapped (IsEnvironmentOf s) unlinked ds f) (λ e k. absurd k)
 
   module _ (d : DeclaredEnv) (i : IsOneOf d (environments_of s.actions)) where
-    one_way : (p : Option Path) (rs : List (Option Path)) (e : Env) → IsOneOf e (map (λ r. Declared d p r) rs) → IsEnvironmentOf s e
-    one_way p [] e h = absurd h
-    one_way p (r ∷ rs) e (inl q) = subst (IsEnvironmentOf s) (sym q) i
-    one_way p (r ∷ rs) e (inr h) = one_way p rs e h
-
     all_ways : (ps rs : List (Option Path)) (e : Env) → IsOneOf e (in_all_ways d ps rs) → IsEnvironmentOf s e
-    all_ways ps rs = all_flat (λ p. map (λ r. Declared d p r) rs) (IsEnvironmentOf s) ps (λ p k. one_way p rs)
+    all_ways ps rs = all_flat (λ p. map (λ r. Declared d p r) rs) (IsEnvironmentOf s) ps
+        (λ p k. all_mapped (IsEnvironmentOf s) (λ r. Declared d p r) rs (λ r j. i))
 
   linked_of_schema : (t : PlainTemplate) (u : Env) → IsEnvironmentOf s u → (e : Env) → IsOneOf e (linked_envs s t u) → IsEnvironmentOf s e
   linked_of_schema t (Declared d p r) i e h =
@@ -77,9 +72,10 @@ module _ (strictly : Bool) (s : Setting) (t : PlainTemplate) (strict : is_strict
         strict = strict;
         total = total;
         formed = formed;
-        schema = schema;
-        functions = functions;
-        environment = there;
+        settled = record {
+          faultless = record { mode = refl; schema = schema; functions = functions };
+          environment = there;
+        };
       } in (
         p.0,
         p.1,

@@ -14,11 +14,12 @@ use Rattle.cedar_typing.specs.Evaluation.Conformance.{AllHold, SaysTrue}
 use Rattle.cedar_typing.specs.Evaluation.Outcomes.{Test, Says, Stops, test_of, choose}
 use Rattle.cedar_typing.specs.Evaluation.World.{World, Failure, Outcome, Gives, Fails}
 use Rattle.cedar_typing.specs.TypeTests.Joins.{joined}
-use Rattle.cedar_typing.specs.Judgments.{Judgment}
+use Rattle.cedar_typing.specs.Judgments.{Judgment, Operand}
 use Rattle.cedar_typing.specs.Rules.Conditional.{if_true_recovered, if_false_recovered, if_open_recovered, if_true, if_false, if_open}
 use Rattle.cedar_typing.specs.Rules.Conditional.{if_rules}
 use Rattle.cedar_typing.specs.Soundness.{HasFound, IsSafe, IsTrueOutcome}
 use Rattle.cedar_typing.specs.TypeEnv.{TypeEnv}
+use Rattle.cedar_typing.specs.TypeTests.{bool_types}
 use Rattle.cedar_typing.specs.TypedExpr.{TypedTree, annotation}
 use Rattle.cedar_typing.proofs.Bounds.Kept.{right_kept}
 use Rattle.cedar_typing.proofs.Bounds.Values.{lub_left}
@@ -28,7 +29,7 @@ use Rattle.cedar_typing.proofs.KeptTypes.Types.{KeptIn}
 use Rattle.cedar_typing.proofs.Soundness.Capabilities.{hold_either, hold_left, hold_right}
 use Rattle.cedar_typing.proofs.Soundness.ShortCircuit.Conjunction.{derived_test, true_sort, false_sort}
 use Rattle.cedar_typing.proofs.Soundness.Parts.{IsSureType, Sound, Sounds, IsSure, refused_sound, part_sound}
-use Rattle.cedar_typing.proofs.Soundness.Tests.{BoolSort, OnlyTrue, OnlyFalse, TestHas, SafeTest, SoundTest, sorted, operand_sort, tested_operand}
+use Rattle.cedar_typing.proofs.Soundness.Tests.{BoolSort, OnlyTrue, OnlyFalse, TestHas, SafeTest, SoundTest, sort_of, sorted, operand_sort, tested_operand}
 
 -- ---- the branch that is taken
 
@@ -255,22 +256,25 @@ module _ (strictly : Bool) (world : World) (env : TypeEnv) (strict : is_strict e
             (z.caps_hold_at_true (right_joined env.mode (Some t') (Some u) i)));
       }
 
+  -- a test of which more is found than that it is accepted
+  settled : (succeeded : Bool) (k : Caps) (a : TypedTree) (fs : List Finding) → Operand env bool_types l A succeeded k a fs
+      → (sort : Option BoolSort) → sort_of (annotation a) ≡ sort → SoundTest world (test_of o) succeeded sort k
+  settled succeeded k a fs i sort e =
+      let P : Option BoolSort → Type 0 = λ s. SoundTest world (test_of o) succeeded s k in
+      subst P e (tested_operand world o env l A test succeeded k a fs i)
+
   if_recovery : (x : TypedTree) (es : List Finding) → (if_rules env m l A B E prior).recovers x es
       → Sound world choice false (annotation x) no_caps
   if_recovery x es
       (if_true_recovered {succeeded = succeeded} {succeeded' = succeeded'} {c = k} {c' = k'} {a = a} {b = b} {es = fs} {es' = fs'}
       a' n b' g) =
-      let e = true_sort (annotation a) (operand_sort world o env l A succeeded k a fs a') n in
-      let P : Option BoolSort → Type 0 = λ s. SoundTest world (test_of o) succeeded s k in
-      let h = subst P e (tested_operand world o env l A test succeeded k a fs a') in
+      let h = settled succeeded k a fs a' _ (true_sort (annotation a) (operand_sort world o env l A succeeded k a fs a') n) in
       let s = part_sound world p (B (union prior k)) (branch (union prior k) (known k (h.caps_hold_at_true tt))) succeeded' k' b fs' b' in
       refused_sound world choice _ (true_has (annotation b) (test_of o) p q h.typed (λ i. s.typed))
   if_recovery x es
       (if_false_recovered {succeeded = succeeded} {succeeded' = succeeded'} {c = k} {c' = k'} {a = a} {e = b} {es = fs} {es' = fs'}
       a' n b' g) =
-      let e = false_sort (annotation a) (operand_sort world o env l A succeeded k a fs a') n in
-      let P : Option BoolSort → Type 0 = λ s. SoundTest world (test_of o) succeeded s k in
-      let h = subst P e (tested_operand world o env l A test succeeded k a fs a') in
+      let h = settled succeeded k a fs a' _ (false_sort (annotation a) (operand_sort world o env l A succeeded k a fs a') n) in
       let s = part_sound world q E otherwise succeeded' k' b fs' b' in
       refused_sound world choice _ (false_has (annotation b) (test_of o) p q h.typed s.typed)
   if_recovery x es

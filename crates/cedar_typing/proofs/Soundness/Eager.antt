@@ -75,6 +75,28 @@ pub record SoundForm (world : World) (f : Form) (os : List Outcome) (o : Outcome
   -- the type that stays where an operand failed
   pub failed : (t : Ty) → HasFound (Some t) o → HasFound (Some (f.type_if_failed t)) o
 
+-- a form of two operands, by the types that were found of them
+pub of_two : (world : World) (f : Form) (o p whole : Outcome)
+    → ((ts : List (Option Ty)) → HasFound (decided_type (f.decides (None ∷ ts))) whole)
+    → ((s : Ty) (ts : List (Option Ty)) → HasFound (Some s) o → HasFound (decided_type (f.decides (Some s ∷ ts))) whole)
+    → ((s t : Ty) (ts : List (Option Ty)) → AreTypes f (o ∷ p ∷ []) (Some s ∷ Some t ∷ ts)
+    → GiftIsSound world (o ∷ p ∷ []) whole (f.decides (Some s ∷ Some t ∷ ts)))
+    → ((t : Ty) → HasFound (Some t) whole → HasFound (Some (f.type_if_failed t)) whole)
+    → SoundForm world f (o ∷ p ∷ []) whole
+of_two world f o p whole none found gift failed = record { typed = typed; succeeds = succeeds; failed = failed }
+  where
+    typed : (ts : List (Option Ty)) → AreTypes f (o ∷ p ∷ []) ts → HasFound (decided_type (f.decides ts)) whole
+    typed [] q = absurd q.have
+    typed (None ∷ ts) q = none ts
+    typed (Some s ∷ ts) q = found s ts q.have.0
+
+    succeeds : (ts : List (Option Ty)) → AreTypes f (o ∷ p ∷ []) ts → AllFound ts → GiftIsSound world (o ∷ p ∷ []) whole (f.decides ts)
+    succeeds [] q i = absurd q.have
+    succeeds (None ∷ ts) q i = absurd i.0
+    succeeds (Some s ∷ []) q i = absurd q.have.1
+    succeeds (Some s ∷ None ∷ ts) q i = absurd i.1.0
+    succeeds (Some s ∷ Some t ∷ ts) q i = gift s t ts q
+
 -- the same, where typing keeps to the types of the operands
 pub record SoundKeptForm (strictly : Bool) (world : World) (f : Form) (os : List Outcome) (o : Outcome) : Type 0 where
   pub typed : (ts : List (Option Ty)) → AreTypes f os ts → AllKept (KeptIn strictly) ts → HasFound (decided_type (f.decides ts)) o

@@ -227,23 +227,20 @@ contains_safe : (v w : Value) → HasType TAnySet v → IsSafe (contains v w)
 contains_safe (VSet vs) w h = tt
 contains_safe v w h = absurd h
 
-contains_all_has : (v w : Value) → HasFound (Some (TBool AnyBool)) (contains_all v w)
-contains_all_has (VSet vs) (VSet ws) = tt
-contains_all_has v w = tt
+-- an operator on two sets: it gives a boolean or fails, and gives one of sets
+abbrev IsOfSets : (Value → Value → Outcome) → Type 0
+IsOfSets operator =
+    (v w : Value) → HasFound (Some (TBool AnyBool)) (operator v w) × (HasType TAnySet v → HasType TAnySet w → IsSafe (operator v w))
 
-contains_all_safe : (v w : Value) → HasType TAnySet v → HasType TAnySet w → IsSafe (contains_all v w)
-contains_all_safe (VSet vs) (VSet ws) h k = tt
-contains_all_safe (VSet vs) w h k = absurd k
-contains_all_safe v w h k = absurd h
+contains_all_of_sets : IsOfSets contains_all
+contains_all_of_sets (VSet vs) (VSet ws) = (tt, λ h k. tt)
+contains_all_of_sets (VSet vs) w = (tt, λ h k. absurd k)
+contains_all_of_sets v w = (tt, λ h k. absurd h)
 
-contains_any_has : (v w : Value) → HasFound (Some (TBool AnyBool)) (contains_any v w)
-contains_any_has (VSet vs) (VSet ws) = tt
-contains_any_has v w = tt
-
-contains_any_safe : (v w : Value) → HasType TAnySet v → HasType TAnySet w → IsSafe (contains_any v w)
-contains_any_safe (VSet vs) (VSet ws) h k = tt
-contains_any_safe (VSet vs) w h k = absurd k
-contains_any_safe v w h k = absurd h
+contains_any_of_sets : IsOfSets contains_any
+contains_any_of_sets (VSet vs) (VSet ws) = (tt, λ h k. tt)
+contains_any_of_sets (VSet vs) w = (tt, λ h k. absurd k)
+contains_any_of_sets v w = (tt, λ h k. absurd h)
 
 -- ---- sets and their members: the forms
 
@@ -251,6 +248,9 @@ contains_any_safe v w h k = absurd h
 record MembershipOperator (right : Expectation) (operator : Value → Value → Outcome) : Type 0 where
   has : (v w : Value) → HasFound (Some (TBool AnyBool)) (operator v w)
   safe : (t : Ty) → meets right t ≡ true → (v w : Value) → HasType TAnySet v → HasType t w → IsSafe (operator v w)
+
+on_sets : (operator : Value → Value → Outcome) → IsOfSets operator → MembershipOperator (Some set_types) operator
+on_sets operator sets = record { has = λ v w. (sets v w).0; safe = λ t n v w h k. (sets v w).1 h (is_set t w n k) }
 
 -- the form of such an operator
 module _ (m : Written) (right : Expectation) (errors : Option Ty → Option Ty → List Finding) (node : Mark → TypedTree → TypedTree → TypedTree) where
@@ -292,9 +292,9 @@ module _ (world : World) (env : TypeEnv) (m : Written) (o o' : Outcome) where
   pub contains_all_sound : SoundForm world (contains_several_form env m BinaryOp.ContainsAll) (o ∷ o' ∷ []) (outcome_by BinaryOp.ContainsAll)
   contains_all_sound =
       membership_sound m (Some set_types) (λ s t. strict_errors env m.place ContainsAnyAll s t) (λ k a b. binary k BinaryOp.ContainsAll a b)
-      contains_all (record { has = contains_all_has; safe = λ t n v w h k. contains_all_safe v w h (is_set t w n k) }) world o o'
+      contains_all (on_sets contains_all contains_all_of_sets) world o o'
 
   pub contains_any_sound : SoundForm world (contains_several_form env m BinaryOp.ContainsAny) (o ∷ o' ∷ []) (outcome_by BinaryOp.ContainsAny)
   contains_any_sound =
       membership_sound m (Some set_types) (λ s t. strict_errors env m.place ContainsAnyAll s t) (λ k a b. binary k BinaryOp.ContainsAny a b)
-      contains_any (record { has = contains_any_has; safe = λ t n v w h k. contains_any_safe v w h (is_set t w n k) }) world o o'
+      contains_any (on_sets contains_any contains_any_of_sets) world o o'

@@ -1,5 +1,5 @@
 -- What has a type does not go wrong: the induction over expressions.
-use Rattle.std.proofs.Common.{◌≡◌, ℕ, ◌+◌, Bool, true, false, true≢false, ◌||◌, List, [], ◌∷◌, None, refl, ap, subst, sym}
+use Rattle.std.proofs.Common.{◌≡◌, ℕ, ◌+◌, Bool, true, false, true≢false, ◌||◌, List, [], ◌∷◌, None, refl, ap, subst, sym, ◌∙◌}
 use Rattle.std.specs.Prelude.{◌+ℤ◌, ◌-ℤ◌, ◌*ℤ◌, int_lt, int_le}
 use Rattle.cedar_types.specs.declared.base.expressions.operators.BinaryOp.{BinaryOp}
 use Rattle.cedar_types.specs.declared.base.expressions.operators.UnaryOp.{UnaryOp}
@@ -10,6 +10,8 @@ use Rattle.cedar_types.specs.Expressions.Tree.{lit, var, slot, unknown, if_then_
 use Rattle.cedar_types.specs.Expressions.Tree.{ext_has_attr, like, is_type, set_of, record_of, Trees, no_trees, tree, Fields, no_fields}
 use Rattle.cedar_types.specs.Expressions.Tree.{field}
 use Rattle.cedar_types.specs.Expressions.View.{Written}
+use Rattle.cedar_types.specs.declared.base.types.ValidationMode.{ValidationMode}
+use Rattle.cedar_types.specs.declared.base.types.ValidationMode.TheVariants.{Strict, Permissive}
 use Rattle.cedar_types.specs.Types.Bounds.{is_strict}
 use Rattle.cedar_types.specs.Schemas.{Schema, has_fault}
 use Rattle.cedar_types.specs.Environments.RequestEnvs.{is_partial}
@@ -32,7 +34,7 @@ use Rattle.cedar_typing.specs.Rules.Chains.{chain_form}
 use Rattle.cedar_typing.specs.Rules.Leaves.{UnknownRecovery, unknown_fails, unknown_rules}
 use Rattle.cedar_typing.specs.Rules.Unary.{unary_form, like_form, is_form}
 use Rattle.cedar_typing.specs.Setting.{Setting, table}
-use Rattle.cedar_typing.specs.Soundness.{HasFound, IsSoundAt, TypeSoundness, TypeSoundnessInPermissive}
+use Rattle.cedar_typing.specs.Soundness.{HasFound, IsSoundAt, IsReliableIn, IsWorldOf, TypeSoundness, TypeSoundnessInPermissive}
 use Rattle.cedar_typing.specs.TypedExpr.{Source, TypedTree, annotation, place_of}
 use Rattle.cedar_typing.proofs.Agreement.Operators.{unary_marked, binary_marked}
 use Rattle.cedar_typing.proofs.Bounds.Attributes.{AttributesFormed, Joins}
@@ -253,24 +255,29 @@ module _ (strictly : Bool) (s : Setting) (world : World) (strict : is_strict s.e
       → Sounds world (eval world e) (rules s e prior d)
   sounds e b prior d h = within_sounds world _ d _ (sounds_within e b prior d h)
 
-  -- type soundness in Strict and in Permissive
-  pub sound_at : (e : Source) → SlotsBound world.slots e → (prior : Caps) (d : ℕ) → AllHold world prior → IsSoundAt s world e prior d
+-- the same of a setting that is reliable in Strict or in Permissive, and one of its worlds
+module _ (m : ValidationMode) (s : Setting) (world : World) (faults : has_fault s.env.schema ≡ false)
+    (table_faults : table_fault s.functions ≡ None) (total : is_partial m ≡ false)
+    (formed : (is_strict m || has_formed_types s.env.schema) ≡ true) (r : IsReliableIn m s) (i : IsWorldOf s world) where
+  pub sounds_in : (e : Source) → SlotsBound world.slots e → (prior : Caps) (d : ℕ) → AllHold world prior
+      → Sounds world (eval world e) (rules s e prior d)
+  sounds_in =
+      sounds (is_strict m) s world (ap is_strict r.mode) (ap is_partial r.mode ∙ total) formed faults table_faults r.closed
+      r.environment i.environment i.store i.functions
+
+  sound_at : (e : Source) → SlotsBound world.slots e → (prior : Caps) (d : ℕ) → AllHold world prior → IsSoundAt s world e prior d
   sound_at e b prior d h =
-      let r = sounds e b prior d h in
+      let q = sounds_in e b prior d h in
       record {
-        typed = λ t c x k. subst (λ a. HasFound a (eval world e)) (sym (r.marks t c x k)) (r.derivations t c x k).typed;
-        recovered = λ x es k. (r.recoveries x es k).typed;
-        safe = λ t c x k. (r.derivations t c x k).safe refl;
-        caps_hold_if_true = λ t c x k. (r.derivations t c x k).caps_hold_if_true;
-        caps_hold_at_true = λ c x k. (r.derivations (TBool True) c x k).caps_hold_at_true tt;
+        typed = λ t c x k. subst (λ a. HasFound a (eval world e)) (sym (q.marks t c x k)) (q.derivations t c x k).typed;
+        recovered = λ x es k. (q.recoveries x es k).typed;
+        safe = λ t c x k. (q.derivations t c x k).safe refl;
+        caps_hold_if_true = λ t c x k. (q.derivations t c x k).caps_hold_if_true;
+        caps_hold_at_true = λ c x k. (q.derivations (TBool True) c x k).caps_hold_at_true tt;
       }
 
 pub type_soundness : TypeSoundness
-type_soundness s world f t r i e b prior d h =
-    sound_at true s world (ap is_strict r.mode) (ap is_partial r.mode) refl f t r.closed r.environment i.environment
-    i.store i.functions e b prior d h
+type_soundness s world f t r i = sound_at Strict s world f t refl refl r i
 
 pub type_soundness_in_permissive : TypeSoundnessInPermissive
-type_soundness_in_permissive s world f w t r i e b prior d h =
-    sound_at false s world (ap is_strict r.mode) (ap is_partial r.mode) w f t r.closed r.environment i.environment
-    i.store i.functions e b prior d h
+type_soundness_in_permissive s world f w t r i = sound_at Permissive s world f t refl w r i

@@ -1,6 +1,6 @@
 -- A policy that passes does not go wrong, and one that is warned to be impossible is never true: from what the check of a
 -- policy comes to.
-use Rattle.std.proofs.Common.{◌≡◌, ◌⊎◌, inl, inr, Bool, true, false, cond, ◌||◌, List, [], ◌∷◌, None, refl, ap, subst}
+use Rattle.std.proofs.Common.{◌≡◌, ◌⊎◌, inl, inr, Bool, true, false, cond, ◌||◌, List, [], ◌∷◌, None, refl, ◌∙◌, ap, subst}
 use Rattle.std.specs.Prelude.{IsPermutation}
 use Rattle.cedar_types.specs.Errors.{Finding, Warning}
 use Rattle.cedar_types.specs.Extensions.Functions.{table_fault}
@@ -10,6 +10,8 @@ use Rattle.cedar_types.specs.Environments.RequestEnvs.{Env, Undeclared, is_parti
 use Rattle.cedar_types.specs.Schemas.{has_fault}
 use Rattle.cedar_types.specs.Templates.{PlainTemplate, condition_of}
 use Rattle.cedar_types.specs.declared.base.types.BoolType.TheVariants.{False}
+use Rattle.cedar_types.specs.declared.base.types.ValidationMode.{ValidationMode}
+use Rattle.cedar_types.specs.declared.base.types.ValidationMode.TheVariants.{Strict, Permissive}
 use Rattle.cedar_types.specs.Types.{Ty, TBool}
 use Rattle.cedar_typing.specs.Capabilities.{Caps, no_caps}
 use Rattle.cedar_typing.specs.Composition.{SlotsInScopeAlone, in_env, own_env, IsIrrelevant, IsIrrelevantInAll}
@@ -21,7 +23,7 @@ use Rattle.cedar_typing.specs.PolicyCheck.{Verdict, succeeds, irrelevant, fails,
 use Rattle.cedar_typing.specs.PolicyCheck.{same_failure}
 use Rattle.cedar_typing.specs.PolicyCheck.Outcome.{Adds, VerdictsOf, is_irrelevant, all_irrelevant, impossible, warnings_of, PolicyOutcome}
 use Rattle.cedar_typing.specs.Soundness.Policies.{Basis, IsNamedBySchema, IsWellFormed, IsConforming, setting_on, CheckedOn}
-use Rattle.cedar_typing.specs.Soundness.Policies.{PromisesAreKept, PromisesAreKeptInPermissive}
+use Rattle.cedar_typing.specs.Soundness.Policies.{AreBothKeptIn, PromisesAreKept, PromisesAreKeptInPermissive}
 use Rattle.cedar_typing.specs.Rules.{rules, Derives}
 use Rattle.cedar_typing.specs.Setting.{Setting}
 use Rattle.cedar_typing.specs.Silence.{IsWellNamedTemplate, IsDerivedAs, IsDerivedIn}
@@ -139,22 +141,21 @@ module _ (strictly : Bool) (b : Basis) (t : PlainTemplate) (schema : has_fault b
         (irrelevant_in_all o.listed o.verdicts o.in_some_order o.checked (due t o.verdicts old new o.warnings_added absent there))
         world i.request i.store i.functions
 
-pub promises_are_kept : PromisesAreKept
-promises_are_kept b t schema functions passes errors errors' old new o = record {
+kept_in : (m : ValidationMode) (b : Basis) (t : PlainTemplate) → has_fault b.schema ≡ false
+    → (is_strict m || has_formed_types b.schema) ≡ true → table_fault b.table.functions ≡ None → is_partial m ≡ false
+    → (passes : Bool) (errors errors' : List Finding) (old new : List Warning)
+    → CheckedOn b t passes errors errors' old new → AreBothKeptIn m b t passes old new
+kept_in m b t schema formed functions total passes errors errors' old new o = record {
   safe =
-      λ h k. safe_in true b t schema refl functions (ap is_strict k.mode) (ap is_partial k.mode)
+      λ h k. safe_in (is_strict m) b t schema formed functions (ap is_strict k.mode) (ap is_partial k.mode ∙ total)
       k.closed passes errors errors' old new o h;
   never_true =
-      λ absent there k. never_in true b t schema refl functions (ap is_strict k.mode) (ap is_partial k.mode)
+      λ absent there k. never_in (is_strict m) b t schema formed functions (ap is_strict k.mode) (ap is_partial k.mode ∙ total)
       k.closed passes errors errors' old new o absent there;
 }
 
+pub promises_are_kept : PromisesAreKept
+promises_are_kept b t schema functions = kept_in Strict b t schema refl functions refl
+
 pub promises_are_kept_in_permissive : PromisesAreKeptInPermissive
-promises_are_kept_in_permissive b t schema formed functions passes errors errors' old new o = record {
-  safe =
-      λ h k. safe_in false b t schema formed functions (ap is_strict k.mode) (ap is_partial k.mode)
-      k.closed passes errors errors' old new o h;
-  never_true =
-      λ absent there k. never_in false b t schema formed functions (ap is_strict k.mode) (ap is_partial k.mode)
-      k.closed passes errors errors' old new o absent there;
-}
+promises_are_kept_in_permissive b t schema formed functions = kept_in Permissive b t schema formed functions refl

@@ -31,7 +31,7 @@ use Rattle.cedar_typing.proofs.KeptTypes.Declarations.{tags_kept}
 use Rattle.cedar_typing.proofs.KeptTypes.Eager.{decided_type}
 use Rattle.cedar_typing.proofs.KeptTypes.Types.{keeping, KeptIn, formed_if}
 use Rattle.cedar_typing.proofs.Soundness.Capabilities.{eval_form, hold_just}
-use Rattle.cedar_typing.proofs.Soundness.Eager.{AreTypes, GiftIsSound, AllFound, SoundForm}
+use Rattle.cedar_typing.proofs.Soundness.Eager.{of_two, GiftIsSound, SoundForm}
 use Rattle.cedar_typing.proofs.Soundness.FixedTypes.{silent_gift}
 use Rattle.cedar_typing.proofs.Soundness.Kinds.{string_value, entity_value}
 use Rattle.cedar_typing.proofs.Soundness.Parts.{IsSure}
@@ -151,6 +151,10 @@ module _ (world : World) (prior : Caps) (hold : AllHold world prior) (a b : Sour
       (subst (λ o. HasTag world.store o (eval world (form_of b))) (sym (eval_form world a))
       (subst (HasTag world.store (eval world a)) (sym (eval_form world b)) h))
 
+-- the outcomes of the entity and of the tag
+abbrev operands : World → Source → Source → List Outcome
+operands world a b = eval world a ∷ eval world b ∷ []
+
 -- ---- `hasTag`
 
 -- the type is True only where the tag is known to be there
@@ -161,9 +165,6 @@ sure_known (t ∷ ts) false h = absurd h
 
 module _ (env : TypeEnv) (world : World) (closed : has_external env.schema ≡ false) (conforms : ConformingStore env.schema world.store)
     (m : Written) (prior : Caps) (hold : AllHold world prior) (a b : Source) where
-  abbrev sides : List Outcome
-  sides = eval world a ∷ eval world b ∷ []
-
   abbrev test : Outcome
   test = eval world (binary m BinaryOp.HasTag a b)
 
@@ -183,7 +184,7 @@ module _ (env : TypeEnv) (world : World) (closed : has_external env.schema ≡ f
 
   test_gift : (s t : Ty) → accepts entity_types s ≡ true → accepts string_types t ≡ true
       → HasFound (Some s) (eval world a) → HasFound (Some t) (eval world b)
-      → GiftIsSound world sides test (has_tag_table env m.place (tag_of a b) (prior (tag_of a b)) (Some s))
+      → GiftIsSound world (operands world a b) test (has_tag_table env m.place (tag_of a b) (prior (tag_of a b)) (Some s))
   test_gift TNever t q r h k = tt
   test_gift s t q r h k = record {
     safe = λ g. has_safe env world closed conforms t r s q (eval world a) (eval world b) h k g.0 g.1.0;
@@ -193,20 +194,10 @@ module _ (env : TypeEnv) (world : World) (closed : has_external env.schema ≡ f
         there_holds world prior hold a b (known_there world prior hold a b known);
   }
 
-  pub has_tag_sound : SoundForm world test_form sides test
-  has_tag_sound = record { typed = typed; succeeds = succeeds; failed = λ t h. h }
-    where
-      typed : (ts : List (Option Ty)) → AreTypes test_form sides ts → HasFound (decided_type (test_form.decides ts)) test
-      typed [] q = absurd q.have
-      typed (None ∷ ts) q = tt
-      typed (Some s ∷ ts) q = test_typed s q.have.0
-
-      succeeds : (ts : List (Option Ty)) → AreTypes test_form sides ts → AllFound ts → GiftIsSound world sides test (test_form.decides ts)
-      succeeds [] q f = absurd q.have
-      succeeds (None ∷ ts) q f = absurd f.0
-      succeeds (Some s ∷ []) q f = absurd q.have.1
-      succeeds (Some s ∷ None ∷ ts) q f = absurd f.1.0
-      succeeds (Some s ∷ Some t ∷ ts) q f = test_gift s t q.meet.0 q.meet.1.0 q.have.0 q.have.1.0
+  pub has_tag_sound : SoundForm world test_form (operands world a b) test
+  has_tag_sound =
+      of_two world test_form (eval world a) (eval world b) test (λ ts. tt) (λ s ts h. test_typed s h)
+      (λ s t ts q. test_gift s t q.meet.0 q.meet.1.0 q.have.0 q.have.1.0) (λ t h. h)
 
 -- ---- `getTag`
 
@@ -214,9 +205,6 @@ module _ (strictly : Bool) (env : TypeEnv) (world : World) (strict : is_strict e
     (faults : has_fault env.schema ≡ false) (formed : (strictly || has_formed_types env.schema) ≡ true)
     (closed : has_external env.schema ≡ false)
     (conforms : ConformingStore env.schema world.store) (m : Written) (prior : Caps) (hold : AllHold world prior) (a b : Source) where
-  abbrev both : List Outcome
-  both = eval world a ∷ eval world b ∷ []
-
   abbrev got : Outcome
   got = eval world (binary m BinaryOp.GetTag a b)
 
@@ -254,35 +242,25 @@ module _ (strictly : Bool) (env : TypeEnv) (world : World) (strict : is_strict e
 
   module _ (t : Ty) (text : accepts string_types t ≡ true) (k : HasFound (Some t) (eval world b)) where
     bound_gift : (us : List Ty) (bound : Option Ty) → prior (tag_of a b) ≡ true
-        → GiftIsSound world both got (tag_by_bound env m.place us bound)
+        → GiftIsSound world (operands world a b) got (tag_by_bound env m.place us bound)
     bound_gift us None e = tt
     bound_gift us (Some u) e =
         let there = known_there world prior hold a b e in
-        silent_gift world both got u (λ g. get_safe env world closed conforms t text (eval world a) (eval world b) there k g.0 g.1.0)
+        silent_gift world (operands world a b) got u (λ g. get_safe env world closed conforms t text (eval world a) (eval world b) there k g.0 g.1.0)
 
-    types_gift : (s : Ty) (ts : List Ty) → prior (tag_of a b) ≡ true → GiftIsSound world both got (get_known_tag env m.place s ts)
+    types_gift : (s : Ty) (ts : List Ty) → prior (tag_of a b) ≡ true → GiftIsSound world (operands world a b) got (get_known_tag env m.place s ts)
     types_gift s [] e = tt
     types_gift s (u ∷ ts) e = bound_gift (u ∷ ts) (list_lub env.mode (u ∷ ts)) e
 
-    known_gift : (s : Ty) (known : Bool) (fs : List Finding) → prior (tag_of a b) ≡ known → GiftIsSound world both got (guarded known s fs)
+    known_gift : (s : Ty) (known : Bool) (fs : List Finding) → prior (tag_of a b) ≡ known → GiftIsSound world (operands world a b) got (guarded known s fs)
     known_gift s true fs e = types_gift s (tag_types env.schema s) e
     known_gift s false fs e = tt
 
-    tag_gift : (s : Ty) → GiftIsSound world both got (get_tag_table env m.place (prior (tag_of a b)) (Some s))
+    tag_gift : (s : Ty) → GiftIsSound world (operands world a b) got (get_tag_table env m.place (prior (tag_of a b)) (Some s))
     tag_gift TNever = tt
     tag_gift s = known_gift s (prior (tag_of a b)) _ refl
 
-  pub get_tag_sound : SoundForm world got_form both got
-  get_tag_sound = record { typed = typed; succeeds = succeeds; failed = λ t h. h }
-    where
-      typed : (ts : List (Option Ty)) → AreTypes got_form both ts → HasFound (decided_type (got_form.decides ts)) got
-      typed [] q = absurd q.have
-      typed (None ∷ ts) q = tt
-      typed (Some s ∷ ts) q = tag_typed s q.have.0
-
-      succeeds : (ts : List (Option Ty)) → AreTypes got_form both ts → AllFound ts → GiftIsSound world both got (got_form.decides ts)
-      succeeds [] q f = absurd q.have
-      succeeds (None ∷ ts) q f = absurd f.0
-      succeeds (Some s ∷ []) q f = absurd q.have.1
-      succeeds (Some s ∷ None ∷ ts) q f = absurd f.1.0
-      succeeds (Some s ∷ Some t ∷ ts) q f = tag_gift t q.meet.1.0 q.have.1.0 s
+  pub get_tag_sound : SoundForm world got_form (operands world a b) got
+  get_tag_sound =
+      of_two world got_form (eval world a) (eval world b) got (λ ts. tt) (λ s ts h. tag_typed s h)
+      (λ s t ts q. tag_gift t q.meet.1.0 q.have.1.0 s) (λ t h. h)

@@ -3,7 +3,7 @@ use Rattle.std.proofs.Common.{◌≡◌, Bool, true, false, not, List, Option, S
 use Rattle.std.specs.Prelude.{IsTrue}
 use Rattle.cedar_types.specs.declared.base.location.Loc.{Loc}
 use Rattle.cedar_types.specs.declared.base.types.BoolType.TheVariants.{AnyBool, True, False}
-use Rattle.cedar_types.specs.Types.{Ty, TNever, TBool, TLong, TString, TSet, TAnySet, TRecord, TEntity, TAnyEntity, TExtension}
+use Rattle.cedar_types.specs.Types.{Ty, TNever, TBool}
 use Rattle.cedar_types.specs.Errors.{Finding}
 use Rattle.cedar_typing.specs.Capabilities.{Caps, no_caps}
 use Rattle.cedar_typing.specs.Evaluation.Conformance.{AllHold, SaysTrue}
@@ -74,14 +74,7 @@ accepted_sort TNever h = (NoValue, refl)
 accepted_sort (TBool AnyBool) h = (AnyValue, refl)
 accepted_sort (TBool True) h = (OnlyTrue, refl)
 accepted_sort (TBool False) h = (OnlyFalse, refl)
-accepted_sort TLong h = cc
-accepted_sort TString h = cc
-accepted_sort (TSet t) h = cc
-accepted_sort TAnySet h = cc
-accepted_sort (TRecord xs o) h = cc
-accepted_sort (TEntity ps) h = cc
-accepted_sort TAnyEntity h = cc
-accepted_sort (TExtension n) h = cc
+accepted_sort t h = cc
 
 -- the sort of a type that was found, if it is accepted
 abbrev pub sort_of : Option Ty → Option BoolSort

@@ -1,5 +1,5 @@
 -- `if`, `&&` and `||`: what typing drops is not evaluated.
-use Rattle.std.proofs.Common.{◌≡◌, true, false, List, Option, Some, None, refl, ◌∙◌, ap, subst}
+use Rattle.std.proofs.Common.{◌≡◌, Bool, true, false, true≢false, List, Option, Some, None, refl, sym, ◌∙◌, ap, subst}
 use Rattle.cedar_types.specs.declared.base.location.Loc.{Loc}
 use Rattle.cedar_types.specs.declared.base.types.BoolType.TheVariants.{True, False}
 use Rattle.cedar_types.specs.Errors.{Finding}
@@ -10,7 +10,7 @@ use Rattle.cedar_typing.specs.Capabilities.{Caps, union}
 use Rattle.cedar_typing.specs.Evaluation.Eval.{eval}
 use Rattle.cedar_typing.specs.Evaluation.Outcomes.{test_of, of_test, and_test, or_test, choose}
 use Rattle.cedar_typing.specs.Evaluation.World.{World, Outcome, Gives, Fails}
-use Rattle.cedar_typing.specs.Judgments.{Judgment}
+use Rattle.cedar_typing.specs.Judgments.{Judgment, Operand}
 use Rattle.cedar_typing.specs.Rules.Conditional.{if_true_recovered, if_false_recovered, if_open_recovered, if_true, if_false, if_open}
 use Rattle.cedar_typing.specs.Rules.Conditional.{if_rules}
 use Rattle.cedar_typing.specs.Rules.ShortCircuit.{conjunction, disjunction, short_circuit_rules, left_ends, both_sides, left_ends_failed}
@@ -24,13 +24,19 @@ use Rattle.cedar_typing.proofs.TypedCopies.Same.{eval_marked, IsClosed, ToldPart
 
 -- ---- outcomes
 
+-- each branch counts where the test says so
+chosen : (o : Outcome) (y z p q : Outcome) → (IsTrueOutcome o → y ≡ p) → (o ≡ Gives (VBool false) → z ≡ q)
+    → choose (test_of o) y z ≡ choose (test_of o) p q
+chosen (Gives (VBool true)) y z p q f g = f refl
+chosen (Gives (VBool false)) y z p q f g = g refl
+chosen (Gives v) y z p q f g = refl
+chosen (Fails e) y z p q f g = refl
+
 -- where the test is True, or fails, the first branch may stand for both
 chosen_true : (o : Outcome) → HasFound (Some (TBool True)) o → (z p q : Outcome) → z ≡ p
     → choose (test_of o) z z ≡ choose (test_of o) p q
-chosen_true (Gives (VBool true)) h z p q e = e
-chosen_true (Gives (VBool false)) h z p q e = cc
-chosen_true (Gives v) h z p q e = absurd h
-chosen_true (Fails f) h z p q e = refl
+chosen_true o h z p q e =
+    chosen o z z p q (λ i. e) (λ n. absurd (true≢false (sym (subst (HasFound (Some (TBool True))) n h))))
 
 -- where it is False, or fails, the other branch
 chosen_false : (o : Outcome) → HasFound (Some (TBool False)) o → (z p q : Outcome) → z ≡ q
@@ -43,10 +49,7 @@ chosen_false (Fails f) h z p q e = refl
 -- the first branch counts where the test is true
 chosen_open : (o : Outcome) (y z p q : Outcome) → (IsTrueOutcome o → y ≡ p) → z ≡ q
     → choose (test_of o) y z ≡ choose (test_of o) p q
-chosen_open (Gives (VBool true)) y z p q f e = f refl
-chosen_open (Gives (VBool false)) y z p q f e = e
-chosen_open (Gives v) y z p q f e = refl
-chosen_open (Fails g) y z p q f e = refl
+chosen_open o y z p q f e = chosen o y z p q f (λ n. e)
 
 -- `&&` with a left side that is False, or fails, is that side alone
 false_alone : (o p : Outcome) → HasFound (Some (TBool False)) o → o ≡ of_test (and_test (test_of o) (test_of p))
@@ -119,13 +122,16 @@ module _ (S : TypedTree → Type 0) (Known : Caps → Type 0) (R : Type 0) (worl
         by_test a b e (test.derivations u k a d w.0)
         (chosen_open o (eval world b) (eval world e) p q f (otherwise.derivations v' k'' e d'' w.2))
 
+    -- what is told of a test by the type that is found of it
+    found_told : R → (g : Bool) (k : Caps) (a : TypedTree) (fs : List Finding) → Operand env bool_types l A g k a fs
+        → (z : Option Ty) → annotation a ≡ z → ToldPart S Known R o z k
+    found_told r g k a fs i z e = subst (λ z. ToldPart S Known R o z k) e (told.operands r env bool_types l g k a fs i)
+
     if_recovery : R → (x : TypedTree) (es : List Finding) → Whole.recovers x es → S x → eval world x ≡ choice
     if_recovery r x es
         (if_true_recovered {succeeded = g} {succeeded' = g'} {c = k} {c' = k'} {a = a} {b = b} {es = fs} {es' = fs'} a' n b' h) s =
         let w = closed.choice _ a b b s in
-        let e = true_found (annotation a) n in
-        let P : Option Ty → Type 0 = λ z. ToldPart S Known R o z k in
-        let y = subst P e (told.operands r env bool_types l g k a fs a') in
+        let y = found_told r g k a fs a' _ (true_found (annotation a) n) in
         let i = branch (union prior k) (gather prior k held (y.known_at_true tt)) in
         by_test a b b (operand_copied S R world closed.marked r o A test env bool_types l g k a fs a' w.0)
         (chosen_true o y.typed (eval world b) p q
@@ -133,9 +139,7 @@ module _ (S : TypedTree → Type 0) (Known : Caps → Type 0) (R : Type 0) (worl
     if_recovery r x es
         (if_false_recovered {succeeded = g} {succeeded' = g'} {c = k} {c' = k'} {a = a} {e = b} {es = fs} {es' = fs'} a' n b' h) s =
         let w = closed.choice _ a b b s in
-        let e = false_found (annotation a) n in
-        let P : Option Ty → Type 0 = λ z. ToldPart S Known R o z k in
-        let y = subst P e (told.operands r env bool_types l g k a fs a') in
+        let y = found_told r g k a fs a' _ (false_found (annotation a) n) in
         by_test a b b (operand_copied S R world closed.marked r o A test env bool_types l g k a fs a' w.0)
         (chosen_false o y.typed (eval world b) p q
         (part_copied S R world closed.marked r q E otherwise g' k' b fs' b' w.1))

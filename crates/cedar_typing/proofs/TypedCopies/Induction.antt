@@ -1,5 +1,5 @@
 -- All expressions: their typed copies evaluate to what they evaluate to.
-use Rattle.std.proofs.Common.{ℕ, ◌+◌, Bool, true, List, [], refl}
+use Rattle.std.proofs.Common.{ℕ, ◌+◌, Bool, true, List, [], ◌∷◌, refl, ap, subst}
 use Rattle.cedar_types.specs.declared.base.expressions.operators.BinaryOp.{BinaryOp}
 use Rattle.cedar_types.specs.declared.base.expressions.operators.UnaryOp.{UnaryOp}
 use Rattle.cedar_types.specs.declared.base.location.Loc.{Loc}
@@ -28,6 +28,7 @@ use Rattle.cedar_typing.specs.Rules.Sets.{set_form}
 use Rattle.cedar_typing.specs.Rules.Unary.{unary_form, like_form, is_form}
 use Rattle.cedar_typing.specs.Setting.{Setting}
 use Rattle.cedar_typing.specs.TypedExpr.{Source, TypedTree, place_of}
+use Rattle.cedar_typing.proofs.Agreement.Operators.{unary_node, binary_node}
 use Rattle.cedar_typing.proofs.TypedCopies.Choices.{if_copies, and_copies, or_copies}
 use Rattle.cedar_typing.proofs.TypedCopies.Leaves.{leaf_copies, unknown_copies}
 use Rattle.cedar_typing.proofs.TypedCopies.Operands.{one_copies, two_copies, AllCopied, none_copied, more_copied, all_copies, FieldsCopied}
@@ -43,15 +44,10 @@ module _ (S : TypedTree → Type 0) (Known : Caps → Type 0) (R : Type 0) (s : 
 
   pub unary_copies : (m : Written) (op : UnaryOp) (l : Option Loc) (o : Outcome) (J : Judgment) → Copies S R world o J
       → Copies S R world (unary_outcome op o) (one_operand_rules s.env (unary_form m op) l J)
-  unary_copies m UnaryOp.Not =
-      one_copies S R world closed s.env (unary_form m UnaryOp.Not) (unary_outcome UnaryOp.Not) (λ k y. refl)
-      (λ k y. closed.one k UnaryOp.Not y)
-  unary_copies m UnaryOp.Neg =
-      one_copies S R world closed s.env (unary_form m UnaryOp.Neg) (unary_outcome UnaryOp.Neg) (λ k y. refl)
-      (λ k y. closed.one k UnaryOp.Neg y)
-  unary_copies m UnaryOp.IsEmpty =
-      one_copies S R world closed s.env (unary_form m UnaryOp.IsEmpty) (unary_outcome UnaryOp.IsEmpty) (λ k y. refl)
-      (λ k y. closed.one k UnaryOp.IsEmpty y)
+  unary_copies m op =
+      one_copies S R world closed s.env (unary_form m op) (unary_outcome op)
+      (λ k y. ap (eval world) (unary_node m op k (y ∷ [])))
+      (λ k y h. closed.one k op y (subst S (unary_node m op k (y ∷ [])) h))
 
   -- an operator on two outcomes
   abbrev both_values : BinaryOp → Outcome → Outcome → Outcome
@@ -60,42 +56,11 @@ module _ (S : TypedTree → Type 0) (Known : Caps → Type 0) (R : Type 0) (s : 
   pub binary_copies : (m : Written) (prior : Caps) (x y : Source) (op : BinaryOp) (l l' : Option Loc) (o o' : Outcome) (J J' : Judgment)
       → Copies S R world o J → Copies S R world o' J'
       → Copies S R world (both_values op o o') (two_operand_rules s.env (binary_form s.env m prior x y op) l l' J J')
-  binary_copies m prior x y BinaryOp.Eq =
-      two_copies S R world closed s.env (binary_form s.env m prior x y BinaryOp.Eq) (both_values BinaryOp.Eq) (λ k a c. refl)
-      (λ k a c. closed.two k BinaryOp.Eq a c)
-  binary_copies m prior x y BinaryOp.Less =
-      two_copies S R world closed s.env (binary_form s.env m prior x y BinaryOp.Less) (both_values BinaryOp.Less) (λ k a c. refl)
-      (λ k a c. closed.two k BinaryOp.Less a c)
-  binary_copies m prior x y BinaryOp.LessEq =
-      two_copies S R world closed s.env (binary_form s.env m prior x y BinaryOp.LessEq) (both_values BinaryOp.LessEq) (λ k a c. refl)
-      (λ k a c. closed.two k BinaryOp.LessEq a c)
-  binary_copies m prior x y BinaryOp.Add =
-      two_copies S R world closed s.env (binary_form s.env m prior x y BinaryOp.Add) (both_values BinaryOp.Add) (λ k a c. refl)
-      (λ k a c. closed.two k BinaryOp.Add a c)
-  binary_copies m prior x y BinaryOp.Sub =
-      two_copies S R world closed s.env (binary_form s.env m prior x y BinaryOp.Sub) (both_values BinaryOp.Sub) (λ k a c. refl)
-      (λ k a c. closed.two k BinaryOp.Sub a c)
-  binary_copies m prior x y BinaryOp.Mul =
-      two_copies S R world closed s.env (binary_form s.env m prior x y BinaryOp.Mul) (both_values BinaryOp.Mul) (λ k a c. refl)
-      (λ k a c. closed.two k BinaryOp.Mul a c)
-  binary_copies m prior x y BinaryOp.In =
-      two_copies S R world closed s.env (binary_form s.env m prior x y BinaryOp.In) (both_values BinaryOp.In) (λ k a c. refl)
-      (λ k a c. closed.two k BinaryOp.In a c)
-  binary_copies m prior x y BinaryOp.Contains =
-      two_copies S R world closed s.env (binary_form s.env m prior x y BinaryOp.Contains) (both_values BinaryOp.Contains) (λ k a c. refl)
-      (λ k a c. closed.two k BinaryOp.Contains a c)
-  binary_copies m prior x y BinaryOp.ContainsAll =
-      two_copies S R world closed s.env (binary_form s.env m prior x y BinaryOp.ContainsAll) (both_values BinaryOp.ContainsAll)
-      (λ k a c. refl) (λ k a c. closed.two k BinaryOp.ContainsAll a c)
-  binary_copies m prior x y BinaryOp.ContainsAny =
-      two_copies S R world closed s.env (binary_form s.env m prior x y BinaryOp.ContainsAny) (both_values BinaryOp.ContainsAny)
-      (λ k a c. refl) (λ k a c. closed.two k BinaryOp.ContainsAny a c)
-  binary_copies m prior x y BinaryOp.GetTag =
-      two_copies S R world closed s.env (binary_form s.env m prior x y BinaryOp.GetTag) (both_values BinaryOp.GetTag) (λ k a c. refl)
-      (λ k a c. closed.two k BinaryOp.GetTag a c)
-  binary_copies m prior x y BinaryOp.HasTag =
-      two_copies S R world closed s.env (binary_form s.env m prior x y BinaryOp.HasTag) (both_values BinaryOp.HasTag) (λ k a c. refl)
-      (λ k a c. closed.two k BinaryOp.HasTag a c)
+  binary_copies m prior x y op =
+      let node = binary_node s.env m prior x y op in
+      two_copies S R world closed s.env (binary_form s.env m prior x y op) (both_values op)
+      (λ k a c. ap (eval world) (node k (a ∷ c ∷ [])))
+      (λ k a c h. closed.two k op a c (subst S (node k (a ∷ c ∷ [])) h))
 
   -- ---- the induction, by what is told of each expression whose slots are bound
 

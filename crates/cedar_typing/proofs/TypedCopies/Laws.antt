@@ -1,6 +1,8 @@
 -- The laws of typed copies, in Strict and in Permissive.
-use Rattle.std.proofs.Common.{◌≡◌, ℕ, Bool, true, false, ◌||◌, None, refl, ap}
+use Rattle.std.proofs.Common.{◌≡◌, ℕ, true, false, ◌||◌, None, refl, sym}
 use Rattle.cedar_types.specs.declared.base.types.BoolType.TheVariants.{False}
+use Rattle.cedar_types.specs.declared.base.types.ValidationMode.{ValidationMode}
+use Rattle.cedar_types.specs.declared.base.types.ValidationMode.TheVariants.{Strict, Permissive}
 use Rattle.cedar_types.specs.Environments.RequestEnvs.{is_partial}
 use Rattle.cedar_types.specs.Expressions.Tree.{Trees, no_trees, tree, Fields, no_fields, field}
 use Rattle.cedar_types.specs.Extensions.Functions.{table_fault}
@@ -8,22 +10,22 @@ use Rattle.cedar_types.specs.Schemas.{has_fault}
 use Rattle.cedar_types.specs.Schemas.Formed.{has_formed_types}
 use Rattle.cedar_types.specs.Types.{TBool}
 use Rattle.cedar_types.specs.Types.Bounds.{is_strict}
-use Rattle.cedar_types.specs.Values.Stores.{ConformingStore}
 use Rattle.cedar_typing.specs.Capabilities.{Caps, no_caps}
-use Rattle.cedar_typing.specs.Evaluation.Conformance.{Fits, IsEnvironmentOf, SlotsBound, has_external, KeepsTable, AllHold}
+use Rattle.cedar_typing.specs.Evaluation.Conformance.{SlotsBound, AllHold}
 use Rattle.cedar_typing.specs.Evaluation.Eval.{eval}
 use Rattle.cedar_typing.specs.Evaluation.World.{World, Outcome}
 use Rattle.cedar_typing.specs.Judgments.{Judgment}
 use Rattle.cedar_typing.specs.PolicyCheck.{Verdict, PolicyChecks, check_true, check_false, check_refused_false, check_refused, check_cut}
 use Rattle.cedar_typing.specs.Rules.{rules}
-use Rattle.cedar_typing.specs.Setting.{Setting, table}
+use Rattle.cedar_typing.specs.Setting.{Setting}
+use Rattle.cedar_typing.specs.Soundness.{IsReliableIn, IsWorldOf}
 use Rattle.cedar_typing.specs.TypeTests.{bool_types}
 use Rattle.cedar_typing.specs.TypedExpr.{Source, TypedTree, Mark, place_of}
-use Rattle.cedar_typing.proofs.Soundness.Capabilities.{hold_none, hold_either}
-use Rattle.cedar_typing.proofs.Soundness.Induction.{sounds}
+use Rattle.cedar_typing.proofs.Soundness.Capabilities.{eval_mapped, hold_none, hold_either}
+use Rattle.cedar_typing.proofs.Soundness.Induction.{sounds_in}
 use Rattle.cedar_typing.proofs.Soundness.Parts.{Sounds, operand_sound}
 use Rattle.cedar_typing.specs.TypedCopies.{MeansTheSame, CopiesMeanTheSame, CopiesMeanTheSameInPermissive, VerdictMeansTheSame}
-use Rattle.cedar_typing.specs.TypedCopies.{ChecksMeanTheSame, ChecksMeanTheSameInPermissive}
+use Rattle.cedar_typing.specs.TypedCopies.{TypesDoNotMatter, ChecksMeanTheSame, ChecksMeanTheSameInPermissive}
 use Rattle.cedar_typing.proofs.TypedCopies.Induction.{copies}
 use Rattle.cedar_typing.proofs.Composition.Slots.{slots_bound}
 use Rattle.cedar_typing.proofs.TypedCopies.Filled.{filled_world, all_filled, filled_fits, eval_below, told_below}
@@ -70,47 +72,39 @@ told_by_soundness world o J i = record {
       record { typed = r.typed; known_if_true = r.caps_hold_if_true; known_at_true = r.caps_hold_at_true };
 }
 
-module _ (strictly : Bool) (s : Setting) (world : World) (strict : is_strict s.env.mode ≡ strictly)
-    (partial : is_partial s.env.mode ≡ false) (formed : (strictly || has_formed_types s.env.schema) ≡ true)
-    (faults : has_fault s.env.schema ≡ false) (table_faults : table_fault s.functions ≡ None)
-    (closed : has_external s.env.schema ≡ false) (environment : IsEnvironmentOf s.env.schema s.env.request_env)
-    (fits : Fits s.env.request_env world.request world.slots) (store : ConformingStore s.env.schema world.store)
-    (keeps : KeepsTable (table s) world.functions) where
-  pub all_copies : (e : Source) → SlotsBound world.slots e → (prior : Caps) (d : ℕ) → AllHold world prior
-      → Copies Any (Unit {0}) world (eval world e) (rules s e prior d)
-  all_copies =
-      copies Any (AllHold world) (Unit {0}) s world world.slots any_closed (λ c c' h k. hold_either world c c' h k)
-      (λ e b prior d h.
-      told_by_soundness world (eval world e) (rules s e prior d)
-      (sounds strictly s world strict partial formed faults table_faults closed environment fits store keeps e b prior d h))
-
+module _ (m : ValidationMode) (s : Setting) (world : World) (faults : has_fault s.env.schema ≡ false)
+    (table_faults : table_fault s.functions ≡ None) (total : is_partial m ≡ false)
+    (formed : (is_strict m || has_formed_types s.env.schema) ≡ true) (r : IsReliableIn m s) (i : IsWorldOf s world) where
   means_the_same : (e : Source) → SlotsBound world.slots e → (prior : Caps) (d : ℕ) → AllHold world prior
       → MeansTheSame s world e prior d
   means_the_same e b prior d h =
-      let i = all_copies e b prior d h in
-      record { derived = λ t c x k. i.derivations t c x k tt; recovered = λ x es k. i.recoveries tt x es k tt }
+      let q = copies Any (AllHold world) (Unit {0}) s world world.slots any_closed (λ c c' h k. hold_either world c c' h k)
+      (λ e b prior d h.
+      told_by_soundness world (eval world e) (rules s e prior d) (sounds_in m s world faults table_faults total formed r i e b prior d h))
+      e b prior d h in
+      record { derived = λ t c x k. q.derivations t c x k tt; recovered = λ x es k. q.recoveries tt x es k tt }
 
--- ---- where some slots are bound to nothing
+  -- ---- where some slots are bound to nothing
 
-module _ (strictly : Bool) (s : Setting) (world : World) (strict : is_strict s.env.mode ≡ strictly)
-    (partial : is_partial s.env.mode ≡ false) (formed : (strictly || has_formed_types s.env.schema) ≡ true)
-    (faults : has_fault s.env.schema ≡ false) (table_faults : table_fault s.functions ≡ None)
-    (closed : has_external s.env.schema ≡ false) (environment : IsEnvironmentOf s.env.schema s.env.request_env)
-    (fits : Fits s.env.request_env world.request world.slots) (store : ConformingStore s.env.schema world.store)
-    (keeps : KeepsTable (table s) world.functions) where
   -- the world with those bound too
   abbrev filled : World
   filled = filled_world world
+
+  filled_is_world : IsWorldOf s filled
+  filled_is_world = record {
+    environment = filled_fits s.env.request_env world i.environment;
+    store = i.store;
+    functions = i.functions;
+  }
 
   told_unbound : (e : Source) (prior : Caps) (d : ℕ) → AllHold filled prior
       → Told Any (AllHold filled) (Unit {0}) (eval world e) (rules s e prior d)
   told_unbound e prior d h =
       told_below Any (AllHold filled) (Unit {0}) (eval world e) (eval filled e) (rules s e prior d) (eval_below world e)
       (told_by_soundness filled (eval filled e) (rules s e prior d)
-      (sounds strictly s filled strict partial formed faults table_faults closed environment
-      (filled_fits s.env.request_env world fits) store keeps e (slots_bound filled.slots (all_filled world) e) prior d h))
+      (sounds_in m s filled faults table_faults total formed r filled_is_world e (slots_bound filled.slots (all_filled world) e) prior d h))
 
-  pub any_copies : (e : Source) (prior : Caps) (d : ℕ) → AllHold filled prior
+  any_copies : (e : Source) (prior : Caps) (d : ℕ) → AllHold filled prior
       → Copies Any (Unit {0}) world (eval world e) (rules s e prior d)
   any_copies e prior d h =
       copies Any (AllHold filled) (Unit {0}) s world filled.slots any_closed (λ c c' h k. hold_either filled c c' h k)
@@ -129,22 +123,20 @@ module _ (s : Setting) (e : Source) (world : World) (i : Copies Any (Unit {0}) w
 
 -- ---- the laws
 
+-- evaluation looks at the form alone
+pub types_do_not_matter : TypesDoNotMatter
+types_do_not_matter world x = sym (eval_mapped world (λ (m : Mark). m.at) x)
+
 pub copies_mean_the_same : CopiesMeanTheSame
-copies_mean_the_same s world f t r i e b prior d h =
-    means_the_same true s world (ap is_strict r.mode) (ap is_partial r.mode) refl f t r.closed r.environment i.environment
-    i.store i.functions e b prior d h
+copies_mean_the_same s world f t r i = means_the_same Strict s world f t refl refl r i
 
 pub copies_mean_the_same_in_permissive : CopiesMeanTheSameInPermissive
-copies_mean_the_same_in_permissive s world f w t r i e b prior d h =
-    means_the_same false s world (ap is_strict r.mode) (ap is_partial r.mode) w f t r.closed r.environment i.environment
-    i.store i.functions e b prior d h
+copies_mean_the_same_in_permissive s world f w t r i = means_the_same Permissive s world f t refl w r i
 
 pub checks_mean_the_same : ChecksMeanTheSame
 checks_mean_the_same s e v f t c r world i =
-    verdict_means_the_same s e world (any_copies true s world (ap is_strict r.mode) (ap is_partial r.mode)
-    refl f t r.closed r.environment i.environment i.store i.functions e no_caps 1 (hold_none (filled_world world))) v c
+    verdict_means_the_same s e world (any_copies Strict s world f t refl refl r i e no_caps 1 (hold_none (filled_world world))) v c
 
 pub checks_mean_the_same_in_permissive : ChecksMeanTheSameInPermissive
 checks_mean_the_same_in_permissive s e v f w t c r world i =
-    verdict_means_the_same s e world (any_copies false s world (ap is_strict r.mode) (ap is_partial r.mode)
-    w f t r.closed r.environment i.environment i.store i.functions e no_caps 1 (hold_none (filled_world world))) v c
+    verdict_means_the_same s e world (any_copies Permissive s world f t refl w r i e no_caps 1 (hold_none (filled_world world))) v c

@@ -130,27 +130,18 @@ module _ (s : Setting) (t : PlainTemplate) (d : DeclaredEnv) (world : World) whe
           (within_copies Any (Unit {0}) world (k + 1) _ _ (leaf_copies Any (Unit {0}) world m' (λ k. var k v) _ (λ k. refl) _))
           (within_copies Any (Unit {0}) world (k + 1) _ _ (leaf_copies Any (Unit {0}) world m'' (λ k. slot k x) _ (λ k. refl) _)))
 
-      equal_good : (v : Var) (x : SlotId) (w : Uid) → Own v x w
-          → IsGood (binary m BinaryOp.Eq (var m' v) (slot m'' x))
-      equal_good v x w own_principal = record {
-        lower = equal_most (Unit {0}) world w (world.slots SlotId.Principal) (λ n. tt);
-        copied = λ prior k h. test_copied BinaryOp.Eq v x prior k;
-      }
-      equal_good v x w own_resource = record {
-        lower = equal_most (Unit {0}) world w (world.slots SlotId.Resource) (λ n. tt);
-        copied = λ prior k h. test_copied BinaryOp.Eq v x prior k;
-      }
+      test_good : (op : BinaryOp) (v : Var) (x : SlotId)
+          → IsAtMost (Unit {0}) (eval world (binary m op (var m' v) (slot m'' x))) (eval own_bound (binary m op (var m' v) (slot m'' x)))
+          → IsGood (binary m op (var m' v) (slot m'' x))
+      test_good op v x lower = record { lower = lower; copied = λ prior k h. test_copied op v x prior k }
 
-      in_good : (v : Var) (x : SlotId) (w : Uid) → Own v x w
-          → IsGood (binary m BinaryOp.In (var m' v) (slot m'' x))
-      in_good v x w own_principal = record {
-        lower = within_most (Unit {0}) world w (world.slots SlotId.Principal) (λ n. tt);
-        copied = λ prior k h. test_copied BinaryOp.In v x prior k;
-      }
-      in_good v x w own_resource = record {
-        lower = within_most (Unit {0}) world w (world.slots SlotId.Resource) (λ n. tt);
-        copied = λ prior k h. test_copied BinaryOp.In v x prior k;
-      }
+      equal_good : (v : Var) (x : SlotId) (w : Uid) → Own v x w → IsGood (binary m BinaryOp.Eq (var m' v) (slot m'' x))
+      equal_good v x w own_principal = test_good BinaryOp.Eq v x (equal_most (Unit {0}) world w (world.slots SlotId.Principal) (λ n. tt))
+      equal_good v x w own_resource = test_good BinaryOp.Eq v x (equal_most (Unit {0}) world w (world.slots SlotId.Resource) (λ n. tt))
+
+      in_good : (v : Var) (x : SlotId) (w : Uid) → Own v x w → IsGood (binary m BinaryOp.In (var m' v) (slot m'' x))
+      in_good v x w own_principal = test_good BinaryOp.In v x (within_most (Unit {0}) world w (world.slots SlotId.Principal) (λ n. tt))
+      in_good v x w own_resource = test_good BinaryOp.In v x (within_most (Unit {0}) world w (world.slots SlotId.Resource) (λ n. tt))
 
     -- ---- the condition
 

@@ -19,8 +19,8 @@ use Rattle.cedar_typing.specs.Evaluation.Outcomes.{Says}
 use Rattle.cedar_typing.specs.Evaluation.World.{Outcome, Fails, TypeFailure, MissingEntity}
 use Rattle.cedar_typing.specs.Soundness.{OnValue, IsSafe}
 use Rattle.cedar_typing.specs.TypeTests.{accepts, object_types, is_record}
-use Rattle.cedar_typing.proofs.Basics.{or_cases}
-use Rattle.cedar_typing.proofs.Bounds.Attributes.{AttrAt, found_at, or_first, or_second, named_found, key_named, Joins, types_at}
+use Rattle.cedar_typing.proofs.Basics.{or_cases, or_left, or_right}
+use Rattle.cedar_typing.proofs.Bounds.Attributes.{AttrAt, found_at, named_found, key_named, Joins, types_at}
 
 -- ---- what may be an object
 
@@ -88,10 +88,10 @@ module _ (s : Schema) (x : Text) where
       → is_external (Some (record { name = p; descendants = []; kind = k })) ≡ c
       → ((b || c) || is_some (kind_attribute x k)) ≡ true
   kind_may (StandardKind attrs tags) b c p e h g f =
-      or_second (b || c) (is_some (find_attr x attrs))
+      or_right (b || c) (is_some (find_attr x attrs))
       (named_found x attrs (key_named x (attr_names attrs) e.attributes h.attributes.1 g))
   kind_may (EnumKind ids) b c p e h g f = absurd (none_there e.attributes h.attributes g)
-  kind_may ExternalKind b c p e h g f = or_first (b || c) false (or_second b c (sym f))
+  kind_may ExternalKind b c p e h g f = or_left (b || c) false (or_right b c (sym f))
 
   declaration_may : (d : Option DeclaredType) (b : Bool) (u : Uid) (e : Entity) → FitsDeclaration s u d e
       → is_some (entry_at x e.attributes) ≡ true
@@ -103,9 +103,9 @@ module _ (s : Schema) (x : Text) where
   one_may [] p m h = cc
   one_may (q ∷ qs) p m h =
       or_cases (path_eq p q) (is_among qs p) (list_any (may_declare s.types x) (q ∷ qs) ≡ true)
-      (λ e. or_first (may_declare s.types x q) (list_any (may_declare s.types x) qs)
+      (λ e. or_left (may_declare s.types x q) (list_any (may_declare s.types x) qs)
       (subst (λ r. may_declare s.types x r ≡ true) (path_same.to p q e) h))
-      (λ e. or_second (may_declare s.types x q) (list_any (may_declare s.types x) qs) (one_may qs p e h)) m
+      (λ e. or_right (may_declare s.types x q) (list_any (may_declare s.types x) qs) (one_may qs p e h)) m
 
   module _ (store : Store) (conforms : ConformingStore s store) where
     entity_got : (ps : List Path) (u : Uid) (q : Option Entity) → entity_at store u ≡ q → Joins s (TEntity ps)
@@ -205,8 +205,8 @@ module _ (s : Schema) (x : Text) where
 
     record_may : (xs : Attrs) (o : Bool) (es : Entries) → HasType (TRecord xs o) (VRecord es)
         → is_some (entry_at x es) ≡ true → (is_some (find_attr x xs) || o) ≡ true
-    record_may xs true es h e = or_second (is_some (find_attr x xs)) true refl
-    record_may xs false es h e = or_first (is_some (find_attr x xs)) false (named_found x xs (key_named x (attr_names xs) es h.1 e))
+    record_may xs true es h e = or_right (is_some (find_attr x xs)) true refl
+    record_may xs false es h e = or_left (is_some (find_attr x xs)) false (named_found x xs (key_named x (attr_names xs) es h.1 e))
 
     -- what a value has, its type may have
     pub has_may : (b : Ty) (v : Value) → HasType b v → SaysTrue (has_test store x v) → may_have s b x ≡ true

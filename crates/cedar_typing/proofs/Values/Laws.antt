@@ -1,13 +1,40 @@
 -- Equality of values is an equivalence, by induction on the first value with the statement for all others.
 use Rattle.std.proofs.Common.{◌≡◌, refl, sym, ap, subst, Bool, true, false, Option, Some, None, true≢false}
-use Rattle.std.specs.Prelude.{ℤ}
-use Rattle.cedar_types.specs.Names.{Text, Path, Uid, text_eq, path_eq}
+use Rattle.cedar_types.specs.Names.{text_eq, path_eq}
 use Rattle.cedar_types.specs.Lemmas.Comparisons.{and_left, and_right, and_both, text_same, path_same, uid_same, int_same, bool_same}
 use Rattle.cedar_types.specs.Values.{Value, VBool, VLong, VString, VEntity, VSet, VRecord, VExtension, Values, no_values, more_values}
 use Rattle.cedar_types.specs.Values.{Entries, no_entries, more_entries, entry_at, AllValues, AllEntries}
-use Rattle.cedar_typing.specs.Evaluation.Equality.{is_bool, is_long, is_string, is_entity, is_extension, same_value}
+use Rattle.cedar_typing.specs.Evaluation.Equality.{same_value}
 use Rattle.cedar_typing.specs.Evaluation.Equality.{EqualityIsAnEquivalence, EqualityHasNoOrder}
 use Rattle.cedar_typing.proofs.Values.Equality.{member_has, sets_to, sets_from, agree_values, records_to, records_from, OnSome, entry_has}
+
+-- ---- what holds of leaves, of sets of values that have it, and of records of such, holds of all values
+
+-- neither a set nor a record
+abbrev IsLeaf : Value → Type 0
+IsLeaf (VSet vs) = ⊥
+IsLeaf (VRecord es) = ⊥
+IsLeaf v = Unit {0}
+
+module _ (P : Value → Type 0) (of_leaf : (v : Value) → IsLeaf v → P v) (of_set : (vs : Values) → AllValues P vs → P (VSet vs))
+    (of_record : (es : Entries) → AllEntries P es → P (VRecord es)) where
+  mutual
+    every : (v : Value) → P v
+    every (VSet vs) = of_set vs (all_members vs)
+    every (VRecord es) = of_record es (all_fields es)
+    every (VBool b) = of_leaf (VBool b) tt
+    every (VLong n) = of_leaf (VLong n) tt
+    every (VString t) = of_leaf (VString t) tt
+    every (VEntity u) = of_leaf (VEntity u) tt
+    every (VExtension n t) = of_leaf (VExtension n t) tt
+
+    all_members : (vs : Values) → AllValues P vs
+    all_members no_values = tt
+    all_members (more_values v vs) = (every v, all_members vs)
+
+    all_fields : (es : Entries) → AllEntries P es
+    all_fields no_entries = tt
+    all_fields (more_entries k v es) = (every v, all_fields es)
 
 -- ---- reflexivity
 
@@ -18,72 +45,55 @@ agree_itself : (o : Option Value) → OnSome Reflexive o → agree_values o o �
 agree_itself None h = refl
 agree_itself (Some v) h = h
 
-mutual
-  itself : (v : Value) → Reflexive v
-  itself (VBool b) = bool_same.itself b
-  itself (VLong n) = int_same.itself n
-  itself (VString t) = text_same.itself t
-  itself (VEntity u) = uid_same.itself u
-  itself (VSet vs) =
-      let f = member_has Reflexive vs (all_itself vs) in
-      sets_from vs vs
-      (record {
-        there = λ v m. record { it = v; among = m; passes = f v m };
-        back =
-            λ v m. record { it = v; among = m; passes = f v m };
-      })
-  itself (VRecord es) =
-      records_from es es
-      (record { at_each = λ k. agree_itself (entry_at k es) (entry_has Reflexive k es (entries_itself es)) })
-  itself (VExtension n t) = and_both (path_eq n n) (text_eq t t) (path_same.itself n) (text_same.itself t)
+set_itself : (vs : Values) → AllValues Reflexive vs → Reflexive (VSet vs)
+set_itself vs h =
+    let f = member_has Reflexive vs h in
+    sets_from vs vs
+    (record {
+      there = λ v m. record { it = v; among = m; passes = f v m };
+      back =
+          λ v m. record { it = v; among = m; passes = f v m };
+    })
 
-  all_itself : (vs : Values) → AllValues Reflexive vs
-  all_itself no_values = tt
-  all_itself (more_values v vs) = (itself v, all_itself vs)
+record_itself : (es : Entries) → AllEntries Reflexive es → Reflexive (VRecord es)
+record_itself es h = records_from es es (record { at_each = λ k. agree_itself (entry_at k es) (entry_has Reflexive k es h) })
 
-  entries_itself : (es : Entries) → AllEntries Reflexive es
-  entries_itself no_entries = tt
-  entries_itself (more_entries k v es) = (itself v, entries_itself es)
+leaf_itself : (v : Value) → IsLeaf v → Reflexive v
+leaf_itself (VBool b) l = bool_same.itself b
+leaf_itself (VLong n) l = int_same.itself n
+leaf_itself (VString t) l = text_same.itself t
+leaf_itself (VEntity u) l = uid_same.itself u
+leaf_itself (VSet vs) l = absurd l
+leaf_itself (VRecord es) l = absurd l
+leaf_itself (VExtension n t) l = and_both (path_eq n n) (text_eq t t) (path_same.itself n) (text_same.itself t)
 
--- ---- a value that passes a test is of its kind
+itself : (v : Value) → Reflexive v
+itself = every Reflexive leaf_itself set_itself record_itself
 
-bool_is : (a : Bool) (w : Value) → is_bool a w ≡ true → VBool a ≡ w
-bool_is a (VBool b) h = ap VBool (bool_same.to a b h)
-bool_is a w h = absurd (true≢false (sym h))
+-- ---- what equals a leaf is that leaf
 
-long_is : (a : ℤ) (w : Value) → is_long a w ≡ true → VLong a ≡ w
-long_is a (VLong b) h = ap VLong (int_same.to a b h)
-long_is a w h = absurd (true≢false (sym h))
-
-string_is : (a : Text) (w : Value) → is_string a w ≡ true → VString a ≡ w
-string_is a (VString b) h = ap VString (text_same.to a b h)
-string_is a w h = absurd (true≢false (sym h))
-
-entity_is : (a : Uid) (w : Value) → is_entity a w ≡ true → VEntity a ≡ w
-entity_is a (VEntity b) h = ap VEntity (uid_same.to a b h)
-entity_is a w h = absurd (true≢false (sym h))
-
-extension_is : (n : Path) (a : Text) (w : Value) → is_extension n a w ≡ true → VExtension n a ≡ w
-extension_is n a (VExtension m b) h =
+leaf_is : (v : Value) → IsLeaf v → (w : Value) → same_value v w ≡ true → v ≡ w
+leaf_is (VBool a) l (VBool b) h = ap VBool (bool_same.to a b h)
+leaf_is (VLong a) l (VLong b) h = ap VLong (int_same.to a b h)
+leaf_is (VString a) l (VString b) h = ap VString (text_same.to a b h)
+leaf_is (VEntity a) l (VEntity b) h = ap VEntity (uid_same.to a b h)
+leaf_is (VExtension n a) l (VExtension m b) h =
     λ i. VExtension (path_same.to n m (and_left (path_eq n m) (text_eq a b) h) i)
     (text_same.to a b (and_right (path_eq n m) (text_eq a b) h) i)
-extension_is n a w h = absurd (true≢false (sym h))
+leaf_is (VSet vs) l w h = absurd l
+leaf_is (VRecord es) l w h = absurd l
+leaf_is v l w h = absurd (true≢false (sym h))
 
-record SetOf (w : Value) : Type 0 where
-  members : Values
-  is : w ≡ VSet members
+-- what holds of each set that equals a set, or of each record that equals a record, holds of each value that does
+as_set : (vs : Values) (P : Value → Type 0) → ((ws : Values) → same_value (VSet vs) (VSet ws) ≡ true → P (VSet ws))
+    → (w : Value) → same_value (VSet vs) w ≡ true → P w
+as_set vs P f (VSet ws) h = f ws h
+as_set vs P f w h = absurd (true≢false (sym h))
 
-set_is : (vs : Values) (w : Value) → same_value (VSet vs) w ≡ true → SetOf w
-set_is vs (VSet ws) h = record { members = ws; is = refl }
-set_is vs w h = absurd (true≢false (sym h))
-
-record RecordOf (w : Value) : Type 0 where
-  entries : Entries
-  is : w ≡ VRecord entries
-
-record_is : (es : Entries) (w : Value) → same_value (VRecord es) w ≡ true → RecordOf w
-record_is es (VRecord fs) h = record { entries = fs; is = refl }
-record_is es w h = absurd (true≢false (sym h))
+as_record : (es : Entries) (P : Value → Type 0) → ((fs : Entries) → same_value (VRecord es) (VRecord fs) ≡ true → P (VRecord fs))
+    → (w : Value) → same_value (VRecord es) w ≡ true → P w
+as_record es P f (VRecord fs) h = f fs h
+as_record es P f w h = absurd (true≢false (sym h))
 
 -- ---- symmetry
 
@@ -101,46 +111,22 @@ agree_turned (Some v) None f h = absurd (true≢false (sym h))
 agree_turned (Some v) (Some w) f h = f w h
 
 set_turned : (vs : Values) → AllValues Symmetric vs → Symmetric (VSet vs)
-set_turned vs f w h =
-    let x = set_is vs w h in
-    let P : Value → Type 0 = λ y. same_value (VSet vs) y ≡ true in
-    let Q : Value → Type 0 = λ y. same_value y (VSet vs) ≡ true in
-    let s = sets_to vs x.members (subst P x.is h) in
-    let g = member_has Symmetric vs f in
-    subst Q (sym x.is) (sets_from x.members vs (record {
+set_turned vs f =
+    as_set vs (λ w. same_value w (VSet vs) ≡ true)
+    (λ ws h. let s = sets_to vs ws h in let g = member_has Symmetric vs f in
+    sets_from ws vs (record {
       there = λ v m. let p = s.back v m in record { it = p.it; among = p.among; passes = g p.it p.among v p.passes };
       back = λ v m. let p = s.there v m in record { it = p.it; among = p.among; passes = g v m p.it p.passes };
     }))
 
 record_turned : (es : Entries) → AllEntries Symmetric es → Symmetric (VRecord es)
-record_turned es f w h =
-    let x = record_is es w h in
-    let P : Value → Type 0 = λ y. same_value (VRecord es) y ≡ true in
-    let Q : Value → Type 0 = λ y. same_value y (VRecord es) ≡ true in
-    let s = records_to es x.entries (subst P x.is h) in
-    subst Q (sym x.is) (records_from x.entries es
-    (record {
-      at_each = λ k. agree_turned (entry_at k es) (entry_at k x.entries)
-          (entry_has Symmetric k es f) (s.at_each k);
-    }))
+record_turned es f =
+    as_record es (λ w. same_value w (VRecord es) ≡ true)
+    (λ fs h. records_from fs es
+    (record { at_each = λ k. agree_turned (entry_at k es) (entry_at k fs) (entry_has Symmetric k es f) ((records_to es fs h).at_each k) }))
 
-mutual
-  turned : (v : Value) → Symmetric v
-  turned (VBool b) = by_being (VBool b) (bool_is b)
-  turned (VLong n) = by_being (VLong n) (long_is n)
-  turned (VString t) = by_being (VString t) (string_is t)
-  turned (VEntity u) = by_being (VEntity u) (entity_is u)
-  turned (VSet vs) = set_turned vs (all_turned vs)
-  turned (VRecord es) = record_turned es (entries_turned es)
-  turned (VExtension n t) = by_being (VExtension n t) (extension_is n t)
-
-  all_turned : (vs : Values) → AllValues Symmetric vs
-  all_turned no_values = tt
-  all_turned (more_values v vs) = (turned v, all_turned vs)
-
-  entries_turned : (es : Entries) → AllEntries Symmetric es
-  entries_turned no_entries = tt
-  entries_turned (more_entries k v es) = (turned v, entries_turned es)
+turned : (v : Value) → Symmetric v
+turned = every Symmetric (λ v l. by_being v (leaf_is v l)) set_turned record_turned
 
 -- ---- transitivity
 
@@ -159,57 +145,30 @@ agree_along (Some u) (Some v) (Some w) f h h' = f v w h h'
 
 set_along : (us : Values) → AllValues Transitive us → Transitive (VSet us)
 set_along us f v w h h' =
-    let P : Value → Type 0 = λ y. same_value (VSet us) y ≡ true in
-    let x = set_is us v h in
-    let Q : Value → Type 0 = λ y. same_value y w ≡ true in
-    let e : same_value (VSet x.members) w ≡ true = subst Q x.is h' in
-    let y = set_is x.members w e in
-    let R : Value → Type 0 = λ z. same_value (VSet x.members) z ≡ true in
-    let s = sets_to us x.members (subst P x.is h) in
-    let t = sets_to x.members y.members (subst R y.is e) in
-    let g = member_has Transitive us f in
-    subst P (sym y.is) (sets_from us y.members (record {
+    as_set us (λ v. same_value v w ≡ true → same_value (VSet us) w ≡ true)
+    (λ vs h. as_set vs (λ w. same_value (VSet us) w ≡ true)
+    (λ ws h'. let s = sets_to us vs h in let t = sets_to vs ws h' in let g = member_has Transitive us f in
+    sets_from us ws (record {
       there =
           λ u m. let p = s.there u m in let q = t.there p.it p.among in
           record { it = q.it; among = q.among; passes = g u m p.it q.it p.passes q.passes };
       back =
           λ z m. let q = t.back z m in let p = s.back q.it q.among in
           record { it = p.it; among = p.among; passes = g p.it p.among q.it z p.passes q.passes };
-    }))
+    })) w) v h h'
 
 record_along : (es : Entries) → AllEntries Transitive es → Transitive (VRecord es)
 record_along es f v w h h' =
-    let P : Value → Type 0 = λ y. same_value (VRecord es) y ≡ true in
-    let x = record_is es v h in
-    let Q : Value → Type 0 = λ y. same_value y w ≡ true in
-    let e : same_value (VRecord x.entries) w ≡ true = subst Q x.is h' in
-    let y = record_is x.entries w e in
-    let R : Value → Type 0 = λ z. same_value (VRecord x.entries) z ≡ true in
-    let s = records_to es x.entries (subst P x.is h) in
-    let t = records_to x.entries y.entries (subst R y.is e) in
-    subst P (sym y.is) (records_from es y.entries (record {
-      at_each =
-          λ k. agree_along (entry_at k es) (entry_at k x.entries) (entry_at k y.entries)
-          (entry_has Transitive k es f) (s.at_each k) (t.at_each k);
-    }))
+    as_record es (λ v. same_value v w ≡ true → same_value (VRecord es) w ≡ true)
+    (λ fs h. as_record fs (λ w. same_value (VRecord es) w ≡ true)
+    (λ gs h'. records_from es gs
+    (record {
+      at_each = λ k. agree_along (entry_at k es) (entry_at k fs) (entry_at k gs) (entry_has Transitive k es f)
+          ((records_to es fs h).at_each k) ((records_to fs gs h').at_each k);
+    })) w) v h h'
 
-mutual
-  along : (u : Value) → Transitive u
-  along (VBool b) = along_being (VBool b) (bool_is b)
-  along (VLong n) = along_being (VLong n) (long_is n)
-  along (VString t) = along_being (VString t) (string_is t)
-  along (VEntity u) = along_being (VEntity u) (entity_is u)
-  along (VSet vs) = set_along vs (all_along vs)
-  along (VRecord es) = record_along es (entries_along es)
-  along (VExtension n t) = along_being (VExtension n t) (extension_is n t)
-
-  all_along : (vs : Values) → AllValues Transitive vs
-  all_along no_values = tt
-  all_along (more_values v vs) = (along v, all_along vs)
-
-  entries_along : (es : Entries) → AllEntries Transitive es
-  entries_along no_entries = tt
-  entries_along (more_entries k v es) = (along v, entries_along es)
+along : (u : Value) → Transitive u
+along = every Transitive (λ v l. along_being v (leaf_is v l)) set_along record_along
 
 pub equality : EqualityIsAnEquivalence
 equality = record { reflexive = itself; symmetric = turned; transitive = along }

@@ -18,32 +18,28 @@ use Rattle.cedar_typing.specs.Evaluation.Eval.{eval}
 use Rattle.cedar_typing.specs.Evaluation.World.{Slots, World}
 use Rattle.cedar_typing.specs.Examples.Expressions.{node, numbered}
 use Rattle.cedar_typing.specs.Examples.Greeting.{greeting}
-use Rattle.cedar_typing.specs.Examples.World.{user, robot, alice, bob, greet, a_context, sample_schema, sample}
+use Rattle.cedar_typing.specs.Examples.World.{user, robot, alice, bob, greet, a_context, requested, sample_schema, users_greet, sample}
 use Rattle.cedar_typing.specs.Setting.{table}
 use Rattle.cedar_typing.specs.Soundness.{IsTrueOutcome}
+use Rattle.cedar_typing.specs.TypedExpr.{Source}
 
 -- ---- templates
 
+-- the rest of a template as it is written, if there is one
+abbrev pub written_rest : Option Shape → Option Source
+written_rest None = None
+written_rest (Some e) = Some (numbered e)
+
 -- `permit(principal .., action, resource ..)`, with a rest or without
 abbrev pub template : Scope → Scope → Option Shape → PlainTemplate
-template p r None =
-    record {
-      id = codes "policy0";
-      place = (node 0).place;
-      principal = p;
-      action = any_action;
-      resource = r;
-      rest = None;
-    }
-template p r (Some e) =
-    record {
-      id = codes "policy0";
-      place = (node 0).place;
-      principal = p;
-      action = any_action;
-      resource = r;
-      rest = Some (numbered e);
-    }
+template p r rest = record {
+  id = codes "policy0";
+  place = (node 0).place;
+  principal = p;
+  action = any_action;
+  resource = r;
+  rest = written_rest rest;
+}
 
 abbrev pub a_user_type : PlacedType
 a_user_type = record { name = user; place = None }
@@ -62,7 +58,7 @@ some_slot_is_robot = or tt (slot_is_robot SlotId.Principal) (slot_is_robot SlotI
 
 -- users greet users
 abbrev pub greets_env : DeclaredEnv
-greets_env = record { principal = user; action = greet; resource = user; context = a_context }
+greets_env = users_greet a_context
 
 -- and the types that the slots are linked to
 abbrev pub greets : Option Path → Option Path → Env
@@ -74,23 +70,11 @@ idle_schema = record sample_schema { actions = [] }
 -- actions greet users
 abbrev pub acting_schema : Schema
 acting_schema = record sample_schema {
-  actions =
-      record {
-        name = greet;
-        descendants = [];
-        applies_to =
-            Some (record {
-              principals = greet.entity_type ∷ [];
-              resources = user ∷ [];
-              context = a_context;
-            });
-      }
-      ∷ [];
+  actions = requested greet (greet.entity_type ∷ []) (user ∷ []) a_context ∷ [];
 }
 
 abbrev pub acting_env : DeclaredEnv
-acting_env =
-    record { principal = greet.entity_type; action = greet; resource = user; context = a_context }
+acting_env = record greets_env { principal = greet.entity_type }
 
 pub record EnvironmentsAre : Type 0 where
   -- no slot: no link

@@ -10,19 +10,19 @@ use Rattle.cedar_types.specs.declared.base.types.ValidationMode.{ValidationMode}
 use Rattle.cedar_types.specs.declared.base.types.ValidationMode.TheVariants.{Strict, Permissive}
 use Rattle.cedar_types.specs.Schemas.Formed.{has_formed_types}
 use Rattle.cedar_types.specs.Names.{Path, Uid, is_action_path}
-use Rattle.cedar_types.specs.Schemas.{StandardKind, EnumKind, DeclaredType, DeclaredAction, Schema, knows_type, type_named, has_fault}
+use Rattle.cedar_types.specs.Schemas.{EnumKind, DeclaredType, DeclaredAction, Schema, knows_type, type_named, has_fault}
 use Rattle.cedar_types.specs.Values.Stores.{Entity, Store, entity_at, IsStoredAncestor}
 use Rattle.cedar_types.specs.Templates.{to_slot, any, within, PlainTemplate, condition_of}
 use Rattle.cedar_types.specs.Expressions.Tree.{Shape, var, and, unary}
-use Rattle.cedar_types.specs.Types.{TEntity, TRecord, Attrs, no_attrs, attr}
+use Rattle.cedar_types.specs.Types.{TEntity, Attrs, no_attrs, attr}
 use Rattle.cedar_types.specs.Values.{VBool, VEntity, no_entries, more_entries}
 use Rattle.cedar_typing.specs.Evaluation.Eval.{eval}
 use Rattle.cedar_typing.specs.Evaluation.World.{World, Gives}
 use Rattle.cedar_typing.specs.Examples.Composition.{template}
 use Rattle.cedar_typing.specs.Examples.Expressions.{the, principal, dot, equal, is_in}
-use Rattle.cedar_typing.specs.Examples.Greeting.{stored_action, sample_functions}
+use Rattle.cedar_typing.specs.Examples.Greeting.{stored_action, sample_functions, asks}
 use Rattle.cedar_typing.specs.Examples.PolicySoundness.{sample_basis, Passes, policy_when}
-use Rattle.cedar_typing.specs.Examples.World.{named, an_action_named}
+use Rattle.cedar_typing.specs.Examples.World.{named, an_action_named, standard_type, requested, no_context, declared_group}
 use Rattle.cedar_typing.specs.Soundness.Policies.{Basis, IsClosedIn, IsNamedBySchema, IsWellFormed, IsConforming}
 
 -- ---- names
@@ -68,12 +68,10 @@ document_attributes = attr (codes "status") (TEntity (status ∷ [])) true no_at
 
 -- documents may be in folders, and have a status
 abbrev pub declared_document : DeclaredType
-declared_document =
-    record { name = document; descendants = []; kind = StandardKind document_attributes None }
+declared_document = standard_type document [] document_attributes None
 
 abbrev pub declared_folder : DeclaredType
-declared_folder =
-    record { name = folder; descendants = document ∷ []; kind = StandardKind no_attrs None }
+declared_folder = standard_type folder (document ∷ []) no_attrs None
 
 abbrev pub declared_status : DeclaredType
 declared_status =
@@ -81,24 +79,10 @@ declared_status =
 
 -- actions review documents
 abbrev pub declared_review : DeclaredAction
-declared_review = record {
-  name = review;
-  descendants = [];
-  applies_to =
-      Some (record {
-        principals = review.entity_type ∷ [];
-        resources = document ∷ [];
-        context = TRecord no_attrs false;
-      });
-}
+declared_review = requested review (review.entity_type ∷ []) (document ∷ []) no_context
 
 abbrev pub declared_edit : DeclaredAction
-declared_edit = record {
-  name = edit;
-  descendants = review ∷ [];
-  applies_to =
-      Some (record { principals = []; resources = []; context = TRecord no_attrs false });
-}
+declared_edit = declared_group edit (review ∷ [])
 
 abbrev pub review_schema : Schema
 review_schema = record {
@@ -134,12 +118,7 @@ review_store =
 -- the action reviews the report, and each slot is bound to the ghost
 abbrev pub reviewing : World
 reviewing = record {
-  request = record {
-    principal = review;
-    action = review;
-    resource = report;
-    context = no_entries;
-  };
+  request = asks review review report no_entries;
   slots = λ x. Some casper;
   store = review_store;
   functions = sample_functions;

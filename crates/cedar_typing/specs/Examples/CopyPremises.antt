@@ -6,7 +6,6 @@ use Rattle.cedar_types.specs.declared.base.expressions.extensions.ExtensionTable
 use Rattle.cedar_types.specs.declared.base.expressions.operators.Var.{Var}
 use Rattle.cedar_types.specs.declared.base.types.ValidationMode.{ValidationMode}
 use Rattle.cedar_types.specs.declared.base.types.ValidationMode.TheVariants.{Strict, Permissive}
-use Rattle.cedar_types.specs.Environments.{DeclaredEnv}
 use Rattle.cedar_types.specs.Environments.RequestEnvs.{Declared}
 use Rattle.cedar_types.specs.Expressions.Tree.{Shape, var, and, if_then_else}
 use Rattle.cedar_types.specs.Extensions.Functions.{ExtensionFunction, table_fault}
@@ -16,12 +15,13 @@ use Rattle.cedar_types.specs.Schemas.{Schema, has_fault}
 use Rattle.cedar_types.specs.Types.{Ty, TRecord}
 use Rattle.cedar_typing.specs.Evaluation.Conformance.{IsEnvironmentOf, has_external}
 use Rattle.cedar_typing.specs.Evaluation.World.{World}
-use Rattle.cedar_typing.specs.Examples.Expressions.{false_lit, one, two, the, context, dot, has, is_in, call0, record2, numbered}
+use Rattle.cedar_typing.specs.Examples.Expressions.{false_lit, one, two, the, has, is_in, call0, record2, numbered}
 use Rattle.cedar_typing.specs.Examples.Greeting.{stored_action}
 use Rattle.cedar_typing.specs.Examples.NeededPremises.{guest_basis, guest_greeting, guest_has_role}
-use Rattle.cedar_typing.specs.Examples.Permissive.{twice_a, twice_context, twice_schema, twice_basis, twice_greeting}
+use Rattle.cedar_typing.specs.Examples.Permissive.{twice_a, twice_context, twice_schema, twice_basis, twice_greeting, either_has_b}
 use Rattle.cedar_typing.specs.Examples.PolicySoundness.{sample_basis, meeting}
-use Rattle.cedar_typing.specs.Examples.World.{named, user, greet, meet, a_context, declared_user, declared_greet, declared_group, sample_schema}
+use Rattle.cedar_typing.specs.Examples.World.{named, greet, meet, a_context, declared_user, declared_greet, declared_group, sample_schema, unchecked}
+use Rattle.cedar_typing.specs.Examples.World.{users_greet}
 use Rattle.cedar_typing.specs.PolicyCheck.{Verdict, PolicyChecks}
 use Rattle.cedar_typing.specs.Setting.{Setting}
 use Rattle.cedar_typing.specs.Soundness.Policies.{Basis, setting_on}
@@ -35,28 +35,29 @@ MeansAnother s world e =
     (v : Verdict) × PolicyChecks s e v × (VerdictMeansTheSame world e v → ⊥)
 
 -- users greet users in such a context, and no slot is linked
-abbrev pub users_greet : Ty → DeclaredEnv
-users_greet t = record { principal = user; action = greet; resource = user; context = t }
-
 abbrev pub greeting_by : Basis → Ty → Setting
 greeting_by b t = setting_on b (codes "policy0") (Declared (users_greet t) None None)
 
 abbrev pub and_false : Shape → Source
 and_false e = numbered (and tt e false_lit)
 
+-- in a mode and in a world that fits such a context, `e && false` means another
+pub record DiffersIn (m : ValidationMode) (b : Basis) (t : Ty) (world : World) (e : Shape) :
+    Type 0 where
+  pub mode : b.mode ≡ m
+  pub environment : IsEnvironmentOf b.schema (Declared (users_greet t) None None)
+  pub fits : IsWorldOf (greeting_by b t) world
+  pub another : MeansAnother (greeting_by b t) world (and_false e)
+
 -- ---- external types
 
 -- `Guest::"g".hasTag("role") && false`, of an external type: the left side, which is true, stands for
 -- the whole
 pub record ClosedSchemaIsNeededIn (m : ValidationMode) : Type 0 where
-  pub mode : (guest_basis m).mode ≡ m
   pub faultless : has_fault (guest_basis m).schema ≡ false
   pub formed : has_formed_types (guest_basis m).schema ≡ true
   pub functions : table_fault (guest_basis m).table.functions ≡ None
-  pub environment : IsEnvironmentOf (guest_basis m).schema (Declared (users_greet a_context) None None)
-  pub world : IsWorldOf (greeting_by (guest_basis m) a_context) guest_greeting
-  pub another : MeansAnother (greeting_by (guest_basis m) a_context) guest_greeting
-      (and_false guest_has_role)
+  pub differs : DiffersIn m (guest_basis m) a_context guest_greeting guest_has_role
 
 -- ---- a fault of the schema
 
@@ -80,36 +81,21 @@ abbrev pub greet_in_meet : Shape
 greet_in_meet = is_in (var tt Var.Action) (the meet)
 
 pub record FaultlessSchemaIsNeededIn (m : ValidationMode) : Type 0 where
-  pub mode : (meet_twice_basis m).mode ≡ m
   pub closed : has_external meet_twice ≡ false
   pub formed : has_formed_types meet_twice ≡ true
   pub functions : table_fault (meet_twice_basis m).table.functions ≡ None
-  pub environment : IsEnvironmentOf meet_twice (Declared (users_greet a_context) None None)
-  pub world : IsWorldOf (greeting_by (meet_twice_basis m) a_context) greeting_at_meet
-  pub another : MeansAnother (greeting_by (meet_twice_basis m) a_context) greeting_at_meet
-      (and_false greet_in_meet)
+  pub differs : DiffersIn m (meet_twice_basis m) a_context greeting_at_meet greet_in_meet
 
 -- ---- names that do not ascend, in Permissive
 
 -- `(if resource has vip then context.twice else context.both) has b && false`: the bound of both
 -- records has no `b`
-abbrev pub either_has_b : Shape
-either_has_b =
-    has
-    (if_then_else tt (has (var tt Var.Resource) (codes "vip")) (dot context (codes "twice"))
-    (dot context (codes "both")))
-    (codes "b")
-
 pub record FormIsNeededForCopies : Type 0 where
-  pub mode : twice_basis.mode ≡ Permissive
   pub closed : has_external twice_schema ≡ false
   pub faultless : has_fault twice_schema ≡ false
   pub functions : table_fault twice_basis.table.functions ≡ None
-  pub environment : IsEnvironmentOf twice_schema (Declared (users_greet twice_context) None None)
-  pub world : IsWorldOf (greeting_by twice_basis twice_context) twice_greeting
   pub unformed : has_formed_types twice_schema ≡ false
-  pub another : MeansAnother (greeting_by twice_basis twice_context) twice_greeting
-      (and_false either_has_b)
+  pub differs : DiffersIn Permissive twice_basis twice_context twice_greeting either_has_b
 
 -- ---- a fault of the table, in Permissive
 
@@ -118,13 +104,7 @@ abbrev pub twice : Path
 twice = named (codes "twice")
 
 abbrev pub twice_function : ExtensionFunction
-twice_function = record {
-  name = twice;
-  argument_types = [];
-  is_variadic = false;
-  return_type = TRecord twice_a false;
-  check = None;
-}
+twice_function = unchecked twice [] false (TRecord twice_a false)
 
 abbrev pub faulty_table_basis : Basis
 faulty_table_basis = record (sample_basis Permissive) {
@@ -145,15 +125,11 @@ made_has_b =
     (codes "b")
 
 pub record FaultlessTableIsNeeded : Type 0 where
-  pub mode : faulty_table_basis.mode ≡ Permissive
   pub closed : has_external sample_schema ≡ false
   pub faultless : has_fault sample_schema ≡ false
   pub formed : has_formed_types sample_schema ≡ true
-  pub environment : IsEnvironmentOf sample_schema (Declared (users_greet a_context) None None)
-  pub world : IsWorldOf (greeting_by faulty_table_basis a_context) without_calls
   pub faulty : table_fault faulty_table_basis.table.functions ≡ Some BadReturnType
-  pub another : MeansAnother (greeting_by faulty_table_basis a_context) without_calls
-      (and_false made_has_b)
+  pub differs : DiffersIn Permissive faulty_table_basis a_context without_calls made_has_b
 
 -- ---- all of them
 

@@ -5,11 +5,11 @@ pub mod Operators
 pub mod Entities
 pub mod Ancestors
 pub mod Calls
-use Rattle.std.specs.Prelude.{◌≡◌, true, false}
+use Rattle.std.specs.Prelude.{◌≡◌, true, false, List, map}
 use Rattle.cedar_types.specs.Expressions.Tree.{Shape}
 use Rattle.cedar_types.specs.Values.{Value, VBool}
 use Rattle.cedar_typing.specs.Evaluation.Eval.{eval}
-use Rattle.cedar_typing.specs.Evaluation.World.{Failure, Gives, Fails}
+use Rattle.cedar_typing.specs.Evaluation.World.{Failure, Outcome, Gives, Fails}
 use Rattle.cedar_typing.specs.Examples.Greeting.{greeting}
 
 -- e evaluates to v
@@ -22,6 +22,11 @@ YieldsTrue e = Yields e (VBool true)
 
 abbrev pub YieldsFalse : Shape → Type 0
 YieldsFalse e = Yields e (VBool false)
+
+-- each of these evaluates to what stands beside it
+abbrev pub AllComeTo : List (Shape × Outcome) → Type 0
+AllComeTo xs =
+    map (λ (x : Shape × Outcome). eval greeting x.0) xs ≡ map (λ (x : Shape × Outcome). x.1) xs
 
 -- it has no value, for that failure
 abbrev pub FailsAs : Shape → Failure → Type 0

@@ -1,7 +1,7 @@
 -- Short names for the expressions of the examples. An expression is written as its form alone;
 -- where it is typed, its nodes stand at the places 1, 2 and so on, in the order in which they are
 -- written.
-use Rattle.std.specs.Prelude.{ℕ, ◌+◌, ℤ, pos, neg_ℤ, true, false, List, [], ◌∷◌, Some, codes}
+use Rattle.std.specs.Prelude.{ℕ, ◌+◌, ℤ, pos, neg_ℤ, Bool, true, false, List, [], ◌∷◌, Some, codes}
 use Rattle.cedar_types.specs.declared.base.expressions.operators.Var.{Var}
 use Rattle.cedar_types.specs.declared.base.expressions.operators.BinaryOp.{BinaryOp}
 use Rattle.cedar_types.specs.declared.base.expressions.patterns.PatternElem.{PatternElem}
@@ -15,12 +15,15 @@ use Rattle.cedar_typing.specs.TypedExpr.{Source}
 
 -- ---- literals and variables
 
--- `true`, `false`
+-- a Boolean; `true`, `false`
+abbrev pub lit_of : Bool → Shape
+lit_of b = lit tt (bool b)
+
 abbrev pub true_lit : Shape
-true_lit = lit tt (bool true)
+true_lit = lit_of true
 
 abbrev pub false_lit : Shape
-false_lit = lit tt (bool false)
+false_lit = lit_of false
 
 -- a number; `1`, `2`, `3`
 abbrev pub num : ℤ → Shape

@@ -1,11 +1,11 @@
 -- What the expressions of the computed examples are evaluated in.
 use Rattle.std.specs.Prelude.{ℤ, pos, true, List, [], ◌∷◌, Some, None, codes}
 use Rattle.cedar_types.specs.declared.base.names.slots.SlotId.{SlotId}
-use Rattle.cedar_types.specs.Names.{Text, Uid}
+use Rattle.cedar_types.specs.Names.{Text, Path, Uid}
 use Rattle.cedar_types.specs.Values.{Value, VBool, VLong, VString, VEntity, VSet, VRecord, VExtension, Values, no_values, more_values}
-use Rattle.cedar_types.specs.Values.{no_entries, more_entries}
+use Rattle.cedar_types.specs.Values.{Entries, no_entries, more_entries}
 use Rattle.cedar_types.specs.Values.Stores.{Entity, Store}
-use Rattle.cedar_typing.specs.Evaluation.World.{Call, Interpretation, Slots, World}
+use Rattle.cedar_typing.specs.Evaluation.World.{Request, Call, Interpretation, Slots, World}
 use Rattle.cedar_typing.specs.Examples.World.{decimal, duration, ip_address, less_than, sum, alice, bob, gone, greet, meet, act}
 
 -- ---- values
@@ -67,9 +67,13 @@ abbrev pub sample_slots : Slots
 sample_slots SlotId.Principal = None
 sample_slots SlotId.Resource = Some bob
 
+-- a call of a function, and what it gives
+abbrev pub giving : Path → Values → Value → Call
+giving f vs v = record { function = f; arguments = vs; value = v }
+
 -- a call of `decimal` with one argument, and the decimal of the text t
 abbrev pub decimal_call : Value → Text → Call
-decimal_call v t = record { function = decimal; arguments = one_value v; value = a_decimal t }
+decimal_call v t = giving decimal (one_value v) (a_decimal t)
 
 -- `decimal` knows two texts, one of them twice, and one set of numbers; each other function knows one
 -- call; of 1.0 and 2.0 it is known how they compare
@@ -80,21 +84,10 @@ sample_functions = record {
       ∷ decimal_call (words (codes "2.0")) (codes "2.0")
       ∷ decimal_call (words (codes "1.0")) (codes "9.0")
       ∷ decimal_call (VSet (two_values (number (pos 1)) (number (pos 2)))) (codes "1.2")
-      ∷ record {
-        function = less_than;
-        arguments = two_values (a_decimal (codes "1.0")) (a_decimal (codes "2.0"));
-        value = VBool true;
-      }
-      ∷ record {
-        function = sum;
-        arguments = two_values (number (pos 1)) (number (pos 2));
-        value = number (pos 3);
-      }
-      ∷ record {
-        function = duration;
-        arguments = two_values (a_decimal (codes "1.0")) (number (pos 1));
-        value = VExtension duration (codes "2.0");
-      }
+      ∷ giving less_than (two_values (a_decimal (codes "1.0")) (a_decimal (codes "2.0"))) (VBool true)
+      ∷ giving sum (two_values (number (pos 1)) (number (pos 2))) (number (pos 3))
+      ∷ giving duration (two_values (a_decimal (codes "1.0")) (number (pos 1)))
+      (VExtension duration (codes "2.0"))
       ∷ [];
   overloaded_types = decimal ∷ duration ∷ [];
   less = (a_decimal (codes "1.0"), a_decimal (codes "2.0")) ∷ [];
@@ -104,17 +97,17 @@ sample_functions = record {
       ∷ [];
 }
 
+-- who asks to do what with what, in which context
+abbrev pub asks : Uid → Uid → Uid → Entries → Request
+asks p a r c = record { principal = p; action = a; resource = r; context = c }
+
 -- alice greets bob, and her friend is an entity that is not in the store
 abbrev pub greeting : World
 greeting = record {
-  request = record {
-    principal = alice;
-    action = greet;
-    resource = bob;
-    context =
-        more_entries (codes "address") (VExtension ip_address (codes "::1"))
-        (more_entries (codes "friend") (VEntity gone) no_entries);
-  };
+  request =
+      asks alice greet bob
+      (more_entries (codes "address") (VExtension ip_address (codes "::1"))
+      (more_entries (codes "friend") (VEntity gone) no_entries));
   slots = sample_slots;
   store = sample_store;
   functions = sample_functions;

@@ -2,7 +2,7 @@
 -- herself; her request comes with sets; no slot is bound; and the store has two entries of her, of
 -- which the second fits nothing. In another the resource is an action, and nothing is stored of the
 -- principal. Still all premises of the promises on a policy hold.
-use Rattle.std.specs.Prelude.{◌≡◌, true, false, [], ◌∷◌, Some, None, codes}
+use Rattle.std.specs.Prelude.{◌≡◌, true, false, List, [], ◌∷◌, Some, None, codes}
 use Rattle.cedar_types.specs.declared.base.names.slots.SlotId.{SlotId}
 use Rattle.cedar_types.specs.declared.base.types.BoolType.TheVariants.{AnyBool}
 use Rattle.cedar_types.specs.declared.base.types.ValidationMode.{ValidationMode}
@@ -10,7 +10,7 @@ use Rattle.cedar_types.specs.declared.base.types.ValidationMode.TheVariants.{Str
 use Rattle.cedar_types.specs.Extensions.Functions.{table_fault}
 use Rattle.cedar_types.specs.Schemas.Formed.{has_formed_types}
 use Rattle.cedar_types.specs.Names.{Uid, is_action_path}
-use Rattle.cedar_types.specs.Schemas.{StandardKind, DeclaredType, DeclaredAction, Schema, has_fault}
+use Rattle.cedar_types.specs.Schemas.{DeclaredType, DeclaredAction, Schema, has_fault}
 use Rattle.cedar_types.specs.Values.Stores.{Entity, Store, entity_at}
 use Rattle.cedar_types.specs.Templates.{to_entity, any, equal, typed_within, equal_action, PlainTemplate, condition_of}
 use Rattle.cedar_types.specs.Expressions.Tree.{Shape, and}
@@ -20,10 +20,10 @@ use Rattle.cedar_typing.specs.Evaluation.Eval.{eval}
 use Rattle.cedar_typing.specs.Evaluation.World.{World, MissingEntity, Gives, Fails}
 use Rattle.cedar_typing.specs.Examples.Composition.{template, a_user_type, the_entity}
 use Rattle.cedar_typing.specs.Examples.Expressions.{principal, context, text, dot, contains}
-use Rattle.cedar_typing.specs.Examples.Greeting.{words, one_value, two_values, stored_action, sample_functions}
+use Rattle.cedar_typing.specs.Examples.Greeting.{words, one_value, two_values, stored_action, sample_functions, asks}
 use Rattle.cedar_typing.specs.Examples.Permissive.{team, staff}
 use Rattle.cedar_typing.specs.Examples.PolicySoundness.{sample_basis, Passes}
-use Rattle.cedar_typing.specs.Examples.World.{user, alice, bob, gone, an_action_named, a_user}
+use Rattle.cedar_typing.specs.Examples.World.{user, alice, bob, gone, an_action_named, a_user, standard_type, requested, with_action}
 use Rattle.cedar_typing.specs.Soundness.Policies.{Basis, IsClosedIn, IsNamedBySchema, IsWellFormed, IsConforming}
 
 -- every premise of what is promised of a policy that passes, in a mode
@@ -45,15 +45,11 @@ visit = an_action_named (codes "visit")
 
 -- users are active or not, and may be in teams
 abbrev pub declared_visitor : DeclaredType
-declared_visitor = record {
-  name = user;
-  descendants = [];
-  kind = StandardKind (attr (codes "active") (TBool AnyBool) true no_attrs) None;
-}
+declared_visitor =
+    standard_type user [] (attr (codes "active") (TBool AnyBool) true no_attrs) None
 
 abbrev pub declared_team : DeclaredType
-declared_team =
-    record { name = team; descendants = user ∷ []; kind = StandardKind no_attrs None }
+declared_team = standard_type team (user ∷ []) no_attrs None
 
 -- `{by: Set<User>, notes: {labels: Set<String>}}`
 abbrev pub visit_context : Ty
@@ -66,22 +62,10 @@ visit_context =
 
 -- users visit users, and the action itself
 abbrev pub declared_visit : DeclaredAction
-declared_visit = record {
-  name = visit;
-  descendants = [];
-  applies_to =
-      Some (record {
-        principals = user ∷ [];
-        resources = user ∷ visit.entity_type ∷ [];
-        context = visit_context;
-      });
-}
+declared_visit = requested visit (user ∷ []) (user ∷ visit.entity_type ∷ []) visit_context
 
 abbrev pub visit_schema : Schema
-visit_schema = record {
-  types = declared_visitor ∷ declared_team ∷ [];
-  actions = declared_visit ∷ [];
-}
+visit_schema = with_action (declared_visitor ∷ declared_team ∷ []) declared_visit
 
 -- with the sample functions, in a mode
 abbrev pub visit_basis : ValidationMode → Basis
@@ -89,13 +73,17 @@ visit_basis m = record (sample_basis m) { schema = visit_schema }
 
 -- ---- the worlds
 
--- alice is active, and in the staff
-abbrev pub stored_alice : Entity
-stored_alice = record {
+-- an active user, who is in these
+abbrev pub active_in : List Uid → Entity
+active_in us = record {
   attributes = more_entries (codes "active") (VBool true) no_entries;
-  ancestors = staff ∷ [];
+  ancestors = us;
   tags = no_entries;
 }
+
+-- alice is active, and in the staff
+abbrev pub stored_alice : Entity
+stored_alice = active_in (staff ∷ [])
 
 -- what no user may have
 abbrev pub unread : Entity
@@ -106,11 +94,7 @@ unread = record {
 }
 
 abbrev pub stored_bob : Entity
-stored_bob = record {
-  attributes = more_entries (codes "active") (VBool true) no_entries;
-  ancestors = [];
-  tags = no_entries;
-}
+stored_bob = active_in []
 
 abbrev pub visit_store : Store
 visit_store =
@@ -123,17 +107,13 @@ visit_store =
 -- alice visits herself, by alice and by an entity that is not stored
 abbrev pub visiting : World
 visiting = record {
-  request = record {
-    principal = alice;
-    action = visit;
-    resource = alice;
-    context =
-        more_entries (codes "by") (VSet (two_values (VEntity alice) (VEntity gone)))
-        (more_entries (codes "notes")
-        (VRecord
-        (more_entries (codes "labels") (VSet (one_value (words (codes "new")))) no_entries))
-        no_entries);
-  };
+  request =
+      asks alice visit alice
+      (more_entries (codes "by") (VSet (two_values (VEntity alice) (VEntity gone)))
+      (more_entries (codes "notes")
+      (VRecord
+      (more_entries (codes "labels") (VSet (one_value (words (codes "new")))) no_entries))
+      no_entries));
   slots = λ x. None;
   store = visit_store;
   functions = sample_functions;

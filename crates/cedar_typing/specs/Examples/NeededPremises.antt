@@ -17,15 +17,15 @@ use Rattle.cedar_types.specs.Values.{no_entries, more_entries}
 use Rattle.cedar_typing.specs.Composition.{SlotsInScopeAlone}
 use Rattle.cedar_typing.specs.Evaluation.Conformance.{ConformingRequest, SlotsBound, KeepsTable}
 use Rattle.cedar_typing.specs.Evaluation.Eval.{eval}
-use Rattle.cedar_typing.specs.Evaluation.World.{World, TypeFailure, AbsentAttribute, UnlinkedSlot, UnknownValue, Fails}
+use Rattle.cedar_typing.specs.Evaluation.World.{World, Failure, TypeFailure, AbsentAttribute, UnlinkedSlot, UnknownValue, Fails}
 use Rattle.cedar_typing.specs.Examples.Composition.{template, the_entity, slot_is_robot, robots_template, robot_greeting}
 use Rattle.cedar_typing.specs.Examples.Expressions.{true_lit, false_lit, one, two, the, principal, text, dot, has, has_tag, less, record1}
 use Rattle.cedar_typing.specs.Examples.Expressions.{decimal_one, decimal_two, mistyped}
-use Rattle.cedar_typing.specs.Examples.Greeting.{number, words, one_value, sample_functions, stored_alice, stored_action, sample_store}
+use Rattle.cedar_typing.specs.Examples.Greeting.{number, words, one_value, giving, sample_functions, stored_alice, stored_action, sample_store}
 use Rattle.cedar_typing.specs.Examples.Greeting.{greeting}
 use Rattle.cedar_typing.specs.Examples.PolicySoundness.{sample_basis, Passes, PassesWarned, policy_when, meeting}
 use Rattle.cedar_typing.specs.Examples.World.{named, robot, group, decimal, alice, bob, greet, wave, declared_user, declared_greet}
-use Rattle.cedar_typing.specs.Examples.World.{sample_schema}
+use Rattle.cedar_typing.specs.Examples.World.{with_action, sample_schema}
 use Rattle.cedar_typing.specs.Soundness.Policies.{Basis, IsClosedIn, IsNamedBySchema, IsWellFormed, IsConforming}
 use Rattle.cedar_typing.specs.Silence.{HasNoUnknowns}
 use Rattle.cedar_typing.specs.Soundness.PolicyCheck.{IsBooleanOrAllowed}
@@ -39,6 +39,17 @@ pub record IsAsAskedIn (m : ValidationMode) (world : World) : Type 0 where
 -- the outcome of the policy's condition is what a policy that passes never has
 abbrev pub BreaksPromise : World → PlainTemplate → Type 0
 BreaksPromise world t = IsBooleanOrAllowed (eval world (condition_of t)) → ⊥
+
+-- a policy that passes in a mode, as it is said, and goes wrong in a world by this failure; of it, of
+-- the mode and of the schema all holds
+pub record GoesWrongIn (m : ValidationMode) (Passing : Basis → PlainTemplate → Type 0)
+    (t : PlainTemplate) (world : World) (f : Failure) : Type 0 where
+  pub basis : IsClosedIn m (sample_basis m)
+  pub passes : Passing (sample_basis m) t
+  pub named : IsNamedBySchema sample_schema t
+  pub well_formed : IsWellFormed t world.slots
+  pub wrong : eval world (condition_of t) ≡ Fails f
+  pub broken : BreaksPromise world t
 
 -- ---- names and unknowns
 
@@ -126,14 +137,9 @@ a_robot_greets = record meeting {
 }
 
 pub record RequestsMustConformIn (m : ValidationMode) : Type 0 where
-  pub basis : IsClosedIn m (sample_basis m)
-  pub passes : PassesWarned (sample_basis m) robots_only
-  pub named : IsNamedBySchema sample_schema robots_only
-  pub well_formed : IsWellFormed robots_only a_robot_greets.slots
+  pub goes_wrong : GoesWrongIn m PassesWarned robots_only a_robot_greets TypeFailure
   pub store : ConformingStore sample_schema a_robot_greets.store
   pub functions : KeepsTable (sample_basis m).table a_robot_greets.functions
-  pub wrong : eval a_robot_greets (condition_of robots_only) ≡ Fails TypeFailure
-  pub broken : BreaksPromise a_robot_greets robots_only
 
 -- `principal.age < 1`, and alice's age is a text
 abbrev pub young : PlainTemplate
@@ -151,14 +157,9 @@ age_in_words = record meeting {
 }
 
 pub record StoresMustConformIn (m : ValidationMode) : Type 0 where
-  pub basis : IsClosedIn m (sample_basis m)
-  pub passes : Passes (sample_basis m) young
-  pub named : IsNamedBySchema sample_schema young
-  pub well_formed : IsWellFormed young age_in_words.slots
+  pub goes_wrong : GoesWrongIn m Passes young age_in_words TypeFailure
   pub request : ConformingRequest sample_schema age_in_words.request
   pub functions : KeepsTable (sample_basis m).table age_in_words.functions
-  pub wrong : eval age_in_words (condition_of young) ≡ Fails TypeFailure
-  pub broken : BreaksPromise age_in_words young
 
 -- `decimal("1.0") < decimal("2.0")`, where the first of the two is a number
 abbrev pub decimals_in_order : PlainTemplate
@@ -167,25 +168,14 @@ decimals_in_order = policy_when (less decimal_one decimal_two)
 abbrev pub with_a_number : World
 with_a_number = record meeting {
   functions = record sample_functions {
-    calls =
-        record {
-          function = decimal;
-          arguments = one_value (words (codes "1.0"));
-          value = number (pos 1);
-        }
-        ∷ sample_functions.calls;
+    calls = giving decimal (one_value (words (codes "1.0"))) (number (pos 1)) ∷ sample_functions.calls;
   };
 }
 
 pub record FunctionsMustKeepTheTableIn (m : ValidationMode) : Type 0 where
-  pub basis : IsClosedIn m (sample_basis m)
-  pub passes : Passes (sample_basis m) decimals_in_order
-  pub named : IsNamedBySchema sample_schema decimals_in_order
-  pub well_formed : IsWellFormed decimals_in_order with_a_number.slots
+  pub goes_wrong : GoesWrongIn m Passes decimals_in_order with_a_number TypeFailure
   pub request : ConformingRequest sample_schema with_a_number.request
   pub store : ConformingStore sample_schema with_a_number.store
-  pub wrong : eval with_a_number (condition_of decimals_in_order) ≡ Fails TypeFailure
-  pub broken : BreaksPromise with_a_number decimals_in_order
 
 -- ---- external types
 
@@ -198,10 +188,7 @@ declared_guest = record { name = guest; descendants = []; kind = ExternalKind }
 
 abbrev pub guest_basis : ValidationMode → Basis
 guest_basis m = record (sample_basis m) {
-  schema = record {
-    types = declared_user ∷ declared_guest ∷ [];
-    actions = declared_greet ∷ [];
-  };
+  schema = with_action (declared_user ∷ declared_guest ∷ []) declared_greet;
 }
 
 -- a guest, who has a tag
@@ -257,12 +244,8 @@ attribute_of_one =
     two)
 
 pub record PartialGoesWrong : Type 0 where
-  pub others : IsAsAskedIn Partial meeting
-  pub passes : Passes (sample_basis Partial) attribute_of_one
-  pub named : IsNamedBySchema sample_schema attribute_of_one
-  pub well_formed : IsWellFormed attribute_of_one meeting.slots
-  pub wrong : eval meeting (condition_of attribute_of_one) ≡ Fails AbsentAttribute
-  pub broken : BreaksPromise meeting attribute_of_one
+  pub goes_wrong : GoesWrongIn Partial Passes attribute_of_one meeting AbsentAttribute
+  pub conforming : IsConforming (sample_basis Partial) meeting
 
 -- ---- all of them
 

@@ -10,21 +10,22 @@ use Rattle.cedar_types.specs.Types.Bounds.{find_attr, wide_lub, with_bound, lub}
 use Rattle.cedar_types.specs.Schemas.Formed.{has_formed_types}
 use Rattle.cedar_types.specs.Names.{Text, Path, Uid}
 use Rattle.cedar_types.specs.Environments.RequestEnvs.{Env, Declared}
-use Rattle.cedar_types.specs.Schemas.{StandardKind, DeclaredType, DeclaredAction, Schema, has_fault}
+use Rattle.cedar_types.specs.Schemas.{DeclaredType, DeclaredAction, Schema, has_fault}
 use Rattle.cedar_types.specs.Values.Stores.{Entity, Store}
 use Rattle.cedar_types.specs.Templates.{PlainTemplate, condition_of}
 use Rattle.cedar_types.specs.Expressions.Tree.{Shape, var, and, if_then_else}
 use Rattle.cedar_types.specs.Types.{Ty, TBool, TLong, TString, TRecord, TEntity, Attrs, no_attrs, attr}
-use Rattle.cedar_types.specs.Values.{VBool, VEntity, VRecord, no_entries, more_entries, HasType}
+use Rattle.cedar_types.specs.Values.{VBool, VEntity, VRecord, Entries, no_entries, more_entries, HasType}
 use Rattle.cedar_typing.specs.Evaluation.Conformance.{SlotsBound}
 use Rattle.cedar_typing.specs.Evaluation.Eval.{eval}
 use Rattle.cedar_typing.specs.Evaluation.World.{World, TypeFailure, Gives, Fails}
 use Rattle.cedar_typing.specs.Examples.Expressions.{true_lit, one, two, principal, context, text, dot, has, record1, record2, equal}
 use Rattle.cedar_typing.specs.Examples.Expressions.{has_tag, get_tag, mistyped}
-use Rattle.cedar_typing.specs.Examples.Greeting.{number, words, stored_action}
+use Rattle.cedar_typing.specs.Examples.Greeting.{number, words, stored_action, asks}
 use Rattle.cedar_typing.specs.Examples.NeededPremises.{BreaksPromise}
 use Rattle.cedar_typing.specs.Examples.PolicySoundness.{sample_basis, Passes, PassesWarned, policy_when, meeting}
-use Rattle.cedar_typing.specs.Examples.World.{named, user, alice, bob, greet, an_action_named, declared_user}
+use Rattle.cedar_typing.specs.Examples.World.{named, user, alice, bob, greet, an_action_named, standard_type, declared_user}
+use Rattle.cedar_typing.specs.Examples.World.{requested, no_context, with_action}
 use Rattle.cedar_typing.specs.PolicyCheck.{Verdict, policy_check}
 use Rattle.cedar_typing.specs.PolicyCheck.Outcome.{all_pass}
 use Rattle.cedar_typing.specs.Soundness.Policies.{Basis, IsClosedIn, IsNamedBySchema, IsWellFormed, IsConforming, setting_on}
@@ -54,36 +55,16 @@ team_attributes =
     (attr (codes "name") TString true (attr (codes "size") TLong true no_attrs))
 
 abbrev pub declared_member : DeclaredType
-declared_member = record {
-  name = user;
-  descendants = [];
-  kind = StandardKind member_attributes (Some TString);
-}
+declared_member = standard_type user [] member_attributes (Some TString)
 
 abbrev pub declared_team : DeclaredType
-declared_team = record {
-  name = team;
-  descendants = [];
-  kind = StandardKind team_attributes (Some TString);
-}
+declared_team = standard_type team [] team_attributes (Some TString)
 
 abbrev pub declared_join : DeclaredAction
-declared_join = record {
-  name = join;
-  descendants = [];
-  applies_to =
-      Some (record {
-        principals = user ∷ [];
-        resources = team ∷ [];
-        context = TRecord no_attrs false;
-      });
-}
+declared_join = requested join (user ∷ []) (team ∷ []) no_context
 
 abbrev pub team_schema : Schema
-team_schema = record {
-  types = declared_team ∷ declared_member ∷ [];
-  actions = declared_join ∷ [];
-}
+team_schema = with_action (declared_team ∷ declared_member ∷ []) declared_join
 
 abbrev pub team_basis : ValidationMode → Basis
 team_basis m = record (sample_basis m) { schema = team_schema }
@@ -92,27 +73,24 @@ team_basis m = record (sample_basis m) { schema = team_schema }
 abbrev pub joins : Env
 joins =
     Declared
-    (record { principal = user; action = join; resource = team; context = TRecord no_attrs false })
+    (record { principal = user; action = join; resource = team; context = no_context })
     None None
+
+-- a user whose lead is bob, an admin or not, with these tags
+abbrev pub led_by_bob : Bool → Entries → Entity
+led_by_bob b ts = record {
+  attributes =
+      more_entries (codes "admin") (VBool b) (more_entries (codes "lead") (VEntity bob) no_entries);
+  ancestors = [];
+  tags = ts;
+}
 
 -- alice is an admin, has bob as her lead, and the tag `role`; bob is none, and his own lead
 abbrev pub member_alice : Entity
-member_alice = record {
-  attributes =
-      more_entries (codes "admin") (VBool true)
-      (more_entries (codes "lead") (VEntity bob) no_entries);
-  ancestors = [];
-  tags = more_entries (codes "role") (words (codes "owner")) no_entries;
-}
+member_alice = led_by_bob true (more_entries (codes "role") (words (codes "owner")) no_entries)
 
 abbrev pub member_bob : Entity
-member_bob = record {
-  attributes =
-      more_entries (codes "admin") (VBool false)
-      (more_entries (codes "lead") (VEntity bob) no_entries);
-  ancestors = [];
-  tags = no_entries;
-}
+member_bob = led_by_bob false no_entries
 
 abbrev pub team_store : Store
 team_store = (alice, member_alice) ∷ (bob, member_bob) ∷ (join, stored_action []) ∷ []
@@ -120,8 +98,7 @@ team_store = (alice, member_alice) ∷ (bob, member_bob) ∷ (join, stored_actio
 -- alice joins the staff, of which nothing is stored
 abbrev pub joining : World
 joining = record meeting {
-  request =
-      record { principal = alice; action = join; resource = staff; context = no_entries };
+  request = asks alice join staff no_entries;
   store = team_store;
 }
 
@@ -215,21 +192,8 @@ twice_context =
     false
 
 abbrev pub twice_schema : Schema
-twice_schema = record {
-  types = declared_user ∷ [];
-  actions =
-      record {
-        name = greet;
-        descendants = [];
-        applies_to =
-            Some (record {
-              principals = user ∷ [];
-              resources = user ∷ [];
-              context = twice_context;
-            });
-      }
-      ∷ [];
-}
+twice_schema =
+    with_action (declared_user ∷ []) (requested greet (user ∷ []) (user ∷ []) twice_context)
 
 abbrev pub twice_basis : Basis
 twice_basis = record (sample_basis Permissive) { schema = twice_schema }
@@ -249,17 +213,18 @@ twice_greeting = record meeting {
   store = (greet, stored_action []) ∷ [];
 }
 
--- `(if resource has vip then context.twice else context.both) has b && 1 + true`: the bound of both
--- records is closed, since their numbers of attributes agree, and has no `b`
-abbrev pub has_b_goes_wrong : PlainTemplate
-has_b_goes_wrong =
-    policy_when
-    (and tt
-    (has
+-- `(if resource has vip then context.twice else context.both) has b`: the bound of both records is
+-- closed, since their numbers of attributes agree, and has no `b`
+abbrev pub either_has_b : Shape
+either_has_b =
+    has
     (if_then_else tt (has (var tt Var.Resource) (codes "vip")) (dot context (codes "twice"))
     (dot context (codes "both")))
-    (codes "b"))
-    mistyped)
+    (codes "b")
+
+-- that, and `1 + true`
+abbrev pub has_b_goes_wrong : PlainTemplate
+has_b_goes_wrong = policy_when (and tt either_has_b mistyped)
 
 -- all premises hold but that one, and the policy goes wrong
 pub record FormIsNeeded : Type 0 where

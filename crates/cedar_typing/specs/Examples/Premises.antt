@@ -7,7 +7,7 @@ use Rattle.cedar_types.specs.declared.base.names.slots.SlotId.{SlotId}
 use Rattle.cedar_types.specs.declared.base.types.ValidationMode.TheVariants.{Strict}
 use Rattle.cedar_types.specs.Names.{Path}
 use Rattle.cedar_types.specs.Expressions.Tree.{Shape, if_then_else, and, or, unary, slot, var}
-use Rattle.cedar_types.specs.Templates.{PlainTemplate, any, any_action, condition_of}
+use Rattle.cedar_types.specs.Templates.{PlainTemplate, any, condition_of}
 use Rattle.cedar_types.specs.Capability.{attribute}
 use Rattle.cedar_types.specs.Extensions.Functions.{table_fault}
 use Rattle.cedar_types.specs.Schemas.{has_fault}
@@ -15,9 +15,10 @@ use Rattle.cedar_types.specs.Values.{VBool}
 use Rattle.cedar_typing.specs.Evaluation.Conformance.{ConformingRequest, FitsSlot, SlotsBound, KeepsTable, Holds, AllHold}
 use Rattle.cedar_typing.specs.Evaluation.Eval.{eval}
 use Rattle.cedar_typing.specs.Evaluation.World.{Interpretation, Gives, MissingEntity, Fails}
+use Rattle.cedar_typing.specs.Examples.Composition.{template}
 use Rattle.cedar_typing.specs.Examples.Expressions.{false_lit, context, dot, has, has_vip, get_vip, call2, decimal_one, decimal_two, node}
 use Rattle.cedar_typing.specs.Examples.Expressions.{numbered}
-use Rattle.cedar_typing.specs.Examples.Greeting.{number, words, one_value, sample_slots, sample_functions, greeting}
+use Rattle.cedar_typing.specs.Examples.Greeting.{number, words, one_value, giving, sample_slots, sample_functions, greeting}
 use Rattle.cedar_typing.specs.Examples.Rules.{marked_principal}
 use Rattle.cedar_typing.specs.Examples.World.{decimal, duration, ip_address, less_than, greet, sample_schema, decimal_function}
 use Rattle.cedar_typing.specs.Examples.World.{extension_functions, sample}
@@ -39,14 +40,7 @@ guarded =
 
 -- `permit(principal, action, resource) when { .. }` with that
 abbrev pub guarded_policy : PlainTemplate
-guarded_policy = record {
-  id = codes "policy0";
-  place = (node 0).place;
-  principal = any;
-  action = any_action;
-  resource = any;
-  rest = Some (numbered guarded);
-}
+guarded_policy = template any any (Some guarded)
 
 abbrev pub guarded_condition : Source
 guarded_condition = condition_of guarded_policy
@@ -58,13 +52,7 @@ friends_age = numbered (dot (dot context (codes "friend")) (codes "age"))
 -- the extension functions where `decimal("1.0")` is 1, and where these types are compared
 abbrev pub giving_a_number : Interpretation
 giving_a_number = record sample_functions {
-  calls =
-      record {
-        function = decimal;
-        arguments = one_value (words (codes "1.0"));
-        value = number (pos 1);
-      }
-      ∷ [];
+  calls = giving decimal (one_value (words (codes "1.0"))) (number (pos 1)) ∷ [];
 }
 
 abbrev pub comparing : List Path → Interpretation

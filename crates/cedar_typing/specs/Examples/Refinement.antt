@@ -1,18 +1,17 @@
 -- Where Strict is kept in Permissive and where not: types in which a name comes twice, which no type of the program has, and what
 -- Permissive says beyond.
-use Rattle.std.specs.Prelude.{◌≡◌, true, false, Some, None, codes}
+use Rattle.std.specs.Prelude.{◌≡◌, true, false, Some, codes}
 use Rattle.cedar_types.specs.declared.base.types.BoolType.{BoolType}
 use Rattle.cedar_types.specs.declared.base.types.BoolType.TheVariants.{AnyBool, True, False}
 use Rattle.cedar_types.specs.declared.base.types.ValidationMode.{ValidationMode}
 use Rattle.cedar_types.specs.declared.base.types.ValidationMode.TheVariants.{Strict, Permissive}
-use Rattle.cedar_types.specs.Environments.RequestEnvs.{Declared}
 use Rattle.cedar_types.specs.Types.{Ty, TLong, TBool, TSet, TRecord, attr, no_attrs}
 use Rattle.cedar_types.specs.Types.Bounds.{lub}
 use Rattle.cedar_types.specs.Expressions.Tree.{Shape}
 use Rattle.cedar_typing.specs.Capabilities.{no_caps}
 use Rattle.cedar_typing.specs.Examples.Expressions.{context, dot, set2, numbered}
 use Rattle.cedar_typing.specs.Examples.Rules.{IsTypedIn}
-use Rattle.cedar_typing.specs.Examples.World.{user, greet, sample, sample_env}
+use Rattle.cedar_typing.specs.Examples.World.{in_context}
 use Rattle.cedar_typing.specs.Refinement.{IsKept}
 use Rattle.cedar_typing.specs.Setting.{Setting}
 
@@ -26,22 +25,10 @@ one_a = TRecord (attr (codes "a") TLong true no_attrs) true
 
 -- a context with two such records, in an environment that a host makes
 abbrev pub with_twice : ValidationMode → Setting
-with_twice m = record (sample m) {
-  env = record (sample_env m) {
-    request_env =
-        Declared
-        (record {
-          principal = user;
-          action = greet;
-          resource = user;
-          context =
-              TRecord
-              (attr (codes "one") (twice True) true (attr (codes "other") (twice False) true no_attrs))
-              false;
-        })
-        None None;
-  };
-}
+with_twice m =
+    in_context m
+    (TRecord
+    (attr (codes "one") (twice True) true (attr (codes "other") (twice False) true no_attrs)) false)
 
 -- `[context.one, context.other]`
 abbrev pub both_records : Shape

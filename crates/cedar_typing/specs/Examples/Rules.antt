@@ -54,6 +54,18 @@ pub record FailsWithIn (s : Setting) (e : Shape) (x : TypedTree) (es : List Find
 abbrev pub FailsWith : Shape → TypedTree → List Finding → Type 0
 FailsWith = FailsWithIn (sample Strict)
 
+-- an expression that fails, how it is typed, and its errors
+abbrev pub Failing : Type 0
+Failing = Shape × (TypedTree × List Finding)
+
+abbrev pub EachFails : List Failing → Type 0
+EachFails [] = Unit {0}
+EachFails (x ∷ xs) = FailsWith x.0 x.1.0 x.1.1 × EachFails xs
+
+-- each of these does
+pub record AllFail (xs : List Failing) : Type 0 where
+  pub each : EachFails xs
+
 -- e has that type, and hands on nothing
 pub record IsTypedIn (s : Setting) (e : Shape) (t : Ty) : Type 0 where
   pub copy : TypedTree
@@ -62,17 +74,7 @@ pub record IsTypedIn (s : Setting) (e : Shape) (t : Ty) : Type 0 where
 abbrev pub IsTyped : Shape → Ty → Type 0
 IsTyped = IsTypedIn (sample Strict)
 
--- e fails with these errors, and this type stays, if one does
-pub record IsRefusedIn (s : Setting) (e : Shape) (t : Option Ty) (es : List Finding) :
-    Type 0 where
-  pub copy : TypedTree
-  pub stays : annotation copy ≡ t
-  pub recovers : Recovers s (numbered e) no_caps 1 copy es
-
-abbrev pub IsRefused : Shape → Option Ty → List Finding → Type 0
-IsRefused = IsRefusedIn (sample Strict)
-
--- the same where p is known
+-- where p is known, e fails with these errors, and this type stays, if one does
 pub record IsRefusedKnowingIn (s : Setting) (p : Caps) (e : Shape) (t : Option Ty)
     (es : List Finding) : Type 0 where
   pub copy : TypedTree
@@ -81,6 +83,13 @@ pub record IsRefusedKnowingIn (s : Setting) (p : Caps) (e : Shape) (t : Option T
 
 abbrev pub IsRefusedKnowing : Caps → Shape → Option Ty → List Finding → Type 0
 IsRefusedKnowing = IsRefusedKnowingIn (sample Strict)
+
+-- the same where nothing is known
+abbrev pub IsRefusedIn : Setting → Shape → Option Ty → List Finding → Type 0
+IsRefusedIn s = IsRefusedKnowingIn s no_caps
+
+abbrev pub IsRefused : Shape → Option Ty → List Finding → Type 0
+IsRefused = IsRefusedIn (sample Strict)
 
 -- at the depth d a part of e is too deep, and these errors were found
 pub record CutsAt (d : ℕ) (e : Shape) (es : List Finding) : Type 0 where

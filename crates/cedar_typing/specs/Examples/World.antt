@@ -1,5 +1,5 @@
 -- What the expressions of the computed examples are typed in: a schema and extension functions.
-use Rattle.std.specs.Prelude.{true, false, List, [], ◌∷◌, Option, Some, None, codes}
+use Rattle.std.specs.Prelude.{true, false, Bool, List, [], ◌∷◌, Option, Some, None, codes}
 use Rattle.cedar_types.specs.declared.base.types.BoolType.TheVariants.{AnyBool}
 use Rattle.cedar_types.specs.declared.base.types.ValidationMode.{ValidationMode}
 use Rattle.cedar_types.specs.declared.base.types.ValidationMode.TheVariants.{Strict, Partial}
@@ -8,6 +8,7 @@ use Rattle.cedar_types.specs.Types.{Ty, TBool, TLong, TString, TRecord, TEntity,
 use Rattle.cedar_types.specs.Expressions.Tree.{string, lit}
 use Rattle.cedar_types.specs.Extensions.Functions.{ExtensionFunction}
 use Rattle.cedar_types.specs.Schemas.{StandardKind, DeclaredType, DeclaredAction, Schema}
+use Rattle.cedar_types.specs.Environments.{DeclaredEnv}
 use Rattle.cedar_types.specs.Environments.RequestEnvs.{Declared, Undeclared}
 use Rattle.cedar_typing.specs.Setting.{Setting}
 use Rattle.cedar_typing.specs.TypeEnv.{TypeEnv}
@@ -111,36 +112,45 @@ a_context =
     (attr (codes "note") TString false no_attrs)))
     false
 
+-- a type with these attributes and these tags, and the types that may be in it
+abbrev pub standard_type : Path → List Path → Attrs → Option Ty → DeclaredType
+standard_type n ns xs t = record { name = n; descendants = ns; kind = StandardKind xs t }
+
 -- users may be in users, and have tags that are strings
 abbrev pub declared_user : DeclaredType
-declared_user = record {
-  name = user;
-  descendants = user ∷ [];
-  kind = StandardKind user_attributes (Some TString);
-}
+declared_user = standard_type user (user ∷ []) user_attributes (Some TString)
 
 -- robots have tags that are numbers, and nothing else
 abbrev pub declared_robot : DeclaredType
-declared_robot =
-    record { name = robot; descendants = []; kind = StandardKind no_attrs (Some TLong) }
+declared_robot = standard_type robot [] no_attrs (Some TLong)
+
+-- an action that these do with those in such a context, and that stands for no other
+abbrev pub requested : Uid → List Path → List Path → Ty → DeclaredAction
+requested u ps rs t = record {
+  name = u;
+  descendants = [];
+  applies_to = Some (record { principals = ps; resources = rs; context = t });
+}
 
 -- users greet users
 abbrev pub declared_greet : DeclaredAction
-declared_greet = record {
-  name = greet;
-  descendants = [];
-  applies_to =
-      Some (record { principals = user ∷ []; resources = user ∷ []; context = a_context });
-}
+declared_greet = requested greet (user ∷ []) (user ∷ []) a_context
+
+-- a request comes with nothing
+abbrev pub no_context : Ty
+no_context = TRecord no_attrs false
 
 -- an action that stands for others, and is not requested itself
 abbrev pub declared_group : Uid → List Uid → DeclaredAction
 declared_group u us = record {
   name = u;
   descendants = us;
-  applies_to =
-      Some (record { principals = []; resources = []; context = TRecord no_attrs false });
+  applies_to = Some (record { principals = []; resources = []; context = no_context });
 }
+
+-- a schema with one action
+abbrev pub with_action : List DeclaredType → DeclaredAction → Schema
+with_action ts a = record { types = ts; actions = a ∷ [] }
 
 abbrev pub sample_schema : Schema
 sample_schema = record {
@@ -165,45 +175,33 @@ abbrev pub refuses_empty : List Source → Option Text
 refuses_empty (lit m (string []) ∷ es) = Some (codes "empty")
 refuses_empty es = None
 
+-- a function of arguments of these types to one of that type, variadic or not, without a check
+abbrev pub unchecked : Path → List Ty → Bool → Ty → ExtensionFunction
+unchecked f ts variadic t = record {
+  name = f;
+  argument_types = ts;
+  is_variadic = variadic;
+  return_type = t;
+  check = None;
+}
+
 -- `decimal` of a text, with that check
 abbrev pub decimal_function : ExtensionFunction
-decimal_function = record {
-  name = decimal;
-  argument_types = TString ∷ [];
-  is_variadic = false;
-  return_type = decimal_type;
+decimal_function = record (unchecked decimal (TString ∷ []) false decimal_type) {
   check = Some refuses_empty;
 }
 
 -- `lessThan` of two decimals
 abbrev pub less_than_function : ExtensionFunction
-less_than_function = record {
-  name = less_than;
-  argument_types = decimal_type ∷ decimal_type ∷ [];
-  is_variadic = false;
-  return_type = TBool AnyBool;
-  check = None;
-}
+less_than_function = unchecked less_than (decimal_type ∷ decimal_type ∷ []) false (TBool AnyBool)
 
 -- `sum` of one number or more
 abbrev pub sum_function : ExtensionFunction
-sum_function = record {
-  name = sum;
-  argument_types = TLong ∷ [];
-  is_variadic = true;
-  return_type = TLong;
-  check = None;
-}
+sum_function = unchecked sum (TLong ∷ []) true TLong
 
 -- `duration` of a decimal, and of one number or more that are added to it
 abbrev pub duration_function : ExtensionFunction
-duration_function = record {
-  name = duration;
-  argument_types = decimal_type ∷ TLong ∷ [];
-  is_variadic = true;
-  return_type = duration_type;
-  check = None;
-}
+duration_function = unchecked duration (decimal_type ∷ TLong ∷ []) true duration_type
 
 abbrev pub extension_functions : List ExtensionFunction
 extension_functions =
@@ -211,15 +209,17 @@ extension_functions =
 
 -- ---- what expressions are typed in
 
+-- users greet users in such a context
+abbrev pub users_greet : Ty → DeclaredEnv
+users_greet t = record { principal = user; action = greet; resource = user; context = t }
+
 -- users greet users; `?resource` is linked to a user, and `?principal` is not linked; of the
 -- extension types decimals and durations are compared by `<` and `<=`
 abbrev pub sample_env : ValidationMode → TypeEnv
 sample_env m = record {
   schema = sample_schema;
   mode = m;
-  request_env =
-      Declared (record { principal = user; action = greet; resource = user; context = a_context })
-      None (Some user);
+  request_env = Declared (users_greet a_context) None (Some user);
   overloaded_types = decimal ∷ duration ∷ [];
   policy = codes "policy0";
 }
@@ -232,10 +232,14 @@ sample m = record { env = sample_env m; functions = extension_functions }
 abbrev pub unknown_action : Setting
 unknown_action = record (sample Strict) {
   env = record (sample_env Strict) {
-    request_env =
-        Declared (record { principal = user; action = wave; resource = user; context = a_context })
-        None (Some user);
+    request_env = Declared (record (users_greet a_context) { action = wave }) None (Some user);
   };
+}
+
+-- the same, where a request comes with another context, and no slot is linked
+abbrev pub in_context : ValidationMode → Ty → Setting
+in_context m t = record (sample m) {
+  env = record (sample_env m) { request_env = Declared (users_greet t) None None };
 }
 
 -- the environment of undeclared actions, in Partial

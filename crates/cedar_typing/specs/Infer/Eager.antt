@@ -69,6 +69,10 @@ infer_form f (cut_after xs) es = (limit, es ++ f.at_limit (types_found xs))
 abbrev pub infer_eager : Form → (List Finding → OperandsAndErrors) → List Finding → AnswerAndErrors
 infer_eager f operands es = infer_form f (operands es).0 (operands es).1
 
+-- by what its one operand results in
+abbrev pub infer_of_one : Form → Option Part → List Finding → AnswerAndErrors
+infer_of_one f p = infer_eager f (λ es. infer_rest f.goes_on p es infer_none)
+
 -- a form with one operand, at l
 abbrev pub infer_one_operand : TypeEnv → Form → Option Loc
     → (List Finding → AnswerAndErrors) → List Finding → AnswerAndErrors

@@ -1,9 +1,9 @@
 // Capabilities that typing hands on.
 ghost use Rattle.std.specs.Prelude.{◌≡◌, IfOk};
-ghost use Rattle.cedar_types.specs.Capability.{caps, caps_so_far, cap_of};
+ghost use Rattle.cedar_types.specs.Capability.{caps, cap_of};
 ghost use Rattle.cedar_typing.specs.Capabilities.{no_caps, single, union, intersection};
 
-use cedar_types::types::capability::{Capability, CapabilitySet, CapabilitySetBuilder};
+use cedar_types::types::capability::{Capability, CapabilitySet};
 use std::alloc::{AllocError, Global};
 
 /// No capabilities. It takes no memory.
@@ -42,21 +42,4 @@ pub(crate) fn intersection_of<'a>(
     ensures { IfOk result (λ r. caps r ≡ intersection (caps one.now) (caps other.now)) }
 {
     one.intersect(alloc, other)
-}
-
-/// None so far, of those that are collected one after another. It takes no memory.
-pub(crate) fn none_so_far<'a>(alloc: Global) -> CapabilitySetBuilder<'a>
-    ensures { caps_so_far result ≡ no_caps }
-{
-    CapabilitySetBuilder::new(alloc)
-}
-
-/// The set of those that were collected.
-pub(crate) fn set_of<'a>(
-    alloc: Global,
-    collected: CapabilitySetBuilder<'a>,
-) -> Result<CapabilitySet<'a>, AllocError>
-    ensures { IfOk result (λ r. caps r ≡ caps_so_far collected.entry) }
-{
-    collected.build(alloc)
 }

@@ -26,7 +26,8 @@ impl<C: ArgumentCheck> SingleEnvTypechecker<'_, '_, '_, '_, C> {
     /// Types an expression at this depth, with these prior capabilities, and adds its errors.
     ///
     /// Each level of nesting takes a frame of this function and of one or two of the cycle. What each form does after its parts
-    /// is marked `inline(never)`, so that its locals are no part of those frames.
+    /// is marked `inline(never)`, so that its locals are no part of those frames. Rattle's own compiler heeds no mark, but takes
+    /// in no long function that is called at two places. `scripts/stack.py` measures both builds.
     #[cycle(typing)]
     pub(crate) fn typecheck<'a>(
         &self,
@@ -39,6 +40,7 @@ impl<C: ArgumentCheck> SingleEnvTypechecker<'_, '_, '_, '_, C> {
             infer (setting_at C.refusal self.now) (written e.now) (known_in prior.now) depth (findings errors.old.items)
             ≡ (answer_of r, findings errors.new.items)) }
     {
+        // a limit that is the same everywhere, in place of a stack that overflows somewhere
         if depth > MAX_TYPED_DEPTH {
             return Ok(TypecheckAnswer::RecursionLimit);
         }

@@ -4,7 +4,7 @@ ghost use Rattle.cedar_types.specs.Types.{ty_of};
 ghost use Rattle.cedar_types.specs.Types.Order.{in_order};
 ghost use Rattle.cedar_types.specs.Types.Bounds.{is_strict, lub};
 ghost use Rattle.cedar_types.specs.Errors.{finding_of, incompatible_types};
-ghost use Rattle.cedar_typing.specs.TypeTests.Joins.{bound_errors, join_errors, strict_errors};
+ghost use Rattle.cedar_typing.specs.TypeTests.Joins.{bound_errors, strict_errors};
 ghost use Rattle.cedar_typing.specs.TypeEnv.{finding};
 ghost use Rattle.cedar_typing.specs.Views.{env_at, findings};
 
@@ -31,22 +31,6 @@ impl TypeEnv<'_, '_, '_, '_> {
         if !self.is_strict() {
             return Ok(Vec::new(self.alloc));
         }
-        let errors = self.join_errors(loc, context, one, other)?;
-        Ok(errors)
-    }
-
-    fn join_errors(
-        &self,
-        loc: Option<Loc>,
-        context: LubContext,
-        one: Option<&CedarType>,
-        other: Option<&CedarType>,
-    ) -> Result<Vec<ValidationError>, AllocError>
-        ensures { IfOk result (λ v.
-            findings v.items
-            ≡ join_errors (env_at self.now) loc context
-            (option_map (λ t. ty_of t.now) one.entry) (option_map (λ t. ty_of t.now) other.entry)) }
-    {
         let Some(one) = one else {
             return Ok(Vec::new(self.alloc));
         };

@@ -10,18 +10,10 @@ pub(crate) fn is_bool_operand(ty: &CedarType) -> bool
     ensures { result ≡ accepts bool_types (ty_of ty.now) }
 {
     match ty {
-        CedarType::Never => true,
-        CedarType::Bool(_) => true,
-        CedarType::Long => false,
-        CedarType::String => false,
-        CedarType::Set(_) => false,
-        CedarType::AnySet => false,
-        CedarType::Record {
-            attributes: _attributes,
-            is_open: _open,
-        } => false,
-        CedarType::Entity(_) => false,
-        CedarType::Extension(_) => false,
+        CedarType::Never | CedarType::Bool(_) => true,
+        CedarType::Long | CedarType::String | CedarType::Extension(_) => false,
+        CedarType::Set(_) | CedarType::AnySet => false,
+        CedarType::Record { .. } | CedarType::Entity(_) => false,
     }
 }
 
@@ -29,40 +21,14 @@ pub(crate) fn is_bool_operand(ty: &CedarType) -> bool
 pub(crate) fn is_long_operand(ty: &CedarType) -> bool
     ensures { result ≡ accepts long_types (ty_of ty.now) }
 {
-    match ty {
-        CedarType::Never => true,
-        CedarType::Bool(_) => false,
-        CedarType::Long => true,
-        CedarType::String => false,
-        CedarType::Set(_) => false,
-        CedarType::AnySet => false,
-        CedarType::Record {
-            attributes: _attributes,
-            is_open: _open,
-        } => false,
-        CedarType::Entity(_) => false,
-        CedarType::Extension(_) => false,
-    }
+    matches!(ty, CedarType::Never | CedarType::Long)
 }
 
 /// Whether an operand of this type is accepted where a text is required.
 pub(crate) fn is_string_operand(ty: &CedarType) -> bool
     ensures { result ≡ accepts string_types (ty_of ty.now) }
 {
-    match ty {
-        CedarType::Never => true,
-        CedarType::Bool(_) => false,
-        CedarType::Long => false,
-        CedarType::String => true,
-        CedarType::Set(_) => false,
-        CedarType::AnySet => false,
-        CedarType::Record {
-            attributes: _attributes,
-            is_open: _open,
-        } => false,
-        CedarType::Entity(_) => false,
-        CedarType::Extension(_) => false,
-    }
+    matches!(ty, CedarType::Never | CedarType::String)
 }
 
 /// Whether an operand of this type is accepted where a set is required.
@@ -70,18 +36,9 @@ pub(crate) fn is_set_operand(ty: &CedarType) -> bool
     ensures { result ≡ accepts set_types (ty_of ty.now) }
 {
     match ty {
-        CedarType::Never => true,
-        CedarType::Bool(_) => false,
-        CedarType::Long => false,
-        CedarType::String => false,
-        CedarType::Set(_) => true,
-        CedarType::AnySet => true,
-        CedarType::Record {
-            attributes: _attributes,
-            is_open: _open,
-        } => false,
-        CedarType::Entity(_) => false,
-        CedarType::Extension(_) => false,
+        CedarType::Never | CedarType::Set(_) | CedarType::AnySet => true,
+        CedarType::Bool(_) | CedarType::Long | CedarType::String => false,
+        CedarType::Record { .. } | CedarType::Entity(_) | CedarType::Extension(_) => false,
     }
 }
 
@@ -90,18 +47,10 @@ pub(crate) fn is_entity_operand(ty: &CedarType) -> bool
     ensures { result ≡ accepts entity_types (ty_of ty.now) }
 {
     match ty {
-        CedarType::Never => true,
-        CedarType::Bool(_) => false,
-        CedarType::Long => false,
-        CedarType::String => false,
-        CedarType::Set(_) => false,
-        CedarType::AnySet => false,
-        CedarType::Record {
-            attributes: _attributes,
-            is_open: _open,
-        } => false,
-        CedarType::Entity(_) => true,
-        CedarType::Extension(_) => false,
+        CedarType::Never | CedarType::Entity(_) => true,
+        CedarType::Bool(_) | CedarType::Long | CedarType::String => false,
+        CedarType::Set(_) | CedarType::AnySet => false,
+        CedarType::Record { .. } | CedarType::Extension(_) => false,
     }
 }
 
@@ -110,18 +59,8 @@ pub(crate) fn is_ancestor_operand(ty: &CedarType) -> bool
     ensures { result ≡ accepts ancestor_types (ty_of ty.now) }
 {
     match ty {
-        CedarType::Never => true,
-        CedarType::Bool(_) => false,
-        CedarType::Long => false,
-        CedarType::String => false,
         CedarType::Set(element) => is_entity_operand(element),
-        CedarType::AnySet => false,
-        CedarType::Record {
-            attributes: _attributes,
-            is_open: _open,
-        } => false,
-        CedarType::Entity(_) => true,
-        CedarType::Extension(_) => false,
+        _ => is_entity_operand(ty),
     }
 }
 
@@ -130,17 +69,9 @@ pub(crate) fn is_object_operand(ty: &CedarType) -> bool
     ensures { result ≡ accepts object_types (ty_of ty.now) }
 {
     match ty {
-        CedarType::Never => true,
-        CedarType::Bool(_) => false,
-        CedarType::Long => false,
-        CedarType::String => false,
-        CedarType::Set(_) => false,
-        CedarType::AnySet => false,
-        CedarType::Record {
-            attributes: _attributes,
-            is_open: _open,
-        } => true,
-        CedarType::Entity(_) => true,
-        CedarType::Extension(_) => false,
+        CedarType::Record { .. } => true,
+        CedarType::Never | CedarType::Entity(_) => true,
+        CedarType::Bool(_) | CedarType::Long | CedarType::String => false,
+        CedarType::Set(_) | CedarType::AnySet | CedarType::Extension(_) => false,
     }
 }

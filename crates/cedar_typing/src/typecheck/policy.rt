@@ -69,6 +69,7 @@ impl<'a, C: ArgumentCheck> Typechecker<'a, C> {
         ensures warnings_kept { OnErr result (warnings.new.keys ≡ warnings.old.keys) }
     {
         let tally = self.tally(alloc, t)?;
+        // with room for all errors nothing fails behind the first change, so both sets change or neither
         type_errors.reserve(tally.errors.len())?;
         if tally.all_irrelevant {
             let warning = impossible_policy(t)?;
@@ -108,6 +109,7 @@ impl Tally {
                 Ok(())
             }
             PolicyCheck::Irrelevant(errors, _) => {
+                // the condition is False here; what is wrong on the way to that is an error all the same
                 self.all_pass &= errors.is_empty();
                 insert_all(&mut self.errors, errors)?;
                 Ok(())

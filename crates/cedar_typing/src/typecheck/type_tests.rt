@@ -1,7 +1,7 @@
 // Tests of types.
 ghost use Rattle.std.specs.Prelude.{◌≡◌, Some, option_map};
 ghost use Rattle.cedar_types.specs.Types.{ty_of, lub_of, TBool};
-ghost use Rattle.cedar_types.specs.Types.Bounds.{is_never};
+ghost use Rattle.cedar_types.specs.Types.Bounds.{is_never, ty_eq};
 ghost use Rattle.cedar_types.specs.declared.base.types.BoolType.TheVariants.{AnyBool};
 ghost use Rattle.cedar_typing.specs.Rules.Chains.{is_object};
 ghost use Rattle.cedar_typing.specs.Rules.Membership.{types_of_entity};
@@ -10,6 +10,13 @@ ghost use Rattle.cedar_typing.specs.TypedExpr.{typed_tree, annotation};
 
 use cedar_types::base::{BoolType, CedarType, EntityKind, EntityLUB, Expr};
 
+/// Whether two types are equal.
+pub(crate) fn is_same_type(one: &CedarType, other: &CedarType) -> bool
+    ensures { result ≡ ty_eq (ty_of one.now) (ty_of other.now) }
+{
+    *one == *other
+}
+
 /// The type of both truth values.
 pub(crate) fn any_bool() -> CedarType
     ensures { ty_of result ≡ TBool AnyBool }
@@ -17,90 +24,44 @@ pub(crate) fn any_bool() -> CedarType
     CedarType::Bool(BoolType::AnyBool)
 }
 
+/// Whether the type is this one of truth values. No type is made for it: typing asks it at each level.
+fn is_bool_type(ty: &CedarType, truth: BoolType) -> bool
+    ensures { result ≡ ty_eq (ty_of ty.now) (TBool truth) }
+{
+    match ty {
+        CedarType::Bool(own) => *own == truth,
+        CedarType::Never | CedarType::Long | CedarType::String | CedarType::Set(_) => false,
+        CedarType::AnySet | CedarType::Record { .. } => false,
+        CedarType::Entity(_) | CedarType::Extension(_) => false,
+    }
+}
+
 /// Whether the type is False.
 pub(crate) fn is_false_type(ty: &CedarType) -> bool
     ensures { result ≡ is_false (ty_of ty.now) }
 {
-    match ty {
-        CedarType::Bool(BoolType::False) => true,
-        CedarType::Bool(BoolType::True) => false,
-        CedarType::Bool(BoolType::AnyBool) => false,
-        CedarType::Never => false,
-        CedarType::Long => false,
-        CedarType::String => false,
-        CedarType::Set(_) => false,
-        CedarType::AnySet => false,
-        CedarType::Record {
-            attributes: _attributes,
-            is_open: _open,
-        } => false,
-        CedarType::Entity(_) => false,
-        CedarType::Extension(_) => false,
-    }
+    is_bool_type(ty, BoolType::False)
 }
 
 /// Whether the type is True.
 pub(crate) fn is_true_type(ty: &CedarType) -> bool
     ensures { result ≡ is_true (ty_of ty.now) }
 {
-    match ty {
-        CedarType::Bool(BoolType::True) => true,
-        CedarType::Bool(BoolType::False) => false,
-        CedarType::Bool(BoolType::AnyBool) => false,
-        CedarType::Never => false,
-        CedarType::Long => false,
-        CedarType::String => false,
-        CedarType::Set(_) => false,
-        CedarType::AnySet => false,
-        CedarType::Record {
-            attributes: _attributes,
-            is_open: _open,
-        } => false,
-        CedarType::Entity(_) => false,
-        CedarType::Extension(_) => false,
-    }
+    is_bool_type(ty, BoolType::True)
 }
 
 /// Whether the type is Bool, neither True nor False.
 pub(crate) fn is_any_bool_type(ty: &CedarType) -> bool
     ensures { result ≡ is_any_bool (ty_of ty.now) }
 {
-    match ty {
-        CedarType::Bool(BoolType::AnyBool) => true,
-        CedarType::Bool(BoolType::True) => false,
-        CedarType::Bool(BoolType::False) => false,
-        CedarType::Never => false,
-        CedarType::Long => false,
-        CedarType::String => false,
-        CedarType::Set(_) => false,
-        CedarType::AnySet => false,
-        CedarType::Record {
-            attributes: _attributes,
-            is_open: _open,
-        } => false,
-        CedarType::Entity(_) => false,
-        CedarType::Extension(_) => false,
-    }
+    is_bool_type(ty, BoolType::AnyBool)
 }
 
 /// Whether the type is Never.
 pub(crate) fn is_never_type(ty: &CedarType) -> bool
     ensures { result ≡ is_never (ty_of ty.now) }
 {
-    match ty {
-        CedarType::Never => true,
-        CedarType::Bool(_) => false,
-        CedarType::Long => false,
-        CedarType::String => false,
-        CedarType::Set(_) => false,
-        CedarType::AnySet => false,
-        CedarType::Record {
-            attributes: _attributes,
-            is_open: _open,
-        } => false,
-        CedarType::Entity(_) => false,
-        CedarType::Extension(_) => false,
-    }
+    matches!(ty, CedarType::Never)
 }
 
 /// Whether the type is a record's.
@@ -108,18 +69,10 @@ pub(crate) fn is_record_type(ty: &CedarType) -> bool
     ensures { result ≡ is_record (ty_of ty.now) }
 {
     match ty {
-        CedarType::Record {
-            attributes: _attributes,
-            is_open: _open,
-        } => true,
-        CedarType::Never => false,
-        CedarType::Bool(_) => false,
-        CedarType::Long => false,
-        CedarType::String => false,
-        CedarType::Set(_) => false,
-        CedarType::AnySet => false,
-        CedarType::Entity(_) => false,
-        CedarType::Extension(_) => false,
+        CedarType::Record { .. } => true,
+        CedarType::Never | CedarType::Bool(_) | CedarType::Long | CedarType::String => false,
+        CedarType::Set(_) | CedarType::AnySet => false,
+        CedarType::Entity(_) | CedarType::Extension(_) => false,
     }
 }
 
@@ -150,18 +103,9 @@ pub(crate) fn is_object_type(ty: &CedarType) -> bool
     ensures { result ≡ is_object (ty_of ty.now) }
 {
     match ty {
-        CedarType::Never => false,
-        CedarType::Bool(_) => false,
-        CedarType::Long => false,
-        CedarType::String => false,
-        CedarType::Set(_) => false,
-        CedarType::AnySet => false,
-        CedarType::Record {
-            attributes: _attributes,
-            is_open: _open,
-        } => true,
-        CedarType::Entity(_) => true,
-        CedarType::Extension(_) => false,
+        CedarType::Record { .. } | CedarType::Entity(_) => true,
+        CedarType::Never | CedarType::Bool(_) | CedarType::Long | CedarType::String => false,
+        CedarType::Set(_) | CedarType::AnySet | CedarType::Extension(_) => false,
     }
 }
 
@@ -171,17 +115,9 @@ pub(crate) fn named_types(ty: &CedarType) -> Option<&EntityLUB>
 {
     match ty {
         CedarType::Entity(EntityKind::Entity(types)) => Some(types),
-        CedarType::Entity(EntityKind::AnyEntity) => None,
-        CedarType::Never => None,
-        CedarType::Bool(_) => None,
-        CedarType::Long => None,
-        CedarType::String => None,
-        CedarType::Set(_) => None,
-        CedarType::AnySet => None,
-        CedarType::Record {
-            attributes: _attributes,
-            is_open: _open,
-        } => None,
-        CedarType::Extension(_) => None,
+        CedarType::Entity(EntityKind::AnyEntity) | CedarType::Never => None,
+        CedarType::Bool(_) | CedarType::Long | CedarType::String => None,
+        CedarType::Set(_) | CedarType::AnySet => None,
+        CedarType::Record { .. } | CedarType::Extension(_) => None,
     }
 }

@@ -2,16 +2,16 @@
 ghost use Rattle.std.specs.Prelude.{◌≡◌, IfOk, map, option_map};
 ghost use Rattle.cedar_types.specs.Capability.{caps};
 ghost use Rattle.cedar_types.specs.Names.{path_of};
-ghost use Rattle.cedar_types.specs.Expressions.Tree.{binary, call, ext_has_attr};
+ghost use Rattle.cedar_types.specs.Expressions.Tree.{call};
 ghost use Rattle.cedar_types.specs.Types.{ty_of};
-ghost use Rattle.cedar_types.specs.Expressions.View.{chain_of, trees_of};
+ghost use Rattle.cedar_types.specs.Expressions.View.{trees_of};
 ghost use Rattle.cedar_typing.specs.Capabilities.{no_caps};
 ghost use Rattle.cedar_typing.specs.Infer.Parts.{answer_if};
 ghost use Rattle.cedar_typing.specs.TypedExpr.{typed_as, typed_tree, at_place};
 ghost use Rattle.cedar_typing.specs.Views.{answer_of, at};
 
 use crate::typecheck::answer::TypecheckAnswer;
-use cedar_types::base::{AttrChain, BinaryOp, CedarType, Expr, ExprKind, Loc, Name};
+use cedar_types::base::{CedarType, Expr, ExprKind, Loc, Name};
 use cedar_types::types::capability::CapabilitySet;
 use std::alloc::{AllocError, Global};
 
@@ -73,39 +73,6 @@ pub(crate) fn node(
         kind,
     };
     Ok(Box::new(alloc, typed)?)
-}
-
-/// An operator on two typed operands.
-pub(crate) fn binary_node(
-    alloc: Global,
-    loc: Option<Loc>,
-    ty: Option<CedarType>,
-    op: BinaryOp,
-    left: Box<Expr<Option<CedarType>>>,
-    right: Box<Expr<Option<CedarType>>>,
-) -> Result<Box<Expr<Option<CedarType>>>, AllocError>
-    ensures { IfOk result (λ e. typed_tree e.value
-        ≡ binary (typed_as (option_map ty_of ty) (at loc)) op (typed_tree left.value)
-        (typed_tree right.value)) }
-{
-    let kind = ExprKind::BinaryApp(op, left, right);
-    node(alloc, loc, ty, kind)
-}
-
-/// An extended `has` on a typed base.
-pub(crate) fn chain_node(
-    alloc: Global,
-    loc: Option<Loc>,
-    ty: Option<CedarType>,
-    base: Box<Expr<Option<CedarType>>>,
-    attrs: &AttrChain,
-) -> Result<Box<Expr<Option<CedarType>>>, AllocError>
-    ensures { IfOk result (λ e. typed_tree e.value
-        ≡ ext_has_attr (typed_as (option_map ty_of ty) (at loc)) (typed_tree base.value)
-        (chain_of attrs.now).0 (chain_of attrs.now).1) }
-{
-    let kind = ExprKind::ExtHasAttr(base, attrs.clone()?);
-    node(alloc, loc, ty, kind)
 }
 
 /// A call of this function on typed arguments.

@@ -223,33 +223,23 @@ fn line_that_differs<'a>(alloc: Global, table: &'a str) -> Result<Option<&'a str
     Ok(None)
 }
 
-#[test]
-fn an_operand_may_stand_at_400_and_no_deeper(rt: HostRuntime) -> Result<(), Fail> {
-    assert_eq!(rt; line_that_differs(rt.alloc(), OPERATORS)?, None);
-    Ok(())
-}
+/// What each table shows.
+const TABLES: [(&str, &str); 5] = [
+    ("an operand may stand at 400 and no deeper", OPERATORS),
+    ("an entity may stand at 400 and no deeper", ENTITIES),
+    ("an element may stand at 400 and no deeper", SETS_AND_CALLS),
+    (
+        "some parts are typed after one deeper than 400",
+        BESIDE_ERRORS,
+    ),
+    ("a part that is not visited may stand deeper", NOT_VISITED),
+];
 
 #[test]
-fn an_entity_may_stand_at_400_and_no_deeper(rt: HostRuntime) -> Result<(), Fail> {
-    assert_eq!(rt; line_that_differs(rt.alloc(), ENTITIES)?, None);
-    Ok(())
-}
-
-#[test]
-fn an_element_may_stand_at_400_and_no_deeper(rt: HostRuntime) -> Result<(), Fail> {
-    assert_eq!(rt; line_that_differs(rt.alloc(), SETS_AND_CALLS)?, None);
-    Ok(())
-}
-
-#[test]
-fn some_parts_are_typed_after_one_deeper_than_400(rt: HostRuntime) -> Result<(), Fail> {
-    assert_eq!(rt; line_that_differs(rt.alloc(), BESIDE_ERRORS)?, None);
-    Ok(())
-}
-
-#[test]
-fn a_part_that_is_not_visited_may_stand_deeper(rt: HostRuntime) -> Result<(), Fail> {
-    assert_eq!(rt; line_that_differs(rt.alloc(), NOT_VISITED)?, None);
+fn parts_stand_as_deep_as_they_may(rt: HostRuntime) -> Result<(), Fail> {
+    for (shown, table) in &TABLES {
+        assert_eq!(rt; line_that_differs(rt.alloc(), table)?, None, "{shown}");
+    }
     Ok(())
 }
 

@@ -1,17 +1,11 @@
-use Rattle.std.proofs.Common.{◌∙◌, ap, sym, true, false}
+use Rattle.std.proofs.Common.{◌∙◌}
 use Rattle.cedar_types.specs.Templates.{template_of}
-use Rattle.cedar_conformance.specs.Answers.{finds_none}
 use Rattle.cedar_conformance.specs.PolicyTests.{slots_of}
 use Rattle.cedar_conformance.proofs.Outcomes.{decided}
 use Rattle.cedar_conformance.proofs.Slots.{slots_decide}
 use Rattle.cedar_conformance.proofs.policies.check_slots.Goals as goal
 
-pub returns-in-None : goal.returns-in-None
-returns-in-None c =
-    decided true _ (ap finds_none (sym c.in-None.is) ∙ c.in_ok-find_unbound.ensures)
-    (slots_decide (template_of c.args.template.now) (slots_of c.args.values.now))
-
-pub returns-in-Some : goal.returns-in-Some
-returns-in-Some c =
-    decided false _ (ap finds_none (sym c.in-Some.is) ∙ c.in_ok-find_unbound.ensures)
+pub returns : goal.returns
+returns c =
+    decided _ _ (c.answer.ensures ∙ c.in_ok-found.ensures)
     (slots_decide (template_of c.args.template.now) (slots_of c.args.values.now))

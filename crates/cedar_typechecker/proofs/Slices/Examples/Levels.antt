@@ -83,14 +83,24 @@ module _ (b : Basis) (t : PlainTemplate) where
       let s = setting_on b t.id env in
       verdict_at_most s (condition_of t) (verdict_in env) v (checked s (condition_of t)) c
 
+  -- no check in these environments succeeds
+  abbrev pub NoneSucceeds : List Env → Type 0
+  NoneSucceeds [] = Unit {0}
+  NoneSucceeds (env ∷ envs) = (IsSuccess (verdict_in env) → ⊥) × NoneSucceeds envs
+
+  none_of : (envs : List Env) → NoneSucceeds envs → (env : Env) → IsOneOf env envs
+      → IsSuccess (verdict_in env) → ⊥
+  none_of [] n env i h = i
+  none_of (x ∷ envs) n env (inl q) h = n.0 (subst (λ e. IsSuccess (verdict_in e)) q h)
+  none_of (x ∷ envs) n env (inr i) h = none_of envs n.1 env i h
+
   -- where no check succeeds, none of those that do has level errors
-  pub no_success : (n : ℕ)
-      → ((env : Env) → IsOneOf env (checked_envs b.schema b.mode t)
-      → IsSuccess (verdict_in env) → ⊥)
+  pub no_success : (n : ℕ) → NoneSucceeds (checked_envs b.schema b.mode t)
       → SuccessesAreWithinLevel b t n
   no_success n f env i x c e h =
       let same = same_verdict env (succeeds x) c in
-      absurd (f env i (same_success_too (verdict_in env) (succeeds x) same tt))
+      let succeeds_too = same_success_too (verdict_in env) (succeeds x) same tt in
+      absurd (none_of (checked_envs b.schema b.mode t) f env i succeeds_too)
 
   module _ (n : ℕ) where
     abbrev errors_in : Env → List Finding

@@ -1,69 +1,78 @@
 -- Where the schema or the table has a fault, a type is external, or names in types do not ascend,
 -- evaluation in the slice differs.
-use Rattle.std.proofs.Common.{◌≡◌, inl, Bool, true, false, ◌&&◌, ◌||◌, [], ◌∷◌, Some, None, if◌then◌else◌, refl, sym, subst}
+use Rattle.std.proofs.Common.{◌≡◌, inl, Bool, true, false, ◌&&◌, ◌||◌, [], ◌∷◌, Option, Some, None, if◌then◌else◌, refl, sym, ◌∙◌, subst}
+use Rattle.cedar_types.specs.declared.base.expressions.extensions.ExtensionTableError.{ExtensionTableError}
 use Rattle.cedar_types.specs.declared.base.types.ValidationMode.{ValidationMode}
-use Rattle.cedar_types.specs.declared.base.types.ValidationMode.TheVariants.{Strict, Permissive}
-use Rattle.cedar_types.specs.Extensions.Functions.{ExtensionFunction}
-use Rattle.cedar_types.specs.Lemmas.Comparisons.{uid_same}
+use Rattle.cedar_types.specs.declared.base.types.ValidationMode.TheVariants.{Permissive}
+use Rattle.cedar_types.specs.Extensions.Functions.{ExtensionFunction, table_fault}
 use Rattle.cedar_types.specs.Names.{Uid, uid_eq, path_eq}
-use Rattle.cedar_types.specs.Schemas.{uid_is_among, declares_action}
+use Rattle.cedar_types.specs.Schemas.Formed.{has_formed_types}
+use Rattle.cedar_types.specs.Schemas.{uid_is_among, declares_action, has_fault}
 use Rattle.cedar_types.specs.Values.Stores.{declares_ancestor, ConformingStore}
 use Rattle.cedar_types.specs.Values.{Value, VEntity, no_values, HasType}
-use Rattle.cedar_typing.specs.Evaluation.Conformance.{KeepsTable}
+use Rattle.cedar_types.proofs.Entries.Basics.{or_false}
+use Rattle.cedar_typing.specs.Evaluation.Conformance.{FitsRequest, KeepsTable}
 use Rattle.cedar_typing.specs.Evaluation.Equality.{same_values}
+use Rattle.cedar_typing.specs.Evaluation.World.{World}
 use Rattle.cedar_typing.specs.Examples.NeededPremises.{guest, declared_guest}
 use Rattle.cedar_typing.specs.Examples.Permissive.{twice_context}
 use Rattle.cedar_typing.specs.Examples.PolicySoundness.{Passes, PassesWarned}
-use Rattle.cedar_typing.specs.Examples.World.{alice, meet}
+use Rattle.cedar_typing.specs.Examples.World.{user, alice, meet}
+use Rattle.cedar_typing.specs.Soundness.Policies.{Basis, IsConforming}
 use Rattle.cedar_typing.proofs.Basics.{some_is, none_is}
 use Rattle.cedar_typing.proofs.Examples.PolicySoundness.{passing}
-use Rattle.cedar_typing.proofs.Examples.World.{all_found, none_among}
-use Rattle.cedar_typechecker.specs.Slices.Examples.World.{page, read, read_context, declared_read, wiki_types, slice_of}
-use Rattle.cedar_typechecker.specs.Slices.NeededPremises.Schemas.{by_schema, twice_declared, read_is_meeting, meeting_to_read, owner}
+use Rattle.cedar_typing.proofs.Examples.World.{all_found}
+use Rattle.cedar_typechecker.specs.Slices.Examples.World.{page, read, read_context, declared_read, wiki_types}
+use Rattle.cedar_typechecker.specs.Slices.NeededPremises.Schemas.{ArePremises, by_schema, twice_declared, read_is_meeting, meeting_to_read, owner}
 use Rattle.cedar_typechecker.specs.Slices.NeededPremises.Schemas.{owner_function, alice_owns, owned_basis, owner_has_profile, owned, guests}
-use Rattle.cedar_typechecker.specs.Slices.NeededPremises.Schemas.{guided_guest, reading_a_guest, unformed, active_with_b, reading_with_b}
+use Rattle.cedar_typechecker.specs.Slices.NeededPremises.Schemas.{guided_guest, reading_a_guest, unformed_basis, active_with_b, reading_with_b}
 use Rattle.cedar_typechecker.specs.Slices.NeededPremises.Schemas.{FaultsGoWrongIn, TableFaultsGoWrongIn, ExternalTypesGoWrongIn}
 use Rattle.cedar_typechecker.specs.Slices.NeededPremises.Schemas.{SchemasAreNeededIn, FormIsNeeded}
-use Rattle.cedar_typechecker.specs.Slices.Policies.{PolicyIsWithinLevel}
 use Rattle.cedar_typechecker.proofs.Slices.Examples.Levels.{within}
-use Rattle.cedar_typechecker.proofs.Slices.Examples.World.{Fitting, IsStored, wiki_fits, guests_fit, read_fits, conforms, wiki_conforms}
-use Rattle.cedar_typechecker.proofs.Slices.Examples.World.{sample_kept, reads, formed, fails_or_gives, false_or_true, differs, held}
+use Rattle.cedar_typechecker.proofs.Slices.Examples.Modes.{IsEither, fine}
+use Rattle.cedar_typechecker.proofs.Slices.Examples.World.{Fitting, IsStored, among_stored, wiki_fits, guests_fit, read_fits, conforms}
+use Rattle.cedar_typechecker.proofs.Slices.Examples.World.{wiki_conforms, sample_kept, reads, policy_asked, fails_or_gives, false_or_true}
+use Rattle.cedar_typechecker.proofs.Slices.Examples.World.{differs_in_slice}
+
+premises : (b : Basis) (faulty formed : Bool) (fault : Option ExtensionTableError) (world : World)
+    → has_fault b.schema ≡ faulty → has_formed_types b.schema ≡ formed
+    → table_fault b.table.functions ≡ fault → IsConforming b world
+    → ArePremises b faulty formed fault world
+premises b faulty formed fault world s t f w =
+    record { of_schema = s; of_types = t; of_table = f; of_world = w }
 
 -- ---- an action that is declared twice
 
--- the ancestors of both actions, by all declarations
+-- of three declarations the first two have no such descendant
+without_first : (a b : Bool) → ((a && false) || b) ≡ b
+without_first true b = refl
+without_first false b = refl
+
+-- the ancestors of both actions are by the last declaration alone
+by_last : (a b c : Bool) → c ≡ ((a && false) || ((b && false) || (c || false)))
+by_last a b c =
+    sym (without_first a ((b && false) || (c || false)) ∙ without_first b (c || false) ∙ or_false c)
+
 meet_alone : (v : Uid)
     → uid_is_among (meet ∷ []) v ≡ declares_ancestor twice_declared.actions read v
-meet_alone v = by (uid_eq v read) (uid_eq v meet)
+meet_alone v = by (uid_eq v meet) ∙ by_last (uid_eq v read) (uid_eq v meet) (uid_eq v meet && true)
   where
-    by : (a b : Bool) → (b || false) ≡ ((a && false) || ((b && false) || ((b && true) || false)))
-    by true true = refl
-    by true false = refl
-    by false true = refl
-    by false false = refl
+    by : (b : Bool) → (b || false) ≡ (b && true)
+    by true = refl
+    by false = refl
 
 no_ancestor : (v : Uid) → uid_is_among [] v ≡ declares_ancestor twice_declared.actions meet v
-no_ancestor v = by (uid_eq v read) (uid_eq v meet)
+no_ancestor v = by (uid_eq v meet) ∙ by_last (uid_eq v read) (uid_eq v meet) (uid_eq v meet && false)
   where
-    by : (a b : Bool) → false ≡ ((a && false) || ((b && false) || ((b && false) || false)))
-    by true true = refl
-    by true false = refl
-    by false true = refl
-    by false false = refl
-
-stored_as : (u v : Uid) → uid_eq u v ≡ true → IsStored meeting_to_read.store v
-    → IsStored meeting_to_read.store u
-stored_as u v q h = subst (IsStored meeting_to_read.store) (sym (uid_same.to u v q)) h
+    by : (b : Bool) → false ≡ (b && false)
+    by true = refl
+    by false = refl
 
 both_stored : (u : Uid) → declares_action twice_declared.actions u ≡ true
     → IsStored meeting_to_read.store u
-both_stored u = by (uid_eq u read) (uid_eq u meet) refl refl
-  where
-    by : (a b : Bool) → uid_eq u read ≡ a → uid_eq u meet ≡ b
-        → (a || (b || (b || false))) ≡ true → IsStored meeting_to_read.store u
-    by true b p q h = stored_as u read p (_, refl)
-    by false true p q h = stored_as u meet q (_, refl)
-    by false false p q h = none_among h
+both_stored u h =
+    among_stored meeting_to_read.store (read ∷ meet ∷ meet ∷ [])
+    ((_, refl), ((_, refl), ((_, refl), tt))) u h
 
 meeting_conforms : ConformingStore twice_declared meeting_to_read.store
 meeting_conforms = record {
@@ -77,30 +86,6 @@ meeting_conforms = record {
       )
       u e h;
   actions = λ u h. both_stored u h;
-}
-
-faults : (m : ValidationMode) → PassesWarned (by_schema twice_declared m) read_is_meeting
-    → PolicyIsWithinLevel (by_schema twice_declared m) read_is_meeting 1 → FaultsGoWrongIn m
-faults m p w = record {
-  faulty = refl;
-  formed = refl;
-  functions = refl;
-  closed = record { mode = refl; closed = refl };
-  conforming = record {
-    request = (_, inl refl, reads);
-    store = meeting_conforms;
-    functions = sample_kept m;
-  };
-  policy = record {
-    named = record { types = refl; actions = refl };
-    well_formed = formed read_is_meeting refl (λ x. refl);
-  };
-  passes = p;
-  within = w;
-  held = held meeting_to_read 1 (refl, (refl, (refl, (refl, tt))));
-  differs =
-      differs read_is_meeting meeting_to_read (slice_of meeting_to_read 1) _ _ refl refl
-      (fails_or_gives _ _);
 }
 
 -- ---- a function that gives any entity
@@ -122,29 +107,13 @@ owner_kept m = record {
   overloaded_types = λ p. refl;
 }
 
-table_faults : (m : ValidationMode) → Passes (owned_basis m) owner_has_profile
-    → PolicyIsWithinLevel (owned_basis m) owner_has_profile 0 → TableFaultsGoWrongIn m
-table_faults m p w = record {
-  faultless = refl;
-  formed = refl;
-  faulty = refl;
-  closed = record { mode = refl; closed = refl };
-  conforming = record {
-    request = (_, inl refl, reads);
-    store = wiki_conforms page read_context;
-    functions = owner_kept m;
-  };
-  policy = record {
-    named = record { types = refl; actions = refl };
-    well_formed = formed owner_has_profile refl (λ x. refl);
-  };
-  passes = p;
-  within = w;
-  held = held owned 0 tt;
-  differs = differs owner_has_profile owned (slice_of owned 0) _ _ refl refl false_or_true;
-}
-
 -- ---- an external type
+
+reads_a_guest : FitsRequest
+    (record { principal = user; action = read; resource = guest; context = read_context })
+    reading_a_guest.request
+reads_a_guest =
+    record { principal = refl; action = refl; resource = refl; context = reads.context }
 
 guests_conform : ConformingStore guests reading_a_guest.store
 guests_conform =
@@ -154,89 +123,88 @@ guests_conform =
     )
     (_, refl)
 
-external : (m : ValidationMode) → PassesWarned (by_schema guests m) guided_guest
-    → PolicyIsWithinLevel (by_schema guests m) guided_guest 1 → ExternalTypesGoWrongIn m
-external m p w = record {
-  faultless = refl;
-  formed = refl;
-  functions = refl;
-  mode = refl;
-  conforming = record {
-    request = (
-      _,
-      inl refl,
-      record { principal = refl; action = refl; resource = refl; context = reads.context },
-    );
-    store = guests_conform;
-    functions = sample_kept m;
-  };
-  policy = record {
-    named = record { types = refl; actions = refl };
-    well_formed = formed guided_guest refl (λ x. refl);
-  };
-  passes = p;
-  within = w;
-  held = held reading_a_guest 1 (refl, (refl, (refl, (refl, tt))));
-  differs =
-      differs guided_guest reading_a_guest (slice_of reading_a_guest 1) _ _ refl refl
-      (fails_or_gives _ _);
-}
+-- ---- in either mode
 
--- ---- in each mode
+module _ (m : ValidationMode) (either : IsEither m) where
+  faults : FaultsGoWrongIn m
+  faults = record {
+    fault = refl;
+    premises =
+        premises _ true true None meeting_to_read refl refl refl
+        (record { request = (_, inl refl, reads); store = meeting_conforms; functions = sample_kept m });
+    closed = record { mode = refl; closed = refl };
+    goes_wrong =
+        differs_in_slice PassesWarned _ read_is_meeting 1 meeting_to_read _ _
+        (policy_asked _ _ _ refl refl refl refl (λ x. refl)) (refl, (refl, (refl, (refl, tt))))
+        refl refl (fails_or_gives _ _)
+        (fine m either PassesWarned (by_schema twice_declared) read_is_meeting 1
+        (passing _ _ _ refl refl refl)
+        (passing _ _ _ refl refl refl) refl refl);
+  }
 
-pub strict_schemas : SchemasAreNeededIn Strict
-strict_schemas = record {
-  faults = faults Strict (passing _ _ _ refl refl refl)
-      (within (by_schema twice_declared Strict) read_is_meeting 1 refl);
-  table = table_faults Strict (passing _ _ _ refl refl refl)
-      (within (owned_basis Strict) owner_has_profile 0 refl);
-  closed = external Strict (passing _ _ _ refl refl refl)
-      (within (by_schema guests Strict) guided_guest 1 refl);
-}
+  table_faults : TableFaultsGoWrongIn m
+  table_faults = record {
+    premises =
+        premises _ false true _ owned refl refl refl
+        (record {
+          request = (_, inl refl, reads);
+          store = wiki_conforms page read_context;
+          functions = owner_kept m;
+        });
+    closed = record { mode = refl; closed = refl };
+    goes_wrong =
+        differs_in_slice Passes _ owner_has_profile 0 owned _ _
+        (policy_asked _ _ _ refl refl refl refl (λ x. refl)) tt refl refl false_or_true
+        (fine m either Passes owned_basis owner_has_profile 0 (passing _ _ _ refl refl refl)
+        (passing _ _ _ refl refl refl) refl refl);
+  }
 
-pub permissive_schemas : SchemasAreNeededIn Permissive
-permissive_schemas = record {
-  faults = faults Permissive (passing _ _ _ refl refl refl)
-      (within (by_schema twice_declared Permissive) read_is_meeting 1 refl);
-  table = table_faults Permissive (passing _ _ _ refl refl refl)
-      (within (owned_basis Permissive) owner_has_profile 0 refl);
-  closed = external Permissive (passing _ _ _ refl refl refl)
-      (within (by_schema guests Permissive) guided_guest 1 refl);
-}
+  external : ExternalTypesGoWrongIn m
+  external = record {
+    premises =
+        premises _ false true None reading_a_guest refl refl refl
+        (record { request = (_, inl refl, reads_a_guest); store = guests_conform; functions = sample_kept m });
+    mode = refl;
+    goes_wrong =
+        differs_in_slice PassesWarned _ guided_guest 1 reading_a_guest _ _
+        (policy_asked _ _ _ refl refl refl refl (λ x. refl)) (refl, (refl, (refl, (refl, tt))))
+        refl refl (fails_or_gives _ _)
+        (fine m either PassesWarned (by_schema guests) guided_guest 1 (passing _ _ _ refl refl refl)
+        (passing _ _ _ refl refl refl) refl refl);
+  }
+
+  pub schemas_needed : SchemasAreNeededIn m
+  schemas_needed = record { faults = faults; table = table_faults; closed = external }
 
 -- ---- names that do not ascend
 
+reads_with_b : FitsRequest
+    (record { principal = user; action = read; resource = page; context = twice_context })
+    reading_with_b.request
+reads_with_b = record {
+  principal = reads.principal;
+  action = reads.action;
+  resource = reads.resource;
+  context = (
+    (((tt, (tt, tt)), (refl, (refl, tt))), (((tt, (tt, tt)), (refl, tt)), tt)),
+    (refl, (refl, tt)),
+  );
+}
+
+unformed_conforms : IsConforming unformed_basis reading_with_b
+unformed_conforms = record {
+  request = (_, inl refl, reads_with_b);
+  store = wiki_conforms page twice_context;
+  functions = sample_kept Permissive;
+}
+
 pub form_needed : FormIsNeeded
 form_needed = record {
-  faultless = refl;
-  not_formed = refl;
-  functions = refl;
+  premises =
+      premises unformed_basis false false None reading_with_b refl refl refl unformed_conforms;
   closed = record { mode = refl; closed = refl };
-  conforming = record {
-    request = (
-      _,
-      inl refl,
-      record {
-        principal = refl;
-        action = refl;
-        resource = refl;
-        context = (
-          (((tt, (tt, tt)), (refl, (refl, tt))), (((tt, (tt, tt)), (refl, tt)), tt)),
-          (refl, (refl, tt)),
-        );
-      },
-    );
-    store = wiki_conforms page twice_context;
-    functions = sample_kept Permissive;
-  };
-  policy = record {
-    named = record { types = refl; actions = refl };
-    well_formed = formed active_with_b refl (λ x. refl);
-  };
-  passes = passing _ _ _ refl refl refl;
-  within = within (by_schema unformed Permissive) active_with_b 0 refl;
-  held = held reading_with_b 0 tt;
-  differs =
-      differs active_with_b reading_with_b (slice_of reading_with_b 0) _ _ refl refl
-      (fails_or_gives _ _);
+  goes_wrong =
+      differs_in_slice PassesWarned unformed_basis active_with_b 0 reading_with_b _ _
+      (policy_asked _ _ _ refl refl refl refl (λ x. refl)) tt refl refl (fails_or_gives _ _)
+      (passing _ _ _ refl refl refl, within unformed_basis active_with_b 0 refl);
 }

@@ -1,58 +1,55 @@
 -- The premises of slice soundness hold together, and what is reached is computed.
-use Rattle.std.proofs.Common.{inl, refl}
+use Rattle.std.proofs.Common.{◌≡◌, inl, true, refl}
 use Rattle.cedar_types.specs.declared.base.types.ValidationMode.{ValidationMode}
 use Rattle.cedar_types.specs.declared.base.types.ValidationMode.TheVariants.{Strict, Permissive}
+use Rattle.cedar_types.specs.Templates.{PlainTemplate, condition_of}
+use Rattle.cedar_types.specs.Values.{VBool}
+use Rattle.cedar_typing.specs.Evaluation.Eval.{eval}
+use Rattle.cedar_typing.specs.Evaluation.World.{MissingEntity, Gives, Fails}
 use Rattle.cedar_typing.specs.Examples.PolicySoundness.{Passes}
+use Rattle.cedar_typing.specs.Soundness.Policies.{IsNamedBySchema, IsWellFormed}
 use Rattle.cedar_typing.proofs.Examples.PolicySoundness.{passing}
 use Rattle.cedar_typechecker.specs.Levels.Errors.{exceeds}
 use Rattle.cedar_typechecker.specs.Slices.Examples.{HasLevelError, guided_page, guided_either, AllPremisesHold, SlicePremisesAreMet}
 use Rattle.cedar_typechecker.specs.Slices.Examples.{SlicesAreAsSaid}
-use Rattle.cedar_typechecker.specs.Slices.Examples.World.{wiki_basis, reading}
+use Rattle.cedar_typechecker.specs.Slices.Examples.World.{wiki_schema, wiki_basis, reading, slice_of}
 use Rattle.cedar_typechecker.specs.Slices.Policies.{PolicyIsWithinLevel}
+use Rattle.cedar_typechecker.specs.Slices.Soundness.{with_store}
 use Rattle.cedar_typechecker.proofs.Slices.Examples.Levels.{within, has_error}
-use Rattle.cedar_typechecker.proofs.Slices.Examples.World.{reading_conforms, formed, held}
+use Rattle.cedar_typechecker.proofs.Slices.Examples.World.{wiki_checker, reading_conforms, formed, held}
 
-module _ (m : ValidationMode) where
-  guided : Passes (wiki_basis m) guided_page → PolicyIsWithinLevel (wiki_basis m) guided_page 3
-      → HasLevelError (wiki_basis m) guided_page 2 (exceeds 2 3) → AllPremisesHold m guided_page
-  guided p w e = record {
-    faultless = refl;
-    formed = refl;
-    faultless_functions = refl;
-    passes = p;
-    basis = record { mode = refl; closed = refl };
-    named = record { types = refl; actions = refl };
-    within_three = w;
-    beyond_two = e;
-    well_formed = formed guided_page refl (λ x. refl);
-    conforming = reading_conforms m;
-    held = held reading 3 (refl, (refl, (refl, (refl, (refl, (refl, tt))))));
-    stored = refl;
-    left_out = refl;
-    in_slice = refl;
-    in_store = refl;
-    too_small = refl;
-  }
-
-united : AllPremisesHold Permissive guided_either
-united = record {
+all_hold : (m : ValidationMode) (t : PlainTemplate)
+    → IsNamedBySchema wiki_schema t → IsWellFormed t reading.slots
+    → eval (with_store reading (slice_of reading 3)) (condition_of t) ≡ Gives (VBool true)
+    → eval reading (condition_of t) ≡ Gives (VBool true)
+    → eval (with_store reading (slice_of reading 2)) (condition_of t) ≡ Fails MissingEntity
+    → Passes (wiki_basis m) t → PolicyIsWithinLevel (wiki_basis m) t 3
+    → HasLevelError (wiki_basis m) t 2 (exceeds 2 3) → AllPremisesHold m t
+all_hold m t named well_formed in_slice in_store too_small p w e = record {
   faultless = refl;
   formed = refl;
   faultless_functions = refl;
-  passes = passing _ _ _ refl refl refl;
-  basis = record { mode = refl; closed = refl };
-  named = record { types = refl; actions = refl };
-  within_three = within (wiki_basis Permissive) guided_either 3 refl;
-  beyond_two = has_error (wiki_basis Permissive) guided_either 2 (exceeds 2 3) _ (inl refl) refl;
-  well_formed = formed guided_either refl (λ x. refl);
-  conforming = reading_conforms Permissive;
+  passes = p;
+  basis = (wiki_checker m).closed;
+  named = named;
+  within_three = w;
+  beyond_two = e;
+  well_formed = well_formed;
+  conforming = reading_conforms m;
   held = held reading 3 (refl, (refl, (refl, (refl, (refl, (refl, tt))))));
   stored = refl;
   left_out = refl;
-  in_slice = refl;
-  in_store = refl;
-  too_small = refl;
+  in_slice = in_slice;
+  in_store = in_store;
+  too_small = too_small;
 }
+
+guided : (m : ValidationMode) → Passes (wiki_basis m) guided_page
+    → PolicyIsWithinLevel (wiki_basis m) guided_page 3
+    → HasLevelError (wiki_basis m) guided_page 2 (exceeds 2 3) → AllPremisesHold m guided_page
+guided m =
+    all_hold m guided_page (record { types = refl; actions = refl })
+    (formed guided_page refl (λ x. refl)) refl refl refl
 
 pub slice_premises : SlicePremisesAreMet
 slice_premises = record {
@@ -63,7 +60,11 @@ slice_premises = record {
       guided Permissive (passing _ _ _ refl refl refl)
       (within (wiki_basis Permissive) guided_page 3 refl)
       (has_error (wiki_basis Permissive) guided_page 2 (exceeds 2 3) _ (inl refl) refl);
-  united = united;
+  united =
+      all_hold Permissive guided_either (record { types = refl; actions = refl })
+      (formed guided_either refl (λ x. refl)) refl refl refl (passing _ _ _ refl refl refl)
+      (within (wiki_basis Permissive) guided_either 3 refl)
+      (has_error (wiki_basis Permissive) guided_either 2 (exceeds 2 3) _ (inl refl) refl);
   strict_refuses = refl;
 }
 

@@ -6,9 +6,10 @@ use Rattle.cedar_types.specs.declared.base.names.slots.SlotId.{SlotId}
 use Rattle.cedar_types.specs.declared.base.types.ValidationMode.{ValidationMode}
 use Rattle.cedar_types.specs.Lemmas.Comparisons.{uid_same}
 use Rattle.cedar_types.specs.Names.{Path, Uid, uid_eq}
-use Rattle.cedar_types.specs.Schemas.{DeclaredType, DeclaredAction, Schema, is_among, type_named, declares_type, descendants_of}
+use Rattle.cedar_types.specs.Schemas.{DeclaredType, DeclaredAction, Schema, is_among, uid_is_among, type_named, declares_type, descendants_of}
 use Rattle.cedar_types.specs.Values.Stores.{Entity, Store, entity_at, AncestorsFit, FitsStandard, FitsAction, FitsDeclaration}
 use Rattle.cedar_types.specs.Values.Stores.{ConformingStore}
+use Rattle.cedar_types.specs.Templates.Findings.{unknown_types, unknown_actions}
 use Rattle.cedar_types.specs.Templates.{PlainTemplate, condition_of}
 use Rattle.cedar_types.specs.Types.{Ty, no_attrs}
 use Rattle.cedar_typing.specs.Composition.{SlotsInScopeAlone}
@@ -20,7 +21,7 @@ use Rattle.cedar_typing.specs.Examples.Greeting.{stored_action, sample_functions
 use Rattle.cedar_typing.specs.Examples.NeededPremises.{declared_guest}
 use Rattle.cedar_typing.specs.Examples.Permissive.{team, staff}
 use Rattle.cedar_typing.specs.Examples.World.{user, a_user, bob}
-use Rattle.cedar_typing.specs.Soundness.Policies.{IsWellFormed, IsConforming}
+use Rattle.cedar_typing.specs.Soundness.Policies.{Basis, IsWellFormed, IsConforming}
 use Rattle.cedar_typing.specs.Silence.{HasNoUnknowns}
 use Rattle.cedar_typing.proofs.Composition.Slots.{slots_bound}
 use Rattle.cedar_typing.proofs.Examples.World.{AllEntities, all_found, none_among, only_one, greeting_conforms}
@@ -28,10 +29,11 @@ use Rattle.cedar_typechecker.specs.Slices.Examples.World.{page, read, user_attri
 use Rattle.cedar_typechecker.specs.Slices.Examples.World.{declared_read, wiki_basis, stored_alice, stored_bob, stored_carol, plain_user}
 use Rattle.cedar_typechecker.specs.Slices.Examples.World.{stored_staff, page_guided_by, guided_wiki, wiki_store, staff_slots, reading}
 use Rattle.cedar_typechecker.specs.Slices.Examples.World.{slice_of}
-use Rattle.cedar_typechecker.specs.Slices.NeededPremises.Differing.{IsAskedCheckerIn, IsAskedIn, DiffersIn}
+use Rattle.cedar_typechecker.specs.Slices.NeededPremises.Differing.{IsAskedCheckerIn, IsAskedIn, IsAskedPolicy, DiffersIn, DiffersInSlice}
 use Rattle.cedar_typechecker.specs.Slices.NeededPremises.Parts.{without}
 use Rattle.cedar_typechecker.specs.Slices.Reach.{IsPartOf, HoldsSlice}
 use Rattle.cedar_typechecker.specs.Slices.Soundness.{with_store}
+use Rattle.cedar_typechecker.proofs.Slices.Examples.Modes.{IsFine}
 
 -- ---- what is stored fits the types of the wiki, and those with a type more
 
@@ -125,14 +127,28 @@ read_fits p c =
 abbrev pub IsStored : Store → Uid → Type 0
 IsStored store u = (e : Entity) × (entity_at store u ≡ Some e)
 
+abbrev pub AllStored : Store → List Uid → Type 0
+AllStored store [] = Unit {0}
+AllStored store (u ∷ us) = IsStored store u × AllStored store us
+
+-- where each of these is stored, so is what is among them
+pub among_stored : (store : Store) (us : List Uid) → AllStored store us
+    → (v : Uid) → uid_is_among us v ≡ true → IsStored store v
+among_stored store [] h v q = none_among q
+among_stored store (u ∷ us) h v q = by (uid_eq v u) refl q (λ i. among_stored store us h.1 v i)
+  where
+    by : (b : Bool) → uid_eq v u ≡ b → (b || uid_is_among us v) ≡ true
+        → (uid_is_among us v ≡ true → IsStored store v) → IsStored store v
+    by true k i rest = subst (IsStored store) (sym (uid_same.to v u k)) h.0
+    by false k i rest = rest i
+
 module _ (ts : List DeclaredType) (p : Path) (c : Ty) (store : Store) where
   pub conforms : AllEntities (Fitting (with_types ts (declared_read p c ∷ []))) store
       → IsStored store read → ConformingStore (with_types ts (declared_read p c ∷ [])) store
   conforms fits there = record {
     entities = λ u e h.
         all_found (Fitting (with_types ts (declared_read p c ∷ []))) store fits u e h;
-    actions = λ u h.
-        subst (IsStored store) (sym (uid_same.to u read (only_one (uid_eq u read) h))) there;
+    actions = λ u h. among_stored store (read ∷ []) (there, tt) u h;
   }
 
 pub wiki_conforms : (p : Path) (c : Ty)
@@ -186,6 +202,15 @@ formed t u a = record {
   no_unknowns = u;
   slots_in_scope = a;
   bound = slots_bound staff_slots staff_bound (condition_of t);
+}
+
+-- what is asked of a policy, in a world whose slots are bound to the staff
+pub policy_asked : (b : Basis) (t : PlainTemplate) (world : World) → world.slots ≡ staff_slots
+    → unknown_types b.schema t ≡ [] → unknown_actions b.schema t ≡ []
+    → HasNoUnknowns (condition_of t) → SlotsInScopeAlone t → IsAskedPolicy b t world
+policy_asked b t world q types actions u a = record {
+  named = record { types = types; actions = actions };
+  well_formed = subst (IsWellFormed t) (sym q) (formed t u a);
 }
 
 -- ---- parts of stores
@@ -248,3 +273,18 @@ pub differs : (t : PlainTemplate) (world : World) (part : Store) (o o' : Outcome
     → (o ≡ o' → ⊥) → DiffersIn t world part o o'
 differs t world part o o' p q n =
     record { of_part = p; of_store = q; broken = λ h. n (sym p ∙ (h ∙ q)) }
+
+-- so a policy of which all is asked differs in the slice
+pub differs_in_slice : (Passed : Basis → PlainTemplate → Type 0) (b : Basis) (t : PlainTemplate)
+    (n : ℕ) (world : World) (o o' : Outcome)
+    → IsAskedPolicy b t world → AreStoredIn world.store (slice_of world n)
+    → eval (with_store world (slice_of world n)) (condition_of t) ≡ o
+    → eval world (condition_of t) ≡ o' → (o ≡ o' → ⊥) → IsFine Passed b t n
+    → DiffersInSlice Passed b t n world o o'
+differs_in_slice Passed b t n world o o' policy stored p q apart fine = record {
+  policy = policy;
+  passes = fine.0;
+  within = fine.1;
+  held = held world n stored;
+  differs = differs t world (slice_of world n) o o' p q apart;
+}

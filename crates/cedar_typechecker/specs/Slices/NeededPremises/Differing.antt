@@ -16,8 +16,10 @@ use Rattle.cedar_typing.specs.Evaluation.World.{World, Outcome}
 use Rattle.cedar_typing.specs.PolicyCheck.{Verdict}
 use Rattle.cedar_typing.specs.Soundness.Policies.{Basis, IsClosedIn, IsNamedBySchema, IsWellFormed, IsConforming}
 use Rattle.cedar_typechecker.specs.Levels.Outcome.{ChecksOn, levels_on, IsErrorOfVerdict}
+use Rattle.cedar_typechecker.specs.Slices.Examples.World.{slice_of}
 use Rattle.cedar_typechecker.specs.Slices.Examples.{HasLevelError}
-use Rattle.cedar_typechecker.specs.Slices.Policies.{IsSameIn}
+use Rattle.cedar_typechecker.specs.Slices.Policies.{PolicyIsWithinLevel, IsSameIn}
+use Rattle.cedar_typechecker.specs.Slices.Reach.{HoldsSlice}
 use Rattle.cedar_typechecker.specs.Slices.Soundness.{with_store}
 
 -- ---- what holds
@@ -59,3 +61,13 @@ pub record DiffersIn (t : PlainTemplate) (world : World) (part : Store)
   pub of_part : eval (with_store world part) (condition_of t) ≡ in_part
   pub of_store : eval world (condition_of t) ≡ in_store
   pub broken : IsSameIn t world part → ⊥
+
+-- all is asked of the policy at n, with this outcome of its check, and of the part, which is the
+-- slice of n steps: and yet it differs
+pub record DiffersInSlice (Passed : Basis → PlainTemplate → Type 0) (b : Basis) (t : PlainTemplate)
+    (n : ℕ) (world : World) (in_part in_store : Outcome) : Type 0 where
+  pub policy : IsAskedPolicy b t world
+  pub passes : Passed b t
+  pub within : PolicyIsWithinLevel b t n
+  pub held : HoldsSlice world.request world.store n (slice_of world n)
+  pub differs : DiffersIn t world (slice_of world n) in_part in_store

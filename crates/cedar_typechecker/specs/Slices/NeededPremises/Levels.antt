@@ -2,7 +2,7 @@
 -- one thing wrong, and that evaluate to something else in the slice of as many steps.
 use Rattle.std.specs.Prelude.{◌≡◌, ℕ, true, false, [], ◌∷◌, codes}
 use Rattle.cedar_types.specs.declared.base.types.ValidationMode.{ValidationMode}
-use Rattle.cedar_types.specs.Errors.{literal_dereference_target}
+use Rattle.cedar_types.specs.Errors.{Fault, literal_dereference_target}
 use Rattle.cedar_types.specs.Environments.Linking.{checked_envs}
 use Rattle.cedar_types.specs.Environments.RequestEnvs.{Env}
 use Rattle.cedar_types.specs.Templates.{PlainTemplate, condition_of}
@@ -11,7 +11,7 @@ use Rattle.cedar_types.specs.Values.{VBool}
 use Rattle.cedar_types.specs.Values.Stores.{Store}
 use Rattle.cedar_typing.specs.Evaluation.Conformance.{IsOneOf}
 use Rattle.cedar_typing.specs.Evaluation.Eval.{eval}
-use Rattle.cedar_typing.specs.Evaluation.World.{MissingEntity, Overflow, Gives, Fails}
+use Rattle.cedar_typing.specs.Evaluation.World.{MissingEntity, Overflow, Outcome, Gives, Fails}
 use Rattle.cedar_typing.specs.Examples.Expressions.{false_lit, one, the, principal, has, equal, less, too_great}
 use Rattle.cedar_typing.specs.Examples.PolicySoundness.{Passes, PassesWarned, policy_when}
 use Rattle.cedar_typing.specs.Examples.World.{alice}
@@ -27,28 +27,31 @@ use Rattle.cedar_typechecker.specs.Slices.Policies.{IsSameIn, IsSameInSlices}
 use Rattle.cedar_typechecker.specs.Slices.Reach.{HoldsSlice}
 use Rattle.cedar_typechecker.specs.Slices.Soundness.{with_store}
 
--- one level less than is required, which is 3
-pub record OneLevelLessGoesWrongIn (m : ValidationMode) : Type 0 where
+-- with one thing wrong at n, and nothing else, a policy that passes evaluates to something else in
+-- the slice of n steps
+pub record OneFaultGoesWrongIn (m : ValidationMode) (Passed : Basis → PlainTemplate → Type 0)
+    (t : PlainTemplate) (n : ℕ) (f : Fault) (in_part in_store : Outcome) : Type 0 where
   pub asked : IsAskedIn m (wiki_basis m) reading
-  pub policy : IsAskedPolicy (wiki_basis m) guided_page reading
-  pub passes : Passes (wiki_basis m) guided_page
-  pub wrong : OnlyFaultIs (wiki_basis m) guided_page 2 (exceeds 2 3)
-  pub held : HoldsSlice reading.request reading.store 2 (slice_of reading 2)
-  pub differs : DiffersIn guided_page reading (slice_of reading 2)
-      (Fails MissingEntity) (Gives (VBool true))
+  pub policy : IsAskedPolicy (wiki_basis m) t reading
+  pub passes : Passed (wiki_basis m) t
+  pub wrong : OnlyFaultIs (wiki_basis m) t n f
+  pub held : HoldsSlice reading.request reading.store n (slice_of reading n)
+  pub differs : DiffersIn t reading (slice_of reading n) in_part in_store
+
+-- one level less than is required, which is 3
+abbrev pub OneLevelLessGoesWrongIn : ValidationMode → Type 0
+OneLevelLessGoesWrongIn m =
+    OneFaultGoesWrongIn m Passes guided_page 2 (exceeds 2 3)
+    (Fails MissingEntity) (Gives (VBool true))
 
 -- `User::"dan".active`, of a user who is not reached
 abbrev pub dan_is_active : PlainTemplate
 dan_is_active = policy_when (active_of (the dan))
 
-pub record LiteralTargetsGoWrongIn (m : ValidationMode) : Type 0 where
-  pub asked : IsAskedIn m (wiki_basis m) reading
-  pub policy : IsAskedPolicy (wiki_basis m) dan_is_active reading
-  pub passes : Passes (wiki_basis m) dan_is_active
-  pub wrong : OnlyFaultIs (wiki_basis m) dan_is_active 1 literal_dereference_target
-  pub held : HoldsSlice reading.request reading.store 1 (slice_of reading 1)
-  pub differs : DiffersIn dan_is_active reading (slice_of reading 1)
-      (Fails MissingEntity) (Gives (VBool true))
+abbrev pub LiteralTargetsGoWrongIn : ValidationMode → Type 0
+LiteralTargetsGoWrongIn m =
+    OneFaultGoesWrongIn m Passes dan_is_active 1 literal_dereference_target
+    (Fails MissingEntity) (Gives (VBool true))
 
 -- `principal.active && false`, which is False in each environment
 abbrev pub never_active : PlainTemplate
@@ -62,14 +65,9 @@ SuccessesAreWithinLevel b t n =
     → (x : TypedTree) → ChecksOn b t env (succeeds x) → IsWithinLevel (levels_on b t n env) x
 
 pub record IrrelevantEnvironmentsCountIn (m : ValidationMode) : Type 0 where
-  pub asked : IsAskedIn m (wiki_basis m) reading
-  pub policy : IsAskedPolicy (wiki_basis m) never_active reading
-  pub passes : PassesWarned (wiki_basis m) never_active
-  pub wrong : OnlyFaultIs (wiki_basis m) never_active 0 (exceeds 0 1)
-  pub others_within : SuccessesAreWithinLevel (wiki_basis m) never_active 0
-  pub held : HoldsSlice reading.request reading.store 0 (slice_of reading 0)
-  pub differs : DiffersIn never_active reading (slice_of reading 0)
+  pub goes_wrong : OneFaultGoesWrongIn m PassesWarned never_active 0 (exceeds 0 1)
       (Fails MissingEntity) (Gives (VBool false))
+  pub others_within : SuccessesAreWithinLevel (wiki_basis m) never_active 0
 
 -- ---- what the promise says: the very same, and in each part
 
@@ -79,14 +77,10 @@ overflowing = policy_when (equal (active_of principal) (less too_great one))
 
 -- it fails over the store and over the slice, and not alike: over the one the sum is too great, and
 -- in the other the principal is missing
-pub record OneFailureIsNotAnotherIn (m : ValidationMode) : Type 0 where
-  pub asked : IsAskedIn m (wiki_basis m) reading
-  pub policy : IsAskedPolicy (wiki_basis m) overflowing reading
-  pub passes : Passes (wiki_basis m) overflowing
-  pub wrong : OnlyFaultIs (wiki_basis m) overflowing 0 (exceeds 0 1)
-  pub held : HoldsSlice reading.request reading.store 0 (slice_of reading 0)
-  pub differs : DiffersIn overflowing reading (slice_of reading 0)
-      (Fails MissingEntity) (Fails Overflow)
+abbrev pub OneFailureIsNotAnotherIn : ValidationMode → Type 0
+OneFailureIsNotAnotherIn m =
+    OneFaultGoesWrongIn m Passes overflowing 0 (exceeds 0 1)
+    (Fails MissingEntity) (Fails Overflow)
 
 -- `(principal has profile) == resource.hasTag("guide")`
 abbrev pub both_or_neither : PlainTemplate

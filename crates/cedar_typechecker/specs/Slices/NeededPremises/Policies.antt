@@ -1,7 +1,7 @@
 -- What is asked of the policy is needed: that its check passes, that all in it is known, and that
 -- its slots stand in its scope alone. (That they are bound is not needed here: where a slot is not
 -- bound, evaluation fails for it in each part alike.)
-use Rattle.std.specs.Prelude.{◌≡◌, true, false, [], ◌∷◌, Some, codes}
+use Rattle.std.specs.Prelude.{◌≡◌, true, false, List, [], ◌∷◌, Some, codes}
 use Rattle.cedar_types.specs.declared.base.names.slots.SlotId.{SlotId}
 use Rattle.cedar_types.specs.declared.base.types.ValidationMode.{ValidationMode}
 use Rattle.cedar_types.specs.Errors.{Finding, unsafe_tag_access}
@@ -11,7 +11,7 @@ use Rattle.cedar_types.specs.Expressions.Tree.{Shape, slot, unknown, if_then_els
 use Rattle.cedar_types.specs.Values.{VBool}
 use Rattle.cedar_typing.specs.Composition.{SlotsInScopeAlone}
 use Rattle.cedar_typing.specs.Evaluation.Conformance.{SlotsBound}
-use Rattle.cedar_typing.specs.Evaluation.World.{TypeFailure, MissingEntity, UnknownValue, Gives, Fails}
+use Rattle.cedar_typing.specs.Evaluation.World.{TypeFailure, MissingEntity, UnknownValue, Outcome, Gives, Fails}
 use Rattle.cedar_typing.specs.Examples.Composition.{template, the_entity}
 use Rattle.cedar_typing.specs.Examples.Expressions.{false_lit, one, the, principal, context, dot, has2, less, node}
 use Rattle.cedar_typing.specs.Examples.Permissive.{team}
@@ -77,30 +77,33 @@ of_unknown_action = naming (the wave)
 abbrev pub of_unknown : PlainTemplate
 of_unknown = naming (unknown tt (named (codes "x")))
 
+-- its check passes and it differs, where all else in it is known
+pub record NameGoesWrongIn (m : ValidationMode) (t : PlainTemplate) (others : List Finding) :
+    Type 0 where
+  pub passes : PassesWarned (wiki_basis m) t
+  pub formed : IsWellFormed t reading.slots
+  pub others_known : others ≡ []
+  pub within : PolicyIsWithinLevel (wiki_basis m) t 0
+  pub differs : DiffersIn t reading (slice_of reading 0) (Gives (VBool false)) (Fails TypeFailure)
+
 pub record NamesMustBeKnownIn (m : ValidationMode) : Type 0 where
   pub others : IsReadingIn m
-  pub type_passes : PassesWarned (wiki_basis m) of_unknown_type
-  pub type_formed : IsWellFormed of_unknown_type reading.slots
-  pub type_actions : unknown_actions wiki_schema of_unknown_type ≡ []
-  pub type_within : PolicyIsWithinLevel (wiki_basis m) of_unknown_type 0
-  pub type_differs : DiffersIn of_unknown_type reading (slice_of reading 0)
-      (Gives (VBool false)) (Fails TypeFailure)
-  pub action_passes : PassesWarned (wiki_basis m) of_unknown_action
-  pub action_formed : IsWellFormed of_unknown_action reading.slots
-  pub action_types : unknown_types wiki_schema of_unknown_action ≡ []
-  pub action_within : PolicyIsWithinLevel (wiki_basis m) of_unknown_action 0
-  pub action_differs : DiffersIn of_unknown_action reading (slice_of reading 0)
-      (Gives (VBool false)) (Fails TypeFailure)
+  pub types : NameGoesWrongIn m of_unknown_type (unknown_actions wiki_schema of_unknown_type)
+  pub actions : NameGoesWrongIn m of_unknown_action (unknown_types wiki_schema of_unknown_action)
+
+-- its check passes and it differs, where all names in it are known and its slots are bound
+pub record KnownGoesWrongIn (m : ValidationMode) (t : PlainTemplate) (in_part in_store : Outcome) :
+    Type 0 where
+  pub others : IsReadingIn m
+  pub passes : PassesWarned (wiki_basis m) t
+  pub named : IsNamedBySchema wiki_schema t
+  pub bound : SlotsBound reading.slots (condition_of t)
+  pub within : PolicyIsWithinLevel (wiki_basis m) t 0
+  pub differs : DiffersIn t reading (slice_of reading 0) in_part in_store
 
 pub record UnknownsGoWrongIn (m : ValidationMode) : Type 0 where
-  pub others : IsReadingIn m
-  pub passes : PassesWarned (wiki_basis m) of_unknown
-  pub named : IsNamedBySchema wiki_schema of_unknown
   pub slots_in_scope : SlotsInScopeAlone of_unknown
-  pub bound : SlotsBound reading.slots (condition_of of_unknown)
-  pub within : PolicyIsWithinLevel (wiki_basis m) of_unknown 0
-  pub differs : DiffersIn of_unknown reading (slice_of reading 0)
-      (Gives (VBool false)) (Fails UnknownValue)
+  pub goes_wrong : KnownGoesWrongIn m of_unknown (Gives (VBool false)) (Fails UnknownValue)
 
 -- ---- that its slots stand in its scope alone
 
@@ -112,14 +115,8 @@ slot_in_rest =
     (Some (and tt (is_type tt (slot tt SlotId.Principal) team) (active_of principal)))
 
 pub record SlotsInTheRestGoWrongIn (m : ValidationMode) : Type 0 where
-  pub others : IsReadingIn m
-  pub passes : PassesWarned (wiki_basis m) slot_in_rest
-  pub named : IsNamedBySchema wiki_schema slot_in_rest
   pub no_unknowns : HasNoUnknowns (condition_of slot_in_rest)
-  pub bound : SlotsBound reading.slots (condition_of slot_in_rest)
-  pub within : PolicyIsWithinLevel (wiki_basis m) slot_in_rest 0
-  pub differs : DiffersIn slot_in_rest reading (slice_of reading 0)
-      (Fails MissingEntity) (Gives (VBool true))
+  pub goes_wrong : KnownGoesWrongIn m slot_in_rest (Fails MissingEntity) (Gives (VBool true))
 
 pub record PoliciesAreNeededIn (m : ValidationMode) : Type 0 where
   pub refused : RefusedPoliciesGoWrongIn m

@@ -1,6 +1,6 @@
 -- What is asked of the schema and of the table is needed: that neither has a fault, that nothing in
 -- the schema is external, and, in Permissive, that names ascend in its types.
-use Rattle.std.specs.Prelude.{◌≡◌, true, false, [], ◌∷◌, Some, None, codes}
+use Rattle.std.specs.Prelude.{◌≡◌, Bool, true, false, [], ◌∷◌, Option, Some, None, codes}
 use Rattle.cedar_types.specs.declared.base.expressions.extensions.ExtensionTableError.{ExtensionTableError}
 use Rattle.cedar_types.specs.declared.base.expressions.operators.Var.{Var}
 use Rattle.cedar_types.specs.declared.base.schema.errors.SchemaError.TheVariants.{DuplicateAction}
@@ -15,6 +15,7 @@ use Rattle.cedar_types.specs.Expressions.Tree.{var, and, if_then_else, ext_has_a
 use Rattle.cedar_types.specs.Types.{TAnyEntity}
 use Rattle.cedar_types.specs.Values.{VBool, VEntity, no_values}
 use Rattle.cedar_typing.specs.Evaluation.World.{Interpretation, World, MissingEntity, Gives, Fails}
+use Rattle.cedar_typing.specs.Examples.CopyPremises.{twice_function}
 use Rattle.cedar_typing.specs.Examples.Expressions.{the, principal, context, dot, has, equal, is_in, call0}
 use Rattle.cedar_typing.specs.Examples.Greeting.{stored_action}
 use Rattle.cedar_typing.specs.Examples.NeededPremises.{guest, declared_guest, a_guest}
@@ -23,15 +24,22 @@ use Rattle.cedar_typing.specs.Examples.PolicySoundness.{Passes, PassesWarned, po
 use Rattle.cedar_typing.specs.Examples.World.{named, alice, bob, meet, declared_group}
 use Rattle.cedar_typing.specs.Soundness.Policies.{Basis, IsClosedIn, IsConforming}
 use Rattle.cedar_typechecker.specs.Slices.Examples.{active_of, has_guide, guide_of, resource}
-use Rattle.cedar_typechecker.specs.Slices.Examples.World.{page, read, wiki_types, read_context, declared_read, wiki_schema, wiki_basis}
-use Rattle.cedar_typechecker.specs.Slices.Examples.World.{page_guided_by, guided_wiki, wiki_store, reading, slice_of}
-use Rattle.cedar_typechecker.specs.Slices.NeededPremises.Differing.{IsAskedPolicy, DiffersIn}
-use Rattle.cedar_typechecker.specs.Slices.Policies.{PolicyIsWithinLevel}
-use Rattle.cedar_typechecker.specs.Slices.Reach.{HoldsSlice}
+use Rattle.cedar_typechecker.specs.Slices.Examples.World.{page, read, wiki_types, read_context, declared_read, wiki_basis}
+use Rattle.cedar_typechecker.specs.Slices.Examples.World.{page_guided_by, guided_wiki, wiki_store, reading}
+use Rattle.cedar_typechecker.specs.Slices.NeededPremises.Differing.{DiffersInSlice}
 
 -- by another schema, with the sample functions, in a mode
 abbrev pub by_schema : Schema → ValidationMode → Basis
 by_schema s m = record (wiki_basis m) { schema = s }
+
+-- whether the schema has a fault, whether names ascend in its types, and the fault of the table;
+-- and the world conforms
+pub record ArePremises (b : Basis) (faulty formed : Bool) (fault : Option ExtensionTableError)
+    (world : World) : Type 0 where
+  pub of_schema : has_fault b.schema ≡ faulty
+  pub of_types : has_formed_types b.schema ≡ formed
+  pub of_table : table_fault b.table.functions ≡ fault
+  pub of_world : IsConforming b world
 
 -- ---- a fault of the schema
 
@@ -57,33 +65,20 @@ meeting_to_read = record reading {
 }
 
 pub record FaultsGoWrongIn (m : ValidationMode) : Type 0 where
-  pub faulty : first_fault twice_declared ≡ Some DuplicateAction
-  pub formed : has_formed_types twice_declared ≡ true
-  pub functions : table_fault (by_schema twice_declared m).table.functions ≡ None
+  pub fault : first_fault twice_declared ≡ Some DuplicateAction
+  pub premises : ArePremises (by_schema twice_declared m) true true None meeting_to_read
   pub closed : IsClosedIn m (by_schema twice_declared m)
-  pub conforming : IsConforming (by_schema twice_declared m) meeting_to_read
-  pub policy : IsAskedPolicy (by_schema twice_declared m) read_is_meeting meeting_to_read
-  pub passes : PassesWarned (by_schema twice_declared m) read_is_meeting
-  pub within : PolicyIsWithinLevel (by_schema twice_declared m) read_is_meeting 1
-  pub held : HoldsSlice meeting_to_read.request meeting_to_read.store 1
-      (slice_of meeting_to_read 1)
-  pub differs : DiffersIn read_is_meeting meeting_to_read (slice_of meeting_to_read 1)
-      (Fails MissingEntity) (Gives (VBool true))
+  pub goes_wrong : DiffersInSlice PassesWarned (by_schema twice_declared m) read_is_meeting 1
+      meeting_to_read (Fails MissingEntity) (Gives (VBool true))
 
 -- ---- a fault of the table
 
--- a function that gives any entity, which is alice
+-- a function as `twice` is, that gives any entity, which is alice
 abbrev pub owner : Path
 owner = named (codes "owner")
 
 abbrev pub owner_function : ExtensionFunction
-owner_function = record {
-  name = owner;
-  argument_types = [];
-  is_variadic = false;
-  return_type = TAnyEntity;
-  check = None;
-}
+owner_function = record twice_function { name = owner; return_type = TAnyEntity }
 
 abbrev pub alice_owns : Interpretation
 alice_owns = record {
@@ -106,17 +101,10 @@ abbrev pub owned : World
 owned = record reading { functions = alice_owns }
 
 pub record TableFaultsGoWrongIn (m : ValidationMode) : Type 0 where
-  pub faultless : has_fault wiki_schema ≡ false
-  pub formed : has_formed_types wiki_schema ≡ true
-  pub faulty : table_fault (owned_basis m).table.functions
-      ≡ Some ExtensionTableError.BadReturnType
+  pub premises :
+      ArePremises (owned_basis m) false true (Some ExtensionTableError.BadReturnType) owned
   pub closed : IsClosedIn m (owned_basis m)
-  pub conforming : IsConforming (owned_basis m) owned
-  pub policy : IsAskedPolicy (owned_basis m) owner_has_profile owned
-  pub passes : Passes (owned_basis m) owner_has_profile
-  pub within : PolicyIsWithinLevel (owned_basis m) owner_has_profile 0
-  pub held : HoldsSlice owned.request owned.store 0 (slice_of owned 0)
-  pub differs : DiffersIn owner_has_profile owned (slice_of owned 0)
+  pub goes_wrong : DiffersInSlice Passes (owned_basis m) owner_has_profile 0 owned
       (Gives (VBool false)) (Gives (VBool true))
 
 -- ---- an external type
@@ -140,18 +128,10 @@ reading_a_guest = record reading {
 }
 
 pub record ExternalTypesGoWrongIn (m : ValidationMode) : Type 0 where
-  pub faultless : has_fault guests ≡ false
-  pub formed : has_formed_types guests ≡ true
-  pub functions : table_fault (by_schema guests m).table.functions ≡ None
+  pub premises : ArePremises (by_schema guests m) false true None reading_a_guest
   pub mode : (by_schema guests m).mode ≡ m
-  pub conforming : IsConforming (by_schema guests m) reading_a_guest
-  pub policy : IsAskedPolicy (by_schema guests m) guided_guest reading_a_guest
-  pub passes : PassesWarned (by_schema guests m) guided_guest
-  pub within : PolicyIsWithinLevel (by_schema guests m) guided_guest 1
-  pub held : HoldsSlice reading_a_guest.request reading_a_guest.store 1
-      (slice_of reading_a_guest 1)
-  pub differs : DiffersIn guided_guest reading_a_guest (slice_of reading_a_guest 1)
-      (Fails MissingEntity) (Gives (VBool true))
+  pub goes_wrong : DiffersInSlice PassesWarned (by_schema guests m) guided_guest 1
+      reading_a_guest (Fails MissingEntity) (Gives (VBool true))
 
 pub record SchemasAreNeededIn (m : ValidationMode) : Type 0 where
   pub faults : FaultsGoWrongIn m
@@ -163,6 +143,9 @@ pub record SchemasAreNeededIn (m : ValidationMode) : Type 0 where
 -- a request comes with a record of two attributes, and with one that has one name twice
 abbrev pub unformed : Schema
 unformed = record { types = wiki_types; actions = declared_read page twice_context ∷ [] }
+
+abbrev pub unformed_basis : Basis
+unformed_basis = by_schema unformed Permissive
 
 -- `(if principal == User::"bob" then context.twice else context.both) has b && principal.active`,
 -- of which the first is False
@@ -182,14 +165,7 @@ reading_with_b = record reading {
 }
 
 pub record FormIsNeeded : Type 0 where
-  pub faultless : has_fault unformed ≡ false
-  pub not_formed : has_formed_types unformed ≡ false
-  pub functions : table_fault (by_schema unformed Permissive).table.functions ≡ None
-  pub closed : IsClosedIn Permissive (by_schema unformed Permissive)
-  pub conforming : IsConforming (by_schema unformed Permissive) reading_with_b
-  pub policy : IsAskedPolicy (by_schema unformed Permissive) active_with_b reading_with_b
-  pub passes : PassesWarned (by_schema unformed Permissive) active_with_b
-  pub within : PolicyIsWithinLevel (by_schema unformed Permissive) active_with_b 0
-  pub held : HoldsSlice reading_with_b.request reading_with_b.store 0 (slice_of reading_with_b 0)
-  pub differs : DiffersIn active_with_b reading_with_b (slice_of reading_with_b 0)
+  pub premises : ArePremises unformed_basis false false None reading_with_b
+  pub closed : IsClosedIn Permissive unformed_basis
+  pub goes_wrong : DiffersInSlice PassesWarned unformed_basis active_with_b 0 reading_with_b
       (Fails MissingEntity) (Gives (VBool true))

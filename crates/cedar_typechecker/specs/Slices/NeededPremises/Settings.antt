@@ -26,8 +26,7 @@ use Rattle.cedar_typing.specs.TypedExpr.{Source, TypedTree}
 use Rattle.cedar_typechecker.specs.Levels.Errors.{IsWithinLevel}
 use Rattle.cedar_typechecker.specs.Slices.Examples.{resource}
 use Rattle.cedar_typechecker.specs.Slices.Examples.World.{page, read, read_context, wiki_basis, reading, slice_of}
-use Rattle.cedar_typechecker.specs.Slices.NeededPremises.Differing.{IsAskedIn, IsAskedPolicy, DiffersIn}
-use Rattle.cedar_typechecker.specs.Slices.Policies.{PolicyIsWithinLevel}
+use Rattle.cedar_typechecker.specs.Slices.NeededPremises.Differing.{IsAskedIn, DiffersInSlice}
 use Rattle.cedar_typechecker.specs.Slices.Reach.{HoldsSlice}
 use Rattle.cedar_typechecker.specs.Slices.Soundness.{with_store, levels_in}
 
@@ -55,11 +54,7 @@ is_no_user =
 
 pub record PartialGoesWrong : Type 0 where
   pub asked : IsAskedIn Partial (wiki_basis Partial) reading
-  pub policy : IsAskedPolicy (wiki_basis Partial) is_no_user reading
-  pub passes : Passes (wiki_basis Partial) is_no_user
-  pub within : PolicyIsWithinLevel (wiki_basis Partial) is_no_user 0
-  pub held : HoldsSlice reading.request reading.store 0 (slice_of reading 0)
-  pub differs : DiffersIn is_no_user reading (slice_of reading 0)
+  pub goes_wrong : DiffersInSlice Passes (wiki_basis Partial) is_no_user 0 reading
       (Gives (VBool false)) (Gives (VBool true))
 
 -- ---- slots that are not linked

@@ -1,7 +1,7 @@
 -- What is asked of the world is needed: that the request and the store conform. (That the extension
 -- functions keep their table is not needed here: no value that they give is looked up in the
 -- store.)
-use Rattle.std.specs.Prelude.{true, [], ◌∷◌, codes}
+use Rattle.std.specs.Prelude.{ℕ, true, [], ◌∷◌, codes}
 use Rattle.cedar_types.specs.declared.base.types.ValidationMode.{ValidationMode}
 use Rattle.cedar_types.specs.Values.Stores.{ConformingStore}
 use Rattle.cedar_types.specs.Templates.{PlainTemplate}
@@ -14,10 +14,16 @@ use Rattle.cedar_typing.specs.Examples.Greeting.{stored_action}
 use Rattle.cedar_typing.specs.Examples.Permissive.{team, staff}
 use Rattle.cedar_typing.specs.Examples.PolicySoundness.{PassesWarned, policy_when}
 use Rattle.cedar_typechecker.specs.Slices.Examples.{active_of, has_guide, guide_of, resource}
-use Rattle.cedar_typechecker.specs.Slices.Examples.World.{read, wiki_schema, wiki_basis, guided_wiki, reading, slice_of}
-use Rattle.cedar_typechecker.specs.Slices.NeededPremises.Differing.{IsAskedCheckerIn, IsAskedPolicy, DiffersIn}
-use Rattle.cedar_typechecker.specs.Slices.Policies.{PolicyIsWithinLevel}
-use Rattle.cedar_typechecker.specs.Slices.Reach.{HoldsSlice}
+use Rattle.cedar_typechecker.specs.Slices.Examples.World.{read, wiki_schema, wiki_basis, guided_wiki, reading}
+use Rattle.cedar_typechecker.specs.Slices.NeededPremises.Differing.{IsAskedCheckerIn, DiffersInSlice}
+
+-- the checker and the functions are as asked, and yet the policy differs
+pub record WikiGoesWrongIn (m : ValidationMode) (t : PlainTemplate) (n : ℕ) (world : World) :
+    Type 0 where
+  pub checker : IsAskedCheckerIn m (wiki_basis m)
+  pub functions : KeepsTable (wiki_basis m).table world.functions
+  pub goes_wrong : DiffersInSlice PassesWarned (wiki_basis m) t n world
+      (Fails MissingEntity) (Gives (VBool true))
 
 -- `a is Team && a.lead.active`
 abbrev pub is_led : Shape → Shape
@@ -33,15 +39,8 @@ abbrev pub staff_reads : World
 staff_reads = record reading { request = record reading.request { principal = staff } }
 
 pub record RequestsMustConformIn (m : ValidationMode) : Type 0 where
-  pub checker : IsAskedCheckerIn m (wiki_basis m)
   pub store : ConformingStore wiki_schema staff_reads.store
-  pub functions : KeepsTable (wiki_basis m).table staff_reads.functions
-  pub policy : IsAskedPolicy (wiki_basis m) teams_read staff_reads
-  pub passes : PassesWarned (wiki_basis m) teams_read
-  pub within : PolicyIsWithinLevel (wiki_basis m) teams_read 0
-  pub held : HoldsSlice staff_reads.request staff_reads.store 0 (slice_of staff_reads 0)
-  pub differs : DiffersIn teams_read staff_reads (slice_of staff_reads 0)
-      (Fails MissingEntity) (Gives (VBool true))
+  pub others : WikiGoesWrongIn m teams_read 0 staff_reads
 
 -- ---- the store
 
@@ -53,15 +52,8 @@ abbrev pub staff_guides : World
 staff_guides = record reading { store = (read, stored_action []) ∷ guided_wiki staff }
 
 pub record StoresMustConformIn (m : ValidationMode) : Type 0 where
-  pub checker : IsAskedCheckerIn m (wiki_basis m)
   pub request : ConformingRequest wiki_schema staff_guides.request
-  pub functions : KeepsTable (wiki_basis m).table staff_guides.functions
-  pub policy : IsAskedPolicy (wiki_basis m) teams_guide staff_guides
-  pub passes : PassesWarned (wiki_basis m) teams_guide
-  pub within : PolicyIsWithinLevel (wiki_basis m) teams_guide 1
-  pub held : HoldsSlice staff_guides.request staff_guides.store 1 (slice_of staff_guides 1)
-  pub differs : DiffersIn teams_guide staff_guides (slice_of staff_guides 1)
-      (Fails MissingEntity) (Gives (VBool true))
+  pub others : WikiGoesWrongIn m teams_guide 1 staff_guides
 
 pub record WorldsAreNeededIn (m : ValidationMode) : Type 0 where
   pub request : RequestsMustConformIn m

@@ -1,7 +1,7 @@
 // All attributes of a type, in a schema.
 ghost use Rattle.std.specs.Prelude.{◌≡◌, IfOk};
 ghost use Rattle.cedar_types.specs.Names.{type_of};
-ghost use Rattle.cedar_types.specs.Types.{ty_of, kind_of, lub_of, attributes_of, no_attrs};
+ghost use Rattle.cedar_types.specs.Types.{ty_of, lub_of, attributes_of, no_attrs};
 ghost use Rattle.cedar_types.specs.Types.Lookups.{attributes_in, types_attributes, declared_attributes, kind_attributes};
 ghost use Rattle.cedar_types.specs.Schemas.Contents.{schema_of};
 ghost use Rattle.cedar_types.specs.Schemas.Declarations.{type_kind};
@@ -35,13 +35,10 @@ impl CedarType {
                 attributes,
                 is_open: _open,
             } => attributes.clone(),
-            CedarType::Entity(kind) => kind_attributes(alloc, schema, kind),
-            CedarType::Never => no_attributes(alloc),
-            CedarType::Bool(_) => no_attributes(alloc),
-            CedarType::Long => no_attributes(alloc),
-            CedarType::String => no_attributes(alloc),
-            CedarType::Set(_) => no_attributes(alloc),
-            CedarType::AnySet => no_attributes(alloc),
+            CedarType::Entity(EntityKind::Entity(lub)) => types_attributes(alloc, schema, lub),
+            CedarType::Entity(EntityKind::AnyEntity) | CedarType::Never => no_attributes(alloc),
+            CedarType::Bool(_) | CedarType::Long | CedarType::String => no_attributes(alloc),
+            CedarType::Set(_) | CedarType::AnySet => no_attributes(alloc),
             CedarType::Extension(_) => no_attributes(alloc),
         }
     }
@@ -51,20 +48,6 @@ fn no_attributes(alloc: Global) -> Result<Attributes, AllocError>
     ensures { IfOk result (λ xs. attributes_of xs ≡ no_attrs) }
 {
     Attributes::with_attributes(alloc, BTreeMap::new(alloc))
-}
-
-fn kind_attributes(
-    alloc: Global,
-    schema: &ValidatorSchema,
-    kind: &EntityKind,
-) -> Result<Attributes, AllocError>
-    ensures { IfOk result (λ xs.
-        attributes_of xs ≡ attributes_in (schema_of schema.now) (kind_of kind.now)) }
-{
-    match kind {
-        EntityKind::Entity(lub) => types_attributes(alloc, schema, lub),
-        EntityKind::AnyEntity => no_attributes(alloc),
-    }
 }
 
 /// What all of the types declare.

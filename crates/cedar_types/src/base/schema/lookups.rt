@@ -2,7 +2,7 @@
 ghost use Rattle.std.specs.Prelude.{◌≡◌, [], ◌∷◌, IfOk, option_map, is_some};
 ghost use Rattle.std.specs.List.{list_any};
 ghost use Rattle.cedar_types.specs.Names.{text_of, type_of, uid_of};
-ghost use Rattle.cedar_types.specs.Types.{ty_of, kind_of, lub_of, is_open_tag, TEntity};
+ghost use Rattle.cedar_types.specs.Types.{ty_of, lub_of, is_open_tag, TEntity};
 ghost use Rattle.cedar_types.specs.Schemas.Declarations.{type_kind};
 ghost use Rattle.cedar_types.specs.Types.Lookups.{attribute_view, attribute_type, may_have, may_declare, literal_type, declares_entity, kind_attribute, declared_attribute, joined_attribute, types_attribute};
 ghost use Rattle.cedar_types.specs.Schemas.Contents.{schema_of};
@@ -32,14 +32,10 @@ impl CedarType {
                 attributes,
                 is_open: _open,
             } => copied(attributes.get_attr(attr)),
-            CedarType::Entity(kind) => kind_lookup(alloc, schema, kind, attr),
-            CedarType::Never => Ok(None),
-            CedarType::Bool(_) => Ok(None),
-            CedarType::Long => Ok(None),
-            CedarType::String => Ok(None),
-            CedarType::Set(_) => Ok(None),
-            CedarType::AnySet => Ok(None),
-            CedarType::Extension(_) => Ok(None),
+            CedarType::Entity(EntityKind::Entity(lub)) => schema.types_lookup(alloc, lub, attr),
+            CedarType::Entity(EntityKind::AnyEntity) => Ok(None),
+            CedarType::Never | CedarType::Bool(_) | CedarType::Long | CedarType::String => Ok(None),
+            CedarType::Set(_) | CedarType::AnySet | CedarType::Extension(_) => Ok(None),
         }
     }
 
@@ -52,14 +48,10 @@ impl CedarType {
                 attributes,
                 is_open,
             } => attributes.get_attr(attr).is_some() || is_open_record(*is_open),
-            CedarType::Entity(kind) => kind_may_have(schema, kind, attr),
-            CedarType::Never => true,
-            CedarType::Bool(_) => false,
-            CedarType::Long => false,
-            CedarType::String => false,
-            CedarType::Set(_) => false,
-            CedarType::AnySet => false,
-            CedarType::Extension(_) => false,
+            CedarType::Entity(EntityKind::Entity(lub)) => types_may_have(schema, lub, attr),
+            CedarType::Entity(EntityKind::AnyEntity) | CedarType::Never => true,
+            CedarType::Bool(_) | CedarType::Long | CedarType::String => false,
+            CedarType::Set(_) | CedarType::AnySet | CedarType::Extension(_) => false,
         }
     }
 
@@ -114,40 +106,27 @@ fn is_open_record(tag: OpenTag) -> bool
     }
 }
 
-fn kind_lookup(
-    alloc: Global,
-    schema: &ValidatorSchema,
-    kind: &EntityKind,
-    attr: &RcStr,
-) -> Result<Option<AttributeType>, AllocError>
-    ensures { IfOk result (λ o. option_map attribute_view o
-        ≡ attribute_type (schema_of schema.now) (kind_of kind.now) (text_of attr.now)) }
-{
-    match kind {
-        EntityKind::Entity(lub) => types_lookup(alloc, schema, lub, attr),
-        EntityKind::AnyEntity => Ok(None),
+impl ValidatorSchema {
+    /// What all of the types declare.
+    fn types_lookup(
+        &self,
+        alloc: Global,
+        lub: &EntityLUB,
+        attr: &RcStr,
+    ) -> Result<Option<AttributeType>, AllocError>
+        ensures { IfOk result (λ o. option_map attribute_view o
+            ≡ types_attribute (schema_of self.now).types (text_of attr.now) (lub_of lub.now)) }
+    {
+        let mut types = lub.iter();
+        let Some(first) = types.next() else {
+            return Ok(None);
+        };
+        let mut found = copied(declared_lookup(self, first, attr))?;
+        for entity_type in types {
+            found = joined(alloc, &found, declared_lookup(self, entity_type, attr))?;
+        }
+        Ok(found)
     }
-}
-
-/// What all of the types declare.
-fn types_lookup(
-    alloc: Global,
-    schema: &ValidatorSchema,
-    lub: &EntityLUB,
-    attr: &RcStr,
-) -> Result<Option<AttributeType>, AllocError>
-    ensures { IfOk result (λ o. option_map attribute_view o
-        ≡ types_attribute (schema_of schema.now).types (text_of attr.now) (lub_of lub.now)) }
-{
-    let mut types = lub.iter();
-    let Some(first) = types.next() else {
-        return Ok(None);
-    };
-    let mut found = copied(declared_lookup(schema, first, attr))?;
-    for entity_type in types {
-        found = joined(alloc, &found, declared_lookup(schema, entity_type, attr))?;
-    }
-    Ok(found)
 }
 
 /// What one type declares.
@@ -216,15 +195,6 @@ fn copied(attribute: Option<&AttributeType>) -> Result<Option<AttributeType>, Al
             is_required: a.is_required,
         })),
         None => Ok(None),
-    }
-}
-
-fn kind_may_have(schema: &ValidatorSchema, kind: &EntityKind, attr: &RcStr) -> bool
-    ensures { result ≡ may_have (schema_of schema.now) (kind_of kind.now) (text_of attr.now) }
-{
-    match kind {
-        EntityKind::Entity(lub) => types_may_have(schema, lub, attr),
-        EntityKind::AnyEntity => true,
     }
 }
 

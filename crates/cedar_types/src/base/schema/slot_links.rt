@@ -1,10 +1,10 @@
 // The types that the slots of a template are linked to, in one environment.
-ghost use Rattle.std.specs.Prelude.{◌≡◌, ◌++◌, ◌∷◌, [], map, Some, IfOk, OnOk};
+ghost use Rattle.std.specs.Prelude.{◌≡◌, ◌++◌, ◌∷◌, [], map, IfOk, OnOk};
 ghost use Rattle.cedar_types.specs.Names.{type_of};
 ghost use Rattle.cedar_types.specs.Templates.{scope_of};
 ghost use Rattle.cedar_types.specs.Schemas.Contents.{schema_of};
 ghost use Rattle.cedar_types.specs.Environments.Linking.{slot_links as links_of_slot, slot_types, type_names, types_above};
-ghost use Rattle.cedar_types.specs.Environments.LinkViews.{link_of};
+ghost use Rattle.cedar_types.specs.Environments.LinkViews.{link_of, AddsLinks};
 
 use crate::base::names::entities::EntityType;
 use crate::base::schema::ValidatorSchema;
@@ -43,11 +43,9 @@ fn add_types<'a>(
     own: &'a EntityType,
     links: &mut Vec<Option<&'a EntityType>>,
 ) -> Result<(), AllocError>
-    ensures { OnOk result (
-        map link_of links.new.items
-        ≡ map link_of links.old.items
-        ++ map (λ p. Some p)
-        (slot_types (schema_of schema.now).types (scope_of constraint.now) (type_of own.now))) }
+    ensures { OnOk result (AddsLinks links.old.items
+        (slot_types (schema_of schema.now).types (scope_of constraint.now) (type_of own.now))
+        links.new.items) }
 {
     match constraint {
         PrincipalOrResourceConstraint::Eq(_) => {
@@ -68,11 +66,9 @@ fn add_types_above_and_own<'a>(
     own: &'a EntityType,
     links: &mut Vec<Option<&'a EntityType>>,
 ) -> Result<(), AllocError>
-    ensures { OnOk result (
-        map link_of links.new.items
-        ≡ map link_of links.old.items
-        ++ map (λ p. Some p)
-        (types_above (schema_of schema.now).types (type_of own.now) ++ (type_of own.now ∷ []))) }
+    ensures { OnOk result (AddsLinks links.old.items
+        (types_above (schema_of schema.now).types (type_of own.now) ++ (type_of own.now ∷ []))
+        links.new.items) }
 {
     for declared in &schema.types.declared {
         if has_descendant(declared, own) {
@@ -89,9 +85,7 @@ fn add_all_types<'a>(
     links: &mut Vec<Option<&'a EntityType>>,
 ) -> Result<(), AllocError>
     ensures { OnOk result (
-        map link_of links.new.items
-        ≡ map link_of links.old.items
-        ++ map (λ p. Some p) (type_names (schema_of schema.now).types)) }
+        AddsLinks links.old.items (type_names (schema_of schema.now).types) links.new.items) }
 {
     for declared in &schema.types.declared {
         links.push(Some(&declared.name))?;

@@ -29,28 +29,26 @@ impl ValidatorSchema {
             map ty_of s.keys ≡ tag_types (schema_of self.now) (kind_of kind.now)) }
     {
         let tags = match kind {
-            EntityKind::Entity(lub) => tags_of_types(alloc, self, lub)?,
+            EntityKind::Entity(lub) => self.tags_of_types(alloc, lub)?,
             EntityKind::AnyEntity => tags_of_any(alloc, &self.types.declared)?,
         };
         types_in_order(alloc, tags)
     }
 }
 
-/// What these types declare.
 #[tactic(auto, unfolding(crate::specs::Types::lub_of))]
-fn tags_of_types(
-    alloc: Global,
-    schema: &ValidatorSchema,
-    lub: &EntityLUB,
-) -> Result<Vec<CedarType>, AllocError>
-    ensures { IfOk result (λ v.
-        map ty_of v.items ≡ tags_of_types (schema_of schema.now).types (lub_of lub.now)) }
-{
-    let mut tags = Vec::new(alloc);
-    for entity_type in lub.lub_elements.iter() {
-        add_declared_tags(schema, entity_type, &mut tags)?;
+impl ValidatorSchema {
+    /// What these types declare.
+    fn tags_of_types(&self, alloc: Global, lub: &EntityLUB) -> Result<Vec<CedarType>, AllocError>
+        ensures { IfOk result (λ v.
+            map ty_of v.items ≡ tags_of_types (schema_of self.now).types (lub_of lub.now)) }
+    {
+        let mut tags = Vec::new(alloc);
+        for entity_type in lub.lub_elements.iter() {
+            add_declared_tags(self, entity_type, &mut tags)?;
+        }
+        Ok(tags)
     }
-    Ok(tags)
 }
 
 /// What any of these types declares.

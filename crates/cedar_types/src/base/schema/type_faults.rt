@@ -114,15 +114,10 @@ pub(crate) fn is_record_type(t: &CedarType) -> bool
     ensures { result ≡ is_record (ty_of t.now) }
 {
     match t {
-        CedarType::Never => false,
-        CedarType::Bool(_) => false,
-        CedarType::Long => false,
-        CedarType::String => false,
-        CedarType::Set(_) => false,
-        CedarType::AnySet => false,
         CedarType::Record { .. } => true,
         CedarType::Entity(kind) => is_record_kind(kind),
-        CedarType::Extension(_) => false,
+        CedarType::Never | CedarType::Bool(_) | CedarType::Long | CedarType::String => false,
+        CedarType::Set(_) | CedarType::AnySet | CedarType::Extension(_) => false,
     }
 }
 

@@ -70,17 +70,9 @@ impl<'a> Iterator for Mentions<'a> {
         if self.ended {
             return None;
         }
-        match self.next_mention() {
-            Ok(Some(mention)) => Some(Ok(mention)),
-            Ok(None) => {
-                self.ended = true;
-                None
-            }
-            Err(refused) => {
-                self.ended = true;
-                Some(Err(refused))
-            }
-        }
+        let found = self.next_mention().transpose();
+        self.ended = !matches!(found, Some(Ok(_)));
+        found
     }
 }
 

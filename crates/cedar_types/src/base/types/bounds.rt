@@ -31,7 +31,7 @@ impl CedarType {
     }
 }
 
-/// The bound of two types.
+/// The bound of two types: where they differ, and the second is not Never, by the form of the first.
 #[cycle(bound)]
 fn bound(
     alloc: Global,
@@ -44,20 +44,6 @@ fn bound(
     if is_same(ty0, ty1) || is_never(ty1) {
         return Ok(Some(ty0.clone()?));
     }
-    bound_apart(alloc, ty0, ty1, mode)
-}
-
-/// The bound of a type with one that differs from it and is not Never.
-#[cycle(bound)]
-fn bound_apart(
-    alloc: Global,
-    ty0: &CedarType,
-    ty1: &CedarType,
-    mode: ValidationMode,
-) -> Result<Option<CedarType>, AllocError>
-    ensures { IfOk result (λ o.
-        option_map ty_of o ≡ apart_lub mode (ty_of ty0.now) (ty_of ty1.now)) }
-{
     match ty0 {
         CedarType::Never => Ok(Some(ty1.clone()?)),
         CedarType::Bool(_) => Ok(bool_bound(ty1)),
@@ -90,13 +76,9 @@ fn set_bound(
             None => Ok(None),
         },
         CedarType::AnySet => Ok(Some(CedarType::AnySet)),
-        CedarType::Never
-        | CedarType::Bool(_)
-        | CedarType::Long
-        | CedarType::String
-        | CedarType::Record { .. }
-        | CedarType::Entity(_)
-        | CedarType::Extension(_) => Ok(None),
+        CedarType::Never | CedarType::Bool(_) => Ok(None),
+        CedarType::Long | CedarType::String | CedarType::Extension(_) => Ok(None),
+        CedarType::Record { .. } | CedarType::Entity(_) => Ok(None),
     }
 }
 
@@ -119,14 +101,9 @@ fn record_bound(
             attributes: ys,
             is_open: p,
         } => records_bound(alloc, xs, o, ys, *p, mode),
-        CedarType::Never
-        | CedarType::Bool(_)
-        | CedarType::Long
-        | CedarType::String
-        | CedarType::Set(_)
-        | CedarType::AnySet
-        | CedarType::Entity(_)
-        | CedarType::Extension(_) => Ok(None),
+        CedarType::Never | CedarType::Bool(_) => Ok(None),
+        CedarType::Long | CedarType::String | CedarType::Extension(_) => Ok(None),
+        CedarType::Set(_) | CedarType::AnySet | CedarType::Entity(_) => Ok(None),
     }
 }
 

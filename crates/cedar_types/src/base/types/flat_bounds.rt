@@ -40,14 +40,9 @@ pub(crate) fn bool_bound(ty: &CedarType) -> Option<CedarType>
 {
     match ty {
         CedarType::Bool(_) => Some(CedarType::Bool(BoolType::AnyBool)),
-        CedarType::Never
-        | CedarType::Long
-        | CedarType::String
-        | CedarType::Set(_)
-        | CedarType::AnySet
-        | CedarType::Record { .. }
-        | CedarType::Entity(_)
-        | CedarType::Extension(_) => None,
+        CedarType::Never | CedarType::Entity(_) => None,
+        CedarType::Long | CedarType::String | CedarType::Extension(_) => None,
+        CedarType::Set(_) | CedarType::AnySet | CedarType::Record { .. } => None,
     }
 }
 
@@ -57,14 +52,9 @@ pub(crate) fn any_set_bound(ty: &CedarType) -> Option<CedarType>
 {
     match ty {
         CedarType::Set(_) => Some(CedarType::AnySet),
-        CedarType::Never
-        | CedarType::Bool(_)
-        | CedarType::Long
-        | CedarType::String
-        | CedarType::AnySet
-        | CedarType::Record { .. }
-        | CedarType::Entity(_)
-        | CedarType::Extension(_) => None,
+        CedarType::Never | CedarType::Bool(_) => None,
+        CedarType::Long | CedarType::String | CedarType::Extension(_) => None,
+        CedarType::AnySet | CedarType::Record { .. } | CedarType::Entity(_) => None,
     }
 }
 
@@ -74,15 +64,9 @@ pub(crate) fn any_entity_bound(ty: &CedarType) -> Option<CedarType>
 {
     match ty {
         CedarType::Entity(EntityKind::Entity(_)) => Some(CedarType::Entity(EntityKind::AnyEntity)),
-        CedarType::Entity(EntityKind::AnyEntity)
-        | CedarType::Never
-        | CedarType::Bool(_)
-        | CedarType::Long
-        | CedarType::String
-        | CedarType::Set(_)
-        | CedarType::AnySet
-        | CedarType::Record { .. }
-        | CedarType::Extension(_) => None,
+        CedarType::Entity(EntityKind::AnyEntity) | CedarType::Never | CedarType::Bool(_) => None,
+        CedarType::Long | CedarType::String | CedarType::Extension(_) => None,
+        CedarType::Set(_) | CedarType::AnySet | CedarType::Record { .. } => None,
     }
 }
 
@@ -107,13 +91,8 @@ pub(crate) fn entity_bound(
             let all = xs.least_upper_bound(alloc, ys)?;
             Ok(Some(CedarType::Entity(EntityKind::Entity(all))))
         }
-        CedarType::Never
-        | CedarType::Bool(_)
-        | CedarType::Long
-        | CedarType::String
-        | CedarType::Set(_)
-        | CedarType::AnySet
-        | CedarType::Record { .. }
-        | CedarType::Extension(_) => Ok(None),
+        CedarType::Never | CedarType::Bool(_) => Ok(None),
+        CedarType::Long | CedarType::String | CedarType::Extension(_) => Ok(None),
+        CedarType::Set(_) | CedarType::AnySet | CedarType::Record { .. } => Ok(None),
     }
 }

@@ -47,25 +47,15 @@ impl CedarType {
         match ty0 {
             CedarType::Entity(EntityKind::Entity(xs)) => match ty1 {
                 CedarType::Entity(EntityKind::Entity(ys)) => xs.is_disjoint(ys),
-                CedarType::Entity(EntityKind::AnyEntity)
-                | CedarType::Never
-                | CedarType::Bool(_)
-                | CedarType::Long
-                | CedarType::String
-                | CedarType::Set(_)
-                | CedarType::AnySet
-                | CedarType::Record { .. }
-                | CedarType::Extension(_) => false,
+                CedarType::Entity(EntityKind::AnyEntity) => false,
+                CedarType::Never | CedarType::Bool(_) => false,
+                CedarType::Long | CedarType::String | CedarType::Extension(_) => false,
+                CedarType::Set(_) | CedarType::AnySet | CedarType::Record { .. } => false,
             },
-            CedarType::Entity(EntityKind::AnyEntity)
-            | CedarType::Never
-            | CedarType::Bool(_)
-            | CedarType::Long
-            | CedarType::String
-            | CedarType::Set(_)
-            | CedarType::AnySet
-            | CedarType::Record { .. }
-            | CedarType::Extension(_) => false,
+            CedarType::Entity(EntityKind::AnyEntity) => false,
+            CedarType::Never | CedarType::Bool(_) => false,
+            CedarType::Long | CedarType::String | CedarType::Extension(_) => false,
+            CedarType::Set(_) | CedarType::AnySet | CedarType::Record { .. } => false,
         }
     }
 }
@@ -109,37 +99,39 @@ fn bound_with(
                     None => Ok(None),
                 }
             }
-            Err(bound) => flat_bound_with(alloc, ty, bound, mode),
+            Err(bound) => bound.flat_bound_with(alloc, ty, mode),
         },
-        _ => flat_bound_with(alloc, ty, bound, mode),
+        _ => bound.flat_bound_with(alloc, ty, mode),
     }
 }
 
-/// The same of types that are not two sets.
-fn flat_bound_with(
-    alloc: Global,
-    ty: &CedarType,
-    bound: CedarType,
-    mode: ValidationMode,
-) -> Result<Option<CedarType>, AllocError>
-    ensures { IfOk result (λ o. option_map ty_of o ≡ lub mode (ty_of bound) (ty_of ty.now)) }
-{
-    if is_strict(mode) {
-        let next = CedarType::least_upper_bound(alloc, &bound, ty, mode)?;
-        return Ok(next);
-    }
-    let Some(others) = entity_types(ty) else {
-        let next = CedarType::least_upper_bound(alloc, &bound, ty, mode)?;
-        return Ok(next);
-    };
-    match bound.into_entity_types() {
-        Ok(types) => {
-            let all = types.into_union(alloc, others)?;
-            Ok(Some(CedarType::of_entity_types(all)))
+impl CedarType {
+    /// What `bound_with` gives of types that are not two sets.
+    fn flat_bound_with(
+        self,
+        alloc: Global,
+        ty: &CedarType,
+        mode: ValidationMode,
+    ) -> Result<Option<CedarType>, AllocError>
+        ensures { IfOk result (λ o. option_map ty_of o ≡ lub mode (ty_of self) (ty_of ty.now)) }
+    {
+        if is_strict(mode) {
+            let next = CedarType::least_upper_bound(alloc, &self, ty, mode)?;
+            return Ok(next);
         }
-        Err(bound) => {
-            let next = CedarType::least_upper_bound(alloc, &bound, ty, mode)?;
-            Ok(next)
+        let Some(others) = entity_types(ty) else {
+            let next = CedarType::least_upper_bound(alloc, &self, ty, mode)?;
+            return Ok(next);
+        };
+        match self.into_entity_types() {
+            Ok(types) => {
+                let all = types.into_union(alloc, others)?;
+                Ok(Some(CedarType::of_entity_types(all)))
+            }
+            Err(bound) => {
+                let next = CedarType::least_upper_bound(alloc, &bound, ty, mode)?;
+                Ok(next)
+            }
         }
     }
 }

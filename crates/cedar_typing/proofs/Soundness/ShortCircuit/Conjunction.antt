@@ -9,13 +9,13 @@ use Rattle.cedar_typing.specs.Capabilities.{Caps, no_caps, union}
 use Rattle.cedar_typing.specs.Evaluation.Conformance.{AllHold, SaysTrue}
 use Rattle.cedar_typing.specs.Evaluation.Outcomes.{Test, test_of, of_test, and_test}
 use Rattle.cedar_typing.specs.Evaluation.World.{World, Outcome}
-use Rattle.cedar_typing.specs.Judgments.{Judgment}
+use Rattle.cedar_typing.specs.Judgments.{Judgment, Operand}
 use Rattle.cedar_typing.specs.Rules.ShortCircuit.{conjunction, sides_type, sides_caps, sides_annotation, short_circuit_rules, left_ends}
 use Rattle.cedar_typing.specs.Rules.ShortCircuit.{both_sides, left_ends_failed, side_failed}
 use Rattle.cedar_typing.specs.Soundness.{HasFound, IsSafe, IsTrueOutcome}
 use Rattle.cedar_typing.specs.TypeEnv.{TypeEnv}
 use Rattle.cedar_typing.specs.TypeTests.{accepts, bool_types, is_false, is_true, annotation_passes}
-use Rattle.cedar_typing.specs.TypedExpr.{TypedTree, annotation}
+use Rattle.cedar_typing.specs.TypedExpr.{TypedTree, annotation, at_place}
 use Rattle.cedar_typing.proofs.Views.Marks.{annotation-at_place}
 use Rattle.cedar_typing.proofs.Soundness.Capabilities.{hold_none, hold_either}
 use Rattle.cedar_typing.proofs.Soundness.Parts.{Sound, Sounds, IsSure, refused_sound}
@@ -102,6 +102,25 @@ module _ (world : World) where
     caps_hold_at_true = caps_hold_at_true;
   }
 
+  -- what is sound of a success of a certain type, where that is the type
+  pub at_type : (t s : Ty) (o p : Outcome) (c c' : Caps) → s ≡ t → (Sound world o true (Some t) c → Sound world p true (Some t) c')
+      → Sound world o true (Some s) c → Sound world p true (Some s) c'
+  at_type t s o p c c' e f h =
+      let P : Ty → Type 0 = λ s. Sound world o true (Some s) c → Sound world p true (Some s) c' in
+      subst P (sym e) f h
+
+  -- a whole that its left side ends, where that side failed: it stands for the whole
+  pub ended_failed : (env : TypeEnv) (l : Option Loc) (o p : Outcome) (A : Judgment) → Sounds world o A
+      → (k : Caps) (a : TypedTree) (es : List Finding) → Operand env bool_types l A false k a es
+      → (sort : BoolSort) → sort_of (annotation a) ≡ Some sort → (TestHas (test_of o) (Some sort) → HasFound (Some (sort_ty sort)) p)
+      → (place : Option Loc) → Sound world p false (annotation (at_place place a)) no_caps
+  ended_failed env l o p A left k a es i sort e has place =
+      let h = tested_operand world o env l A left false k a es i in
+      let P : Option BoolSort → Type 0 = λ s. TestHas (test_of o) s in
+      let Q : Option Ty → Type 0 = λ t. Sound world p false t no_caps in
+      let f : annotation a ≡ Some (sort_ty sort) = operand_sort world o env l A false k a es i ∙ ap (option_map sort_ty) e in
+      subst Q (sym (annotation-at_place place a ∙ f)) (refused_sound world p _ (has (subst P e h.typed)))
+
   -- ---- `&&`
 
   and_hold : (k l : BoolSort) (c c' : Caps) → AllHold world c → AllHold world c'
@@ -109,13 +128,8 @@ module _ (world : World) where
   and_hold k OnlyTrue c c' h i = hold_either world c c' h i
   and_hold k OnlyFalse c c' h i = hold_none world
   and_hold NoValue NoValue c c' h i = hold_either world c c' h i
-  and_hold AnyValue NoValue c c' h i = hold_either world c c' h i
-  and_hold OnlyTrue NoValue c c' h i = hold_either world c c' h i
-  and_hold OnlyFalse NoValue c c' h i = hold_either world c c' h i
   and_hold NoValue AnyValue c c' h i = hold_either world c c' h i
-  and_hold AnyValue AnyValue c c' h i = hold_either world c c' h i
-  and_hold OnlyTrue AnyValue c c' h i = hold_either world c c' h i
-  and_hold OnlyFalse AnyValue c c' h i = hold_either world c c' h i
+  and_hold k l c c' h i = hold_either world c c' h i
 
   and_success : (s t : Test) (k l : BoolSort) (c c' : Caps) → SoundTest world s true (Some k) c
       → (AllHold world c → SoundTest world t true (Some l) c')
@@ -137,9 +151,7 @@ module _ (world : World) where
     both = of_test (and_test (test_of o) (test_of o'))
 
     false_left : (s : Ty) (c : Caps) → is_false s ≡ true → Sound world o true (Some s) c → Sound world both true (Some s) no_caps
-    false_left s c e h =
-        let P : Ty → Type 0 = λ s. Sound world o true (Some s) c → Sound world both true (Some s) no_caps in
-        subst P (sym (false_type s e)) by_false h
+    false_left s c e = at_type (TBool False) s o both c no_caps (false_type s e) by_false
       where
         by_false : Sound world o true (Some (TBool False)) c → Sound world both true (Some (TBool False)) no_caps
         by_false s =
@@ -162,13 +174,8 @@ module _ (world : World) where
 
     and_recovery : (x : TypedTree) (es : List Finding) → Rules.recovers x es → Sound world both false (annotation x) no_caps
     and_recovery x es (left_ends_failed {c = k} {a = a} p n) =
-        let h = tested_operand world o env l A left false k a es p in
-        let e = false_sort (annotation a) (operand_sort world o env l A false k a es p) n in
-        let P : Option BoolSort → Type 0 = λ s. TestHas (test_of o) s in
-        let Q : Option Ty → Type 0 = λ t. Sound world both false t no_caps in
-        let f : annotation a ≡ Some (TBool False) = operand_sort world o env l A false k a es p ∙ ap (option_map sort_ty) e in
-        subst Q (sym (annotation-at_place m.place a ∙ f))
-        (refused_sound world both _ (false_has (test_of o) (test_of o') (subst P e h.typed)))
+        ended_failed env l o both A left k a es p OnlyFalse
+        (false_sort (annotation a) (operand_sort world o env l A false k a es p) n) (false_has (test_of o) (test_of o')) m.place
     and_recovery x es
         (side_failed {succeeded = succeeded} {succeeded' = succeeded'} {c = k} {c' = k'} {a = a} {b = b} {es = fs} {es' = fs'}
         p n p' q) =

@@ -1,5 +1,5 @@
 -- `||` does not go wrong.
-use Rattle.std.proofs.Common.{◌≡◌, true, false, List, Option, Some, option_map, refl, sym, ◌∙◌, ap, subst, arith}
+use Rattle.std.proofs.Common.{◌≡◌, true, false, List, Option, Some, option_map, refl, sym, ◌∙◌, subst, arith}
 use Rattle.cedar_types.specs.declared.base.location.Loc.{Loc}
 use Rattle.cedar_types.specs.declared.base.types.BoolType.TheVariants.{True}
 use Rattle.cedar_types.specs.Types.{Ty, TBool}
@@ -18,7 +18,7 @@ use Rattle.cedar_typing.specs.TypeTests.{is_true}
 use Rattle.cedar_typing.specs.TypedExpr.{TypedTree, annotation}
 use Rattle.cedar_typing.proofs.Views.Marks.{annotation-at_place}
 use Rattle.cedar_typing.proofs.Soundness.Capabilities.{hold_left, hold_right}
-use Rattle.cedar_typing.proofs.Soundness.ShortCircuit.Conjunction.{of_test_sound, derived_test, true_sort}
+use Rattle.cedar_typing.proofs.Soundness.ShortCircuit.Conjunction.{of_test_sound, at_type, ended_failed, derived_test, true_sort}
 use Rattle.cedar_typing.proofs.Soundness.Parts.{Sound, Sounds, IsSure, refused_sound}
 use Rattle.cedar_typing.proofs.Soundness.Tests.{BoolSort, NoValue, AnyValue, OnlyTrue, OnlyFalse, sort_ty, TestHas, SafeTest, SureSort, SoundTest, sort_of}
 use Rattle.cedar_typing.proofs.Soundness.Tests.{sorted, operand_sort, tested_operand}
@@ -63,12 +63,7 @@ module _ (world : World) where
   or_hold s t k OnlyFalse c c' h i n = h.caps_hold_if_true (left_true s t i.typed n)
   or_hold s t OnlyFalse NoValue c c' h i n = i.caps_hold_if_true (right_true s t h.typed n)
   or_hold s t OnlyFalse AnyValue c c' h i n = i.caps_hold_if_true (right_true s t h.typed n)
-  or_hold s t NoValue NoValue c c' h i n = either_true s t c c' h.caps_hold_if_true i.caps_hold_if_true n
-  or_hold s t NoValue AnyValue c c' h i n = either_true s t c c' h.caps_hold_if_true i.caps_hold_if_true n
-  or_hold s t AnyValue NoValue c c' h i n = either_true s t c c' h.caps_hold_if_true i.caps_hold_if_true n
-  or_hold s t AnyValue AnyValue c c' h i n = either_true s t c c' h.caps_hold_if_true i.caps_hold_if_true n
-  or_hold s t OnlyTrue NoValue c c' h i n = either_true s t c c' h.caps_hold_if_true i.caps_hold_if_true n
-  or_hold s t OnlyTrue AnyValue c c' h i n = either_true s t c c' h.caps_hold_if_true i.caps_hold_if_true n
+  or_hold s t k l c c' h i n = either_true s t c c' h.caps_hold_if_true i.caps_hold_if_true n
 
   -- where the whole is True, the side that makes it so hands on what holds in any case
   or_sure : (k l : BoolSort) (c c' : Caps) → (SureSort (Some k) → AllHold world c)
@@ -77,16 +72,9 @@ module _ (world : World) where
   or_sure k OnlyTrue c c' f g n = g tt
   or_sure NoValue OnlyFalse c c' f g n = f tt
   or_sure OnlyTrue OnlyFalse c c' f g n = f tt
-  or_sure AnyValue OnlyFalse c c' f g n = absurd n
-  or_sure OnlyFalse OnlyFalse c c' f g n = absurd n
   or_sure OnlyFalse NoValue c c' f g n = g tt
-  or_sure OnlyFalse AnyValue c c' f g n = absurd n
-  or_sure NoValue NoValue c c' f g n = absurd n
   or_sure NoValue AnyValue c c' f g n = absurd n
-  or_sure AnyValue NoValue c c' f g n = absurd n
-  or_sure AnyValue AnyValue c c' f g n = absurd n
-  or_sure OnlyTrue NoValue c c' f g n = absurd n
-  or_sure OnlyTrue AnyValue c c' f g n = absurd n
+  or_sure k l c c' f g n = absurd n
 
   or_success : (s t : Test) (k l : BoolSort) (c c' : Caps) → SoundTest world s true (Some k) c → SoundTest world t true (Some l) c'
       → Sound world (of_test (or_test s t)) true (Some (sides_type disjunction (sort_ty k) (sort_ty l)))
@@ -105,9 +93,7 @@ module _ (world : World) where
     one_of_both = of_test (or_test (test_of o) (test_of o'))
 
     true_left : (s : Ty) (c : Caps) → is_true s ≡ true → Sound world o true (Some s) c → Sound world one_of_both true (Some s) c
-    true_left s c e h =
-        let P : Ty → Type 0 = λ s. Sound world o true (Some s) c → Sound world one_of_both true (Some s) c in
-        subst P (sym (true_type s e)) by_true h
+    true_left s c e = at_type world (TBool True) s o one_of_both c c (true_type s e) by_true
       where
         by_true : Sound world o true (Some (TBool True)) c → Sound world one_of_both true (Some (TBool True)) c
         by_true s =
@@ -127,13 +113,8 @@ module _ (world : World) where
 
     or_recovery : (x : TypedTree) (es : List Finding) → Rules.recovers x es → Sound world one_of_both false (annotation x) no_caps
     or_recovery x es (left_ends_failed {c = k} {a = a} p n) =
-        let h = tested_operand world o env l A left false k a es p in
-        let e = true_sort (annotation a) (operand_sort world o env l A false k a es p) n in
-        let P : Option BoolSort → Type 0 = λ s. TestHas (test_of o) s in
-        let Q : Option Ty → Type 0 = λ t. Sound world one_of_both false t no_caps in
-        let f : annotation a ≡ Some (TBool True) = operand_sort world o env l A false k a es p ∙ ap (option_map sort_ty) e in
-        subst Q (sym (annotation-at_place m.place a ∙ f))
-        (refused_sound world one_of_both _ (true_has (test_of o) (test_of o') (subst P e h.typed)))
+        ended_failed world env l o one_of_both A left k a es p OnlyTrue
+        (true_sort (annotation a) (operand_sort world o env l A false k a es p) n) (true_has (test_of o) (test_of o')) m.place
     or_recovery x es
         (side_failed {succeeded = succeeded} {succeeded' = succeeded'} {c = k} {c' = k'} {a = a} {b = b} {es = fs} {es' = fs'}
         p n p' q) =

@@ -1,14 +1,14 @@
 -- What leaves and tests come to.
-use Rattle.std.specs.Prelude.{pos, true, codes}
+use Rattle.std.specs.Prelude.{pos, Bool, true, false, not, List, [], ◌∷◌, codes}
 use Rattle.cedar_types.specs.declared.base.expressions.operators.Var.{Var}
 use Rattle.cedar_types.specs.declared.base.expressions.operators.UnaryOp.{UnaryOp}
 use Rattle.cedar_types.specs.declared.base.names.slots.SlotId.{SlotId}
-use Rattle.cedar_types.specs.Expressions.Tree.{var, slot, unknown, if_then_else, and, or, unary, record_of, no_fields}
+use Rattle.cedar_types.specs.Expressions.Tree.{Shape, var, slot, unknown, if_then_else, and, or, unary, record_of, no_fields}
 use Rattle.cedar_types.specs.Values.{VBool, VEntity, VSet, VRecord, VExtension, no_values, no_entries, more_entries}
-use Rattle.cedar_typing.specs.Evaluation.World.{TypeFailure, MissingEntity, UnlinkedSlot, UnknownValue}
-use Rattle.cedar_typing.specs.Examples.Evaluation.{Yields, YieldsTrue, YieldsFalse, FailsAs}
-use Rattle.cedar_typing.specs.Examples.Expressions.{true_lit, false_lit, one, two, text, the, principal, context, set0, set2, set3, record2}
-use Rattle.cedar_typing.specs.Examples.Expressions.{missing, mistyped}
+use Rattle.cedar_typing.specs.Evaluation.World.{TypeFailure, MissingEntity, UnlinkedSlot, UnknownValue, Outcome, Gives, Fails}
+use Rattle.cedar_typing.specs.Examples.Evaluation.{Yields, YieldsTrue, YieldsFalse, FailsAs, AllComeTo}
+use Rattle.cedar_typing.specs.Examples.Expressions.{lit_of, true_lit, false_lit, one, two, text, the, principal, context, set0, set2, set3}
+use Rattle.cedar_typing.specs.Examples.Expressions.{record2, missing, mistyped}
 use Rattle.cedar_typing.specs.Examples.Greeting.{number, words, two_values}
 use Rattle.cedar_typing.specs.Examples.World.{named, ip_address, alice, bob, gone, greet}
 
@@ -60,6 +60,25 @@ pub record LeafExamples : Type 0 where
   -- `{a: 1, b: 1 + true}`
   pub record_later_failure : FailsAs (record2 (codes "a") one (codes "b") mistyped) TypeFailure
 
+-- `&&`, which False ends, and `||`, which True ends: b is what ends it
+abbrev pub ended_by : (Shape → Shape → Shape) → Bool → List (Shape × Outcome)
+ended_by join b =
+    -- `true && true`, `false || false`
+    (join (lit_of (not b)) (lit_of (not b)), Gives (VBool (not b)))
+    -- `true && false`, `false || true`
+    ∷ (join (lit_of (not b)) (lit_of b), Gives (VBool b))
+    -- `false && User::"gone".age`, `true || User::"gone".age`: the right side is not evaluated
+    ∷ (join (lit_of b) missing, Gives (VBool b))
+    -- `true && 1`, `false || 1`
+    ∷ (join (lit_of (not b)) one, Fails TypeFailure)
+    -- `true && User::"gone".age`, `false || User::"gone".age`
+    ∷ (join (lit_of (not b)) missing, Fails MissingEntity)
+    -- `1 && User::"gone".age`, `1 || User::"gone".age`: the left side is looked at first
+    ∷ (join one missing, Fails TypeFailure)
+    -- `User::"gone".age && false`, `User::"gone".age || true`
+    ∷ (join missing (lit_of b), Fails MissingEntity)
+    ∷ []
+
 pub record TestExamples : Type 0 where
   -- `if true then 1 else User::"gone".age`: the other branch is not evaluated
   pub if_true : Yields (if_then_else tt true_lit one missing) (number (pos 1))
@@ -71,34 +90,8 @@ pub record TestExamples : Type 0 where
   pub if_not_bool : FailsAs (if_then_else tt one missing missing) TypeFailure
   -- `if User::"gone".age then 1 else 2`
   pub if_test_fails : FailsAs (if_then_else tt missing one two) MissingEntity
-  -- `true && true`
-  pub and_true : YieldsTrue (and tt true_lit true_lit)
-  -- `true && false`
-  pub and_right_false : YieldsFalse (and tt true_lit false_lit)
-  -- `false && User::"gone".age`: the right side is not evaluated
-  pub and_left_false : YieldsFalse (and tt false_lit missing)
-  -- `true && 1`
-  pub and_right_not_bool : FailsAs (and tt true_lit one) TypeFailure
-  -- `true && User::"gone".age`
-  pub and_right_fails : FailsAs (and tt true_lit missing) MissingEntity
-  -- `1 && User::"gone".age`: the left side is looked at first
-  pub and_left_not_bool : FailsAs (and tt one missing) TypeFailure
-  -- `User::"gone".age && false`
-  pub and_left_fails : FailsAs (and tt missing false_lit) MissingEntity
-  -- `true || User::"gone".age`: the right side is not evaluated
-  pub or_left_true : YieldsTrue (or tt true_lit missing)
-  -- `false || true`
-  pub or_right_true : YieldsTrue (or tt false_lit true_lit)
-  -- `false || false`
-  pub or_false : YieldsFalse (or tt false_lit false_lit)
-  -- `false || 1`
-  pub or_right_not_bool : FailsAs (or tt false_lit one) TypeFailure
-  -- `false || User::"gone".age`
-  pub or_right_fails : FailsAs (or tt false_lit missing) MissingEntity
-  -- `1 || User::"gone".age`: the left side is looked at first
-  pub or_left_not_bool : FailsAs (or tt one missing) TypeFailure
-  -- `User::"gone".age || true`
-  pub or_left_fails : FailsAs (or tt missing true_lit) MissingEntity
+  pub and_false : AllComeTo (ended_by (and tt) false)
+  pub or_true : AllComeTo (ended_by (or tt) true)
   -- `!true`
   pub not_true : YieldsFalse (unary tt UnaryOp.Not true_lit)
   -- `!false`

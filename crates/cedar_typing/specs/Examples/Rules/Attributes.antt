@@ -1,14 +1,15 @@
 -- Typing of `has` and `.`.
-use Rattle.std.specs.Prelude.{ℕ, [], ◌∷◌, codes}
+use Rattle.std.specs.Prelude.{ℕ, List, [], ◌∷◌, codes}
 use Rattle.cedar_types.specs.declared.base.expressions.operators.Var.{Var}
 use Rattle.cedar_types.specs.declared.base.types.BoolType.TheVariants.{AnyBool, True, False}
 use Rattle.cedar_types.specs.declared.base.types.ValidationMode.TheVariants.{Strict}
+use Rattle.cedar_types.specs.Names.{Text}
 use Rattle.cedar_types.specs.Types.{TNever, TBool, TLong, TAnyEntity}
 use Rattle.cedar_types.specs.Expressions.Tree.{Shape, var, if_then_else, get_attr, has_attr}
 use Rattle.cedar_typing.specs.Capabilities.{no_caps}
 use Rattle.cedar_typing.specs.Examples.Expressions.{one, principal, dot, has, has_vip, has_age, get_vip, get_boss, get_rank, has_friend}
 use Rattle.cedar_typing.specs.Examples.Expressions.{node}
-use Rattle.cedar_typing.specs.Examples.Rules.{TypesAs, TypesAsIn, FailsWith, FailsWithIn, marked_principal, aged_principal, with_friend}
+use Rattle.cedar_typing.specs.Examples.Rules.{TypesAs, TypesAsIn, FailsWith, FailsWithIn, Failing, AllFail, marked_principal, aged_principal, with_friend}
 use Rattle.cedar_typing.specs.Examples.Rules.{bool_at, true_at, false_at, long_at, no_type_at, refused_one, typed_principal, typed_has_vip}
 use Rattle.cedar_typing.specs.Examples.Rules.{typed_has_age, typed_get_vip, typed_get_boss, untyped_get_rank, typed_has_friend, not_a_bool}
 use Rattle.cedar_typing.specs.Examples.Rules.{not_an_object, unguarded_vip, unguarded_boss, unknown_rank}
@@ -27,6 +28,22 @@ hidden_principal n = var (any_entity_at n) Var.Principal
 abbrev pub refused_principal : Shape
 refused_principal = if_then_else tt one principal principal
 
+-- `a has vip` and `a.vip` where the base fails without a type, and where the whole is marked so
+abbrev pub base_failures : (Shape → Text → Shape) → (Mark → TypedTree → Text → TypedTree)
+    → (ℕ → Mark) → List Failing
+base_failures ask copy marked =
+    -- `1 has vip`, `1.vip`: an error at the base, which names any record before any entity
+    (
+      ask one (codes "vip"),
+      (copy (marked 1) (refused_one 2) (codes "vip"), not_an_object 2 ∷ []),
+    )
+    -- `principal.rank has vip`, `principal.rank.vip`: a base without a type is no other error
+    ∷ (
+      ask get_rank (codes "vip"),
+      (copy (marked 1) (untyped_get_rank 2 3) (codes "vip"), unknown_rank 2 ∷ []),
+    )
+    ∷ []
+
 pub record HasTyping : Type 0 where
   -- `principal has age`: Bool of an entity; `context has friend`: True of a record; both hand on
   -- what they say
@@ -41,12 +58,8 @@ pub record HasTyping : Type 0 where
       (has_attr (false_at 1) (typed_principal 2) (codes "rank"))
   pub has_hidden : TypesAsIn hidden no_caps (has principal (codes "rank")) (TBool AnyBool) no_caps
       (has_attr (bool_at 1) (hidden_principal 2) (codes "rank"))
-  -- `1 has vip`: Bool, and an error at the base, which names any record before any entity
-  pub has_refused : FailsWith (has one (codes "vip"))
-      (has_attr (bool_at 1) (refused_one 2) (codes "vip")) (not_an_object 2 ∷ [])
-  -- `principal.rank has vip`: a base without a type is no other error, and the whole is Bool
-  pub has_missing : FailsWith (has get_rank (codes "vip"))
-      (has_attr (bool_at 1) (untyped_get_rank 2 3) (codes "vip")) (unknown_rank 2 ∷ [])
+  -- where the base fails without a type, the whole is Bool
+  pub has_fails : AllFail (base_failures has has_attr bool_at)
   -- `principal.boss has vip`, `principal.boss has rank`: of a failed base that has a type, the type
   -- of the rule, and no other error
   pub has_failed : FailsWith (has get_boss (codes "vip"))
@@ -66,12 +79,8 @@ pub record GetTyping : Type 0 where
   pub get_undeclared : FailsWith get_rank (untyped_get_rank 1 2) (unknown_rank 1 ∷ [])
   pub get_hidden : TypesAsIn hidden no_caps get_rank TNever no_caps
       (get_attr (typed TNever (node 1)) (hidden_principal 2) (codes "rank"))
-  -- `1.vip`: an error at the base, and no type
-  pub get_refused : FailsWith (dot one (codes "vip"))
-      (get_attr (no_type_at 1) (refused_one 2) (codes "vip")) (not_an_object 2 ∷ [])
-  -- `principal.rank.vip`: a base without a type is no other error, and neither has the whole a type
-  pub get_missing : FailsWith (dot get_rank (codes "vip"))
-      (get_attr (no_type_at 1) (untyped_get_rank 2 3) (codes "vip")) (unknown_rank 2 ∷ [])
+  -- where the base fails without a type, neither has the whole a type
+  pub get_fails : AllFail (base_failures dot get_attr no_type_at)
   -- `principal.boss.age`: of a failed base that has a type, the type of the rule, and no other
   -- error
   pub get_failed : FailsWith (dot get_boss (codes "age"))

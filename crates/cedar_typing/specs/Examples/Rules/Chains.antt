@@ -1,5 +1,5 @@
 -- Typing of extended `has`.
-use Rattle.std.specs.Prelude.{ℕ, true, false, [], ◌∷◌, Some, None, codes}
+use Rattle.std.specs.Prelude.{ℕ, true, false, [], ◌∷◌, Some, codes}
 use Rattle.cedar_types.specs.declared.base.expressions.operators.Var.{Var}
 use Rattle.cedar_types.specs.declared.base.types.BoolType.TheVariants.{True, False}
 use Rattle.cedar_types.specs.declared.base.types.ValidationMode.TheVariants.{Strict}
@@ -8,7 +8,6 @@ use Rattle.cedar_types.specs.Types.{Ty, TNever, TBool, TRecord, TEntity, TAnyEnt
 use Rattle.cedar_types.specs.Expressions.Tree.{Shape, var, and, get_attr, ext_has_attr}
 use Rattle.cedar_types.specs.Capability.{attribute}
 use Rattle.cedar_types.specs.Errors.{Fault, unexpected_type, unsafe_attribute_access}
-use Rattle.cedar_types.specs.Environments.RequestEnvs.{Declared}
 use Rattle.cedar_typing.specs.Capabilities.{Caps, no_caps, single, union}
 use Rattle.cedar_typing.specs.Examples.Expressions.{one, principal, context, dot, has2, record1, get_boss, get_rank, node}
 use Rattle.cedar_typing.specs.Examples.Rules.{TypesAs, TypesAsIn, IsTyped, IsTypedIn, IsRefused, IsRefusedIn, bool_type, bool_at, true_at}
@@ -16,7 +15,7 @@ use Rattle.cedar_typing.specs.Examples.Rules.{typed_principal, typed_get_boss, e
 use Rattle.cedar_typing.specs.Examples.Rules.Equality.{friend}
 use Rattle.cedar_typing.specs.Examples.Rules.Numbers.{nope}
 use Rattle.cedar_typing.specs.Examples.Rules.Tags.{anyone}
-use Rattle.cedar_typing.specs.Examples.World.{user, group, greet, a_context, sample_env, sample, hidden}
+use Rattle.cedar_typing.specs.Examples.World.{group, a_context, sample, in_context, hidden}
 use Rattle.cedar_typing.specs.Setting.{Setting}
 use Rattle.cedar_typing.specs.TypeTests.{object_types}
 use Rattle.cedar_typing.specs.TypedExpr.{TypedTree, typed}
@@ -61,19 +60,8 @@ typed_context n = var (typed a_context (node n)) Var.Context
 
 -- a context with a team, of which the schema says nothing
 abbrev pub in_team : Setting
-in_team = record (sample Strict) {
-  env = record (sample_env Strict) {
-    request_env =
-        Declared
-        (record {
-          principal = user;
-          action = greet;
-          resource = user;
-          context = TRecord (attr (codes "team") (TEntity (group ∷ [])) true no_attrs) false;
-        })
-        None None;
-  };
-}
+in_team =
+    in_context Strict (TRecord (attr (codes "team") (TEntity (group ∷ [])) true no_attrs) false)
 
 -- an attribute that the schema does not declare, and that may be there
 abbrev pub unknown_attribute : Ty → Text → Fault

@@ -1,15 +1,41 @@
 -- Typing of `&&` and `||`.
-use Rattle.std.specs.Prelude.{[], ◌∷◌}
+use Rattle.std.specs.Prelude.{ℕ, List, [], ◌∷◌}
 use Rattle.cedar_types.specs.declared.base.types.BoolType.TheVariants.{AnyBool, True, False}
 use Rattle.cedar_types.specs.Types.{TBool}
-use Rattle.cedar_types.specs.Expressions.Tree.{and, or}
+use Rattle.cedar_types.specs.Expressions.Tree.{Shape, and, or}
 use Rattle.cedar_typing.specs.Capabilities.{no_caps, union, intersection}
 use Rattle.cedar_typing.specs.Examples.Expressions.{true_lit, false_lit, one, has_vip, has_age, get_vip, get_rank, has_friend}
 use Rattle.cedar_typing.specs.Examples.Expressions.{false_with_friend}
-use Rattle.cedar_typing.specs.Examples.Rules.{TypesAs, FailsWith, HandsOnNeither, marked_principal, aged_principal, with_friend, bool_at}
+use Rattle.cedar_typing.specs.Examples.Rules.{TypesAs, FailsWith, Failing, AllFail, HandsOnNeither, marked_principal, aged_principal, with_friend, bool_at}
 use Rattle.cedar_typing.specs.Examples.Rules.{true_at, false_at, typed_true, typed_false, refused_one, typed_has_vip, typed_has_age}
 use Rattle.cedar_typing.specs.Examples.Rules.{typed_get_vip, untyped_get_rank, typed_has_friend, typed_false_with_friend, not_a_bool}
 use Rattle.cedar_typing.specs.Examples.Rules.{unguarded_vip, unknown_rank}
+use Rattle.cedar_typing.specs.TypedExpr.{TypedTree, Mark}
+
+-- `&&` and `||` fail alike, where `false` and where `true` ends them
+abbrev pub side_failures : (Shape → Shape → Shape) → (Mark → TypedTree → TypedTree → TypedTree)
+    → Shape → (ℕ → TypedTree) → (ℕ → Mark) → List Failing
+side_failures join copy ends ended ended_at =
+    -- `1 && false`, `1 || true`: Bool, and an error at the left side
+    (join one ends, (copy (bool_at 1) (refused_one 2) (ended 3), not_a_bool 2 ∷ []))
+    -- `(principal.vip && false) && 1`, `(principal.vip || true) || 1`: a failed left side that is
+    -- False, or True, ends the whole
+    ∷ (
+      join (join get_vip ends) one,
+      (copy (ended_at 1) (typed_get_vip 3 4) (ended 5), unguarded_vip 3 ∷ []),
+    )
+    -- `principal.rank && false`, `principal has vip && principal.rank`; `principal.rank || true`,
+    -- `principal has vip || principal.rank`: a side without a type is no other error, and the whole
+    -- is Bool
+    ∷ (
+      join get_rank ends,
+      (copy (bool_at 1) (untyped_get_rank 2 3) (ended 4), unknown_rank 2 ∷ []),
+    )
+    ∷ (
+      join has_vip get_rank,
+      (copy (bool_at 1) (typed_has_vip 2 3) (untyped_get_rank 4 5), unknown_rank 4 ∷ []),
+    )
+    ∷ []
 
 pub record AndTyping : Type 0 where
   -- `false && 1`: the left side alone, at the place of the whole
@@ -41,18 +67,7 @@ pub record AndTyping : Type 0 where
       (union (union aged_principal marked_principal) no_caps)
       (and (bool_at 1) (and (bool_at 2) (typed_has_age 3 4) (typed_has_vip 5 6))
       (typed_get_vip 7 8))
-  -- `1 && false`: Bool, and an error at the left side
-  pub and_refused : FailsWith (and tt one false_lit)
-      (and (bool_at 1) (refused_one 2) (typed_false 3)) (not_a_bool 2 ∷ [])
-  -- `(principal.vip && false) && 1`: a failed left side that is False ends the whole
-  pub and_failed_left : FailsWith (and tt (and tt get_vip false_lit) one)
-      (and (false_at 1) (typed_get_vip 3 4) (typed_false 5)) (unguarded_vip 3 ∷ [])
-  -- `principal.rank && false`, `principal has vip && principal.rank`: a side without a type is no
-  -- other error, and the whole is Bool
-  pub and_missing_left : FailsWith (and tt get_rank false_lit)
-      (and (bool_at 1) (untyped_get_rank 2 3) (typed_false 4)) (unknown_rank 2 ∷ [])
-  pub and_missing_right : FailsWith (and tt has_vip get_rank)
-      (and (bool_at 1) (typed_has_vip 2 3) (untyped_get_rank 4 5)) (unknown_rank 4 ∷ [])
+  pub and_fails : AllFail (side_failures (and tt) and false_lit typed_false false_at)
 
 pub record OrTyping : Type 0 where
   -- `context has friend || 1`: the left side alone, at the place of the whole, with what it hands
@@ -91,15 +106,4 @@ pub record OrTyping : Type 0 where
   -- `principal has vip || principal.vip`: the right side knows nothing of the left one
   pub or_unguarded : FailsWith (or tt has_vip get_vip)
       (or (bool_at 1) (typed_has_vip 2 3) (typed_get_vip 4 5)) (unguarded_vip 4 ∷ [])
-  -- `1 || true`: Bool, and an error at the left side
-  pub or_refused : FailsWith (or tt one true_lit)
-      (or (bool_at 1) (refused_one 2) (typed_true 3)) (not_a_bool 2 ∷ [])
-  -- `(principal.vip || true) || 1`: a failed left side that is True ends the whole
-  pub or_failed_left : FailsWith (or tt (or tt get_vip true_lit) one)
-      (or (true_at 1) (typed_get_vip 3 4) (typed_true 5)) (unguarded_vip 3 ∷ [])
-  -- `principal.rank || true`, `principal has vip || principal.rank`: a side without a type is no
-  -- other error, and the whole is Bool
-  pub or_missing_left : FailsWith (or tt get_rank true_lit)
-      (or (bool_at 1) (untyped_get_rank 2 3) (typed_true 4)) (unknown_rank 2 ∷ [])
-  pub or_missing_right : FailsWith (or tt has_vip get_rank)
-      (or (bool_at 1) (typed_has_vip 2 3) (untyped_get_rank 4 5)) (unknown_rank 4 ∷ [])
+  pub or_fails : AllFail (side_failures (or tt) or true_lit typed_true true_at)

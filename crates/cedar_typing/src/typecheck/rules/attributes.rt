@@ -1,29 +1,24 @@
 // `has` and `.`.
-ghost use Rattle.std.specs.Prelude.{◌≡◌, [], ◌∷◌, IfOk, IfSome, option_map};
+ghost use Rattle.std.specs.Prelude.{◌≡◌, IfOk, IfSome, option_map};
 ghost use Rattle.cedar_types.specs.Names.{text_of};
 ghost use Rattle.cedar_types.specs.Types.{ty_of};
-ghost use Rattle.cedar_types.specs.Expressions.Tree.{has_attr, get_attr};
 ghost use Rattle.cedar_types.specs.Expressions.View.{written};
 ghost use Rattle.cedar_types.specs.Capability.{cap_of, expr_in};
 ghost use Rattle.cedar_types.specs.Types.Lookups.{attribute_type};
-ghost use Rattle.cedar_types.specs.Errors.{unsafe_optional_attribute_access};
+ghost use Rattle.cedar_types.specs.Errors.{finding_of, unsafe_optional_attribute_access};
 ghost use Rattle.cedar_typing.specs.Rules.Attributes.{attribute_of, declared_has, undeclared_has, has_table, get_decides, get_table, undeclared_get};
 ghost use Rattle.cedar_typing.specs.TypeEnv.{finding};
-ghost use Rattle.cedar_typing.specs.TypedExpr.{typed_as, typed_tree};
-ghost use Rattle.cedar_typing.specs.Views.{env_at, at, decision_of, findings};
+ghost use Rattle.cedar_typing.specs.Views.{env_at, decision_of};
 ghost use Rattle.cedar_typing.specs.Capabilities.Priors.{known_in};
 
 use crate::typecheck::capabilities::{no_capabilities, one_capability};
 use crate::typecheck::prior::Prior;
-use crate::typecheck::rules::eager::Decision;
+use crate::typecheck::rules::eager::{Decision, refuses_with};
 use crate::typecheck::type_env::TypeEnv;
 use crate::typecheck::type_tests::{any_bool, is_record_type};
-use crate::typecheck::typed_nodes::node;
-use cedar_types::base::{
-    BoolType, CedarType, Expr, ExprKind, Loc, ValidationError, ValidationMode,
-};
+use cedar_types::base::{BoolType, CedarType, Loc, ValidationError, ValidationMode};
 use cedar_types::types::capability::{Capability, DigestedBase};
-use std::alloc::{AllocError, Global};
+use std::alloc::AllocError;
 use std::rc::RcStr;
 
 /// That the base has the attribute.
@@ -88,6 +83,7 @@ impl TypeEnv<'_, '_, '_, '_> {
         ensures { ty_of result
             ≡ undeclared_has (env_at self.now).schema (ty_of owner.now) (text_of attr.now) }
     {
+        // an open record, or one of several entity types, may have what the type does not declare
         if CedarType::may_have_attr(self.schema, owner, attr) {
             CedarType::Bool(BoolType::AnyBool)
         } else {
@@ -162,8 +158,9 @@ impl TypeEnv<'_, '_, '_, '_> {
                 if found.is_required | is_known {
                     return Ok(Decision::Gives(found.attr_type, no_capabilities(self.alloc)));
                 }
-                let errors = self.unguarded(loc, attr, owner)?;
-                Ok(Decision::Refuses(Some(found.attr_type), errors))
+                let error = self.unguarded(loc, attr, owner)?;
+                // the type is known all the same, so what is wrong further up is found too
+                refuses_with(self.alloc, Some(found.attr_type), error)
             }
         }
     }
@@ -179,20 +176,17 @@ impl TypeEnv<'_, '_, '_, '_> {
             ≡ undeclared_get (env_at self.now) loc (text_of attr.now) (ty_of owner.now)) }
     {
         let may_exist = CedarType::may_have_attr(self.schema, owner, attr);
+        // a schema of a part of what there is need not declare all attributes
         if (self.mode == ValidationMode::Partial) & may_exist {
             return Ok(Decision::Gives(CedarType::Never, no_capabilities(self.alloc)));
         }
         let policy_id = self.policy_id.clone()?;
         let owner = CedarType::clone(owner)?;
-        let mut errors = Vec::new(self.alloc);
-        errors.push(ValidationError::unsafe_attribute_access(
-            loc,
-            policy_id,
-            owner,
-            attr.clone()?,
-            may_exist,
-        ))?;
-        Ok(Decision::Refuses(None, errors))
+        let attr = attr.clone()?;
+        let error = ValidationError::unsafe_attribute_access(
+            loc, policy_id, owner, attr, may_exist,
+        );
+        refuses_with(self.alloc, None, error)
     }
 
     /// The error of an access to an optional attribute that is not known to be there.
@@ -201,20 +195,15 @@ impl TypeEnv<'_, '_, '_, '_> {
         loc: Option<Loc>,
         attr: &RcStr,
         owner: &CedarType,
-    ) -> Result<Vec<ValidationError>, AllocError>
-        ensures { IfOk result (λ es. findings es.items
-            ≡ finding (env_at self.now) loc (unsafe_optional_attribute_access (ty_of owner.now) (text_of attr.now)) ∷ []) }
+    ) -> Result<ValidationError, AllocError>
+        ensures { IfOk result (λ e. finding_of e
+            ≡ finding (env_at self.now) loc
+            (unsafe_optional_attribute_access (ty_of owner.now) (text_of attr.now))) }
     {
         let policy_id = self.policy_id.clone()?;
         let owner = CedarType::clone(owner)?;
-        let mut errors = Vec::new(self.alloc);
-        errors.push(ValidationError::unsafe_optional_attribute_access(
-            loc,
-            policy_id,
-            owner,
-            attr.clone()?,
-        ))?;
-        Ok(errors)
+        let attr = attr.clone()?;
+        Ok(ValidationError::unsafe_optional_attribute_access(loc, policy_id, owner, attr))
     }
 }
 
@@ -224,39 +213,10 @@ pub(crate) fn declared_type(owner: &CedarType, is_required: bool, is_known: bool
     if is_known {
         return CedarType::Bool(BoolType::True);
     }
+    // an entity may be missing from the store, and `has` is false of it then; a record is always there
     if is_required && is_record_type(owner) {
         CedarType::Bool(BoolType::True)
     } else {
         CedarType::Bool(BoolType::AnyBool)
     }
-}
-
-pub(crate) fn has_node(
-    alloc: Global,
-    loc: Option<Loc>,
-    ty: Option<CedarType>,
-    base: Box<Expr<Option<CedarType>>>,
-    attr: &RcStr,
-) -> Result<Box<Expr<Option<CedarType>>>, AllocError>
-    ensures { IfOk result (λ e. typed_tree e.value
-        ≡ has_attr (typed_as (option_map ty_of ty) (at loc)) (typed_tree base.value)
-        (text_of attr.now)) }
-{
-    let kind = ExprKind::HasAttr(base, attr.clone()?);
-    node(alloc, loc, ty, kind)
-}
-
-pub(crate) fn get_node(
-    alloc: Global,
-    loc: Option<Loc>,
-    ty: Option<CedarType>,
-    base: Box<Expr<Option<CedarType>>>,
-    attr: &RcStr,
-) -> Result<Box<Expr<Option<CedarType>>>, AllocError>
-    ensures { IfOk result (λ e. typed_tree e.value
-        ≡ get_attr (typed_as (option_map ty_of ty) (at loc)) (typed_tree base.value)
-        (text_of attr.now)) }
-{
-    let kind = ExprKind::GetAttr(base, attr.clone()?);
-    node(alloc, loc, ty, kind)
 }

@@ -1,5 +1,5 @@
 // Calls of extension functions.
-ghost use Rattle.std.specs.Prelude.{◌≡◌, ◌≤◌, ◌+◌, ◌∷◌, ◌++◌, length, IfOk, Some, map, option_map};
+ghost use Rattle.std.specs.Prelude.{◌≡◌, ◌≤◌, ◌+◌, ◌∷◌, ◌++◌, length, is_some, IfOk, Some, map, option_map};
 ghost use Rattle.cedar_types.specs.Errors.{finding_of, wrong_number_arguments};
 ghost use Rattle.cedar_types.specs.Extensions.Functions.{function_of};
 ghost use Rattle.cedar_types.specs.Names.{path_of};
@@ -89,6 +89,7 @@ impl<C: ArgumentCheck> SingleEnvTypechecker<'_, '_, '_, '_, C> {
             });
         };
         let errors = self.env.call_errors(loc, function, arguments)?;
+        // beside an error of the call nothing is asked of its arguments: one mistake, one error
         let argument_types = types_wanted(function, &errors);
         Ok(Call {
             return_type: Some(&function.return_type),
@@ -129,7 +130,12 @@ impl TypeEnv<'_, '_, '_, '_> {
         let mut errors = Vec::new(self.alloc);
         self.add_number_error(loc, function, arguments.len(), &mut errors)?;
         self.add_refusal(loc, &function.check_arguments, arguments, &mut errors)?;
-        self.add_literal_error(loc, &function.check_arguments, arguments, &mut errors)?;
+        self.add_literal_error(
+            loc,
+            function.check_arguments.is_some(),
+            arguments,
+            &mut errors,
+        )?;
         Ok(errors)
     }
 
@@ -193,22 +199,21 @@ impl TypeEnv<'_, '_, '_, '_> {
     }
 
     /// In Strict a function with a check takes literals alone.
-    fn add_literal_error<C>(
+    fn add_literal_error(
         &self,
         loc: Option<Loc>,
-        check: &Option<C>,
+        is_checked: bool,
         arguments: &[Expr],
         errors: &mut Vec<ValidationError>,
     ) -> Result<(), AllocError>
-        ensures { (meaning : _) → IfOk result (λ u.
+        ensures { (check : _) → is_some check ≡ is_checked → IfOk result (λ u.
             findings errors.new.items
             ≡ findings errors.old.items
             ++ added_at (env_at self.now) loc
-            (literal_faults self.now.mode (option_map meaning check.now)
-            (map written arguments.now))) }
+            (literal_faults self.now.mode check (map written arguments.now))) }
     {
-        let is_checked = check.is_some();
         let is_strict = self.mode == ValidationMode::Strict;
+        // the check can only read a text that stands there
         if !(is_strict & is_checked) || all_literals(arguments) {
             return Ok(());
         }

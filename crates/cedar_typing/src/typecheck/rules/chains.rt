@@ -12,7 +12,6 @@ ghost use Rattle.cedar_typing.specs.Rules.Chains.{no_steps, step_type, step_earn
 ghost use Rattle.cedar_typing.specs.Views.{env_at, decision_of, progress_of, by_step, by_link, KnowsAfter};
 ghost use Rattle.cedar_typing.specs.Capabilities.Priors.{known_in};
 
-use crate::typecheck::capabilities::{none_so_far, set_of};
 use crate::typecheck::operands::Expected;
 use crate::typecheck::prior::Prior;
 use crate::typecheck::rules::attributes::declared_type;
@@ -58,7 +57,7 @@ impl<'a> Progress<'a> {
         ensures { progress_of result ≡ no_steps }
     {
         Progress {
-            earned: none_so_far(alloc),
+            earned: CapabilitySetBuilder::new(alloc),
             all_true: true,
         }
     }
@@ -77,6 +76,7 @@ impl<'a> Progress<'a> {
         let is_true = is_true_type(ty);
         let all_true = self.all_true & is_true;
         let mut earned = self.earned;
+        // what is True is known already, or needs no guard
         if is_declared & !is_true {
             earned.insert(there)?;
             return Ok(Progress { earned, all_true });
@@ -88,11 +88,10 @@ impl<'a> Progress<'a> {
     fn end(self, alloc: Global) -> Result<Decision<'a>, AllocError>
         ensures { IfOk result (λ d. decision_of d ≡ end_of_chain (progress_of self.entry)) }
     {
+        let earned = self.earned.build(alloc)?;
         if self.all_true {
-            let earned = set_of(alloc, self.earned)?;
             return Ok(Decision::Gives(CedarType::Bool(BoolType::True), earned));
         }
-        let earned = set_of(alloc, self.earned)?;
         Ok(Decision::Gives(any_bool(), earned))
     }
 }
@@ -144,6 +143,7 @@ impl TypeEnv<'_, '_, '_, '_> {
                 }
             }
             at = next;
+            // the accesses behind the first attribute have no text of their own
             place = loc;
         }
         let decision = self.last_step(prior, place, &at, &ty, progress)?;
@@ -249,6 +249,7 @@ impl TypeEnv<'_, '_, '_, '_> {
         let required = self.required(ty, attr)?;
         let is_declared = required.is_some();
         let step_ty = self.step_type(ty, attr, required, is_known);
+        // the steps behind it are never evaluated
         if is_false_type(&step_ty) {
             return Ok(Step::Ends(gives(self.alloc, bool_type(false))));
         }

@@ -1,5 +1,5 @@
 // `if`.
-ghost use Rattle.std.specs.Prelude.{◌≡◌, ◌≤◌, ◌++◌, IfOk, option_map};
+ghost use Rattle.std.specs.Prelude.{◌≡◌, ◌≤◌, ◌++◌, IfOk, option_map, if◌then◌else◌};
 ghost use Rattle.cedar_types.specs.declared.base.errors.type_errors.LubContext.TheVariants.{Conditional};
 ghost use Rattle.cedar_types.specs.Types.{ty_of};
 ghost use Rattle.cedar_types.specs.Expressions.Tree.{if_then_else};
@@ -28,6 +28,7 @@ use crate::typecheck::typed_nodes::{node, with_capabilities};
 use cedar_types::base::{
     ArgumentCheck, CedarType, Expr, ExprKind, Loc, LubContext, ValidationError,
 };
+use cedar_types::types::capability::CapabilitySet;
 use std::alloc::{AllocError, Global};
 use std::rc::Rc;
 
@@ -55,13 +56,14 @@ impl<C: ArgumentCheck> SingleEnvTypechecker<'_, '_, '_, '_, C> {
         let Some(test) = self.type_part(prior, depth + 1, Expected::Bool, test, errors)? else {
             return Ok(TypecheckAnswer::RecursionLimit);
         };
+        // the other branch is never evaluated, so it is not typed, and nothing in it is an error
         if is_typed_true(&test.typed) {
             let known = (&*prior).with(&test.capabilities);
             let branch = self.typecheck(&known, depth + 1, branches.then_expr, errors)?;
             let Some(branch) = branch.into_part(self.env.alloc) else {
                 return Ok(TypecheckAnswer::RecursionLimit);
             };
-            let answer = true_test_answer(self.env.alloc, loc, test, branch)?;
+            let answer = constant_test_answer(self.env.alloc, loc, true, test, branch)?;
             return Ok(answer);
         }
         if is_typed_false(&test.typed) {
@@ -69,11 +71,13 @@ impl<C: ArgumentCheck> SingleEnvTypechecker<'_, '_, '_, '_, C> {
             let Some(branch) = branch.into_part(self.env.alloc) else {
                 return Ok(TypecheckAnswer::RecursionLimit);
             };
-            let answer = false_test_answer(self.env.alloc, loc, test, branch)?;
+            let answer = constant_test_answer(self.env.alloc, loc, false, test, branch)?;
             return Ok(answer);
         }
+        // where this branch is evaluated, the test was true
         let known = (&*prior).with(&test.capabilities);
         let one = self.typecheck(&known, depth + 1, branches.then_expr, errors)?;
+        // a branch that is nested too deep does not hide what is wrong in the other
         let one = one.into_part(self.env.alloc);
         let other = self.typecheck(prior, depth + 1, branches.else_expr, errors)?;
         let other = other.into_part(self.env.alloc);
@@ -126,8 +130,11 @@ impl TypeEnv<'_, '_, '_, '_> {
         let ty = self.joined_type(loc, &one.typed.annotation, &other.typed.annotation, errors)?;
         let succeeded = test.succeeded & one.succeeded & other.succeeded & ty.is_some();
         let known = union_of(test.capabilities, one.capabilities)?;
+        // either branch may be taken, so only what both say holds, the first with the test behind it
         let capabilities = intersection_of(self.alloc, &other.capabilities, &known)?;
-        let typed = open_test_node(self.alloc, loc, ty, test.typed, one.typed, other.typed)?;
+        let then_expr = Rc::new(self.alloc, Box::into_inner(one.typed))?;
+        let else_expr = Rc::new(self.alloc, Box::into_inner(other.typed))?;
+        let typed = if_node(self.alloc, loc, ty, test.typed, then_expr, else_expr)?;
         Ok(with_capabilities(succeeded, typed, capabilities))
     }
 
@@ -186,41 +193,41 @@ impl TypeEnv<'_, '_, '_, '_> {
     }
 }
 
-/// `if` at `loc` whose test is True, of the branch that stands for both.
+/// `if` at `loc` whose test is True or False, of the branch that stands for both.
 #[inline(never)]
-fn true_test_answer<'a>(
+fn constant_test_answer<'a>(
     alloc: Global,
     loc: Option<Loc>,
+    is_true: bool,
     test: Part<'a>,
     branch: Part<'a>,
 ) -> Result<TypecheckAnswer<'a>, AllocError>
     ensures { IfOk result (λ r.
         answer_of r
         ≡ infer_constant_test (at loc) (part_of test.entry) (part_of branch.entry)
-        (union (caps test.entry.capabilities) (caps branch.entry.capabilities))) }
+        (if is_true then union (caps test.entry.capabilities) (caps branch.entry.capabilities)
+        else caps branch.entry.capabilities)) }
 {
-    let known = union_of(test.capabilities, branch.capabilities)?;
     let succeeded = test.succeeded & branch.succeeded;
+    let known = known_with_branch(is_true, test.capabilities, branch.capabilities)?;
     let typed = constant_test_node(alloc, loc, test.typed, branch.typed)?;
     Ok(with_capabilities(succeeded, typed, known))
 }
 
-/// `if` at `loc` whose test is False, of the branch that stands for both.
-#[inline(never)]
-fn false_test_answer<'a>(
-    alloc: Global,
-    loc: Option<Loc>,
-    test: Part<'a>,
-    branch: Part<'a>,
-) -> Result<TypecheckAnswer<'a>, AllocError>
-    ensures { IfOk result (λ r.
-        answer_of r
-        ≡ infer_constant_test (at loc) (part_of test.entry) (part_of branch.entry)
-        (caps branch.entry.capabilities)) }
+/// What a branch produces, and beside it what a test that is True does.
+fn known_with_branch<'a>(
+    is_true: bool,
+    test: CapabilitySet<'a>,
+    branch: CapabilitySet<'a>,
+) -> Result<CapabilitySet<'a>, AllocError>
+    ensures { IfOk result (λ c.
+        caps c ≡ if is_true then union (caps test.entry) (caps branch.entry) else caps branch.entry) }
 {
-    let succeeded = test.succeeded & branch.succeeded;
-    let typed = constant_test_node(alloc, loc, test.typed, branch.typed)?;
-    Ok(with_capabilities(succeeded, typed, branch.capabilities))
+    if is_true {
+        union_of(test, branch)
+    } else {
+        Ok(branch)
+    }
 }
 
 /// One branch that stands for both, which share it.
@@ -237,49 +244,29 @@ fn constant_test_node(
         (typed_tree branch.value) (typed_tree branch.value)) }
 {
     let ty = same_type(&branch.annotation)?;
-    let typed = shared_node(alloc, loc, ty, test, branch)?;
+    // the branch that was not typed has no typed copy, and a walk over the tree must meet no other node
+    let then_expr = Rc::new(alloc, Box::into_inner(branch))?;
+    let else_expr = then_expr.clone()?;
+    let typed = if_node(alloc, loc, ty, test, then_expr, else_expr)?;
     Ok(typed)
 }
 
-fn shared_node(
+/// `if` with these typed parts.
+fn if_node(
     alloc: Global,
     loc: Option<Loc>,
     ty: Option<CedarType>,
-    test: Box<Expr<Option<CedarType>>>,
-    branch: Box<Expr<Option<CedarType>>>,
+    test_expr: Box<Expr<Option<CedarType>>>,
+    then_expr: Rc<Expr<Option<CedarType>>>,
+    else_expr: Rc<Expr<Option<CedarType>>>,
 ) -> Result<Box<Expr<Option<CedarType>>>, AllocError>
     ensures { IfOk result (λ e.
         typed_tree e.value
-        ≡ if_then_else (typed_as (option_map ty_of ty) (at loc)) (typed_tree test.value)
-        (typed_tree branch.value) (typed_tree branch.value)) }
+        ≡ if_then_else (typed_as (option_map ty_of ty) (at loc)) (typed_tree test_expr.value)
+        (typed_tree then_expr.value) (typed_tree else_expr.value)) }
 {
-    let then_expr = Rc::new(alloc, Box::into_inner(branch))?;
-    let else_expr = then_expr.clone()?;
     let kind = ExprKind::If {
-        test_expr: test,
-        then_expr,
-        else_expr,
-    };
-    node(alloc, loc, ty, kind)
-}
-
-fn open_test_node(
-    alloc: Global,
-    loc: Option<Loc>,
-    ty: Option<CedarType>,
-    test: Box<Expr<Option<CedarType>>>,
-    one: Box<Expr<Option<CedarType>>>,
-    other: Box<Expr<Option<CedarType>>>,
-) -> Result<Box<Expr<Option<CedarType>>>, AllocError>
-    ensures { IfOk result (λ e.
-        typed_tree e.value
-        ≡ if_then_else (typed_as (option_map ty_of ty) (at loc)) (typed_tree test.value)
-        (typed_tree one.value) (typed_tree other.value)) }
-{
-    let then_expr = Rc::new(alloc, Box::into_inner(one))?;
-    let else_expr = Rc::new(alloc, Box::into_inner(other))?;
-    let kind = ExprKind::If {
-        test_expr: test,
+        test_expr,
         then_expr,
         else_expr,
     };

@@ -36,6 +36,7 @@ impl TypeEnv<'_, '_, '_, '_> {
         let one = self.literal_of(left)?;
         let other = self.literal_of(right)?;
         let ty = equality_type(&one, &other, left_type, right_type);
+        // what is decided needs no bound: `1 == "a"` is false, and no mistake, in Strict too
         if !is_any_bool_type(&ty) {
             return Ok(gives(self.alloc, ty));
         }
@@ -51,25 +52,15 @@ impl TypeEnv<'_, '_, '_, '_> {
     {
         match &e.kind {
             ExprKind::Lit(literal) => Ok(Some(literal.clone()?)),
+            // an environment has one action, so the variable is as good as its literal
             ExprKind::Var(Var::Action) => self.action_literal(),
-            ExprKind::Var(Var::Principal) => Ok(None),
-            ExprKind::Var(Var::Resource) => Ok(None),
-            ExprKind::Var(Var::Context) => Ok(None),
-            ExprKind::Slot(_) => Ok(None),
-            ExprKind::Unknown(_) => Ok(None),
-            ExprKind::If { .. } => Ok(None),
-            ExprKind::And(_, _) => Ok(None),
-            ExprKind::Or(_, _) => Ok(None),
-            ExprKind::UnaryApp(_, _) => Ok(None),
-            ExprKind::BinaryApp(_, _, _) => Ok(None),
-            ExprKind::ExtensionFunctionApp(_, _) => Ok(None),
-            ExprKind::GetAttr(_, _) => Ok(None),
-            ExprKind::HasAttr(_, _) => Ok(None),
-            ExprKind::ExtHasAttr(_, _) => Ok(None),
-            ExprKind::Like(_, _) => Ok(None),
-            ExprKind::Is(_, _) => Ok(None),
-            ExprKind::Set(_) => Ok(None),
-            ExprKind::Record(_) => Ok(None),
+            ExprKind::Var(Var::Principal | Var::Resource | Var::Context) => Ok(None),
+            ExprKind::Slot(_) | ExprKind::Unknown(_) | ExprKind::If { .. } => Ok(None),
+            ExprKind::And(_, _) | ExprKind::Or(_, _) | ExprKind::UnaryApp(_, _) => Ok(None),
+            ExprKind::BinaryApp(_, _, _) | ExprKind::ExtensionFunctionApp(_, _) => Ok(None),
+            ExprKind::GetAttr(_, _) | ExprKind::HasAttr(_, _) => Ok(None),
+            ExprKind::ExtHasAttr(_, _) | ExprKind::Like(_, _) | ExprKind::Is(_, _) => Ok(None),
+            ExprKind::Set(_) | ExprKind::Record(_) => Ok(None),
         }
     }
 
@@ -95,6 +86,7 @@ fn equality_type(
         ≡ equality_type (option_map lit_of one.now) (option_map lit_of other.now)
         (option_map (λ t. ty_of t.now) left.entry) (option_map (λ t. ty_of t.now) right.entry) }
 {
+    // entities that have no type in common are never equal, whatever they are
     if are_apart(left, right) {
         return CedarType::Bool(BoolType::False);
     }
@@ -105,6 +97,7 @@ fn compared_literals(one: &Option<Literal>, other: &Option<Literal>) -> CedarTyp
     ensures { ty_of result
         ≡ compared_literals (option_map lit_of one.now) (option_map lit_of other.now) }
 {
+    // of anything but literals the value is not known before there is a request
     let Some(one) = one else {
         return any_bool();
     };
@@ -144,19 +137,9 @@ pub(crate) fn member_type(ty: &Option<CedarType>) -> Option<&CedarType>
 {
     match ty {
         Some(CedarType::Set(element)) => Some(element),
-        Some(CedarType::Never) => None,
-        Some(CedarType::Bool(_)) => None,
-        Some(CedarType::Long) => None,
-        Some(CedarType::String) => None,
-        Some(CedarType::AnySet) => None,
-        Some(
-            CedarType::Record {
-                attributes: _attributes,
-                is_open: _open,
-            },
-        ) => None,
-        Some(CedarType::Entity(_)) => None,
-        Some(CedarType::Extension(_)) => None,
+        Some(CedarType::Never | CedarType::Bool(_) | CedarType::Long | CedarType::String) => None,
+        Some(CedarType::AnySet | CedarType::Extension(_)) => None,
+        Some(CedarType::Record { .. } | CedarType::Entity(_)) => None,
         None => None,
     }
 }

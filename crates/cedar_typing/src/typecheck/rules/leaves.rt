@@ -1,11 +1,14 @@
 // Expressions without parts: literals, variables, slots and unknowns.
-ghost use Rattle.std.specs.Prelude.{◌≡◌, IfOk, None, Some, option_map};
+ghost use Rattle.std.specs.Prelude.{◌≡◌, is_some, IfOk, None, Some, option_map};
 ghost use Rattle.cedar_types.specs.Names.{uid_of, path_of};
 ghost use Rattle.cedar_types.specs.Types.{ty_of};
 ghost use Rattle.cedar_types.specs.Expressions.Tree.{entity, lit, var, slot as slot_tree};
 ghost use Rattle.cedar_types.specs.Expressions.View.{lit_of, lit_places};
+ghost use Rattle.cedar_typing.specs.Capabilities.{no_caps};
 ghost use Rattle.cedar_typing.specs.Infer.Leaves.{infer_leaf, infer_unknown};
+ghost use Rattle.cedar_typing.specs.Infer.Parts.{answer_if};
 ghost use Rattle.cedar_typing.specs.Rules.Leaves.{bool_ty, slot_ty, type_of_literal, variable_type};
+ghost use Rattle.cedar_typing.specs.TypedExpr.{typed_tree};
 ghost use Rattle.cedar_typing.specs.Views.{env_at, answer_of, findings, at};
 
 use crate::typecheck::answer::TypecheckAnswer;
@@ -33,10 +36,9 @@ impl TypeEnv<'_, '_, '_, '_> {
             (λ k. lit k (lit_of literal.now))) }
     {
         let annotation = self.declared_type_of(literal)?;
-        let succeeded = annotation.is_some();
         let kind = ExprKind::Lit(literal.clone()?);
-        let typed = node(self.alloc, loc, annotation, kind)?;
-        Ok(without_capabilities(self.alloc, succeeded, typed))
+        let answer = self.leaf_answer(loc, annotation, kind)?;
+        Ok(answer)
     }
 
     #[inline(never)]
@@ -51,9 +53,8 @@ impl TypeEnv<'_, '_, '_, '_> {
             (λ k. var k variable)) }
     {
         let annotation = self.type_of_variable(variable)?;
-        let succeeded = annotation.is_some();
-        let typed = node(self.alloc, loc, annotation, ExprKind::Var(variable))?;
-        Ok(without_capabilities(self.alloc, succeeded, typed))
+        let answer = self.leaf_answer(loc, annotation, ExprKind::Var(variable))?;
+        Ok(answer)
     }
 
     #[tactic(auto, using(crate::proofs::TypeTests::VariableTypes::is_kept, crate::proofs::TypeTests::VariableTypes::is_kept_if_any))]
@@ -84,8 +85,24 @@ impl TypeEnv<'_, '_, '_, '_> {
             SlotId::Resource => self.request_env.resource_slot(),
         };
         let linked = type_of_entities(self.alloc, self.schema, linked)?;
-        let typed = node(self.alloc, loc, Some(linked), ExprKind::Slot(slot))?;
-        Ok(without_capabilities(self.alloc, true, typed))
+        let answer = self.leaf_answer(loc, Some(linked), ExprKind::Slot(slot))?;
+        Ok(answer)
+    }
+
+    /// An expression without parts, of this type. Without one it is refused.
+    fn leaf_answer<'a>(
+        &self,
+        loc: Option<Loc>,
+        annotation: Option<CedarType>,
+        kind: ExprKind<Option<CedarType>>,
+    ) -> Result<TypecheckAnswer<'a>, AllocError>
+        ensures { IfOk result (λ r. answer_of r
+            ≡ answer_if (is_some annotation)
+            (typed_tree (record { annotation = annotation; loc = loc; kind = kind })) no_caps) }
+    {
+        let succeeded = annotation.is_some();
+        let typed = node(self.alloc, loc, annotation, kind)?;
+        Ok(without_capabilities(self.alloc, succeeded, typed))
     }
 
     /// An unknown has no type, and its typed expression no place.

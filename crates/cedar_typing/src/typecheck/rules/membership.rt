@@ -41,6 +41,7 @@ impl TypeEnv<'_, '_, '_, '_> {
         let Some(ancestors) = self.ancestors_of(right)? else {
             return Ok(self.decide_entity(found, other));
         };
+        // which of the other entities are in each other the store says, and not the schema
         if !entity.entity_type.is_action() {
             return Ok(self.decide_entity(found, other));
         }
@@ -71,22 +72,12 @@ impl TypeEnv<'_, '_, '_, '_> {
     {
         match &e.kind {
             ExprKind::Set(elements) => self.entities_of(elements),
-            ExprKind::Lit(_) => self.one_entity(e),
-            ExprKind::Var(_) => self.one_entity(e),
-            ExprKind::Slot(_) => Ok(None),
-            ExprKind::Unknown(_) => Ok(None),
-            ExprKind::If { .. } => Ok(None),
-            ExprKind::And(_, _) => Ok(None),
-            ExprKind::Or(_, _) => Ok(None),
-            ExprKind::UnaryApp(_, _) => Ok(None),
-            ExprKind::BinaryApp(_, _, _) => Ok(None),
-            ExprKind::ExtensionFunctionApp(_, _) => Ok(None),
-            ExprKind::GetAttr(_, _) => Ok(None),
-            ExprKind::HasAttr(_, _) => Ok(None),
-            ExprKind::ExtHasAttr(_, _) => Ok(None),
-            ExprKind::Like(_, _) => Ok(None),
-            ExprKind::Is(_, _) => Ok(None),
-            ExprKind::Record(_) => Ok(None),
+            ExprKind::Lit(_) | ExprKind::Var(_) => self.one_entity(e),
+            ExprKind::Slot(_) | ExprKind::Unknown(_) | ExprKind::If { .. } => Ok(None),
+            ExprKind::And(_, _) | ExprKind::Or(_, _) | ExprKind::UnaryApp(_, _) => Ok(None),
+            ExprKind::BinaryApp(_, _, _) | ExprKind::ExtensionFunctionApp(_, _) => Ok(None),
+            ExprKind::GetAttr(_, _) | ExprKind::HasAttr(_, _) | ExprKind::Record(_) => Ok(None),
+            ExprKind::ExtHasAttr(_, _) | ExprKind::Like(_, _) | ExprKind::Is(_, _) => Ok(None),
         }
     }
 
@@ -128,6 +119,7 @@ impl TypeEnv<'_, '_, '_, '_> {
         if self.are_declared(ancestors) {
             return gives(self.alloc, bool_type(self.is_action_in(action, ancestors)));
         }
+        // a schema of a part of what there is need not declare all actions
         if self.mode == ValidationMode::Partial {
             gives(self.alloc, any_bool())
         } else {
@@ -199,6 +191,7 @@ impl TypeEnv<'_, '_, '_, '_> {
         ensures { decision_of result
             ≡ entity_decides (env_at self.now) (option_map ty_of found.now) (option_map ty_of other.now) }
     {
+        // a store that conforms has no membership that the schema does not allow
         if self.may_be_among(types_of_entity(found), types_of_ancestors(other)) {
             gives(self.alloc, any_bool())
         } else {
@@ -211,6 +204,7 @@ impl TypeEnv<'_, '_, '_, '_> {
             ≡ may_be_among (env_at self.now).schema
             (option_map (λ s. lub_of s.now) types.entry) (option_map (λ s. lub_of s.now) ancestors.entry) }
     {
+        // of what may be any entity nothing can be ruled out
         let Some(types) = types else {
             return true;
         };
@@ -239,6 +233,7 @@ fn only_actions(alloc: Global, entities: Vec<EntityUID>) -> Result<Vec<EntityUID
 {
     let mut actions = Vec::new(alloc);
     for entity in entities {
+        // an action is in actions alone, so others on the right change nothing
         if entity.entity_type.is_action() {
             actions.push(entity)?;
         }
@@ -261,21 +256,11 @@ fn types_of_ancestors(ty: &Option<CedarType>) -> Option<&EntityLUB>
     ensures { option_map (λ s. lub_of s.now) result ≡ types_of_ancestors (option_map ty_of ty.now) }
 {
     match ty {
-        Some(CedarType::Entity(EntityKind::Entity(types))) => Some(types),
-        Some(CedarType::Entity(EntityKind::AnyEntity)) => None,
         Some(CedarType::Set(element)) => named_types(element),
-        Some(CedarType::Never) => None,
-        Some(CedarType::Bool(_)) => None,
-        Some(CedarType::Long) => None,
-        Some(CedarType::String) => None,
-        Some(CedarType::AnySet) => None,
-        Some(
-            CedarType::Record {
-                attributes: _attributes,
-                is_open: _open,
-            },
-        ) => None,
-        Some(CedarType::Extension(_)) => None,
+        Some(CedarType::Entity(EntityKind::Entity(types))) => Some(types),
+        Some(CedarType::Entity(EntityKind::AnyEntity) | CedarType::Never) => None,
+        Some(CedarType::Bool(_) | CedarType::Long | CedarType::String) => None,
+        Some(CedarType::AnySet | CedarType::Record { .. } | CedarType::Extension(_)) => None,
         None => None,
     }
 }

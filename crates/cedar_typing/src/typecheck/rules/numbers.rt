@@ -11,7 +11,7 @@ ghost use Rattle.cedar_typing.specs.Views.{env_at, decision_of, extension_named,
 use crate::typecheck::operands::Expected;
 use crate::typecheck::rules::eager::{Decision, gives, gives_unless};
 use crate::typecheck::type_env::TypeEnv;
-use crate::typecheck::type_tests::{any_bool, is_never_type};
+use crate::typecheck::type_tests::{any_bool, is_never_type, is_same_type};
 use cedar_types::base::{CedarType, Loc, Name, ValidationError, types_in_order};
 use std::alloc::AllocError;
 use std::rc::Rc;
@@ -49,6 +49,7 @@ impl TypeEnv<'_, '_, '_, '_> {
         ensures { IfOk result (λ d. decision_of d
             ≡ compares (env_at self.now) left_loc right_loc (ty_of left.now) (ty_of right.now)) }
     {
+        // nothing says which of the types that are compared is meant
         if is_never_type(left) & is_never_type(right) {
             return Ok(Decision::Refuses(Some(any_bool()), Vec::new(self.alloc)));
         }
@@ -97,6 +98,7 @@ impl TypeEnv<'_, '_, '_, '_> {
             ≡ incomparable (env_at self.now) left_loc right_loc (ty_of left.now) (ty_of right.now)) }
     {
         let mut errors = Vec::new(self.alloc);
+        // a Long on one side tells what the other should have been
         if is_long(left) {
             errors.push(self.unexpected(Expected::Long, right_loc, right)?)?;
         } else if is_long(right) {
@@ -163,20 +165,7 @@ impl TypeEnv<'_, '_, '_, '_> {
 fn is_long(ty: &CedarType) -> bool
     ensures { result ≡ ty_eq (ty_of ty.now) TLong }
 {
-    match ty {
-        CedarType::Long => true,
-        CedarType::Never => false,
-        CedarType::Bool(_) => false,
-        CedarType::String => false,
-        CedarType::Set(_) => false,
-        CedarType::AnySet => false,
-        CedarType::Record {
-            attributes: _attributes,
-            is_open: _open,
-        } => false,
-        CedarType::Entity(_) => false,
-        CedarType::Extension(_) => false,
-    }
+    matches!(ty, CedarType::Long)
 }
 
 /// The name of an extension type.
@@ -185,22 +174,8 @@ fn extension_name(ty: &CedarType) -> Option<&Name>
 {
     match ty {
         CedarType::Extension(name) => Some(name),
-        CedarType::Never => None,
-        CedarType::Bool(_) => None,
-        CedarType::Long => None,
-        CedarType::String => None,
-        CedarType::Set(_) => None,
-        CedarType::AnySet => None,
-        CedarType::Record {
-            attributes: _attributes,
-            is_open: _open,
-        } => None,
-        CedarType::Entity(_) => None,
+        CedarType::Never | CedarType::Bool(_) | CedarType::Long | CedarType::String => None,
+        CedarType::Set(_) | CedarType::AnySet => None,
+        CedarType::Record { .. } | CedarType::Entity(_) => None,
     }
-}
-
-fn is_same_type(one: &CedarType, other: &CedarType) -> bool
-    ensures { result ≡ ty_eq (ty_of one.now) (ty_of other.now) }
-{
-    *one == *other
 }

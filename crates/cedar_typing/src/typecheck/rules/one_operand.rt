@@ -5,10 +5,10 @@ ghost use Rattle.cedar_types.specs.Types.{ty_of};
 ghost use Rattle.cedar_types.specs.Expressions.View.{written};
 ghost use Rattle.cedar_typing.specs.Eager.{first_expectation};
 ghost use Rattle.cedar_typing.specs.Infer.{infer};
-ghost use Rattle.cedar_typing.specs.Infer.Eager.{infer_decided};
+ghost use Rattle.cedar_typing.specs.Infer.Eager.{infer_of_one};
 ghost use Rattle.cedar_typing.specs.Infer.Parts.{expect};
 ghost use Rattle.cedar_typing.specs.Judgments.{max_nesting};
-ghost use Rattle.cedar_typing.specs.TypedExpr.{annotation, place_of, typed_as, typed_tree};
+ghost use Rattle.cedar_typing.specs.TypedExpr.{place_of, typed_as, typed_tree};
 ghost use Rattle.cedar_typing.specs.Views.Settings.{setting_at, infer_one};
 ghost use Rattle.cedar_typing.specs.Views.{env_at, expected_types, answer_of, part_of, findings, decision_of, form_of_one, mark_of_one};
 ghost use Rattle.cedar_typing.specs.Capabilities.Priors.{known_in};
@@ -17,13 +17,12 @@ use crate::typecheck::answer::{Part, TypecheckAnswer};
 use crate::typecheck::expressions::MAX_TYPED_DEPTH;
 use crate::typecheck::operands::Expected;
 use crate::typecheck::prior::Prior;
-use crate::typecheck::rules::attributes::{get_node, has_node};
 use crate::typecheck::rules::eager::{Decision, add_errors, gives};
-use crate::typecheck::rules::unary::{decide_is, decide_not, is_node, like_node, unary_node};
+use crate::typecheck::rules::unary::{decide_is, decide_not};
 use crate::typecheck::single_env::SingleEnvTypechecker;
 use crate::typecheck::type_env::TypeEnv;
 use crate::typecheck::type_tests::any_bool;
-use crate::typecheck::typed_nodes::{chain_node, with_capabilities};
+use crate::typecheck::typed_nodes::{node, with_capabilities};
 use cedar_types::base::{
     ArgumentCheck, AttrChain, CedarType, EntityType, Expr, ExprKind, Loc, PatternElem, UnaryOp,
     ValidationError,
@@ -77,13 +76,32 @@ impl OneOperand<'_> {
             (typed_as (option_map ty_of ty) (form_of_one env (mark_of_one loc self.entry) prior e self.entry).at)
             (typed_tree operand.value ∷ [])) }
     {
+        let kind = self.kind(alloc, operand)?;
+        let typed = node(alloc, loc, ty, kind)?;
+        Ok(typed)
+    }
+
+    /// The form itself, on a typed operand.
+    fn kind(
+        self,
+        alloc: Global,
+        operand: Box<Expr<Option<CedarType>>>,
+    ) -> Result<ExprKind<Option<CedarType>>, AllocError>
+        ensures { (env : _) → (prior : _) → (e : _) → (loc : _) → (ty : _)
+            → IfOk result (λ k. typed_tree (record { annotation = ty; loc = loc; kind = k })
+            ≡ (form_of_one env (mark_of_one loc self.entry) prior e self.entry).node
+            (typed_as (option_map ty_of ty) (form_of_one env (mark_of_one loc self.entry) prior e self.entry).at)
+            (typed_tree operand.value ∷ [])) }
+    {
         match self {
-            OneOperand::Unary(op) => unary_node(alloc, loc, ty, op, operand),
-            OneOperand::Has(attr) => has_node(alloc, loc, ty, operand, attr),
-            OneOperand::Get(attr) => get_node(alloc, loc, ty, operand, attr),
-            OneOperand::Like(pattern) => like_node(alloc, loc, ty, operand, pattern),
-            OneOperand::Is(entity_type) => is_node(alloc, loc, ty, operand, entity_type),
-            OneOperand::Chain(chain) => chain_node(alloc, loc, ty, operand, chain),
+            OneOperand::Unary(op) => Ok(ExprKind::UnaryApp(op, operand)),
+            OneOperand::Has(attr) => Ok(ExprKind::HasAttr(operand, attr.clone()?)),
+            OneOperand::Get(attr) => Ok(ExprKind::GetAttr(operand, attr.clone()?)),
+            OneOperand::Like(pattern) => {
+                Ok(ExprKind::Like(operand, Vec::from_slice(alloc, pattern)?))
+            }
+            OneOperand::Is(entity_type) => Ok(ExprKind::Is(operand, entity_type.clone()?)),
+            OneOperand::Chain(chain) => Ok(ExprKind::ExtHasAttr(operand, chain.clone()?)),
         }
     }
 }
@@ -106,39 +124,13 @@ impl<C: ArgumentCheck> SingleEnvTypechecker<'_, '_, '_, '_, C> {
             (findings errors.old.items)
             ≡ (answer_of r, findings errors.new.items)) }
     {
-        let (answer, _base) = self.type_over_base(prior, depth, loc, form, operand, errors)?;
-        Ok(answer)
-    }
-
-    /// The same, and the operand with its digest, if that was asked.
-    #[cycle(typing)]
-    #[inline(never)]
-    fn type_over_base<'a>(
-        &self,
-        prior: &Prior<'_, 'a>,
-        depth: usize,
-        loc: Option<Loc>,
-        form: OneOperand<'a>,
-        operand: &'a Expr,
-        errors: &mut Vec<ValidationError>,
-    ) -> Result<(TypecheckAnswer<'a>, DigestedBase<'a>), AllocError>
-        requires { depth ≤ max_nesting }
-        ensures typed { IfOk result (λ r.
-            infer_one (setting_at C.refusal self.now) (mark_of_one loc form.entry) (known_in prior.now) (written operand.now) depth form.entry
-            (findings errors.old.items)
-            ≡ (answer_of r.0, findings errors.new.items)) }
-        ensures base { IfOk result (λ r. expr_in r.1 ≡ operand.now) }
-    {
         let expected = form.expected();
         let (part, base) = self.type_base(prior, depth + 1, expected, operand, errors)?;
-        let Some(part) = part else {
-            return Ok((TypecheckAnswer::RecursionLimit, base));
-        };
         let mut base = base;
         let answer = self
             .env
             .one_answer(prior, loc, form, &mut base, part, errors)?;
-        Ok((answer, base))
+        Ok(answer)
     }
 
     /// A part that has to be of certain types, and the same part as a base of accesses. The base that an access is comes from its
@@ -161,7 +153,12 @@ impl<C: ArgumentCheck> SingleEnvTypechecker<'_, '_, '_, '_, C> {
         match &e.kind {
             ExprKind::GetAttr(owner, attr) if depth <= MAX_TYPED_DEPTH => {
                 let form = OneOperand::Get(attr);
-                let (answer, base) = self.type_over_base(prior, depth, e.loc, form, owner, errors)?;
+                let asked = form.expected();
+                let (part, base) = self.type_base(prior, depth + 1, asked, owner, errors)?;
+                let mut base = base;
+                let answer = self
+                    .env
+                    .one_answer(prior, e.loc, form, &mut base, part, errors)?;
                 let part = self.env.expect(expected, e.loc, answer, errors)?;
                 Ok((part, base.access(e, attr)))
             }
@@ -174,7 +171,9 @@ impl<C: ArgumentCheck> SingleEnvTypechecker<'_, '_, '_, '_, C> {
 }
 
 impl TypeEnv<'_, '_, '_, '_> {
-    /// A form with one operand, at `loc`, where the operand is typed.
+    /// A form with one operand, at `loc`, by what typing says of the operand.
+    ///
+    /// Two functions of the cycle call it, so no compiler makes its locals part of their frames.
     #[inline(never)]
     fn one_answer<'a>(
         &self,
@@ -182,17 +181,18 @@ impl TypeEnv<'_, '_, '_, '_> {
         loc: Option<Loc>,
         form: OneOperand<'a>,
         base: &mut DigestedBase<'a>,
-        part: Part<'a>,
+        part: Option<Part<'a>>,
         errors: &mut Vec<ValidationError>,
     ) -> Result<TypecheckAnswer<'a>, AllocError>
         ensures typed { IfOk result (λ r.
-            infer_decided (form_of_one (env_at self.now) (mark_of_one loc form.entry) (known_in prior.now) (written (expr_in base.old)) form.entry)
-            part.entry.succeeded (typed_tree part.entry.typed.value ∷ []) (findings errors.old.items)
-            ((form_of_one (env_at self.now) (mark_of_one loc form.entry) (known_in prior.now) (written (expr_in base.old)) form.entry).decides
-            (annotation (typed_tree part.entry.typed.value) ∷ []))
+            infer_of_one (form_of_one (env_at self.now) (mark_of_one loc form.entry) (known_in prior.now) (written (expr_in base.old)) form.entry)
+            (option_map part_of part.entry) (findings errors.old.items)
             ≡ (answer_of r, findings errors.new.items)) }
         ensures kept { expr_in base.new ≡ expr_in base.old }
     {
+        let Some(part) = part else {
+            return Ok(TypecheckAnswer::RecursionLimit);
+        };
         match self.decide_one(prior, loc, form, base, &part.typed.annotation)? {
             Decision::Gives(ty, capabilities) => {
                 let typed = form.node(self.alloc, loc, Some(ty), part.typed)?;

@@ -116,12 +116,14 @@ impl TypeEnv<'_, '_, '_, '_> {
         ensures { IfOk result (λ d. decision_of d
             ≡ set_decides (env_at self.now) loc (types_found (map typed_tree elements.now))) }
     {
+        // without an element nothing says of what it is a set, and Strict asks for one type
         if elements.is_empty() & self.is_strict() {
             let mut errors = Vec::new(self.alloc);
             errors.push(ValidationError::empty_set_forbidden(loc, self.policy_id.clone()?))?;
             return Ok(Decision::Refuses(None, errors));
         }
-        let decision = self.decide_by_types(loc, elements)?;
+        let types = types_of(self.alloc, elements)?;
+        let decision = self.decide_by_types(loc, types)?;
         Ok(decision)
     }
 
@@ -135,22 +137,24 @@ impl TypeEnv<'_, '_, '_, '_> {
         ensures { IfOk result (λ es. findings es.items
             ≡ errors_of (set_of_types (env_at self.now) loc (all_types (types_found (map typed_tree elements.now))))) }
     {
-        match self.decide_by_types(loc, elements)? {
+        let types = types_of(self.alloc, elements)?;
+        match self.decide_by_types(loc, types)? {
             Decision::Gives(_, _) => Ok(Vec::new(self.alloc)),
             Decision::Refuses(_, errors) => Ok(errors),
         }
     }
 
-    /// A set of the bound of the types of its elements. A type that is missing is no other error.
+    /// A set of the bound of the types of its elements. Where one is missing, there is no other error.
     fn decide_by_types<'a>(
         &self,
         loc: Option<Loc>,
-        elements: &[Expr<Option<CedarType>>],
+        types: Option<Vec<&CedarType>>,
     ) -> Result<Decision<'a>, AllocError>
         ensures { IfOk result (λ d. decision_of d
-            ≡ set_of_types (env_at self.now) loc (all_types (types_found (map typed_tree elements.now)))) }
+            ≡ set_of_types (env_at self.now) loc
+            (option_map (λ v. map (λ t. ty_of t.now) v.items) types.entry)) }
     {
-        let Some(types) = types_of(self.alloc, elements)? else {
+        let Some(types) = types else {
             return Ok(Decision::Refuses(None, Vec::new(self.alloc)));
         };
         let bound = CedarType::reduce_to_least_upper_bound(self.alloc, &types, self.mode)?;

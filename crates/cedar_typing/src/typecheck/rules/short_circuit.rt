@@ -1,5 +1,5 @@
 // `&&` and `||`.
-ghost use Rattle.std.specs.Prelude.{◌≡◌, ◌≤◌, IfOk, option_map};
+ghost use Rattle.std.specs.Prelude.{◌≡◌, ◌≤◌, Some, IfOk, option_map};
 ghost use Rattle.cedar_types.specs.Types.{ty_of};
 ghost use Rattle.cedar_types.specs.Expressions.View.{written};
 ghost use Rattle.cedar_types.specs.Capability.{caps};
@@ -112,6 +112,7 @@ impl Connective {
         ensures { caps result ≡ (connective_of self).ended_caps (caps left.entry) }
     {
         match self {
+            // `a && ..` is never true then, and nothing follows from it
             Connective::And => no_capabilities(alloc),
             Connective::Or => left,
         }
@@ -128,6 +129,8 @@ impl Connective {
         ensures { IfOk result (λ c. caps c
             ≡ (connective_of self).side_caps (side_seen side) (caps left.entry) (caps right.entry)) }
     {
+        // what a side of type True says holds even where it is not evaluated; without one, `||` is true
+        // because of either side, so only what both say holds
         match (self, side) {
             (Connective::And, Side::RightEnds) => Ok(no_capabilities(alloc)),
             (Connective::And, Side::LeftAlone) => union_of(left, right),
@@ -140,23 +143,21 @@ impl Connective {
         }
     }
 
-    fn node(
+    /// The form itself, on typed sides.
+    fn kind(
         self,
-        alloc: Global,
-        loc: Option<Loc>,
-        ty: CedarType,
         left: Box<Expr<Option<CedarType>>>,
         right: Box<Expr<Option<CedarType>>>,
-    ) -> Result<Box<Expr<Option<CedarType>>>, AllocError>
-        ensures { IfOk result (λ e. typed_tree e.value
+    ) -> ExprKind<Option<CedarType>>
+        ensures { (ty : _) → (loc : _)
+            → typed_tree (record { annotation = Some ty; loc = loc; kind = result })
             ≡ (connective_of self).node (typed (ty_of ty) (at loc)) (typed_tree left.value)
-            (typed_tree right.value)) }
+            (typed_tree right.value) }
     {
-        let kind = match self {
+        match self {
             Connective::And => ExprKind::And(left, right),
             Connective::Or => ExprKind::Or(left, right),
-        };
-        node(alloc, loc, Some(ty), kind)
+        }
     }
 }
 
@@ -184,6 +185,7 @@ impl<C: ArgumentCheck> SingleEnvTypechecker<'_, '_, '_, '_, C> {
         let Some(left) = self.type_part(prior, depth + 1, Expected::Bool, left, errors)? else {
             return Ok(TypecheckAnswer::RecursionLimit);
         };
+        // the right side is never evaluated then, so it is not typed, and nothing in it is an error
         if connective.ends_with(&left.typed) {
             return Ok(self.env.ended_answer(loc, connective, left));
         }
@@ -242,12 +244,13 @@ impl TypeEnv<'_, '_, '_, '_> {
                     right.capabilities,
                 )?;
                 let succeeded = left.succeeded & right.succeeded;
-                let typed = connective.node(self.alloc, loc, ty, left.typed, right.typed)?;
+                let kind = connective.kind(left.typed, right.typed);
+                let typed = node(self.alloc, loc, Some(ty), kind)?;
                 Ok(with_capabilities(succeeded, typed, produced))
             }
             _ => {
-                let ty = any_bool();
-                let typed = connective.node(self.alloc, loc, ty, left.typed, right.typed)?;
+                let kind = connective.kind(left.typed, right.typed);
+                let typed = node(self.alloc, loc, Some(any_bool()), kind)?;
                 Ok(TypecheckAnswer::fail(typed))
             }
         }

@@ -1,13 +1,14 @@
 // `hasTag` and `getTag`.
-ghost use Rattle.std.specs.Prelude.{◌≡◌, [], ◌∷◌, None, IfOk, map, option_map};
+ghost use Rattle.std.specs.Prelude.{◌≡◌, [], ◌∷◌, None, IfOk, map, option_map, if◌then◌else◌};
 ghost use Rattle.cedar_types.specs.Types.Bounds.{list_lub};
 ghost use Rattle.cedar_types.specs.Capability.{cap_of};
-ghost use Rattle.cedar_types.specs.Errors.{internal_invariant_violation};
+ghost use Rattle.cedar_types.specs.Errors.{internal_invariant_violation, unsafe_tag_access};
 ghost use Rattle.cedar_types.specs.Types.Lookups.{tag_types};
 ghost use Rattle.cedar_types.specs.Names.{type_of};
 ghost use Rattle.cedar_types.specs.Types.{ty_of, lub_of};
 ghost use Rattle.cedar_types.specs.Expressions.View.{written};
-ghost use Rattle.cedar_typing.specs.Eager.{refuses};
+ghost use Rattle.cedar_typing.specs.Capabilities.{single};
+ghost use Rattle.cedar_typing.specs.Eager.{gives, refuses};
 ghost use Rattle.cedar_typing.specs.Rules.Tags.{tag_of, has_tag_type, has_tag_table, types_named, only_type, get_known_tag, get_tag_table};
 ghost use Rattle.cedar_typing.specs.TypeEnv.{finding};
 ghost use Rattle.cedar_typing.specs.Views.{env_at, decision_of};
@@ -15,36 +16,45 @@ ghost use Rattle.cedar_typing.specs.Capabilities.Priors.{known_in};
 
 use crate::typecheck::capabilities::one_capability;
 use crate::typecheck::prior::Prior;
+use crate::typecheck::rules::decisions::Operands;
 use crate::typecheck::rules::eager::{Decision, gives, refuses_with};
 use crate::typecheck::type_env::TypeEnv;
 use crate::typecheck::type_tests::{any_bool, is_never_type, named_types};
 use cedar_types::base::{
-    BoolType, CedarType, EntityLUB, EntityType, Expr, Loc, LubContext, ValidationError,
+    BoolType, CedarType, EntityLUB, EntityType, Loc, LubContext, ValidationError,
 };
 use cedar_types::types::capability::Capability;
 use std::alloc::{AllocError, Global};
 use std::collections::BTreeSet;
 
 /// That the left has the tag whose name the right gives.
-fn tag_of<'a>(left: &'a Expr, right: &'a Expr) -> Capability<'a>
-    ensures { cap_of result ≡ tag_of (written left.now) (written right.now) }
+fn tag_of<'a>(operands: Operands<'a>) -> Capability<'a>
+    ensures { cap_of result
+        ≡ tag_of (written operands.entry.left.now) (written operands.entry.right.now) }
 {
-    Capability::new_borrowed_tag(left, right)
+    Capability::new_borrowed_tag(operands.left, operands.right)
 }
 
 impl TypeEnv<'_, '_, '_, '_> {
-    /// The type of `left.hasTag(right)` by that of the left, and that the tag is there.
-    pub(crate) fn decide_has_tag<'a>(
+    /// The type of `left.hasTag(right)`, or of `left.getTag(right)`, by that of the left, or an error at `loc`.
+    pub(crate) fn decide_tag<'a>(
         &self,
         prior: &Prior<'_, 'a>,
         loc: Option<Loc>,
-        left: &'a Expr,
-        right: &'a Expr,
+        is_get: bool,
+        operands: Operands<'a>,
         found: &Option<CedarType>,
     ) -> Result<Decision<'a>, AllocError>
         ensures { IfOk result (λ d. decision_of d
-            ≡ has_tag_table (env_at self.now) loc (tag_of (written left.now) (written right.now))
-            (known_in prior.now (tag_of (written left.now) (written right.now)))
+            ≡ if is_get
+            then get_tag_table (env_at self.now) loc
+            (known_in prior.now
+            (tag_of (written operands.entry.left.now) (written operands.entry.right.now)))
+            (option_map ty_of found.now)
+            else has_tag_table (env_at self.now) loc
+            (tag_of (written operands.entry.left.now) (written operands.entry.right.now))
+            (known_in prior.now
+            (tag_of (written operands.entry.left.now) (written operands.entry.right.now)))
             (option_map ty_of found.now)) }
     {
         let Some(ty) = found else {
@@ -54,34 +64,48 @@ impl TypeEnv<'_, '_, '_, '_> {
             let decision = self.tag_of_never(loc)?;
             return Ok(decision);
         }
-        let there = tag_of(left, right);
+        let there = tag_of(operands);
+        let is_known = prior.contains(&there);
+        if is_get {
+            let decision = self.decide_get_tag(loc, is_known, ty)?;
+            return Ok(decision);
+        }
+        let decision = self.decide_has_tag(there, is_known, ty)?;
+        Ok(decision)
+    }
+
+    /// `hasTag` of a type other than Never, which earns that the tag is there.
+    fn decide_has_tag<'a>(
+        &self,
+        there: Capability<'a>,
+        is_known: bool,
+        ty: &CedarType,
+    ) -> Result<Decision<'a>, AllocError>
+        ensures { IfOk result (λ d. decision_of d
+            ≡ gives (has_tag_type (tag_types (env_at self.now).schema (ty_of ty.now)) is_known)
+            (single (cap_of there.entry))) }
+    {
         let tags = self.tag_types(ty)?;
-        let ty = has_tag_type(&tags, prior.contains(&there));
+        let ty = has_tag_type(&tags, is_known);
         Ok(Decision::Gives(ty, one_capability(self.alloc, there)?))
     }
 
-    /// The type of `left.getTag(right)` by that of the left, or an error at `loc`.
-    pub(crate) fn decide_get_tag<'a>(
+    /// `getTag` of a type other than Never, which wants that the tag is known to be there.
+    fn decide_get_tag<'a>(
         &self,
-        prior: &Prior<'_, 'a>,
         loc: Option<Loc>,
-        left: &'a Expr,
-        right: &'a Expr,
-        found: &Option<CedarType>,
+        is_known: bool,
+        ty: &CedarType,
     ) -> Result<Decision<'a>, AllocError>
         ensures { IfOk result (λ d. decision_of d
-            ≡ get_tag_table (env_at self.now) loc
-            (known_in prior.now (tag_of (written left.now) (written right.now)))
-            (option_map ty_of found.now)) }
+            ≡ if is_known
+            then get_known_tag (env_at self.now) loc (ty_of ty.now)
+            (tag_types (env_at self.now).schema (ty_of ty.now))
+            else refuses None
+            (finding (env_at self.now) loc (unsafe_tag_access (types_named (ty_of ty.now))) ∷ [])) }
     {
-        let Some(ty) = found else {
-            return Ok(Decision::Refuses(None, Vec::new(self.alloc)));
-        };
-        if is_never_type(ty) {
-            let decision = self.tag_of_never(loc)?;
-            return Ok(decision);
-        }
-        if !prior.contains(&tag_of(left, right)) {
+        // no schema requires a tag, so each access needs a test before it
+        if !is_known {
             let policy_id = self.policy_id.clone()?;
             let error = ValidationError::unsafe_tag_access(loc, policy_id, types_named(ty)?);
             return refuses_with(self.alloc, None, error);
@@ -137,17 +161,10 @@ impl TypeEnv<'_, '_, '_, '_> {
     {
         match ty {
             CedarType::Entity(kind) => self.schema.tag_types(self.alloc, kind),
-            CedarType::Never => Ok(BTreeSet::new(self.alloc)),
-            CedarType::Bool(_) => Ok(BTreeSet::new(self.alloc)),
-            CedarType::Long => Ok(BTreeSet::new(self.alloc)),
-            CedarType::String => Ok(BTreeSet::new(self.alloc)),
-            CedarType::Set(_) => Ok(BTreeSet::new(self.alloc)),
-            CedarType::AnySet => Ok(BTreeSet::new(self.alloc)),
-            CedarType::Record {
-                attributes: _attributes,
-                is_open: _open,
-            } => Ok(BTreeSet::new(self.alloc)),
-            CedarType::Extension(_) => Ok(BTreeSet::new(self.alloc)),
+            CedarType::Never | CedarType::Bool(_) => Ok(BTreeSet::new(self.alloc)),
+            CedarType::Long | CedarType::String => Ok(BTreeSet::new(self.alloc)),
+            CedarType::Set(_) | CedarType::AnySet => Ok(BTreeSet::new(self.alloc)),
+            CedarType::Record { .. } | CedarType::Extension(_) => Ok(BTreeSet::new(self.alloc)),
         }
     }
 

@@ -8,6 +8,7 @@ ghost use Rattle.cedar_typing.specs.Eager.{first_expectation, later_expectations
 ghost use Rattle.cedar_typing.specs.Infer.Eager.{infer_form, type_given};
 ghost use Rattle.cedar_typing.specs.Judgments.{max_nesting};
 ghost use Rattle.cedar_typing.specs.Rules.Binary.{binary_form};
+ghost use Rattle.cedar_typing.specs.TypedExpr.{typed_as, typed_tree};
 ghost use Rattle.cedar_typing.specs.Views.Settings.{setting_at, infer_two};
 ghost use Rattle.cedar_typing.specs.Views.{env_at, expected_types, answer_of, part_of, findings, at, form_of_two, two_parts};
 ghost use Rattle.cedar_typing.specs.Capabilities.Priors.{known_in};
@@ -20,9 +21,9 @@ use crate::typecheck::rules::eager::{Decision, add_errors};
 use crate::typecheck::single_env::SingleEnvTypechecker;
 use crate::typecheck::type_env::TypeEnv;
 use crate::typecheck::type_tests::any_bool;
-use crate::typecheck::typed_nodes::{binary_node, with_capabilities};
-use cedar_types::base::{ArgumentCheck, BinaryOp, CedarType, Expr, Loc, ValidationError};
-use std::alloc::AllocError;
+use crate::typecheck::typed_nodes::{node, with_capabilities};
+use cedar_types::base::{ArgumentCheck, BinaryOp, CedarType, Expr, ExprKind, Loc, ValidationError};
+use std::alloc::{AllocError, Global};
 
 /// A form with two operands.
 #[derive(Clone, Copy)]
@@ -274,4 +275,21 @@ fn bool_unless(succeeded: bool, ty: CedarType) -> CedarType
         return ty;
     }
     any_bool()
+}
+
+/// An operator on two typed operands.
+fn binary_node(
+    alloc: Global,
+    loc: Option<Loc>,
+    ty: Option<CedarType>,
+    op: BinaryOp,
+    left: Box<Expr<Option<CedarType>>>,
+    right: Box<Expr<Option<CedarType>>>,
+) -> Result<Box<Expr<Option<CedarType>>>, AllocError>
+    ensures { IfOk result (λ e. typed_tree e.value
+        ≡ binary (typed_as (option_map ty_of ty) (at loc)) op (typed_tree left.value)
+        (typed_tree right.value)) }
+{
+    let kind = ExprKind::BinaryApp(op, left, right);
+    node(alloc, loc, ty, kind)
 }

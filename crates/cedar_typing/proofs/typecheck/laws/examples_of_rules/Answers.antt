@@ -1,9 +1,9 @@
-use Rattle.cedar_typing.proofs.Examples.Rules.{leaf_typing, and_typing, or_typing, unary_typing, conditional_typing, operator_typing}
-use Rattle.cedar_typing.proofs.Examples.Rules.{number_typing, equality_typing, member_typing, set_typing, record_typing}
+use Rattle.cedar_typing.proofs.Examples.Rules.{leaf_typing, and_typing, or_typing, unary_typing, conditional_typing, set_typing, record_typing}
 use Rattle.cedar_typing.proofs.Examples.Rules.Calls.{call_typing, argument_typing}
 use Rattle.cedar_typing.proofs.Examples.Rules.Entities.{has_typing, get_typing, chain_typing, action_membership_typing, membership_typing}
 use Rattle.cedar_typing.proofs.Examples.Rules.Entities.{has_tag_typing, get_tag_typing}
 use Rattle.cedar_typing.proofs.Examples.Rules.Nesting.{nesting_typing, check_typing}
+use Rattle.cedar_typing.proofs.Examples.Rules.Operators.{operator_typing, number_typing, equality_typing, member_typing}
 use Rattle.cedar_typing.proofs.typecheck.laws.examples_of_rules.Goals as goal
 
 pub returns : goal.returns

@@ -1,5 +1,4 @@
-use Rattle.cedar_typing.proofs.TypedCopies.Laws.{copies_mean_the_same, copies_mean_the_same_in_permissive}
-use Rattle.cedar_typing.proofs.TypedCopies.Marks.{types_do_not_matter}
+use Rattle.cedar_typing.proofs.TypedCopies.Laws.{types_do_not_matter, copies_mean_the_same, copies_mean_the_same_in_permissive}
 use Rattle.cedar_typing.proofs.typecheck.typed_copies.copies_mean_the_same.Goals as goal
 
 pub returns : goal.returns

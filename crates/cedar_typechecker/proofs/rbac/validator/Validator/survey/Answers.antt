@@ -4,14 +4,12 @@ use Rattle.std.specs.Prelude.{IsPermutation, MatchOption}
 use Rattle.cedar_types.specs.declared.base.expressions.extensions.ExtensionSchemas.{ExtensionSchemas}
 use Rattle.cedar_types.specs.declared.base.schema.ValidatorSchema.{ValidatorSchema}
 use Rattle.cedar_types.specs.Errors.{Finding}
-use Rattle.cedar_types.specs.Extensions.{functions_of}
 use Rattle.cedar_types.specs.Environments.Linking.{checked_envs}
 use Rattle.cedar_types.specs.Environments.RequestEnvs.{Env, env_of}
 use Rattle.cedar_types.specs.declared.base.names.policy_ids.PolicyID.{PolicyID}
 use Rattle.cedar_types.specs.Names.{Text, text_of}
 use Rattle.cedar_types.specs.Schemas.Contents.{schema_of}
 use Rattle.cedar_types.specs.Templates.{template_of, condition_of}
-use Rattle.cedar_types.proofs.Expressions.SortedTables.{no_fault}
 use Rattle.cedar_typing.specs.declared.typecheck.typechecker.Typechecker.{Typechecker}
 use Rattle.cedar_typing.specs.Evaluation.Conformance.{IsOneOf}
 use Rattle.cedar_typing.specs.PolicyCheck.{Verdict}
@@ -33,8 +31,8 @@ use Rattle.cedar_typechecker.proofs.Levels.RequiredLevels.{least_is_required}
 use Rattle.cedar_typechecker.proofs.Levels.Typing.{typed_branches_are_shared}
 use Rattle.cedar_typechecker.proofs.Representatives.Declared.{checked_are_declared}
 use Rattle.cedar_typechecker.proofs.Representatives.OneMore.{nothing_known, known_beside}
-use Rattle.cedar_typechecker.proofs.Slices.Surveys.{survey_is_kept, survey_is_kept_in_permissive}
 use Rattle.cedar_typechecker.proofs.Surveys.{told_are_level_errors}
+use Rattle.cedar_typechecker.proofs.ValidatorPromises.{survey_kept, survey_kept_in_permissive}
 use Rattle.cedar_typechecker.proofs.rbac.validator.Validator.survey.Goals as goal
 
 given_some : {A : Type 0} (o : Option A) (x : A) → o ≡ Some x → (P : Type 0) (Q : A → Type 0) → MatchOption o P Q → Q x
@@ -156,19 +154,12 @@ returns-clause-exact g c =
     }
 
 pub returns-clause-kept : goal.returns-clause-kept
-unfolding schema_of functions_of schema_in extensions_in
 returns-clause-kept g c =
-    let b = basis_in g.C.ArgumentCheck.refusal c.args.self.now c.args.mode in
-    let extensions = c.args.self.now.extensions.now in
-    let table = no_fault g.C.ArgumentCheck.refusal extensions.functions.items extensions.faultless in
-    survey_is_kept b (template_of c.args.p.now) _ (returns-clause-exact g c)
-    c.args.self.now.schema.faultless table
+    survey_kept g.C.ArgumentCheck.refusal c.args.self.now c.args.mode (template_of c.args.p.now) _
+    (returns-clause-exact g c)
 
 pub returns-clause-kept_in_permissive : goal.returns-clause-kept_in_permissive
-unfolding schema_of functions_of schema_in extensions_in
+unfolding schema_of schema_in
 returns-clause-kept_in_permissive g c =
-    let b = basis_in g.C.ArgumentCheck.refusal c.args.self.now c.args.mode in
-    let extensions = c.args.self.now.extensions.now in
-    let table = no_fault g.C.ArgumentCheck.refusal extensions.functions.items extensions.faultless in
-    survey_is_kept_in_permissive b (template_of c.args.p.now) _ (returns-clause-exact g c)
-    c.args.self.now.schema.faultless c.args.self.now.schema.formed table
+    survey_kept_in_permissive g.C.ArgumentCheck.refusal c.args.self.now c.args.mode
+    (template_of c.args.p.now) c.args.self.now.schema.formed _ (returns-clause-exact g c)

@@ -1,15 +1,13 @@
 use Rattle.std.proofs.Common.{◌++◌, ◌∷◌, [], cond, ap, subst, ◌∙◌}
-use Rattle.cedar_types.specs.Extensions.{functions_of}
 use Rattle.cedar_types.specs.Schemas.Contents.{schema_of}
 use Rattle.cedar_types.specs.Templates.{template_of}
-use Rattle.cedar_types.proofs.Expressions.SortedTables.{no_fault}
 use Rattle.cedar_typing.specs.PolicyCheck.Outcome.{impossible}
 use Rattle.cedar_typechecker.specs.Levels.Outcome.{AreApart, name_findings, application_warnings}
 use Rattle.cedar_typechecker.specs.Levels.Views.{findings}
 use Rattle.cedar_typechecker.specs.Surveys.{errors_of}
-use Rattle.cedar_typechecker.specs.ValidatorViews.{schema_in, extensions_in, basis_in}
+use Rattle.cedar_typechecker.specs.ValidatorViews.{schema_in}
 use Rattle.cedar_typechecker.proofs.Levels.Outcomes.{all_given}
-use Rattle.cedar_typechecker.proofs.Validations.{validations_are_kept, validations_are_kept_in_permissive}
+use Rattle.cedar_typechecker.proofs.ValidatorPromises.{validation_kept, validation_kept_in_permissive}
 use Rattle.cedar_typechecker.proofs.rbac.validator.Validator.validate_policy.Goals as goal
 
 pub returns-clause-exact : goal.returns-clause-exact
@@ -18,8 +16,6 @@ returns-clause-exact g c =
     let t = template_of c.args.p.now in
     let k = c.in_ok-survey.ensures.exact in
     let types = c.into_errors.ensures.errors in
-    let of_types = errors_of c.in_ok-survey.survey in
-    let names = name_findings c.args.mode s t in
     let before = findings c.in_ok-errors.errors.items in
     let after = findings c.append_keys.new.found.items in
     let added = c.in_ok-append_keys.ensures.all ∙ ap (λ es. before ++ es) types in
@@ -28,8 +24,9 @@ returns-clause-exact g c =
       verdicts = k.verdicts;
       in_some_order = k.in_some_order;
       checked = k.checked;
-      type_errors = of_types;
-      given = all_given before after names of_types added c.in_ok-errors.ensures;
+      type_errors = errors_of c.in_ok-survey.survey;
+      given = all_given before after (name_findings c.args.mode s t) (errors_of c.in_ok-survey.survey) added
+          c.in_ok-errors.ensures;
       types = k.errors;
       types_once = subst AreApart types c.in_ok-append_keys.ensures.once;
       warned = c.in_ok-warnings.ensures
@@ -38,39 +35,21 @@ returns-clause-exact g c =
     }
 
 pub returns-clause-silent : goal.returns-clause-silent
-unfolding schema_of functions_of schema_in extensions_in
 returns-clause-silent g c =
-    let o = returns-clause-exact g c in
-    let b = basis_in g.C.ArgumentCheck.refusal c.args.self.now c.args.mode in
-    let extensions = c.args.self.now.extensions.now in
-    let table = no_fault g.C.ArgumentCheck.refusal extensions.functions.items extensions.faultless in
-    (validations_are_kept b (template_of c.args.p.now) c.args.self.now.schema.faultless table _ _ o).silent
+    (validation_kept g.C.ArgumentCheck.refusal c.args.self.now c.args.mode _ _ _ (returns-clause-exact g c)).silent
 
 pub returns-clause-never_true : goal.returns-clause-never_true
-unfolding schema_of functions_of schema_in extensions_in
 returns-clause-never_true g c =
-    let o = returns-clause-exact g c in
-    let b = basis_in g.C.ArgumentCheck.refusal c.args.self.now c.args.mode in
-    let extensions = c.args.self.now.extensions.now in
-    let table = no_fault g.C.ArgumentCheck.refusal extensions.functions.items extensions.faultless in
-    (validations_are_kept b (template_of c.args.p.now) c.args.self.now.schema.faultless table _ _ o).never_true
+    (validation_kept g.C.ArgumentCheck.refusal c.args.self.now c.args.mode _ _ _ (returns-clause-exact g c)).never_true
 
 pub returns-clause-silent_in_permissive : goal.returns-clause-silent_in_permissive
-unfolding schema_of functions_of schema_in extensions_in
+unfolding schema_of schema_in
 returns-clause-silent_in_permissive g c =
-    let o = returns-clause-exact g c in
-    let b = basis_in g.C.ArgumentCheck.refusal c.args.self.now c.args.mode in
-    let extensions = c.args.self.now.extensions.now in
-    let table = no_fault g.C.ArgumentCheck.refusal extensions.functions.items extensions.faultless in
-    (validations_are_kept_in_permissive b (template_of c.args.p.now) c.args.self.now.schema.faultless
-    c.args.self.now.schema.formed table _ _ o).silent
+    (validation_kept_in_permissive g.C.ArgumentCheck.refusal c.args.self.now c.args.mode _
+    c.args.self.now.schema.formed _ _ (returns-clause-exact g c)).silent
 
 pub returns-clause-never_true_in_permissive : goal.returns-clause-never_true_in_permissive
-unfolding schema_of functions_of schema_in extensions_in
+unfolding schema_of schema_in
 returns-clause-never_true_in_permissive g c =
-    let o = returns-clause-exact g c in
-    let b = basis_in g.C.ArgumentCheck.refusal c.args.self.now c.args.mode in
-    let extensions = c.args.self.now.extensions.now in
-    let table = no_fault g.C.ArgumentCheck.refusal extensions.functions.items extensions.faultless in
-    (validations_are_kept_in_permissive b (template_of c.args.p.now) c.args.self.now.schema.faultless
-    c.args.self.now.schema.formed table _ _ o).never_true
+    (validation_kept_in_permissive g.C.ArgumentCheck.refusal c.args.self.now c.args.mode _
+    c.args.self.now.schema.formed _ _ (returns-clause-exact g c)).never_true

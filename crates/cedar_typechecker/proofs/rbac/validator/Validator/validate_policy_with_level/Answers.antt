@@ -1,18 +1,16 @@
 use Rattle.std.proofs.Common.{◌≤◌, ◌++◌, ◌∷◌, [], List, map, cond, sym, ap, subst, ◌∙◌, arith}
 use Rattle.std.specs.Prelude.{IsPermutation}
 use Rattle.cedar_types.specs.Errors.{Finding, finding_of, warning_of}
-use Rattle.cedar_types.specs.Extensions.{functions_of}
 use Rattle.cedar_types.specs.Schemas.Contents.{schema_of}
 use Rattle.cedar_types.specs.Templates.{template_of}
-use Rattle.cedar_types.proofs.Expressions.SortedTables.{no_fault}
 use Rattle.cedar_typing.specs.PolicyCheck.Outcome.{impossible}
 use Rattle.cedar_typechecker.specs.Levels.Answers.{level_errors_left, level_warnings_left}
 use Rattle.cedar_typechecker.specs.Levels.Outcome.{name_findings, application_warnings}
 use Rattle.cedar_typechecker.specs.Levels.Views.{findings}
 use Rattle.cedar_typechecker.specs.Surveys.{errors_of}
-use Rattle.cedar_typechecker.specs.ValidatorViews.{schema_in, extensions_in, basis_in}
+use Rattle.cedar_typechecker.specs.ValidatorViews.{schema_in}
 use Rattle.cedar_typechecker.proofs.Levels.Outcomes.{all_given, both_ways}
-use Rattle.cedar_typechecker.proofs.Slices.Validation.{outcomes_are_kept, outcomes_are_kept_in_permissive}
+use Rattle.cedar_typechecker.proofs.ValidatorPromises.{outcome_kept, outcome_kept_in_permissive}
 use Rattle.cedar_typechecker.proofs.rbac.validator.Validator.validate_policy_with_level.Goals as goal
 
 pub returns-clause-exact : goal.returns-clause-exact
@@ -50,39 +48,21 @@ returns-clause-exact g c =
     }
 
 pub returns-clause-silent : goal.returns-clause-silent
-unfolding schema_of functions_of schema_in extensions_in
 returns-clause-silent g c =
-    let o = returns-clause-exact g c in
-    let b = basis_in g.C.ArgumentCheck.refusal c.args.self.now c.args.mode in
-    let extensions = c.args.self.now.extensions.now in
-    let table = no_fault g.C.ArgumentCheck.refusal extensions.functions.items extensions.faultless in
-    (outcomes_are_kept b (template_of c.args.p.now) c.args.self.now.schema.faultless table _ _ _ o).silent
+    (outcome_kept g.C.ArgumentCheck.refusal c.args.self.now c.args.mode _ _ _ _ (returns-clause-exact g c)).silent
 
 pub returns-clause-never_true : goal.returns-clause-never_true
-unfolding schema_of functions_of schema_in extensions_in
 returns-clause-never_true g c =
-    let o = returns-clause-exact g c in
-    let b = basis_in g.C.ArgumentCheck.refusal c.args.self.now c.args.mode in
-    let extensions = c.args.self.now.extensions.now in
-    let table = no_fault g.C.ArgumentCheck.refusal extensions.functions.items extensions.faultless in
-    (outcomes_are_kept b (template_of c.args.p.now) c.args.self.now.schema.faultless table _ _ _ o).never_true
+    (outcome_kept g.C.ArgumentCheck.refusal c.args.self.now c.args.mode _ _ _ _ (returns-clause-exact g c)).never_true
 
 pub returns-clause-silent_in_permissive : goal.returns-clause-silent_in_permissive
-unfolding schema_of functions_of schema_in extensions_in
+unfolding schema_of schema_in
 returns-clause-silent_in_permissive g c =
-    let o = returns-clause-exact g c in
-    let b = basis_in g.C.ArgumentCheck.refusal c.args.self.now c.args.mode in
-    let extensions = c.args.self.now.extensions.now in
-    let table = no_fault g.C.ArgumentCheck.refusal extensions.functions.items extensions.faultless in
-    (outcomes_are_kept_in_permissive b (template_of c.args.p.now) c.args.self.now.schema.faultless
-    c.args.self.now.schema.formed table _ _ _ o).silent
+    (outcome_kept_in_permissive g.C.ArgumentCheck.refusal c.args.self.now c.args.mode _
+    c.args.self.now.schema.formed _ _ _ (returns-clause-exact g c)).silent
 
 pub returns-clause-never_true_in_permissive : goal.returns-clause-never_true_in_permissive
-unfolding schema_of functions_of schema_in extensions_in
+unfolding schema_of schema_in
 returns-clause-never_true_in_permissive g c =
-    let o = returns-clause-exact g c in
-    let b = basis_in g.C.ArgumentCheck.refusal c.args.self.now c.args.mode in
-    let extensions = c.args.self.now.extensions.now in
-    let table = no_fault g.C.ArgumentCheck.refusal extensions.functions.items extensions.faultless in
-    (outcomes_are_kept_in_permissive b (template_of c.args.p.now) c.args.self.now.schema.faultless
-    c.args.self.now.schema.formed table _ _ _ o).never_true
+    (outcome_kept_in_permissive g.C.ArgumentCheck.refusal c.args.self.now c.args.mode _
+    c.args.self.now.schema.formed _ _ _ (returns-clause-exact g c)).never_true

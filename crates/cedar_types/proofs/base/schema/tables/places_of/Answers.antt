@@ -10,11 +10,10 @@ returns-then-is_some g c =
     let key = g.D.Declared.key c.in_ok-name.name in
     let before = take c.loop-place.place c.args.declared.now in
     let declaration = c.index-declared-place.result in
-    let named : key ≡ g.D.Declared.called (g.D.Declared.plain declaration) = c.in_ok-name.ensures in
     let is_old : is_some c.in_ok-insert.field-0 ≡ true = sym c.is_some.ensures ∙ c.if-is_some.true in
     let among : list_any (λ d. g.D.Declared.same (g.D.Declared.called (g.D.Declared.plain declaration))
     (g.D.Declared.called (g.D.Declared.plain d))) before ≡ true =
-    ap (λ k. list_any (λ d. g.D.Declared.same k (g.D.Declared.called (g.D.Declared.plain d))) before) (sym named)
+    ap (λ k. list_any (λ d. g.D.Declared.same k (g.D.Declared.called (g.D.Declared.plain d))) before) (sym c.in_ok-name.ensures)
     ∙ sym (any_placed (λ d. g.D.Declared.same key (g.D.Declared.called (g.D.Declared.plain d))) before)
     ∙ ap is_some
     (sym (c.in_ok-insert.ensures.old

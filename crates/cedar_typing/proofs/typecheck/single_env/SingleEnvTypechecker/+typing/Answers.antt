@@ -1,4 +1,4 @@
-use Rattle.std.proofs.Common.{◌≡◌, ◌<◌, ◌+◌, ◌∙◌, length, map, drop, arith, sym, ap, subst, true, ◌&&◌, [], ◌∷◌, ◌++◌, option_map, append_assoc, append-nil, refl, Some}
+use Rattle.std.proofs.Common.{◌≡◌, ◌<◌, ◌+◌, ◌∙◌, length, map, drop, arith, sym, ap, subst, true, ◌&&◌, [], ◌∷◌, ◌++◌, option_map, append_assoc, append-nil, refl}
 use Rattle.std.specs.Prelude.{IfOk}
 use Rattle.std.specs.List.Sorted.{IsStrictlySortedBy}
 use Rattle.std.specs.Map.{keys_of}
@@ -15,20 +15,21 @@ use Rattle.cedar_typing.specs.Infer.Parts.{AnswerAndErrors, expect}
 use Rattle.cedar_typing.specs.TypedExpr.{Source, place_of, typed_tree}
 use Rattle.cedar_typing.specs.Views.Calls.{IsCallOf}
 use Rattle.cedar_typing.specs.Views.Settings.{setting_at}
-use Rattle.cedar_typing.specs.Views.{expected_types, first_wanted, answer_of, findings, operands_of, at, part_of, form_of_one, form_of_two, mark_of_one, keys_in, trees_in}
+use Rattle.cedar_typing.specs.Views.{expected_types, answer_of, findings, operands_of, at, part_of, form_of_one, form_of_two, mark_of_one, keys_in, trees_in}
 use Rattle.cedar_typing.specs.Eager.{Form}
-use Rattle.cedar_typing.specs.Infer.Eager.{all_typed, expect_operand, infer_form, infer_two_operands}
+use Rattle.cedar_typing.specs.Infer.Eager.{infer_form, infer_of_one, infer_two_operands}
+use Rattle.cedar_typing.specs.Rules.Attributes.{get_form}
 use Rattle.cedar_typing.specs.Rules.Calls.{expected_arguments}
 use Rattle.cedar_typing.specs.Rules.Records.{field_keys, record_form}
 use Rattle.cedar_typing.proofs.Rules.Calls.{written_call, written_set, call_inferred}
 use Rattle.cedar_typing.proofs.Agreement.Induction.{below_limit, infer_as}
 use Rattle.cedar_typing.proofs.Rules.Sets.{next_item}
-use Rattle.cedar_typing.proofs.Rules.OperandLists.{resumed, all_inferred, one_operand, last_operand, goes_further, goes_no_further}
+use Rattle.cedar_typing.proofs.Rules.OperandLists.{operand_found, one_operand, last_operand, goes_further, goes_no_further}
 use Rattle.cedar_typing.proofs.Views.Typed.{written_as, shape_as, place_is}
 use Rattle.cedar_typing.proofs.Rules.Records.{goes_last, key_is_last, keys_with_last, keys_written, trees_append}
 use Rattle.cedar_typing.proofs.Rules.FieldsInOrder.{finish, starts, goes_on, by_keys_typed}
 use Rattle.cedar_typing.proofs.Views.Fields.{written_record}
-use Rattle.cedar_typing.proofs.Rules.OneOperand.{one_typed}
+use Rattle.cedar_typing.proofs.Rules.OneOperand.{one_found}
 use Rattle.cedar_typing.proofs.Rules.TwoOperands.{is_limit, stops, typed_on, two_stopped, two_typed}
 use Rattle.cedar_typing.proofs.typecheck.single_env.SingleEnvTypechecker.+typing.Goals as goal
 
@@ -37,93 +38,91 @@ type_part-returns g t c =
     (λ i. expect (setting_at g.C.ArgumentCheck.refusal c.args.self.now).env (expected_types c.args.expected) (place_is c.args.e.now i) (c.in_ok-answer.ensures i))
     ∙ c.in_ok-part.ensures
 
-pub type_over_base-returns-clause-typed : goal.type_over_base-returns-clause-typed
-type_over_base-returns-clause-typed g t c =
+pub type_one_operand-returns : goal.type_one_operand-returns
+type_one_operand-returns g t c =
     let s = setting_at g.C.ArgumentCheck.refusal c.args.self.now in
     let prior = known_in c.args.prior.now in
     let m = mark_of_one c.args.loc c.args.form in
     let e = written c.args.operand.now in
-    let es = findings c.args.errors.now.items in
+    let p = option_map part_of c.in_ok-part.part in
     let es' = findings c.type_base.new.errors.items in
     let F : Source → Form = λ x. form_of_one s.env m prior x c.args.form in
-    let x = part_of c.in-Some.part in
-    let typed : expect s.env (expected_types c.expected-expected.result) (place_of e) (infer s e prior (c.args.depth + 1) es) ≡ (Some x, es') =
-    c.in_ok-part.ensures.typed ∙ ap (λ p. (option_map part_of p, es')) c.in-Some.is in
-    one_typed s.env (F e) (place_of e) (infer s e prior (c.args.depth + 1)) (expected_types c.expected-expected.result)
-    (c.expected-expected.ensures s.env m prior e) x es es' typed
-    ∙ (λ i. infer_form (F (written (sym c.in_ok-part.ensures.base i))) (all_typed x.succeeded (x.tree ∷ [])) es')
+    one_found s.env (F e) (place_of e) (infer s e prior (c.args.depth + 1)) (expected_types c.expected-expected.result)
+    (c.expected-expected.ensures s.env m prior e) p (findings c.args.errors.now.items) es' c.in_ok-part.ensures.typed
+    ∙ (λ i. infer_of_one (F (written (sym c.in_ok-part.ensures.base i))) p es')
     ∙ c.in_ok-answer.ensures.typed
 
-pub type_base-returns-in_ok-part-in-GetAttr-clause-typed : goal.type_base-returns-in_ok-part-in-GetAttr-clause-typed
-type_base-returns-in_ok-part-in-GetAttr-clause-typed g t c =
+pub type_base-returns-in_ok-part-in-GetAttr-2-clause-typed : goal.type_base-returns-in_ok-part-in-GetAttr-2-clause-typed
+type_base-returns-in_ok-part-in-GetAttr-2-clause-typed g t c =
     let s = setting_at g.C.ArgumentCheck.refusal c.args.self.now in
+    let prior = known_in c.args.prior.now in
     let m = at c.args.e.now.loc in
-    let tree : written c.args.e.now ≡ get_attr m (written c.deref.result.now) (text_of c.in-GetAttr.attr) =
+    let x = text_of c.in-GetAttr.attr in
+    let e = written c.deref.result.now in
+    let p = option_map part_of c.in_ok-part-in-GetAttr.part in
+    let es = findings c.args.errors.now.items in
+    let es' = findings c.type_base.new.errors.items in
+    let F : Source → Form = λ y. get_form s.env m prior y x in
+    let tree : written c.args.e.now ≡ get_attr m e x =
     written_as c.args.e.now (K.GetAttr c.in-GetAttr.owner c.in-GetAttr.attr) c.in-GetAttr.is
-    ∙ (λ i. get_attr m (written (sym c.deref.ensures i)) (text_of c.in-GetAttr.attr)) in
-    let P : AnswerAndErrors → Type 0 = λ z. z ≡ (answer_of c.in_ok-answer-in-GetAttr.answer, findings c.type_over_base.new.errors.items) in
-    let answered = infer_as P s (known_in c.args.prior.now) c.args.depth
-    (findings c.args.errors.now.items) c.if-depth-le-MAX_TYPED_DEPTH.true tree c.in_ok-answer-in-GetAttr.ensures.typed in
-    (λ i. expect s.env (expected_types c.args.expected) (place_is c.args.e.now i) (answered i)) ∙ c.in_ok-part-in-GetAttr.ensures
+    ∙ (λ i. get_attr m (written (sym c.deref.ensures i)) x) in
+    let found : infer_of_one (F e) p es' ≡ (answer_of c.in_ok-answer-in-GetAttr.answer, findings c.one_answer.new.errors.items) =
+    (λ i. infer_of_one (F (written (sym c.in_ok-part-in-GetAttr.ensures.base i))) p es')
+    ∙ c.in_ok-answer-in-GetAttr.ensures.typed in
+    let P : AnswerAndErrors → Type 0 = λ z. z ≡ (answer_of c.in_ok-answer-in-GetAttr.answer, findings c.one_answer.new.errors.items) in
+    let answered = infer_as P s prior c.args.depth es c.if-depth-le-MAX_TYPED_DEPTH.true tree
+    (one_found s.env (F e) (place_of e) (infer s e prior (c.args.depth + 1)) (expected_types c.expected-asked.result)
+    (c.expected-asked.ensures s.env m prior e) p es es' c.in_ok-part-in-GetAttr.ensures.typed ∙ found) in
+    (λ i. expect s.env (expected_types c.args.expected) (place_is c.args.e.now i) (answered i)) ∙ c.in_ok-part-in-GetAttr-2.ensures
 
 pub type_base-access-requires : goal.type_base-access-requires
 type_base-access-requires g t c =
     shape_as c.args.e.now (K.GetAttr c.in-GetAttr.owner c.in-GetAttr.attr) c.in-GetAttr.is
     ∙ (λ i. get_attr tt (shape (sym c.deref.ensures i)) (text_of c.in-GetAttr.attr))
-    ∙ (λ i. get_attr tt (shape (sym c.in_ok-answer-in-GetAttr.ensures.base i)) (text_of c.in-GetAttr.attr))
+    ∙ (λ i. get_attr tt (shape (sym c.in_ok-part-in-GetAttr.ensures.base i)) (text_of c.in-GetAttr.attr))
+    ∙ (λ i. get_attr tt (shape (sym c.in_ok-answer-in-GetAttr.ensures.kept i)) (text_of c.in-GetAttr.attr))
 
 pub typecheck-returns-in-And : goal.typecheck-returns-in-And
 typecheck-returns-in-And g t c =
-    let m = at c.args.e.now.loc in
-    let tree : written c.args.e.now ≡ and m (written c.deref.result.now) (written c.deref-in-And.result.now) =
-    written_as c.args.e.now (K.And c.in-And.left c.in-And.right) c.in-And.is ∙ (λ i. and m (written (sym c.deref.ensures i)) (written (sym c.deref-in-And.ensures i))) in
+    let tree : written c.args.e.now ≡ and (at c.args.e.now.loc) (written c.deref.result.now) (written c.deref-in-And.result.now) =
+    written_as c.args.e.now (K.And c.in-And.left c.in-And.right) c.in-And.is ∙ (λ i. and (at c.args.e.now.loc) (written (sym c.deref.ensures i)) (written (sym c.deref-in-And.ensures i))) in
     let P : AnswerAndErrors → Type 0 = λ z. IfOk c.type_short_circuit.result (λ r. z ≡ (answer_of r, findings c.type_short_circuit.new.errors.items)) in
-    infer_as P (setting_at g.C.ArgumentCheck.refusal c.args.self.now) (known_in c.args.prior.now) c.args.depth
-    (findings c.args.errors.now.items) c.if-depth-gt-MAX_TYPED_DEPTH.false tree c.type_short_circuit.ensures
+    infer_as P _ _ _ _ c.if-depth-gt-MAX_TYPED_DEPTH.false tree c.type_short_circuit.ensures
 
 pub typecheck-returns-in-Or : goal.typecheck-returns-in-Or
 typecheck-returns-in-Or g t c =
-    let m = at c.args.e.now.loc in
-    let tree : written c.args.e.now ≡ or m (written c.deref-in-Or.result.now) (written c.deref-in-Or-2.result.now) =
-    written_as c.args.e.now (K.Or c.in-Or.left c.in-Or.right) c.in-Or.is ∙ (λ i. or m (written (sym c.deref-in-Or.ensures i)) (written (sym c.deref-in-Or-2.ensures i))) in
+    let tree : written c.args.e.now ≡ or (at c.args.e.now.loc) (written c.deref-in-Or.result.now) (written c.deref-in-Or-2.result.now) =
+    written_as c.args.e.now (K.Or c.in-Or.left c.in-Or.right) c.in-Or.is ∙ (λ i. or (at c.args.e.now.loc) (written (sym c.deref-in-Or.ensures i)) (written (sym c.deref-in-Or-2.ensures i))) in
     let P : AnswerAndErrors → Type 0 = λ z. IfOk c.type_short_circuit-in-Or.result (λ r. z ≡ (answer_of r, findings c.type_short_circuit-in-Or.new.errors.items)) in
-    infer_as P (setting_at g.C.ArgumentCheck.refusal c.args.self.now) (known_in c.args.prior.now) c.args.depth
-    (findings c.args.errors.now.items) c.if-depth-gt-MAX_TYPED_DEPTH.false tree c.type_short_circuit-in-Or.ensures
+    infer_as P _ _ _ _ c.if-depth-gt-MAX_TYPED_DEPTH.false tree c.type_short_circuit-in-Or.ensures
 
 pub typecheck-returns-in-HasAttr : goal.typecheck-returns-in-HasAttr
 typecheck-returns-in-HasAttr g t c =
-    let m = at c.args.e.now.loc in
-    let tree : written c.args.e.now ≡ has_attr m (written c.deref-in-HasAttr.result.now) (text_of c.in-HasAttr.attr) =
-    written_as c.args.e.now (K.HasAttr c.in-HasAttr.base c.in-HasAttr.attr) c.in-HasAttr.is ∙ (λ i. has_attr m (written (sym c.deref-in-HasAttr.ensures i)) (text_of c.in-HasAttr.attr)) in
+    let tree : written c.args.e.now ≡ has_attr (at c.args.e.now.loc) (written c.deref-in-HasAttr.result.now) (text_of c.in-HasAttr.attr) =
+    written_as c.args.e.now (K.HasAttr c.in-HasAttr.base c.in-HasAttr.attr) c.in-HasAttr.is ∙ (λ i. has_attr (at c.args.e.now.loc) (written (sym c.deref-in-HasAttr.ensures i)) (text_of c.in-HasAttr.attr)) in
     let P : AnswerAndErrors → Type 0 = λ z. IfOk c.type_one_operand-in-HasAttr.result (λ r. z ≡ (answer_of r, findings c.type_one_operand-in-HasAttr.new.errors.items)) in
-    infer_as P (setting_at g.C.ArgumentCheck.refusal c.args.self.now) (known_in c.args.prior.now) c.args.depth
-    (findings c.args.errors.now.items) c.if-depth-gt-MAX_TYPED_DEPTH.false tree c.type_one_operand-in-HasAttr.ensures
+    infer_as P _ _ _ _ c.if-depth-gt-MAX_TYPED_DEPTH.false tree c.type_one_operand-in-HasAttr.ensures
 
 pub typecheck-returns-in-GetAttr : goal.typecheck-returns-in-GetAttr
 typecheck-returns-in-GetAttr g t c =
-    let m = at c.args.e.now.loc in
-    let tree : written c.args.e.now ≡ get_attr m (written c.deref-in-GetAttr.result.now) (text_of c.in-GetAttr.attr) =
-    written_as c.args.e.now (K.GetAttr c.in-GetAttr.base c.in-GetAttr.attr) c.in-GetAttr.is ∙ (λ i. get_attr m (written (sym c.deref-in-GetAttr.ensures i)) (text_of c.in-GetAttr.attr)) in
+    let tree : written c.args.e.now ≡ get_attr (at c.args.e.now.loc) (written c.deref-in-GetAttr.result.now) (text_of c.in-GetAttr.attr) =
+    written_as c.args.e.now (K.GetAttr c.in-GetAttr.base c.in-GetAttr.attr) c.in-GetAttr.is ∙ (λ i. get_attr (at c.args.e.now.loc) (written (sym c.deref-in-GetAttr.ensures i)) (text_of c.in-GetAttr.attr)) in
     let P : AnswerAndErrors → Type 0 = λ z. IfOk c.type_one_operand-in-GetAttr.result (λ r. z ≡ (answer_of r, findings c.type_one_operand-in-GetAttr.new.errors.items)) in
-    infer_as P (setting_at g.C.ArgumentCheck.refusal c.args.self.now) (known_in c.args.prior.now) c.args.depth
-    (findings c.args.errors.now.items) c.if-depth-gt-MAX_TYPED_DEPTH.false tree c.type_one_operand-in-GetAttr.ensures
+    infer_as P _ _ _ _ c.if-depth-gt-MAX_TYPED_DEPTH.false tree c.type_one_operand-in-GetAttr.ensures
 
 pub typecheck-returns-in-UnaryApp : goal.typecheck-returns-in-UnaryApp
 typecheck-returns-in-UnaryApp g t c =
-    let m = at c.args.e.now.loc in
-    let tree : written c.args.e.now ≡ unary m c.in-UnaryApp.op (written c.deref-in-UnaryApp.result.now) =
-    written_as c.args.e.now (K.UnaryApp c.in-UnaryApp.op c.in-UnaryApp.operand) c.in-UnaryApp.is ∙ (λ i. unary m c.in-UnaryApp.op (written (sym c.deref-in-UnaryApp.ensures i))) in
+    let tree : written c.args.e.now ≡ unary (at c.args.e.now.loc) c.in-UnaryApp.op (written c.deref-in-UnaryApp.result.now) =
+    written_as c.args.e.now (K.UnaryApp c.in-UnaryApp.op c.in-UnaryApp.operand) c.in-UnaryApp.is ∙ (λ i. unary (at c.args.e.now.loc) c.in-UnaryApp.op (written (sym c.deref-in-UnaryApp.ensures i))) in
     let P : AnswerAndErrors → Type 0 = λ z. IfOk c.type_one_operand.result (λ r. z ≡ (answer_of r, findings c.type_one_operand.new.errors.items)) in
-    infer_as P (setting_at g.C.ArgumentCheck.refusal c.args.self.now) (known_in c.args.prior.now) c.args.depth (findings c.args.errors.now.items) c.if-depth-gt-MAX_TYPED_DEPTH.false tree c.type_one_operand.ensures
+    infer_as P _ _ _ _ c.if-depth-gt-MAX_TYPED_DEPTH.false tree c.type_one_operand.ensures
 
 pub typecheck-returns-in-Like : goal.typecheck-returns-in-Like
 typecheck-returns-in-Like g t c =
-    let m = at c.args.e.now.loc in
-    let tree : written c.args.e.now ≡ like m (written c.deref-in-Like.result.now) c.in-Like.pattern.items =
-    written_as c.args.e.now (K.Like c.in-Like.operand c.in-Like.pattern) c.in-Like.is ∙ (λ i. like m (written (sym c.deref-in-Like.ensures i)) c.in-Like.pattern.items) in
+    let tree : written c.args.e.now ≡ like (at c.args.e.now.loc) (written c.deref-in-Like.result.now) c.in-Like.pattern.items =
+    written_as c.args.e.now (K.Like c.in-Like.operand c.in-Like.pattern) c.in-Like.is ∙ (λ i. like (at c.args.e.now.loc) (written (sym c.deref-in-Like.ensures i)) c.in-Like.pattern.items) in
     let P : AnswerAndErrors → Type 0 = λ z. IfOk c.type_one_operand-in-Like.result (λ r. z ≡ (answer_of r, findings c.type_one_operand-in-Like.new.errors.items)) in
-    infer_as P (setting_at g.C.ArgumentCheck.refusal c.args.self.now) (known_in c.args.prior.now) c.args.depth
-    (findings c.args.errors.now.items) c.if-depth-gt-MAX_TYPED_DEPTH.false tree c.type_one_operand-in-Like.ensures
+    infer_as P _ _ _ _ c.if-depth-gt-MAX_TYPED_DEPTH.false tree c.type_one_operand-in-Like.ensures
 
 pub typecheck-returns-in-Is : goal.typecheck-returns-in-Is
 typecheck-returns-in-Is g t c =
@@ -131,8 +130,7 @@ typecheck-returns-in-Is g t c =
     let tree : written c.args.e.now ≡ is_type m (written c.deref-in-Is.result.now) (type_of c.in-Is.named) =
     written_as c.args.e.now (K.Is c.in-Is.operand c.in-Is.named) c.in-Is.is ∙ (λ i. is_type m (written (sym c.deref-in-Is.ensures i)) (type_of c.in-Is.named)) in
     let P : AnswerAndErrors → Type 0 = λ z. IfOk c.type_one_operand-in-Is.result (λ r. z ≡ (answer_of r, findings c.type_one_operand-in-Is.new.errors.items)) in
-    infer_as P (setting_at g.C.ArgumentCheck.refusal c.args.self.now) (known_in c.args.prior.now) c.args.depth
-    (findings c.args.errors.now.items) c.if-depth-gt-MAX_TYPED_DEPTH.false tree c.type_one_operand-in-Is.ensures
+    infer_as P _ _ _ _ c.if-depth-gt-MAX_TYPED_DEPTH.false tree c.type_one_operand-in-Is.ensures
 
 pub typecheck-returns-in-BinaryApp : goal.typecheck-returns-in-BinaryApp
 typecheck-returns-in-BinaryApp g t c =
@@ -154,13 +152,11 @@ typecheck-returns-in-BinaryApp g t c =
 
 pub typecheck-returns-in-ExtHasAttr : goal.typecheck-returns-in-ExtHasAttr
 typecheck-returns-in-ExtHasAttr g t c =
-    let m = at c.args.e.now.loc in
     let chain = c.in-ExtHasAttr.chain in
-    let tree : written c.args.e.now ≡ ext_has_attr m (written c.deref-in-ExtHasAttr.result.now) (chain_of chain).0 (chain_of chain).1 =
-    written_as c.args.e.now (K.ExtHasAttr c.in-ExtHasAttr.base chain) c.in-ExtHasAttr.is ∙ (λ i. ext_has_attr m (written (sym c.deref-in-ExtHasAttr.ensures i)) (chain_of chain).0 (chain_of chain).1) in
+    let tree : written c.args.e.now ≡ ext_has_attr (at c.args.e.now.loc) (written c.deref-in-ExtHasAttr.result.now) (chain_of chain).0 (chain_of chain).1 =
+    written_as c.args.e.now (K.ExtHasAttr c.in-ExtHasAttr.base chain) c.in-ExtHasAttr.is ∙ (λ i. ext_has_attr (at c.args.e.now.loc) (written (sym c.deref-in-ExtHasAttr.ensures i)) (chain_of chain).0 (chain_of chain).1) in
     let P : AnswerAndErrors → Type 0 = λ z. IfOk c.type_one_operand-in-ExtHasAttr.result (λ r. z ≡ (answer_of r, findings c.type_one_operand-in-ExtHasAttr.new.errors.items)) in
-    infer_as P (setting_at g.C.ArgumentCheck.refusal c.args.self.now) (known_in c.args.prior.now) c.args.depth
-    (findings c.args.errors.now.items) c.if-depth-gt-MAX_TYPED_DEPTH.false tree c.type_one_operand-in-ExtHasAttr.ensures
+    infer_as P _ _ _ _ c.if-depth-gt-MAX_TYPED_DEPTH.false tree c.type_one_operand-in-ExtHasAttr.ensures
 
 pub type_two_operands-returns-then-is_none-goes_on : goal.type_two_operands-returns-then-is_none-goes_on
 type_two_operands-returns-then-is_none-goes_on g t c =
@@ -174,10 +170,9 @@ type_two_operands-returns-then-is_none-goes_on g t c =
     let es = findings c.args.errors.now.items in
     let es' = findings c.operand.new.errors.items in
     let q = option_map expected_types c.expected_left.result in
-    let left : expect_operand s.env q (place_of a) (infer s a prior (d + 1) es) ≡ (option_map part_of c.in_ok-one-2.one, es') =
-    (λ i. expect_operand s.env q (place_is c.args.operands.left.now i) (c.in_ok-one.ensures i)) ∙ c.in_ok-one-2.ensures in
     two_stopped s.env f (place_of a) (place_of b) (infer s a prior (d + 1)) (infer s b prior (d + 1)) q _ (c.expected_left.ensures s.env m prior a b) refl _ es es'
-    (stops c.is_none.result c.goes_on.result f.goes_on c.in_ok-one-2.one c.is_none.ensures (c.goes_on.ensures s.env m prior a b) c.if-is_none-goes_on.true) left
+    (stops c.is_none.result c.goes_on.result f.goes_on c.in_ok-one-2.one c.is_none.ensures (c.goes_on.ensures s.env m prior a b) c.if-is_none-goes_on.true)
+    (operand_found s.env c.args.operands.left.now refl c.in_ok-one.ensures c.in_ok-one-2.ensures)
     ∙ is_limit s.env m prior a b c.args.form [] es'
 
 pub type_two_operands-returns : goal.type_two_operands-returns
@@ -191,64 +186,44 @@ type_two_operands-returns g t c =
     let f = form_of_two s.env m prior a b c.args.form in
     let es = findings c.args.errors.now.items in
     let es' = findings c.operand.new.errors.items in
-    let es'' = findings c.operand-2.new.errors.items in
     let q = option_map expected_types c.expected_left.result in
     let q' = option_map expected_types c.expected_right.result in
-    let left : expect_operand s.env q (place_of a) (infer s a prior (d + 1) es) ≡ (option_map part_of c.in_ok-one-2.one, es') =
-    (λ i. expect_operand s.env q (place_is c.args.operands.left.now i) (c.in_ok-one.ensures i)) ∙ c.in_ok-one-2.ensures in
-    let right : expect_operand s.env q' (place_of b) (infer s b prior (d + 1) es') ≡ (option_map part_of c.in_ok-other-2.other, es'') =
-    (λ i. expect_operand s.env q' (place_is c.args.operands.right.now i) (c.in_ok-other.ensures i)) ∙ c.in_ok-other-2.ensures in
-    two_typed s.env f (place_of a) (place_of b) (infer s a prior (d + 1)) (infer s b prior (d + 1)) q q' (c.expected_left.ensures s.env m prior a b) (c.expected_right.ensures s.env m prior a b) _ _ es es' es''
-    (typed_on c.is_none.result c.goes_on.result f.goes_on c.in_ok-one-2.one c.is_none.ensures (c.goes_on.ensures s.env m prior a b) c.if-is_none-goes_on.false) left right
+    two_typed s.env f (place_of a) (place_of b) (infer s a prior (d + 1)) (infer s b prior (d + 1)) q q' (c.expected_left.ensures s.env m prior a b) (c.expected_right.ensures s.env m prior a b) _ _ es es' (findings c.operand-2.new.errors.items)
+    (typed_on c.is_none.result c.goes_on.result f.goes_on c.in_ok-one-2.one c.is_none.ensures (c.goes_on.ensures s.env m prior a b) c.if-is_none-goes_on.false)
+    (operand_found s.env c.args.operands.left.now refl c.in_ok-one.ensures c.in_ok-one-2.ensures)
+    (operand_found s.env c.args.operands.right.now refl c.in_ok-other.ensures c.in_ok-other-2.ensures)
     ∙ c.in_ok-answer.ensures
 
 pub type_operands-loop-operand-preserved : goal.type_operands-loop-operand-preserved
 type_operands-loop-operand-preserved g t c =
     let l = c.loop-operand in
-    let s = setting_at g.C.ArgumentCheck.refusal c.args.self.now in
-    let b = c.args.goes_on in
-    let prior = known_in c.args.prior.now in
-    let d = c.args.depth + 1 in
     let items = c.deref-operand-items.result.now in
     let i = l.operand-index in
-    let x = c.operand-item.result in
     let here : i < length items = omega arith in
-    let before = operands_of l.all in
-    let ts = map ty_of l.left.now in
-    let es = findings l.errors.items in
-    let typed : expect_operand s.env (first_wanted ts) (place_of (written x)) (infer s (written x) prior d es) ≡ (option_map part_of c.in_ok-part.part, _) =
-    (λ k. expect_operand s.env (sym c.first_of-expected.ensures k) (place_is x k) (c.in_ok-answer.ensures k)) ∙ c.in_ok-part.ensures in
-    one_operand s b ts _ prior d before _ x (drop (i + 1) items) es _ _ typed
-    (goes_further c.is_none.result b c.in_ok-part.part c.is_none.ensures c.if-is_none-goes_on.false) c.in_ok-all.ensures c.later_types-left.ensures
-    ∙ ap (λ ys. resumed before (all_inferred s b ts prior d ys es)) (sym (next_item items i x here c.operand-item.is))
+    one_operand (setting_at g.C.ArgumentCheck.refusal c.args.self.now) c.args.goes_on (map ty_of l.left.now) _ (known_in c.args.prior.now)
+    (c.args.depth + 1) (operands_of l.all) _ c.operand-item.result (drop (i + 1) items) (drop i items) (findings l.errors.items) _ _
+    (next_item items i c.operand-item.result here c.operand-item.is) c.first_of-expected.ensures c.in_ok-answer.ensures c.in_ok-part.ensures
+    (goes_further c.is_none.result c.args.goes_on c.in_ok-part.part c.is_none.ensures c.if-is_none-goes_on.false)
+    c.in_ok-all.ensures c.later_types-left.ensures
     ∙ l.invariant
 
 pub type_operands-returns-then-is_none-goes_on : goal.type_operands-returns-then-is_none-goes_on
 type_operands-returns-then-is_none-goes_on g t c =
     let l = c.loop-operand in
-    let s = setting_at g.C.ArgumentCheck.refusal c.args.self.now in
-    let b = c.args.goes_on in
-    let prior = known_in c.args.prior.now in
-    let d = c.args.depth + 1 in
     let items = c.deref-operand-items.result.now in
     let i = l.operand-index in
-    let x = c.operand-item.result in
     let here : i < length items = omega arith in
-    let before = operands_of l.all in
-    let ts = map ty_of l.left.now in
-    let es = findings l.errors.items in
-    let typed : expect_operand s.env (first_wanted ts) (place_of (written x)) (infer s (written x) prior d es) ≡ (option_map part_of c.in_ok-part.part, _) =
-    (λ k. expect_operand s.env (sym c.first_of-expected.ensures k) (place_is x k) (c.in_ok-answer.ensures k)) ∙ c.in_ok-part.ensures in
     sym l.invariant
-    ∙ ap (λ ys. resumed before (all_inferred s b ts prior d ys es)) (next_item items i x here c.operand-item.is)
-    ∙ last_operand s b ts prior d before _ x (drop (i + 1) items) es _ _ typed
-    (goes_no_further c.is_none.result b c.in_ok-part.part c.is_none.ensures c.if-is_none-goes_on.true) c.in_ok-cut.ensures
+    ∙ last_operand (setting_at g.C.ArgumentCheck.refusal c.args.self.now) c.args.goes_on (map ty_of l.left.now) (known_in c.args.prior.now)
+    (c.args.depth + 1) (operands_of l.all) _ c.operand-item.result (drop (i + 1) items) (drop i items) (findings l.errors.items) _ _
+    (next_item items i c.operand-item.result here c.operand-item.is) c.first_of-expected.ensures c.in_ok-answer.ensures c.in_ok-part.ensures
+    (goes_no_further c.is_none.result c.args.goes_on c.in_ok-part.part c.is_none.ensures c.if-is_none-goes_on.true) c.in_ok-cut.ensures
 
 pub typecheck-returns-in-ExtensionFunctionApp : goal.typecheck-returns-in-ExtensionFunctionApp
 typecheck-returns-in-ExtensionFunctionApp g t c =
     let tree = written_call c.args.e.now c.in-ExtensionFunctionApp.name c.in-ExtensionFunctionApp.arguments c.in-ExtensionFunctionApp.is in
     let P : AnswerAndErrors → Type 0 = λ z. IfOk c.type_call.result (λ r. z ≡ (answer_of r, findings c.type_call.new.errors.items)) in
-    infer_as P (setting_at g.C.ArgumentCheck.refusal c.args.self.now) (known_in c.args.prior.now) c.args.depth (findings c.args.errors.now.items) c.if-depth-gt-MAX_TYPED_DEPTH.false tree c.type_call.ensures
+    infer_as P _ _ _ _ c.if-depth-gt-MAX_TYPED_DEPTH.false tree c.type_call.ensures
 
 pub type_call-returns : goal.type_call-returns
 type_call-returns g t c =
@@ -263,13 +238,13 @@ pub typecheck-returns-in-Set : goal.typecheck-returns-in-Set
 typecheck-returns-in-Set g t c =
     let tree = written_set c.args.e.now c.in-Set.elements c.in-Set.is in
     let P : AnswerAndErrors → Type 0 = λ z. IfOk c.type_set.result (λ r. z ≡ (answer_of r, findings c.type_set.new.errors.items)) in
-    infer_as P (setting_at g.C.ArgumentCheck.refusal c.args.self.now) (known_in c.args.prior.now) c.args.depth (findings c.args.errors.now.items) c.if-depth-gt-MAX_TYPED_DEPTH.false tree c.type_set.ensures
+    infer_as P _ _ _ _ c.if-depth-gt-MAX_TYPED_DEPTH.false tree c.type_set.ensures
 
 pub typecheck-returns-in-Record : goal.typecheck-returns-in-Record
 typecheck-returns-in-Record g t c =
     let tree = written_record c.args.e.now c.in-Record.fields c.in-Record.is in
     let P : AnswerAndErrors → Type 0 = λ z. IfOk c.type_record.result (λ r. z ≡ (answer_of r, findings c.type_record.new.errors.items)) in
-    infer_as P (setting_at g.C.ArgumentCheck.refusal c.args.self.now) (known_in c.args.prior.now) c.args.depth (findings c.args.errors.now.items) c.if-depth-gt-MAX_TYPED_DEPTH.false tree c.type_record.ensures
+    infer_as P _ _ _ _ c.if-depth-gt-MAX_TYPED_DEPTH.false tree c.type_record.ensures
 
 pub type_record-returns : goal.type_record-returns
 type_record-returns g t c =

@@ -18,9 +18,6 @@ decreases-type_short_circuit g l = 5 * (401 - l.depth) + 2
 abbrev pub decreases-type_one_operand : goal.decreases-type_one_operand
 decreases-type_one_operand g l = 5 * (401 - l.depth) + 4
 
-abbrev pub decreases-type_over_base : goal.decreases-type_over_base
-decreases-type_over_base g l = 5 * (401 - l.depth) + 3
-
 abbrev pub decreases-type_base : goal.decreases-type_base
 decreases-type_base g l = 5 * (402 - l.depth) + 2
 

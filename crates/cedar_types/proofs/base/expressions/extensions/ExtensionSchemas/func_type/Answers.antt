@@ -8,20 +8,18 @@ use Rattle.cedar_types.proofs.base.expressions.extensions.ExtensionSchemas.func_
 
 pub loop-low-preserved-in-Less : goal.loop-low-preserved-in-Less
 loop-low-preserved-in-Less g c =
-    let table = c.args.self.now in
     let f = c.index-function.result.now in
     let n = path_of c.args.name.now in
     let middle = c.loop-low.low + (c.loop-low.high - c.loop-low.low) / 2 in
     let below : path_cmp (path_of f.name) n ≡ Less = sym (name_cmp_is f.name c.args.name.now) ∙ sym c.cmp.ensures ∙ c.in-Less.is in (
       omega arith,
       c.loop-low.invariant.1,
-      upper_half (λ check args. None) table.functions.items n table.ascending middle f (omega arith) c.index-function.ensures below,
+      upper_half (λ check args. None) c.args.self.now.functions.items n c.args.self.now.ascending middle f (omega arith) c.index-function.ensures below,
       c.loop-low.invariant.3,
     )
 
 pub loop-low-preserved : goal.loop-low-preserved
 loop-low-preserved g c =
-    let table = c.args.self.now in
     let f = c.index-function.result.now in
     let n = path_of c.args.name.now in
     let middle = c.loop-low.low + (c.loop-low.high - c.loop-low.low) / 2 in
@@ -29,7 +27,7 @@ loop-low-preserved g c =
       omega arith,
       omega arith,
       c.loop-low.invariant.2,
-      lower_half (λ check args. None) table.functions.items n table.ascending middle f (omega arith) c.index-function.ensures above,
+      lower_half (λ check args. None) c.args.self.now.functions.items n c.args.self.now.ascending middle f (omega arith) c.index-function.ensures above,
     )
 
 pub returns-in-Equal : goal.returns-in-Equal

@@ -1,0 +1,22 @@
+//! What checks of a host's data answer.
+ghost use Rattle.std.specs.Prelude.{◌≡◌};
+ghost use Rattle.std.specs.Result.{is_ok};
+ghost use Rattle.cedar_conformance.specs.Answers.{finds_none};
+
+use std::alloc::AllocError;
+
+/// What a check answers: nothing, or the fault that it finds. Where memory is refused, it is an `AllocError`.
+pub type Checked<F> = Result<Result<(), F>, AllocError>;
+
+/// What a search for a fault finds, if there is one.
+pub(crate) type Found<F> = Result<Option<F>, AllocError>;
+
+/// The answer of a check that searches for a fault.
+pub(crate) fn answer<F>(found: Option<F>) -> Result<(), F>
+    ensures { is_ok result ≡ finds_none found }
+{
+    match found {
+        None => Ok(()),
+        Some(fault) => Err(fault),
+    }
+}
