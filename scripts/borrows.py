@@ -4,11 +4,13 @@
 A piece begins with two lines: `// crate: NAME`, and what has to come of it: `// accepted`, or `// refused: CODE`, the
 borrow checker's one error. The last line counts the pieces that went so and those that did not.
 """
+import os
 import re
 import shutil
 import subprocess
 import sys
 import tempfile
+from concurrent.futures import ThreadPoolExecutor
 from pathlib import Path
 
 TOP = Path(__file__).resolve().parent.parent
@@ -41,8 +43,15 @@ def lay_out(room):
     return lines
 
 
-def fault_of(piece, room, lines):
+def fault_of(piece):
     """What went otherwise than the piece says, if anything did."""
+    with tempfile.TemporaryDirectory() as room:
+        return fault_in(room, piece)
+
+
+def fault_in(room, piece):
+    """The same, compiled in this empty folder."""
+    lines = lay_out(room)
     text = piece.read_text(encoding="utf8")
     head = HEAD.match(text)
     if not head:
@@ -64,10 +73,9 @@ def fault_of(piece, room, lines):
 def main():
     pieces = sorted(TOP.joinpath("examples", "borrows").glob("*.txt"))
     passed = 0
-    with tempfile.TemporaryDirectory() as room:
-        lines = lay_out(room) if pieces else []
-        for piece in pieces:
-            fault = fault_of(piece, room, lines)
+    # a piece takes two processors
+    with ThreadPoolExecutor(max(len(os.sched_getaffinity(0)) // 2, 1)) as lanes:
+        for piece, fault in zip(pieces, lanes.map(fault_of, pieces)):
             print(f"{piece.name}: {fault or 'ok'}", flush=True)
             passed += fault is None
     print(f"{passed} passed, {len(pieces) - passed} failed")

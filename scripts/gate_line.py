@@ -5,9 +5,9 @@
     gate_line.py row BEFORE SECONDS USED PASSED FAILED CI TIMES   prints the row
 
 BEFORE is what the first call printed. SECONDS are those of the run by the clock, and USED those of processors. rt ci began
-CI seconds after 1970. TIMES is a file with lines such as `  1400 s  cedar_types proved`: the seconds after which rt ci said
-so. It says nothing when it begins a crate, but makes the crate's folder out/ then: that folder's time of birth is read.
-What was not seen is `?`.
+CI seconds after 1970, with the lowest crate. TIMES is a file with lines such as `  1400 s  cedar_types proved`: the seconds
+after which rt ci said so. It says nothing when it begins a crate, but makes the crate's folder out/ then: that folder's
+time of birth is read. What was not seen is `?`.
 """
 import os
 import re
@@ -117,7 +117,7 @@ def main(words):
         return 2
     before, seconds, used, passed, failed, since, times = words[1:]
     crates = validate.crates_of((TOP / "crates.txt").read_text())
-    begun = {crate: begun_of(f"crates/{crate}/out", int(since)) for crate in crates}
+    begun = {crate: begun_of(f"crates/{crate}/out", int(since)) for crate in crates} | {next(iter(crates)): 0}
     steps = steps_of(Path(times).read_text())
     print(row_of(before.split("\t"), seconds, used, passed, failed, words_of(crates, begun, steps)))
     return 0
