@@ -552,6 +552,8 @@ def ends_of_script():
         link = Path(room, "link")
         link.symlink_to(Path(room, "scripts", "validate"))
         here = {**os.environ, "PATH": f"{tools}:{os.environ['PATH']}"}
+        # what a shell runs in the background, and what that starts, ignores the first
+        signal.signal(signal.SIGINT, signal.default_int_handler)
         for number in (signal.SIGINT, signal.SIGTERM):
             yield number.name, stopped(link, room, here, number)
         for words in ([room, "p"], [b"\xff", "p"]):
