@@ -68,6 +68,11 @@ def begun_of(folder, since):
     return int(born) - since if born.isdigit() and int(born) >= since else None
 
 
+def begins(crates, since):
+    """The seconds after which rt ci began with each crate: at once with the lowest, the first of them."""
+    return {crate: begun_of(f"crates/{crate}/out", since) for crate in crates} | {next(iter(crates)): 0}
+
+
 def steps_of(text):
     """The seconds after which each crate was proved, and its tests; None where they were not."""
     found = filter(None, map(STEP.fullmatch, text.splitlines()))
@@ -117,9 +122,9 @@ def main(words):
         return 2
     before, seconds, used, passed, failed, since, times = words[1:]
     crates = validate.crates_of((TOP / "crates.txt").read_text())
-    begun = {crate: begun_of(f"crates/{crate}/out", int(since)) for crate in crates} | {next(iter(crates)): 0}
     steps = steps_of(Path(times).read_text())
-    print(row_of(before.split("\t"), seconds, used, passed, failed, words_of(crates, begun, steps)))
+    words = words_of(crates, begins(crates, int(since)), steps)
+    print(row_of(before.split("\t"), seconds, used, passed, failed, words))
     return 0
 
 

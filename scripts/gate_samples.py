@@ -48,6 +48,7 @@ def lines():
     yield "steps", steps == {("low", False): 90, ("side", False): None, ("high", False): 126, ("high", True): 96}
     words = list(gate_line.words_of(validate.crates_of(CRATES), {"low": 0, "side": 90, "high": 91}, steps))
     yield "words", words == WORDS
+    yield "begins", gate_line.begins(validate.crates_of(CRATES), 0) == {"low": 0, "side": None, "high": None, "top": None}
     yield "a row", gate_line.row_of(BEFORE, "719", "905", "7", "1", words) == ROW
     read = gate_line.rows_of(table(ROW))
     yield "a row that is read", len(read) == 1 and read[0]["crates"] == READ and read[0]["minutes by the clock"] == "12"
