@@ -13,14 +13,16 @@ import trusted
 
 LIBRARIES = (
     "cedar_types",
+    "cedar_extensions",
     "cedar_typing",
     "cedar_typechecker",
     "cedar_reading",
     "cedar_json",
+    "cedar_extensions",
     "cedar_conformance",
     "cedar_data",
     "cedar_host",
-    "cedar_texts",
+    "cedar_where",
 )
 MODULE = re.compile(r"^(?:(pub) |pub\(\w+\) )?mod (\w+);", re.M)
 USE = re.compile(r"^pub use ([^;]+);", re.M)
@@ -38,7 +40,7 @@ def end_of(lines, at):
     """The last line of the item that begins here."""
     indent = re.match(" *", lines[at])[0]
     for end in range(at, len(lines)):
-        if lines[end].endswith("{}") or lines[end] == f"{indent}}}" or (lines[end].endswith(";") and not has_body(lines[at:end])):
+        if lines[end].endswith("{}") or lines[end] in (f"{indent}}}", f"{indent}];") or (lines[end].endswith(";") and not has_body(lines[at:end])):
             return end
     raise ValueError(f"no end of {lines[at]}")
 

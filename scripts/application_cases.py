@@ -1,32 +1,26 @@
 #!/usr/bin/env python3
 """What cedar-validate says and how it ends: scripts/application_cases.py [PROGRAM].
 
-PROGRAM is cedar_validate, by default the one that rt ci built. It is called with words that are right and wrong, and given
+PROGRAM is cedar_validate, by default as it is built without a proof. It is called with words that are right and wrong, and given
 texts that are large, deep or broken: each has to end in time with the status and the words that are wanted. Then each file
 apps_*.tsv of crates/cedar_cases/data is a schema and some policies, with what has to be said of them: whether each is
 accepted in a mode, with which errors and at which texts, its least sufficient level where it is accepted, and its errors at
 a level. All policies of a file are validated by one run for each of these columns, and its objects of JSON are compared.
-Last, what README.md and docs/TOUR.md show of runs has to be what they write, and scripts/validate.py has to tell the files
-that it copies apart. The last line counts what agrees and what does not.
+Last, what README.md and docs/TOUR.md show of runs has to be what they write. The last line counts what agrees and what does not.
 """
 import itertools
 import json
-import os
-import shutil
-import signal
 import subprocess
 import sys
 import tempfile
-import time
 from pathlib import Path
 
-import validate
+import unproved
 from validation_data import DATA, DATA_SCHEMA, GOOD_ENTITIES, GOOD_REQUEST
 from mistakes import HINT_SCHEMA, HINTS
 from validation_json import RUNS, TEAM, TEN, TEN_TALLY
 
 TOP = Path(__file__).resolve().parent.parent
-PROGRAM = TOP / "crates" / "cedar_validate" / "out" / "cedar_validate"
 CASES = TOP / "crates" / "cedar_cases" / "data"
 SECONDS = 120
 SCHEMA = """entity User in [User] { boss: User, age: Long, name: String } tags Long;
@@ -67,7 +61,7 @@ CALLS = (
     (["s", "."], 2, ".: fault: cannot be read: Is a directory (os error 21)\npolicies: 0"),
     (["s", "-"], 0, "policies: 0, accepted: 0, refused: 0, warnings: 0, faults: 0\n"),
     (["s", "-h"], 0, "usage: cedar-validate "),
-    (["--version"], 0, "cedar-validate 0.1.0\n"),
+    (["--version"], 0, "cedar-validate 0.1.0, Cedar 4.14.1\n"),
     (["--level=1", "--mode=strict", "s", "p"], 0, "p:1:1: policy `policy0`: accepted, level 1\n"),
     (["--level=", "s", "p"], 2, "cedar-validate: `--level` takes a number from 0 to 4294967295\nusage: "),
     (["--", "s", "--p"], 2, "--p: fault: cannot be read: No such file or directory (os error 2)\n"),
@@ -518,70 +512,8 @@ def differs(program, words, shown):
     return None if printed == shown or agrees_so_far else done.stdout
 
 
-def copies_differ():
-    """What is wrong with the names of the copies of files that are called alike; None where nothing is."""
-    with tempfile.TemporaryDirectory() as room:
-        called = ["a/x", "./a/x", "a/../a/x", f"{room}/a/x", "a/y=z", "-", "missing", "stdin", "stdout", "program"]
-        Path(room, "a").mkdir()
-        for name in ("a/x", "a/y=z", "stdin", "stdout", "program"):
-            written(Path(room, name), name)
-        here = os.getcwd()
-        os.chdir(room)
-        names, files, words_of = validate.placed(called, room)
-        os.chdir(here)
-    back = [validate.with_words(f"{name}:1:1: fault", words_of) for name in names]
-    uris = [validate.with_words(f'{{"uri":"{name}"}}', words_of) for name in names]
-    are_named = uris[2] == '{"uri":"a/../a/x"}' and uris[3] == f'{{"uri":"file://{room}/a/x"}}' and uris[4] == '{"uri":"a/y%3Dz"}'
-    are_apart = not set(names) & {"stdin", "stdout", "program"}
-    if are_apart and are_named and len(set(names)) == len(names) and len(files) == 8 and back == [f"{word}:1:1: fault" for word in called]:
-        return None
-    return f"{names}, {files}, {back}"
-
-
-def ends_of_script():
-    """What differs in how a copy of scripts/validate ends, called by a symbolic link, with an rt that only waits."""
-    with tempfile.TemporaryDirectory() as room:
-        for folder in ("scripts", "tools", "crates/cedar_validate"):
-            Path(room, folder).mkdir(parents=True)
-        for name in ("setup", "validate", "validate.py"):
-            shutil.copy(TOP / "scripts" / name, Path(room, "scripts"))
-        tools = Path(room, "tools")
-        waiting = tools / "rt"
-        waiting.write_text(f"#!/bin/sh\ntouch {room}/begun\nexec sleep 60\n")
-        waiting.chmod(0o755)
-        link = Path(room, "link")
-        link.symlink_to(Path(room, "scripts", "validate"))
-        here = {**os.environ, "PATH": f"{tools}:{os.environ['PATH']}"}
-        # what a shell runs in the background, and what that starts, ignores the first
-        signal.signal(signal.SIGINT, signal.default_int_handler)
-        for number in (signal.SIGINT, signal.SIGTERM):
-            yield number.name, stopped(link, room, here, number)
-        for words in ([room, "p"], [b"\xff", "p"]):
-            done = subprocess.run([str(link), *words], env=here, stdin=subprocess.DEVNULL, capture_output=True, timeout=SECONDS)
-            is_right = done.returncode == 2 and done.stderr.startswith(b"scripts/validate: ") and b"Traceback" not in done.stderr
-            yield words, None if is_right else f"status {done.returncode}: {done.stderr!r}"
-
-
-def stopped(link, room, here, number):
-    """What is wrong with how the script ends at a signal, once rt has begun; None where nothing is."""
-    begun = Path(room, "begun")
-    begun.unlink(missing_ok=True)
-    child = subprocess.Popen([str(link), "s", "p"], env=here, stdin=subprocess.DEVNULL, stdout=subprocess.PIPE, stderr=subprocess.PIPE)
-    for _ in range(SECONDS * 10):
-        if begun.exists() or child.poll() is not None:
-            break
-        time.sleep(0.1)
-    child.send_signal(number)
-    out, err = child.communicate(timeout=SECONDS)
-    if child.returncode == 70 and b"Traceback" not in err and err.endswith(b"scripts/validate: stopped\n"):
-        return None
-    return f"status {child.returncode}: {err!r}"
-
-
 def main(words):
-    program = Path(words[0]).resolve() if words else PROGRAM
-    if not program.is_file():
-        sys.exit(f"there is no program {program}: rt ci builds it")
+    program = unproved.named(words, "cedar_validate")
     passed = failed = 0
     for what, difference in runs(program):
         passed += difference is None
@@ -601,7 +533,7 @@ def main(words):
                 else:
                     failed += 1
                     print(f"{path.name}: {case['about']}: {column}: {case[column]!r} is wanted, not {said_of}")
-    others = [("scripts/validate.py", copies_differ()), ("one mistake of 150 types", many_types_differ(program)),
+    others = [("one mistake of 150 types", many_types_differ(program)),
               ("two false parts", false_parts_differ(program)), ("ten faults of a schema", schema_faults_differ(program)),
               ("SARIF", sarif_differs(program)), ("data", data_in_forms_differs(program))]
     for what, difference in [*others, *hints_differ(program), *data_differs(program)]:
@@ -614,11 +546,6 @@ def main(words):
         failed += difference is not None
         if difference is not None:
             print(f"JSON: {what}: {difference}")
-    for what, difference in ends_of_script():
-        passed += difference is None
-        failed += difference is not None
-        if difference is not None:
-            print(f"scripts/validate: {what}: {difference}")
     for page, asked, shown in shown_runs():
         difference = differs(program, asked, shown)
         passed += difference is None

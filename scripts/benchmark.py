@@ -3,7 +3,7 @@
 scripts/benchmark.py [PROGRAM].
 
 A policy of 40 conditions is checked by a schema in which each action applies to 10 types of principals and 10 of resources,
-so in 100 environments an action. PROGRAM is cedar_cases, by default the one that rt ci built. Instructions are counted by
+so in 100 environments an action. PROGRAM is cedar_cases, by default as it is built without a proof. Instructions are counted by
 valgrind over a few actions: what the reading takes is counted by a policy that names no attribute, and taken away. The level
 pass is what the validation with levels costs beyond the check; above a third of the check the script fails. Memory is
 what a run has allocated at a time: the schema is read first, which keeps a list of its environments, and nearly all of the run
@@ -17,8 +17,8 @@ import sys
 import tempfile
 from pathlib import Path
 
-TOP = Path(__file__).resolve().parent.parent
-PROGRAM = TOP / "crates" / "cedar_cases" / "out" / "cedar_cases"
+import unproved
+
 TYPES = 10
 # Ten conditions, each a success in every environment of the schema, which the script sees to.
 CONDITIONS = (
@@ -101,10 +101,8 @@ def held(program, room, actions, condition):
 
 
 def program_to_count(words):
-    """The program that the words name, or cedar_cases as rt ci built it, where valgrind can run it."""
-    program = Path(words[0]).resolve() if words else PROGRAM
-    if not program.is_file():
-        sys.exit(f"there is no program {program}: rt ci builds it")
+    """The program that the words name, or cedar_cases without a proof, where valgrind can run it."""
+    program = unproved.named(words, "cedar_cases")
     if not shutil.which("valgrind"):
         sys.exit("valgrind is needed: apt-get install valgrind")
     resource.setrlimit(resource.RLIMIT_CORE, (0, 0))

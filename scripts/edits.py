@@ -1,4 +1,4 @@
-"""Edits of the crates: what scripts/mutations reads, in the form of the edits of must-fail/.
+"""Edits of the crates, which scripts/mutations reads.
 
 An edit is a file of lines: `file: FILE` of a crate, and then pairs `old: TEXT`, which stands in that file exactly once, and
 `new: TEXT`. A line `only: PATH` names the function that it turns, where that is not the one that its first text stands in.

@@ -1,7 +1,7 @@
 #!/usr/bin/env python3
 """The crates, the files of the libraries and codes, as tables of their own comments: scripts/files.py prints them.
 
-docs/ARCHITECTURE.md shows the crates and docs/READING.md the codes; scripts/pages.py writes them there. The files are printed
+docs/ARCHITECTURE.md shows the crates, docs/READING.md the codes and the extension functions; scripts/pages.py writes them there. The files are printed
 alone. The texts of errors, which docs/API.md shows, are read here too.
 """
 import re
@@ -18,6 +18,8 @@ MESSAGE = re.compile(r"^impl fmt::Display for Message<'_, (\w+)> \{\n(.*?)\n\}$"
 WRITTEN = re.compile(r'(?:write!\(\s*f,\s*|write_str\()"([^"]*)"')
 LOCAL = re.compile(r"let (\w+) = [^;]*?self\.0\.(\w+)(\(\))?")
 CODES = "/src/codes.rt"
+EXTENSIONS = "crates/cedar_extensions/src"
+METHOD = re.compile(r'Method \{\s*name: "(\w+)",\s*takes: &\[([^\]]*)\],\s*gives: ValueType::(\w+),\s*\}')
 
 
 def cell(text):
@@ -88,6 +90,22 @@ def codes(files):
     return ["| Code | What it says |", "|---|---|", *(f"| `{written[kind]}` | {cell(meant.get(kind, ''))} |" for kind in written)]
 
 
+def functions(files):
+    """What READING shows: the extension types, with the functions that make their values and those that are called on them."""
+    names, makers, made = (
+        dict(re.findall(rf'{kind}::(\w+) => "?(?:ValueType::)?(\w+)"?,', body(function, files.get(f"{EXTENSIONS}/{file}.rt", ""))))
+        for kind, function, file in (("ValueType", "name", "types"), ("Constructor", "name", "checks"), ("Constructor", "makes", "checks"))
+    )
+    methods = {}
+    for name, takes, gives in METHOD.findall(files.get(f"{EXTENSIONS}/methods.rt", "")):
+        own, *others = (names[kind] for kind in re.findall(r"ValueType::(\w+)", takes))
+        methods.setdefault(own, []).append(f"`{name}({', '.join(others)}) -> {names[gives]}`")
+    lines = ["| Type | The function that makes its values | Methods |", "|---|---|---|"]
+    for maker, kind in made.items():
+        lines.append(f"| `{names[kind]}` | `{makers[maker]}(String)` | {', '.join(methods[names[kind]])} |")
+    return lines
+
+
 def body(function, text):
     """The text of a function."""
     found = re.search(rf"fn {function}\b.*?\n    \}}\n", text, re.S)
@@ -102,7 +120,7 @@ def texts_of(function, text):
 def main():
     paths = [TOP / "crates.txt", *(path for path in TOP.glob("crates/*/*/**/*") if path.suffix in (".rt", ".antt"))]
     files = {str(path.relative_to(TOP)): path.read_text() for path in paths if "/out/" not in str(path)}
-    print("\n".join([*crates(files), "", *listed(files), "", *codes(files)]))
+    print("\n".join([*crates(files), "", *listed(files), "", *codes(files), "", *functions(files)]))
     return 0
 
 

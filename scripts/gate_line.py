@@ -1,5 +1,5 @@
 #!/usr/bin/env python3
-"""The line of a whole run of scripts/test, a row of docs/gate.tsv. scripts/test calls this before the run, and after it:
+"""The line of a whole run of scripts/prove, a row of docs/gate.tsv. scripts/prove calls this before the run, and after it:
 
     gate_line.py begin                                            prints the columns that are known before the run
     gate_line.py row BEFORE SECONDS USED PASSED FAILED CI TIMES   prints the row
@@ -11,12 +11,12 @@ time of birth is read. What was not seen is `?`.
 """
 import os
 import re
-import subprocess
 import sys
 import time
 from pathlib import Path
 
-import validate
+import stamp
+import unproved
 
 TOP = Path(__file__).resolve().parent.parent
 TABLE = TOP / "docs" / "gate.tsv"
@@ -33,16 +33,7 @@ COLUMNS = (
     "crates, in minutes of rt ci: NAME=BEGUN-PROVED, or NAME=BEGUN-PROVED-TESTS PROVED",
 )
 STEP = re.compile(r" *(\d+) s  (\w+)(: its tests are)? (proved|NOT PROVED)")
-UNSEEN = "?"
-
-
-def output_of(*words):
-    """What a command prints, on one line."""
-    try:
-        done = subprocess.run(words, cwd=TOP, stdin=subprocess.DEVNULL, capture_output=True, text=True)
-    except OSError:
-        return UNSEEN
-    return " ".join(done.stdout.split()) or UNSEEN if done.returncode == 0 else UNSEEN
+UNSEEN = stamp.UNSEEN
 
 
 def gigabytes(text):
@@ -54,17 +45,17 @@ def gigabytes(text):
 def known_before():
     memory = Path("/proc/meminfo")
     return [
-        output_of("git", "describe", "--always", "--dirty", "--exclude", "*"),
+        stamp.output_of("git", "describe", "--always", "--dirty", "--exclude", "*"),
         time.strftime("%Y-%m-%d", time.gmtime()),
         str(len(os.sched_getaffinity(0))),
         gigabytes(memory.read_text()) if memory.is_file() else UNSEEN,
-        output_of("rt", "version"),
+        stamp.output_of("rt", "version"),
     ]
 
 
 def begun_of(folder, since):
     """The seconds after which rt ci began with a crate, by its folder out/."""
-    born = output_of("stat", "--format=%W", folder)
+    born = stamp.output_of("stat", "--format=%W", folder)
     return int(born) - since if born.isdigit() and int(born) >= since else None
 
 
@@ -121,7 +112,7 @@ def main(words):
         print(__doc__, file=sys.stderr)
         return 2
     before, seconds, used, passed, failed, since, times = words[1:]
-    crates = validate.crates_of((TOP / "crates.txt").read_text())
+    crates = unproved.crates_of((TOP / "crates.txt").read_text())
     steps = steps_of(Path(times).read_text())
     words = words_of(crates, begins(crates, int(since)), steps)
     print(row_of(before.split("\t"), seconds, used, passed, failed, words))

@@ -1,11 +1,16 @@
 #!/usr/bin/env python3
-"""The self-test of gate_line.py and install.py: how the times of a run are written and read, and what is installed.
+"""The self-test of the scripts that prove, build, install and run: how the times of a run are written and read, how the gate
+begins, what counts as proved, what is installed, and how a script ends that is stopped or finds no fitting kit.
 
-It proves and builds nothing. The last line counts the samples that went as they should.
+It proves and builds nothing: a command `rt` of its own stands in for the toolchain's. The last line counts the samples that
+went as they should.
 """
 import contextlib
 import io
 import os
+import shutil
+import signal
+import subprocess
 import sys
 import tempfile
 import time
@@ -13,8 +18,12 @@ from pathlib import Path
 
 import gate_line
 import install
-import validate
+import proved
+import stamp
+import unproved
 
+TOP = Path(__file__).resolve().parent.parent
+SECONDS = 60
 CRATES = "# All.\nlow: thiserror\nside: low\n\nhigh: low anyhow\ntop: low high\n"
 TIMES = """     3 s  scripts/borrows.py: 4 s of processors
     90 s  low proved
@@ -46,9 +55,9 @@ def lines():
     """What gate_line.py makes of a run: each sample, and whether it goes as it should."""
     steps = gate_line.steps_of(TIMES)
     yield "steps", steps == {("low", False): 90, ("side", False): None, ("high", False): 126, ("high", True): 96}
-    words = list(gate_line.words_of(validate.crates_of(CRATES), {"low": 0, "side": 90, "high": 91}, steps))
+    words = list(gate_line.words_of(unproved.crates_of(CRATES), {"low": 0, "side": 90, "high": 91}, steps))
     yield "words", words == WORDS
-    yield "begins", gate_line.begins(validate.crates_of(CRATES), 0) == {"low": 0, "side": None, "high": None, "top": None}
+    yield "begins", gate_line.begins(unproved.crates_of(CRATES), 0) == {"low": 0, "side": None, "high": None, "top": None}
     yield "a row", gate_line.row_of(BEFORE, "719", "905", "7", "1", words) == ROW
     read = gate_line.rows_of(table(ROW))
     yield "a row that is read", len(read) == 1 and read[0]["crates"] == READ and read[0]["minutes by the clock"] == "12"
@@ -75,9 +84,9 @@ def ended(words):
 
 def forecasts():
     """How long a proof is said to take."""
-    uses = validate.crates_of(CRATES)
-    yield "what crates stand on", [validate.below(it, uses) for it in ("top", "side")] == [{"low", "high", "top"}, {"low", "side"}]
-    needed = validate.needed()
+    uses = unproved.crates_of(CRATES)
+    yield "what crates stand on", [unproved.below([it], uses) for it in ("top", "side")] == [["low", "high"], ["low"]]
+    needed = proved.needed()
     yield "what the program stands on", needed[-1] == "cedar_validate" and "cedar_types" in needed and "cedar_tests" not in needed
     rows = gate_line.rows_of(table(OLDER, ROW))
     found = install.minutes_of(["low", "high", "top"], rows)
@@ -88,43 +97,155 @@ def forecasts():
     yield "no minutes", "is not known" in install.forecast(None)
 
 
+def a_program(path):
+    """Writes what stands for a program that was built: the text of its build, and something else."""
+    path.parent.mkdir(parents=True, exist_ok=True)
+    path.write_bytes(b"begin " + stamp.MARK.ljust(stamp.LENGTH) + b" end")
+
+
+@contextlib.contextmanager
+def kept_in(room):
+    """Has the proved program, and the one that `rt run` builds, stand in this folder."""
+    before = proved.KEPT, proved.BUILT
+    proved.KEPT, proved.BUILT = Path(room, "proved", "it"), Path(room, "built", "it")
+    try:
+        yield
+    finally:
+        proved.KEPT, proved.BUILT = before
+
+
+def contents():
+    """Which program counts as proved."""
+    with tempfile.TemporaryDirectory() as room, kept_in(room):
+        yield "none", proved.program() is None
+        a_program(proved.BUILT)
+        proved.keep(proved.BUILT, proved.sum_of_texts())
+        yield "one that was proved", proved.program() == proved.KEPT and os.access(proved.KEPT, os.X_OK)
+        text = proved.KEPT.read_bytes()
+        yield "its build", stamp.text(is_proved=True).encode() in text and stamp.MARK not in text and len(text) == len(proved.BUILT.read_bytes())
+        now = time.time() + 3600
+        a_program(proved.KEPT)
+        os.utime(proved.KEPT, (now, now))
+        yield "another program, however new", proved.program() is None
+        proved.keep(proved.BUILT, "the sum of other texts")
+        yield "one of other texts", proved.program() is None
+        proved.BUILT.write_text("no text of a build")
+        try:
+            proved.keep(proved.BUILT, proved.sum_of_texts())
+            yield "one without the text of its build", False
+        except stamp.NotStamped:
+            yield "one without the text of its build", proved.program() is None
+
+
 def installations():
     """What is installed, from a program that stands, that can be proved, and that cannot."""
-    with tempfile.TemporaryDirectory() as room:
-        program, folder, file = Path(room, "out"), Path(room, "a", "bin"), Path(room, "file")
+    with tempfile.TemporaryDirectory() as room, kept_in(room):
+        folder, file = Path(room, "a", "bin"), Path(room, "file")
         target = folder / install.NAME
         file.touch()
-        validate.PROGRAM = program
         for words in (["--prove"], [f"{folder}", "more"], [""], [f"{file}"], [f"{file}/bin"]):
             status, out, error = ended(words)
             yield f"wrong: {words}", status == 2 and not out and error.startswith("scripts/install: ")
         status, out, error = ended(["--help"])
         yield "--help", (status, out, error) == (0, install.USAGE, "")
-        validate.is_built = lambda: False
-        validate.prove = lambda: False
+        proving = proved.prove
+        proved.prove = lambda: False
         status, out, error = ended([f"{folder}"])
-        line = f"scripts/install: proving {len(validate.needed())} crates, one after another: cedar_types "
+        line = f"scripts/install: proving {len(proved.needed())} crates, one after another: cedar_types "
         yield "no proof", status == 70 and not out and line in error and not list(folder.iterdir())
-        validate.prove = lambda: program.write_text("new") > 0
+        a_program(proved.BUILT)
+        proved.prove = lambda: proved.keep(proved.BUILT, proved.sum_of_texts()) is None
         status, out, error = ended([f"{folder}"])
+        proved.prove = proving
         yield "a proof", (status, out) == (0, f"installed {target}, which is proved\n") and line in error
         yield "a folder that is not on the PATH", error.endswith(f"{folder} is not on the PATH\n")
-        yield "the program", target.read_text() == "new" and target.stat().st_mode & 0o777 == 0o755
+        yield "the program", target.read_bytes() == proved.KEPT.read_bytes() and target.stat().st_mode & 0o777 == 0o755
         yield "nothing else", list(folder.iterdir()) == [target]
-        validate.is_built = lambda: True
-        program.write_text("newer")
+        target.unlink()
         status, out, error = ended([f"{folder}"])
-        yield "a program that stands", status == 0 and line not in error and target.read_text() == "newer"
+        yield "a program that stands", status == 0 and line not in error and target.is_file()
         os.environ["HOME"] = room
-        yield "no folder named", ended([])[0] == 0 and Path(room, ".local", "bin", install.NAME).read_text() == "newer"
+        yield "no folder named", ended([])[0] == 0 and Path(room, ".local", "bin", install.NAME).is_file()
         target.unlink()
         target.mkdir()
         yield "a folder of that name", ended([f"{folder}"])[0] == 2
 
 
+# A command `rt` that notes its words and whether CI is set, and ends as rt ci does where all passed.
+NOTES = """#!/bin/sh
+[ "$1" = version ] && echo a kit && exit
+echo "$*${CI+ in CI}${RT_JOBS+ by so many jobs}" >>"$NOTES"
+echo "rt: cedar_types proved"
+echo "3 passed, 0 failed"
+"""
+# One that waits until it is ended.
+WAITS = """#!/bin/sh
+touch "$BEGUN"
+exec sleep 60
+"""
+
+
+@contextlib.contextmanager
+def with_rt(text):
+    """A copy of the scripts, of what they read and of a toolchain whose command `rt` this is, and the environment for it."""
+    with tempfile.TemporaryDirectory() as held:
+        room = Path(held)
+        shutil.copytree(TOP / "scripts", room / "scripts", ignore=shutil.ignore_patterns("__pycache__"))
+        for crate in unproved.USES:
+            (room / "crates" / crate / "src").mkdir(parents=True)
+        (room / "docs").mkdir()
+        for name in ("crates.txt", "HANDLES", "docs/gate.tsv"):
+            shutil.copy(TOP / name, room / name)
+        (room / "kit" / "bin").mkdir(parents=True)
+        (room / "kit" / "KIT-ID").write_text("a kit\n")
+        (room / "kit" / "bin" / "rt").write_text(text)
+        (room / "kit" / "bin" / "rt").chmod(0o755)
+        path = f"{room}/kit/bin:{os.environ['PATH']}"
+        yield room, {**os.environ, "PATH": path, "NOTES": f"{room}/notes", "BEGUN": f"{room}/begun", "HOME": held}
+
+
+def beginnings():
+    """How the gate begins, in CI too: `rt ci cedar_types` first, which `rt` makes only where CI is not set, then all."""
+    with with_rt(NOTES) as (room, env):
+        for env in ({**env, "CI": "true"}, {it: value for it, value in env.items() if it != "CI"}):
+            Path(room, "notes").unlink(missing_ok=True)
+            subprocess.run([room / "scripts" / "prove", "--lowest"], env=env, stdin=subprocess.DEVNULL, capture_output=True, timeout=SECONDS)
+            subprocess.run([room / "scripts" / "prove"], env=env, stdin=subprocess.DEVNULL, capture_output=True, timeout=SECONDS)
+            notes = Path(room, "notes").read_text().splitlines()
+            last = f"ci{' in CI' * ('CI' in env)} by so many jobs"
+            yield f"the gate{' in CI' * ('CI' in env)}", notes == ["ci cedar_types", "ci cedar_types", last]
+
+
+def stopped(words, env, begun, number):
+    """How a script ends at a signal, once `rt` has begun: its status, and what it says last."""
+    begun.unlink(missing_ok=True)
+    child = subprocess.Popen(words, env=env, stdin=subprocess.DEVNULL, stdout=subprocess.PIPE, stderr=subprocess.PIPE, text=True)
+    for _ in range(SECONDS * 10):
+        if begun.exists() or child.poll() is not None:
+            break
+        time.sleep(0.1)
+    child.send_signal(number)
+    out, error = child.communicate(timeout=SECONDS)
+    return child.returncode, error.splitlines()[-1:], "Traceback" in out + error
+
+
+def endings():
+    """How scripts end that are stopped while they prove, or for which the kit has not what a build without a proof takes."""
+    with with_rt(WAITS) as (room, env):
+        link = room / "link"
+        link.symlink_to(room / "scripts" / "validate")
+        for number in (signal.SIGINT, signal.SIGTERM):
+            said = stopped([link, "--proved", "s", "p"], env, room / "begun", number)
+            yield f"validate at {number.name}", said == (70, ["scripts/validate: stopped"], False)
+            said = stopped([room / "scripts" / "install", room / "bin"], env, room / "begun", number)
+            yield f"install at {number.name}", said == (70, ["scripts/install: stopped; nothing was installed"], False)
+        done = subprocess.run([link, "s", "p"], env=env, stdin=subprocess.DEVNULL, capture_output=True, text=True, timeout=SECONDS)
+        yield "a kit that does not fit", done.returncode == 70 and done.stderr.endswith("/kit has no toolchain/bin/clang\n")
+
+
 def main():
     passed = failed = 0
-    for part in (lines, forecasts, installations):
+    for part in (lines, forecasts, contents, installations, beginnings, endings):
         for what, is_well in part():
             passed += is_well
             failed += not is_well

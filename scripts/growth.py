@@ -1,7 +1,7 @@
 #!/usr/bin/env python3
 """How the instructions of a check grow with its policy: scripts/growth.py [PROGRAM].
 
-PROGRAM is cedar_cases, by default the one that rt ci built. Valgrind counts its instructions over one environment and over
+PROGRAM is cedar_cases, by default as it is built without a proof. Valgrind counts its instructions over one environment and over
 some more of the same kind, so that reading the policy is taken away. Chains of guards grow from 50 to 800: `has` alone, and each
 `has` with the access that it allows. They stand in parentheses, in halves of halves, since a policy may be nested 400 deep,
 and so do 64 to 4,096 accesses to a required attribute, which need no guard. A chain of accesses, and one `has` with 10 to

@@ -1,7 +1,7 @@
 #!/usr/bin/env python3
 """What cedar-validate takes for texts that a stranger may write: scripts/input_growth.py [PROGRAM [CASES]].
 
-PROGRAM is cedar_validate and CASES is cedar_cases, by default those that rt ci built. Counted are instructions, by valgrind, or
+PROGRAM is cedar_validate and CASES is cedar_cases, by default as they are built without a proof. Counted are instructions, by valgrind, or
 bytes of memory or of output. A line passes where what is printed last stays below its limit. It needs valgrind, and is no part of
 the gate.
 
@@ -27,9 +27,8 @@ import tempfile
 from pathlib import Path
 
 import benchmark
+import unproved
 
-TOP = Path(__file__).resolve().parent.parent
-PROGRAM = TOP / "crates" / "cedar_validate" / "out" / "cedar_validate"
 SCHEMA = "entity User { u?: User };\naction view appliesTo { principal: User, resource: User, context: {} };\n"
 SCOPE = "permit(principal, action, resource)"
 OPENING = SCOPE + " when { ["
@@ -254,9 +253,7 @@ def show_large_files(program, room, tally):
 
 def main(words):
     cases = benchmark.program_to_count(words[1:])
-    program = str(Path(words[0]).resolve() if words else PROGRAM)
-    if not Path(program).is_file():
-        sys.exit(f"there is no program {program}: rt ci builds it")
+    program = str(unproved.named(words[:1], "cedar_validate"))
     tally = Tally()
     with tempfile.TemporaryDirectory() as room:
         show_hashes(program, str(cases), room, tally)

@@ -2,8 +2,9 @@
 """What scripts/install does, once the tools are there: scripts/install.py [DIR].
 
 It proves cedar-validate and the libraries that it stands on, and nothing else, as scripts/validate --proved does, and copies
-the program to DIR/cedar-validate. Before it begins it says how long that takes, by the newest run in docs/gate.tsv that
-timed these crates. Where the program stands, and no text that it is made of is newer, it is only copied.
+the program to DIR/cedar-validate. Before it begins it says how long the proof takes, by the newest run in docs/gate.tsv that
+timed these crates. Where the program stands proved of the very texts, it is only copied. `cedar-validate --version` says of
+which commit and kit it is. The exit status is 2 where an argument is wrong, and 70 where nothing was installed.
 """
 import os
 import shutil
@@ -11,7 +12,9 @@ import sys
 from pathlib import Path
 
 import gate_line
-import validate
+import proved
+import stamp
+import unproved
 
 NAME = "cedar-validate"
 FOLDER = "~/.local/bin"
@@ -88,14 +91,18 @@ def main(words):
     except Wrong as why:
         say(f"{why}")
         return WRONG
-    if not validate.is_built():
-        crates = validate.needed()
+    if proved.program() is None:
+        crates = proved.needed()
         say(f"proving {len(crates)} crates, one after another: {' '.join(crates)}")
         say(forecast(minutes_of(crates, gate_line.rows_of(gate_line.TABLE.read_text()))))
-        if not validate.prove():
+        if not proved.prove():
             say("the program was not built, as said above; nothing was installed")
             return FAILED
-    target = copied(validate.PROGRAM, folder)
+    program = proved.program()
+    if program is None:
+        say("a text changed after the proof; nothing was installed")
+        return FAILED
+    target = copied(program, folder)
     print(f"installed {target}, which is proved")
     if folder.resolve() not in [Path(it).resolve() for it in os.get_exec_path()]:
         say(f"{folder} is not on the PATH")
@@ -103,8 +110,12 @@ def main(words):
 
 
 if __name__ == "__main__":
+    proved.stopping()
     try:
         sys.exit(main(sys.argv[1:]))
-    except (OSError, ValueError) as error:
+    except proved.Stopped:
+        say("stopped; nothing was installed")
+        sys.exit(FAILED)
+    except (OSError, ValueError, stamp.NotStamped, unproved.KitDoesNotFit) as error:
         say(f"{error}")
         sys.exit(FAILED)

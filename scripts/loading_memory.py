@@ -1,7 +1,7 @@
 #!/usr/bin/env python3
 """What a host holds that loads a slice in rounds: scripts/loading_memory.py [PROGRAM].
 
-PROGRAM is cedar_rounds, by default the one that rt ci built. It loads so many entities from files, of which each holds the ids of
+PROGRAM is cedar_samples, by default the one that rt ci built. Its sample `rounds` loads so many entities from files, of which each holds the ids of
 all, so that a round meets each id as often as there are entities. Printed is the most memory, beyond that of a run that loads one
 entity, for each id in the files. It passes where twice as many entities take at most 4.4 times as much: four times as many ids are
 stored then, and what a round gathers beside the store grows no faster. It is no part of the gate.
@@ -13,7 +13,7 @@ from pathlib import Path
 
 from input_growth import held, written
 
-PROGRAM = Path(__file__).resolve().parent.parent / "crates" / "cedar_rounds" / "out" / "cedar_rounds"
+PROGRAM = Path(__file__).resolve().parent.parent / "crates" / "cedar_samples" / "out" / "cedar_samples"
 SCHEMA = "entity User { all: Set<User> };\naction view appliesTo { principal: User, resource: User, context: {} };\n"
 COUNTS = (1, 300, 600, 1200)
 MOST_FOR_TWICE = 4.4
@@ -26,14 +26,15 @@ def user(number):
 def most_memory(program, count):
     """The most memory in KiB of a run that loads so many entities."""
     with tempfile.TemporaryDirectory() as room:
-        written(room, "documents.cedarschema", SCHEMA)
+        Path(room, "rounds").mkdir()
+        written(room, "rounds/documents.cedarschema", SCHEMA)
         request = {"principal": user(0), "action": {"type": "Action", "id": "view"}, "resource": user(0), "context": {}}
-        written(room, "request.json", json.dumps(request))
+        written(room, "rounds/request.json", json.dumps(request))
         everyone = [{"__entity": user(number)} for number in range(count)]
         for number in range(count):
             entity = {"uid": user(number), "attrs": {"all": everyone}, "parents": []}
-            written(room, f"User.u{number}.json", json.dumps(entity))
-        most = held([program], room)[1]
+            written(room, f"rounds/User.u{number}.json", json.dumps(entity))
+        most = held([program, "rounds"], room)[1]
         said = Path(room, "out").read_text(encoding="utf8")
     if f"{count} of " not in said:
         sys.exit(f"{program} does not load {count} entities: {said[-300:]}")

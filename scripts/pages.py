@@ -21,6 +21,7 @@ MAKERS = {
     "promise": trusted.sentence,
     "crates": listings.crates,
     "codes": listings.codes,
+    "functions": listings.functions,
     "calls": api.listing,
 }
 MADE = re.compile(r"^<!-- made: (\w+) -->\n(.*?)^<!-- end -->$", re.M | re.S)

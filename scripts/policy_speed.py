@@ -1,7 +1,7 @@
 #!/usr/bin/env python3
 """What cedar-validate takes for each policy of a large file: scripts/policy_speed.py [PROGRAM].
 
-PROGRAM is cedar_validate, by default the one that rt ci built. The policies are about one action each of a schema with 300
+PROGRAM is cedar_validate, by default as it is built without a proof. The policies are about one action each of a schema with 300
 actions, and then with 3,000, and each has a condition, most accepted and some refused. Instructions are counted by valgrind
 over two files, one of twice the policies, so that what the schema takes is left out. Of policies about all actions, without a
 condition, the figure is that of one environment. Then 10,000 policies are validated, by the clock and with the memory that the
@@ -17,9 +17,8 @@ import time
 from pathlib import Path
 
 import benchmark
+import unproved
 
-TOP = Path(__file__).resolve().parent.parent
-PROGRAM = TOP / "crates" / "cedar_validate" / "out" / "cedar_validate"
 ACTIONS = 300
 # Conditions of which the policies have one each; the last is refused.
 CONDITIONS = (
@@ -81,9 +80,7 @@ def for_each_further(program, room, count, actions, policy=of_one_action):
 
 
 def main(words):
-    program = Path(words[0]).resolve() if words else PROGRAM
-    if not program.is_file():
-        sys.exit(f"there is no program {program}: rt ci builds it")
+    program = unproved.named(words, "cedar_validate")
     resource.setrlimit(resource.RLIMIT_CORE, (0, 0))
     with tempfile.TemporaryDirectory() as room:
         for count, actions in ((300, 300), (600, 300), (300, 3000)):

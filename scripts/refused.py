@@ -6,7 +6,7 @@ run ends without a refusal, and says what came of it; scripts/refuse.c refuses. 
 memory has to be among its lines: scripts/public_calls.py lists them.
 Of the program of crates/cedar_check the first growth of each row is refused, then the second, and so on. A row whose memory
 is refused says so, and the next row runs.
-Without words they are the programs that rt ci built, or rt run. The last line counts what went as it should and what did not.
+Without words they are built without a proof. The last line counts what went as it should and what did not.
 """
 import os
 import re
@@ -18,14 +18,12 @@ from concurrent.futures import ThreadPoolExecutor
 from pathlib import Path
 
 sys.dont_write_bytecode = True
+import unproved  # noqa: E402
 from public_calls import left_out, public_calls  # noqa: E402
 
 TOP = Path(__file__).resolve().parent.parent
 CALLS = TOP / "crates" / "cedar_refused"
 ROWS = TOP / "crates" / "cedar_check"
-# What the programs are made of.
-LIBRARIES = ("cedar_types", "cedar_typing", "cedar_typechecker", "cedar_fixtures", "cedar_reading")
-MADE_OF = {CALLS: (*LIBRARIES, "cedar_refused"), ROWS: (*LIBRARIES, "cedar_rows", "cedar_check")}
 SECONDS = 570
 BEGINS = "memory is refused"
 WELL = re.compile(r"[1-9]\d* growths, each refused|no growth")
@@ -47,21 +45,6 @@ def ran(words, made, **refused):
     """A run of a program, while this is refused."""
     env = {"LD_PRELOAD": str(made), **{f"REFUSE_{name}": str(number) for name, number in refused.items()}}
     return subprocess.run(words, env=env, stdin=subprocess.DEVNULL, capture_output=True, text=True, timeout=SECONDS)
-
-
-def newer_source(crate, program):
-    """A source of the program that is newer than the program, if there is one."""
-    made = program.stat().st_mtime
-    sources = [path for name in MADE_OF[crate] for path in sorted(TOP.joinpath("crates", name, "src").rglob("*.rt"))]
-    return next((path for path in sources if path.stat().st_mtime > made), None)
-
-
-def fault_of(crate, program):
-    """Why the program cannot be taken, if it cannot."""
-    if not program.is_file():
-        return f"there is no program {program.name}: rt ci builds it"
-    newer = newer_source(crate, program)
-    return f"{newer.relative_to(TOP)} is newer than the program {program.name}: rt ci builds it" if newer else None
 
 
 def stored(crate):
@@ -137,13 +120,11 @@ def rows(program, made):
 
 
 def main(words):
-    programs = {crate: Path(word) for crate, word in zip((CALLS, ROWS), words or [crate / "out" / crate.name for crate in (CALLS, ROWS)])}
     passed, faults = 0, []
     with tempfile.TemporaryDirectory() as room:
         made = shim(room)
-        for part, (crate, program) in zip((calls, rows), programs.items()):
-            fault = fault_of(crate, program)
-            good, bad = (0, [fault]) if fault else part(program, made)
+        for part, crate, word in ((calls, CALLS, words[:1]), (rows, ROWS, words[1:])):
+            good, bad = part(unproved.named(word, crate.name), made)
             passed += good
             faults += bad
     print(*faults, sep="\n", end="\n" if faults else "")

@@ -12,7 +12,7 @@ so each is looked at. Of sets that are one set, as where each is in all, the fir
 actions, so what the one takes is counted with the other, which have no descendants. The last line counts the lines that pass
 and those that do not.
 
-PROGRAM is cedar_cases, by default the one that rt ci built. It needs valgrind, and is no part of the gate.
+PROGRAM is cedar_cases, by default as it is built without a proof. It needs valgrind, and is no part of the gate.
 """
 import re
 import subprocess

@@ -1,7 +1,8 @@
 #!/usr/bin/env python3
 """How much stack it takes to type a condition at the limit of nesting: scripts/stack.py [PROGRAM [KIB]].
 
-PROGRAM is cedar_cases, by default the one that rt ci built by LLVM; the one by Rattle's own compiler ends in `.by-rattle`.
+PROGRAM is cedar_cases, by default as it is built without a proof. `rt ci` leaves two in its crate's `out`: the one by Rattle's own compiler ends in
+`.by-rattle`.
 Each condition has a part at depth 400: a line of operands, each in the one after it, a chain of accesses, negations, and
 operands in parentheses. Printed is the least stack that the whole run ends well in, reading and dropping of the policy
 included, found by halves. A line passes where that is at most KIB, by default 2 MiB, which a thread has. The last line
@@ -13,7 +14,7 @@ import sys
 import tempfile
 from pathlib import Path
 
-from benchmark import PROGRAM
+import unproved
 
 LIMIT = 2048
 STEP = 16
@@ -56,10 +57,8 @@ def least(program, room):
 
 
 def main(words):
-    program = Path(words[0]).resolve() if words else PROGRAM
+    program = unproved.named(words[:1], "cedar_cases")
     limit = int(words[1]) if words[1:] else LIMIT
-    if not program.is_file():
-        sys.exit(f"there is no program {program}: rt ci builds it")
     passed = failed = 0
     with tempfile.TemporaryDirectory() as room:
         Path(room, "schema.txt").write_text(SCHEMA, encoding="utf8")

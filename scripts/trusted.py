@@ -12,6 +12,8 @@ from pathlib import Path
 
 TOP = Path(__file__).resolve().parent.parent
 PROMISE = ("validate_within", ("safe", "sliced", "never_true"))
+# Other calls that carry it, with their clauses.
+OTHERS = (("admit", ("safe", "sliced")), ("validate_policy_with_level", ("silent", "never_true")))
 # The libraries that the promise is about; the host's own crate is the one that has the function.
 LIBRARIES = ("cedar_types", "cedar_typing", "cedar_typechecker")
 SUBJECTS = (
@@ -169,14 +171,24 @@ def table(files):
     ]
 
 
+def lines_of(files, function, clauses):
+    """The lines of definitions that these clauses of a function reach."""
+    reached, _, definitions = reach(files, function, clauses)
+    return sum(definitions.lines(place, numbers) for place, numbers in reached.items())
+
+
 def sentence(files):
     """What the README says."""
     by_subject, there, _ = counted(files)
     rules = [path for path in reach(files)[0] if re.search(r"/specs/(Rules|Infer|Levels)\b", path)]
     kind = "none of them a rule of typing or of levels" if not rules else "rules of typing or of levels among them"
+    names = " and ".join(f"`{function}`" for function, _ in OTHERS)
+    others = " and ".join(f"{lines_of(files, *other):,}" for other in OTHERS)
     return [
-        f"Who relies on it has to believe {sum(by_subject.values()):,} of some {rounded(there)} lines of definitions, {kind}",
-        "(`scripts/trusted.py` lists them). What else is trusted stands below.",
+        f"Who calls `{PROMISE[0]}` of `cedar_host` has to believe {sum(by_subject.values()):,} of some {rounded(there)} lines of",
+        f"definitions, {kind}. The clauses of {names} cite the rules",
+        f"too, because their premises say in words of the rules what passes: {others} lines (`scripts/trusted.py` lists them).",
+        "What else is trusted stands below.",
     ]
 
 

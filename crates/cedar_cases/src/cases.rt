@@ -8,6 +8,7 @@ mod names;
 mod refusals;
 mod report;
 
+pub use differences::agrees;
 pub use files::{CaseFile, FileFault};
 pub use refusals::{Notation, fault_of_columns, notation_of, run_refusals};
 pub use report::{CaseCounts, run_cases};

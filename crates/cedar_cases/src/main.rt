@@ -2,6 +2,7 @@
 #![tactic(auto)]
 
 mod cases;
+mod conformance;
 mod run;
 mod shown;
 mod tables;

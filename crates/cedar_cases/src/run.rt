@@ -3,6 +3,7 @@ use crate::cases::{
     CaseCounts, CaseFile, FileFault, Notation, fault_of_columns, notation_of, run_cases,
     run_refusals,
 };
+use crate::conformance::{run_data, schema_of_data};
 use crate::tables::Tables;
 use cedar_reading::{
     Fault, MAX_LENGTH, Position, ReadError, SchemaReadError, refused_name, schema,
@@ -65,6 +66,9 @@ fn run_file<R: Files + AllocGlobal, O: Write>(
     if let Some(notation) = notation_of(text.as_str()) {
         return run_schemas(alloc, name, text.as_str(), notation, out);
     }
+    if let Some(schema) = schema_of_data(text.as_str()) {
+        return run_conformance(rt, name, text.as_str(), schema, out);
+    }
     let file = match CaseFile::new(alloc, text.as_str())? {
         Ok(file) => file,
         Err(fault) => {
@@ -72,11 +76,7 @@ fn run_file<R: Files + AllocGlobal, O: Write>(
             return Ok(false);
         }
     };
-    let schema_name = beside(alloc, name, file.schema)?;
-    let Some(schema_text) = read(rt, schema_name.as_str(), out)? else {
-        return Ok(false);
-    };
-    let Some(schema) = read_schema(alloc, schema_name.as_str(), schema_text.as_str(), out)? else {
+    let Some(schema) = schema_beside(rt, name, file.schema, out)? else {
         return Ok(false);
     };
     let extensions = tables.where_ordered(file.has_ordered_addresses);
@@ -103,6 +103,22 @@ fn run_schemas<O: Write>(
     Ok(counts.wrong == 0)
 }
 
+/// Runs the cases of a file that are about data, by the schema in the file of this name beside it, and answers whether all agree.
+fn run_conformance<R: Files + AllocGlobal, O: Write>(
+    rt: &R,
+    name: &str,
+    text: &str,
+    schema: &str,
+    out: &mut O,
+) -> io::Result<bool> {
+    let Some(schema) = schema_beside(rt, name, schema, out)? else {
+        return Ok(false);
+    };
+    let counts = run_data(rt.alloc(), name, text, &schema, out)?;
+    write_counts(out, name, counts)?;
+    Ok(counts.wrong == 0)
+}
+
 fn write_counts<O: Write>(out: &mut O, name: &str, counts: CaseCounts) -> io::Result<()> {
     writeln!(out, "{name}: {} ran, {} differ", counts.ran, counts.wrong)
 }
@@ -124,6 +140,22 @@ fn read<R: Files + AllocGlobal, O: Write>(
             Ok(None)
         }
     }
+}
+
+/// The schema in the file of this name, which lies in the folder of another. Where there is none, why is written, and the answer
+/// is `None`.
+fn schema_beside<R: Files + AllocGlobal, O: Write>(
+    rt: &R,
+    name: &str,
+    schema: &str,
+    out: &mut O,
+) -> io::Result<Option<ValidatorSchema>> {
+    let alloc = rt.alloc();
+    let schema = beside(alloc, name, schema)?;
+    let Some(text) = read(rt, schema.as_str(), out)? else {
+        return Ok(None);
+    };
+    read_schema(alloc, schema.as_str(), text.as_str(), out)
 }
 
 /// The name of a file that lies in the folder of another.

@@ -1,10 +1,13 @@
+pub mod Among
 pub mod CopiedRecords
 pub mod DeclaredActions
 pub mod DeclaredTypes
 pub mod EntityStores
+pub mod FoundFaults
 pub mod Lists
 pub mod MetPremises
 pub mod Outcomes
+pub mod PolicyFaults
 pub mod Records
 pub mod RequestDecisions
 pub mod Slots

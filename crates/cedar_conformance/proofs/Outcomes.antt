@@ -1,8 +1,9 @@
 -- What is answered, from what is found.
-use Rattle.std.proofs.Common.{◌≡◌, ap, sym, subst, ℕ, suc, Bool, true, false, List, [], ◌∷◌, length, refl, nat_eq, arith}
+use Rattle.std.proofs.Common.{◌≡◌, ap, sym, subst, ◌∙◌, ℕ, suc, Bool, true, false, List, [], ◌∷◌, length, refl, nat_eq, arith}
+use Rattle.std.proofs.Common.{Option, Result, Ok, Err, IfErr}
 use borrow.Author.Tests.{eqb-true}
 use Rattle.std.specs.Bool.{Decides}
-use Rattle.cedar_conformance.specs.Answers.{lists_none}
+use Rattle.cedar_conformance.specs.Answers.{fault_in, lists_none, passes_if_any}
 
 -- a test that equals one that decides
 pub decided : {P : Type 0} (b r : Bool) → b ≡ r → Decides r P → (b ≡ true → P) × (P → b ≡ true)
@@ -19,3 +20,9 @@ empty_list n (x ∷ xs) e = at (nat_eq n 0) refl
         let some : n ≡ suc (length xs) = e in
         absurd (omega arith)
     at false h = h
+
+-- what a check answers passes where what is found does
+pub told : {F : Type 0} (p : F → Bool) (r : Result (Unit {0}) F) (o : Option F) → fault_in r ≡ o → passes_if_any p o ≡ true
+    → IfErr r (λ f. p f ≡ true)
+told p (Ok u) o e h = tt
+told p (Err f) o e h = ap (passes_if_any p) e ∙ h

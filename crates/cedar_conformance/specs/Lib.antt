@@ -1,5 +1,6 @@
 pub mod Answers
 pub mod Entities
+pub mod EntityFaults
 pub mod PolicyTests
 pub mod Premises
 pub mod RequestTests

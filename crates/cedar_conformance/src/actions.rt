@@ -3,11 +3,12 @@ ghost use Rattle.std.specs.Prelude.{◌≡◌, ◌&&◌, IfOk};
 ghost use Rattle.std.specs.List.{list_all};
 ghost use Rattle.cedar_types.specs.Names.{uid_of};
 ghost use Rattle.cedar_types.specs.Schemas.Contents.{schema_of};
-ghost use Rattle.cedar_types.specs.Schemas.Declarations.{declared_action, uids_of};
+ghost use Rattle.cedar_types.specs.Schemas.Declarations.{declared_action};
 ghost use Rattle.cedar_types.specs.Schemas.{declares_action};
 ghost use Rattle.cedar_types.specs.Values.Stores.{declares_ancestor};
-ghost use Rattle.cedar_conformance.specs.Answers.{FindsNoneWhere};
+ghost use Rattle.cedar_conformance.specs.Answers.{FindsNoneWhere, FindsWhat};
 ghost use Rattle.cedar_conformance.specs.Entities.{entity_of};
+ghost use Rattle.cedar_conformance.specs.EntityFaults.{action_has};
 ghost use Rattle.cedar_conformance.specs.StoreTests.{fits_action, has_its_ancestor};
 
 use crate::answers::Found;
@@ -16,7 +17,6 @@ use crate::entity_faults::EntityProblem;
 use crate::sets::{has_id, is_empty};
 use cedar_types::base::{EntityUID, ValidatorActionId, ValidatorSchema};
 use std::alloc::Global;
-use std::collections::BTreeSet;
 
 /// How what is stored under an id is not a declared action, with its declared ancestors and nothing else.
 pub(crate) fn find_in_action(
@@ -25,8 +25,11 @@ pub(crate) fn find_in_action(
     id: &EntityUID,
     entity: &Entity,
 ) -> Found<EntityProblem>
-    ensures { FindsNoneWhere result (declares_action (schema_of schema.now).actions (uid_of id.now)
+    ensures none { FindsNoneWhere result
+        (declares_action (schema_of schema.now).actions (uid_of id.now)
         && fits_action (schema_of schema.now).actions (uid_of id.now) (entity_of entity.now)) }
+    ensures there { FindsWhat result
+        (action_has (schema_of schema.now).actions (uid_of id.now) (entity_of entity.now)) }
 {
     if !schema.is_known_action_id(id) {
         return Ok(Some(EntityProblem::Undeclared));
@@ -37,23 +40,26 @@ pub(crate) fn find_in_action(
     if !is_empty(&entity.tags) {
         return Ok(Some(EntityProblem::HasTags));
     }
-    if let Some(problem) = find_undeclared_ancestor(schema, id, &entity.ancestors)? {
+    if let Some(problem) = find_undeclared_ancestor(schema, id, entity)? {
         return Ok(Some(problem));
     }
     find_missing_ancestor(alloc, schema, id, entity)
 }
 
 /// The first ancestor that is not declared to be one.
+#[tactic(auto, using(crate::proofs::Among::among_tail, crate::proofs::FoundFaults::undeclared_there))]
 fn find_undeclared_ancestor(
     schema: &ValidatorSchema,
     id: &EntityUID,
-    ancestors: &BTreeSet<EntityUID>,
+    entity: &Entity,
 ) -> Found<EntityProblem>
-    ensures { FindsNoneWhere result
+    ensures none { FindsNoneWhere result
         (list_all (declares_ancestor (schema_of schema.now).actions (uid_of id.now))
-        (uids_of ancestors.now)) }
+        (entity_of entity.now).ancestors) }
+    ensures there { FindsWhat result
+        (action_has (schema_of schema.now).actions (uid_of id.now) (entity_of entity.now)) }
 {
-    for ancestor in ancestors.iter() {
+    for ancestor in entity.ancestors.iter() {
         if !is_declared_ancestor(schema, id, ancestor) {
             return Ok(Some(EntityProblem::UndeclaredAncestor(ancestor.clone()?)));
         }
@@ -72,15 +78,18 @@ fn is_declared_ancestor(schema: &ValidatorSchema, id: &EntityUID, ancestor: &Ent
 }
 
 /// A declared ancestor that is not there.
+#[tactic(auto, using(crate::proofs::Among::among_tail, crate::proofs::FoundFaults::missing_there))]
 fn find_missing_ancestor(
     alloc: Global,
     schema: &ValidatorSchema,
     id: &EntityUID,
     entity: &Entity,
 ) -> Found<EntityProblem>
-    ensures { FindsNoneWhere result
+    ensures none { FindsNoneWhere result
         (list_all (has_its_ancestor (uid_of id.now) (entity_of entity.now))
         (schema_of schema.now).actions) }
+    ensures there { FindsWhat result
+        (action_has (schema_of schema.now).actions (uid_of id.now) (entity_of entity.now)) }
 {
     let actions = schema.action_ids(alloc)?;
     for action in &actions {

@@ -1,7 +1,7 @@
 //! What checks of a host's data answer.
 ghost use Rattle.std.specs.Prelude.{◌≡◌};
 ghost use Rattle.std.specs.Result.{is_ok};
-ghost use Rattle.cedar_conformance.specs.Answers.{finds_none};
+ghost use Rattle.cedar_conformance.specs.Answers.{fault_in, finds_none};
 
 use std::alloc::AllocError;
 
@@ -13,7 +13,8 @@ pub(crate) type Found<F> = Result<Option<F>, AllocError>;
 
 /// The answer of a check that searches for a fault.
 pub(crate) fn answer<F>(found: Option<F>) -> Result<(), F>
-    ensures { is_ok result ≡ finds_none found }
+    ensures ok { is_ok result ≡ finds_none found }
+    ensures fault { fault_in result ≡ found }
 {
     match found {
         None => Ok(()),

@@ -1,6 +1,9 @@
 // How entities are not as a schema says.
-ghost use Rattle.std.specs.Prelude.{OnOk};
-ghost use Rattle.cedar_conformance.specs.Answers.{finds_none, AddsNoneWhere};
+ghost use Rattle.std.specs.Prelude.{◌≡◌, Bool, true, OnOk};
+ghost use Rattle.cedar_types.specs.Names.{Uid, uid_of};
+ghost use Rattle.cedar_conformance.specs.Answers.{finds_none, passes_if_any, AddsNoneWhere};
+ghost use Rattle.cedar_conformance.specs.EntityFaults.{faults_pass};
+ghost use Rattle.cedar_conformance.specs.declared.entity_faults.EntityProblem.{EntityProblem};
 
 use crate::faults::ValueFault;
 use cedar_types::base::EntityUID;
@@ -72,8 +75,11 @@ pub(crate) fn add_found(
     id: &EntityUID,
     found: Option<EntityProblem>,
 ) -> Result<(), AllocError>
-    ensures { OnOk result
+    ensures none { OnOk result
         (AddsNoneWhere (finds_none found) faults.old.items faults.new.items) }
+    ensures there { (p : Uid → EntityProblem → Bool) → OnOk result
+        (faults_pass p faults.old.items ≡ true → passes_if_any (p (uid_of id.now)) found ≡ true
+        → faults_pass p faults.new.items ≡ true) }
 {
     if let Some(problem) = found {
         let id = id.clone()?;

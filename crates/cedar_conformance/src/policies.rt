@@ -1,13 +1,11 @@
 // What the promises ask of a policy and of its links.
-ghost use Rattle.std.specs.Prelude.{◌≡◌, false, ◌↔◌, IfOk, IsOk, option_map, is_some};
+ghost use Rattle.std.specs.Prelude.{◌≡◌, ◌↔◌, IfOk, IsOk, option_map, is_some};
 ghost use Rattle.cedar_types.specs.Expressions.View.{written};
-ghost use Rattle.cedar_types.specs.Templates.{template_of, condition_of};
-ghost use Rattle.cedar_typing.specs.Composition.{SlotsInScopeAlone};
-ghost use Rattle.cedar_typing.specs.Evaluation.Conformance.{SlotsBound};
-ghost use Rattle.cedar_typing.specs.Silence.{is_unknown, HasNoUnknowns};
+ghost use Rattle.cedar_types.specs.Templates.{template_of};
+ghost use Rattle.cedar_typing.specs.Silence.{is_unknown};
 ghost use Rattle.cedar_typing.specs.Soundness.Policies.{IsWellFormed};
-ghost use Rattle.cedar_conformance.specs.Answers.{FindsNoneWhere};
-ghost use Rattle.cedar_conformance.specs.PolicyTests.{slots_of, rest_has_unknown, mentions_any_slot, rest_mentions_slot, slot_fits, slots_fit, policy_fits};
+ghost use Rattle.cedar_conformance.specs.Answers.{fault_in};
+ghost use Rattle.cedar_conformance.specs.PolicyTests.{slots_of, rest_has_unknown, mentions_any_slot, rest_mentions_slot, slot_fits, unbound_slot, policy_fault};
 
 use crate::answers::{Checked, Found, answer};
 use cedar_types::base::{Expr, ExprKind, SlotEnv, SlotId, Template};
@@ -37,18 +35,20 @@ impl fmt::Display for PolicyFault {
 }
 
 /// Whether the policy has no unknowns, its slots stand in the scope alone, and each that occurs is bound. Else the first
-/// fault. Where memory is refused, the answer is an `AllocError`.
+/// fault, in the order of `PolicyFault`. Where memory is refused, the answer is an `AllocError`.
 pub fn check_policy(alloc: Global, template: &Template, values: &SlotEnv) -> Checked<PolicyFault>
-    ensures { IfOk result (λ r.
+    ensures exact { IfOk result (λ r.
         IsOk r ↔ IsWellFormed (template_of template.now) (slots_of values.now)) }
+    ensures fault { IfOk result (λ r.
+        fault_in r ≡ policy_fault (template_of template.now) (slots_of values.now)) }
 {
     let found = find_in_policy(alloc, template, values)?;
     Ok(answer(found))
 }
 
 fn find_in_policy(alloc: Global, template: &Template, values: &SlotEnv) -> Found<PolicyFault>
-    ensures { FindsNoneWhere result
-        (policy_fits (template_of template.now) (slots_of values.now)) }
+    ensures { IfOk result (λ o.
+        o ≡ policy_fault (template_of template.now) (slots_of values.now)) }
 {
     if rest_has_unknown(alloc, &template.non_scope_constraints)? {
         return Ok(Some(PolicyFault::Unknown));
@@ -62,19 +62,10 @@ fn find_in_policy(alloc: Global, template: &Template, values: &SlotEnv) -> Found
     }
 }
 
-/// Whether each slot that occurs in the template is bound; else the first that is not. Where memory is refused, the answer
-/// is an `AllocError`.
-pub fn check_slots(alloc: Global, template: &Template, values: &SlotEnv) -> Checked<SlotId>
-    ensures { IfOk result (λ r.
-        IsOk r ↔ SlotsBound (slots_of values.now) (condition_of (template_of template.now))) }
-{
-    let found = find_unbound(alloc, template, values)?;
-    Ok(answer(found))
-}
-
+/// The first slot that occurs in the template and is not bound.
 fn find_unbound(alloc: Global, template: &Template, values: &SlotEnv) -> Found<SlotId>
-    ensures { FindsNoneWhere result
-        (slots_fit (template_of template.now) (slots_of values.now)) }
+    ensures { IfOk result (λ o.
+        o ≡ unbound_slot (template_of template.now) (slots_of values.now)) }
 {
     if !slot_fits(alloc, template, values, SlotId::Principal)? {
         return Ok(Some(SlotId::Principal));
@@ -104,16 +95,7 @@ fn is_bound(values: &SlotEnv, slot: SlotId) -> bool
     values.contains_key(&slot)
 }
 
-/// Whether a part of the template's condition, at any depth, is an unknown. It does not recurse. Where memory is refused,
-/// the answer is an `AllocError`.
-pub fn has_unknowns(alloc: Global, template: &Template) -> Result<bool, AllocError>
-    ensures { IfOk result (λ b.
-        (b ≡ false) ↔ HasNoUnknowns (condition_of (template_of template.now))) }
-{
-    let has_unknown = rest_has_unknown(alloc, &template.non_scope_constraints)?;
-    Ok(has_unknown)
-}
-
+/// Whether a part of the conditions, at any depth, is an unknown. It does not recurse.
 fn rest_has_unknown(alloc: Global, rest: &Option<Expr>) -> Result<bool, AllocError>
     ensures { IfOk result (λ b. b ≡ rest_has_unknown (option_map written rest.now)) }
 {
@@ -138,15 +120,7 @@ fn is_unknown(expr: &Expr) -> bool
     }
 }
 
-/// Whether a slot occurs outside the template's scope. It does not recurse. Where memory is refused, the answer is an
-/// `AllocError`.
-pub fn has_slots_outside_scope(alloc: Global, template: &Template) -> Result<bool, AllocError>
-    ensures { IfOk result (λ b. (b ≡ false) ↔ SlotsInScopeAlone (template_of template.now)) }
-{
-    let has_slot = rest_mentions_slot(alloc, &template.non_scope_constraints)?;
-    Ok(has_slot)
-}
-
+/// Whether a slot occurs in the conditions. It does not recurse.
 fn rest_mentions_slot(alloc: Global, rest: &Option<Expr>) -> Result<bool, AllocError>
     ensures { IfOk result (λ b. b ≡ rest_mentions_slot (option_map written rest.now)) }
 {

@@ -1,5 +1,5 @@
 // Whether what is stored of an entity is as a schema says.
-ghost use Rattle.std.specs.Prelude.{◌≡◌, ◌&&◌, ◌↔◌, Some, IfOk, IsOk, option_map};
+ghost use Rattle.std.specs.Prelude.{◌≡◌, ◌&&◌, ◌↔◌, true, Some, IfOk, IfErr, IsOk, option_map};
 ghost use Rattle.std.specs.List.{list_all};
 ghost use Rattle.cedar_types.specs.Names.{type_of, uid_of};
 ghost use Rattle.cedar_types.specs.Schemas.Contents.{schema_of};
@@ -7,8 +7,9 @@ ghost use Rattle.cedar_types.specs.Schemas.Declarations.{uids_of};
 ghost use Rattle.cedar_types.specs.Schemas.{type_named};
 ghost use Rattle.cedar_types.specs.Types.{ty_of, attributes_of};
 ghost use Rattle.cedar_types.specs.Values.Stores.{FitsDeclaration};
-ghost use Rattle.cedar_conformance.specs.Answers.{finds_none, FindsNoneWhere};
+ghost use Rattle.cedar_conformance.specs.Answers.{finds_none, passes_if_any, FindsNoneWhere, FindsWhat};
 ghost use Rattle.cedar_conformance.specs.Entities.{entity_of};
+ghost use Rattle.cedar_conformance.specs.EntityFaults.{ancestors_have, bare_has, entity_has, standard_has, tags_have};
 ghost use Rattle.cedar_conformance.specs.StoreTests.{tags_fit, ancestor_fits, is_bare, fits_standard, fits_declaration};
 ghost use Rattle.cedar_conformance.specs.Tests.{all_entries, has_type};
 ghost use Rattle.cedar_conformance.specs.Values.{record_of};
@@ -38,9 +39,12 @@ pub fn check_entity(
     id: &EntityUID,
     entity: &Entity,
 ) -> Checked<EntityProblem>
-    ensures { IfOk result (λ r. IsOk r ↔ FitsDeclaration (schema_of schema.now) (uid_of id.now)
-        (type_named (schema_of schema.now).types (uid_of id.now).entity_type)
+    ensures exact { IfOk result (λ r. IsOk r ↔ FitsDeclaration (schema_of schema.now)
+        (uid_of id.now) (type_named (schema_of schema.now).types (uid_of id.now).entity_type)
         (entity_of entity.now)) }
+    ensures there { IfOk result (λ r. IfErr r (λ f. entity_has (schema_of schema.now)
+        (uid_of id.now) (type_named (schema_of schema.now).types (uid_of id.now).entity_type)
+        (entity_of entity.now) f ≡ true)) }
 {
     let found = find_in_entity(alloc, schema, id, entity)?;
     Ok(answer(found))
@@ -52,7 +56,10 @@ pub(crate) fn find_in_entity(
     id: &EntityUID,
     entity: &Entity,
 ) -> Found<EntityProblem>
-    ensures { FindsNoneWhere result (fits_declaration (schema_of schema.now) (uid_of id.now)
+    ensures none { FindsNoneWhere result (fits_declaration (schema_of schema.now) (uid_of id.now)
+        (type_named (schema_of schema.now).types (uid_of id.now).entity_type)
+        (entity_of entity.now)) }
+    ensures there { FindsWhat result (entity_has (schema_of schema.now) (uid_of id.now)
         (type_named (schema_of schema.now).types (uid_of id.now).entity_type)
         (entity_of entity.now)) }
 {
@@ -75,8 +82,12 @@ fn find_in_standard(
     standard: &StandardValidatorEntityType,
     entity: &Entity,
 ) -> Found<EntityProblem>
-    ensures { FindsNoneWhere result
+    ensures none { FindsNoneWhere result
         (fits_standard (schema_of schema.now).types (type_of id.now.entity_type)
+        (attributes_of standard.now.attributes) (option_map ty_of standard.now.tags)
+        (entity_of entity.now)) }
+    ensures there { FindsWhat result
+        (standard_has (schema_of schema.now).types (type_of id.now.entity_type)
         (attributes_of standard.now.attributes) (option_map ty_of standard.now.tags)
         (entity_of entity.now)) }
 {
@@ -91,8 +102,10 @@ fn find_in_standard(
 }
 
 fn find_in_tags(alloc: Global, tags: &Option<CedarType>, entries: &Record) -> Found<EntityProblem>
-    ensures { FindsNoneWhere result
+    ensures none { FindsNoneWhere result
         (tags_fit (option_map ty_of tags.now) (record_of entries.now)) }
+    ensures there { FindsWhat result
+        (tags_have (option_map ty_of tags.now) (record_of entries.now)) }
 {
     match tags {
         Some(ty) => match find_in_typed_tags(alloc, ty, entries)? {
@@ -117,13 +130,17 @@ fn find_in_typed_tags(alloc: Global, ty: &CedarType, entries: &Record) -> Found<
 }
 
 /// The first ancestor in whose type the entity's may not be.
+#[tactic(auto, using(crate::proofs::Among::among_tail, crate::proofs::FoundFaults::ancestor_there))]
 fn find_in_ancestors(
     schema: &ValidatorSchema,
     id: &EntityUID,
     ancestors: &BTreeSet<EntityUID>,
 ) -> Found<EntityProblem>
-    ensures { FindsNoneWhere result
+    ensures none { FindsNoneWhere result
         (list_all (ancestor_fits (schema_of schema.now).types (type_of id.now.entity_type))
+        (uids_of ancestors.now)) }
+    ensures there { FindsWhat result
+        (ancestors_have (schema_of schema.now).types (type_of id.now.entity_type)
         (uids_of ancestors.now)) }
 {
     for ancestor in ancestors.iter() {
@@ -146,7 +163,8 @@ fn may_be_in(schema: &ValidatorSchema, id: &EntityUID, ancestor: &EntityUID) -> 
 
 /// What is stored of an entity of which nothing may be.
 fn find_in_bare(entity: &Entity) -> Option<EntityProblem>
-    ensures { finds_none result ≡ is_bare (entity_of entity.now) }
+    ensures none { finds_none result ≡ is_bare (entity_of entity.now) }
+    ensures there { passes_if_any (bare_has (entity_of entity.now)) result ≡ true }
 {
     if !is_empty(&entity.attributes) {
         Some(EntityProblem::HasAttributes)

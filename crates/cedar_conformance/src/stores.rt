@@ -1,19 +1,18 @@
 // Whether entities are as a schema says.
-ghost use Rattle.std.specs.Prelude.{◌≡◌, ◌↔◌, IfOk, IsOk, OnOk, map};
-ghost use Rattle.std.specs.Option.{is_some};
+ghost use Rattle.std.specs.Prelude.{◌≡◌, ◌↔◌, true, false, IfOk, IfErr, IsOk, OnOk};
 ghost use Rattle.cedar_types.specs.Names.{uid_of};
 ghost use Rattle.cedar_types.specs.Schemas.Contents.{schema_of};
-ghost use Rattle.cedar_types.specs.Schemas.Declarations.{declared_action};
 ghost use Rattle.cedar_types.specs.Values.Stores.{ConformingStore, entity_at};
-ghost use Rattle.cedar_conformance.specs.Answers.{finds_none, lists_none, AddsNoneWhere};
+ghost use Rattle.cedar_conformance.specs.Answers.{lists_none, AddsNoneWhere};
 ghost use Rattle.cedar_conformance.specs.Entities.{store_of};
+ghost use Rattle.cedar_conformance.specs.EntityFaults.{all_there, missing_action};
 ghost use Rattle.cedar_conformance.specs.StoreTests.{each_fits, are_there, store_fits, IsApart};
 
 use crate::answers::Checked;
 use crate::entities::Entities;
 use crate::entity_faults::{EntityFault, EntityProblem, add_found};
 use crate::stored::find_in_entity;
-use cedar_types::base::{EntityUID, ValidatorActionId, ValidatorSchema};
+use cedar_types::base::{EntityUID, ValidatorSchema};
 use std::alloc::{AllocError, Global};
 
 /// How many entities are looked for that are not as a schema says.
@@ -27,8 +26,11 @@ pub fn check_entities(
     schema: &ValidatorSchema,
     entities: &Entities,
 ) -> Checked<Vec<EntityFault>>
-    ensures { IfOk result (λ r.
+    ensures exact { IfOk result (λ r.
         IsOk r ↔ ConformingStore (schema_of schema.now) (store_of entities.now)) }
+    ensures some { IfOk result (λ r. IfErr r (λ fs. lists_none fs.items ≡ false)) }
+    ensures there { IfOk result (λ r. IfErr r (λ fs.
+        all_there (schema_of schema.now) (store_of entities.now) fs.items ≡ true)) }
 {
     entities_are_apart(entities);
     let faults = find_in_store(alloc, schema, entities)?;
@@ -51,25 +53,31 @@ fn find_in_store(
     schema: &ValidatorSchema,
     entities: &Entities,
 ) -> Result<Vec<EntityFault>, AllocError>
-    ensures { IfOk result (λ v.
+    ensures none { IfOk result (λ v.
         lists_none v.items ≡ store_fits (schema_of schema.now) (store_of entities.now)) }
+    ensures there { IfOk result (λ v.
+        all_there (schema_of schema.now) (store_of entities.now) v.items ≡ true) }
 {
     let mut faults = Vec::new(alloc);
     add_unfit(alloc, &mut faults, schema, entities)?;
-    let actions = schema.action_ids(alloc)?;
-    add_missing_actions(&mut faults, &actions, entities)?;
+    add_missing_actions(alloc, &mut faults, schema, entities)?;
     Ok(faults)
 }
 
 /// Adds the entities that are not as the schema says.
+#[tactic(auto, using(crate::proofs::Among::among_tail, crate::proofs::FoundFaults::entry_there))]
 fn add_unfit(
     alloc: Global,
     faults: &mut Vec<EntityFault>,
     schema: &ValidatorSchema,
     entities: &Entities,
 ) -> Result<(), AllocError>
-    ensures { OnOk result (AddsNoneWhere (each_fits (schema_of schema.now) (store_of entities.now))
+    ensures none { OnOk result
+        (AddsNoneWhere (each_fits (schema_of schema.now) (store_of entities.now))
         faults.old.items faults.new.items) }
+    ensures there { OnOk result
+        (all_there (schema_of schema.now) (store_of entities.now) faults.old.items ≡ true
+        → all_there (schema_of schema.now) (store_of entities.now) faults.new.items ≡ true) }
 {
     for (id, entity) in entities.entries.iter() {
         if faults.len() >= MAX_FAULTS {
@@ -82,30 +90,33 @@ fn add_unfit(
 }
 
 /// Adds the declared actions that are not there.
+#[tactic(auto, using(crate::proofs::Among::among_tail, crate::proofs::FoundFaults::action_there))]
 fn add_missing_actions(
+    alloc: Global,
     faults: &mut Vec<EntityFault>,
-    actions: &Vec<&ValidatorActionId>,
+    schema: &ValidatorSchema,
     entities: &Entities,
 ) -> Result<(), AllocError>
-    ensures { OnOk result (AddsNoneWhere
-        (are_there (map (λ a. declared_action a.now) actions.now.items) (store_of entities.now))
+    ensures none { OnOk result
+        (AddsNoneWhere (are_there (schema_of schema.now).actions (store_of entities.now))
         faults.old.items faults.new.items) }
+    ensures there { OnOk result
+        (all_there (schema_of schema.now) (store_of entities.now) faults.old.items ≡ true
+        → all_there (schema_of schema.now) (store_of entities.now) faults.new.items ≡ true) }
 {
-    for action in actions {
+    let actions = schema.action_ids(alloc)?;
+    for action in &actions {
         if faults.len() >= MAX_FAULTS {
             return Ok(());
         }
-        add_found(
-            faults,
-            &action.name,
-            find_missing_action(entities, &action.name),
-        )?;
+        let found = find_missing_action(entities, &action.name);
+        add_found(faults, &action.name, found)?;
     }
     Ok(())
 }
 
 fn find_missing_action(entities: &Entities, action: &EntityUID) -> Option<EntityProblem>
-    ensures { finds_none result ≡ is_some (entity_at (store_of entities.now) (uid_of action.now)) }
+    ensures { result ≡ missing_action (entity_at (store_of entities.now) (uid_of action.now)) }
 {
     match entities.get(action) {
         Some(_entity) => None,

@@ -1,5 +1,6 @@
 // What is found while data is read and checked.
 use crate::faults::{DataFault, Problem};
+use cedar_extensions::checks::Constructor;
 use cedar_json::FormError;
 use cedar_types::base::{EntityUID, Loc, ValidatorEntityTypeKind, ValidatorSchema};
 use std::alloc::{AllocError, Global};
@@ -74,8 +75,7 @@ impl fmt::Display for Faults {
 #[derive(Debug, Drop)]
 pub struct ExtensionText {
     pub place: Loc,
-    /// The name of the constructor.
-    pub function: &'static str,
+    pub constructor: Constructor,
     pub text: RcStr,
 }
 

@@ -2,19 +2,12 @@
 // object is a record, unless its key is `__entity` or `__extn`.
 use crate::collected::{Collected, ExtensionText};
 use cedar_conformance::values::{Record, Value};
+use cedar_extensions::checks::Constructor;
 use cedar_json::{FormError, FormFault, Key, Object, ValueKind, entity_uid, expected, text_of};
 use cedar_types::base::{AttributeType, Attributes, CedarType, Name};
 use std::alloc::AllocError;
 use std::collections::BTreeMap;
 use std::rc::RcStr;
-
-/// What the constructors of extension values are called, each with the type of its values.
-const CONSTRUCTORS: [(&str, &str); 4] = [
-    ("ip", "ipaddr"),
-    ("decimal", "decimal"),
-    ("datetime", "datetime"),
-    ("duration", "duration"),
-];
 
 /// What is expected in place of the name of another function.
 const CONSTRUCTOR: &str = "`ip`, `decimal`, `datetime` or `duration`";
@@ -156,17 +149,17 @@ fn read_entity(
 fn read_call(collected: &mut Collected<'_>, call: Object<'_>) -> Result<Value, FormError> {
     call.allow(&["fn", "arg", "args"])?;
     let function = call.need("fn")?;
-    let Some((function, type_name)) = constructor(text_of(function)?) else {
+    let Some(constructor) = Constructor::from_name(text_of(function)?) else {
         return Err(expected(function, CONSTRUCTOR));
     };
     let argument = argument_of(call)?;
     let text = RcStr::from_str(collected.alloc, text_of(argument)?)?;
     collected.texts.push(ExtensionText {
         place: argument.place,
-        function,
+        constructor,
         text: text.clone()?,
     })?;
-    let type_name = Name::unqualified_name(collected.alloc, type_name)?;
+    let type_name = Name::unqualified_name(collected.alloc, constructor.makes().name())?;
     Ok(Value::Extension { type_name, text })
 }
 
@@ -184,29 +177,6 @@ fn argument_of(call: Object<'_>) -> Result<&cedar_json::Value, FormError> {
     }
 }
 
-/// The constructor of this name, with the type of its values.
-fn constructor(name: &str) -> Option<(&'static str, &'static str)> {
-    for (function, type_name) in CONSTRUCTORS {
-        if function == name {
-            return Some((function, type_name));
-        }
-    }
-    None
-}
-
-/// The constructor of the values of this type.
-fn constructor_of(name: &Name) -> Option<&'static str> {
-    if !name.path.is_empty() {
-        return None;
-    }
-    for (function, type_name) in CONSTRUCTORS {
-        if type_name == name.basename.as_str() {
-            return Some(function);
-        }
-    }
-    None
-}
-
 /// What a text says: the value of an extension type where one belongs, and else itself.
 fn text_or_extension(
     collected: &mut Collected<'_>,
@@ -217,10 +187,10 @@ fn text_or_extension(
     let Some(CedarType::Extension(name)) = ty else {
         return Ok(Value::String(text.clone()?));
     };
-    if let Some(function) = constructor_of(name) {
+    if let Some(constructor) = Constructor::of_type(name) {
         collected.texts.push(ExtensionText {
             place: value.place,
-            function,
+            constructor,
             text: text.clone()?,
         })?;
     }

@@ -2,7 +2,7 @@
 //! methods, or methods as functions.
 use crate::faults::TextFault;
 use crate::parts::text_at;
-use cedar_host::extensions::functions::{is_constructor, is_method};
+use cedar_extensions::functions::{is_constructor, is_method};
 use cedar_types::base::{Expr, ExprKind, Loc, Template};
 use std::alloc::{AllocError, Global};
 

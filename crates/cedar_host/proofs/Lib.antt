@@ -3,9 +3,9 @@ mod Admitted
 mod Distinct
 pub mod HandedIn
 mod TypedConditions
+mod Found
 mod LoadedOutcomes
 mod LoadedSlices
-mod Passes
 mod Promises
 mod Repeats
 mod Reported

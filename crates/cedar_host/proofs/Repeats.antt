@@ -7,7 +7,7 @@ use Rattle.cedar_typing.specs.Evaluation.Conformance.{IsOneOf}
 use Rattle.cedar_typing.proofs.Basics.{or_cases, neither_left, neither_right}
 use Rattle.cedar_typing.proofs.Basics.Members.{in_left, in_right}
 use Rattle.cedar_typechecker.proofs.Levels.Inclusions.{in_either}
-use Rattle.cedar_host.specs.Repeats.{ComesAgain, AreRepeats}
+use Rattle.cedar_host.specs.Repeats.{ComesAgain, ComeAgain, no_ids, first, again, AreRepeats}
 use Rattle.cedar_host.proofs.Distinct.{distinct_more}
 
 -- ---- what the test says is so
@@ -47,15 +47,21 @@ some_member : (ts : List Text) (t : Text) → ts ++ t ∷ [] ≡ [] → ⊥
 some_member [] t e = cc
 some_member (u ∷ ts) t e = cc
 
+-- of no ids none comes again
+pub no_repeats : AreRepeats [] []
+no_repeats = record { all = no_ids; none = λ e. tt; each = λ t i. absurd i }
+
 module _ (ids repeated : List Text) (t : Text) (h : AreRepeats ids repeated) where
   pub other_id : (IsOneOf t ids → ⊥) → AreRepeats (ids ++ t ∷ []) repeated
   other_id n = record {
+    all = first t h.all n;
     none = λ e. distinct_more ids t (h.none e) n;
     each = λ u i. later u t ids (h.each u i);
   }
 
   pub same_id : IsOneOf t ids → AreRepeats (ids ++ t ∷ []) (repeated ++ t ∷ [])
   same_id k = record {
+    all = again t h.all k;
     none = λ e. absurd (some_member repeated t e);
     each = λ u i.
         in_either repeated (t ∷ []) u (ComesAgain u (ids ++ t ∷ [])) i (λ j. later u t ids (h.each u j))

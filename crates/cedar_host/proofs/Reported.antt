@@ -4,7 +4,9 @@ use Rattle.std.proofs.lemmas.List.{map_push, take_more}
 use Rattle.std.proofs.lemmas.List.Elements.{All-push}
 use Rattle.cedar_types.specs.Templates.{PlainTemplate, template_of}
 use Rattle.cedar_typing.specs.Soundness.Policies.{Basis}
+use Rattle.cedar_host.specs.declared.policy_sets.Findings.{Findings}
 use Rattle.cedar_host.specs.declared.reports.PolicyReport.{PolicyReport}
+use Rattle.cedar_host.specs.Found.{IsReportOf, ListsAnError}
 use Rattle.cedar_host.specs.Safety.{PassesEverywhere, DoesNotGoWrong, IsNeverTrue, IsRight}
 
 -- one more report is on one more policy
@@ -38,3 +40,15 @@ right_report b r t accepted impossible same of_accepted of_impossible checked sa
       safe = λ h. subst (DoesNotGoWrong b) (sym same) (safe (sym of_accepted ∙ h));
       never_true = λ h. subst (IsNeverTrue b) (sym same) (never_true (sym of_impossible ∙ h));
     }
+
+-- a report of what was found in a policy
+pub report_of : (AreFindings : PlainTemplate → Findings → Type 0) (r : PolicyReport) (t : PlainTemplate) (f : Findings)
+    → template_of r.policy.now.template ≡ t → AreFindings t f → r.is_accepted ≡ f.is_accepted
+    → r.is_impossible ≡ f.is_impossible → ListsAnError r → IsReportOf AreFindings r
+report_of AreFindings r t f same found accepted impossible refused = record {
+  outcome = f;
+  found = subst (λ (u : PlainTemplate). AreFindings u f) (sym same) found;
+  accepted = accepted;
+  impossible = impossible;
+  refused = refused;
+}

@@ -1,6 +1,7 @@
 pub mod Admission
 pub mod Conditions
 pub mod Distinct
+pub mod Found
 pub mod LoadedOutcomes
 pub mod Loaders
 pub mod Loading
@@ -11,4 +12,3 @@ pub mod Rounds
 pub mod Safety
 pub mod SetLevels
 pub mod Slices
-pub mod Texts

@@ -13,7 +13,17 @@ abbrev pub ComesAgain : Text → List Text → Type 0
 ComesAgain t ts =
     (before : List Text) × (after : List Text) × (ts ≡ before ++ t ∷ after) × IsOneOf t after
 
--- only ids that come again are listed, and where none is, all differ
+-- the ids that stand behind an equal one, in their order, each as often as it does: behind some ids, one more is listed where
+-- it is one of them
+pub data ComeAgain : List Text → List Text → Type 0 where
+  no_ids : ComeAgain [] []
+  first : (t : Text) {ids repeated : List Text} → ComeAgain ids repeated → (IsOneOf t ids → ⊥)
+      → ComeAgain (ids ++ t ∷ []) repeated
+  again : (t : Text) {ids repeated : List Text} → ComeAgain ids repeated → IsOneOf t ids
+      → ComeAgain (ids ++ t ∷ []) (repeated ++ t ∷ [])
+
+-- those are listed. So only ids that come again are, and where none is, all differ
 pub record AreRepeats (ids repeated : List Text) : Type 0 where
+  pub all : ComeAgain ids repeated
   pub none : repeated ≡ [] → AreDistinct ids
   pub each : (t : Text) → IsOneOf t repeated → ComesAgain t ids

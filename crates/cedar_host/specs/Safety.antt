@@ -1,5 +1,5 @@
 -- What a host may rely on in its mode, where a policy is accepted and where it is impossible.
-use Rattle.std.specs.Prelude.{◌≡◌, true, false}
+use Rattle.std.specs.Prelude.{◌≡◌, Bool, true, false}
 use Rattle.cedar_types.specs.declared.base.types.ValidationMode.{ValidationMode}
 use Rattle.cedar_types.specs.Extensions.{functions_of, overloaded_types_of}
 use Rattle.cedar_types.specs.Extensions.Functions.{Refusals}
@@ -13,7 +13,7 @@ use Rattle.cedar_typing.specs.Composition.{SlotsInScopeAlone}
 use Rattle.cedar_typing.specs.Evaluation.Conformance.{IsOneOf, IsEnvironmentOf, SlotsBound, has_external}
 use Rattle.cedar_typing.specs.Evaluation.Eval.{eval}
 use Rattle.cedar_typing.specs.Evaluation.World.{World}
-use Rattle.cedar_typing.specs.PolicyCheck.{Verdict, PolicyChecks}
+use Rattle.cedar_typing.specs.PolicyCheck.{Verdict, succeeds, irrelevant, fails, PolicyChecks}
 use Rattle.cedar_typing.specs.PolicyCheck.Outcome.{passes}
 use Rattle.cedar_typing.specs.Soundness.Policies.{Basis, IsWellFormed, IsConforming, setting_on}
 use Rattle.cedar_typing.specs.Soundness.PolicyCheck.{IsBooleanOrAllowed}
@@ -50,6 +50,17 @@ IsSafeToEvaluate b t env =
     → (world : World) → IsWorldOf (setting_on b t.id env) world
     → SlotsBound world.slots (condition_of t)
     → IsBooleanOrAllowed (eval world (condition_of t))
+
+-- the check of the policy is a success there
+abbrev pub is_success : Verdict → Bool
+is_success (succeeds x) = true
+is_success (irrelevant es x) = false
+is_success (fails es) = false
+
+-- it is answered whether it is
+abbrev pub IsSuccessWhere : Basis → PlainTemplate → Env → Bool → Type 0
+IsSuccessWhere b t env answer =
+    (v : Verdict) × PolicyChecks (setting_on b t.id env) (condition_of t) v × (answer ≡ is_success v)
 
 -- ---- in all of them
 

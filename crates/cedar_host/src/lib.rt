@@ -6,7 +6,6 @@
 
 pub mod admission;
 pub mod conditions;
-pub mod extensions;
 pub mod held;
 pub mod loaded_outcomes;
 pub mod loaders;

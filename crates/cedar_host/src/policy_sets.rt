@@ -1,13 +1,19 @@
 //! A host that validates a set of policies.
-ghost use Rattle.std.specs.Prelude.{◌≡◌, true, [], map, option_map, All, IfOk};
+ghost use Rattle.std.specs.Prelude.{◌≡◌, ◌++◌, true, [], ◌∷◌, cond, map, option_map, All, IfOk, OnOk, IsPermutation};
+ghost use Rattle.cedar_types.specs.declared.base.types.ValidationMode.TheVariants.{Strict};
+ghost use Rattle.cedar_types.specs.Errors.{finding_of, warning_of};
 ghost use Rattle.cedar_types.specs.Names.{text_of};
 ghost use Rattle.cedar_types.specs.Schemas.Contents.{schema_of};
 ghost use Rattle.cedar_types.specs.Templates.{template_of};
+ghost use Rattle.cedar_typing.specs.PolicyCheck.Outcome.{Adds, impossible};
 ghost use Rattle.cedar_typing.specs.Soundness.Policies.{IsNamedBySchema};
+ghost use Rattle.cedar_typechecker.specs.Levels.Outcome.{name_findings, application_warnings};
 ghost use Rattle.cedar_typechecker.specs.Levels.Required.{IsRequiredLevel};
+ghost use Rattle.cedar_typechecker.specs.Levels.Views.{findings};
 ghost use Rattle.cedar_typechecker.specs.Passes.{errors_left};
 ghost use Rattle.cedar_typechecker.specs.Surveys.{passes_of, impossible_of, required_of};
 ghost use Rattle.cedar_typechecker.specs.ValidatorViews.{schema_in};
+ghost use Rattle.cedar_host.specs.Found.{AreFindingsOn, AreFoundBy, listed, IsReportOf};
 ghost use Rattle.cedar_host.specs.Repeats.{AreRepeats, id_in};
 ghost use Rattle.cedar_host.specs.Safety.{sound_basis, PassesEverywhere, DoesNotGoWrong};
 ghost use Rattle.cedar_host.specs.Safety.{IsNeverTrue, IsRight};
@@ -53,7 +59,9 @@ pub struct Findings {
 }
 
 /// A report on each policy of the set, checked in this mode. Those that are accepted do not go wrong,
-/// and those that are impossible are never true. Where memory is refused, the answer is an `AllocError`.
+/// and those that are impossible are never true. A policy is accepted exactly where its checks and the
+/// passes over its names find nothing, and a report that refuses one lists an error (clause `exact`).
+/// Where memory is refused, the answer is an `AllocError`.
 pub fn validate_set<'a, C: ArgumentCheck>(
     alloc: Global,
     validator: &Validator<'_, C>,
@@ -63,6 +71,8 @@ pub fn validate_set<'a, C: ArgumentCheck>(
     ensures each { IfOk result (λ reports. map (λ r. r.policy.now) reports.items ≡ policies.now) }
     ensures right { IfOk result (λ reports.
         All (IsRight (sound_basis mode C.refusal validator.now)) reports.items) }
+    ensures exact { IfOk result (λ reports. All
+        (IsReportOf (AreFindingsOn (sound_basis mode C.refusal validator.now))) reports.items) }
 {
     let mut reports = Vec::with_capacity(alloc, policies.len())?;
     for policy in policies {
@@ -91,8 +101,9 @@ pub fn repeated_ids(alloc: Global, policies: &[WrittenPolicy]) -> Result<Vec<Pol
 }
 
 /// What is found in a policy: the types, actions and ids that the schema does not have, what typing
-/// finds in all environments, in this mode, and whether no action fits the scope. Where memory is
-/// refused, the answer is an `AllocError`.
+/// finds in all environments, in this mode, and whether no action fits the scope. It is accepted
+/// exactly where its checks pass and no name has an error, and each error is listed (clause `exact`).
+/// Where memory is refused, the answer is an `AllocError`.
 pub fn validate<C: ArgumentCheck>(
     alloc: Global,
     validator: &Validator<'_, C>,
@@ -108,6 +119,8 @@ pub fn validate<C: ArgumentCheck>(
     ensures level { IfOk result (λ found.
         IsRequiredLevel (sound_basis mode C.refusal validator.now) (template_of policy.now)
         (option_map (λ l. l.level) found.level)) }
+    ensures exact { IfOk result (
+        AreFindingsOn (sound_basis mode C.refusal validator.now) (template_of policy.now)) }
 {
     let survey = validator.survey(alloc, policy, ValidationMode::from(mode))?;
     let findings = find(alloc, validator, policy, survey)?;
@@ -127,14 +140,18 @@ pub(crate) fn find<C: ArgumentCheck>(
     ensures impossible { IfOk result (λ found. found.is_impossible ≡ impossible_of survey) }
     ensures level { IfOk result (λ found.
         option_map (λ l. l.level) found.level ≡ required_of survey) }
+    ensures exact { IfOk result (
+        AreFoundBy (schema_of (schema_in validator.now)) (template_of policy.now) survey []) }
 {
     let passes = survey.passes();
     let is_impossible = survey.is_impossible();
     let applicable_environments = survey.applicable_environments();
     let level = survey.required_level();
     let warnings = find_warnings(alloc, validator, policy, is_impossible)?;
+    let misnamed = name_errors(alloc, validator.schema(), policy)?;
+    let is_named = misnamed.is_empty();
     let mut errors = survey.into_errors();
-    let is_named = is_named(alloc, validator.schema(), policy, &mut errors)?;
+    add_all(alloc, &mut errors, misnamed)?;
     Ok(Findings {
         is_accepted: is_named & passes,
         is_impossible,
@@ -151,49 +168,87 @@ fn find_warnings<C: ArgumentCheck>(
     validator: &Validator<'_, C>,
     policy: &Template,
     is_impossible: bool,
-) -> Result<Vec<ValidationWarning>, AllocError> {
+) -> Result<Vec<ValidationWarning>, AllocError>
+    ensures { IfOk result (λ found. map warning_of found.items
+        ≡ application_warnings Strict (schema_of (schema_in validator.now)) (template_of policy.now)
+        ++ cond is_impossible (impossible (template_of policy.now) ∷ []) []) }
+{
     let mut warnings = Vec::new(alloc);
     if let Err(warning) = validator.validate_template_action_application(alloc, policy)? {
         warnings.push(warning)?;
     }
     if is_impossible {
-        let id = policy.id.clone()?;
-        warnings.push(ValidationWarning::impossible_policy(policy.loc, id))?;
+        warnings.push(impossible_policy(policy)?)?;
     }
     Ok(warnings)
 }
 
-/// Whether each type, action and id that a policy names is the schema's. What is not is added.
-fn is_named(
+/// The warning that this policy is impossible.
+fn impossible_policy(policy: &Template) -> Result<ValidationWarning, AllocError>
+    ensures { IfOk result (λ w. warning_of w ≡ impossible (template_of policy.now)) }
+{
+    Ok(ValidationWarning::impossible_policy(policy.loc, policy.id.clone()?))
+}
+
+/// Each type, action and id that a policy names and the schema does not have.
+fn name_errors(
     alloc: Global,
     schema: &ValidatorSchema,
     policy: &Template,
-    errors: &mut BTreeMap<ValidationError, Environments>,
-) -> Result<bool, AllocError>
-    ensures { IfOk result (λ named. named ≡ true
-        → IsNamedBySchema (schema_of schema.now) (template_of policy.now)) }
+) -> Result<Vec<ValidationError>, AllocError>
+    ensures { IfOk result (λ found. IsPermutation (findings found.items)
+        (name_findings Strict (schema_of schema.now) (template_of policy.now))) }
 {
-    let types = Validator::validate_entity_types(alloc, schema, policy);
-    let knows_types = is_empty(alloc, types, errors)?;
-    let actions = Validator::validate_action_ids(alloc, schema, policy);
-    let knows_actions = is_empty(alloc, actions, errors)?;
-    let members = Validator::validate_enum_entity(alloc, schema, policy);
-    let knows_members = is_empty(alloc, members, errors)?;
-    Ok(knows_types & knows_actions & knows_members)
+    let mut found = Vec::new(alloc);
+    collect(
+        &mut found,
+        Validator::validate_enum_entity(alloc, schema, policy),
+    )?;
+    collect(
+        &mut found,
+        Validator::validate_entity_types(alloc, schema, policy),
+    )?;
+    collect(
+        &mut found,
+        Validator::validate_action_ids(alloc, schema, policy),
+    )?;
+    Ok(found)
 }
 
-/// Whether a pass finds nothing. What it finds is added.
-fn is_empty(
-    alloc: Global,
-    found: LiteralErrors<'_>,
-    errors: &mut BTreeMap<ValidationError, Environments>,
-) -> Result<bool, AllocError>
-    ensures { IfOk result (λ empty. empty ≡ true → errors_left found.entry ≡ []) }
+/// Adds all that is left of a pass.
+fn collect(found: &mut Vec<ValidationError>, pass: LiteralErrors<'_>) -> Result<(), AllocError>
+    ensures { OnOk result (
+        findings found.new.items ≡ findings found.old.items ++ errors_left pass.entry) }
 {
-    let mut empty = true;
-    for error in found {
-        errors.insert(error?, Environments::none(alloc))?;
-        empty = false;
+    for error in pass {
+        found.push(error?)?;
     }
-    Ok(empty)
+    Ok(())
+}
+
+/// Adds errors that typing does not find.
+fn add_all(
+    alloc: Global,
+    errors: &mut BTreeMap<ValidationError, Environments>,
+    found: Vec<ValidationError>,
+) -> Result<(), AllocError>
+    ensures { OnOk result (Adds (listed errors.old) (findings found.items) (listed errors.new)) }
+{
+    for error in found {
+        add_error(alloc, errors, error)?;
+    }
+    Ok(())
+}
+
+/// Adds an error of no environment.
+pub(crate) fn add_error(
+    alloc: Global,
+    errors: &mut BTreeMap<ValidationError, Environments>,
+    error: ValidationError,
+) -> Result<(), AllocError>
+    ensures { OnOk result (
+        Adds (listed errors.old) (finding_of error ∷ []) (listed errors.new)) }
+{
+    errors.insert(error, Environments::none(alloc))?;
+    Ok(())
 }

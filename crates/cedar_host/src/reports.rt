@@ -1,6 +1,7 @@
 //! What a host says of a policy, and what it may keep of that when the policy has gone.
-ghost use Rattle.std.specs.Prelude.{◌≡◌, IfOk};
+ghost use Rattle.std.specs.Prelude.{◌≡◌, [], IfOk, OnOk};
 ghost use Rattle.cedar_types.specs.Names.{text_of};
+ghost use Rattle.cedar_host.specs.Found.{ListsAnError};
 
 use crate::policy_sets::{Findings, WrittenPolicy};
 use cedar_typechecker::survey::Environments;
@@ -81,8 +82,11 @@ impl PolicyReport<'_> {
     pub fn keep(self) -> Result<KeptReport, AllocError>
         ensures policy { IfOk result (λ kept.
             text_of kept.policy.text ≡ text_of self.entry.policy.now.template.id.text) }
+        ensures effect { IfOk result (λ kept. kept.effect ≡ self.entry.policy.now.effect) }
         ensures accepted { IfOk result (λ kept. kept.is_accepted ≡ self.entry.is_accepted) }
         ensures impossible { IfOk result (λ kept. kept.is_impossible ≡ self.entry.is_impossible) }
+        ensures errors { IfOk result (λ kept. kept.errors ≡ self.entry.errors) }
+        ensures warnings { IfOk result (λ kept. kept.warnings ≡ self.entry.warnings) }
     {
         Ok(KeptReport {
             policy: self.policy.template.id.clone()?,
@@ -111,13 +115,14 @@ pub(crate) fn report<'a>(
     ensures policy { IfOk result (λ r. r.policy ≡ policy.entry) }
     ensures accepted { IfOk result (λ r. r.is_accepted ≡ findings.is_accepted) }
     ensures impossible { IfOk result (λ r. r.is_impossible ≡ findings.is_impossible) }
+    ensures refused { IfOk result (λ r. ListsAnError r) }
 {
     let is_accepted = findings.is_accepted;
     let is_impossible = findings.is_impossible;
     let warnings = warnings(alloc, findings.warnings)?;
     let mut errors = errors(alloc, policy, findings.errors)?;
-    if !is_accepted && errors.is_empty() {
-        errors.push(unexplained_error(alloc, &policy.template.id)?)?;
+    if !is_accepted {
+        explain(alloc, &policy.template.id, &mut errors)?;
     }
     Ok(PolicyReport {
         policy,
@@ -126,6 +131,20 @@ pub(crate) fn report<'a>(
         errors,
         warnings,
     })
+}
+
+/// Where there is no error, adds one that says so.
+fn explain(
+    alloc: Global,
+    policy: &PolicyID,
+    errors: &mut Vec<PolicyError>,
+) -> Result<(), AllocError>
+    ensures { OnOk result (errors.new.items ≡ [] → ⊥) }
+{
+    if errors.is_empty() {
+        errors.push(unexplained_error(alloc, policy)?)?;
+    }
+    Ok(())
 }
 
 /// The errors in the order of their places.

@@ -3,7 +3,7 @@ ghost use Rattle.std.specs.Prelude.{◌≡◌, true, IfOk};
 ghost use Rattle.cedar_types.specs.Environments.RequestEnvs.{env_of};
 ghost use Rattle.cedar_types.specs.Templates.{template_of};
 ghost use Rattle.cedar_typing.specs.Views.Checks.{basis_of};
-ghost use Rattle.cedar_host.specs.Safety.{sound_basis, IsSafeToEvaluate};
+ghost use Rattle.cedar_host.specs.Safety.{sound_basis, IsSafeToEvaluate, IsSuccessWhere};
 
 use cedar_typechecker::rbac::Validator;
 use cedar_types::base::{ArgumentCheck, Template, ValidationMode};
@@ -47,8 +47,9 @@ pub(crate) fn typechecker_in<'a, C: ArgumentCheck>(
     Typechecker::new(schema, extensions, ValidationMode::from(mode))
 }
 
-/// Whether a policy is a success in this environment of the schema. Where it is, its evaluation on
-/// what conforms does not go wrong. Where memory is refused, the answer is an `AllocError`.
+/// Whether a policy is a success in this environment of the schema: exactly where its check is one
+/// (clause `exact`). Where it is, its evaluation on what conforms does not go wrong (clause `safe`).
+/// Where memory is refused, the answer is an `AllocError`.
 pub fn is_safe_in<C: ArgumentCheck>(
     alloc: Global,
     validator: &Validator<'_, C>,
@@ -56,8 +57,10 @@ pub fn is_safe_in<C: ArgumentCheck>(
     policy: &Template,
     env: &RequestEnv<'_>,
 ) -> Result<bool, AllocError>
-    ensures { IfOk result (λ safe. safe ≡ true
+    ensures safe { IfOk result (λ safe. safe ≡ true
         → IsSafeToEvaluate (sound_basis mode C.refusal validator.now)
+        (template_of policy.now) (env_of env.now)) }
+    ensures exact { IfOk result (IsSuccessWhere (sound_basis mode C.refusal validator.now)
         (template_of policy.now) (env_of env.now)) }
 {
     let typechecker = typechecker_in(validator, mode);

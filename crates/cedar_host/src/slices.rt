@@ -1,14 +1,17 @@
 //! A host that validates policies for the slices that it loads.
-ghost use Rattle.std.specs.Prelude.{◌≡◌, true, map, option_map, All, IfOk};
+ghost use Rattle.std.specs.Prelude.{◌≡◌, true, map, option_map, All, IfOk, OnOk};
 ghost use Rattle.cedar_types.specs.Templates.{template_of};
+ghost use Rattle.cedar_typing.specs.PolicyCheck.Outcome.{Adds};
 ghost use Rattle.cedar_typechecker.specs.Levels.Required.{IsRequiredLevel};
+ghost use Rattle.cedar_typechecker.specs.Levels.Views.{findings};
+ghost use Rattle.cedar_host.specs.Found.{AreFindingsWithin, IsReportOf, listed};
 ghost use Rattle.cedar_host.specs.Responses.{HaveSameResponses};
 ghost use Rattle.cedar_host.specs.Safety.{sound_basis, PassesEverywhere, DoesNotGoWrong};
 ghost use Rattle.cedar_host.specs.Safety.{IsNeverTrue};
 ghost use Rattle.cedar_host.specs.SetLevels.{IsLevelOfAll, level_in};
 ghost use Rattle.cedar_host.specs.Slices.{NeedsSliceAlone, IsRightForSlices};
 
-use crate::policy_sets::{Findings, WrittenPolicy, find};
+use crate::policy_sets::{Findings, WrittenPolicy, add_error, find};
 use crate::reports::{PolicyReport, report};
 use crate::safety::SoundMode;
 use cedar_typechecker::rbac::Validator;
@@ -31,8 +34,10 @@ pub struct SliceReport<'a> {
 /// A report on each policy of the set, checked in this mode, for slices of `steps` steps. Those that
 /// are accepted do not go wrong and need the slice alone, and those that are impossible are never
 /// true. So an authoriser that has the accepted ones, each under a name, with an effect and with its
-/// slots bound, answers a request over such a slice as over the whole store (clause `responses`). Where
-/// memory is refused, the answer is an `AllocError`.
+/// slots bound, answers a request over such a slice as over the whole store (clause `responses`). A
+/// policy is accepted exactly where its checks, the passes over its names and its levels find nothing,
+/// and a report that refuses one lists an error (clause `exact`). Where memory is refused, the answer
+/// is an `AllocError`.
 pub fn validate_for_slices<'a, C: ArgumentCheck>(
     alloc: Global,
     validator: &Validator<'_, C>,
@@ -46,6 +51,8 @@ pub fn validate_for_slices<'a, C: ArgumentCheck>(
         All (IsRightForSlices (sound_basis mode C.refusal validator.now) steps) reports.items) }
     ensures responses { IfOk result (λ reports.
         HaveSameResponses (sound_basis mode C.refusal validator.now) steps reports.items) }
+    ensures exact { IfOk result (λ reports. All (λ r. IsReportOf
+        (AreFindingsWithin steps (sound_basis mode C.refusal validator.now)) r.report) reports.items) }
 {
     let mut reports = Vec::with_capacity(alloc, policies.len())?;
     for policy in policies {
@@ -74,7 +81,9 @@ pub fn level_of(reports: &[SliceReport<'_>]) -> Option<EntityDerefLevel>
 }
 
 /// What is found in a policy, and where it dereferences more than `steps` entities, one after another.
-/// Each environment is typed once. Where memory is refused, the answer is an `AllocError`.
+/// Each environment is typed once. It is accepted exactly where neither its checks, nor its names, nor
+/// its levels have an error, and each error is listed (clause `exact`). Where memory is refused, the
+/// answer is an `AllocError`.
 pub fn validate_within<C: ArgumentCheck>(
     alloc: Global,
     validator: &Validator<'_, C>,
@@ -93,24 +102,28 @@ pub fn validate_within<C: ArgumentCheck>(
     ensures level { IfOk result (λ found.
         IsRequiredLevel (sound_basis mode C.refusal validator.now) (template_of policy.now)
         (option_map (λ l. l.level) found.level)) }
+    ensures exact { IfOk result (AreFindingsWithin steps
+        (sound_basis mode C.refusal validator.now) (template_of policy.now)) }
 {
     let survey = validator.survey(alloc, policy, ValidationMode::from(mode))?;
     let exceeding = survey.level_errors(alloc, steps)?;
     let is_within = exceeding.is_empty();
     let mut findings = find(alloc, validator, policy, survey)?;
-    add_all(alloc, &mut findings.errors, exceeding)?;
+    add_exceeding(alloc, &mut findings.errors, exceeding)?;
     findings.is_accepted &= is_within;
     Ok(findings)
 }
 
-/// Adds errors that typing does not find.
-fn add_all(
+/// Adds level errors.
+fn add_exceeding(
     alloc: Global,
     errors: &mut BTreeMap<ValidationError, Environments>,
-    found: BTreeSet<ValidationError>,
-) -> Result<(), AllocError> {
-    for error in found {
-        errors.insert(error, Environments::none(alloc))?;
+    exceeding: BTreeSet<ValidationError>,
+) -> Result<(), AllocError>
+    ensures { OnOk result (Adds (listed errors.old) (findings exceeding.keys) (listed errors.new)) }
+{
+    for error in exceeding {
+        add_error(alloc, errors, error)?;
     }
     Ok(())
 }

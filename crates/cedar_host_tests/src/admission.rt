@@ -1,10 +1,10 @@
 // Which policies, requests and entities are let in.
+use crate::embedding::policies::{by_its_contact, unguarded};
+use crate::embedding::schemas::documents;
 use cedar_conformance::entities::{Entities, Entity};
 use cedar_conformance::premises::PremiseFault;
 use cedar_conformance::requests::{Request, RequestFault};
 use cedar_conformance::values::{Record, Value};
-use cedar_embedding::policies::{by_its_contact, unguarded};
-use cedar_embedding::schemas::documents;
 use cedar_host::admission::{
     AdmissionFault, LinkedReport, LinkedTemplate, admit, validate_and_admit,
 };

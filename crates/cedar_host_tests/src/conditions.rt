@@ -1,6 +1,6 @@
 // The typed conditions of a policy.
-use cedar_embedding::policies::{approved_sharing, unguarded};
-use cedar_embedding::schemas::documents;
+use crate::embedding::policies::{approved_sharing, unguarded};
+use crate::embedding::schemas::documents;
 use cedar_host::conditions::{TypedCondition, typed_conditions};
 use cedar_types::base::{
     BoolType, CedarType, ExtensionSchemas, Template, ValidationMode, ValidatorSchema,

@@ -1,6 +1,6 @@
 // What the host says of a policy that names an id which its enumerated type does not list.
+use crate::embedding::policies::permit_when;
 use crate::wanted::{IMPOSSIBLE, REFUSED, Want, alone, are_said};
-use cedar_embedding::policies::permit_when;
 use cedar_host::policy_sets::validate_set;
 use cedar_host::safety::SoundMode;
 use cedar_typechecker::rbac::Validator;

@@ -1,18 +1,16 @@
 // Which texts the functions of Cedar read, and what a gate says of a policy with another.
+use crate::embedding::policies::permit_when;
+use crate::embedding::schemas::documents;
 use crate::wanted::{REFUSED, Want, alone, are_said};
-use cedar_embedding::policies::permit_when;
-use cedar_embedding::schemas::documents;
-use cedar_host::extensions::checks::Constructor;
-use cedar_host::extensions::functions::{
-    Checks, functions, is_constructor, is_method, overloaded_types,
-};
-use cedar_host::extensions::unread_texts::add_unread_texts;
+use cedar_extensions::checks::Constructor;
+use cedar_extensions::functions::{Checks, functions, is_constructor, is_method, overloaded_types};
+use cedar_extensions::unread_texts::unread_texts;
 use cedar_host::policy_sets::validate_set;
 use cedar_host::safety::SoundMode;
 use cedar_typechecker::rbac::Validator;
-use cedar_types::base::{Expr, ExtensionSchemas, Literal, Name};
+use cedar_types::base::{Expr, ExtensionFunctionType, ExtensionSchemas, Literal, Name};
 use std::alloc::{AllocError, Global};
-use std::collections::BTreeSet;
+use std::fmt::Write;
 use std::process::Abort;
 use std::test::Fail;
 
@@ -24,7 +22,68 @@ pub fn cedar_functions(alloc: Global) -> Result<ExtensionSchemas, Fail> {
         datetime: Box::new(alloc, Constructor::Datetime.check(alloc))?,
         duration: Box::new(alloc, Constructor::Duration.check(alloc))?,
     };
-    Ok(ExtensionSchemas::new(functions(alloc, checks)?, overloaded_types(alloc)?)?)
+    let functions = functions(alloc, checks)?;
+    if functions.len() != SIGNATURES.len() {
+        return Err(Fail::new("a function is there that SIGNATURES does not list"));
+    }
+    Ok(ExtensionSchemas::new(functions, overloaded_types(alloc)?)?)
+}
+
+/// Cedar's functions, each with the types of what it takes and gives.
+const SIGNATURES: &[(&str, &str)] = &[
+    ("ip", "(String) -> ipaddr"),
+    ("decimal", "(String) -> decimal"),
+    ("datetime", "(String) -> datetime"),
+    ("duration", "(String) -> duration"),
+    ("isIpv4", "(ipaddr) -> Bool"),
+    ("isIpv6", "(ipaddr) -> Bool"),
+    ("isLoopback", "(ipaddr) -> Bool"),
+    ("isMulticast", "(ipaddr) -> Bool"),
+    ("isInRange", "(ipaddr, ipaddr) -> Bool"),
+    ("lessThan", "(decimal, decimal) -> Bool"),
+    ("lessThanOrEqual", "(decimal, decimal) -> Bool"),
+    ("greaterThan", "(decimal, decimal) -> Bool"),
+    ("greaterThanOrEqual", "(decimal, decimal) -> Bool"),
+    ("offset", "(datetime, duration) -> datetime"),
+    ("durationSince", "(datetime, datetime) -> duration"),
+    ("toDate", "(datetime) -> datetime"),
+    ("toTime", "(datetime) -> duration"),
+    ("toMilliseconds", "(duration) -> Long"),
+    ("toSeconds", "(duration) -> Long"),
+    ("toMinutes", "(duration) -> Long"),
+    ("toHours", "(duration) -> Long"),
+    ("toDays", "(duration) -> Long"),
+];
+
+/// What a function takes and gives.
+fn signature(alloc: Global, function: &ExtensionFunctionType) -> Result<String, AllocError> {
+    let mut shown = String::from_str(alloc, "(")?;
+    for (index, ty) in function.argument_types.iter().enumerate() {
+        let before = if index == 0 { "" } else { ", " };
+        write!(shown, "{before}{ty}")?;
+    }
+    write!(shown, ") -> {}", function.return_type)?;
+    Ok(shown)
+}
+
+#[test]
+fn each_function_takes_and_gives_its_types(rt: HostRuntime) -> Result<(), Fail> {
+    let alloc = rt.alloc();
+    let extensions = cedar_functions(alloc)?;
+    for (name, wanted) in SIGNATURES {
+        let found = extensions.func_type(&Name::unqualified_name(alloc, name)?);
+        let function = found.expect(&rt, name);
+        assert_eq!(rt; signature(alloc, function)?.as_str(), *wanted);
+        assert!(rt; !function.is_variadic);
+        assert_eq!(rt; function.check_arguments.is_some(), is_constructor(name));
+        assert!(rt; is_constructor(name) != is_method(name));
+    }
+    let mut ordered = String::new(alloc);
+    for name in extensions.overloaded_types() {
+        write!(ordered, "{name} ")?;
+    }
+    assert_eq!(rt; ordered.as_str(), "datetime duration ");
+    Ok(())
 }
 
 const READ: &[(Constructor, &[&str])] = &[
@@ -210,10 +269,10 @@ fn a_gate_refuses_a_date_that_there_is_not(rt: HostRuntime) -> Result<(), Fail> 
         ..REFUSED
     };
     are_said(&rt, &reports, &[want]);
-    let mut errors = BTreeSet::new(alloc);
     for it in &policies {
-        assert!(rt; add_unread_texts(alloc, &it.template, &mut errors)?);
+        let errors = unread_texts(alloc, &it.template)?;
+        assert_eq!(rt; errors.len(), 2);
+        assert!(rt; errors[0].is_same_finding(&errors[1]));
     }
-    assert_eq!(rt; errors.len(), 1);
     Ok(())
 }

@@ -7,6 +7,7 @@
 mod admission;
 #[cfg(test)]
 mod conditions;
+pub mod embedding;
 #[cfg(test)]
 mod enumerated;
 #[cfg(test)]

@@ -1,14 +1,14 @@
 // What the host says of a set of policies.
-use crate::extensions::cedar_functions;
-use crate::wanted::{
-    ACCEPTED, IMPOSSIBLE, REFUSED, Want, alone, are_said, number_policies, of_an_unknown,
-};
-use cedar_embedding::policies::{
+use crate::embedding::policies::{
     APPROVED_SHARING, BY_A_DOCUMENT, FROM_NOWHERE, FROM_RANGE, HAUNTED, MISSPELT, OF_EITHER,
     OF_ONE_USER, UNGUARDED, approved_sharing, by_a_document, from_nowhere, from_range, haunted,
     misspelt, of_either, of_one_user, permit_when, unguarded,
 };
-use cedar_embedding::schemas::documents;
+use crate::embedding::schemas::documents;
+use crate::extensions::cedar_functions;
+use crate::wanted::{
+    ACCEPTED, IMPOSSIBLE, REFUSED, Want, alone, are_said, number_policies, of_an_unknown,
+};
 use cedar_host::policy_sets::{WrittenPolicy, validate_set};
 use cedar_host::safety::SoundMode;
 use cedar_typechecker::rbac::Validator;

@@ -1,7 +1,7 @@
 // What a host keeps of its reports: errors with their places, and reports without the policies; and what it says of a set.
+use crate::embedding::policies::{by_its_contact, by_their_contact, permit_when, unguarded};
+use crate::embedding::schemas::documents;
 use crate::wanted::{add, alone};
-use cedar_embedding::policies::{by_its_contact, by_their_contact, permit_when, unguarded};
-use cedar_embedding::schemas::documents;
 use cedar_host::policy_sets::{WrittenPolicy, repeated_ids, validate_set};
 use cedar_host::reports::{KeptReport, PolicyReport};
 use cedar_host::safety::SoundMode;

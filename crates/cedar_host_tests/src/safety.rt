@@ -1,7 +1,9 @@
 // In how many environments a policy is safe.
+use crate::embedding::policies::{
+    approved_sharing, from_nowhere, from_range, of_either, unguarded,
+};
+use crate::embedding::schemas::documents;
 use crate::extensions::cedar_functions;
-use cedar_embedding::policies::{approved_sharing, from_nowhere, from_range, of_either, unguarded};
-use cedar_embedding::schemas::documents;
 use cedar_host::safety::{SoundMode, is_safe_in};
 use cedar_typechecker::rbac::Validator;
 use cedar_types::base::{ExtensionSchemas, SchemaError, Template, ValidationMode};

@@ -1,10 +1,10 @@
 // What the host says of a set of policies that it evaluates over slices.
-use crate::wanted::{ACCEPTED, IMPOSSIBLE, REFUSED, Want, is_said, number_policies, of_an_unknown};
-use cedar_embedding::policies::{
+use crate::embedding::policies::{
     APPROVED_SHARING, BY_ITS_CONTACT, BY_THEIR_CONTACT, MISSPELT, UNGUARDED, approved_sharing,
     by_its_contact, by_their_contact, misspelt, unguarded,
 };
-use cedar_embedding::schemas::documents;
+use crate::embedding::schemas::documents;
+use crate::wanted::{ACCEPTED, IMPOSSIBLE, REFUSED, Want, is_said, number_policies, of_an_unknown};
 use cedar_host::policy_sets::WrittenPolicy;
 use cedar_host::safety::SoundMode;
 use cedar_host::slices::validate_for_slices;

@@ -1,5 +1,5 @@
 // What the host has to say of a policy, and whether it does.
-use cedar_embedding::policies::permit_when;
+use crate::embedding::policies::permit_when;
 use cedar_host::policy_sets::WrittenPolicy;
 use cedar_host::reports::PolicyReport;
 use cedar_types::base::{Effect, Expr, Name, PolicyID, Template};

@@ -1,5 +1,5 @@
 // The checks of policies, and the questions about them, that are made while memory is refused.
-use crate::calls::checks::{InEnvironment, OfValidator};
+use crate::calls::checks::{InEnvironment, OfValidator, Question};
 use crate::calls::types::{PARTIAL, PERMISSIVE, STRICT};
 
 /// Checks of conditions, by what they show.
@@ -85,29 +85,29 @@ Typechecker::typecheck_by_single_request_env, tags of several types | GetTag | (
 /// Questions about policies.
 pub const POLICIES: [(OfValidator, &str); 9] = [
     (
-        OfValidator::Principals,
+        OfValidator::Shown(Question::Principals),
         "Validator::get_principals_satisfying_constraint | User | NAMED",
     ),
     (
-        OfValidator::Resources,
+        OfValidator::Shown(Question::Resources),
         "Validator::get_resources_satisfying_constraint | Color | KNOWN",
     ),
     (
-        OfValidator::Application,
+        OfValidator::Shown(Question::Application),
         r#"
 Validator::validate_template_action_application, that warns | InvalidActionApplication | NAMED
 Validator::validate_template_action_application | Ok | KNOWN
 "#,
     ),
     (
-        OfValidator::LinkedApplication,
+        OfValidator::Shown(Question::LinkedApplication),
         r#"
 Validator::validate_linked_action_application, that warns | InvalidActionApplication | UNKNOWN
 Validator::validate_linked_action_application | Ok | KNOWN
 "#,
     ),
     (
-        OfValidator::Policy,
+        OfValidator::Shown(Question::Policy),
         r#"
 Validator::validate_policy, of unknown names | InvalidActionApplication | NAMED
 Validator::validate_policy, of many findings | ImpossiblePolicy | MANY
@@ -122,7 +122,7 @@ Validator::validate_policy_with_level, of a target | LiteralDereferenceTarget | 
 "#,
     ),
     (
-        OfValidator::RequiredLevel,
+        OfValidator::Shown(Question::RequiredLevel),
         r#"
 Validator::required_level, with a slot | level: 1 | KNOWN
 Validator::required_level, of a chain of attributes | level: 2 | permit(principal, action, resource) when { resource has owner.vip };

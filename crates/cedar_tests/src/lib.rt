@@ -1,6 +1,12 @@
-//! Tests of the lowest library's calls that no program makes, and of texts that no case shows. They stand apart, since a crate
+//! Tests of the three libraries' calls that no program makes, and of texts that no case shows. They stand apart, since a crate
 //! with tests is proved twice.
 #![tactic(auto)]
 
 #[cfg(test)]
-mod tests;
+mod parts;
+#[cfg(test)]
+mod typechecker_tests;
+#[cfg(test)]
+mod types_tests;
+#[cfg(test)]
+mod typing_tests;

@@ -7,6 +7,7 @@ use cedar_conformance::requests::RequestFault;
 use cedar_data::{
     DataError, DataFault, ExtensionText, Faults, Problem, check_entities_text, check_request_text,
 };
+use cedar_extensions::checks::Constructor;
 use cedar_findings::arguments::Arguments;
 use cedar_findings::codes::Code;
 use cedar_findings::data_findings::DataFinding;
@@ -15,7 +16,6 @@ use cedar_findings::formats::Format;
 use cedar_findings::reports::Report;
 use cedar_findings::sources::Source;
 use cedar_findings::totals::Totals;
-use cedar_host::extensions::checks::Constructor;
 use cedar_reading::Position;
 use cedar_types::base::{Loc, ValidatorSchema};
 use std::alloc::{AllocError, Global};
@@ -111,12 +111,9 @@ fn found_in(
     }
 }
 
-/// Whether the function that is named with a text makes a value of it.
+/// Whether the constructor that is given a text makes a value of it.
 fn is_read(text: &ExtensionText) -> bool {
-    match Constructor::from_name(text.function) {
-        Some(function) => function.reads(text.text.as_str()),
-        None => true,
-    }
+    text.constructor.reads(text.text.as_str())
 }
 
 /// Counts what is found in a file, and answers how it is shown.
@@ -217,7 +214,7 @@ fn more_than_shown(alloc: Global, text: &str) -> Result<DataFinding, AllocError>
 
 /// A text that a constructor of extension values cannot read.
 fn unread(alloc: Global, text: &ExtensionText) -> Result<DataFinding, AllocError> {
-    let function = text.function;
+    let function = text.constructor.name();
     let message = &text.text;
     Ok(DataFinding {
         place: text.place,

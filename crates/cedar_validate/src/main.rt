@@ -12,10 +12,11 @@ mod policies;
 mod progress;
 mod run;
 mod verdicts;
+mod version;
 mod wording;
 
-use cedar_host::extensions::checks::Constructor;
-use cedar_host::extensions::functions::{Checks, functions, overloaded_types};
+use cedar_extensions::checks::Constructor;
+use cedar_extensions::functions::{Checks, functions, overloaded_types};
 use cedar_types::base::ExtensionSchemas;
 use progress::Progress;
 use run::run;

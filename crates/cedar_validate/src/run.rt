@@ -4,6 +4,7 @@ use crate::files::{read_text, validate_file};
 use crate::json_schemas::read_json_schema;
 use crate::progress::Progress;
 use crate::verdicts::Settings;
+use crate::version::{VERSION, build};
 use cedar_findings::arguments::{Arguments, Asked, read_arguments};
 use cedar_findings::faults::{TextFault, all_schema_faults, schema_fault, shadowing_fault};
 use cedar_findings::formats::Format;
@@ -24,8 +25,6 @@ use std::rt::Files;
 const USAGE: &str = "usage: cedar-validate [--mode strict|permissive|partial] [--level N] \
      [--deny-warnings] [--format lines|json|sarif] [--input text|json] [--entities FILE] \
      [--request FILE] SCHEMA POLICY..\n";
-
-const VERSION: &str = "cedar-validate 0.1.0\n";
 
 const HELP: &str = "\
 Validates the policies of some files by a schema, and says what is wrong and where.
@@ -91,7 +90,7 @@ fn answer<R: Files + AllocGlobal + Input, O: Write, E: Write, T: Write>(
             Ok(0)
         }
         Ok(Asked::Version) => {
-            out.write_all(VERSION.as_bytes())?;
+            writeln!(out, "{VERSION}\n{}", build())?;
             Ok(0)
         }
         Ok(Asked::Validation(arguments)) => {

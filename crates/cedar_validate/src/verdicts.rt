@@ -2,10 +2,10 @@
 use crate::causes::{Cause, Found};
 use crate::impossible::{FalsePart, false_parts};
 use crate::wording::{About, first_findings};
+use cedar_extensions::unread_texts::unread_texts;
 use cedar_findings::findings::{Requirement, Severity, Verdict};
 use cedar_findings::marks::marked_parts;
 use cedar_findings::syntaxes::Syntax;
-use cedar_host::extensions::unread_texts::add_unread_texts;
 use cedar_host::policy_sets::{Findings, validate};
 use cedar_host::safety::SoundMode;
 use cedar_host::slices::validate_within;
@@ -16,7 +16,7 @@ use cedar_types::base::{
     ArgumentCheck, Loc, Template, ValidationError, ValidationMode, ValidationWarning,
 };
 use std::alloc::{AllocError, Global};
-use std::collections::{BTreeMap, BTreeSet};
+use std::collections::BTreeMap;
 
 /// The text of a policy that is refused without an error, where each name is the schema's.
 const NESTED: &str = "nested too deep to be checked: fewer than 400 parts may stand inside \
@@ -92,8 +92,8 @@ fn add_unread(
     policy: &Template,
     errors: &mut BTreeMap<ValidationError, Environments>,
 ) -> Result<bool, AllocError> {
-    let mut unread = BTreeSet::new(alloc);
-    let is_unread = add_unread_texts(alloc, policy, &mut unread)?;
+    let unread = unread_texts(alloc, policy)?;
+    let is_unread = !unread.is_empty();
     for error in unread {
         errors.insert(error, Environments::none(alloc))?;
     }

@@ -1,1 +1,7 @@
-pub mod Clauses
+pub mod Sql
+pub mod Rows
+pub mod Meaning
+pub mod Compiled
+pub mod Views
+pub mod Sets
+pub mod Tables

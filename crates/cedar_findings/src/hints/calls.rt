@@ -1,7 +1,8 @@
 // Functions that there are not.
 use crate::parts::{arguments_at, text_at};
 use crate::similar::Search;
-use cedar_host::extensions::functions::{CONSTRUCTORS, OTHERS};
+use cedar_extensions::checks::CONSTRUCTORS;
+use cedar_extensions::methods::METHODS as EXTENSION_METHODS;
 use cedar_types::base::{Expr, ExprKind, Literal, Template, UndefinedFunction};
 use std::alloc::{AllocError, Global};
 
@@ -111,16 +112,14 @@ fn nearest_name(alloc: Global, unknown: &str) -> Result<Option<&'static str>, Al
             nearest = Some(name);
         }
     }
-    for line in CONSTRUCTORS {
-        let name = line.split(' ').next().unwrap_or("");
-        if search.is_nearer(name, false)? {
-            nearest = Some(name);
+    for constructor in CONSTRUCTORS {
+        if search.is_nearer(constructor.name(), false)? {
+            nearest = Some(constructor.name());
         }
     }
-    for line in OTHERS {
-        let name = line.split(' ').next().unwrap_or("");
-        if search.is_nearer(name, false)? {
-            nearest = Some(name);
+    for method in EXTENSION_METHODS {
+        if search.is_nearer(method.name, false)? {
+            nearest = Some(method.name);
         }
     }
     Ok(nearest)

@@ -2,7 +2,7 @@
 use crate::hints::calls::is_plain;
 use crate::hints::records::difference;
 use crate::parts::{Operation, operation_at, operation_in, part_around, text_at};
-use cedar_host::extensions::checks::Constructor;
+use cedar_extensions::checks::Constructor;
 use cedar_types::base::{
     BinaryOp, CedarType, EntityKind, Expr, ExprKind, IncompatibleTypes, Literal, LubContext,
     Template, UnexpectedType,

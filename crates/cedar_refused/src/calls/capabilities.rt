@@ -18,15 +18,21 @@ pub enum OfSets {
     Join,
     Build,
     Add,
+    OfTwo(OfTwo),
+}
+
+/// What is asked of two sets, or of one capability.
+#[derive(Clone, Copy)]
+pub enum OfTwo {
     Singleton,
     Copy,
     Union,
     Intersect,
 }
 
-/// It is asked of sets that know tags.
+/// The question is asked of sets that know tags.
 #[derive(Clone, Copy)]
-pub struct OfTags(OfSets);
+pub struct OfTags(OfTwo);
 
 /// That the principal has this attribute.
 fn has<'a>(alloc: Global, attr: &str) -> Result<Capability<'a>, AllocError> {
@@ -46,23 +52,19 @@ pub fn having<'a>(
 }
 
 /// Asks it of two sets, or of a capability that is to be alone.
-fn of_sets<'a>(
+fn of_two<'a>(
     alloc: Global,
     trial: Trial<'_>,
-    asked: OfSets,
+    asked: OfTwo,
     alone: Capability<'a>,
     sets: (CapabilitySet<'a>, CapabilitySet<'a>),
 ) -> Result<Outcome, AllocError> {
     refuse(alloc, trial.number);
     match asked {
-        OfSets::Insert | OfSets::Add | OfSets::Join | OfSets::Build | OfSets::Singleton => finish(
-            alloc,
-            CapabilitySet::singleton(alloc, alone),
-            &sets,
-        ),
-        OfSets::Copy => finish(alloc, sets.1.try_clone(alloc), &sets),
-        OfSets::Union => finish(alloc, sets.0.union(alloc, &sets.1), &sets),
-        OfSets::Intersect => finish(alloc, sets.0.intersect(alloc, &sets.1), &sets),
+        OfTwo::Singleton => finish(alloc, CapabilitySet::singleton(alloc, alone), &sets),
+        OfTwo::Copy => finish(alloc, sets.1.try_clone(alloc), &sets),
+        OfTwo::Union => finish(alloc, sets.0.union(alloc, &sets.1), &sets),
+        OfTwo::Intersect => finish(alloc, sets.0.intersect(alloc, &sets.1), &sets),
     }
 }
 
@@ -164,10 +166,10 @@ impl Probe for OfSets {
             OfSets::Join => join(alloc, trial),
             OfSets::Build => build(alloc, trial),
             OfSets::Add => add(alloc, trial),
-            _ => {
+            OfSets::OfTwo(asked) => {
                 // they share one of two attributes
                 let sets = (having(alloc, "vip", "nick")?, having(alloc, "nick", "age")?);
-                of_sets(alloc, trial, self, has(alloc, "vip")?, sets)
+                of_two(alloc, trial, asked, has(alloc, "vip")?, sets)
             }
         }
     }
@@ -184,20 +186,29 @@ impl Probe for OfTags {
         let lent = CapabilitySet::singleton(alloc, Capability::new_borrowed_tag(&owner, &name))?;
         let alone = Capability::new_attribute(&owner, RcStr::from_str(alloc, "vip")?);
         let set = CapabilitySet::singleton(alloc, owned)?;
-        of_sets(alloc, trial, self.0, alone, (lent, set))
+        of_two(alloc, trial, self.0, alone, (lent, set))
     }
 }
 
 /// Questions about sets of capabilities.
 pub const SETS: [(OfSets, &str); 8] = [
     (OfSets::Join, "CapabilitySet::join | names"),
-    (OfSets::Singleton, "CapabilitySet::singleton | vip"),
+    (
+        OfSets::OfTwo(OfTwo::Singleton),
+        "CapabilitySet::singleton | vip",
+    ),
     (OfSets::Insert, "CapabilitySet::insert | ()"),
     (OfSets::Add, "CapabilitySetBuilder::insert | ()"),
     (OfSets::Build, "CapabilitySetBuilder::build | nick"),
-    (OfSets::Union, "CapabilitySet::union | age"),
-    (OfSets::Intersect, "CapabilitySet::intersect | nick"),
-    (OfSets::Copy, "CapabilitySet::try_clone | nick"),
+    (OfSets::OfTwo(OfTwo::Union), "CapabilitySet::union | age"),
+    (
+        OfSets::OfTwo(OfTwo::Intersect),
+        "CapabilitySet::intersect | nick",
+    ),
+    (
+        OfSets::OfTwo(OfTwo::Copy),
+        "CapabilitySet::try_clone | nick",
+    ),
 ];
 
 /// Questions about bases of attributes.
@@ -212,16 +223,16 @@ pub const BASES: [(OfBases, &str); 2] = [
 /// The same of sets that know tags.
 pub const TAGS: [(OfTags, &str); 4] = [
     (
-        OfTags(OfSets::Singleton),
+        OfTags(OfTwo::Singleton),
         "CapabilitySet::singleton, borrowed | Lent",
     ),
-    (OfTags(OfSets::Union), "CapabilitySet::union, of tags | Tag"),
+    (OfTags(OfTwo::Union), "CapabilitySet::union, of tags | Tag"),
     (
-        OfTags(OfSets::Intersect),
+        OfTags(OfTwo::Intersect),
         "CapabilitySet::intersect, of tags | Tag",
     ),
     (
-        OfTags(OfSets::Copy),
+        OfTags(OfTwo::Copy),
         "CapabilitySet::try_clone, of tags | Tag",
     ),
 ];

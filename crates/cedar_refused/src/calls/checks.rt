@@ -43,54 +43,54 @@ impl Probe for InEnvironment {
 /// What is asked of a validator.
 #[derive(Clone, Copy)]
 pub enum OfValidator {
+    /// A question whose answer is shown as it is.
+    Shown(Question),
+    Level,
+    Survey,
+    SurveyedLevel,
+}
+
+/// Questions about a policy, each with an answer that is shown as it is.
+#[derive(Clone, Copy)]
+pub enum Question {
     Principals,
     Resources,
     Application,
     LinkedApplication,
     Policy,
     RequiredLevel,
-    Level,
-    Survey,
-    SurveyedLevel,
 }
 
 /// Asks it of the policy of the text, in Strict.
-fn of_validator(
-    alloc: Global,
-    trial: Trial<'_>,
-    asked: OfValidator,
-) -> Result<Outcome, AllocError> {
+fn ask(alloc: Global, trial: Trial<'_>, asked: Question) -> Result<Outcome, AllocError> {
     let validator = trial.validator;
     let (mode, policy) = (ValidationMode::Strict, policy(alloc, trial.text)?);
     let template = &*policy.template;
     refuse(alloc, trial.number);
     match asked {
-        OfValidator::Principals => {
+        Question::Principals => {
             let constraint = &template.principal_constraint;
             let types = validator.get_principals_satisfying_constraint(alloc, constraint);
             finish(alloc, types, &policy)
         }
-        OfValidator::Resources => {
+        Question::Resources => {
             let constraint = &template.resource_constraint;
             let types = validator.get_resources_satisfying_constraint(alloc, constraint);
             finish(alloc, types, &policy)
         }
-        OfValidator::Application => {
+        Question::Application => {
             let applies = validator.validate_template_action_application(alloc, template);
             finish(alloc, applies, &policy)
         }
-        OfValidator::LinkedApplication => {
+        Question::LinkedApplication => {
             let applies = validator.validate_linked_action_application(alloc, &policy);
             finish(alloc, applies, &policy)
         }
-        OfValidator::Policy => {
+        Question::Policy => {
             let found = validator.validate_policy(alloc, template, mode);
             finish(alloc, found, &policy)
         }
-        OfValidator::RequiredLevel
-        | OfValidator::Level
-        | OfValidator::Survey
-        | OfValidator::SurveyedLevel => {
+        Question::RequiredLevel => {
             finish(
                 alloc,
                 validator.required_level(alloc, template, mode),
@@ -134,10 +134,10 @@ fn find_all(
 impl Probe for OfValidator {
     fn run(self, alloc: Global, trial: Trial<'_>) -> Result<Outcome, AllocError> {
         match self {
+            OfValidator::Shown(asked) => ask(alloc, trial, asked),
             OfValidator::Level => at_level_0(alloc, trial),
             OfValidator::Survey => survey(alloc, trial),
             OfValidator::SurveyedLevel => level_errors_at_0(alloc, trial),
-            _ => of_validator(alloc, trial, self),
         }
     }
 }

@@ -33,11 +33,17 @@ fn make_choices(alloc: Global, trial: Trial<'_>) -> Result<Outcome, AllocError> 
     finish(alloc, EnumChoices::new(alloc, ids), &())
 }
 
-/// What is asked of a schema.
+/// What is made, or asked of a schema.
 #[derive(Clone, Copy)]
 pub enum OfSchema {
     New,
     Choices,
+    Asked(OfMade),
+}
+
+/// What is asked of a schema that is made.
+#[derive(Clone, Copy)]
+pub enum OfMade {
     Types,
     TypeNames,
     Actions,
@@ -48,20 +54,20 @@ pub enum OfSchema {
 }
 
 /// Asks it. The text is that of an action.
-fn of_schema(alloc: Global, trial: Trial<'_>, asked: OfSchema) -> Result<Outcome, AllocError> {
+fn of_schema(alloc: Global, trial: Trial<'_>, asked: OfMade) -> Result<Outcome, AllocError> {
     let schema = trial.validator.schema();
     let group = entity_type(alloc, "Group")?;
     let tagged = EntityKind::Entity(entities(alloc, "User")?);
     let actions = vec![in alloc; uid(alloc, trial.text)?]?;
     refuse(alloc, trial.number);
     match asked {
-        OfSchema::Types => finish(alloc, schema.entity_types(alloc), schema),
-        OfSchema::TypeNames => finish(alloc, schema.entity_type_names(alloc), schema),
-        OfSchema::Actions => finish(alloc, schema.action_ids(alloc), schema),
-        OfSchema::TypesIn => finish(alloc, schema.get_entity_types_in(alloc, &group), schema),
-        OfSchema::ActionsIn => { finish(alloc, schema.get_actions_in_set(alloc, &actions), schema) }
-        OfSchema::Tags => finish(alloc, schema.tag_types(alloc, &tagged), schema),
-        OfSchema::New | OfSchema::Choices | OfSchema::TagsOfAny => {
+        OfMade::Types => finish(alloc, schema.entity_types(alloc), schema),
+        OfMade::TypeNames => finish(alloc, schema.entity_type_names(alloc), schema),
+        OfMade::Actions => finish(alloc, schema.action_ids(alloc), schema),
+        OfMade::TypesIn => finish(alloc, schema.get_entity_types_in(alloc, &group), schema),
+        OfMade::ActionsIn => { finish(alloc, schema.get_actions_in_set(alloc, &actions), schema) }
+        OfMade::Tags => finish(alloc, schema.tag_types(alloc, &tagged), schema),
+        OfMade::TagsOfAny => {
             finish(
                 alloc,
                 schema.tag_types(alloc, &EntityKind::AnyEntity),
@@ -76,7 +82,7 @@ impl Probe for OfSchema {
         match self {
             OfSchema::New => make_schema(alloc, trial),
             OfSchema::Choices => make_choices(alloc, trial),
-            _ => of_schema(alloc, trial, self),
+            OfSchema::Asked(asked) => of_schema(alloc, trial, asked),
         }
     }
 }
@@ -107,34 +113,34 @@ ValidatorSchema::new, of an empty type | NotAnActionType | entity A enum []; act
     ),
     (OfSchema::Choices, "EnumChoices::new | red | red"),
     (
-        OfSchema::Types,
+        OfSchema::Asked(OfMade::Types),
         r#"ValidatorSchema::entity_types | Color | Action::"all""#,
     ),
     (
-        OfSchema::TypeNames,
+        OfSchema::Asked(OfMade::TypeNames),
         r#"ValidatorSchema::entity_type_names | Color | Action::"all""#,
     ),
     (
-        OfSchema::Actions,
+        OfSchema::Asked(OfMade::Actions),
         r#"ValidatorSchema::action_ids | view | Action::"all""#,
     ),
     (
-        OfSchema::TypesIn,
+        OfSchema::Asked(OfMade::TypesIn),
         r#"ValidatorSchema::get_entity_types_in | Photo | Action::"all""#,
     ),
     (
-        OfSchema::ActionsIn,
+        OfSchema::Asked(OfMade::ActionsIn),
         r#"
 ValidatorSchema::get_actions_in_set | some | Action::"all"
 - ValidatorSchema::get_actions_in_set, of an unknown one | None | Action::"gone"
 "#,
     ),
     (
-        OfSchema::Tags,
+        OfSchema::Asked(OfMade::Tags),
         r#"ValidatorSchema::tag_types | User | Action::"all""#,
     ),
     (
-        OfSchema::TagsOfAny,
+        OfSchema::Asked(OfMade::TagsOfAny),
         r#"ValidatorSchema::tag_types, of any entity | String | Action::"all""#,
     ),
 ];

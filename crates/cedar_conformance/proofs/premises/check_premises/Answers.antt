@@ -11,7 +11,7 @@ returns-then-is_external c =
 pub returns-in_ok-checked-in-Ok : goal.returns-in_ok-checked-in-Ok
 returns-in_ok-checked-in-Ok c =
     let closed = sym c.in_ok-is_external.ensures ∙ c.if-is_external.false in
-    let formed = met _ _ c.in-Ok.is c.in_ok-check_policy.ensures in
+    let formed = met _ _ c.in-Ok.is c.in_ok-check_policy.ensures.exact in
     record {
       exact =
           all_decided c.args.schema.now c.args.template.now c.args.values.now c.args.request.now c.args.entities.now
@@ -27,5 +27,5 @@ returns-in_ok-checked-in-Ok c =
 pub returns-in-Err : goal.returns-in-Err
 returns-in-Err c =
     let closed = sym c.in_ok-is_external.ensures ∙ c.if-is_external.false in
-    let unfit = unmet _ _ c.in-Err.is c.in_ok-check_policy.ensures in
+    let unfit = unmet _ _ c.in-Err.is c.in_ok-check_policy.ensures.exact in
     record { exact = refused (λ p. unfit p.well_formed); first = (closed, unfit) }

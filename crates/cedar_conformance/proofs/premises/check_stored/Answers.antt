@@ -4,10 +4,10 @@ use Rattle.cedar_conformance.proofs.premises.check_stored.Goals as goal
 
 pub returns-in-Ok : goal.returns-in-Ok
 returns-in-Ok c =
-    let yes = met _ _ c.in-Ok.is c.in_ok-check_entities.ensures in
+    let yes = met _ _ c.in-Ok.is c.in_ok-check_entities.ensures.exact in
     record { exact = (λ ok. yes, λ s. refl); first = tt }
 
 pub returns-in-Err : goal.returns-in-Err
 returns-in-Err c =
-    let unfit = unmet _ _ c.in-Err.is c.in_ok-check_entities.ensures in
+    let unfit = unmet _ _ c.in-Err.is c.in_ok-check_entities.ensures.exact in
     record { exact = refused unfit; first = λ request r. (r, unfit) }

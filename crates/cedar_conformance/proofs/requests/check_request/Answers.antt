@@ -8,5 +8,5 @@ use Rattle.cedar_conformance.proofs.requests.check_request.Goals as goal
 
 pub returns : goal.returns
 returns c =
-    decided _ _ (c.answer.ensures ∙ c.in_ok-found.ensures)
+    decided _ _ (c.answer.ensures.ok ∙ c.in_ok-found.ensures)
     (request_decides (schema_of c.args.schema.now) (request_of c.args.request.now) (apart c.args.schema.now))

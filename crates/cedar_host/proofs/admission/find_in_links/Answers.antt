@@ -8,9 +8,9 @@ use Rattle.cedar_host.proofs.admission.find_in_links.Goals as goal
 pub returns-in-Ok : goal.returns-in-Ok
 returns-in-Ok c =
     let p = c.args.policy.now in
-    sym ((policy_decides (template_in p) (slots_in p)).1 (met _ _ c.in-Ok.is c.in_ok-check_policy.ensures))
+    sym ((policy_decides (template_in p) (slots_in p)).1 (met _ _ c.in-Ok.is c.in_ok-check_policy.ensures.exact))
 
 pub returns-in_ok-id-in-Err : goal.returns-in_ok-id-in-Err
 returns-in_ok-id-in-Err c =
     let p = c.args.policy.now in
-    fails _ (λ e. unmet _ _ c.in-Err.is c.in_ok-check_policy.ensures ((policy_decides (template_in p) (slots_in p)).0 e))
+    fails _ (λ e. unmet _ _ c.in-Err.is c.in_ok-check_policy.ensures.exact ((policy_decides (template_in p) (slots_in p)).0 e))

@@ -12,7 +12,7 @@ use Rattle.cedar_types.specs.Names.{Text, text_of, text_eq, text_cmp}
 use Rattle.cedar_types.proofs.Schema.Listings.{inserted}
 use Rattle.cedar_types.proofs.Schema.Places.{next_mapped}
 use Rattle.cedar_host.specs.Repeats.{AreRepeats, id_in}
-use Rattle.cedar_host.proofs.Repeats.{one_of, none_of, other_id, same_id}
+use Rattle.cedar_host.proofs.Repeats.{one_of, none_of, no_repeats, other_id, same_id}
 use Rattle.cedar_host.proofs.policy_sets.repeated_ids.Goals as goal
 use Rattle.cedar_host.proofs.policy_sets.repeated_ids.Goals.{then-not-branch+in_ok-clone-2+in_ok-push, else-not-branch}
 
@@ -36,6 +36,14 @@ contained : (put : RcStr Global) (ks : List (RcStr Global))
     → list_any (λ k. is_eq (text_cmp (text_of put) (text_of k))) ks ≡ list_any (text_eq (text_of put)) (map text_of ks)
 contained put [] = refl
 contained put (k ∷ ks) = λ i. (sym (texts_ties (text_of put) (text_of k))) i || contained put ks i
+
+pub loop-policy-init : goal.loop-policy-init
+loop-policy-init c =
+    let none : map (λ (i : PolicyID). text_of i.text) c.new-repeated.result.items ≡ [] = ap (map (λ (i : PolicyID). text_of i.text)) c.new-repeated.ensures.items in
+    record {
+      seen = λ t. ap (λ (ks : List (RcStr Global)). list_any (text_eq t) (map text_of ks)) c.new-seen.ensures.empty;
+      repeats = subst (λ (ts : List Text). AreRepeats [] ts) (sym none) no_repeats;
+    }
 
 pub loop-policy-preserved : goal.loop-policy-preserved
 loop-policy-preserved c =

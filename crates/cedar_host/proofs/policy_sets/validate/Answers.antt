@@ -60,3 +60,12 @@ returns-clause-level g c =
     let survey = subst P c.from.ensures c.in_ok-survey.ensures.exact in
     let b = sound_basis c.args.mode meaning validator in
     subst (IsRequiredLevel b t) (sym c.in_ok-findings.ensures.level) survey.required
+
+pub returns-clause-exact : goal.returns-clause-exact
+returns-clause-exact g c =
+    let meaning = g.C.ArgumentCheck.refusal in
+    let validator = c.args.validator.now in
+    let t = template_of c.args.policy.now in
+    let s = c.in_ok-survey.survey in
+    let P : ValidationMode → Type 0 = λ m. IsSurveyOf (basis_by meaning validator m) t s in
+    (s, subst P c.from.ensures c.in_ok-survey.ensures.exact, c.in_ok-findings.ensures.exact)

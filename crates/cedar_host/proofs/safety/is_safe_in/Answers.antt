@@ -1,18 +1,19 @@
-use Rattle.std.proofs.Common.{refl, ap, subst}
+use Rattle.std.proofs.Common.{refl, sym, ap, subst}
 use Rattle.cedar_types.specs.declared.base.types.ValidationMode.{ValidationMode}
 use Rattle.cedar_types.specs.Environments.RequestEnvs.{env_of}
 use Rattle.cedar_types.specs.Templates.{template_of, condition_of}
 use Rattle.cedar_typing.specs.Views.Checks.{verdict_of}
-use Rattle.cedar_typing.specs.PolicyCheck.{Verdict}
+use Rattle.cedar_typing.specs.declared.typecheck.typechecker.PolicyCheck.{PolicyCheck}
+use Rattle.cedar_typing.specs.PolicyCheck.{Verdict, PolicyChecks}
 use Rattle.cedar_typing.specs.Soundness.Policies.{Basis, setting_on}
 use Rattle.cedar_typing.specs.Soundness.PolicyCheck.{IsSoundPolicyCheckIn}
 use Rattle.cedar_typing.specs.TypedExpr.{typed_tree}
-use Rattle.cedar_host.specs.Safety.{sound_basis}
+use Rattle.cedar_host.specs.Safety.{sound_basis, is_success}
 use Rattle.cedar_host.proofs.Promises.{success_is_safe}
 use Rattle.cedar_host.proofs.safety.is_safe_in.Goals as goal
 
-pub returns-in-Success : goal.returns-in-Success
-returns-in-Success g c h =
+pub returns-in-Success-clause-safe : goal.returns-in-Success-clause-safe
+returns-in-Success-clause-safe g c h =
     let mode = c.args.mode in
     let t = template_of c.args.policy.now in
     let env = env_of c.args.env.now in
@@ -30,3 +31,36 @@ returns-in-Success g c h =
     success_is_safe mode b t refl env e
     (subst (SoundIn ValidationMode.Strict b) success sound)
     (subst (SoundIn ValidationMode.Permissive b) success sound_in_permissive)
+
+pub returns-in-Success-clause-exact : goal.returns-in-Success-clause-exact
+returns-in-Success-clause-exact g c =
+    let t = template_of c.args.policy.now in
+    let env = env_of c.args.env.now in
+    let check = c.in_ok-check.check in
+    let Checks : Basis → Type 0 = λ b. PolicyChecks (setting_on b t.id env) (condition_of t) (verdict_of check) in (
+      verdict_of check,
+      subst Checks c.typechecker_in-typechecker.ensures c.in_ok-check.ensures.exact,
+      sym (ap (λ (k : PolicyCheck). is_success (verdict_of k)) c.in-Success.is),
+    )
+
+pub returns-in-Irrelevant-clause-exact : goal.returns-in-Irrelevant-clause-exact
+returns-in-Irrelevant-clause-exact g c =
+    let t = template_of c.args.policy.now in
+    let env = env_of c.args.env.now in
+    let check = c.in_ok-check.check in
+    let Checks : Basis → Type 0 = λ b. PolicyChecks (setting_on b t.id env) (condition_of t) (verdict_of check) in (
+      verdict_of check,
+      subst Checks c.typechecker_in-typechecker.ensures c.in_ok-check.ensures.exact,
+      sym (ap (λ (k : PolicyCheck). is_success (verdict_of k)) c.in-Irrelevant.is),
+    )
+
+pub returns-in-Fail-clause-exact : goal.returns-in-Fail-clause-exact
+returns-in-Fail-clause-exact g c =
+    let t = template_of c.args.policy.now in
+    let env = env_of c.args.env.now in
+    let check = c.in_ok-check.check in
+    let Checks : Basis → Type 0 = λ b. PolicyChecks (setting_on b t.id env) (condition_of t) (verdict_of check) in (
+      verdict_of check,
+      subst Checks c.typechecker_in-typechecker.ensures c.in_ok-check.ensures.exact,
+      sym (ap (λ (k : PolicyCheck). is_success (verdict_of k)) c.in-Fail.is),
+    )

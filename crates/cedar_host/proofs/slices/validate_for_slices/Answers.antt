@@ -4,9 +4,10 @@ use Rattle.cedar_types.specs.Templates.{template_of}
 use Rattle.cedar_typechecker.specs.Levels.Required.{IsRequiredLevel}
 use Rattle.cedar_host.specs.declared.policy_sets.WrittenPolicy.{WrittenPolicy}
 use Rattle.cedar_host.specs.declared.slices.SliceReport.{SliceReport}
+use Rattle.cedar_host.specs.Found.{AreFindingsWithin, IsReportOf}
 use Rattle.cedar_host.specs.Safety.{sound_basis}
 use Rattle.cedar_host.specs.Slices.{NeedsSliceAlone, IsRightForSlices}
-use Rattle.cedar_host.proofs.Reported.{one_more_each, one_more_right, right_report}
+use Rattle.cedar_host.proofs.Reported.{one_more_each, one_more_right, report_of, right_report}
 use Rattle.cedar_host.proofs.SameResponses.{accepted_respond_alike}
 use Rattle.cedar_host.proofs.slices.validate_for_slices.Goals as goal
 
@@ -29,6 +30,10 @@ loop-policy-preserved g c =
           subst (λ t. NeedsSliceAlone b t n) (sym same) (found.sliced (sym report.accepted ∙ h));
       level = subst (λ t. IsRequiredLevel b t required) (sym same) found.level;
     } in
+    let exact_now =
+    report_of (AreFindingsWithin n b) own.report _ c.in_ok-found.found same found.exact report.accepted report.impossible
+    report.refused in
+    let IsOf : SliceReport → Type 0 = λ r. IsReportOf (AreFindingsWithin n b) r.report in
     let old = c.loop-policy.reports.items in
     let pushed = c.in_ok-push.ensures.items in
     let inv = c.loop-policy.invariant in
@@ -37,6 +42,7 @@ loop-policy-preserved g c =
           one_more_each about c.args.policies.now c.loop-policy.policy-index c.policy-item.result old _
           own pushed inv.each of_policy c.loop-policy-test.true c.policy-item.is;
       right = one_more_right (IsRightForSlices b n) old _ own pushed inv.right right_now;
+      exact = one_more_right IsOf old _ own pushed inv.exact exact_now;
     }
 
 pub returns-clause-responses : goal.returns-clause-responses

@@ -2,6 +2,8 @@ use Rattle.std.proofs.Common.{◌≡◌, ◌∙◌, ◌≤◌, [], sym, refl, ap
 use Rattle.cedar_types.specs.declared.base.types.ValidationMode.{ValidationMode}
 use Rattle.cedar_types.specs.Lemmas.Comparisons.{and_left, and_right}
 use Rattle.cedar_types.specs.Templates.{template_of}
+use Rattle.cedar_typing.specs.PolicyCheck.Outcome.{is_silent}
+use Rattle.cedar_typing.proofs.Policies.Tallies.{in_other_order}
 use Rattle.cedar_typechecker.specs.Levels.Required.{IsRequiredLevel}
 use Rattle.cedar_typechecker.specs.Levels.Views.{findings}
 use Rattle.cedar_typechecker.specs.Slices.Surveys.{SurveyIsKeptIn}
@@ -9,7 +11,9 @@ use Rattle.cedar_typechecker.specs.Surveys.{IsSurveyOf, level_errors_of}
 use Rattle.cedar_typechecker.specs.ValidatorViews.{basis_in as basis_by}
 use Rattle.cedar_typechecker.proofs.Levels.DemandParts.{nil_by_members}
 use Rattle.cedar_typechecker.proofs.Slices.Surveys.{checked}
+use Rattle.cedar_host.specs.Found.{listed}
 use Rattle.cedar_host.specs.Safety.{sound_basis}
+use Rattle.cedar_host.proofs.Found.{gained_before, levels_silent}
 use Rattle.cedar_host.proofs.Promises.{no_member, passes_everywhere, passing_is_safe, impossible_is_never_true, passing_needs_slice_alone}
 use Rattle.cedar_host.proofs.slices.validate_within.Goals as goal
 
@@ -86,3 +90,28 @@ returns-clause-level g c =
     let survey = subst P c.from.ensures c.in_ok-survey.ensures.exact in
     let b = sound_basis c.args.mode meaning validator in
     subst (IsRequiredLevel b t) (sym c.in_ok-findings.ensures.level) survey.required
+
+pub returns-clause-exact : goal.returns-clause-exact
+returns-clause-exact g c =
+    let meaning = g.C.ArgumentCheck.refusal in
+    let validator = c.args.validator.now in
+    let t = template_of c.args.policy.now in
+    let s = c.in_ok-survey.survey in
+    let P : ValidationMode → Type 0 = λ m. IsSurveyOf (basis_by meaning validator m) t s in
+    let levels = level_errors_of s c.args.steps in
+    let exceeding = c.in_ok-exceeding.exceeding.keys in
+    let found = c.in_ok-findings.findings in
+    let exact = c.in_ok-findings.ensures.exact in
+    let within = levels_silent levels exceeding c.is_empty-is_within.result c.in_ok-exceeding.ensures c.is_empty-is_within.ensures in (
+      s,
+      subst P c.from.ensures c.in_ok-survey.ensures.exact,
+      record {
+        accepted = in_other_order found.is_accepted c.is_empty-is_within.result _ (is_silent levels) exact.accepted within;
+        impossible = exact.impossible;
+        applicable = exact.applicable;
+        errors =
+            gained_before (listed found.errors) (findings exceeding) (listed c.add_exceeding.new.errors) _ levels
+            c.in_ok-add_exceeding.ensures exact.errors c.in_ok-exceeding.ensures;
+        warnings = exact.warnings;
+      },
+    )

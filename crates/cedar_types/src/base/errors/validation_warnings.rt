@@ -68,13 +68,6 @@ impl ValidationWarning {
         })
     }
 
-    /// Whether two warnings are one: the same at the same place of the same policy. It is what `==` says.
-    pub fn is_same_warning(&self, other: &ValidationWarning) -> bool
-        ensures { IsTrue result ↔ (warning_of self.now ≡ warning_of other.now) }
-    {
-        self == other
-    }
-
     /// The place that the warning is about.
     pub fn source_loc(&self) -> Option<Loc>
         ensures { result ≡ (warning_of self.now).place }

@@ -1,4 +1,4 @@
-use Rattle.std.proofs.Common.{◌∙◌, ap, sym, true, false, not}
+use Rattle.std.proofs.Common.{◌∙◌, ap, sym, not}
 use Rattle.cedar_types.specs.Names.{uid_of}
 use Rattle.cedar_types.specs.Values.Stores.{entity_at}
 use Rattle.cedar_types.proofs.Names.Ids.{uids_cmp}

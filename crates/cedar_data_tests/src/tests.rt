@@ -1,7 +1,0 @@
-// Each subject has a module.
-mod entities;
-mod entries;
-mod forms;
-mod parents;
-mod requests;
-mod shown;

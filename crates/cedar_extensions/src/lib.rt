@@ -1,0 +1,9 @@
+//! The extension functions of Cedar, and which texts they read.
+#![tactic(auto)]
+
+pub mod checks;
+pub mod functions;
+pub mod methods;
+pub mod texts;
+pub mod types;
+pub mod unread_texts;

@@ -1,0 +1,148 @@
+// The texts of points in time.
+ghost use Rattle.std.specs.Prelude.{◌≡◌};
+ghost use Rattle.cedar_extensions.specs.Texts.Readers.{left_in};
+ghost use Rattle.cedar_extensions.specs.Texts.Times as Time;
+
+use super::readers::{is_all, read_byte, read_two_digits};
+
+fn is_leap_year(year: u64) -> bool
+    ensures { result ≡ Time.is_leap_year year }
+{
+    year % 4 == 0 && (year % 100 != 0 || year % 400 == 0)
+}
+
+/// How many days a month has; none where there is no such month.
+fn days_of(year: u64, month: u64) -> u64
+    ensures { result ≡ Time.days_of year month }
+{
+    if month == 2 {
+        if is_leap_year(year) { 29 } else { 28 }
+    } else if month == 4 || month == 6 || month == 9 || month == 11 {
+        30
+    } else if 1 <= month && month <= 12 {
+        31
+    } else {
+        0
+    }
+}
+
+/// What follows `YYYY-MM-DD`, of a day that there is.
+#[tactic(auto, unfolding(crate::specs::Texts::Times::read_date))]
+fn read_date(s: &[u8]) -> Option<&[u8]>
+    ensures { left_in result ≡ Time.read_date s.now }
+{
+    let (century, s) = read_two_digits(s)?;
+    let (year, s) = read_two_digits(s)?;
+    let (month, s) = read_two_digits(read_byte(s, b'-')?)?;
+    let (day, s) = read_two_digits(read_byte(s, b'-')?)?;
+    if 1 <= day && day <= days_of(100 * century + year, month) {
+        Some(s)
+    } else {
+        None
+    }
+}
+
+/// What follows `hh:mm:ss`, of a day.
+#[tactic(auto, unfolding(crate::specs::Texts::Times::read_clock))]
+fn read_clock(s: &[u8]) -> Option<&[u8]>
+    ensures { left_in result ≡ Time.read_clock s.now }
+{
+    let (hour, s) = read_two_digits(s)?;
+    let (minute, s) = read_two_digits(read_byte(s, b':')?)?;
+    let (second, s) = read_two_digits(read_byte(s, b':')?)?;
+    if hour < 24 && minute < 60 && second < 60 {
+        Some(s)
+    } else {
+        None
+    }
+}
+
+/// What follows three digits.
+fn read_three_digits(s: &[u8]) -> Option<&[u8]>
+    ensures { left_in result ≡ Time.read_three_digits s.now }
+{
+    match s {
+        [first, others @ ..] if first.is_ascii_digit() => {
+            let (_number, rest) = read_two_digits(others)?;
+            Some(rest)
+        }
+        _ => None,
+    }
+}
+
+/// What follows `.SSS`.
+fn read_fraction(s: &[u8]) -> Option<&[u8]>
+    ensures { left_in result ≡ Time.read_fraction s.now }
+{
+    read_three_digits(read_byte(s, b'.')?)
+}
+
+/// What follows `.SSS`, or the whole without it.
+fn skip_fraction(s: &[u8]) -> &[u8]
+    ensures { result.now ≡ Time.skip_fraction s.now }
+{
+    match read_fraction(s) {
+        Some(rest) => rest,
+        None => s,
+    }
+}
+
+/// What follows `hhmm`, of less than a day.
+#[tactic(auto, unfolding(crate::specs::Texts::Times::read_offset))]
+fn read_offset(s: &[u8]) -> Option<&[u8]>
+    ensures { left_in result ≡ Time.read_offset s.now }
+{
+    let (hour, s) = read_two_digits(s)?;
+    let (minute, s) = read_two_digits(s)?;
+    if hour < 24 && minute < 60 {
+        Some(s)
+    } else {
+        None
+    }
+}
+
+/// `Z`, `+hhmm` or `-hhmm`.
+fn is_zone(s: &[u8]) -> bool
+    ensures { result ≡ Time.is_zone s.now }
+{
+    match s {
+        [] => false,
+        [first, rest @ ..] => {
+            if *first == b'Z' {
+                rest.is_empty()
+            } else {
+                (*first == b'+' || *first == b'-') && is_all(read_offset(rest))
+            }
+        }
+    }
+}
+
+/// Nothing, or `T` and a time of the day, perhaps with milliseconds, and its zone.
+fn is_time(s: &[u8]) -> bool
+    ensures { result ≡ Time.is_time s.now }
+{
+    match s {
+        [] => true,
+        [first, time @ ..] => *first == b'T' && is_clock_with_zone(time),
+    }
+}
+
+/// A time of the day, perhaps with milliseconds, and its zone.
+fn is_clock_with_zone(s: &[u8]) -> bool
+    ensures { result ≡ Time.is_clock_with_zone s.now }
+{
+    match read_clock(s) {
+        Some(rest) => is_zone(skip_fraction(rest)),
+        None => false,
+    }
+}
+
+/// A date, or a date and a time of the day with its zone.
+pub fn is_point_in_time(s: &[u8]) -> bool
+    ensures { result ≡ Time.is_point_in_time s.now }
+{
+    match read_date(s) {
+        Some(rest) => is_time(rest),
+        None => false,
+    }
+}

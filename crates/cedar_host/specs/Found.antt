@@ -1,0 +1,58 @@
+-- What is found in a policy: exactly what its survey, the passes over its names and its levels find.
+use Rattle.std.specs.Prelude.{◌≡◌, ◌↔◌, ℕ, Bool, true, false, ◌&&◌, List, [], ◌∷◌, ◌++◌, map, cond}
+use Rattle.std.specs.BTreeMap.{BTreeMap, keys}
+use Rattle.cedar_types.specs.declared.base.errors.validation_errors.ValidationError.{ValidationError}
+use Rattle.cedar_types.specs.declared.base.types.ValidationMode.TheVariants.{Strict}
+use Rattle.cedar_types.specs.Errors.{Finding, warning_of}
+use Rattle.cedar_types.specs.Schemas.{Schema}
+use Rattle.cedar_types.specs.Templates.{PlainTemplate, template_of}
+use Rattle.cedar_typing.specs.Evaluation.Conformance.{IsOneOf}
+use Rattle.cedar_typing.specs.PolicyCheck.Outcome.{is_silent, impossible as warning_that_impossible}
+use Rattle.cedar_typing.specs.Soundness.Policies.{Basis}
+use Rattle.cedar_typechecker.specs.declared.survey.environments.Environments.{Environments}
+use Rattle.cedar_typechecker.specs.declared.survey.Survey.{Survey}
+use Rattle.cedar_typechecker.specs.Levels.Outcome.{name_findings, application_warnings}
+use Rattle.cedar_typechecker.specs.Levels.Views.{findings}
+use Rattle.cedar_typechecker.specs.Surveys.{IsSurveyOf, passes_of, impossible_of, applicable_of, errors_of, level_errors_of}
+use Rattle.cedar_host.specs.declared.policy_sets.Findings.{Findings}
+use Rattle.cedar_host.specs.declared.reports.PolicyReport.{PolicyReport}
+
+-- the errors that are found, with environments
+abbrev pub listed : BTreeMap ValidationError Environments → List Finding
+listed errors = findings (keys errors)
+
+-- what is found by a survey, by the passes over names, which find the same in Strict and in Permissive, and by levels, which
+-- have these errors
+pub record AreFoundBy (s : Schema) (t : PlainTemplate) (survey : Survey) (levels : List Finding) (f : Findings) : Type 0 where
+  -- the policy is accepted where no level and no name has an error, and each check passes
+  pub accepted : f.is_accepted ≡ (is_silent levels && (is_silent (name_findings Strict s t) && passes_of survey))
+  pub impossible : f.is_impossible ≡ impossible_of survey
+  pub applicable : f.applicable_environments ≡ applicable_of survey
+  -- each error of the levels, of the checks and of the names is listed, and no other
+  pub errors : (e : Finding)
+      → IsOneOf e (listed f.errors) ↔ IsOneOf e (levels ++ (errors_of survey ++ name_findings Strict s t))
+  pub warnings : map warning_of f.warnings.items
+      ≡ application_warnings Strict s t ++ cond (impossible_of survey) (warning_that_impossible t ∷ []) []
+
+-- what is found in a policy, without levels
+abbrev pub AreFindingsOn : Basis → PlainTemplate → Findings → Type 0
+AreFindingsOn b t f = (survey : Survey) × IsSurveyOf b t survey × AreFoundBy b.schema t survey [] f
+
+-- and for slices of n steps
+abbrev pub AreFindingsWithin : ℕ → Basis → PlainTemplate → Findings → Type 0
+AreFindingsWithin n b t f =
+    (survey : Survey) × IsSurveyOf b t survey × AreFoundBy b.schema t survey (level_errors_of survey n) f
+
+-- ---- in a report
+
+-- where the policy is refused, there is an error
+abbrev pub ListsAnError : PolicyReport → Type 0
+ListsAnError r = r.is_accepted ≡ false → r.errors.items ≡ [] → ⊥
+
+-- it says of its policy what is found in it, and where it refuses the policy it lists an error
+pub record IsReportOf (AreFindings : PlainTemplate → Findings → Type 0) (r : PolicyReport) : Type 0 where
+  pub outcome : Findings
+  pub found : AreFindings (template_of r.policy.now.template) outcome
+  pub accepted : r.is_accepted ≡ outcome.is_accepted
+  pub impossible : r.is_impossible ≡ outcome.is_impossible
+  pub refused : ListsAnError r

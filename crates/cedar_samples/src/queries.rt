@@ -1,0 +1,166 @@
+// A compiler of policies to queries: for each environment of a schema, the table of its resources, and the query of the resources
+// that a set of policies allows.
+use crate::texts::*;
+use cedar_types::base::{Effect, EntityType, OneLine, ValidatorSchema};
+use cedar_types::types::request_env::RequestEnv;
+use cedar_typing::typecheck::PolicyCheck;
+use cedar_where::{AncestorTable, Refusal, SqlExpr, Table, joined, where_clause};
+use std::fs;
+
+/// Prints, for each environment of the schema of a file, the query of the resources that the policies of another file allow, and
+/// before that the tables that it is over. A set with two policies of one id, or with one that validation does not accept, has no
+/// query; nor is there one in an environment where some policy has no clause.
+pub fn run(rt: &HostRuntime, files: Files<'_>) -> Result<(), HostError> {
+    let alloc = rt.alloc();
+    let schema = schema(alloc, &fs::read_to_string(rt, files.schema)?)?;
+    let extensions = ExtensionSchemas::default(alloc);
+    let validator = Validator::new(schema, &extensions);
+    let policies = written_policies(alloc, &fs::read_to_string(rt, files.policies)?)?;
+    for id in repeated_ids(alloc, &policies)? {
+        return Err(HostError::RepeatedId(id));
+    }
+    if are_accepted(rt, &validator, &policies)? {
+        println!(rt; "{AncestorTable};")?;
+        print_queries(rt, &validator, &policies)?;
+    }
+    Ok(())
+}
+
+/// Whether each policy is accepted in Strict. What speaks against one is printed.
+fn are_accepted<C: ArgumentCheck>(
+    rt: &HostRuntime,
+    validator: &Validator<'_, C>,
+    policies: &[WrittenPolicy],
+) -> Result<bool, HostError> {
+    let mut all = true;
+    for report in &validate_set(rt.alloc(), validator, SoundMode::Strict, policies)? {
+        if !report.is_accepted {
+            all = false;
+            let id = &report.policy.template.id.text;
+            println!(rt; "-- not accepted: {}", OneLine(id))?;
+            for error in &report.errors {
+                println!(rt; "--   {error}")?;
+            }
+        }
+    }
+    Ok(all)
+}
+
+/// The table and the query of each environment.
+fn print_queries<C: ArgumentCheck>(
+    rt: &HostRuntime,
+    validator: &Validator<'_, C>,
+    policies: &[WrittenPolicy],
+) -> Result<(), HostError> {
+    let schema = validator.schema();
+    let checker = Typechecker::new(schema, validator.extensions(), ValidationMode::Strict);
+    for env in schema.unlinked_request_envs(ValidationMode::Strict) {
+        if let RequestEnv::DeclaredAction {
+            principal,
+            action,
+            resource,
+            ..
+        } = &env
+        {
+            println!(rt; "\n-- {principal}, {action}, {resource}")?;
+            print_query(rt, schema, &checker, policies, &env, resource)?;
+        }
+    }
+    Ok(())
+}
+
+/// What the policies of a set have in an environment: a clause of each that may apply there, or why some have none.
+#[derive(Drop)]
+struct Clauses {
+    permits: Vec<SqlExpr>,
+    forbids: Vec<SqlExpr>,
+    has_refusal: bool,
+}
+
+/// The table of an environment's resources, and the query of the resources that the policies allow.
+fn print_query<C: ArgumentCheck>(
+    rt: &HostRuntime,
+    schema: &ValidatorSchema,
+    checker: &Typechecker<'_, C>,
+    policies: &[WrittenPolicy],
+    env: &RequestEnv<'_>,
+    resource: &EntityType,
+) -> Result<(), HostError> {
+    let alloc = rt.alloc();
+    let table = match Table::of_type(alloc, schema, resource)? {
+        Ok(table) => table,
+        Err(fault) => {
+            println!(rt; "-- no table: {fault}")?;
+            return Ok(());
+        }
+    };
+    let mut clauses = Clauses {
+        permits: Vec::new(alloc),
+        forbids: Vec::new(alloc),
+        has_refusal: false,
+    };
+    for policy in policies {
+        match checker.typecheck_by_single_request_env(alloc, &policy.template, env)? {
+            PolicyCheck::Success(typed) => {
+                add_clause(
+                    rt,
+                    &mut clauses,
+                    policy,
+                    where_clause(alloc, schema, env, &typed)?,
+                )?;
+            }
+            // it is never true here
+            PolicyCheck::Irrelevant(_errors, _typed) => {}
+            // no policy that is accepted fails
+            PolicyCheck::Fail(_errors) => clauses.has_refusal = true,
+        }
+    }
+    println!(rt; "{table};")?;
+    let Clauses {
+        permits,
+        forbids,
+        has_refusal,
+    } = clauses;
+    if has_refusal {
+        println!(rt; "-- no query")?;
+        return Ok(());
+    }
+    let query = joined(alloc, permits, forbids)?;
+    println!(rt; "{};", table.query(&query))?;
+    Ok(())
+}
+
+/// Adds the clause of a policy, or prints why it has none.
+fn add_clause(
+    rt: &HostRuntime,
+    clauses: &mut Clauses,
+    policy: &WrittenPolicy,
+    clause: Result<SqlExpr, Refusal>,
+) -> Result<(), HostError> {
+    match clause {
+        Ok(clause) => match policy.effect {
+            Effect::Permit => clauses.permits.push(clause)?,
+            Effect::Forbid => clauses.forbids.push(clause)?,
+        },
+        Err(refusal) => {
+            clauses.has_refusal = true;
+            let id = &policy.template.id.text;
+            let part = part_of(&policy.text, &refusal);
+            let reason = refusal.reason;
+            println!(rt;
+                "-- no clause of {}: {reason}: {}",
+                OneLine(id),
+                OneLine(part)
+            )?;
+        }
+    }
+    Ok(())
+}
+
+/// The part of a policy that has no clause.
+fn part_of<'a>(text: &'a str, refusal: &Refusal) -> &'a str {
+    match refusal.loc {
+        Some(loc) => text.get(loc.start..loc.end).unwrap_or(""),
+        None => "",
+    }
+}

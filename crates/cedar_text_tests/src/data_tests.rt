@@ -1,0 +1,7 @@
+// Which mistakes texts of entities and of requests have, and where. Each subject has a module.
+mod entities;
+mod entries;
+mod forms;
+mod parents;
+mod requests;
+mod shown;

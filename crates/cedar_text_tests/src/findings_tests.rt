@@ -1,0 +1,19 @@
+// What the arguments of the program mean, which texts have which faults, and how findings are shown. Each subject has a module.
+mod arguments;
+mod cases;
+mod effects;
+mod escapes;
+mod excerpts;
+mod faults;
+mod json_faults;
+mod marks;
+mod memberships;
+mod names;
+mod objects;
+mod places;
+mod reports;
+mod schema_faults;
+mod schema_texts;
+mod similar;
+mod sources;
+mod syntaxes;

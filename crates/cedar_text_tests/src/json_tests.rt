@@ -1,0 +1,11 @@
+// Which tree a text of JSON gives, or which fault and where. Each subject has a module.
+mod cases;
+mod policies;
+mod policy_faults;
+mod policy_trees;
+mod reader;
+mod reading;
+mod schema_faults;
+mod schemas;
+mod shown;
+mod trees;

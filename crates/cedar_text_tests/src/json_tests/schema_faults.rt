@@ -1,0 +1,137 @@
+// Schemas of JSON with a fault: which it is, and where.
+use crate::frames::Frame;
+use crate::json_tests::cases::check_faults;
+use crate::json_tests::schemas::show_schema;
+use std::alloc::Global;
+use std::process::Abort;
+use std::test::Fail;
+
+/// Schemas with a fault at the mark, and which.
+const WHOLE: [(&str, &str); 13] = [
+    ("§[]", r#"Expected("an object")"#),
+    (r#"{"N": §1}"#, r#"Expected("an object")"#),
+    (r#"{"N": §{"actions": {}}}"#, r#"Missing("entityTypes")"#),
+    (r#"{"N": §{"entityTypes": {}}}"#, r#"Missing("actions")"#),
+    (r#"{§"N M": {"entityTypes": {}, "actions": {}}}"#, "Name"),
+    (
+        r#"{"N": {"entityTypes": {§"A::B": {}}, "actions": {}}}"#,
+        "Name",
+    ),
+    (
+        r#"{"N": {"entityTypes": {§"A; entity B": {}}, "actions": {}}}"#,
+        "Name",
+    ),
+    (
+        r#"{"N": {"entityTypes": {§"1A": {}}, "actions": {}}}"#,
+        "Name",
+    ),
+    (
+        r#"{"N": {"commonTypes": {"A": {"type": "Long"}}, "entityTypes": {"A": {"tags": {"type": "Entity", "name": §"A"}}}, "actions": {}}}"#,
+        "Hidden",
+    ),
+    (
+        r#"{"N": {"commonTypes": {"R": {"type": "R"}}, "entityTypes": {"A": {"shape": §{"type": "R"}}}, "actions": {}}}"#,
+        "Circular",
+    ),
+    (
+        r#"{"N": {"annotations": {"a": §1}, "entityTypes": {}, "actions": {}}}"#,
+        r#"Expected("a text")"#,
+    ),
+    (
+        r#"{"N": {"entityTypes": {}, "actions": {}}, §"N": {}}"#,
+        "Json(SameKey)",
+    ),
+    (
+        r#"{"N": {"entityTypes": {}, "actions": §null}}"#,
+        "Json(Null)",
+    ),
+];
+
+#[test]
+fn in_schemas(rt: HostRuntime) -> Result<(), Fail> {
+    check_faults(&rt, rt.alloc(), show_schema, ("", ""), &WHOLE)
+}
+
+/// What stands before and behind an entity type `A` of the namespace `N`.
+const ENTITY_TYPE: Frame<'static> = (r#"{"N": {"entityTypes": {"A": "#, r#"}, "actions": {}}}"#);
+
+/// What entity types have.
+const ENTITY_TYPES: [(&str, &str); 5] = [
+    (r#"{§"parents": []}"#, "UnknownKey"),
+    (r#"{"enum": [], §"tags": {"type": "Long"}}"#, "UnknownKey"),
+    (r#"{"memberOfTypes": §"B"}"#, r#"Expected("a list")"#),
+    (r#"{"memberOfTypes": [§"B :: C"]}"#, "Name"),
+    (r#"{"enum": [§1]}"#, r#"Expected("a text")"#),
+];
+
+#[test]
+fn in_entity_types(rt: HostRuntime) -> Result<(), Fail> {
+    check_faults(&rt, rt.alloc(), show_schema, ENTITY_TYPE, &ENTITY_TYPES)
+}
+
+/// Types, here those of the tags of an entity type.
+const TYPES: [(&str, &str); 6] = [
+    (r#"{"type": §"Lnog"}"#, "Undeclared"),
+    (r#"{"type": "Entity", "name": §"B"}"#, "Undeclared"),
+    (r#"{"type": "Entity", "name": §"Long"}"#, "Undeclared"),
+    (r#"§{"name": "A"}"#, r#"Missing("type")"#),
+    (r#"§{"type": "Set"}"#, r#"Missing("element")"#),
+    (
+        r#"{"type": "Long", §"element": {"type": "Long"}}"#,
+        "UnknownKey",
+    ),
+];
+
+#[test]
+fn in_types(rt: HostRuntime) -> Result<(), Fail> {
+    check_member(&rt, rt.alloc(), "tags", &TYPES)
+}
+
+/// Types that have to be records.
+const SHAPES: [(&str, &str); 3] = [
+    (r#"{"type": §"Long"}"#, r#"Expected("a record")"#),
+    (
+        r#"{"type": "Record", "attributes": {}, "additionalAttributes": §true}"#,
+        "OpenRecord",
+    ),
+    (
+        r#"{"type": "Record", "attributes": {"a": {"type": "Long", "required": §1}}}"#,
+        r#"Expected("`true` or `false`")"#,
+    ),
+];
+
+#[test]
+fn in_shapes(rt: HostRuntime) -> Result<(), Fail> {
+    check_member(&rt, rt.alloc(), "shape", &SHAPES)
+}
+
+/// Each text is a member of this name of an entity type, and has this fault at the mark in it.
+fn check_member(
+    rt: &impl Abort,
+    alloc: Global,
+    name: &str,
+    cases: &[(&str, &str)],
+) -> Result<(), Fail> {
+    let (before, behind) = ENTITY_TYPE;
+    let before = format!(in alloc; "{before}{{\"{name}\": ")?;
+    let behind = format!(in alloc; "}}{behind}")?;
+    let frame = (before.as_str(), behind.as_str());
+    check_faults(rt, alloc, show_schema, frame, cases)
+}
+
+/// What actions have.
+const ACTIONS: [(&str, &str); 4] = [
+    (r#"{"attributes": §{"b": 1}}"#, "ActionAttributes"),
+    (r#"{"memberOf": [§{}]}"#, r#"Missing("id")"#),
+    (r#"{"memberOf": [{"id": "b", "type": §"A\""}]}"#, "Name"),
+    (
+        r#"{"appliesTo": §{"principalTypes": []}}"#,
+        r#"Missing("resourceTypes")"#,
+    ),
+];
+
+#[test]
+fn in_actions(rt: HostRuntime) -> Result<(), Fail> {
+    let before = r#"{"N": {"entityTypes": {}, "actions": {"a": "#;
+    check_faults(&rt, rt.alloc(), show_schema, (before, "}}}"), &ACTIONS)
+}

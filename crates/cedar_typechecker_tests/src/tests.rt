@@ -1,7 +1,0 @@
-// Each subject has a module.
-mod levels;
-mod names;
-mod policies;
-mod satisfying_types;
-mod schemas;
-mod surveys;

@@ -1,9 +1,0 @@
-// Each subject has a module.
-mod answers;
-mod checks;
-mod deep_policies;
-mod expressions;
-mod follow_ups;
-mod nesting;
-mod parts;
-mod sequences;

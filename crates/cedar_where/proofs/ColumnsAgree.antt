@@ -1,0 +1,100 @@
+-- The column of an attribute has what the resource has.
+use Rattle.std.proofs.Common.{◌≡◌, Bool, true, false, ◌||◌, not, List, [], ◌∷◌, Option, Some, None, is_some, if◌then◌else◌, refl, sym, ap, subst, ◌∙◌}
+use Rattle.std.specs.Prelude.{IsTrue}
+use Rattle.cedar_types.specs.Lemmas.Comparisons.{path_same}
+use Rattle.cedar_types.specs.Names.{Text, Path, path_eq}
+use Rattle.cedar_types.specs.Schemas.{DeclaredType, Schema, TypeKind, StandardKind, EnumKind, ExternalKind, type_named}
+use Rattle.cedar_types.specs.Types.{Ty, TNever, TBool, TLong, TString, TSet, TAnySet, TRecord, TEntity, TAnyEntity, TExtension, sole}
+use Rattle.cedar_types.specs.Types.Lookups.{kind_attribute, declared_kind_attribute}
+use Rattle.cedar_types.specs.Values.{Value, VBool, VLong, VString, VEntity, entry_at, HasType}
+use Rattle.cedar_types.specs.Values.Stores.{Entity, FitsKind, FitsDeclaration}
+use Rattle.cedar_types.specs.Names.{Uid}
+use Rattle.cedar_typing.proofs.Basics.{or_cases, not_true}
+use Rattle.cedar_typing.proofs.Bounds.Attributes.{AttrAt, found_at}
+use Rattle.cedar_typing.specs.Evaluation.Eval.{attribute_value}
+use Rattle.cedar_typing.specs.Evaluation.World.{AbsentAttribute, Outcome, Gives, Fails}
+use Rattle.cedar_where.specs.Compiled.{Kind, KBool, KLong, KText, KEntity, Term, term, is_plain, entity_kind, column_kind, column_of_kind}
+use Rattle.cedar_where.specs.Compiled.{column_term, has_column}
+use Rattle.cedar_where.specs.Rows.{cell_at}
+use Rattle.cedar_where.specs.Rows as rows
+use Rattle.cedar_where.specs.Sql.{Cell, Null, Truth, Data, Sql, sql_column, value, not_null_cell, uid}
+use Rattle.cedar_where.proofs.Parts.{Held, Answer, there, gone, outcome_of, cell_of, Agree, OnTerm, IsRight, if_plain, not_null_held}
+
+-- ---- an entity has of an attribute what its type declares
+
+module _ (s : Schema) (x : Text) where
+  kind_at : (k : TypeKind) (p : Path) (e : Entity) → FitsKind s.types p k e
+      → AttrAt (kind_attribute x k) (entry_at x e.attributes)
+  kind_at (StandardKind attrs tags) p e h = found_at x attrs e.attributes h.attributes.0
+  kind_at (EnumKind ids) p e h = tt
+  kind_at ExternalKind p e h = tt
+
+  pub declaration_at : (t : Option DeclaredType) (u : Uid) (e : Entity) → FitsDeclaration s u t e
+      → AttrAt (declared_kind_attribute x t) (entry_at x e.attributes)
+  declaration_at None u e h = tt
+  declaration_at (Some t) u e h = kind_at t.kind u.entity_type e h
+
+-- ---- a column has what the entity has
+
+-- of an attribute that has a column
+abbrev OfKind : Bool → Outcome → Cell → Option Kind → Type 0
+OfKind r o c None = Unit {0}
+OfKind r o c (Some k) = Agree k r o c
+
+typed_entity : (r : Bool) (ps : List Path) (v : Value) → HasType (TEntity ps) v
+    → OfKind r (Gives v) (rows.cell_of v) (entity_kind (sole ps))
+typed_entity r [] v h = tt
+typed_entity r (p ∷ []) (VEntity u) h =
+    or_cases (path_eq u.entity_type p) false (Agree (KEntity p) r (Gives (VEntity u)) (rows.cell_of (VEntity u)))
+    (λ e. (there u.eid, λ i. Gives (VEntity (uid (path_same.to u.entity_type p e i) u.eid)), refl)) (λ e. cc) h
+typed_entity r (p ∷ []) v h = absurd h
+typed_entity r (p ∷ q ∷ ps) v h = tt
+
+typed_value : (r : Bool) (t : Ty) (v : Value) → HasType t v → OfKind r (Gives v) (rows.cell_of v) (column_kind t)
+typed_value r TNever v h = tt
+typed_value r (TBool k) (VBool b) h = (there b, refl, refl)
+typed_value r (TBool k) v h = absurd h
+typed_value r TLong (VLong n) h = (there n, refl, refl)
+typed_value r TLong v h = absurd h
+typed_value r TString (VString t) h = (there t, refl, refl)
+typed_value r TString v h = absurd h
+typed_value r (TSet t) v h = tt
+typed_value r TAnySet v h = tt
+typed_value r (TRecord xs o) v h = tt
+typed_value r (TEntity ps) v h = typed_entity r ps v h
+typed_value r TAnyEntity v h = tt
+typed_value r (TExtension n) v h = tt
+
+absent : (r : Bool) → r ≡ false → (k : Option Kind) → OfKind r (Fails AbsentAttribute) Null k
+absent r e None = tt
+absent r e (Some k) = (gone AbsentAttribute e, refl, refl)
+
+attribute_agrees : (a : Ty × Bool) (v : Option Value) → AttrAt (Some a) v
+    → OfKind a.1 (attribute_value v) (cell_at v) (column_kind a.0)
+attribute_agrees a None h = absent a.1 (not_true a.1 h) (column_kind a.0)
+attribute_agrees a (Some v) h = typed_value a.1 a.0 v h
+
+module _ (d : Data) (x : Text) (v : Option Value) (cell : d.cells x ≡ cell_at v) where
+  of_kind : (r : Bool) (k : Option Kind) → OfKind r (attribute_value v) (cell_at v) k
+      → OnTerm (IsRight d (attribute_value v)) (column_of_kind x r k)
+  of_kind r None h = tt
+  of_kind r (Some k) h =
+      if_plain (IsRight d (attribute_value v)) (is_plain x) (term (sql_column x) k r) (h.0, h.1, cell ∙ h.2)
+
+  pub column_right : (f : Option (Ty × Bool)) → AttrAt f v → OnTerm (IsRight d (attribute_value v)) (column_term x f)
+  column_right None h = tt
+  column_right (Some a) h = of_kind a.1 (column_kind a.0) (attribute_agrees a v h)
+
+-- ---- `has`
+
+has_answer : (k : Kind) (r : Bool) (v : Option Value) (c : Cell) → Agree k r (attribute_value v) c
+    → Agree KBool true (Gives (VBool (is_some v))) (not_null_cell c)
+has_answer k r None c (there w, o, e) = absurd (cc)
+has_answer k r None c (gone f n, o, e) = (there false, refl, ap not_null_cell e)
+has_answer k r (Some u) c (there w, o, e) = (there true, refl, ap not_null_cell e ∙ not_null_held k w)
+has_answer k r (Some u) c (gone f n, o, e) = absurd (cc)
+
+pub has_right : (d : Data) (y : Option Term) (v : Option Value) → OnTerm (IsRight d (attribute_value v)) y
+    → OnTerm (IsRight d (Gives (VBool (is_some v)))) (has_column y)
+has_right d None v h = tt
+has_right d (Some a) v h = has_answer a.kind a.is_total v (value d a.sql) h

@@ -1,0 +1,146 @@
+-- The clause of a condition means the condition.
+use Rattle.std.proofs.Common.{◌≡◌, Bool, true, false, ◌↔◌, List, [], ◌∷◌, Option, Some, None, is_some, if◌then◌else◌, refl, sym, ap, subst, ◌∙◌}
+use Rattle.cedar_types.specs.declared.base.expressions.operators.Var.{Var}
+use Rattle.cedar_types.specs.Environments.{DeclaredEnv}
+use Rattle.cedar_types.specs.Environments.RequestEnvs.{Env, Declared, Undeclared}
+use Rattle.cedar_types.specs.Expressions.Tree.{bool, long, string, entity, lit, var, slot, unknown, if_then_else, and, or, unary, binary}
+use Rattle.cedar_types.specs.Expressions.Tree.{call, get_attr, has_attr, ext_has_attr, like, is_type, set_of, record_of}
+use Rattle.cedar_types.specs.Names.{Text, Path, Uid}
+use Rattle.cedar_types.specs.Schemas.{Schema, type_named}
+use Rattle.cedar_types.specs.Types.Lookups.{declared_attribute}
+use Rattle.cedar_types.specs.Values.{Value, VBool, VEntity, entry_at}
+use Rattle.cedar_types.specs.Values.Stores.{ConformingStore, entity_at}
+use Rattle.cedar_typing.proofs.Basics.{some_is, none_is}
+use Rattle.cedar_typing.proofs.Bounds.Attributes.{AttrAt}
+use Rattle.cedar_typing.specs.Evaluation.Conformance.{FitsRequest}
+use Rattle.cedar_typing.specs.Evaluation.Eval.{eval, attribute_value, entity_get, entity_has}
+use Rattle.cedar_typing.specs.Evaluation.World.{World, Outcome, Gives, Fails}
+use Rattle.cedar_typing.specs.Soundness.{IsTrueOutcome}
+use Rattle.cedar_typing.specs.TypedExpr.{Mark, TypedTree}
+use Rattle.cedar_where.specs.Compiled.{Kind, KBool, KLong, KText, KEntity, Term, term, is_bool, is_plain, text_term, entity_term}
+use Rattle.cedar_where.specs.Compiled.{variable_term, attribute_term, has_term, compiled, clause_of, scope_at, clause_at}
+use Rattle.cedar_where.specs.Meaning.{IsOutcome, MeansTheCondition, ChoosesTheTrue}
+use Rattle.cedar_where.specs.Rows.{IsRowOf}
+use Rattle.cedar_where.specs.Sql.{Cell, Truth, Words, Data, Sql, sql_text, value, uid}
+use Rattle.cedar_where.proofs.ColumnsAgree.{declaration_at, column_right, has_right}
+use Rattle.cedar_where.proofs.OperatorsAgree.{and_right, or_right, unary_right, operands_right, like_right, is_right}
+use Rattle.cedar_where.proofs.Parts.{there, gone, Agree, OnTerm, IsRight, if_plain}
+
+module _ (s : Schema) (env : DeclaredEnv) (world : World) (fits : FitsRequest env world.request)
+    (conforms : ConformingStore s world.store) (d : Data) (row : IsRowOf world d) where
+  -- an entity, by its id
+  entity_right : (u : Uid) → OnTerm (IsRight d (Gives (VEntity u))) (entity_term u)
+  entity_right u =
+      if_plain (IsRight d (Gives (VEntity u))) (is_plain u.eid) (term (sql_text u.eid) (KEntity u.entity_type) true)
+      (there u.eid, refl, refl)
+
+  variable_right : (x : Var) (m : Mark) → OnTerm (IsRight d (eval world (var m x))) (variable_term (scope_at s env) x)
+  variable_right Var.Principal m = (
+    there world.request.principal.eid,
+    λ i. Gives (VEntity (uid (fits.principal i) world.request.principal.eid)),
+    ap Words row.principal,
+  )
+  variable_right Var.Action m =
+      subst (λ u. OnTerm (IsRight d (Gives (VEntity u))) (entity_term env.action)) (sym fits.action)
+      (entity_right env.action)
+  variable_right Var.Resource m = (
+    there world.request.resource.eid,
+    λ i. Gives (VEntity (uid (fits.resource i) world.request.resource.eid)),
+    ap Words row.own_id,
+  )
+  variable_right Var.Context m = tt
+
+  -- what the resource has of an attribute is as its type declares it
+  declared : (x : Text) → AttrAt (declared_attribute s.types x env.resource) (entry_at x row.entity.attributes)
+  declared x =
+      subst (λ p. AttrAt (declared_attribute s.types x p) (entry_at x row.entity.attributes)) fits.resource
+      (declaration_at s x (type_named s.types world.request.resource.entity_type) world.request.resource row.entity
+      (conforms.entities world.request.resource row.entity row.stored))
+
+  column_of_resource : (x : Text) (m : Mark)
+      → OnTerm (IsRight d (attribute_value (entry_at x row.entity.attributes)))
+      (attribute_term (scope_at s env) (var m Var.Resource) x)
+  column_of_resource x m =
+      column_right d x (entry_at x row.entity.attributes) (row.attributes x)
+      (declared_attribute s.types x env.resource) (declared x)
+
+  attribute_right : (a : TypedTree) (x : Text) (m : Mark)
+      → OnTerm (IsRight d (eval world (get_attr m a x))) (attribute_term (scope_at s env) a x)
+  attribute_right (var n Var.Resource) x m =
+      subst (λ o. OnTerm (IsRight d o) (attribute_term (scope_at s env) (var n Var.Resource) x))
+      (sym (ap (λ q. entity_get q x) row.stored)) (column_of_resource x n)
+  attribute_right a x m = tt
+
+  has_term_right : (a : TypedTree) (x : Text) (m : Mark)
+      → OnTerm (IsRight d (eval world (has_attr m a x))) (has_term (scope_at s env) a x)
+  has_term_right (var n Var.Resource) x m =
+      subst (λ o. OnTerm (IsRight d o) (has_term (scope_at s env) (var n Var.Resource) x))
+      (sym (ap (λ q. Gives (VBool (entity_has q x))) row.stored))
+      (has_right d (attribute_term (scope_at s env) (var n Var.Resource) x) (entry_at x row.entity.attributes)
+      (column_of_resource x n))
+  has_term_right a x m = tt
+
+  part_right : (e : TypedTree) → OnTerm (IsRight d (eval world e)) (compiled (scope_at s env) e)
+  part_right (lit m (bool b)) = (there b, refl, refl)
+  part_right (lit m (long n)) = (there n, refl, refl)
+  part_right (lit m (string t)) =
+      if_plain (IsRight d (eval world (lit m (string t)))) (is_plain t) (term (sql_text t) KText true)
+      (there t, refl, refl)
+  part_right (lit m (entity u)) = entity_right u
+  part_right (var m x) = variable_right x m
+  part_right (slot m x) = tt
+  part_right (unknown m n) = tt
+  part_right (if_then_else m a b c) = tt
+  part_right (and m a b) =
+      and_right d (compiled (scope_at s env) a) (compiled (scope_at s env) b) (eval world a) (eval world b)
+      (part_right a) (part_right b)
+  part_right (or m a b) =
+      or_right d (compiled (scope_at s env) a) (compiled (scope_at s env) b) (eval world a) (eval world b)
+      (part_right a) (part_right b)
+  part_right (unary m o a) = unary_right d o (compiled (scope_at s env) a) (eval world a) (part_right a)
+  part_right (binary m o a b) =
+      operands_right d world row.ancestors o b (compiled (scope_at s env) a) (compiled (scope_at s env) b)
+      (eval world a) (part_right a) (part_right b)
+  part_right (call m n ts) = tt
+  part_right (get_attr m a x) = attribute_right a x m
+  part_right (has_attr m a x) = has_term_right a x m
+  part_right (ext_has_attr m a x xs) = tt
+  part_right (like m a p) = like_right d (compiled (scope_at s env) a) p (eval world a) (part_right a)
+  part_right (is_type m a p) = is_right d (compiled (scope_at s env) a) p (eval world a) (part_right a)
+  part_right (set_of m ts) = tt
+  part_right (record_of m fs) = tt
+
+-- ---- the whole condition
+
+truth_outcome : (r : Bool) (o : Outcome) (c : Cell) → Agree KBool r o c → IsOutcome o c
+truth_outcome r o c (there b, p, q) = subst (λ z. IsOutcome z c) (sym p) q
+truth_outcome r o c (gone f e, p, q) = subst (λ z. IsOutcome z c) (sym p) q
+
+clause_right : (d : Data) (o : Outcome) (x : Option Term) → OnTerm (IsRight d o) x
+    → (sql : Sql) → clause_of x ≡ Some sql → IsOutcome o (value d sql)
+clause_right d o None h sql e = absurd (none_is e)
+clause_right d o (Some a) h sql e = by a.kind h e
+  where
+    by : (k : Kind) → Agree k a.is_total o (value d a.sql)
+        → (if is_bool k then Some a.sql else None) ≡ Some sql → IsOutcome o (value d sql)
+    by KBool g f =
+        subst (λ z. IsOutcome o (value d z)) (some_is f) (truth_outcome a.is_total o (value d a.sql) g)
+    by k g f = absurd (none_is f)
+
+pub means_it : (s : Schema) (env : Env) (e : TypedTree) (sql : Sql) → clause_at s env e ≡ Some sql
+    → MeansTheCondition s env e sql
+means_it s (Declared env ps rs) e sql h world fits conforms d row =
+    clause_right d (eval world e) (compiled (scope_at s env) e) (part_right s env world fits.0 conforms d row e) sql h
+means_it s Undeclared e sql h world fits conforms d row = absurd fits
+
+-- ---- which rows are chosen
+
+true_outcome : (o : Outcome) (c : Cell) → IsOutcome o c → (c ≡ Truth true) ↔ IsTrueOutcome o
+true_outcome (Gives (VBool b)) c h = (λ e. cc, λ e. cc)
+true_outcome (Gives v) c h = absurd h
+true_outcome (Fails f) c h = (λ e. cc, λ e. absurd e)
+
+pub chooses_it : (s : Schema) (env : Env) (e : TypedTree) (sql : Sql) → MeansTheCondition s env e sql
+    → ChoosesTheTrue s env e sql
+chooses_it s env e sql h world fits conforms d row =
+    true_outcome (eval world e) (value d sql) (h world fits conforms d row)

@@ -1,0 +1,34 @@
+-- Which row holds a resource, with what a query is run on beside it.
+use Rattle.std.specs.Prelude.{◌≡◌, Bool, Option, Some, None}
+use Rattle.cedar_types.specs.Names.{Text, Uid}
+use Rattle.cedar_types.specs.Values.{Value, VBool, VLong, VString, VEntity, VSet, VRecord, VExtension, entry_at}
+use Rattle.cedar_types.specs.Values.Stores.{Entity, entity_at}
+use Rattle.cedar_typing.specs.Evaluation.Eval.{has_ancestor}
+use Rattle.cedar_typing.specs.Evaluation.World.{World}
+use Rattle.cedar_where.specs.Sql.{Cell, Null, Truth, Integer, Words, Undefined, Data}
+
+-- what a column holds of a value: a truth value, a number, a text, of an entity its id; sets, records and values of extension
+-- types have no column
+abbrev pub cell_of : Value → Cell
+cell_of (VBool b) = Truth b
+cell_of (VLong n) = Integer n
+cell_of (VString t) = Words t
+cell_of (VEntity u) = Words u.eid
+cell_of (VSet vs) = Undefined
+cell_of (VRecord es) = Undefined
+cell_of (VExtension n t) = Undefined
+
+-- NULL where an entity lacks the attribute
+abbrev pub cell_at : Option Value → Cell
+cell_at None = Null
+cell_at (Some v) = cell_of v
+
+-- the row holds the resource of a request, which is in the store: its id, and each attribute in the attribute's column; the
+-- parameter is the principal's id; and the table of ancestors has the ancestors of the store
+pub record IsRowOf (world : World) (d : Data) : Type 0 where
+  pub entity : Entity
+  pub stored : entity_at world.store world.request.resource ≡ Some entity
+  pub attributes : (x : Text) → d.cells x ≡ cell_at (entry_at x entity.attributes)
+  pub own_id : d.eid ≡ world.request.resource.eid
+  pub principal : d.principal ≡ world.request.principal.eid
+  pub ancestors : (u v : Uid) → d.has_ancestor u v ≡ has_ancestor (entity_at world.store u) v

@@ -1,0 +1,126 @@
+// `&&`, `||` and `!` on parts that are compiled.
+ghost use Rattle.std.specs.Prelude.{◌≡◌, IfOk};
+ghost use Rattle.cedar_where.specs.Compiled.{and_term, or_term, not_term, conjunction, disjunction};
+ghost use Rattle.cedar_where.specs.Views.{term_of, term_in};
+
+use crate::refusals::Reason;
+use crate::sql::SqlExpr;
+use crate::terms::{Compiled, Kind, Term, made, refused};
+use cedar_types::base::Loc;
+use std::alloc::{AllocError, Global};
+
+/// `a && b`: SQL's AND where the left side is never NULL, since it is FALSE where one side is NULL and the other FALSE.
+pub(crate) fn and_term(
+    alloc: Global,
+    loc: Option<Loc>,
+    left: Compiled,
+    right: Compiled,
+) -> Result<Compiled, AllocError>
+    ensures { IfOk result (λ t. and_term (term_in left) (term_in right) ≡ term_in t) }
+{
+    match left {
+        Err(refusal) => Ok(Err(refusal)),
+        Ok(left) => match right {
+            Err(refusal) => Ok(Err(refusal)),
+            Ok(right) => conjunction(alloc, loc, left, right),
+        },
+    }
+}
+
+fn conjunction(
+    alloc: Global,
+    loc: Option<Loc>,
+    left: Term,
+    right: Term,
+) -> Result<Compiled, AllocError>
+    ensures { IfOk result (λ t. conjunction (term_of left) (term_of right) ≡ term_in t) }
+{
+    if !(left.kind.is_bool() && right.kind.is_bool()) {
+        return refused(loc, Reason::NotBoolean);
+    }
+    let is_total = left.is_total && right.is_total;
+    if left.is_total {
+        return made(
+            alloc,
+            SqlExpr::And(left.sql, right.sql),
+            Kind::Bool,
+            is_total,
+        );
+    }
+    let sql = SqlExpr::Case {
+        test: left.sql,
+        then: right.sql,
+        otherwise: Box::new(alloc, SqlExpr::Truth(false))?,
+    };
+    made(alloc, sql, Kind::Bool, is_total)
+}
+
+/// `a || b`: SQL's OR where the left side is never NULL, since it is TRUE where one side is NULL and the other TRUE.
+pub(crate) fn or_term(
+    alloc: Global,
+    loc: Option<Loc>,
+    left: Compiled,
+    right: Compiled,
+) -> Result<Compiled, AllocError>
+    ensures { IfOk result (λ t. or_term (term_in left) (term_in right) ≡ term_in t) }
+{
+    match left {
+        Err(refusal) => Ok(Err(refusal)),
+        Ok(left) => match right {
+            Err(refusal) => Ok(Err(refusal)),
+            Ok(right) => disjunction(alloc, loc, left, right),
+        },
+    }
+}
+
+fn disjunction(
+    alloc: Global,
+    loc: Option<Loc>,
+    left: Term,
+    right: Term,
+) -> Result<Compiled, AllocError>
+    ensures { IfOk result (λ t. disjunction (term_of left) (term_of right) ≡ term_in t) }
+{
+    if !(left.kind.is_bool() && right.kind.is_bool()) {
+        return refused(loc, Reason::NotBoolean);
+    }
+    let is_total = left.is_total && right.is_total;
+    if left.is_total {
+        return made(
+            alloc,
+            SqlExpr::Or(left.sql, right.sql),
+            Kind::Bool,
+            is_total,
+        );
+    }
+    let sql = SqlExpr::Case {
+        test: left.sql,
+        then: Box::new(alloc, SqlExpr::Truth(true))?,
+        otherwise: right.sql,
+    };
+    made(alloc, sql, Kind::Bool, is_total)
+}
+
+/// `!a`.
+pub(crate) fn not_term(
+    alloc: Global,
+    loc: Option<Loc>,
+    operand: Compiled,
+) -> Result<Compiled, AllocError>
+    ensures { IfOk result (λ t. not_term (term_in operand) ≡ term_in t) }
+{
+    match operand {
+        Err(refusal) => Ok(Err(refusal)),
+        Ok(operand) => {
+            if !operand.kind.is_bool() {
+                return refused(loc, Reason::NotBoolean);
+            }
+            made(
+                alloc,
+                SqlExpr::Not(operand.sql),
+                Kind::Bool,
+                operand.is_total,
+            )
+        }
+    }
+}

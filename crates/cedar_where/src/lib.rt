@@ -1,0 +1,31 @@
+//! Where-clauses of SQL for typed conditions: a row of a table is chosen exactly where the condition is true for the resource that
+//! the row holds.
+//!
+//! Proved: what a clause means as a tree (`SqlExpr`, `specs/Sql.antt`). Only tested, against SQLite: the text of a tree and of a
+//! table, and that SQLite evaluates the text as the tree says.
+#![tactic(auto)]
+
+mod clauses;
+mod columns;
+mod comparisons;
+mod compile;
+mod connectives;
+mod leaves;
+mod membership;
+mod operators;
+mod plain;
+mod refusals;
+mod scopes;
+mod sets;
+mod sql;
+mod tables;
+mod terms;
+mod texts;
+mod type_tests;
+
+pub use clauses::where_clause;
+pub use refusals::{Reason, Refusal};
+pub use sets::joined;
+pub use sql::SqlExpr;
+pub use tables::{Column, ColumnType, Table, TableFault};
+pub use texts::{AncestorTable, SqlQuery, SqlText};

@@ -1,0 +1,101 @@
+// Expressions of SQL as trees.
+use cedar_types::base::{EntityType, EntityUID, PatternElem};
+use std::rc::RcStr;
+
+/// An expression of SQL over a row of the table of the resources, with a parameter for the principal's id and a table of
+/// ancestors. `Display` writes its text. It is dropped by a recursion as deep as the tree.
+#[derive(Debug)]
+pub enum SqlExpr {
+    /// `NULL`.
+    Null,
+    /// `TRUE` or `FALSE`.
+    Truth(bool),
+    /// A whole number of 64 bits.
+    Number(i64),
+    /// A text.
+    Text(RcStr),
+    /// The column that holds the attribute of this name.
+    Column(RcStr),
+    /// The column that holds the resource's own id.
+    OwnId,
+    /// The parameter that holds the principal's id.
+    Principal,
+    /// `NOT a`.
+    Not(Box<SqlExpr>),
+    /// `a AND b`.
+    And(Box<SqlExpr>, Box<SqlExpr>),
+    /// `a OR b`.
+    Or(Box<SqlExpr>, Box<SqlExpr>),
+    /// `CASE test WHEN TRUE THEN a WHEN FALSE THEN b END`: NULL where the test is.
+    Case {
+        test: Box<SqlExpr>,
+        then: Box<SqlExpr>,
+        otherwise: Box<SqlExpr>,
+    },
+    /// `a = b`.
+    Equal(Box<SqlExpr>, Box<SqlExpr>),
+    /// `a < b`.
+    Less(Box<SqlExpr>, Box<SqlExpr>),
+    /// `a <= b`.
+    LessOrEqual(Box<SqlExpr>, Box<SqlExpr>),
+    /// `a IS NOT NULL`.
+    IsNotNull(Box<SqlExpr>),
+    /// `a IS TRUE`: FALSE where it is NULL.
+    IsTrue(Box<SqlExpr>),
+    /// Whether a text matches a pattern.
+    Matches(Box<SqlExpr>, Vec<PatternElem>),
+    /// Whether the first entity is the second, or the table of ancestors has the second as an ancestor of the first; NULL where an id
+    /// is.
+    IsIn {
+        entity_type: EntityType,
+        eid: Box<SqlExpr>,
+        ancestor_type: EntityType,
+        ancestor_eid: Box<SqlExpr>,
+    },
+    /// Whether the entity is one of these, or the table of ancestors has one of these as its ancestor; NULL where its id is.
+    IsInAny {
+        entity_type: EntityType,
+        eid: Box<SqlExpr>,
+        entities: Vec<EntityUID>,
+    },
+}
+
+// By hand, so that a proof has one call where an expression is dropped.
+impl Drop for SqlExpr {
+    fn drop(self) {
+        match self {
+            SqlExpr::Null => {}
+            SqlExpr::Truth(_) => {}
+            SqlExpr::Number(_) => {}
+            SqlExpr::Text(_) => {}
+            SqlExpr::Column(_) => {}
+            SqlExpr::OwnId => {}
+            SqlExpr::Principal => {}
+            SqlExpr::Not(_) => {}
+            SqlExpr::And(_, _) => {}
+            SqlExpr::Or(_, _) => {}
+            SqlExpr::Case {
+                test: _,
+                then: _,
+                otherwise: _,
+            } => {}
+            SqlExpr::Equal(_, _) => {}
+            SqlExpr::Less(_, _) => {}
+            SqlExpr::LessOrEqual(_, _) => {}
+            SqlExpr::IsNotNull(_) => {}
+            SqlExpr::IsTrue(_) => {}
+            SqlExpr::Matches(_, _) => {}
+            SqlExpr::IsIn {
+                entity_type: _,
+                eid: _,
+                ancestor_type: _,
+                ancestor_eid: _,
+            } => {}
+            SqlExpr::IsInAny {
+                entity_type: _,
+                eid: _,
+                entities: _,
+            } => {}
+        }
+    }
+}

@@ -1,0 +1,521 @@
+#!/usr/bin/env python3
+"""Where-clauses in a real SQLite, against Cedar's rules: scripts/where_cases.py [PROGRAM].
+
+PROGRAM is that of crates/cedar_samples; without a word it is built without a proof. Its word `clauses` gives the clause of each policy, and
+`queries` the query of each set. Random policies of a fixed seed are compiled over tables as the program declares them, with rows whose
+entities share ids across types, lack optional attributes and make parts of conditions fail. Each clause is compared on each row with an
+evaluation of the policy in this script (1, 0, or NULL where evaluation fails), and the query of each set with the decision of an
+authoriser. Then the tables have to refuse rows that no clause is right on, each supported form has to have a clause, and each other form,
+text and set has to be refused. The last line counts what agrees and what does not.
+"""
+import random
+import re
+import sqlite3
+import subprocess
+import sys
+import tempfile
+from functools import partial
+from pathlib import Path
+
+sys.dont_write_bytecode = True
+import unproved  # noqa: E402
+
+POLICIES, ROWS, SETS = 1000, 1000, 40
+
+SCHEMA = """entity Group in [Group];
+entity User in [Group];
+entity Album in [Album];
+entity Photo in [Album] { owner: User, backup?: User, album: Album, near?: Album, group: Group, title: String, tag: String, note?: String,
+  level: Long, size: Long, rank?: Long, public: Bool, draft: Bool, secret?: Bool, labels: Set<String>, "select": String, "a'b\\"c": Long };
+action read;
+action view, share in [read] appliesTo { principal: User, resource: Photo };
+action sync appliesTo { principal: Album, resource: Photo };
+"""
+# The kind of each attribute, by the schema: B, L, S, or an entity type.
+ATTRIBUTES = {"owner": "User", "backup": "User", "album": "Album", "near": "Album", "group": "Group", "title": "S", "tag": "S", "note": "S",
+              "level": "L", "size": "L", "rank": "L", "public": "B", "draft": "B", "secret": "B", "select": "S", "a'b\"c": "L"}
+OPTIONAL = ("backup", "near", "note", "rank", "secret")
+ENVIRONMENTS = (("User", "view"), ("User", "share"), ("Album", "sync"))
+GROUPS_OF_ACTIONS = {"view": {("Action", "read")}, "share": {("Action", "read")}, "sync": set()}
+IDS = ["alice", "bob", "Alice", "7", "07", "", "it's", 'q"q', "é"]
+TEXTS = ["", "a", "A", "a ", "ab", "aXb", "007", "7", "7.0", "1e1", "é", "e\u0301", "TRUE", "title", "%", "_", "*", "a*b", "?", "[a]", "]", "a\nb", "--", "😀",
+         "it's", 'q"q', "NULL", "; DROP TABLE x"]
+NUMBERS = [0, 1, -1, 7, 10, 2**63 - 1, -2**63, 2**53 + 1, 2**53, -2**63 + 1]
+FAIL = None
+
+
+def cedar_text(text):
+    escapes = {"\\": "\\\\", '"': '\\"', "\n": "\\n", "\0": "\\0"}
+    return '"' + "".join(escapes.get(c, c) for c in text) + '"'
+
+
+def cedar_pattern(pattern):
+    escapes = {"\\": "\\\\", '"': '\\"', "\n": "\\n", "\0": "\\0", "*": "\\*"}
+    return '"' + "".join("*" if c is Ellipsis else escapes.get(c, c) for c in pattern) + '"'
+
+
+def is_identifier(name):
+    return re.fullmatch(r"[A-Za-z_]\w*", name) is not None
+
+
+# ---- conditions: how they are written, and what they evaluate to by Cedar's rules
+
+INFIX = {"and": "&&", "or": "||", "eq": "==", "ne": "!=", "lt": "<", "le": "<=", "gt": ">", "ge": ">=", "in": "in"}
+
+
+def show(e):
+    form = e[0]
+    if form == "attr":
+        return f"resource.{e[1]}" if is_identifier(e[1]) else f"resource[{cedar_text(e[1])}]"
+    if form == "has":
+        return f"resource has {e[1] if is_identifier(e[1]) else cedar_text(e[1])}"
+    if form == "lit":
+        return cedar_text(e[1]) if isinstance(e[1], str) else str(e[1]).lower()
+    if form == "entity":
+        return f"{e[1]}::{cedar_text(e[2])}"
+    if form == "var":
+        return e[1]
+    if form == "not":
+        return f"!({show(e[1])})"
+    if form == "like":
+        return f"({show(e[1])}) like {cedar_pattern(e[2])}"
+    if form == "is":
+        return f"({show(e[1])}) is {e[2]}"
+    if form == "in any":
+        return f"({show(e[1])}) in [{', '.join(show(x) for x in e[2])}]"
+    return f"({show(e[1])}) {INFIX[form]} ({show(e[2])})"
+
+
+def matches(pattern, text):
+    """Whether the whole text matches: a character stands for itself, a wildcard for any run of characters."""
+    return re.fullmatch("".join(".*" if c is Ellipsis else re.escape(c) for c in pattern), text, re.S) is not None
+
+
+def evaluator(e, world):
+    """A function of a row's attributes: a value, or FAIL. Entities are pairs of a type and an id."""
+    form = e[0]
+    if form == "attr":
+        name = e[1]
+        return lambda row: row.get(name, FAIL)
+    if form == "has":
+        name = e[1]
+        return lambda row: name in row
+    if form == "lit":
+        value = e[1]
+        return lambda row: value
+    if form == "entity":
+        value = (e[1], e[2])
+        return lambda row: value
+    if form == "var":
+        if e[1] == "resource":
+            return lambda row: ("Photo", row["::eid"])
+        value = world[e[1]]
+        return lambda row: value
+    a = evaluator(e[1], world)
+    if form == "not":
+        return lambda row: FAIL if (v := a(row)) is FAIL else not v
+    if form == "like":
+        pattern = e[2]
+        return lambda row: FAIL if (v := a(row)) is FAIL else matches(pattern, v)
+    if form == "is":
+        kind = e[2]
+        return lambda row: FAIL if (v := a(row)) is FAIL else v[0] == kind
+    if form == "in any":
+        ancestors, members = world["ancestors"], {x[1:] for x in e[2]}
+        return lambda row: FAIL if (v := a(row)) is FAIL else v in members or not members.isdisjoint(ancestors.get(v, ()))
+    b = evaluator(e[2], world)
+    if form == "and":
+        return lambda row: b(row) if (v := a(row)) is True else v
+    if form == "or":
+        return lambda row: b(row) if (v := a(row)) is False else v
+    test = operator(form, world["ancestors"])
+
+    def both(row):
+        v = a(row)
+        if v is FAIL:
+            return FAIL
+        w = b(row)
+        return FAIL if w is FAIL else test(v, w)
+    return both
+
+
+def operator(form, ancestors):
+    if form == "eq":
+        return lambda v, w: type(v) is type(w) and v == w
+    if form == "ne":
+        return lambda v, w: not (type(v) is type(w) and v == w)
+    if form == "in":
+        return lambda v, w: v == w or w in ancestors.get(v, ())
+    return {"lt": lambda v, w: v < w, "le": lambda v, w: v <= w, "gt": lambda v, w: v > w, "ge": lambda v, w: v >= w}[form]
+
+
+# ---- random conditions
+
+class Conditions:
+    """Random conditions. Where `guarded`, each optional attribute stands behind its test, so that the check passes."""
+
+    def __init__(self, rng, guarded):
+        self.rng, self.guarded = rng, guarded
+
+    def attribute(self, kind):
+        names = [n for n, k in ATTRIBUTES.items() if k == kind and not (self.guarded and n in OPTIONAL)]
+        return ("attr", self.rng.choice(names))
+
+    def term(self, kind):
+        if self.rng.random() < 0.55:
+            return self.attribute(kind)
+        if kind == "S":
+            return ("lit", self.rng.choice(TEXTS))
+        if kind == "L":
+            return ("lit", self.rng.choice(NUMBERS))
+        if kind == "B":
+            return ("lit", self.rng.random() < 0.5)
+        return ("entity", kind, self.rng.choice(IDS))
+
+    def entity(self):
+        r = self.rng.random()
+        if r < 0.35:
+            return ("var", "principal")
+        if r < 0.45:
+            return ("var", "resource")
+        return self.term(self.rng.choice(["User", "Album", "Group"]))
+
+    def pattern(self):
+        return tuple(self.rng.choice([..., "a", "b", "*", "[", "]", "?", "é", "'", "%", "A"]) for _ in range(self.rng.randrange(4)))
+
+    def leaf(self):
+        r, choose = self.rng.random(), self.rng.choice
+        if r < 0.1:
+            return self.attribute("B")
+        if r < 0.15:
+            return ("has", choose([n for n in ATTRIBUTES]))
+        if r < 0.3:
+            name = choose(OPTIONAL)
+            kind = ATTRIBUTES[name]
+            return ("and", ("has", name), ("eq", ("attr", name), self.entity() if len(kind) > 1 else self.term(kind)))
+        if r < 0.35:
+            return ("eq", ("var", "action"), ("entity", "Action", choose(["view", "share", "sync"])))
+        if r < 0.4:
+            return ("in", ("var", "action"), ("entity", "Action", choose(["view", "read"])))
+        if r < 0.5:
+            return (choose(["eq", "ne"]), self.entity(), self.entity())
+        if r < 0.56:
+            return ("in", self.entity(), self.entity())
+        if r < 0.6:
+            kinds = [self.rng.choice(["User", "Album", "Group", "Photo"]) for _ in range(self.rng.randrange(1, 4))]
+            return ("in any", self.entity(), [("entity", kind, self.rng.choice(IDS)) for kind in kinds])
+        if r < 0.65:
+            return ("is", self.entity(), choose(["User", "Album", "Photo"]))
+        if r < 0.75:
+            return ("like", self.term("S"), self.pattern())
+        if r < 0.87:
+            kind = choose("SLB")
+            return (choose(["eq", "ne"]), self.term(kind), self.term(kind))
+        return (choose(["lt", "le", "gt", "ge"]), self.term("L"), self.term("L"))
+
+    def condition(self, depth):
+        r = self.rng.random()
+        if depth <= 0 or r < 0.2:
+            return self.leaf()
+        if r < 0.5:
+            return ("and", self.condition(depth - 1), self.condition(depth - 1))
+        if r < 0.8:
+            return ("or", self.condition(depth - 1), self.condition(depth - 1))
+        if r < 0.93:
+            return ("not", self.condition(depth - 1))
+        return (self.rng.choice(["eq", "ne"]), self.condition(depth - 2), self.condition(depth - 2))
+
+
+def policy_text(name, effect, condition):
+    return f'@id("{name}")\n{effect}(principal, action, resource) when {{ {condition} }};\n'
+
+
+# ---- the store, as entities and as tables
+
+def store(rng):
+    """The rows of photos, as their attributes, and the ancestors of each entity."""
+    rows, ancestors = [], {}
+    groups = [("Group", i) for i in IDS]
+    albums = [("Album", i) for i in IDS]
+    for entity in [("User", i) for i in IDS] + groups:
+        ancestors[entity] = {g for g in groups if rng.random() < 0.25 and g != entity}
+    for album in albums:
+        ancestors[album] = {a for a in albums if rng.random() < 0.2 and a != album}
+    for action, above in GROUPS_OF_ACTIONS.items():
+        ancestors["Action", action] = above
+    for n in range(ROWS):
+        row = {"::eid": IDS[n] if n < len(IDS) else f"photo{n}"}
+        for name, kind in ATTRIBUTES.items():
+            if name in OPTIONAL and rng.random() < 0.4:
+                continue
+            row[name] = {"S": lambda: rng.choice(TEXTS), "L": lambda: rng.choice(NUMBERS), "B": lambda: rng.random() < 0.5}.get(
+                kind, lambda kind=kind: (kind, rng.choice(IDS)))()
+        rows.append(row)
+        ancestors["Photo", row["::eid"]] = {a for a in albums if rng.random() < 0.2}
+    return rows, ancestors
+
+
+def cell(value):
+    return value[1] if isinstance(value, tuple) else int(value) if isinstance(value, bool) else value
+
+
+def database(tables, rows, ancestors):
+    db = sqlite3.connect(":memory:")
+    for table in tables:
+        db.execute(table)
+    columns = [name for _, name, *_ in db.execute('pragma table_info("Photo")')]
+    marks = ", ".join("?" * len(columns))
+    for row in rows:
+        values = [row["::eid"] if name == "eid" else cell(row[name]) if name in row else None for name in columns]
+        db.execute(f'insert into "Photo" values ({marks})', values)
+    for (kind, eid), above in ancestors.items():
+        db.executemany('insert into "entity ancestors" values (?, ?, ?, ?)', [(kind, eid, k, i) for k, i in above])
+    return db
+
+
+# ---- the program
+
+def run(program, word, schema, policies):
+    with tempfile.TemporaryDirectory() as room:
+        files = Path(room, "s"), Path(room, "p")
+        files[0].write_text(schema, encoding="utf8")
+        files[1].write_text(policies, encoding="utf8")
+        return subprocess.run([program, word, *files], capture_output=True, timeout=120)
+
+
+def read_cases(output):
+    """The tables, and each policy's clauses by environment: a text, or the reason why there is none behind `- `."""
+    at, tables, clauses = 0, [], {}
+
+    def line():
+        nonlocal at
+        end = output.index(b"\n", at)
+        text, at = output[at:end], end + 1
+        return text
+
+    def sized(text):
+        nonlocal at
+        size, _, rest = text.partition(b" ")
+        whole = rest + b"\n" + output[at:]
+        text = whole[:int(size)]
+        at = len(output) - len(whole) + int(size) + 1
+        return text.decode()
+
+    while at < len(output):
+        words = line()
+        if words[:1].isdigit() or words.startswith(b"- "):
+            tables.append(words.decode() if words.startswith(b"- ") else sized(words))
+            continue
+        name, effect, rest = words.split(b" ", 2)
+        text = rest.decode() if rest.startswith(b"- ") else sized(rest)
+        clauses.setdefault(name.decode(), []).append(text)
+    return tables, clauses
+
+
+def read_queries(output):
+    """The tables, and the query of each environment, or None; no tables where the set is refused."""
+    if not output.startswith(b"CREATE TABLE"):
+        return [], {}
+    head, *blocks = re.split(r"\n\n-- (?=\w+, Action::)", output.decode())
+    tables, queries = [head.rstrip(";\n")], {}
+    for block in blocks:
+        title, _, rest = block.partition("\n")
+        principal, action, _ = title.split(", ")
+        # (before the table there is a line for each policy that has no clause)
+        table, _, query = re.sub(r"\A(?:-- .*\n)*", "", rest).partition(";\n")
+        tables.append(table)
+        queries[principal, action.split('"')[1]] = None if query.rstrip("\n") == "-- no query" else query.rstrip(";\n")
+    return tables, queries
+
+
+# ---- the checks
+
+class Tally:
+    def __init__(self):
+        self.passed, self.failed = 0, 0
+
+    def check(self, holds, what):
+        if holds:
+            self.passed += 1
+        else:
+            self.failed += 1
+            if self.failed <= 20:
+                print("failed:", what)
+
+
+def unique(tables):
+    return list(dict.fromkeys(tables))
+
+
+def check_clauses(tally, clauses_of, rng):
+    """Each clause on each row: 1, 0, or NULL where evaluation fails."""
+    made = {f"p{i}": Conditions(rng, guarded=i % 3 != 0).condition(4) for i in range(POLICIES)}
+    done = clauses_of(SCHEMA, "".join(policy_text(name, "permit", show(e)) for name, e in made.items()))
+    if done.returncode:
+        sys.exit(done.stderr.decode())
+    tables, clauses = read_cases(done.stdout)
+    rows, ancestors = store(rng)
+    db = database(unique(tables), rows, ancestors)
+    compiled, failing = 0, 0
+    for n, (name, e) in enumerate(made.items()):
+        principal_type, action = ENVIRONMENTS[n % len(ENVIRONMENTS)]
+        clause = clauses[name][n % len(ENVIRONMENTS)]
+        if clause.startswith("- "):
+            tally.check(False, (name, show(e), clause))
+            continue
+        compiled += 1
+        principal = rng.choice(IDS)
+        world = {"principal": (principal_type, principal), "action": ("Action", action), "ancestors": ancestors}
+        evaluate = evaluator(e, world)
+        given = {"principal": principal} if ":principal" in clause else {}
+        have = dict(db.execute(f'select "Photo"."eid", {clause} from "Photo"', given))
+        wrong = 0
+        for row in rows:
+            want = evaluate(row)
+            failing += want is FAIL
+            wrong += have[row["::eid"]] != (None if want is FAIL else int(want))
+        tally.check(wrong == 0, (name, principal_type, action, principal, wrong, show(e), clause))
+    print(f"{compiled} clauses on {len(rows)} rows each, of which evaluation fails on {failing}")
+
+
+def check_sets(tally, queries_of, rng):
+    """The query of a set, against the decision of an authoriser."""
+    rows, ancestors = store(rng)
+    decisions = 0
+    for n in range(SETS):
+        made = {f"p{i}": (rng.choice(["permit", "permit", "forbid"]), Conditions(rng, guarded=True).condition(3)) for i in range(4)}
+        done = queries_of(SCHEMA, "".join(policy_text(name, effect, show(e)) for name, (effect, e) in made.items()))
+        tables, queries = read_queries(done.stdout)
+        if not tables:
+            continue
+        db = database(unique(tables), rows, ancestors)
+        for (principal_type, action), query in queries.items():
+            principal = rng.choice(IDS)
+            world = {"principal": (principal_type, principal), "action": ("Action", action), "ancestors": ancestors}
+            tests = [(effect, evaluator(e, world)) for effect, e in made.values()]
+            have = {eid for eid, in db.execute(query, {"principal": principal} if ":principal" in query else {})}
+            want = set()
+            for row in rows:
+                satisfied = {effect for effect, test in tests if test(row) is True}
+                if satisfied == {"permit"}:
+                    want.add(row["::eid"])
+            decisions += len(rows)
+            tally.check(have == want, (n, principal_type, action, principal, [(k, show(e)) for k, e in made.values()], query))
+    print(f"{decisions} decisions of sets")
+
+
+# ---- what has a clause, and what has none
+
+HAVE = ("true", "resource.public", "!resource.public", "resource.public && resource.draft", "resource.public || resource.draft",
+        "resource.level == 7", "resource.level < 7", "resource.level <= 7", "resource.level > -9223372036854775808", "resource.title != \"it's\"",
+        "resource.title like \"a*b\\*\"", "principal == resource.owner", "principal == resource.album", "resource == Photo::\"7\"", "principal is User",
+        "resource is Photo", "resource.owner is Album", "principal in Group::\"7\"", "principal in resource.group", "resource in resource.album",
+        "action in Action::\"read\"", "action in [Action::\"view\", Action::\"sync\"]",
+        "principal in [Group::\"7\", User::\"bob\"]", "resource has note", "resource has note && resource.note == \"a\"", "resource has title",
+        "resource has backup && principal == resource.backup", "resource.public == (1 == 2)", "resource[\"select\"] == \"a\"", "resource.public == true")
+HAVE_NONE = (("resource.level + 1 == 7", "SQL's arithmetic does not fail as Cedar's does"), ("-resource.level == 7", "SQL's arithmetic does not fail as Cedar's does"),
+             ("if resource.public then resource.draft else true", "`if` has no clause"), ("resource.labels.contains(\"a\")", "no column has this attribute"),
+             ("[\"a\"].contains(resource.title)", "a set has no clause"),
+             ("principal in [resource.group, Group::\"7\"]", "a set has no clause"), ("resource.title == \"a\\0\"", "a text with NUL or a backslash has no clause"),
+             ("resource.title == \"\\\\\"", "a text with NUL or a backslash has no clause"), ("resource.title like \"*\\\\\"", "a text with NUL or a backslash has no clause"),
+             ("principal == User::\"a\\\\' OR 1 = 1 --\"", "a text with NUL or a backslash has no clause"), ("context has x", "only attributes of the resource are in its row"),
+             ("{a: resource.public}.a", "only attributes of the resource are in its row"), ("resource.owner has x", "only attributes of the resource are in its row"))
+
+
+def check_forms(tally, clauses_of):
+    conditions = [*HAVE, *(c for c, _ in HAVE_NONE)]
+    done = clauses_of(SCHEMA, "".join(policy_text(f"p{i}", "permit", c) for i, c in enumerate(conditions)))
+    tables, clauses = read_cases(done.stdout)
+    tally.check(len(clauses) == len(conditions), done.stderr)
+    for i, condition in enumerate(conditions):
+        clause = clauses.get(f"p{i}", ["- no output"])[0]
+        reason = dict(HAVE_NONE).get(condition)
+        tally.check(clause == f"- {reason}" if reason else not clause.startswith("- "), (condition, clause))
+
+
+FINDS_SCHEMA = """entity User;
+entity Album;
+entity Photo { owner: User, album: Album, public: Bool, secret?: Bool };
+action view appliesTo { principal: User, resource: Photo };
+"""
+# Each policy, and which of the rows 00 to 11 (is the album's id the principal's, is the photo public) its query chooses. A forbid stands
+# beside a permit of everything.
+FINDS = (("permit(principal, action, resource) when { principal == resource.album || resource.public };", {"01", "11"}),
+         ("permit(principal, action, resource);\nforbid(principal, action, resource) when { !(principal == resource.album) && resource.public };", {"00", "10"}),
+         ("permit(principal, action, resource) when { resource.public == (1 == 2) };", {"00", "10"}),
+         ("permit(principal, action, resource) when { (1 == \"1\") || resource.public };", {"01", "11"}),
+         ("permit(principal, action, resource) when { principal == resource.owner };", {"00", "01", "10", "11"}))
+
+
+def check_finds(tally, queries_of):
+    """Ids that coincide: no clause compares ids of two types."""
+    for policies, want in FINDS:
+        tables, queries = read_queries(queries_of(FINDS_SCHEMA, policies).stdout)
+        db = sqlite3.connect(":memory:")
+        for table in unique(tables):
+            db.execute(table)
+        for same in (0, 1):
+            for public in (0, 1):
+                db.execute('insert into "Photo" ("eid", "owner", "album", "public") values (?, ?, ?, ?)',
+                           (f"{same}{public}", "alice", "alice" if same else "holiday", public))
+        query = queries["User", "view"]
+        have = {eid for eid, in db.execute(query, {"principal": "alice"} if ":principal" in query else {})}
+        tally.check(have == want, (policies, have, want, query))
+
+
+def check_refused(tally, queries_of):
+    """No query: of a set that validation does not accept, with two policies of one id, or with a policy that has no clause."""
+    one = policy_text("a", "permit", "resource.public")
+    for policies, says in ((one + policy_text("b", "permit", "resource.level == resource.title || resource.public"), "-- not accepted: b"),
+                           (one + policy_text("b", "forbid", "resource.rank < 1"), "-- not accepted: b"),
+                           (one + policy_text("b", "forbid", "resource.level + 1 < 1"), "-- no clause of b: SQL's arithmetic does not fail as Cedar's does: resource.level + 1"),
+                           (one + one, "")):
+        done = queries_of(SCHEMA, policies)
+        _, queries = read_queries(done.stdout)
+        tally.check(not any(queries.values()) and says in done.stdout.decode() and (says or done.returncode), (policies, done.stdout, done.stderr))
+
+
+def check_tables(tally, clauses_of):
+    """The tables refuse rows on which clauses would be wrong, and a column that a table lacks is no text."""
+    tables, _ = read_cases(clauses_of(FINDS_SCHEMA, "permit(principal, action, resource);").stdout)
+    insert = 'insert into "Photo" ("eid", "owner", "album", "public") values (?, ?, ?, ?)'
+    for row in ((None, "a", "a", 1), ("x", None, "a", 1), ("x", "a", "a", None), ("x", "a", "a", 2), ("x", "a", "a", "yes")):
+        db = database(unique(tables), [], {})
+        try:
+            db.execute(insert, row)
+            tally.check(False, row)
+        except sqlite3.IntegrityError:
+            tally.check(True, row)
+    tables, _ = read_cases(clauses_of(SCHEMA, "permit(principal, action, resource);").stdout)
+    rows, _ = store(random.Random(1))
+    try:
+        database(unique(tables), [{**rows[0], "title": "a\0b"}], {})
+        tally.check(False, "a text with NUL")
+    except sqlite3.IntegrityError:
+        tally.check(True, "a text with NUL")
+    try:
+        database(unique(tables), [], {}).execute('select 1 from "Photo" where "Photo"."titel" = \'titel\'')
+        tally.check(False, "a column that the table lacks")
+    except sqlite3.OperationalError:
+        tally.check(True, "a column that the table lacks")
+    clashing = "entity User;\nentity Photo { eid: Long };\naction view appliesTo { principal: User, resource: Photo };\n"
+    tables, _ = read_cases(clauses_of(clashing, "").stdout)
+    tally.check(tables[1].startswith("- "), tables)
+
+
+def main(words):
+    program = unproved.named(words, "cedar_samples")
+    clauses, queries = partial(run, program, "clauses"), partial(run, program, "queries")
+    tally = Tally()
+    check_forms(tally, clauses)
+    check_finds(tally, queries)
+    check_refused(tally, queries)
+    check_tables(tally, clauses)
+    check_clauses(tally, clauses, random.Random(1))
+    check_sets(tally, queries, random.Random(2))
+    print(f"{tally.passed} passed, {tally.failed} failed")
+    return 1 if tally.failed or not tally.passed else 0
+
+
+if __name__ == "__main__":
+    sys.exit(main(sys.argv[1:]))
