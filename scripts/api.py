@@ -1,37 +1,19 @@
-"""The public types and calls of the libraries, which docs/API.md shows, and what is proved of each call.
+"""The public types and calls of a library, each with its clauses as they stand in the source.
 
-They stand under the path by which another crate names them, with their doc comments, without bodies and private fields. Of a
-clause there is its name, and the definitions that it cites: propositions, whose names begin with a capital, or where there is
-none what it says the answer to be, or else the clause itself. The sources are read line by line, as rt fmt lays them out. scripts/pages.py writes all
-into the page.
+They stand under the path by which another crate names them, with their doc comments, without bodies and private fields. The
+sources are read line by line, as rt fmt lays them out. scripts/api_pages.py makes the pages of docs/api of them.
 """
 import re
-from textwrap import wrap
 
 import files
 import trusted
 
-LIBRARIES = (
-    "cedar_types",
-    "cedar_extensions",
-    "cedar_typing",
-    "cedar_typechecker",
-    "cedar_reading",
-    "cedar_json",
-    "cedar_extensions",
-    "cedar_conformance",
-    "cedar_data",
-    "cedar_host",
-    "cedar_where",
-)
 MODULE = re.compile(r"^(?:(pub) |pub\(\w+\) )?mod (\w+);", re.M)
 USE = re.compile(r"^pub use ([^;]+);", re.M)
 ITEM = re.compile(r" *pub (?:const )?(?P<kind>fn|struct|enum|trait|type|const) (?P<name>\w+)")
 IMPL = re.compile(r"impl(?:<.*?>)? (?:(?P<of>[\w:]+)(?:<.*>)? for )?(?P<type>\w+)")
 DERIVED = re.compile(r"\s*#\[derive(?:_where)?\((.*)\)\]")
 CLAUSE = re.compile(r"\s*(?:ensures|requires|ghost)\b")
-ENSURES = re.compile(r"ensures (\w*) ?\{(.*?)\}\s*(?=\n *(?:ensures|\{|requires|ghost|decreases|where)|$)", re.S)
-WIDTH = 100
 # What a caller makes no use of.
 UNNAMED = {"Drop", "Model", "skip"}
 
@@ -49,41 +31,33 @@ def has_body(lines):
     return any(line.endswith("{") and not CLAUSE.match(line) for line in lines)
 
 
-def signature(lines):
-    """The head of a function, without its clauses and its body."""
-    shown = []
+def parts(lines):
+    """The head of a function, and its clauses, as they stand; its body is left out."""
+    head, clauses, open_braces = [], [], 0
     for line in lines:
-        if CLAUSE.match(line) or line.strip() in ("{", "{}"):
+        if CLAUSE.match(line) or open_braces:
+            open_braces += line.count("{") - line.count("}")
+            clauses.append(line)
+        elif line.strip() in ("{", "{}"):
             break
-        shown.append(re.sub(r" \{\}?$", "", line))
-        if line.endswith("{"):
-            break
-    shown[-1] = shown[-1].rstrip(";") + ";"
-    return shown
+        else:
+            head.append(re.sub(r" \{\}?$", "", line))
+            if line.endswith(("{", "{}")):
+                break
+    return head, clauses
 
 
-def head(lines):
-    """What stands from a function's name to its body."""
-    indent = re.match(" *", lines[0])[0]
-    last = next((at for at, line in enumerate(lines) if at and line.startswith((indent + "{", indent + "}"))), len(lines))
-    return "\n".join(lines[:last])
+def contract(lines):
+    """A function without its body."""
+    head, clauses = parts(lines)
+    shown = head + clauses
+    return [*shown[:-1], shown[-1].rstrip(";") + ";"]
 
 
-def cited(clause, definitions):
-    """The definitions that a clause cites."""
-    words = [word for word in dict.fromkeys(trusted.NAME.findall(clause)) if word in definitions]
-    propositions = [word for word in words if word[0].isupper()]
-    return propositions or words
-
-
-def clauses(lines, definitions):
-    """What is proved of a function, as comments below its head."""
-    shown = {}
-    for name, clause in ENSURES.findall(head(lines)):
-        words = " ".join(cited(clause, definitions) or clause.split())
-        shown.setdefault(f"{name or 'the answer'}: {words}")
-    mark = re.match(" *", lines[0])[0] + "    // "
-    return [line for text in shown for line in wrap(text, WIDTH, initial_indent=mark, subsequent_indent=mark + "    ")]
+def words_of(kind, lines):
+    """The words of an item in which it may cite a definition."""
+    stated = {"fn": parts(lines)[1], "trait": lines}.get(kind, [])
+    return trusted.NAME.findall("\n".join(line.partition("//")[0] for line in stated))
 
 
 def fields(lines):
@@ -103,27 +77,27 @@ def variants(lines):
     return [line for line in lines if line.strip() and not line.strip().startswith(("#", "// "))]
 
 
-def methods(lines):
-    """What a trait asks for, with the comments."""
+def asked(lines):
+    """What a trait asks for: its calls, and the laws that they keep, with the comments."""
     shown, at = [], 0
     while at < len(lines):
         end = at
         if re.match(r"    (?:fn|ghost)\b", lines[at]):
             end = end_of(lines, at)
-            shown += signature(lines[at:end + 1]) if lines[at].startswith("    fn ") else []
-        elif lines[at].startswith("    ///"):
+            shown += contract(lines[at:end + 1]) if lines[at].startswith("    fn ") else lines[at:end + 1]
+        elif not lines[at].startswith("    ghost use"):
             shown.append(lines[at])
         at = end + 1
     return shown
 
 
-BODIES = {"struct": fields, "enum": variants, "trait": methods}
+BODIES = {"struct": fields, "enum": variants, "trait": asked}
 
 
-def shown_item(kind, lines, definitions):
+def shown_item(kind, lines):
     """An item as the page has it."""
     if kind == "fn":
-        return signature(lines) + clauses(lines, definitions)
+        return contract(lines)
     if kind not in BODIES or not lines[0].endswith("{"):
         return lines
     body = BODIES[kind](lines[1:-1])
@@ -133,13 +107,13 @@ def shown_item(kind, lines, definitions):
 class Module:
     """A file of code: what it says of itself, its modules, its uses, its public items, and what its types have."""
 
-    def __init__(self, text):
+    def __init__(self, text, path):
+        self.path = path
         self.about = re.findall(r"^//! ?(.*)$", text, re.M)
         self.modules = {name: bool(public) for public, name in MODULE.findall(text)}
         self.uses = dict(used for tree in USE.findall(text) for used in leaves(tree))
-        self.items, self.calls, self.traits = {}, {}, {}
-        imported, _ = trusted.imports_of(text)
-        self.definitions = {name for name, (path, _) in imported.items() if not path.startswith("crates/std/")}
+        self.items, self.calls, self.traits, self.cited = {}, {}, {}, {}
+        self.imports = {name: place for name, place in trusted.imports_of(text)[0].items() if not place[0].startswith("crates/std/")}
         self.read(text.splitlines())
 
     def read(self, lines):
@@ -153,7 +127,8 @@ class Module:
                 traits += re.findall(r"\w+", derived[1])
             elif item:
                 end = end_of(lines, at)
-                self.items[item["name"]] = item["kind"], comments + shown_item(item["kind"], lines[at:end + 1], self.definitions)
+                self.items[item["name"]] = item["kind"], comments + shown_item(item["kind"], lines[at:end + 1])
+                self.cite(item["name"], item["kind"], lines[at:end + 1])
                 self.traits.setdefault(item["name"], []).extend(traits)
             elif impl:
                 end = end_of(lines, at)
@@ -173,12 +148,18 @@ class Module:
                 comments.append(line)
             elif item:
                 end = end_of(lines, at)
-                shown += comments + shown_item(item["kind"], lines[at:end + 1], self.definitions)
+                shown += ["", *comments, *shown_item(item["kind"], lines[at:end + 1])]
+                self.cite(impl["type"], item["kind"], lines[at:end + 1])
             if line and not line.strip().startswith(("///", "#")):
                 comments = []
             at = end + 1
         if shown:
             self.calls.setdefault(impl["type"], {}).setdefault(lines[0], []).extend(shown)
+
+    def cite(self, item, kind, lines):
+        """Takes down the definitions that clauses of an item cite: each with its file, and its name there."""
+        cited = {word: self.imports[word] for word in words_of(kind, lines) if word in self.imports}
+        self.cited.setdefault(item, {}).update(cited)
 
 
 def leaves(tree, path=()):
@@ -205,7 +186,7 @@ class Crate:
         self.add((name,), f"crates/{name}/src", "lib", texts)
 
     def add(self, path, folder, stem, texts):
-        module = self.modules[path] = Module(texts[f"{folder}/{stem}.rt"])
+        module = self.modules[path] = Module(texts[f"{folder}/{stem}.rt"], f"{folder}/{stem}.rt")
         inner = folder if stem == "lib" else f"{folder}/{stem}"
         for name in module.modules:
             if f"{inner}/{name}.rt" in texts:
@@ -246,31 +227,20 @@ class Crate:
         for module in self.modules.values():
             for head, more in module.calls.get(name, {}).items():
                 calls.setdefault(head, []).extend(more)
-        impls = [line for head, more in calls.items() for line in [head, *more, "}"]]
+        impls = [line for head, more in calls.items() for line in ["", head, *more[1:], "}"]]
         named = {trait for module in self.modules.values() for trait in module.traits.get(name, [])}
         traits = sorted(trait for trait in map(plain, named) if trait not in UNNAMED)
         says = [f"// its text: {self.messages[name]}"] if name in self.messages else []
         return [*lines, *says, *([f"// {', '.join(traits)}"] if traits else []), *impls]
 
+    def cites(self, place):
+        """The definitions that the clauses of an item cite, by the names that they have there."""
+        path, name = place
+        if self.modules[path].items[name][0] not in ("struct", "enum"):
+            return self.modules[path].cited.get(name, {})
+        return {word: it for module in self.modules.values() for word, it in module.cited.get(name, {}).items()}
+
 
 def plain(trait):
     """A trait without the parameters of its impl."""
     return re.sub(r"^(?:<.*?>)? ", "", trait)
-
-
-def pages(crate):
-    """The part of a public module, if it has something for other crates."""
-    for path in crate.public():
-        items, others = crate.listed(path)
-        if not items and not others:
-            continue
-        about = "\n".join(f"//! {line}".rstrip() for line in crate.modules[path].about)
-        uses = "\n".join(f"pub use {other};" for other in sorted(others))
-        blocks = [about, uses, *("\n".join(crate.shown(items[name])) for name in sorted(items, key=str.lower))]
-        yield f"\n## {'::'.join(path)}\n\n```rust\n" + "\n\n".join(filter(None, blocks)) + "\n```\n"
-
-
-def listing(texts):
-    """The lines of these files' libraries: what the page has between its two marks."""
-    there = [name for name in LIBRARIES if f"crates/{name}/src/lib.rt" in texts]
-    return "".join(part for name in there for part in pages(Crate(name, texts))).strip("\n").splitlines()

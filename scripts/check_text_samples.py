@@ -8,6 +8,9 @@ import sys
 import tempfile
 from pathlib import Path
 
+import api_pages
+import pages
+
 CHECK = Path(__file__).resolve().parent / "check_text"
 WHY = {
     "citation": "reads like a citation by number",
@@ -22,6 +25,13 @@ WHY = {
     "heading": "is no heading of",
     "made": "run scripts/pages.py",
     "maker": "no script makes",
+    "public": "is no public name of",
+    "caller": "has no function",
+    "calls": "calls nothing of",
+    "proved": "is in no crate of crates.txt",
+    "part": "has no part for the library",
+    "library": "is no library of crates.txt",
+    "block": "the page has no block",
 }
 # What would be a fault in this file stands in pieces.
 PAPERS = "pap" + "ers"
@@ -55,6 +65,16 @@ GOOD = {
     "crates/demo/src/page.rt": "// A page.\nlet shown = 1;\n",
     "crates/demo/specs/Lib.antt": "-- is it there?\nuse lib.ListN.{get_elem?}\n",
 }
+# A library with a page, and its caller.
+API = {
+    "crates.txt": "demo:\nhost: demo\n",
+    "crates/demo/src/lib.rt": "//! A crate.\n#![tactic(auto)]\n\npub fn same(it: u8) -> u8 {\n    it\n}\n",
+    "crates/host/src/main.rt": "//! A host.\n#![tactic(auto)]\n\nfn run() -> u8 {\n    same(1)\n}\n\nfn idle() {\n    drop(1);\n}\n",
+    "scripts/tasks.txt": "# Tasks.\ndemo\ncaller: crates/host/src/main.rt run\n* get the value back: same\n",
+}
+API |= api_pages.whole(GOOD | API)
+OVERVIEW = "".join(f"<!-- made: {name} -->\n<!-- end -->\n" for name in pages.BLOCKS[api_pages.OVERVIEW])
+API["docs/API.md"] = pages.written(OVERVIEW, GOOD | API)
 
 
 def note(text, line=2):
@@ -64,6 +84,11 @@ def note(text, line=2):
 
 def changed(name, text, line=1):
     return {name: text}, f"{name}:{line}:"
+
+
+def with_tasks(old, new):
+    """A repository with a page of a library, with one text of its tasks changed, and where the fault is to be found."""
+    return API | {api_pages.TASKS: API[api_pages.TASKS].replace(old, new)}, f"{api_pages.OVERVIEW}:1:"
 
 
 FILES = [
@@ -103,6 +128,16 @@ FILES = [
     ("a section that is named and is not there", "heading", *note('see [it](ROWS.md),\n"The columns"')),
     ("a page that is made of other sources", "made", {"crates/cedar_rows/src/rows/conditions.rt": ""}, "docs/ROWS.md:2:"),
     ("a page of a script that there is not", "maker", *note("<!-- made: tables -->\n<!-- end -->")),
+    ("a page without its block", "block", *changed("docs/API.md", "# The calls\n")),
+    ("a library's page that is gone", "made", API | {"docs/api/demo.md": None, "docs/API.md": None}, "docs/api/demo.md:1:"),
+    ("an empty page of a library", "made", API | {"docs/api/demo.md": "", "docs/API.md": None}, "docs/api/demo.md:1:"),
+    ("a page of no library", "maker", API | {"docs/api/more.md": "More.\n"}, "docs/api/more.md:1:"),
+    ("a task whose call is gone", "public", *with_tasks(": same", ": other")),
+    ("a caller that is gone", "caller", *with_tasks("rt run", "rt walk")),
+    ("a caller that does not call", "calls", *with_tasks("rt run", "rt idle")),
+    ("a caller that nothing proves", "proved", API | {"crates.txt": "demo:\n"}, "docs/API.md:1:"),
+    ("a library without a page", "part", API | {"crates.txt": "demo:\nhost: demo\nmore:\n", "crates/more/src/lib.rt": CRATE}, "docs/API.md:1:"),
+    ("a page for a program", "library", *with_tasks("demo\n", "host\n")),
     ("what was built", "out", *changed("crates/demo/out/demo.rlib", "x\n")),
 ]
 MESSAGES = [
@@ -148,6 +183,10 @@ def outcomes():
         repository(folder, GOOD)
         status, lines = said_of(folder)
         yield "a good repository", status == 0 and lines == ["10 passed, 0 failed"], lines
+    with tempfile.TemporaryDirectory() as folder:
+        repository(folder, GOOD | API)
+        status, lines = said_of(folder)
+        yield "a good page of a library", status == 0 and lines == ["10 passed, 0 failed"], lines
     for name, why, files, where in FILES:
         with tempfile.TemporaryDirectory() as folder:
             repository(folder, GOOD | files)

@@ -2,7 +2,7 @@
 """The crates, the files of the libraries and codes, as tables of their own comments: scripts/files.py prints them.
 
 docs/ARCHITECTURE.md shows the crates, docs/READING.md the codes and the extension functions; scripts/pages.py writes them there. The files are printed
-alone. The texts of errors, which docs/API.md shows, are read here too.
+alone. The texts of errors, which the pages of docs/api show, are read here too.
 """
 import re
 import sys
