@@ -31,6 +31,7 @@ WHY = {
     "proved": "is in no crate of crates.txt",
     "part": "has no part for the library",
     "library": "is no library of crates.txt",
+    "definition": "is no definition of",
     "block": "the page has no block",
 }
 # What would be a fault in this file stands in pieces.
@@ -128,7 +129,8 @@ FILES = [
     ("a section that is named and is not there", "heading", *note('see [it](ROWS.md),\n"The columns"')),
     ("a page that is made of other sources", "made", {"crates/cedar_rows/src/rows/conditions.rt": ""}, "docs/ROWS.md:2:"),
     ("a page of a script that there is not", "maker", *note("<!-- made: tables -->\n<!-- end -->")),
-    ("a page without its block", "block", *changed("docs/API.md", "# The calls\n")),
+    ("a page without its block", "block", *changed("docs/PROMISE.md", "# The promise\n")),
+    ("a page of a definition that is gone", "definition", *note("<!-- made: promise_safe -->\n<!-- end -->")),
     ("a library's page that is gone", "made", API | {"docs/api/demo.md": None, "docs/API.md": None}, "docs/api/demo.md:1:"),
     ("an empty page of a library", "made", API | {"docs/api/demo.md": "", "docs/API.md": None}, "docs/api/demo.md:1:"),
     ("a page of no library", "maker", API | {"docs/api/more.md": "More.\n"}, "docs/api/more.md:1:"),

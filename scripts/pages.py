@@ -12,6 +12,7 @@ from pathlib import Path
 
 import api_pages
 import files as listings
+import promise
 import rows
 import trusted
 from definitions import Gone
@@ -26,9 +27,10 @@ MAKERS = {
     "functions": listings.functions,
     "libraries": api_pages.libraries,
     "tasks": api_pages.first_tasks,
+    **promise.makers(),
 }
 # The blocks that a page must have.
-BLOCKS = {api_pages.OVERVIEW: ("libraries", "tasks")}
+BLOCKS = {api_pages.OVERVIEW: ("libraries", "tasks"), promise.PAGE: tuple(promise.makers())}
 MADE = re.compile(r"^<!-- made: (\w+) -->\n(.*?)^<!-- end -->$", re.M | re.S)
 PAGE = re.compile(r"[^/]+\.md|docs/(?:api/)?[^/]+\.md")
 
