@@ -129,6 +129,7 @@ FILES = [
     ("a section that is named and is not there", "heading", *note('see [it](ROWS.md),\n"The columns"')),
     ("a page that is made of other sources", "made", {"crates/cedar_rows/src/rows/conditions.rt": ""}, "docs/ROWS.md:2:"),
     ("a page of a script that there is not", "maker", *note("<!-- made: tables -->\n<!-- end -->")),
+    ("an overview without its block", "block", *changed("docs/API.md", "# The calls\n")),
     ("a page without its block", "block", *changed("docs/PROMISE.md", "# The promise\n")),
     ("a page of a definition that is gone", "definition", *note("<!-- made: promise_safe -->\n<!-- end -->")),
     ("a library's page that is gone", "made", API | {"docs/api/demo.md": None, "docs/API.md": None}, "docs/api/demo.md:1:"),
