@@ -40,18 +40,17 @@ def there(files):
 
 
 class Tasks:
-    """What an engineer does with a library: each task with its call, whether the overview shows it, and a caller."""
+    """What a library is for, a caller, and what an engineer does with it: each task, its call, and whether the overview shows it."""
 
-    def __init__(self, lines):
-        self.caller, self.calls = None, []
+    def __init__(self, name, lines):
+        said = dict(line.split(": ", 1) for line in lines if line.startswith(("about: ", "caller: ")))
+        if len(said) < 2 or len(said["caller"].split()) != 2:
+            raise Gone(f"{TASKS}: `{name}` needs a line `about: ..`, and one `caller: FILE FUNCTION`")
+        self.about, self.caller, self.calls = said["about"], said["caller"].split(), []
         for line in lines:
             task, _, call = line.rpartition(": ")
-            if task == "caller":
-                self.caller = call.split()
-            elif line.startswith("caller: "):
-                raise Gone(f"{TASKS}: `{line}` names no caller")
-            else:
-                self.calls.append((task.lstrip("* "), call, task.startswith("* ")))
+            if not line.startswith(("about: ", "caller: ")):
+                self.calls.append((task.removeprefix("* "), call, task.startswith("* ")))
 
 
 def tasks_of(files):
@@ -62,8 +61,8 @@ def tasks_of(files):
             name = line
             parts[name] = []
         elif line and not line.startswith("#"):
-            parts[name].append(line)
-    return {name: Tasks(lines) for name, lines in parts.items()}
+            parts.setdefault(name, []).append(line)
+    return {name: Tasks(name, lines) for name, lines in parts.items()}
 
 
 def heading_of(crate, call):
@@ -71,13 +70,18 @@ def heading_of(crate, call):
     path = (crate.name, *call.split("::"))
     public = list(crate.public())
     if path in public:
-        return "::".join(path)
+        return title(path)
     for names in (path, path[:-1]):
         if names[:-1] in public and names[-1] in crate.listed(names[:-1])[0]:
             shown = "\n".join(crate.shown(crate.listed(names[:-1])[0][names[-1]]))
             if names == path or re.search(rf"pub (?:const )?fn {path[-1]}\b", shown):
                 return names[-1]
     raise Gone(f"{TASKS}: `{call}` is no public name of {crate.name}")
+
+
+def title(path):
+    """The heading of a module; that of the root is not the page's own."""
+    return "::".join(path) if len(path) > 1 else f"In {path[0]} itself"
 
 
 def anchor(heading):
@@ -107,7 +111,7 @@ def function(text, name):
 
 def caller(crate, place, files):
     """The function that calls the library, as it stands."""
-    path, name = place or (None, None)
+    path, name = place
     lines = function(files.get(path, ""), name)
     if not lines:
         raise Gone(f"{TASKS}: {path} has no function `{name}`, which is to call {crate.name}")
@@ -147,7 +151,7 @@ def module(crate, path, files):
         return []
     about = crate.modules[path].about if len(path) > 1 else []
     uses = [f"pub use {other};" for other in sorted(others)]
-    shown = ["", f"## {'::'.join(path)}", *([""] if about else []), *about]
+    shown = ["", f"## {title(path)}", *([""] if about else []), *about]
     shown += ["", "```rust", *uses, "```"] if uses else []
     for name in sorted(items, key=str.lower):
         shown += item(crate, name, items[name], files)
@@ -160,7 +164,7 @@ def names(crate):
         items, _ = crate.listed(path)
         if items:
             linked = ", ".join(f"[`{name}`](#{anchor(name)})" for name in sorted(items, key=str.lower))
-            yield f"| [`{'::'.join(path)}`](#{anchor('::'.join(path))}) | {linked} |"
+            yield f"| [`{'::'.join(path)}`](#{anchor(title(path))}) | {linked} |"
 
 
 def glossary(crate, files):
@@ -184,7 +188,7 @@ def page(crate, tasks, files):
     parts = [line for path in crate.public() for line in module(crate, path, files)]
     if not tasks.calls or not any(line.startswith("### ") for line in parts):
         raise Gone(f"{FOLDER}/{crate.name}.md would be empty: {crate.name} has no task, or nothing public")
-    lines = [f"# {crate.name}", "", *crate.modules[(crate.name,)].about, "", "Made by `scripts/pages.py`. "
+    lines = [f"# {crate.name}", "", tasks.about, "", *crate.modules[(crate.name,)].about, "", "Made by `scripts/pages.py`. "
              "[API](../API.md) says how to read a clause.", "", "## By task", "", "| You want to | Call |", "|---|---|"]
     lines += [*index(crate, tasks.calls), "", "## A caller", "", *caller(crate, tasks.caller, files), "", "## By module", ""]
     lines += ["| Module | Names |", "|---|---|", *names(crate), *parts, *glossary(crate, files)]
@@ -201,10 +205,8 @@ def whole(files):
 
 def libraries(files):
     """What docs/API.md shows: the libraries."""
-    rows = []
-    for name in there(files):
-        about = listings.first_sentence(files[f"crates/{name}/src/lib.rt"])
-        rows.append(f"| [`{name}`](api/{name}.md) | {listings.cell(about)} |")
+    tasks = tasks_of(files)
+    rows = [f"| [`{name}`](api/{name}.md) | {listings.cell(tasks[name].about)} |" for name in there(files)]
     if not rows:
         raise Gone(f"{TASKS} names no library")
     return ["| Library | What it has |", "|---|---|", *rows]

@@ -30,6 +30,7 @@ WHY = {
     "calls": "calls nothing of",
     "proved": "is in no crate of crates.txt",
     "part": "has no part for the library",
+    "needed": "needs a line",
     "library": "is no library of crates.txt",
     "definition": "is no definition of",
     "block": "the page has no block",
@@ -71,7 +72,7 @@ API = {
     "crates.txt": "demo:\nhost: demo\n",
     "crates/demo/src/lib.rt": "//! A crate.\n#![tactic(auto)]\n\npub fn same(it: u8) -> u8 {\n    it\n}\n",
     "crates/host/src/main.rt": "//! A host.\n#![tactic(auto)]\n\nfn run() -> u8 {\n    same(1)\n}\n\nfn idle() {\n    drop(1);\n}\n",
-    "scripts/tasks.txt": "# Tasks.\ndemo\ncaller: crates/host/src/main.rt run\n* get the value back: same\n",
+    "scripts/tasks.txt": "# Tasks.\ndemo\nabout: Gives values.\ncaller: crates/host/src/main.rt run\n* get the value back: same\n",
 }
 API |= api_pages.whole(GOOD | API)
 OVERVIEW = "".join(f"<!-- made: {name} -->\n<!-- end -->\n" for name in pages.BLOCKS[api_pages.OVERVIEW])
@@ -140,6 +141,7 @@ FILES = [
     ("a caller that does not call", "calls", *with_tasks("rt run", "rt idle")),
     ("a caller that nothing proves", "proved", API | {"crates.txt": "demo:\n"}, "docs/API.md:1:"),
     ("a library without a page", "part", API | {"crates.txt": "demo:\nhost: demo\nmore:\n", "crates/more/src/lib.rt": CRATE}, "docs/API.md:1:"),
+    ("a library without a caller", "needed", *with_tasks("caller: ", "call: ")),
     ("a page for a program", "library", *with_tasks("demo\n", "host\n")),
     ("what was built", "out", *changed("crates/demo/out/demo.rlib", "x\n")),
 ]
