@@ -94,6 +94,30 @@ fn print_query<C: ArgumentCheck>(
             return Ok(());
         }
     };
+    let Clauses {
+        permits,
+        forbids,
+        has_refusal,
+    } = clauses_in(rt, schema, checker, policies, env)?;
+    println!(rt; "{table};")?;
+    if has_refusal {
+        println!(rt; "-- no query")?;
+        return Ok(());
+    }
+    let query = joined(alloc, permits, forbids)?;
+    println!(rt; "{};", table.query(&query))?;
+    Ok(())
+}
+
+/// The clauses of the policies in an environment. Why a policy has none is printed.
+fn clauses_in<C: ArgumentCheck>(
+    rt: &HostRuntime,
+    schema: &ValidatorSchema,
+    checker: &Typechecker<'_, C>,
+    policies: &[WrittenPolicy],
+    env: &RequestEnv<'_>,
+) -> Result<Clauses, HostError> {
+    let alloc = rt.alloc();
     let mut clauses = Clauses {
         permits: Vec::new(alloc),
         forbids: Vec::new(alloc),
@@ -102,12 +126,8 @@ fn print_query<C: ArgumentCheck>(
     for policy in policies {
         match checker.typecheck_by_single_request_env(alloc, &policy.template, env)? {
             PolicyCheck::Success(typed) => {
-                add_clause(
-                    rt,
-                    &mut clauses,
-                    policy,
-                    where_clause(alloc, schema, env, &typed)?,
-                )?;
+                let clause = where_clause(alloc, schema, env, &typed)?;
+                add_clause(rt, &mut clauses, policy, clause)?;
             }
             // it is never true here
             PolicyCheck::Irrelevant(_errors, _typed) => {}
@@ -115,19 +135,7 @@ fn print_query<C: ArgumentCheck>(
             PolicyCheck::Fail(_errors) => clauses.has_refusal = true,
         }
     }
-    println!(rt; "{table};")?;
-    let Clauses {
-        permits,
-        forbids,
-        has_refusal,
-    } = clauses;
-    if has_refusal {
-        println!(rt; "-- no query")?;
-        return Ok(());
-    }
-    let query = joined(alloc, permits, forbids)?;
-    println!(rt; "{};", table.query(&query))?;
-    Ok(())
+    Ok(clauses)
 }
 
 /// Adds the clause of a policy, or prints why it has none.
