@@ -1,8 +1,10 @@
 // Lists of entities, checked by a schema.
-ghost use Rattle.std.specs.Prelude.{IfOk, IfSome};
+ghost use Rattle.std.specs.Prelude.{◌≡◌, false, IfOk, IfSome, OnOk, is_some};
 ghost use Rattle.cedar_types.specs.Schemas.Contents.{schema_of};
 ghost use Rattle.cedar_types.specs.Values.Stores.{ConformingStore};
+ghost use Rattle.cedar_conformance.specs.Answers.{lists_none};
 ghost use Rattle.cedar_conformance.specs.Entities.{store_of};
+ghost use Rattle.cedar_data.specs.Faults.{has_none};
 
 use crate::closures::{Ancestors, add_ancestors};
 use crate::collected::{Collected, ExtensionText, Faults};
@@ -25,7 +27,7 @@ pub struct CheckedEntities {
     pub conforming: Option<Entities>,
     /// How many entities could be read.
     pub count: usize,
-    /// The mistakes.
+    /// The mistakes: none exactly where there are conforming entities.
     pub faults: Faults,
     /// The texts that constructors of extension values are given. Whether these can read them is not asked.
     pub texts: Vec<ExtensionText>,
@@ -39,8 +41,9 @@ pub fn check_entities_text(
     schema: &ValidatorSchema,
     text: &str,
 ) -> Result<CheckedEntities, DataError>
-    ensures { IfOk result (λ c. IfSome c.conforming (λ e.
+    ensures conforms { IfOk result (λ c. IfSome c.conforming (λ e.
         ConformingStore (schema_of schema.now) (store_of e))) }
+    ensures agrees { IfOk result (λ c. is_some c.conforming ≡ has_none c.faults) }
 {
     let value = value_alone(alloc, text)?;
     let mut collected = Collected::new(alloc, schema);
@@ -65,16 +68,16 @@ pub fn check_entities_text(
     })
 }
 
-/// The entities, where they are as the schema says and have no other mistake. What is said of them is listed, where no mistake
-/// is.
+/// The entities, where they are as the schema says and have no other mistake. Where they are not, a mistake is listed.
 fn keep_conforming(
     alloc: Global,
     schema: &ValidatorSchema,
     entities: Entities,
     faults: &mut Faults,
 ) -> Result<Option<Entities>, AllocError>
-    ensures { IfOk result (λ o. IfSome o (λ e.
+    ensures conforms { IfOk result (λ o. IfSome o (λ e.
         ConformingStore (schema_of schema.now) (store_of e))) }
+    ensures agrees { IfOk result (λ o. is_some o ≡ has_none faults.new) }
 {
     match check_entities(alloc, schema, &entities)? {
         Ok(()) if faults.is_empty() => Ok(Some(entities)),
@@ -123,7 +126,10 @@ fn stored(alloc: Global, list: List<'_>, declared: Ancestors) -> Result<Entities
 }
 
 /// Lists what is said of entities as a whole, where nothing else was found.
-fn add_unseen(faults: &mut Faults, found: Vec<EntityFault>) -> Result<(), AllocError> {
+fn add_unseen(faults: &mut Faults, found: Vec<EntityFault>) -> Result<(), AllocError>
+    requires { lists_none found.items ≡ false }
+    ensures { OnOk result (has_none faults.new ≡ false) }
+{
     if !faults.is_empty() {
         return Ok(());
     }

@@ -1,19 +1,21 @@
 // One entity at a time, checked by a schema, as a store gives it that does not fit into one text.
-ghost use Rattle.std.specs.Prelude.{IfOk, IfSome};
+ghost use Rattle.std.specs.Prelude.{◌≡◌, IfOk, IfSome, is_some};
 ghost use Rattle.cedar_types.specs.Names.{uid_of};
 ghost use Rattle.cedar_types.specs.Schemas.Contents.{schema_of};
 ghost use Rattle.cedar_types.specs.Schemas.{type_named};
 ghost use Rattle.cedar_types.specs.Values.Stores.{FitsDeclaration};
 ghost use Rattle.cedar_conformance.specs.Entities.{entity_of};
+ghost use Rattle.cedar_data.specs.Faults.{has_none};
 
 use crate::collected::{Collected, ExtensionText, Faults};
-use crate::faults::DataError;
+use crate::faults::{DataError, Problem};
 use crate::listed::{Listed, read_stored};
 use crate::unfit::add_unfit_one;
 use cedar_conformance::entities::Entity;
+use cedar_conformance::entity_faults::EntityFault;
 use cedar_conformance::stored::check_entity;
-use cedar_json::value_alone;
-use cedar_types::base::{EntityUID, ValidatorSchema};
+use cedar_json::{FormFault, value_alone};
+use cedar_types::base::{EntityUID, Loc, ValidatorSchema};
 use std::alloc::{AllocError, Global};
 
 /// What a text of an entity gives.
@@ -21,7 +23,7 @@ use std::alloc::{AllocError, Global};
 pub struct CheckedEntry {
     /// The entity with its id, where there is no mistake: it is as the schema says.
     pub conforming: Option<(EntityUID, Entity)>,
-    /// The mistakes.
+    /// The mistakes: none exactly where there is an entity.
     pub faults: Faults,
     /// The texts that constructors of extension values are given. Whether these can read them is not asked.
     pub texts: Vec<ExtensionText>,
@@ -34,9 +36,10 @@ pub fn check_entry_text(
     schema: &ValidatorSchema,
     text: &str,
 ) -> Result<CheckedEntry, DataError>
-    ensures { IfOk result (λ c. IfSome c.conforming (λ e. FitsDeclaration (schema_of schema.now)
+    ensures fits { IfOk result (λ c. IfSome c.conforming (λ e. FitsDeclaration (schema_of schema.now)
         (uid_of e.0) (type_named (schema_of schema.now).types (uid_of e.0).entity_type)
         (entity_of e.1))) }
+    ensures agrees { IfOk result (λ c. is_some c.conforming ≡ has_none c.faults) }
 {
     let value = value_alone(alloc, text)?;
     let mut collected = Collected::new(alloc, schema);
@@ -49,8 +52,8 @@ pub fn check_entry_text(
         texts,
         ..
     } = collected;
+    let conforming = keep_conforming(alloc, schema, listed, &mut faults)?;
     faults.sort()?;
-    let conforming = keep_conforming(alloc, schema, listed, &faults)?;
     Ok(CheckedEntry {
         conforming,
         faults,
@@ -58,40 +61,56 @@ pub fn check_entry_text(
     })
 }
 
-/// The entity, where it is as the schema says and there is no mistake.
+/// The entity, where it is as the schema says and there is no mistake. Where it is not, a mistake is listed.
 fn keep_conforming(
     alloc: Global,
     schema: &ValidatorSchema,
     listed: Option<Listed<'_>>,
-    faults: &Faults,
+    faults: &mut Faults,
 ) -> Result<Option<(EntityUID, Entity)>, AllocError>
-    ensures { IfOk result (λ o. IfSome o (λ e. FitsDeclaration (schema_of schema.now)
+    ensures fits { IfOk result (λ o. IfSome o (λ e. FitsDeclaration (schema_of schema.now)
         (uid_of e.0) (type_named (schema_of schema.now).types (uid_of e.0).entity_type)
         (entity_of e.1))) }
+    ensures agrees { IfOk result (λ o. is_some o ≡ has_none faults.new) }
 {
     match listed {
         Some(listed) => {
-            let Listed { id, entity, .. } = listed;
-            keep_fitting(alloc, schema, id, entity, faults)
+            let Listed {
+                id,
+                entity,
+                place,
+                ..
+            } = listed;
+            keep_fitting(alloc, schema, (id, entity), place, faults)
         }
-        None => Ok(None),
+        None => {
+            let place = Loc { start: 0, end: 0 };
+            let problem = Problem::Form(FormFault::Expected("an entity"));
+            faults.add_if_none(place, problem)?;
+            Ok(None)
+        }
     }
 }
 
 fn keep_fitting(
     alloc: Global,
     schema: &ValidatorSchema,
-    id: EntityUID,
-    entity: Entity,
-    faults: &Faults,
+    entry: (EntityUID, Entity),
+    place: Loc,
+    faults: &mut Faults,
 ) -> Result<Option<(EntityUID, Entity)>, AllocError>
-    ensures { IfOk result (λ o. IfSome o (λ e. FitsDeclaration (schema_of schema.now)
+    ensures fits { IfOk result (λ o. IfSome o (λ e. FitsDeclaration (schema_of schema.now)
         (uid_of e.0) (type_named (schema_of schema.now).types (uid_of e.0).entity_type)
         (entity_of e.1))) }
+    ensures agrees { IfOk result (λ o. is_some o ≡ has_none faults.new) }
 {
+    let (id, entity) = entry;
     match check_entity(alloc, schema, &id, &entity)? {
         Ok(()) if faults.is_empty() => Ok(Some((id, entity))),
         Ok(()) => Ok(None),
-        Err(_problem) => Ok(None),
+        Err(problem) => {
+            faults.add_if_none(place, Problem::Entity(EntityFault { id, problem }))?;
+            Ok(None)
+        }
     }
 }

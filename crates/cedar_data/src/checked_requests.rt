@@ -1,8 +1,9 @@
 // Requests, checked by a schema.
-ghost use Rattle.std.specs.Prelude.{IfOk, IfSome};
+ghost use Rattle.std.specs.Prelude.{◌≡◌, false, IfOk, IfSome, OnOk, is_some};
 ghost use Rattle.cedar_types.specs.Schemas.Contents.{schema_of};
 ghost use Rattle.cedar_typing.specs.Evaluation.Conformance.{ConformingRequest};
 ghost use Rattle.cedar_conformance.specs.Requests.{request_of};
+ghost use Rattle.cedar_data.specs.Faults.{has_none};
 
 use crate::collected::{Collected, ExtensionText, Faults};
 use crate::faults::{DataError, Problem};
@@ -26,7 +27,7 @@ const KEYS: [&str; 4] = ["principal", "action", "resource", "context"];
 pub struct CheckedRequest {
     /// The request, where there is no mistake: it is one of those that the schema allows.
     pub conforming: Option<Request>,
-    /// The mistakes.
+    /// The mistakes: none exactly where there is a request.
     pub faults: Faults,
     /// The texts that constructors of extension values are given. Whether these can read them is not asked.
     pub texts: Vec<ExtensionText>,
@@ -39,16 +40,13 @@ pub fn check_request_text(
     schema: &ValidatorSchema,
     text: &str,
 ) -> Result<CheckedRequest, DataError>
-    ensures { IfOk result (λ c. IfSome c.conforming (λ r.
+    ensures conforms { IfOk result (λ c. IfSome c.conforming (λ r.
         ConformingRequest (schema_of schema.now) (request_of r))) }
+    ensures agrees { IfOk result (λ c. is_some c.conforming ≡ has_none c.faults) }
 {
     let value = value_alone(alloc, text)?;
     let mut collected = Collected::new(alloc, schema);
-    let object = Object::of(&value);
-    let conforming = match collected.keep(object)? {
-        Some(object) => read_conforming(schema, &mut collected, object)?,
-        None => None,
-    };
+    let conforming = read_conforming(schema, &mut collected, &value)?;
     let Collected {
         mut faults,
         texts,
@@ -62,16 +60,24 @@ pub fn check_request_text(
     })
 }
 
-/// Reads a request, and answers it where the schema allows it and it has no mistake.
+/// Reads a request, and answers it where the schema allows it and it has no mistake. Where it is not answered, a mistake is
+/// listed.
 fn read_conforming(
     schema: &ValidatorSchema,
     collected: &mut Collected<'_>,
-    object: Object<'_>,
+    value: &Value,
 ) -> Result<Option<Request>, AllocError>
-    ensures { IfOk result (λ o. IfSome o (λ r.
+    ensures conforms { IfOk result (λ o. IfSome o (λ r.
         ConformingRequest (schema_of schema.now) (request_of r))) }
+    ensures agrees { IfOk result (λ o. is_some o ≡ has_none collected.new.faults) }
 {
+    let object = Object::of(value);
+    let Some(object) = collected.keep(object)? else {
+        add_no_request(collected, value)?;
+        return Ok(None);
+    };
     let Some(request) = read_request(collected, object)? else {
+        add_no_request(collected, value)?;
         return Ok(None);
     };
     match check_request(collected.alloc, schema, &request)? {
@@ -82,6 +88,14 @@ fn read_conforming(
             Ok(None)
         }
     }
+}
+
+/// Lists that a value is no request, where no part of it has a mistake of its own.
+fn add_no_request(collected: &mut Collected<'_>, value: &Value) -> Result<(), AllocError>
+    ensures { OnOk result (has_none collected.new.faults ≡ false) }
+{
+    let problem = Problem::Form(FormFault::Expected("a request"));
+    collected.faults.add_if_none(value.place, problem)
 }
 
 /// Reads a request. Where one of its parts is missing or has another form, there is none.
@@ -194,16 +208,16 @@ fn add_unfit(
     request: &Request,
     object: Object<'_>,
     fault: RequestFault,
-) -> Result<(), AllocError> {
+) -> Result<(), AllocError>
+    ensures { OnOk result (has_none collected.new.faults ≡ false) }
+{
     let declared = schema.get_action_id(&request.action);
     if let Some(applies_to) = declared.and_then(|action| action.defined()) {
         add_unfit_types(collected, request, object, applies_to)?;
         add_in_context(collected, object, &applies_to.context, &request.context)?;
     }
-    if collected.faults.is_empty() {
-        add_fault(collected, object, fault)?;
-    }
-    Ok(())
+    let place = place_at(object, key_of(&fault));
+    collected.faults.add_if_none(place, Problem::Request(fault))
 }
 
 /// Lists a mistake of a request at its key.

@@ -1,4 +1,7 @@
 // What is found while data is read and checked.
+ghost use Rattle.std.specs.Prelude.{◌≡◌, true, false, OnOk};
+ghost use Rattle.cedar_data.specs.Faults.{has_more_in, has_none, listed_in};
+
 use crate::faults::{DataFault, Problem};
 use cedar_extensions::checks::Constructor;
 use cedar_json::FormError;
@@ -19,7 +22,10 @@ pub struct Faults {
 
 impl Faults {
     /// None so far.
-    pub fn new(alloc: Global) -> Faults {
+    pub fn new(alloc: Global) -> Faults
+        ensures none { has_none result ≡ true }
+        ensures no_more { has_more_in result ≡ false }
+    {
         Faults {
             listed: Vec::new(alloc),
             has_more: false,
@@ -27,22 +33,40 @@ impl Faults {
     }
 
     /// The mistakes, at most `MAX_FAULTS`, in the order of their places once all are found.
-    pub fn listed(&self) -> &[DataFault] {
+    pub fn listed(&self) -> &[DataFault]
+        ensures { result.now ≡ listed_in self.now }
+    {
         self.listed.as_slice()
     }
 
     /// Whether there are more than are listed.
-    pub fn has_more(&self) -> bool {
+    pub fn has_more(&self) -> bool
+        ensures { result ≡ has_more_in self.now }
+    {
         self.has_more
     }
 
     /// Whether there is none.
-    pub fn is_empty(&self) -> bool {
+    pub fn is_empty(&self) -> bool
+        ensures { result ≡ has_none self.now }
+    {
         self.listed.is_empty()
     }
 
+    /// Adds a mistake where no other is.
+    pub(crate) fn add_if_none(&mut self, place: Loc, problem: Problem) -> Result<(), AllocError>
+        ensures { OnOk result (has_none self.new ≡ false) }
+    {
+        if !self.is_empty() {
+            return Ok(());
+        }
+        self.add(place, problem)
+    }
+
     /// Adds a mistake. Where memory is refused, nothing changes.
-    pub(crate) fn add(&mut self, place: Loc, problem: Problem) -> Result<(), AllocError> {
+    pub(crate) fn add(&mut self, place: Loc, problem: Problem) -> Result<(), AllocError>
+        ensures { OnOk result (has_none self.new ≡ false) }
+    {
         if self.listed.len() >= MAX_FAULTS {
             self.has_more = true;
             return Ok(());
@@ -52,7 +76,9 @@ impl Faults {
     }
 
     /// Orders the mistakes by their places.
-    pub(crate) fn sort(&mut self) -> Result<(), AllocError> {
+    pub(crate) fn sort(&mut self) -> Result<(), AllocError>
+        ensures { OnOk result (has_none self.new ≡ has_none self.old) }
+    {
         self.listed.sort_by_key(|it| (it.place.start, it.place.end))
     }
 }

@@ -16,10 +16,11 @@ pub struct Totals {
     pub lacks_schema: bool,
 }
 
-/// Whether data is checked, how many entities were read, and how many mistakes data has.
+/// Whether data is checked, and whether some of it is refused; how many entities were read, and how many mistakes data has.
 #[derive(Clone, Copy, Default)]
 pub struct DataTally {
     pub is_asked: bool,
+    pub is_refused: bool,
     pub entities: u64,
     pub errors: u64,
 }
@@ -28,6 +29,11 @@ impl DataTally {
     /// Counts an entity.
     pub fn add_entity(&mut self) {
         self.entities = self.entities.saturating_add(1);
+    }
+
+    /// Notes that data is not as the schema says.
+    pub fn refuse(&mut self) {
+        self.is_refused = true;
     }
 
     /// Counts a mistake.
@@ -71,12 +77,12 @@ impl Totals {
         ]
     }
 
-    /// The exit status: 2 where there is a fault, else 1 where a policy is refused or data has a mistake, or where there is a
-    /// warning and warnings are denied, else 0.
+    /// The exit status: 2 where there is a fault, else 1 where a policy or data is refused, or where there is a warning and
+    /// warnings are denied, else 0.
     pub fn status(&self, denies_warnings: bool) -> u8 {
         if self.faults > 0 {
             2
-        } else if self.refused > 0 || self.data.errors > 0 || denies_warnings && self.warnings > 0 {
+        } else if self.refused > 0 || self.data.is_refused || denies_warnings && self.warnings > 0 {
             1
         } else {
             0

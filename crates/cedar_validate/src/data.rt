@@ -37,6 +37,8 @@ enum Kind {
 #[derive(Drop)]
 struct Found {
     entities: usize,
+    /// Whether the text gives data that is as the schema says.
+    conforms: bool,
     faults: Faults,
     texts: Vec<ExtensionText>,
 }
@@ -96,6 +98,7 @@ fn found_in(
             let checked = check_entities_text(alloc, schema, text)?;
             Ok(Found {
                 entities: checked.count,
+                conforms: checked.conforming.is_some(),
                 faults: checked.faults,
                 texts: checked.texts,
             })
@@ -104,6 +107,7 @@ fn found_in(
             let checked = check_request_text(alloc, schema, text)?;
             Ok(Found {
                 entities: 0,
+                conforms: checked.conforming.is_some(),
                 faults: checked.faults,
                 texts: checked.texts,
             })
@@ -162,12 +166,16 @@ fn push_found(
     for _ in 0..found.entities {
         totals.data.add_entity();
     }
+    if !found.conforms {
+        totals.data.refuse();
+    }
     let mut findings = Vec::new(alloc);
     for fault in found.faults.listed() {
         findings.push(finding_of(alloc, report, schema, fault)?)?;
     }
     for text in &found.texts {
         if !is_read(text) {
+            totals.data.refuse();
             findings.push(unread(alloc, text)?)?;
         }
     }

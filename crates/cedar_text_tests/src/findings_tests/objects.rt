@@ -144,6 +144,7 @@ fn data_as_objects(rt: HostRuntime) -> Result<(), Fail> {
     totals.data.add_entity();
     totals.data.add_error();
     totals.data.add_error();
+    totals.data.refuse();
     Objects.end(&mut out, &totals)?;
     assert_eq!(rt; out.as_str(), DATA.trim_start());
     assert_eq!(rt; totals.status(false), 1);
