@@ -1,9 +1,10 @@
 // Lists of entities, checked by a schema.
-ghost use Rattle.std.specs.Prelude.{◌≡◌, false, IfOk, IfSome, OnOk, is_some};
+ghost use Rattle.std.specs.Prelude.{◌≡◌, false, length, IfErr, IfOk, IfSome, OnOk, is_some};
 ghost use Rattle.cedar_types.specs.Schemas.Contents.{schema_of};
 ghost use Rattle.cedar_types.specs.Values.Stores.{ConformingStore};
 ghost use Rattle.cedar_conformance.specs.Answers.{lists_none};
 ghost use Rattle.cedar_conformance.specs.Entities.{store_of};
+ghost use Rattle.cedar_json.specs.Cursors.{IsFaultWithin};
 ghost use Rattle.cedar_data.specs.Faults.{has_none};
 
 use crate::closures::{Ancestors, add_ancestors};
@@ -44,6 +45,7 @@ pub fn check_entities_text(
     ensures conforms { IfOk result (λ c. IfSome c.conforming (λ e.
         ConformingStore (schema_of schema.now) (store_of e))) }
     ensures agrees { IfOk result (λ c. is_some c.conforming ≡ has_none c.faults) }
+    ensures err { IfErr result (λ e. IsFaultWithin (length text.now) e) }
 {
     let value = value_alone(alloc, text)?;
     let mut collected = Collected::new(alloc, schema);

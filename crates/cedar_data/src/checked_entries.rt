@@ -1,10 +1,11 @@
 // One entity at a time, checked by a schema, as a store gives it that does not fit into one text.
-ghost use Rattle.std.specs.Prelude.{◌≡◌, IfOk, IfSome, is_some};
+ghost use Rattle.std.specs.Prelude.{◌≡◌, length, IfErr, IfOk, IfSome, is_some};
 ghost use Rattle.cedar_types.specs.Names.{uid_of};
 ghost use Rattle.cedar_types.specs.Schemas.Contents.{schema_of};
 ghost use Rattle.cedar_types.specs.Schemas.{type_named};
 ghost use Rattle.cedar_types.specs.Values.Stores.{FitsDeclaration};
 ghost use Rattle.cedar_conformance.specs.Entities.{entity_of};
+ghost use Rattle.cedar_json.specs.Cursors.{IsFaultWithin};
 ghost use Rattle.cedar_data.specs.Faults.{has_none};
 
 use crate::collected::{Collected, ExtensionText, Faults};
@@ -40,6 +41,7 @@ pub fn check_entry_text(
         (uid_of e.0) (type_named (schema_of schema.now).types (uid_of e.0).entity_type)
         (entity_of e.1))) }
     ensures agrees { IfOk result (λ c. is_some c.conforming ≡ has_none c.faults) }
+    ensures err { IfErr result (λ e. IsFaultWithin (length text.now) e) }
 {
     let value = value_alone(alloc, text)?;
     let mut collected = Collected::new(alloc, schema);

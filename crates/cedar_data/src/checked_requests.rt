@@ -1,8 +1,9 @@
 // Requests, checked by a schema.
-ghost use Rattle.std.specs.Prelude.{◌≡◌, false, IfOk, IfSome, OnOk, is_some};
+ghost use Rattle.std.specs.Prelude.{◌≡◌, false, length, IfErr, IfOk, IfSome, OnOk, is_some};
 ghost use Rattle.cedar_types.specs.Schemas.Contents.{schema_of};
 ghost use Rattle.cedar_typing.specs.Evaluation.Conformance.{ConformingRequest};
 ghost use Rattle.cedar_conformance.specs.Requests.{request_of};
+ghost use Rattle.cedar_json.specs.Cursors.{IsFaultWithin};
 ghost use Rattle.cedar_data.specs.Faults.{has_none};
 
 use crate::collected::{Collected, ExtensionText, Faults};
@@ -43,6 +44,7 @@ pub fn check_request_text(
     ensures conforms { IfOk result (λ c. IfSome c.conforming (λ r.
         ConformingRequest (schema_of schema.now) (request_of r))) }
     ensures agrees { IfOk result (λ c. is_some c.conforming ≡ has_none c.faults) }
+    ensures err { IfErr result (λ e. IsFaultWithin (length text.now) e) }
 {
     let value = value_alone(alloc, text)?;
     let mut collected = Collected::new(alloc, schema);
