@@ -1,4 +1,5 @@
 // Which mistakes texts of entities and of requests have, and where. Each subject has a module.
+mod answers;
 mod entities;
 mod entries;
 mod forms;

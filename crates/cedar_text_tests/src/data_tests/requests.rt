@@ -19,6 +19,7 @@ fn good_requests(rt: HostRuntime) -> Result<(), Fail> {
 #[test]
 fn other_requests(rt: HostRuntime) -> Result<(), Fail> {
     let cases = [
+        ("{", "1 a key in quotes is expected\n"),
         ("3", " | an object is expected\n"),
         (
             "{}",

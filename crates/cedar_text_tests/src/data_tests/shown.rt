@@ -26,7 +26,7 @@ action view in [read] appliesTo {
 ";
 
 /// The schema, or an empty one where it cannot be read, by which nothing conforms.
-fn test_schema(alloc: Global) -> ValidatorSchema {
+pub fn test_schema(alloc: Global) -> ValidatorSchema {
     match schema(alloc, SCHEMA) {
         Ok(schema) => schema,
         Err(_) => ValidatorSchema::empty(alloc),
@@ -122,6 +122,9 @@ pub fn entry_shown(alloc: Global, text: &str) -> Result<String, AllocError> {
         Ok(checked) => checked,
         Err(error) => return error_shown(alloc, error),
     };
+    if checked.conforming.is_some() != checked.faults.is_empty() {
+        return String::from_str(alloc, "it conforms and has mistakes, or neither");
+    }
     let Some((id, entity)) = &checked.conforming else {
         return format!(in alloc; "{}", checked.faults);
     };
