@@ -37,9 +37,9 @@ pub fn check_entry_text(
     schema: &ValidatorSchema,
     text: &str,
 ) -> Result<CheckedEntry, DataError>
-    ensures fits { IfOk result (λ c. IfSome c.conforming (λ e. FitsDeclaration (schema_of schema.now)
-        (uid_of e.0) (type_named (schema_of schema.now).types (uid_of e.0).entity_type)
-        (entity_of e.1))) }
+    ensures fits { IfOk result (λ c. IfSome c.conforming (λ e.
+        FitsDeclaration (schema_of schema.now) (uid_of e.0)
+        (type_named (schema_of schema.now).types (uid_of e.0).entity_type) (entity_of e.1))) }
     ensures agrees { IfOk result (λ c. is_some c.conforming ≡ has_none c.faults) }
     ensures err { IfErr result (λ e. IsFaultWithin (length text.now) e) }
 {
