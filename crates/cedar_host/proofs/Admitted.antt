@@ -1,69 +1,40 @@
 -- Policies that are accepted, over data that was checked.
-use Rattle.std.proofs.Common.{◌≡◌, ℕ, Bool, true, false, ◌&&◌, List, All, get_or, refl, sym, ap, subst, ◌∙◌}
+use Rattle.std.proofs.Common.{◌≡◌, ◌↔◌, ℕ, false, All, get_or, refl, sym, subst}
 use Rattle.std.specs.BTreeMap.{BTreeMap}
-use Rattle.std.specs.Bool.{Decides}
-use Rattle.std.specs.List.{list_all}
-use Rattle.std.proofs.lemmas.Bool.Decides.{Decides-and, Decides-like}
-use Rattle.std.proofs.lemmas.List.Elements.{All-weaker}
-use Rattle.std.proofs.lemmas.List.Sums.{AllPass-from_list_all, list_all-from_AllPass}
+use Rattle.cedar_types.specs.Extensions.Functions.{Refusals}
 use Rattle.cedar_types.specs.Schemas.Contents.{schema_of}
 use Rattle.cedar_types.specs.Templates.{template_of}
 use Rattle.cedar_types.specs.declared.base.names.entities.EntityUID.{EntityUID}
 use Rattle.cedar_types.specs.declared.base.names.slots.SlotId.{SlotId}
 use Rattle.cedar_types.specs.declared.base.schema.ValidatorSchema.{ValidatorSchema}
 use Rattle.cedar_types.specs.declared.base.templates.Template.{Template}
-use Rattle.cedar_typing.specs.Evaluation.Conformance.{has_external}
+use Rattle.cedar_typing.specs.Evaluation.Conformance.{ConformingRequest, has_external}
 use Rattle.cedar_typing.specs.Soundness.Policies.{Basis, IsWellFormed}
-use Rattle.cedar_conformance.specs.PolicyTests.{slots_of, policy_fits}
+use Rattle.cedar_conformance.specs.PolicyTests.{slots_of}
 use Rattle.cedar_conformance.specs.Premises.{DataConforms, ArePremises}
+use Rattle.cedar_conformance.specs.Requests.{request_of}
 use Rattle.cedar_conformance.specs.declared.entities.Entities.{Entities}
 use Rattle.cedar_conformance.specs.declared.requests.Request.{Request}
-use Rattle.cedar_conformance.proofs.Slots.{policy_decides}
-use Rattle.cedar_host.specs.declared.admission.LinkedReport.{LinkedReport}
-use Rattle.cedar_host.specs.Admission.{EvaluatesInSlices, template_in, slots_in, IsReady, is_ready}
-use Rattle.cedar_host.specs.Admission.{AreAdmitted, AllEvaluateSafely, AllEvaluateInSlices}
+use Rattle.cedar_conformance.proofs.MetPremises.{data_conforms, request_of_data}
+use Rattle.cedar_host.specs.declared.admission.LinkedTemplate.{LinkedTemplate}
+use Rattle.cedar_host.specs.Accepted.{Accepted, IsAdmissible, basis_by, policies_in, schema_by, steps_by, template_in}
+use Rattle.cedar_host.specs.Admission.{EvaluatesInSlices, AllEvaluateSafely, AllEvaluateInSlices}
+use Rattle.cedar_host.specs.CheckedStores.{IsChecked}
 use Rattle.cedar_host.specs.Slices.{NeedsSliceAlone}
 
--- what is never true is false
-pub fails : (b : Bool) → (b ≡ true → ⊥) → false ≡ b
-fails true never = absurd (never refl)
-fails false never = refl
+module _ {C : Type 0} (meaning : C → Refusals) (a : Accepted C) (request : Request) (entities : Entities)
+    (closed : has_external (schema_of (schema_by a)) ≡ false) (conforming : DataConforms (schema_by a) request entities)
+    (all : All (IsAdmissible (basis_by meaning a) (steps_by a)) (policies_in a)) where
+  pub evaluate_in_slices : AllEvaluateInSlices meaning a request entities
+  evaluate_in_slices k d l world w =
+      let p : LinkedTemplate = get_or (policies_in a) k d in
+      let fit : IsAdmissible (basis_by meaning a) (steps_by a) p = all k d l in
+      fit.sliced closed world
+      (subst (λ s. IsWellFormed (template_in p) s) (sym w.slots_bound) fit.well_formed)
+      (conforming (basis_by meaning a) refl world w.of_data w.functions)
 
--- ---- which policies are ready
-
-ready_decides : (p : LinkedReport) → Decides (is_ready p) (IsReady p)
-ready_decides p =
-    Decides-like (is_ready p)
-    (λ h. record { accepted = h.0; well_formed = h.1 })
-    (λ r. (r.accepted, r.well_formed))
-    (Decides-and p.report.now.is_accepted (policy_fits (template_in p) (slots_in p)) (λ e. e, λ e. e)
-    (policy_decides (template_in p) (slots_in p)))
-
-pub all_ready : (ps : List LinkedReport) → Decides (list_all is_ready ps) (All IsReady ps)
-all_ready ps = (
-  λ h. All-weaker (λ p. is_ready p ≡ true) IsReady (λ p. (ready_decides p).0) ps (AllPass-from_list_all is_ready ps h),
-  λ a. list_all-from_AllPass is_ready ps (All-weaker IsReady (λ p. is_ready p ≡ true) (λ p. (ready_decides p).1) ps a),
-)
-
--- ---- what is promised of them
-
-module _ (schema : ValidatorSchema) (ps : List LinkedReport) (request : Request) (entities : Entities)
-    (met : AreAdmitted schema ps request entities) where
-  pub evaluate_safely : AllEvaluateSafely schema ps request entities
-  evaluate_safely b same right k d l world w =
-      let p : LinkedReport = get_or ps k d in
-      let ready : IsReady p = met.ready k d l in
-      (right k d l).safe ready.accepted (ap has_external same ∙ met.closed) world
-      (subst (λ s. IsWellFormed (template_in p) s) (sym w.slots_bound) ready.well_formed)
-      (met.conforming b same world w.of_data w.functions)
-
-  pub evaluate_in_slices : AllEvaluateInSlices schema ps request entities
-  evaluate_in_slices b steps same need k d l world w =
-      let p : LinkedReport = get_or ps k d in
-      let ready : IsReady p = met.ready k d l in
-      need k d l ready.accepted (ap has_external same ∙ met.closed) world
-      (subst (λ s. IsWellFormed (template_in p) s) (sym w.slots_bound) ready.well_formed)
-      (met.conforming b same world w.of_data w.functions)
+  pub evaluate_safely : AllEvaluateSafely meaning a request entities
+  evaluate_safely k d l world w = (evaluate_in_slices k d l world w).safe
 
 -- of one policy that needs the slice alone
 pub in_slices : (b : Basis) (steps : ℕ) (schema : ValidatorSchema) (template : Template)
@@ -75,3 +46,32 @@ in_slices b steps schema template values request entities same need met world w 
     need (met.closed b.mode b same refl).closed world
     (subst (λ s. IsWellFormed (template_of template) s) (sym w.slots_bound) met.well_formed)
     (met.conforming b same world w.of_data w.functions)
+
+-- ---- over a store that was checked
+
+-- P lets a request in over it
+module _ {C : Type 0} (meaning : C → Refusals) (request : Request) (P : Type 0) where
+  abbrev pub LetsIn : Accepted C × Entities → Type 0
+  LetsIn s =
+      (P ↔ DataConforms (schema_by s.0) request s.1)
+      × (P → AllEvaluateSafely meaning s.0 request s.1)
+      × (P → AllEvaluateInSlices meaning s.0 request s.1)
+
+  abbrev ConformsTo : ValidatorSchema → Type 0
+  ConformsTo schema = ConformingRequest (schema_of schema) (request_of request)
+
+  module _ (held : Accepted C) (stored : Entities) (checked : IsChecked (schema_by held) stored)
+      (all : All (IsAdmissible (basis_by meaning held) (steps_by held)) (policies_in held)) (schema : ValidatorSchema)
+      (same : schema ≡ schema_by held) (decided : P ↔ ConformsTo schema) where
+    conforms : P → DataConforms (schema_by held) request stored
+    conforms p = data_conforms (schema_by held) request stored (subst ConformsTo same (decided.0 p)) checked.conforming
+
+    of_held : LetsIn (held, stored)
+    of_held = (
+      (conforms, λ d. decided.1 (subst ConformsTo (sym same) (request_of_data (schema_by held) request stored d))),
+      λ p. evaluate_safely meaning held request stored checked.closed (conforms p) all,
+      λ p. evaluate_in_slices meaning held request stored checked.closed (conforms p) all,
+    )
+
+    pub over_checked : (s : Accepted C × Entities) → (held, stored) ≡ s → LetsIn s
+    over_checked s is = subst LetsIn is of_held

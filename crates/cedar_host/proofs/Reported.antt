@@ -1,5 +1,5 @@
 -- Reports, one after another: each is on its policy, and says no more than was found.
-use Rattle.std.proofs.Common.{◌≡◌, ℕ, ◌+◌, ◌<◌, Bool, true, List, [], ◌∷◌, ◌++◌, map, take, length, All, get_or, sym, ap, subst, ◌∙◌}
+use Rattle.std.proofs.Common.{◌≡◌, ℕ, ◌+◌, ◌<◌, Bool, true, false, if◌then◌else◌, List, [], ◌∷◌, ◌++◌, map, take, length, All, get_or, sym, ap, subst, ◌∙◌}
 use Rattle.std.proofs.lemmas.List.{map_push, take_more}
 use Rattle.std.proofs.lemmas.List.Elements.{All-push}
 use Rattle.cedar_types.specs.Templates.{PlainTemplate, template_of}
@@ -27,6 +27,12 @@ pub one_more_right : {R : Type 0} (P : R → Type 0) (old new : List R) (answer 
     → new ≡ old ++ answer ∷ [] → All P old → P answer → All P new
 one_more_right P old new answer pushed all right =
     subst (All P) (sym pushed) (All-push P old answer all right)
+
+-- what holds of all holds of these too, whether or not there was room for one more
+pub right_if_pushed : {X : Type 0} (P : X → Type 0) (pushed : Bool) (old new : List X) (x : X)
+    → new ≡ if◌then◌else◌ {A = List X} pushed (old ++ x ∷ []) old → All P old → P x → All P new
+right_if_pushed P true old new x e all right = one_more_right P old new x e all right
+right_if_pushed P false old new x e all right = subst (All P) (sym e) all
 
 -- a report that says of a template what was found in it
 pub right_report : (b : Basis) (r : PolicyReport) (t : PlainTemplate) (accepted impossible : Bool)

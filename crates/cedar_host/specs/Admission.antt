@@ -1,23 +1,24 @@
 -- What is promised of policies that validation accepts, over data that was checked. No premise is
 -- left on the schema, the policies, the request and the entities: only that the extension functions
 -- keep the table.
-use Rattle.std.specs.Prelude.{◌≡◌, ℕ, Bool, true, false, ◌&&◌, List, All}
+use Rattle.std.specs.Prelude.{◌≡◌, ◌↔◌, ℕ, true, false, All}
+use Rattle.cedar_types.specs.Extensions.Functions.{Refusals}
 use Rattle.cedar_types.specs.Schemas.Contents.{schema_of}
-use Rattle.cedar_types.specs.Templates.{PlainTemplate, template_of, condition_of}
+use Rattle.cedar_types.specs.Templates.{PlainTemplate, condition_of}
 use Rattle.cedar_types.specs.declared.base.schema.ValidatorSchema.{ValidatorSchema}
 use Rattle.cedar_typechecker.specs.Slices.Validation.{IsKeptInSlices}
 use Rattle.cedar_typing.specs.Evaluation.Conformance.{KeepsTable, has_external}
 use Rattle.cedar_typing.specs.Evaluation.Eval.{eval}
 use Rattle.cedar_typing.specs.Evaluation.World.{Slots, World}
-use Rattle.cedar_typing.specs.Soundness.Policies.{Basis, IsWellFormed}
+use Rattle.cedar_typing.specs.Soundness.Policies.{Basis}
 use Rattle.cedar_typing.specs.Soundness.PolicyCheck.{IsBooleanOrAllowed}
-use Rattle.cedar_conformance.specs.PolicyTests.{slots_of, policy_fits}
-use Rattle.cedar_conformance.specs.Premises.{IsWorldOfData, DataConforms}
+use Rattle.cedar_conformance.specs.Premises.{IsWorldOfData, ArePremises, DataConforms}
 use Rattle.cedar_conformance.specs.declared.entities.Entities.{Entities}
 use Rattle.cedar_conformance.specs.declared.requests.Request.{Request}
-use Rattle.cedar_host.specs.declared.admission.LinkedReport.{LinkedReport}
-use Rattle.cedar_host.specs.Safety.{IsRight}
-use Rattle.cedar_host.specs.Slices.{NeedsSliceAlone}
+use Rattle.cedar_host.specs.declared.admission.LinkedTemplate.{LinkedTemplate}
+use Rattle.cedar_host.specs.declared.policy_sets.Findings.{Findings}
+use Rattle.cedar_host.specs.Accepted.{Accepted, basis_by, policies_in, slots_in, steps_by, template_in}
+use Rattle.cedar_host.specs.Found.{AreFindingsWithin}
 
 -- ---- of a policy
 
@@ -41,41 +42,30 @@ abbrev pub EvaluatesInSlices : Basis → ℕ → Request → Entities → PlainT
 EvaluatesInSlices b steps request entities t slots =
     (world : World) → IsWorldOfPolicy b request entities slots world → IsKeptInSlices t steps world
 
--- ---- of a set that was validated
+-- ---- of one policy that is validated at once
 
--- the template that the report is about
-abbrev pub template_in : LinkedReport → PlainTemplate
-template_in p = template_of p.report.now.policy.now.template
+-- an answer is Ok exactly where what is found in the policy for slices accepts it, and the premises are met
+pub record LetsInExactly (b : Basis) (steps : ℕ) (schema : ValidatorSchema) (p : LinkedTemplate) (request : Request)
+    (entities : Entities) (lets_in : Type 0) : Type 0 where
+  pub found : Findings
+  pub findings : AreFindingsWithin steps b (template_in p) found
+  pub exact : lets_in ↔ ((found.is_accepted ≡ true) × ArePremises schema p.template.now p.values.now request entities)
 
-abbrev pub slots_in : LinkedReport → Slots
-slots_in p = slots_of p.values.now
+-- ---- of policies that are accepted
 
--- it is accepted, and with its links it is well-formed
-pub record IsReady (p : LinkedReport) : Type 0 where
-  pub accepted : p.report.now.is_accepted ≡ true
-  pub well_formed : IsWellFormed (template_in p) (slots_in p)
-
--- the same as a test
-abbrev pub is_ready : LinkedReport → Bool
-is_ready p = p.report.now.is_accepted && policy_fits (template_in p) (slots_in p)
-
--- each policy is ready, the schema is closed, and the data conforms
-pub record AreAdmitted (schema : ValidatorSchema) (ps : List LinkedReport) (request : Request)
-    (entities : Entities) : Type 0 where
+-- the schema is closed, and the data conforms
+pub record IsAdmitted (schema : ValidatorSchema) (request : Request) (entities : Entities) : Type 0 where
   pub closed : has_external (schema_of schema) ≡ false
-  pub ready : All IsReady ps
   pub conforming : DataConforms schema request entities
 
--- by reports that are right, in whatever mode and with whatever extension functions
-abbrev pub AllEvaluateSafely : ValidatorSchema → List LinkedReport → Request → Entities → Type 0
-AllEvaluateSafely schema ps request entities =
-    (b : Basis) → b.schema ≡ schema_of schema
-    → All (λ p. IsRight b p.report.now) ps
-    → All (λ p. EvaluatesSafely b request entities (template_in p) (slots_in p)) ps
+module _ {C : Type 0} (meaning : C → Refusals) where
+  -- by the validator that accepted them, in its mode
+  abbrev pub AllEvaluateSafely : Accepted C → Request → Entities → Type 0
+  AllEvaluateSafely a request entities =
+      All (λ p. EvaluatesSafely (basis_by meaning a) request entities (template_in p) (slots_in p)) (policies_in a)
 
--- by reports that are right for slices of so many steps
-abbrev pub AllEvaluateInSlices : ValidatorSchema → List LinkedReport → Request → Entities → Type 0
-AllEvaluateInSlices schema ps request entities =
-    (b : Basis) (steps : ℕ) → b.schema ≡ schema_of schema
-    → All (λ p. p.report.now.is_accepted ≡ true → NeedsSliceAlone b (template_in p) steps) ps
-    → All (λ p. EvaluatesInSlices b steps request entities (template_in p) (slots_in p)) ps
+  -- and for slices of its steps
+  abbrev pub AllEvaluateInSlices : Accepted C → Request → Entities → Type 0
+  AllEvaluateInSlices a request entities =
+      All (λ p. EvaluatesInSlices (basis_by meaning a) (steps_by a) request entities (template_in p) (slots_in p))
+      (policies_in a)

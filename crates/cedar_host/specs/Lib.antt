@@ -1,4 +1,6 @@
+pub mod Accepted
 pub mod Admission
+pub mod CheckedStores
 pub mod Conditions
 pub mod Distinct
 pub mod Found

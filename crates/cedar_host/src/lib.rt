@@ -4,7 +4,9 @@
 //! check of their texts.
 #![tactic(auto)]
 
+pub mod accepted;
 pub mod admission;
+pub mod checked;
 pub mod conditions;
 pub mod held;
 pub mod loaded_outcomes;

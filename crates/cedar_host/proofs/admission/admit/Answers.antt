@@ -1,13 +1,25 @@
+use Rattle.std.proofs.Common.{sym, subst}
+use Rattle.cedar_types.specs.declared.base.schema.ValidatorSchema.{ValidatorSchema}
+use Rattle.cedar_host.specs.Admission.{IsAdmitted}
 use Rattle.cedar_host.proofs.Admitted.{evaluate_safely, evaluate_in_slices}
 use Rattle.cedar_host.proofs.admission.admit.Goals as goal
 
 pub returns : goal.returns
-returns c =
+returns g c =
+    let meaning = g.C.ArgumentCheck.refusal in
+    let policies = c.args.policies.now in
+    let request = c.args.request.now in
+    let entities = c.args.entities.now in
+    let all = c.policies-accepted.ensures.admissible in
+    let Admits : ValidatorSchema → Type 0 = λ schema. IsAdmitted schema request entities in
+    let same = c.schema.ensures in
     let decided = c.in_ok-checked.ensures in
     record {
-      exact = decided;
+      exact = (λ ok. subst Admits same (decided.0 ok), λ a. decided.1 (subst Admits (sym same) a));
       safe = λ ok.
-          evaluate_safely c.args.schema.now c.args.policies.now c.args.request.now c.args.entities.now (decided.0 ok);
+          let a = subst Admits same (decided.0 ok) in
+          evaluate_safely meaning policies request entities a.closed a.conforming all;
       sliced = λ ok.
-          evaluate_in_slices c.args.schema.now c.args.policies.now c.args.request.now c.args.entities.now (decided.0 ok);
+          let a = subst Admits same (decided.0 ok) in
+          evaluate_in_slices meaning policies request entities a.closed a.conforming all;
     }

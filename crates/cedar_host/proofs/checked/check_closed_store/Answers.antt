@@ -1,0 +1,28 @@
+use Rattle.std.proofs.Common.{◌∙◌, refl, sym, ap, subst, true≢false}
+use Rattle.cedar_types.specs.declared.base.schema.ValidatorSchema.{ValidatorSchema}
+use Rattle.cedar_types.specs.Schemas.Contents.{schema_of}
+use Rattle.cedar_types.specs.Values.Stores.{ConformingStore}
+use Rattle.cedar_typing.specs.Evaluation.Conformance.{has_external}
+use Rattle.cedar_conformance.specs.Entities.{store_of}
+use Rattle.cedar_conformance.proofs.MetPremises.{met, unmet, refused}
+use Rattle.cedar_host.proofs.checked.check_closed_store.Goals as goal
+
+pub returns-then-is_external : goal.returns-then-is_external
+returns-then-is_external g c =
+    let same = ap (λ (s : ValidatorSchema). has_external (schema_of s)) c.schema-schema.ensures in
+    let external = sym same ∙ (sym c.in_ok-is_external.ensures ∙ c.if-is_external.true) in
+    refused (λ a. true≢false (sym external ∙ a.closed))
+
+pub returns-in-Ok : goal.returns-in-Ok
+returns-in-Ok g c =
+    let same = ap (λ (s : ValidatorSchema). has_external (schema_of s)) c.schema-schema.ensures in
+    let closed = sym same ∙ (sym c.in_ok-is_external.ensures ∙ c.if-is_external.false) in
+    let Conforms : ValidatorSchema → Type 0 = λ s. ConformingStore (schema_of s) (store_of c.args.entities.now) in
+    let yes = met _ _ c.in-Ok.is c.in_ok-check_entities.ensures.exact in
+    (λ ok. record { closed = closed; conforming = subst Conforms c.schema-schema.ensures yes }, λ a. refl)
+
+pub returns-in-Err : goal.returns-in-Err
+returns-in-Err g c =
+    let Conforms : ValidatorSchema → Type 0 = λ s. ConformingStore (schema_of s) (store_of c.args.entities.now) in
+    refused (λ a.
+    unmet _ _ c.in-Err.is c.in_ok-check_entities.ensures.exact (subst Conforms (sym c.schema-schema.ensures) a.conforming))

@@ -1,0 +1,59 @@
+-- Policies that validation accepts by one validator, each with what its slots are bound to.
+use Rattle.std.specs.Prelude.{◌≡◌, ◌↔◌, ℕ, true, List, [], ◌∷◌, ◌++◌}
+use Rattle.cedar_types.specs.declared.base.schema.ValidatorSchema.{ValidatorSchema}
+use Rattle.cedar_types.specs.Extensions.Functions.{Refusals}
+use Rattle.cedar_types.specs.Templates.{PlainTemplate, template_of}
+use Rattle.cedar_typechecker.specs.declared.rbac.validator.Validator.{Validator}
+use Rattle.cedar_typechecker.specs.ValidatorViews.{schema_in}
+use Rattle.cedar_typing.specs.Evaluation.World.{Slots}
+use Rattle.cedar_typing.specs.Soundness.Policies.{Basis, IsWellFormed}
+use Rattle.cedar_conformance.specs.PolicyTests.{slots_of}
+use Rattle.cedar_host.specs.declared.admission.LinkedTemplate.{LinkedTemplate}
+use Rattle.cedar_host.specs.declared.policy_sets.Findings.{Findings}
+use Rattle.cedar_host.specs.declared.safety.SoundMode.{SoundMode}
+use Rattle.cedar_host.specs.Found.{AreFindingsWithin}
+use Rattle.cedar_host.specs.Safety.{sound_basis, PassesEverywhere}
+use Rattle.cedar_host.specs.Slices.{NeedsSliceAlone}
+
+-- ---- one of them
+
+abbrev pub template_in : LinkedTemplate → PlainTemplate
+template_in p = template_of p.template.now
+
+abbrev pub slots_in : LinkedTemplate → Slots
+slots_in p = slots_of p.values.now
+
+-- its checks pass, it needs no more of a store than the slice of so many steps, and with its links it is well-formed
+pub record IsAdmissible (b : Basis) (steps : ℕ) (p : LinkedTemplate) : Type 0 where
+  pub checked : PassesEverywhere b (template_in p)
+  pub sliced : NeedsSliceAlone b (template_in p) steps
+  pub well_formed : IsWellFormed (template_in p) (slots_in p)
+
+-- an answer is Ok exactly where what is found in it for slices accepts it, and with its links it is well-formed
+pub record AcceptsExactly (b : Basis) (steps : ℕ) (p : LinkedTemplate) (accepts : Type 0) : Type 0 where
+  pub found : Findings
+  pub findings : AreFindingsWithin steps b (template_in p) found
+  pub exact : accepts ↔ ((found.is_accepted ≡ true) × IsWellFormed (template_in p) (slots_in p))
+
+-- ---- all of them
+
+-- the validator that accepted them, its mode, how many steps their slices have, and the policies
+abbrev pub Accepted : Type 0 → Type 0
+Accepted C = Validator C × SoundMode × ℕ × List LinkedTemplate
+
+module _ {C : Type 0} where
+  abbrev pub schema_by : Accepted C → ValidatorSchema
+  schema_by a = schema_in a.0
+
+  abbrev pub basis_by : (C → Refusals) → Accepted C → Basis
+  basis_by meaning a = sound_basis a.1 meaning a.0
+
+  abbrev pub steps_by : Accepted C → ℕ
+  steps_by a = a.2
+
+  abbrev pub policies_in : Accepted C → List LinkedTemplate
+  policies_in a = a.3
+
+  -- one more behind them
+  abbrev pub with_policy : Accepted C → LinkedTemplate → Accepted C
+  with_policy a p = (a.0, a.1, a.2, a.3 ++ p ∷ [])
