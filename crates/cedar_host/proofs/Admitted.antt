@@ -1,5 +1,5 @@
 -- Policies that are accepted, over data that was checked.
-use Rattle.std.proofs.Common.{◌≡◌, ◌↔◌, ℕ, false, All, get_or, refl, sym, subst}
+use Rattle.std.proofs.Common.{◌≡◌, ◌↔◌, ℕ, false, All, Result, get_or, refl, sym, subst}
 use Rattle.std.specs.BTreeMap.{BTreeMap}
 use Rattle.cedar_types.specs.Extensions.Functions.{Refusals}
 use Rattle.cedar_types.specs.Schemas.Contents.{schema_of}
@@ -16,8 +16,9 @@ use Rattle.cedar_conformance.specs.Requests.{request_of}
 use Rattle.cedar_conformance.specs.declared.entities.Entities.{Entities}
 use Rattle.cedar_conformance.specs.declared.requests.Request.{Request}
 use Rattle.cedar_conformance.proofs.MetPremises.{data_conforms, request_of_data}
+use Rattle.cedar_host.specs.declared.admission.AdmissionFault.{AdmissionFault}
 use Rattle.cedar_host.specs.declared.admission.LinkedTemplate.{LinkedTemplate}
-use Rattle.cedar_host.specs.Accepted.{Accepted, IsAdmissible, basis_by, policies_in, schema_by, steps_by, template_in}
+use Rattle.cedar_host.specs.Accepted.{Accepted, AcceptsExactly, IsAdmissible, basis_by, policies_in, schema_by, steps_by, template_in}
 use Rattle.cedar_host.specs.Admission.{EvaluatesInSlices, AllEvaluateSafely, AllEvaluateInSlices}
 use Rattle.cedar_host.specs.CheckedStores.{IsChecked}
 use Rattle.cedar_host.specs.Slices.{NeedsSliceAlone}
@@ -75,3 +76,11 @@ module _ {C : Type 0} (meaning : C → Refusals) (request : Request) (P : Type 0
 
     pub over_checked : (s : Accepted C × Entities) → (held, stored) ≡ s → LetsIn s
     over_checked s is = subst LetsIn is of_held
+
+-- ---- what is answered of one more
+
+pub answered_by : {C : Type 0} (meaning : C → Refusals) (p : LinkedTemplate) (answer : Result (Unit {0}) AdmissionFault)
+    (held a : Accepted C) → held ≡ a → AcceptsExactly (basis_by meaning held) (steps_by held) p answer
+    → AcceptsExactly (basis_by meaning a) (steps_by a) p answer
+answered_by meaning p answer held a is h =
+    subst (λ x. AcceptsExactly (basis_by meaning x) (steps_by x) p answer) is h

@@ -7,6 +7,7 @@ mod Found
 mod LoadedOutcomes
 mod LoadedSlices
 mod Promises
+mod Refused
 mod Repeats
 mod Reported
 mod SameResponses

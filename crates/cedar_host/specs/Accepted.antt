@@ -1,13 +1,17 @@
 -- Policies that validation accepts by one validator, each with what its slots are bound to.
-use Rattle.std.specs.Prelude.{◌≡◌, ◌↔◌, ℕ, true, List, [], ◌∷◌, ◌++◌}
+use Rattle.std.specs.Prelude.{◌≡◌, ◌↔◌, ℕ, true, false, List, [], ◌∷◌, ◌++◌, Some, Result, IsOk, IfErr}
+use Rattle.cedar_types.specs.declared.base.names.policy_ids.PolicyID.{PolicyID}
 use Rattle.cedar_types.specs.declared.base.schema.ValidatorSchema.{ValidatorSchema}
 use Rattle.cedar_types.specs.Extensions.Functions.{Refusals}
+use Rattle.cedar_types.specs.Names.{text_of}
 use Rattle.cedar_types.specs.Templates.{PlainTemplate, template_of}
 use Rattle.cedar_typechecker.specs.declared.rbac.validator.Validator.{Validator}
 use Rattle.cedar_typechecker.specs.ValidatorViews.{schema_in}
 use Rattle.cedar_typing.specs.Evaluation.World.{Slots}
 use Rattle.cedar_typing.specs.Soundness.Policies.{Basis, IsWellFormed}
-use Rattle.cedar_conformance.specs.PolicyTests.{slots_of}
+use Rattle.cedar_conformance.specs.PolicyTests.{slots_of, policy_fault}
+use Rattle.cedar_host.specs.declared.admission.AdmissionFault.{AdmissionFault}
+use Rattle.cedar_host.specs.declared.admission.AdmissionFault.TheVariants as fault
 use Rattle.cedar_host.specs.declared.admission.LinkedTemplate.{LinkedTemplate}
 use Rattle.cedar_host.specs.declared.policy_sets.Findings.{Findings}
 use Rattle.cedar_host.specs.declared.safety.SoundMode.{SoundMode}
@@ -29,11 +33,30 @@ pub record IsAdmissible (b : Basis) (steps : ℕ) (p : LinkedTemplate) : Type 0 
   pub sliced : NeedsSliceAlone b (template_in p) steps
   pub well_formed : IsWellFormed (template_in p) (slots_in p)
 
--- an answer is Ok exactly where what is found in it for slices accepts it, and with its links it is well-formed
-pub record AcceptsExactly (b : Basis) (steps : ℕ) (p : LinkedTemplate) (accepts : Type 0) : Type 0 where
+-- this is its id
+abbrev pub IsIdOf : PolicyID → LinkedTemplate → Type 0
+IsIdOf id p = text_of id.text ≡ text_of p.template.now.id.text
+
+-- the first fault of its form and its links
+abbrev pub IsFaultOfForm : AdmissionFault → LinkedTemplate → Type 0
+IsFaultOfForm (fault.NotAccepted id) p = ⊥
+IsFaultOfForm (fault.Policy id f) p = IsIdOf id p × (policy_fault (template_in p) (slots_in p) ≡ Some f)
+IsFaultOfForm (fault.Premise f) p = ⊥
+
+-- the first fault of it: validation refuses it; or accepts it, and this is the first fault of its form and its links
+abbrev pub IsFirstFaultOf : AdmissionFault → Findings → LinkedTemplate → Type 0
+IsFirstFaultOf (fault.NotAccepted id) found p = (found.is_accepted ≡ false) × IsIdOf id p
+IsFirstFaultOf (fault.Policy id f) found p = (found.is_accepted ≡ true) × IsFaultOfForm (fault.Policy id f) p
+IsFirstFaultOf (fault.Premise f) found p = ⊥
+
+-- an answer is Ok exactly where what is found in it for slices accepts it, and with its links it is well-formed; else it is
+-- its first fault
+pub record AcceptsExactly (b : Basis) (steps : ℕ) (p : LinkedTemplate) (answer : Result (Unit {0}) AdmissionFault)
+    : Type 0 where
   pub found : Findings
   pub findings : AreFindingsWithin steps b (template_in p) found
-  pub exact : accepts ↔ ((found.is_accepted ≡ true) × IsWellFormed (template_in p) (slots_in p))
+  pub exact : IsOk answer ↔ ((found.is_accepted ≡ true) × IsWellFormed (template_in p) (slots_in p))
+  pub first : IfErr answer (λ f. IsFirstFaultOf f found p)
 
 -- ---- all of them
 

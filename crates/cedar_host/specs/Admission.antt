@@ -1,7 +1,7 @@
 -- What is promised of policies that validation accepts, over data that was checked. No premise is
 -- left on the schema, the policies, the request and the entities: only that the extension functions
 -- keep the table.
-use Rattle.std.specs.Prelude.{◌≡◌, ◌↔◌, ℕ, true, false, All}
+use Rattle.std.specs.Prelude.{◌≡◌, ◌↔◌, ℕ, true, false, All, Result, IsOk, IfErr}
 use Rattle.cedar_types.specs.Extensions.Functions.{Refusals}
 use Rattle.cedar_types.specs.Schemas.Contents.{schema_of}
 use Rattle.cedar_types.specs.Templates.{PlainTemplate, condition_of}
@@ -12,12 +12,16 @@ use Rattle.cedar_typing.specs.Evaluation.Eval.{eval}
 use Rattle.cedar_typing.specs.Evaluation.World.{Slots, World}
 use Rattle.cedar_typing.specs.Soundness.Policies.{Basis}
 use Rattle.cedar_typing.specs.Soundness.PolicyCheck.{IsBooleanOrAllowed}
-use Rattle.cedar_conformance.specs.Premises.{IsWorldOfData, ArePremises, DataConforms}
+use Rattle.cedar_conformance.specs.Premises.{IsWorldOfData, ArePremises, DataConforms, IsFirstOfData, IsFirstUnmet}
 use Rattle.cedar_conformance.specs.declared.entities.Entities.{Entities}
+use Rattle.cedar_conformance.specs.declared.premises.PremiseFault.{PremiseFault}
+use Rattle.cedar_conformance.specs.declared.premises.PremiseFault.TheVariants as premise
 use Rattle.cedar_conformance.specs.declared.requests.Request.{Request}
+use Rattle.cedar_host.specs.declared.admission.AdmissionFault.{AdmissionFault}
+use Rattle.cedar_host.specs.declared.admission.AdmissionFault.TheVariants as fault
 use Rattle.cedar_host.specs.declared.admission.LinkedTemplate.{LinkedTemplate}
 use Rattle.cedar_host.specs.declared.policy_sets.Findings.{Findings}
-use Rattle.cedar_host.specs.Accepted.{Accepted, basis_by, policies_in, slots_in, steps_by, template_in}
+use Rattle.cedar_host.specs.Accepted.{Accepted, IsIdOf, basis_by, policies_in, slots_in, steps_by, template_in}
 use Rattle.cedar_host.specs.Found.{AreFindingsWithin}
 
 -- ---- of a policy
@@ -44,12 +48,29 @@ EvaluatesInSlices b steps request entities t slots =
 
 -- ---- of one policy that is validated at once
 
--- an answer is Ok exactly where what is found in the policy for slices accepts it, and the premises are met
+-- the first premise of it that is not met
+abbrev pub IsFirstPremise : AdmissionFault → ValidatorSchema → LinkedTemplate → Request → Entities → Type 0
+IsFirstPremise (fault.NotAccepted id) schema p request entities = ⊥
+IsFirstPremise (fault.Policy id f) schema p request entities = ⊥
+IsFirstPremise (fault.Premise f) schema p request entities =
+    IsFirstUnmet f schema p.template.now p.values.now request entities
+
+-- the first fault of it: validation refuses it; or accepts it, and this is the first premise that is not met
+abbrev pub IsFirstRefusal : AdmissionFault → Findings → ValidatorSchema → LinkedTemplate → Request → Entities → Type 0
+IsFirstRefusal (fault.NotAccepted id) found schema p request entities = (found.is_accepted ≡ false) × IsIdOf id p
+IsFirstRefusal (fault.Policy id f) found schema p request entities = ⊥
+IsFirstRefusal (fault.Premise f) found schema p request entities =
+    (found.is_accepted ≡ true) × IsFirstPremise (fault.Premise f) schema p request entities
+
+-- an answer is Ok exactly where what is found in the policy for slices accepts it, and the premises are met; else it is the
+-- first fault
 pub record LetsInExactly (b : Basis) (steps : ℕ) (schema : ValidatorSchema) (p : LinkedTemplate) (request : Request)
-    (entities : Entities) (lets_in : Type 0) : Type 0 where
+    (entities : Entities) (answer : Result (Unit {0}) AdmissionFault) : Type 0 where
   pub found : Findings
   pub findings : AreFindingsWithin steps b (template_in p) found
-  pub exact : lets_in ↔ ((found.is_accepted ≡ true) × ArePremises schema p.template.now p.values.now request entities)
+  pub exact : IsOk answer
+      ↔ ((found.is_accepted ≡ true) × ArePremises schema p.template.now p.values.now request entities)
+  pub first : IfErr answer (λ f. IsFirstRefusal f found schema p request entities)
 
 -- ---- of policies that are accepted
 
@@ -57,6 +78,15 @@ pub record LetsInExactly (b : Basis) (steps : ℕ) (schema : ValidatorSchema) (p
 pub record IsAdmitted (schema : ValidatorSchema) (request : Request) (entities : Entities) : Type 0 where
   pub closed : has_external (schema_of schema) ≡ false
   pub conforming : DataConforms schema request entities
+
+-- the first of these that is not so
+abbrev pub IsFirstNotAdmitted : PremiseFault → ValidatorSchema → Request → Entities → Type 0
+IsFirstNotAdmitted premise.External schema request entities = has_external (schema_of schema) ≡ true
+IsFirstNotAdmitted (premise.Policy f) schema request entities = ⊥
+IsFirstNotAdmitted (premise.Request f) schema request entities =
+    (has_external (schema_of schema) ≡ false) × IsFirstOfData (premise.Request f) schema request entities
+IsFirstNotAdmitted (premise.Entities fs) schema request entities =
+    (has_external (schema_of schema) ≡ false) × IsFirstOfData (premise.Entities fs) schema request entities
 
 module _ {C : Type 0} (meaning : C → Refusals) where
   -- by the validator that accepted them, in its mode

@@ -1,7 +1,7 @@
 //! Policies that validation accepts, as a value that validation alone makes.
-ghost use Rattle.std.specs.Prelude.{◌≡◌, [], All, IfOk, IsOk, MatchResult, OnErr, ◌↔◌};
+ghost use Rattle.std.specs.Prelude.{◌≡◌, [], All, IfOk, IfErr, IsOk, MatchResult, OnErr, ◌↔◌};
 ghost use Rattle.cedar_typing.specs.Soundness.Policies.{IsWellFormed};
-ghost use Rattle.cedar_host.specs.Accepted.{AcceptsExactly, IsAdmissible, template_in, slots_in};
+ghost use Rattle.cedar_host.specs.Accepted.{AcceptsExactly, IsAdmissible, IsFaultOfForm, template_in, slots_in};
 ghost use Rattle.cedar_host.specs.Accepted.{basis_by, policies_in, schema_by, steps_by, with_policy};
 ghost use Rattle.cedar_host.specs.Safety.{sound_basis};
 
@@ -75,17 +75,17 @@ impl<'a, C: ArgumentCheck> AcceptedPolicies<'a, C> {
         }
     }
 
-    /// Validates a policy for the slices, checks it with its links, and puts it behind the others where both pass: where
-    /// validation accepts it, it has no unknowns, and its slots stand in its scope alone and are bound (clause `exact`). Else
-    /// the answer is the first fault, and nothing changes. A template that is linked several times is validated each time.
-    /// Where memory is refused, nothing changes.
+    /// Validates a policy for the slices, checks it with its links, and puts it behind the others where both pass (clause
+    /// `added`): where validation accepts it, it has no unknowns, and its slots stand in its scope alone and are bound. Else
+    /// the answer is its first fault (clause `exact`), and nothing changes. A template that is linked several times is
+    /// validated each time. Where memory is refused, nothing changes (clause `failed`).
     pub fn add(
         &mut self,
         alloc: Global,
         policy: LinkedTemplate<'a>,
     ) -> Result<Result<(), AdmissionFault>, AllocError>
         ensures exact { IfOk result (λ r. AcceptsExactly (basis_by C.refusal self.old)
-            (steps_by self.old) policy.entry (IsOk r)) }
+            (steps_by self.old) policy.entry r) }
         ensures added { IfOk result (λ r. MatchResult r
             (λ _. self.new ≡ with_policy self.old policy.entry) (λ _. self.new ≡ self.old)) }
         ensures failed { OnErr result (self.new ≡ self.old) }
@@ -99,7 +99,8 @@ impl<'a, C: ArgumentCheck> AcceptedPolicies<'a, C> {
         }
     }
 
-    /// The policies, in the order in which they were added. Each is accepted, and well-formed with its links.
+    /// The policies, in the order in which they were added. Each passes its checks, needs no more of a store than the slice,
+    /// and is well-formed with its links (clause `admissible`).
     pub fn policies(&self) -> &[LinkedTemplate<'a>]
         ensures same { result.now ≡ policies_in self.now }
         ensures admissible { All
@@ -125,7 +126,7 @@ fn check_linked<C: ArgumentCheck>(
     policy: &LinkedTemplate<'_>,
 ) -> Result<Result<(), AdmissionFault>, AllocError>
     ensures exact { IfOk result (λ r. AcceptsExactly (sound_basis mode C.refusal validator.now)
-        steps policy.now (IsOk r)) }
+        steps policy.now r) }
     ensures admissible { IfOk result (λ r. IsOk r
         → IsAdmissible (sound_basis mode C.refusal validator.now) steps policy.now) }
 {
@@ -143,8 +144,9 @@ fn check_links(
     alloc: Global,
     policy: &LinkedTemplate<'_>,
 ) -> Result<Result<(), AdmissionFault>, AllocError>
-    ensures { IfOk result (λ r.
+    ensures exact { IfOk result (λ r.
         IsOk r ↔ IsWellFormed (template_in policy.now) (slots_in policy.now)) }
+    ensures fault { IfOk result (λ r. IfErr r (λ f. IsFaultOfForm f policy.now)) }
 {
     match check_policy(alloc, policy.template, policy.values)? {
         Ok(()) => Ok(Ok(())),

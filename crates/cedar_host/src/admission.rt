@@ -1,13 +1,13 @@
 //! Policies, a request and entities, checked before anything is evaluated. What passes keeps the promise of validation. The
 //! host sees to two things: its extension functions keep the validator's table, and its evaluator is the one that
-//! docs/PROFILE.md describes, over the very entities that were checked.
-ghost use Rattle.std.specs.Prelude.{◌↔◌, IfOk, IsOk};
+//! docs/PROFILE.md describes, over the very request, entities and links that were checked.
+ghost use Rattle.std.specs.Prelude.{◌↔◌, IfOk, IfErr, IsOk};
 ghost use Rattle.cedar_types.specs.Templates.{template_of};
 ghost use Rattle.cedar_typechecker.specs.ValidatorViews.{schema_in};
 ghost use Rattle.cedar_conformance.specs.PolicyTests.{slots_of};
 ghost use Rattle.cedar_conformance.specs.Premises.{ArePremises};
 ghost use Rattle.cedar_host.specs.Accepted.{schema_by};
-ghost use Rattle.cedar_host.specs.Admission.{IsAdmitted, AllEvaluateSafely, AllEvaluateInSlices, EvaluatesInSlices, LetsInExactly};
+ghost use Rattle.cedar_host.specs.Admission.{IsAdmitted, AllEvaluateSafely, AllEvaluateInSlices, EvaluatesInSlices, LetsInExactly, IsFirstNotAdmitted, IsFirstPremise};
 ghost use Rattle.cedar_host.specs.Safety.{sound_basis};
 
 use crate::accepted::AcceptedPolicies;
@@ -42,7 +42,8 @@ pub enum AdmissionFault {
 
 /// Whether accepted policies may be evaluated for this request over these entities: nothing of their schema is declared
 /// elsewhere, and the data conforms. It answers Ok exactly where that is so (clause `exact`). Else the fault of the schema, or
-/// of the data. A host that lets in many requests over the same entities checks these once (`checked::CheckedStore`).
+/// of the data (clause `first`). A host that lets in many requests over the same entities checks these once
+/// (`checked::CheckedStore`).
 ///
 /// Where it answers Ok, each policy evaluates to a boolean, or fails only for a missing entity, an overflow or an extension
 /// function (clause `safe`), and comes to the same over each part of the entities that has the slice (clause `sliced`). No
@@ -56,11 +57,14 @@ pub fn admit<C: ArgumentCheck>(
 ) -> Result<Result<(), PremiseFault>, AllocError>
     ensures exact { IfOk result (λ r.
         IsOk r ↔ IsAdmitted (schema_by policies.now) request.now entities.now) }
+    ensures first { IfOk result (λ r. IfErr r (λ f.
+        IsFirstNotAdmitted f (schema_by policies.now) request.now entities.now)) }
     ensures safe { IfOk result (λ r. IsOk r
         → AllEvaluateSafely C.refusal policies.now request.now entities.now) }
     ensures sliced { IfOk result (λ r. IsOk r
         → AllEvaluateInSlices C.refusal policies.now request.now entities.now) }
 {
+    // its clause tells the proof that each policy is admissible
     let _accepted = policies.policies();
     let checked = check_closed_data(alloc, policies.schema(), request, entities)?;
     Ok(checked)
@@ -73,8 +77,10 @@ fn check_closed_data(
     request: &Request,
     entities: &Entities,
 ) -> Result<Result<(), PremiseFault>, AllocError>
-    ensures { IfOk result (λ r.
+    ensures exact { IfOk result (λ r.
         IsOk r ↔ IsAdmitted schema.now request.now entities.now) }
+    ensures first { IfOk result (λ r. IfErr r (λ f.
+        IsFirstNotAdmitted f schema.now request.now entities.now)) }
 {
     let is_external = has_external(alloc, schema)?;
     if is_external {
@@ -85,10 +91,11 @@ fn check_closed_data(
 }
 
 /// Validates a policy for slices of `steps` steps, and checks it with its links, the request and the entities. It answers Ok
-/// exactly where validation accepts the policy and the premises are met (clause `exact`). Then the policy evaluates to a
-/// boolean, or fails only for a missing entity, an overflow or an extension function, and comes to the same over each part of
-/// the entities that has the slice (clause `sliced`). No premise is left but that the extension functions keep the validator's
-/// table. Where memory is refused, the answer is an `AllocError`.
+/// exactly where validation accepts the policy and the premises are met, and else the first fault: that validation refuses
+/// it, or the first premise that is not met (clause `exact`). Where it answers Ok, the policy evaluates to a boolean, or fails
+/// only for a missing entity, an overflow or an extension function, and comes to the same over each part of the entities that
+/// has the slice (clause `sliced`). No premise is left but that the extension functions keep the validator's table. Where
+/// memory is refused, the answer is an `AllocError`.
 pub fn validate_and_admit<C: ArgumentCheck>(
     alloc: Global,
     validator: &Validator<'_, C>,
@@ -102,7 +109,7 @@ pub fn validate_and_admit<C: ArgumentCheck>(
         → EvaluatesInSlices (sound_basis mode C.refusal validator.now) steps request.now entities.now
         (template_of policy.now.template.now) (slots_of policy.now.values.now)) }
     ensures exact { IfOk result (λ r. LetsInExactly (sound_basis mode C.refusal validator.now) steps
-        (schema_in validator.now) policy.now request.now entities.now (IsOk r)) }
+        (schema_in validator.now) policy.now request.now entities.now r) }
 {
     let found = validate_within(alloc, validator, mode, steps, policy.template)?;
     let is_accepted = found.is_accepted;
@@ -122,8 +129,10 @@ fn check_accepted(
     request: &Request,
     entities: &Entities,
 ) -> Result<Result<(), AdmissionFault>, AllocError>
-    ensures { IfOk result (λ r. IsOk r ↔ ArePremises schema.now policy.now.template.now
+    ensures exact { IfOk result (λ r. IsOk r ↔ ArePremises schema.now policy.now.template.now
         policy.now.values.now request.now entities.now) }
+    ensures first { IfOk result (λ r. IfErr r (λ f.
+        IsFirstPremise f schema.now policy.now request.now entities.now)) }
 {
     match check_premises(
         alloc,

@@ -1,9 +1,9 @@
 //! A store that was checked once, and requests that are let in over it.
-ghost use Rattle.std.specs.Prelude.{◌≡◌, ◌↔◌, IfOk, IsOk};
+ghost use Rattle.std.specs.Prelude.{◌≡◌, ◌↔◌, IfOk, IfErr, IsOk};
 ghost use Rattle.cedar_conformance.specs.Premises.{DataConforms};
 ghost use Rattle.cedar_host.specs.Accepted.{schema_by};
 ghost use Rattle.cedar_host.specs.Admission.{AllEvaluateSafely, AllEvaluateInSlices};
-ghost use Rattle.cedar_host.specs.CheckedStores.{IsChecked};
+ghost use Rattle.cedar_host.specs.CheckedStores.{IsChecked, IsFirstNotChecked};
 
 use crate::accepted::AcceptedPolicies;
 use cedar_conformance::entities::Entities;
@@ -45,8 +45,8 @@ impl<'a, C: ArgumentCheck> Model for CheckedStore<'a, C> {
 
 impl<'a, C: ArgumentCheck> CheckedStore<'a, C> {
     /// Checks the entities by the schema of the policies. It answers Ok exactly where nothing of the schema is declared
-    /// elsewhere and the entities conform (clause `exact`). Else the fault of the schema, or those of the entities. Where
-    /// memory is refused, the answer is an `AllocError`.
+    /// elsewhere and the entities conform (clause `exact`). Else the fault of the schema, or those of the entities (clause
+    /// `first`). Where memory is refused, the answer is an `AllocError`.
     pub fn check(
         alloc: Global,
         policies: &'a AcceptedPolicies<'a, C>,
@@ -54,6 +54,8 @@ impl<'a, C: ArgumentCheck> CheckedStore<'a, C> {
     ) -> Result<Result<CheckedStore<'a, C>, PremiseFault>, AllocError>
         ensures exact { IfOk result (λ r.
             IsOk r ↔ IsChecked (schema_by policies.now) entities.now) }
+        ensures first { IfOk result (λ r. IfErr r (λ f.
+            IsFirstNotChecked f (schema_by policies.now) entities.now)) }
         ensures made { IfOk result (λ r. IfOk r (λ s. s ≡ (policies.now, entities.now))) }
     {
         match check_closed_store(alloc, policies, entities)? {
@@ -79,6 +81,7 @@ impl<'a, C: ArgumentCheck> CheckedStore<'a, C> {
         ensures sliced { IfOk result (λ r. IsOk r
             → AllEvaluateInSlices C.refusal self.now.0 request.now self.now.1) }
     {
+        // its clause tells the proof that each policy is admissible
         let _accepted = self.policies.policies();
         let checked = check_request(alloc, self.policies.schema(), request)?;
         Ok(checked)
@@ -91,8 +94,10 @@ fn check_closed_store<C: ArgumentCheck>(
     policies: &AcceptedPolicies<'_, C>,
     entities: &Entities,
 ) -> Result<Result<(), PremiseFault>, AllocError>
-    ensures { IfOk result (λ r.
+    ensures exact { IfOk result (λ r.
         IsOk r ↔ IsChecked (schema_by policies.now) entities.now) }
+    ensures first { IfOk result (λ r. IfErr r (λ f.
+        IsFirstNotChecked f (schema_by policies.now) entities.now)) }
 {
     let schema = policies.schema();
     let is_external = has_external(alloc, schema)?;

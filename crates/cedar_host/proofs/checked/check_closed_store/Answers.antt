@@ -5,16 +5,17 @@ use Rattle.cedar_types.specs.Values.Stores.{ConformingStore}
 use Rattle.cedar_typing.specs.Evaluation.Conformance.{has_external}
 use Rattle.cedar_conformance.specs.Entities.{store_of}
 use Rattle.cedar_conformance.proofs.MetPremises.{met, unmet, refused}
+use Rattle.cedar_host.specs.Accepted.{schema_by}
 use Rattle.cedar_host.proofs.checked.check_closed_store.Goals as goal
 
 pub returns-then-is_external : goal.returns-then-is_external
 returns-then-is_external g c =
     let same = ap (λ (s : ValidatorSchema). has_external (schema_of s)) c.schema-schema.ensures in
     let external = sym same ∙ (sym c.in_ok-is_external.ensures ∙ c.if-is_external.true) in
-    refused (λ a. true≢false (sym external ∙ a.closed))
+    record { exact = refused (λ a. true≢false (sym external ∙ a.closed)); first = external }
 
-pub returns-in-Ok : goal.returns-in-Ok
-returns-in-Ok g c =
+pub returns-in-Ok-clause-exact : goal.returns-in-Ok-clause-exact
+returns-in-Ok-clause-exact g c =
     let same = ap (λ (s : ValidatorSchema). has_external (schema_of s)) c.schema-schema.ensures in
     let closed = sym same ∙ (sym c.in_ok-is_external.ensures ∙ c.if-is_external.false) in
     let Conforms : ValidatorSchema → Type 0 = λ s. ConformingStore (schema_of s) (store_of c.args.entities.now) in
@@ -23,6 +24,9 @@ returns-in-Ok g c =
 
 pub returns-in-Err : goal.returns-in-Err
 returns-in-Err g c =
+    let same = ap (λ (s : ValidatorSchema). has_external (schema_of s)) c.schema-schema.ensures in
+    let closed = sym same ∙ (sym c.in_ok-is_external.ensures ∙ c.if-is_external.false) in
     let Conforms : ValidatorSchema → Type 0 = λ s. ConformingStore (schema_of s) (store_of c.args.entities.now) in
-    refused (λ a.
-    unmet _ _ c.in-Err.is c.in_ok-check_entities.ensures.exact (subst Conforms (sym c.schema-schema.ensures) a.conforming))
+    let no = unmet _ _ c.in-Err.is c.in_ok-check_entities.ensures.exact in
+    let unfit : Conforms (schema_by c.args.policies.now) → ⊥ = λ k. no (subst Conforms (sym c.schema-schema.ensures) k) in
+    record { exact = refused (λ a. unfit a.conforming); first = (closed, unfit) }
