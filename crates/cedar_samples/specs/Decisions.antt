@@ -3,6 +3,7 @@ use Rattle.std.specs.Prelude.{◌≡◌, ℕ, Bool, not, List, map, All}
 use Rattle.std.specs.List.{filter}
 use Rattle.cedar_host.specs.declared.policy_sets.WrittenPolicy.{WrittenPolicy}
 use Rattle.cedar_host.specs.declared.slices.SliceReport.{SliceReport}
+use Rattle.cedar_host.specs.Found.{AreFindingsWithin, IsReportOf}
 use Rattle.cedar_host.specs.Slices.{IsRightForSlices}
 use Rattle.cedar_typing.specs.Soundness.Policies.{Basis}
 
@@ -17,5 +18,7 @@ pub record AreDecided (b : Basis) (steps : ℕ) (policies : List WrittenPolicy) 
   pub reports : List SliceReport
   pub each : map (λ r. r.report.policy.now) reports ≡ policies
   pub right : All (IsRightForSlices b steps) reports
+  -- each says what is found in its policy, and accepts it exactly where nothing is found against it
+  pub exact : All (λ r. IsReportOf (AreFindingsWithin steps b) r.report) reports
   pub admitted : yes ≡ filter is_accepted reports
   pub refused : no ≡ filter is_refused reports

@@ -17,8 +17,9 @@ struct Decisions<'a> {
     refused: Vec<SliceReport<'a>>,
 }
 
-/// Admits the policies that pass. Each of them gives a boolean, or fails only for a missing entity, an overflow or an extension
-/// function; and it gives the same over each part of the entities that has the slice of two steps.
+/// Admits the policies against which nothing is found, and refuses the others. Each of the first gives a boolean, or fails only
+/// for a missing entity, an overflow or an extension function; and it gives the same over each part of the entities that has
+/// the slice of two steps.
 fn decide<'a, C: ArgumentCheck>(
     alloc: Global,
     validator: &Validator<'_, C>,

@@ -21,6 +21,7 @@ returns g c =
       reports = c.in_ok-reports.reports.items;
       each = c.in_ok-reports.ensures.each;
       right = c.in_ok-reports.ensures.right;
+      exact = c.in_ok-reports.ensures.exact;
       admitted = at.invariant.0 ∙ ap (filter is_accepted) all;
       refused = at.invariant.1 ∙ ap (filter is_refused) all;
     }
