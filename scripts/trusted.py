@@ -12,8 +12,9 @@ from pathlib import Path
 
 TOP = Path(__file__).resolve().parent.parent
 PROMISE = ("validate_within", ("safe", "sliced", "never_true"))
-# Other calls that carry it, with their clauses.
-OTHERS = (("admit", ("safe", "sliced")), ("validate_policy_with_level", ("silent", "never_true")))
+# The call that decides its premises carries it too, and one of the library below the host, with their clauses.
+LET_IN = ("admit", ("safe", "sliced"))
+OTHER = ("validate_policy_with_level", ("silent", "never_true"))
 # The libraries that the promise is about; the host's own crate is the one that has the function.
 LIBRARIES = ("cedar_types", "cedar_typing", "cedar_typechecker")
 SUBJECTS = (
@@ -177,18 +178,21 @@ def lines_of(files, function, clauses):
     return sum(definitions.lines(place, numbers) for place, numbers in reached.items())
 
 
+def has_rules(reached):
+    """Whether a rule of typing or of levels is among what is reached."""
+    return any(re.search(r"/specs/(Rules|Infer|Levels)\b", path) for path in reached)
+
+
 def sentence(files):
     """What the README says."""
     by_subject, there, _ = counted(files)
-    rules = [path for path in reach(files)[0] if re.search(r"/specs/(Rules|Infer|Levels)\b", path)]
-    kind = "none of them a rule of typing or of levels" if not rules else "rules of typing or of levels among them"
-    names = " and ".join(f"`{function}`" for function, _ in OTHERS)
-    others = " and ".join(f"{lines_of(files, *other):,}" for other in OTHERS)
+    is_free = not has_rules(reach(files)[0]) and not has_rules(reach(files, *LET_IN)[0])
+    kind = "none of them a rule of typing or of levels" if is_free else "rules of typing or of levels among them"
     return [
         f"Who calls `{PROMISE[0]}` of `cedar_host` has to believe {sum(by_subject.values()):,} of some {rounded(there)} lines of",
-        f"definitions, {kind}. The clauses of {names} cite the rules",
-        f"too, because their premises say in words of the rules what passes: {others} lines (`scripts/trusted.py` lists them).",
-        "What else is trusted stands below.",
+        f"definitions, and who calls `{LET_IN[0]}` {lines_of(files, *LET_IN):,}, {kind}. The clauses",
+        f"of `{OTHER[0]}` cite the rules, because their premises say in words of the rules what passes:",
+        f"{lines_of(files, *OTHER):,} lines (`scripts/trusted.py` lists them). What else is trusted stands below.",
     ]
 
 
