@@ -64,22 +64,35 @@ fn view_by(alloc: Global, principal: EntityUID) -> Result<Request, AllocError> {
 }
 
 /// What is answered of one policy that is accepted for slices of one step, in a view by this principal.
-fn admitted(
+fn admitted<'a, C: ArgumentCheck>(
     alloc: Global,
-    template: &Template,
+    validator: &'a Validator<'a, C>,
+    policy: LinkedTemplate<'a>,
     principal: EntityUID,
-) -> Result<Result<(), PremiseFault>, Fail> {
+) -> Result<Result<(), PremiseFault>, AllocError> {
+    let mut policies = AcceptedPolicies::new(alloc, validator, SoundMode::Strict, 1);
+    let _added = policies.add(alloc, policy)?;
+    let request = view_by(alloc, principal)?;
+    let entities = entities(alloc)?;
+    let answer = admit(alloc, &policies, &request, &entities)?;
+    Ok(answer)
+}
+
+/// What is answered of the policy of documents by their contact, in a view by this principal.
+fn by_contact_admitted(
+    alloc: Global,
+    principal: EntityUID,
+) -> Result<Result<(), PremiseFault>, SchemaError> {
+    let template = by_its_contact(alloc)?;
     let extensions = ExtensionSchemas::default(alloc);
     let validator = Validator::new(documents(alloc)?, &extensions);
     let values: SlotEnv = BTreeMap::new(alloc);
-    let mut policies = AcceptedPolicies::new(alloc, &validator, SoundMode::Strict, 1);
     let policy = LinkedTemplate {
-        template,
+        template: &template,
         values: &values,
     };
-    let _added = policies.add(alloc, policy)?;
-    let request = view_by(alloc, principal)?;
-    Ok(admit(alloc, &policies, &request, &entities(alloc)?)?)
+    let answer = admitted(alloc, &validator, policy, principal)?;
+    Ok(answer)
 }
 
 /// That a request is about principals of a type to which its action does not apply.
@@ -92,7 +105,7 @@ fn of_a_document(alloc: Global) -> Result<RequestFault, AllocError> {
 fn what_conforms_is_let_in(rt: HostRuntime) -> Result<(), Fail> {
     let alloc = rt.alloc();
     let alice = id(alloc, "User", "alice")?;
-    let answer = admitted(alloc, &by_its_contact(alloc)?, alice)?;
+    let answer = by_contact_admitted(alloc, alice)?;
     assert_eq!(rt; answer, Ok(()));
     Ok(())
 }
@@ -101,8 +114,24 @@ fn what_conforms_is_let_in(rt: HostRuntime) -> Result<(), Fail> {
 fn a_request_that_does_not_conform_is_not_let_in(rt: HostRuntime) -> Result<(), Fail> {
     let alloc = rt.alloc();
     let plan = id(alloc, "Document", "plan")?;
-    let answer = admitted(alloc, &by_its_contact(alloc)?, plan)?;
+    let answer = by_contact_admitted(alloc, plan)?;
     assert_eq!(rt; answer, Err(PremiseFault::Request(of_a_document(alloc)?)));
+    Ok(())
+}
+
+/// Adds the template with these links, of which the answer is this, to no other policies, and asks how many there are then.
+fn adds<'a, C: ArgumentCheck>(
+    rt: &impl Abort,
+    alloc: Global,
+    validator: &'a Validator<'a, C>,
+    policy: LinkedTemplate<'a>,
+    wanted: Result<(), AdmissionFault>,
+) -> Result<(), AllocError> {
+    let mut policies = AcceptedPolicies::new(alloc, validator, SoundMode::Strict, 1);
+    let length = if wanted.is_ok() { 1 } else { 0 };
+    assert_eq!(rt; policies.add(alloc, policy)?, wanted);
+    assert_eq!(rt; policies.policies().len(), length);
+    assert_eq!(rt; has_external(alloc, policies.schema())?, false);
     Ok(())
 }
 
@@ -113,20 +142,17 @@ fn only_accepted_policies_are_added(rt: HostRuntime) -> Result<(), Fail> {
     let extensions = ExtensionSchemas::default(alloc);
     let validator = Validator::new(documents(alloc)?, &extensions);
     let values: SlotEnv = BTreeMap::new(alloc);
-    let mut policies = AcceptedPolicies::new(alloc, &validator, SoundMode::Strict, 1);
-    let wanted = [(&by_contact, true), (&refused, false), (&by_contact, true)];
-    for (template, is_accepted) in wanted {
-        let policy = LinkedTemplate {
-            template,
-            values: &values,
-        };
-        let id = template.id.clone()?;
-        let answer = policies.add(alloc, policy)?;
-        let refusal = Err(AdmissionFault::NotAccepted(id));
-        assert_eq!(rt; answer, if is_accepted { Ok(()) } else { refusal });
-    }
-    assert_eq!(rt; policies.policies().len(), 2);
-    assert_eq!(rt; has_external(alloc, policies.schema())?, false);
+    let policy = LinkedTemplate {
+        template: &by_contact,
+        values: &values,
+    };
+    adds(&rt, alloc, &validator, policy, Ok(()))?;
+    let refusal = Err(AdmissionFault::NotAccepted(refused.id.clone()?));
+    let policy = LinkedTemplate {
+        template: &refused,
+        values: &values,
+    };
+    adds(&rt, alloc, &validator, policy, refusal)?;
     Ok(())
 }
 
@@ -139,29 +165,40 @@ fn a_template_is_added_with_its_links_alone(rt: HostRuntime) -> Result<(), Fail>
     let unbound: SlotEnv = BTreeMap::new(alloc);
     let mut bound: SlotEnv = BTreeMap::new(alloc);
     bound.insert(SlotId::Principal, id(alloc, "User", "alice")?)?;
-    let mut policies = AcceptedPolicies::new(alloc, &validator, SoundMode::Strict, 1);
     let fault = PolicyFault::UnboundSlot(SlotId::Principal);
     let refusal = Err(AdmissionFault::Policy(template.id.clone()?, fault));
     let policy = LinkedTemplate {
         template: &template,
         values: &unbound,
     };
-    assert_eq!(rt; policies.add(alloc, policy)?, refusal);
+    adds(&rt, alloc, &validator, policy, refusal)?;
     let policy = LinkedTemplate {
         template: &template,
         values: &bound,
     };
-    assert_eq!(rt; policies.add(alloc, policy)?, Ok(()));
-    assert_eq!(rt; policies.policies().len(), 1);
+    adds(&rt, alloc, &validator, policy, Ok(()))?;
     Ok(())
 }
 
-/// Policies of the schema of documents, to which nothing is added.
-fn no_policies<'a>(
+/// Whether a store of these entities conforms, and what is answered of a view over it by each of two principals, if it does.
+fn let_in_over<'a, C: ArgumentCheck>(
+    rt: &impl Abort,
     alloc: Global,
-    validator: &'a Validator<'a>,
-) -> AcceptedPolicies<'a, Box<dyn ArgumentCheck>> {
-    AcceptedPolicies::new(alloc, validator, SoundMode::Strict, 1)
+    validator: &'a Validator<'a, C>,
+    entities: &'a Entities,
+) -> Result<Option<usize>, AllocError> {
+    let policies = AcceptedPolicies::new(alloc, validator, SoundMode::Strict, 1);
+    match CheckedStore::check(alloc, &policies, entities)? {
+        Ok(store) => {
+            let request = view_by(alloc, id(alloc, "User", "alice")?)?;
+            assert_eq!(rt; store.admit(alloc, &request)?, Ok(()));
+            let request = view_by(alloc, id(alloc, "Document", "plan")?)?;
+            assert_eq!(rt; store.admit(alloc, &request)?, Err(of_a_document(alloc)?));
+            Ok(None)
+        }
+        Err(PremiseFault::Entities(faults)) => Ok(Some(faults.len())),
+        Err(_other) => Ok(Some(0)),
+    }
 }
 
 #[test]
@@ -169,32 +206,11 @@ fn requests_are_let_in_over_a_store_that_was_checked(rt: HostRuntime) -> Result<
     let alloc = rt.alloc();
     let extensions = ExtensionSchemas::default(alloc);
     let validator = Validator::new(documents(alloc)?, &extensions);
-    let policies = no_policies(alloc, &validator);
     let entities = entities(alloc)?;
-    let Ok(store) = CheckedStore::check(alloc, &policies, &entities)? else {
-        return Err(Fail::from("the store conforms"));
-    };
-    for _again in 0..2 {
-        let request = view_by(alloc, id(alloc, "User", "alice")?)?;
-        assert_eq!(rt; store.admit(alloc, &request)?, Ok(()));
-        let request = view_by(alloc, id(alloc, "Document", "plan")?)?;
-        assert_eq!(rt; store.admit(alloc, &request)?, Err(of_a_document(alloc)?));
-    }
-    Ok(())
-}
-
-#[test]
-fn a_store_that_does_not_conform_is_refused(rt: HostRuntime) -> Result<(), Fail> {
-    let alloc = rt.alloc();
-    let extensions = ExtensionSchemas::default(alloc);
-    let validator = Validator::new(documents(alloc)?, &extensions);
-    let policies = no_policies(alloc, &validator);
-    let none = Entities::new(alloc);
+    assert_eq!(rt; let_in_over(&rt, alloc, &validator, &entities)?, None);
     // the two actions are missing
-    let Err(PremiseFault::Entities(faults)) = CheckedStore::check(alloc, &policies, &none)? else {
-        return Err(Fail::from("the store lacks its actions"));
-    };
-    assert_eq!(rt; faults.len(), 2);
+    let none = Entities::new(alloc);
+    assert_eq!(rt; let_in_over(&rt, alloc, &validator, &none)?, Some(2));
     Ok(())
 }
 
