@@ -180,7 +180,36 @@ fn a_template_is_added_with_its_links_alone(rt: HostRuntime) -> Result<(), Fail>
     Ok(())
 }
 
-/// Whether a store of these entities conforms, and what is answered of a view over it by each of two principals, if it does.
+/// What is answered of a view over the store by each of two principals.
+fn views_are_let_in<C: ArgumentCheck>(
+    rt: &impl Abort,
+    alloc: Global,
+    store: &CheckedStore<'_, C>,
+) -> Result<(), AllocError> {
+    let request = view_by(alloc, id(alloc, "User", "alice")?)?;
+    assert_eq!(rt; store.admit(alloc, &request)?, Ok(()));
+    let request = view_by(alloc, id(alloc, "Document", "plan")?)?;
+    assert_eq!(rt; store.admit(alloc, &request)?, Err(of_a_document(alloc)?));
+    Ok(())
+}
+
+/// How many faults these entities have, if they have any; if they have none, views over them are let in.
+fn faults_or_views<'a, C: ArgumentCheck>(
+    rt: &impl Abort,
+    alloc: Global,
+    policies: &'a AcceptedPolicies<'a, C>,
+    entities: &'a Entities,
+) -> Result<Option<usize>, AllocError> {
+    match CheckedStore::check(alloc, policies, entities)? {
+        Ok(store) => {
+            views_are_let_in(rt, alloc, &store)?;
+            Ok(None)
+        }
+        Err(PremiseFault::Entities(faults)) => Ok(Some(faults.len())),
+        Err(_other) => Ok(Some(0)),
+    }
+}
+
 fn let_in_over<'a, C: ArgumentCheck>(
     rt: &impl Abort,
     alloc: Global,
@@ -188,17 +217,8 @@ fn let_in_over<'a, C: ArgumentCheck>(
     entities: &'a Entities,
 ) -> Result<Option<usize>, AllocError> {
     let policies = AcceptedPolicies::new(alloc, validator, SoundMode::Strict, 1);
-    match CheckedStore::check(alloc, &policies, entities)? {
-        Ok(store) => {
-            let request = view_by(alloc, id(alloc, "User", "alice")?)?;
-            assert_eq!(rt; store.admit(alloc, &request)?, Ok(()));
-            let request = view_by(alloc, id(alloc, "Document", "plan")?)?;
-            assert_eq!(rt; store.admit(alloc, &request)?, Err(of_a_document(alloc)?));
-            Ok(None)
-        }
-        Err(PremiseFault::Entities(faults)) => Ok(Some(faults.len())),
-        Err(_other) => Ok(Some(0)),
-    }
+    let found = faults_or_views(rt, alloc, &policies, entities)?;
+    Ok(found)
 }
 
 #[test]
