@@ -20,9 +20,7 @@ impl FindingsWriter for Lines {
                 let text = finding.text.as_str();
                 push_message(out, place, "error", text, finding.hint.as_str())
             }
-            Entry::Fault(place, fault) => {
-                push_message(out, place, "fault", fault.text.as_str(), "")
-            }
+            Entry::Fault(place, text) => push_message(out, place, "fault", text, ""),
             Entry::Missing(file, why) => push_missing(out, file, why),
         }
     }

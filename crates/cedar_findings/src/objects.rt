@@ -23,10 +23,10 @@ impl FindingsWriter for Objects {
                 push_text(out, finding.text.as_str(), finding.hint.as_str())?;
                 out.push_str("}\n")
             }
-            Entry::Fault(place, fault) => {
+            Entry::Fault(place, text) => {
                 push_place(out, "fault", place)?;
                 push_code(out, Code::Fault)?;
-                push_text(out, fault.text.as_str(), "")?;
+                push_text(out, text, "")?;
                 out.push_str("}\n")
             }
             Entry::Missing(file, why) => push_missing(out, file, why),

@@ -1,5 +1,6 @@
 //! What is found in a file, in the format that is asked for.
-use crate::data_findings::DataFinding;
+use crate::codes::Code;
+use crate::data_findings::DataVerdict;
 use crate::faults::TextFault;
 use crate::findings::Verdict;
 use crate::formats::Format;
@@ -94,16 +95,25 @@ impl<'a> Report<'a> {
         self.format.add(out, Entry::Rest(place, id, verdict.others))
     }
 
-    /// Adds a mistake in data.
-    pub fn push_data(&mut self, out: &mut String, finding: &DataFinding) -> Result<(), AllocError> {
-        let place = self.place(finding.place);
-        self.format.add(out, Entry::Data(place, finding))
+    /// Adds each mistake in data: as a fault what is no data.
+    pub fn push_data(&mut self, out: &mut String, verdict: &DataVerdict) -> Result<(), AllocError> {
+        for finding in &verdict.findings {
+            let place = self.place(finding.place);
+            match finding.code {
+                Code::Fault => {
+                    let text = finding.text.as_str();
+                    self.format.add(out, Entry::Fault(place, text))?;
+                }
+                _ => self.format.add(out, Entry::Data(place, finding))?,
+            }
+        }
+        Ok(())
     }
 
     /// Adds a fault of the text.
     pub fn push_fault(&mut self, out: &mut String, fault: &TextFault) -> Result<(), AllocError> {
         let place = self.place(fault.place);
-        self.format.add(out, Entry::Fault(place, fault))
+        self.format.add(out, Entry::Fault(place, fault.text.as_str()))
     }
 }
 

@@ -46,9 +46,9 @@ impl FindingsWriter for Sarif {
                 push_data(out, finding)?;
                 push_place(out, place)
             }
-            Entry::Fault(place, fault) => {
+            Entry::Fault(place, text) => {
                 self.push_kind(out, Code::Fault, Severity::Error)?;
-                push_text(out, "", fault.text.as_str())?;
+                push_text(out, "", text)?;
                 push_place(out, place)
             }
             Entry::Missing(file, why) => {

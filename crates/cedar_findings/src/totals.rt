@@ -1,4 +1,6 @@
 //! Counts of what was found.
+use crate::codes::Code;
+use crate::data_findings::DataVerdict;
 use crate::findings::{Requirement, Verdict};
 
 /// How many policies were read, accepted and refused, how many warnings and faults there are, and what all policies need together
@@ -53,6 +55,23 @@ impl Totals {
         }
         self.warnings = self.warnings.saturating_add(verdict.warnings);
         self.requirement = self.requirement.join(verdict.requirement);
+    }
+
+    /// Counts data, and each of its mistakes: as a fault what is no data.
+    pub fn add_data(&mut self, verdict: &DataVerdict) {
+        for _ in 0..verdict.entities {
+            self.data.add_entity();
+        }
+        if !verdict.is_accepted {
+            self.data.refuse();
+        }
+        for finding in &verdict.findings {
+            if finding.code == Code::Fault {
+                self.add_fault();
+            } else {
+                self.data.add_error();
+            }
+        }
     }
 
     /// Counts a fault.

@@ -1,7 +1,6 @@
 //! What a format has to write: what stands before all, each thing that is found, and what stands behind all.
 use crate::data_findings::DataFinding;
 use crate::escapes::Shown;
-use crate::faults::TextFault;
 use crate::findings::{Finding, Verdict};
 use crate::places::position_behind;
 use crate::sources::Source;
@@ -47,8 +46,8 @@ pub enum Entry<'a> {
     Rest(Place<'a>, &'a str, usize),
     /// A mistake in data.
     Data(Place<'a>, &'a DataFinding),
-    /// A fault of a text.
-    Fault(Place<'a>, &'a TextFault),
+    /// A fault of a text, in words.
+    Fault(Place<'a>, &'a str),
     /// A file that cannot be had, and why.
     Missing(&'a str, &'a str),
 }

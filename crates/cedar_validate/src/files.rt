@@ -1,7 +1,5 @@
 // What is done with a file.
-use crate::policies::Policies;
 use crate::progress::Progress;
-use crate::verdicts::{Settings, judge};
 use cedar_findings::faults::{TextFault, Written};
 use cedar_findings::formats::Format;
 use cedar_findings::json_faults::form_fault;
@@ -11,6 +9,9 @@ use cedar_findings::syntaxes::Syntax;
 use cedar_findings::totals::Totals;
 use cedar_json::{FormError, value_alone};
 use cedar_types::base::Template;
+use cedar_verdicts::policies::Policies;
+use cedar_verdicts::settings::Settings;
+use cedar_verdicts::verdicts::judge;
 use std::alloc::{AllocError, Global};
 use std::io;
 use std::io::Write;

@@ -1,19 +1,12 @@
 //! Validates the policies of files by a schema: `cedar-validate SCHEMA POLICY..`.
 #![tactic(auto)]
 
-mod causes;
 mod data;
-mod environments;
 mod files;
-mod hints_of_data;
-mod impossible;
-mod json_schemas;
-mod policies;
 mod progress;
 mod run;
-mod verdicts;
+mod schemas;
 mod version;
-mod wording;
 
 use cedar_extensions::checks::Constructor;
 use cedar_extensions::functions::{Checks, functions, overloaded_types};

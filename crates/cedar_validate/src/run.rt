@@ -1,23 +1,17 @@
 // What the program does, over any files and any writers.
 use crate::data::validate_data;
-use crate::files::{read_text, validate_file};
-use crate::json_schemas::read_json_schema;
+use crate::files::validate_file;
 use crate::progress::Progress;
-use crate::verdicts::Settings;
+use crate::schemas::read_schema;
 use crate::version::{VERSION, build};
 use cedar_findings::arguments::{Arguments, Asked, read_arguments};
-use cedar_findings::faults::{TextFault, all_schema_faults, schema_fault, shadowing_fault};
 use cedar_findings::formats::Format;
-use cedar_findings::reports::render_fault;
-use cedar_findings::schema_texts::SchemaTexts;
-use cedar_findings::sources::Source;
-use cedar_findings::syntaxes::Syntax;
 use cedar_findings::totals::Totals;
 use cedar_findings::writers::FindingsWriter;
-use cedar_reading::schema;
 use cedar_typechecker::rbac::Validator;
-use cedar_types::base::{ExtensionSchemas, ValidatorSchema};
-use std::alloc::{AllocError, Global};
+use cedar_types::base::ExtensionSchemas;
+use cedar_verdicts::settings::Settings;
+use std::alloc::Global;
 use std::io;
 use std::io::Write;
 use std::rt::Files;
@@ -149,68 +143,4 @@ fn end<O: Write>(
     format.end(&mut shown, totals)?;
     out.write_all(shown.as_bytes())?;
     Ok(totals.status(arguments.denies_warnings))
-}
-
-/// The schema. Where there is none, why is written, and the answer is `None`.
-fn read_schema<R: Files + AllocGlobal + Input, O: Write>(
-    rt: &R,
-    arguments: &Arguments,
-    format: &mut Format,
-    out: &mut O,
-) -> io::Result<Option<ValidatorSchema>> {
-    let alloc = rt.alloc();
-    let mut texts = SchemaTexts::new(alloc);
-    for name in &arguments.schemas {
-        let Some(text) = read_text(rt, format, name.as_str(), out)? else {
-            return Ok(None);
-        };
-        let text = text.as_str();
-        if arguments.syntax.unwrap_or(Syntax::of(text)) == Syntax::Json {
-            let name = name.as_str();
-            let is_alone = arguments.schemas.len() == 1;
-            return read_json_schema(alloc, format, Source { name, text }, is_alone, out);
-        }
-        texts.add(text)?;
-    }
-    let first = match schema_or_fault(alloc, texts.text())? {
-        Ok(schema) => return Ok(Some(schema)),
-        Err(fault) => fault,
-    };
-    for fault in all_schema_faults(alloc, texts.text(), first)? {
-        let shown = render_schema_fault(alloc, &arguments.schemas, &texts, format, fault)?;
-        out.write_all(shown.as_bytes())?;
-    }
-    Ok(None)
-}
-
-/// How a fault of a schema is shown, in the file that it stands in.
-fn render_schema_fault(
-    alloc: Global,
-    names: &Vec<String>,
-    texts: &SchemaTexts,
-    format: &mut Format,
-    fault: TextFault,
-) -> Result<String, AllocError> {
-    let (number, fault) = texts.own_fault(alloc, fault)?;
-    let name = match names.get(number) {
-        Some(name) => name.as_str(),
-        None => "",
-    };
-    let text = texts.text_of(number);
-    render_fault(alloc, format, Source { name, text }, &fault)
-}
-
-/// The schema that a text declares, or the fault that it has.
-pub fn schema_or_fault(
-    alloc: Global,
-    text: &str,
-) -> Result<Result<ValidatorSchema, TextFault>, AllocError> {
-    let schema = match schema(alloc, text) {
-        Ok(schema) => schema,
-        Err(error) => return Ok(Err(schema_fault(alloc, text, error)?)),
-    };
-    match shadowing_fault(alloc, text)? {
-        None => Ok(Ok(schema)),
-        Some(fault) => Ok(Err(fault)),
-    }
 }

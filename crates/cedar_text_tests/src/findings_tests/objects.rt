@@ -1,7 +1,6 @@
 // The objects of JSON, in which nothing that others wrote ends a text or a line.
 use cedar_findings::codes::Code;
 use cedar_findings::data_findings::DataFinding;
-use cedar_findings::faults::TextFault;
 use cedar_findings::findings::{Finding, Requirement, Severity, Verdict};
 use cedar_findings::objects::Objects;
 use cedar_findings::sources::Source;
@@ -78,11 +77,7 @@ fn findings_and_faults(rt: HostRuntime) -> Result<(), Fail> {
     Objects.add(&mut out, Entry::Finding(PLACE, "i", &somewhere))?;
     let nowhere = finding(alloc, Severity::Warning, Vec::new(alloc))?;
     Objects.add(&mut out, Entry::Finding(PLACE, "i", &nowhere))?;
-    let fault = TextFault {
-        place: Loc { start: 0, end: 1 },
-        text: String::from_str(alloc, "`;` is expected")?,
-    };
-    Objects.add(&mut out, Entry::Fault(PLACE, &fault))?;
+    Objects.add(&mut out, Entry::Fault(PLACE, "`;` is expected"))?;
     Objects.add(&mut out, Entry::Missing("\u{1b}", "none"))?;
     let totals = Totals {
         policies: 1,

@@ -1,11 +1,11 @@
-// What is said of a policy.
+//! What is said of a policy.
 use crate::causes::{Cause, Found};
 use crate::impossible::{FalsePart, false_parts};
+use crate::settings::Settings;
 use crate::wording::{About, first_findings};
 use cedar_extensions::unread_texts::unread_texts;
 use cedar_findings::findings::{Requirement, Severity, Verdict};
 use cedar_findings::marks::marked_parts;
-use cedar_findings::syntaxes::Syntax;
 use cedar_host::policy_sets::{Findings, validate};
 use cedar_host::safety::SoundMode;
 use cedar_host::slices::validate_within;
@@ -25,16 +25,6 @@ const NESTED: &str = "nested too deep to be checked: fewer than 400 parts may st
 /// The text of one where names may be others.
 const UNEXPLAINED: &str = "refused without an error: a part is nested too deep, or names what \
      the schema does not declare";
-
-/// What policies are validated by.
-#[derive(Drop)]
-pub struct Settings<'a, C = Box<dyn ArgumentCheck>> {
-    pub validator: &'a Validator<'a, C>,
-    pub mode: ValidationMode,
-    pub level: Option<u32>,
-    /// The syntax of all files, where their first characters do not tell it.
-    pub syntax: Option<Syntax>,
-}
 
 /// What is said of a policy. Where it is accepted in Strict or in Permissive, it does not go wrong, and needs no more than the
 /// slice of the level, if there is one: the contracts of `validate` and `validate_within` say so. It fails where memory is

@@ -1,4 +1,4 @@
-// The policies of a file, in one syntax or the other.
+//! The policies of a text, in one syntax or the other.
 use cedar_findings::faults::{TextFault, Written, read_fault};
 use cedar_findings::forbidden_parts::forbidden_part;
 use cedar_findings::json_faults::form_fault;
@@ -6,7 +6,7 @@ use cedar_json::Value;
 use cedar_types::base::Template;
 use std::alloc::{AllocError, Global};
 
-/// Reads the policies of a file, one after another.
+/// Reads the policies of a text, one after another.
 #[derive(Drop)]
 pub struct Policies<'a> {
     text: &'a str,

@@ -1,5 +1,5 @@
 // Why a policy is impossible.
-use crate::verdicts::Settings;
+use crate::settings::Settings;
 use cedar_typechecker::survey::{Environment, Environments};
 use cedar_typechecker::typecheck::{PolicyCheck, Typechecker};
 use cedar_types::base::{

@@ -1,0 +1,14 @@
+//! What is wrong with schemas, policies and data in texts, whoever asks: verdicts, findings with their
+//! words and places, and counts. No file is read here, and nothing is written.
+#![tactic(auto)]
+
+mod causes;
+pub mod data;
+mod data_hints;
+mod environments;
+mod impossible;
+pub mod policies;
+pub mod schemas;
+pub mod settings;
+pub mod verdicts;
+mod wording;
