@@ -27,7 +27,6 @@ impl Severity {
 pub struct Finding {
     pub start: usize,
     pub end: usize,
-    pub severity: Severity,
     pub text: String,
     /// What may help; empty where that is not known.
     pub hint: String,
@@ -72,12 +71,14 @@ impl Requirement {
 pub struct Verdict {
     pub is_accepted: bool,
     pub requirement: Requirement,
-    /// The first findings, in ascending order, each once.
-    pub findings: Vec<Finding>,
-    /// How many more there are.
+    /// The first errors, in ascending order, each once. A policy that is refused has one at least.
+    pub errors: Vec<Finding>,
+    /// The first warnings likewise, as many as there is room for behind the errors.
+    pub warnings: Vec<Finding>,
+    /// How many more errors and warnings there are.
     pub others: usize,
     /// How many warnings there are among all.
-    pub warnings: u64,
+    pub warning_count: u64,
 }
 
 impl Finding {
@@ -85,7 +86,6 @@ impl Finding {
     pub fn new(
         alloc: Global,
         policy: &Template,
-        severity: Severity,
         code: Code,
         place: Option<Loc>,
         text: &str,
@@ -94,7 +94,6 @@ impl Finding {
         Ok(Finding {
             start,
             end,
-            severity,
             text: String::from_str(alloc, text)?,
             hint: String::new(alloc),
             also: Vec::new(alloc),

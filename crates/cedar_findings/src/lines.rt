@@ -1,7 +1,7 @@
 //! What is found, as lines for people.
 use crate::escapes::{Shown, ShownId};
 use crate::excerpts::Excerpt;
-use crate::findings::{Finding, Requirement, Verdict};
+use crate::findings::{Finding, Requirement, Severity, Verdict};
 use crate::totals::Totals;
 use crate::writers::{Entry, FindingsWriter, Place};
 use std::alloc::AllocError;
@@ -14,7 +14,9 @@ impl FindingsWriter for Lines {
     fn add(&mut self, out: &mut String, entry: Entry<'_>) -> Result<(), AllocError> {
         match entry {
             Entry::Policy(place, id, verdict) => push_policy(out, place, id, verdict),
-            Entry::Finding(place, _, finding) => push_finding(out, place, finding),
+            Entry::Finding(place, _, severity, finding) => {
+                push_finding(out, place, severity, finding)
+            }
             Entry::Rest(place, _, count) => writeln!(out, "{place}: {count} more findings"),
             Entry::Data(place, finding) => {
                 let text = finding.text.as_str();
@@ -60,10 +62,14 @@ fn push_requirement(out: &mut String, requirement: Requirement) -> Result<(), Al
 }
 
 /// Adds the lines of a finding.
-fn push_finding(out: &mut String, place: Place<'_>, finding: &Finding) -> Result<(), AllocError> {
-    let severity = finding.severity.text();
+fn push_finding(
+    out: &mut String,
+    place: Place<'_>,
+    severity: Severity,
+    finding: &Finding,
+) -> Result<(), AllocError> {
     let text = finding.text.as_str();
-    push_message(out, place, severity, text, finding.hint.as_str())?;
+    push_message(out, place, severity.text(), text, finding.hint.as_str())?;
     for other in &finding.also {
         let other = Shown(other.as_str());
         writeln!(out, "  the same for {other}")?;

@@ -1,7 +1,7 @@
 //! The same as objects of JSON, one a line.
 use crate::codes::Code;
 use crate::escapes::Quoted;
-use crate::findings::{Finding, Requirement, Verdict};
+use crate::findings::{Finding, Requirement, Severity, Verdict};
 use crate::totals::Totals;
 use crate::writers::{Entry, FindingsWriter, Place};
 use cedar_reading::Position;
@@ -15,7 +15,9 @@ impl FindingsWriter for Objects {
     fn add(&mut self, out: &mut String, entry: Entry<'_>) -> Result<(), AllocError> {
         match entry {
             Entry::Policy(place, id, verdict) => push_policy(out, place, id, verdict),
-            Entry::Finding(place, id, finding) => push_finding(out, place, id, finding),
+            Entry::Finding(place, id, severity, finding) => {
+                push_finding(out, place, id, severity, finding)
+            }
             Entry::Rest(place, id, count) => push_rest(out, place, id, count),
             Entry::Data(place, finding) => {
                 push_place(out, "data", place)?;
@@ -104,9 +106,10 @@ fn push_finding(
     out: &mut String,
     place: Place<'_>,
     id: &str,
+    severity: Severity,
     finding: &Finding,
 ) -> Result<(), AllocError> {
-    push_place(out, finding.severity.text(), place)?;
+    push_place(out, severity.text(), place)?;
     push_code(out, finding.code)?;
     push_id(out, id)?;
     push_text(out, finding.text.as_str(), finding.hint.as_str())?;

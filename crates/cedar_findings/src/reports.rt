@@ -2,15 +2,13 @@
 use crate::codes::Code;
 use crate::data_findings::DataVerdict;
 use crate::faults::TextFault;
-use crate::findings::Verdict;
+use crate::findings::{Finding, Severity, Verdict};
 use crate::formats::Format;
 use crate::places::Places;
 use crate::sources::Source;
 use crate::writers::{Entry, FindingsWriter, Place};
-use cedar_reading::Position;
 use cedar_types::base::{Loc, Template};
 use std::alloc::{AllocError, Global};
-use std::collections::BTreeMap;
 
 /// Shows what is found in a file.
 #[derive(Drop)]
@@ -18,8 +16,6 @@ pub struct Report<'a> {
     format: Format,
     source: Source<'a>,
     places: Places<'a>,
-    /// Where policies stand, by their ids.
-    ids: BTreeMap<String, Position>,
 }
 
 impl<'a> Report<'a> {
@@ -29,7 +25,6 @@ impl<'a> Report<'a> {
             format,
             source,
             places: Places::new(alloc, source.text),
-            ids: BTreeMap::new(alloc),
         }
     }
 
@@ -43,27 +38,6 @@ impl<'a> Report<'a> {
         self.format
     }
 
-    /// Takes note of the id of a policy. Where the one before stands that has it, if there is one.
-    pub fn take_id(
-        &mut self,
-        alloc: Global,
-        policy: &Template,
-    ) -> Result<Option<Position>, AllocError> {
-        let id = policy.id.text.as_str();
-        let at = self.places.position(loc_of(policy).start);
-        if let Some(other) = self.ids.get(id) {
-            return Ok(Some(*other));
-        }
-        let id = String::from_str(alloc, id)?;
-        self.ids.insert(id, at)?;
-        Ok(None)
-    }
-
-    /// Where a byte of the text stands.
-    pub fn position_of(&mut self, byte: usize) -> Position {
-        self.places.position(byte)
-    }
-
     fn place(&mut self, loc: Loc) -> Place<'a> {
         Place {
             source: self.source,
@@ -72,9 +46,10 @@ impl<'a> Report<'a> {
         }
     }
 
-    /// Adds a policy, and what is found in it: the first findings, and how many more there are.
+    /// Adds a policy, and what is found in it: the first findings in the order of their places, and how many more there are.
     pub fn push_policy(
         &mut self,
+        alloc: Global,
         out: &mut String,
         policy: &Template,
         verdict: &Verdict,
@@ -82,12 +57,13 @@ impl<'a> Report<'a> {
         let place = self.place(loc_of(policy));
         let id = policy.id.text.as_str();
         self.format.add(out, Entry::Policy(place, id, verdict))?;
-        for finding in &verdict.findings {
+        for (severity, finding) in in_order(alloc, verdict)? {
             let found_at = self.place(Loc {
                 start: finding.start,
                 end: finding.end,
             });
-            self.format.add(out, Entry::Finding(found_at, id, finding))?;
+            self.format
+                .add(out, Entry::Finding(found_at, id, severity, finding))?;
         }
         if verdict.others == 0 {
             return Ok(());
@@ -113,8 +89,22 @@ impl<'a> Report<'a> {
     /// Adds a fault of the text.
     pub fn push_fault(&mut self, out: &mut String, fault: &TextFault) -> Result<(), AllocError> {
         let place = self.place(fault.place);
-        self.format.add(out, Entry::Fault(place, fault.text.as_str()))
+        self.format
+            .add(out, Entry::Fault(place, fault.text.as_str()))
     }
+}
+
+/// The errors and warnings of a policy in the order of their places, errors first where one place has both.
+fn in_order(alloc: Global, verdict: &Verdict) -> Result<Vec<(Severity, &Finding)>, AllocError> {
+    let mut all = Vec::new(alloc);
+    for finding in &verdict.errors {
+        all.push((Severity::Error, finding))?;
+    }
+    for finding in &verdict.warnings {
+        all.push((Severity::Warning, finding))?;
+    }
+    all.sort_by_key(|it| (it.1.start, it.1.end))?;
+    Ok(all)
 }
 
 /// The place of a policy.

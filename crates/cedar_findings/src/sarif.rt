@@ -30,8 +30,8 @@ impl FindingsWriter for Sarif {
     fn add(&mut self, out: &mut String, entry: Entry<'_>) -> Result<(), AllocError> {
         match entry {
             Entry::Policy(_, _, _) => Ok(()),
-            Entry::Finding(place, id, finding) => {
-                self.push_kind(out, finding.code, finding.severity)?;
+            Entry::Finding(place, id, severity, finding) => {
+                self.push_kind(out, finding.code, severity)?;
                 push_finding(out, id, finding)?;
                 push_place(out, place)
             }

@@ -53,7 +53,7 @@ impl Totals {
         } else {
             self.refused = self.refused.saturating_add(1);
         }
-        self.warnings = self.warnings.saturating_add(verdict.warnings);
+        self.warnings = self.warnings.saturating_add(verdict.warning_count);
         self.requirement = self.requirement.join(verdict.requirement);
     }
 

@@ -1,7 +1,7 @@
 //! What a format has to write: what stands before all, each thing that is found, and what stands behind all.
 use crate::data_findings::DataFinding;
 use crate::escapes::Shown;
-use crate::findings::{Finding, Verdict};
+use crate::findings::{Finding, Severity, Verdict};
 use crate::places::position_behind;
 use crate::sources::Source;
 use crate::totals::Totals;
@@ -41,7 +41,7 @@ pub enum Entry<'a> {
     /// A policy of this id, and what is said of it as a whole. Its findings come next.
     Policy(Place<'a>, &'a str, &'a Verdict),
     /// A finding in the policy of this id.
-    Finding(Place<'a>, &'a str, &'a Finding),
+    Finding(Place<'a>, &'a str, Severity, &'a Finding),
     /// How many more findings the policy of this id has than are shown.
     Rest(Place<'a>, &'a str, usize),
     /// A mistake in data.

@@ -1,10 +1,11 @@
 // What is found in a policy, before it is put into words.
 use crate::impossible::FalsePart;
 use cedar_findings::codes::Code;
-use cedar_findings::findings::Severity;
 use cedar_reading::Position;
 use cedar_typechecker::survey::Environments;
-use cedar_types::base::{CedarType, IncompatibleTypes, Loc, ValidationError, ValidationWarning};
+use cedar_types::base::{
+    CedarType, IncompatibleTypes, Loc, Template, ValidationError, ValidationWarning,
+};
 use std::alloc::{AllocError, Global};
 
 /// What is found.
@@ -22,6 +23,11 @@ pub enum Cause<'a> {
     SameId(Position),
 }
 
+/// Where a policy stands.
+pub fn place_of(policy: &Template) -> Loc {
+    policy.loc.unwrap_or(Loc { start: 0, end: 0 })
+}
+
 /// What is found, and where.
 #[derive(Clone, Copy)]
 pub struct Found<'a> {
@@ -29,22 +35,7 @@ pub struct Found<'a> {
     pub cause: Cause<'a>,
 }
 
-/// Where what is found stands among the others.
-#[derive(Clone, Copy, PartialEq, Eq, PartialOrd, Ord)]
-pub struct Rank {
-    start: usize,
-    end: usize,
-    severity: Severity,
-}
-
 impl Found<'_> {
-    pub fn severity(&self) -> Severity {
-        match self.cause {
-            Cause::Error(_, _) | Cause::Unexplained(_) | Cause::SameId(_) => Severity::Error,
-            Cause::Warning(_) | Cause::FalsePart(_, _) | Cause::Marks(_) => Severity::Warning,
-        }
-    }
-
     pub fn code(&self) -> Code {
         match self.cause {
             Cause::Error(error, _) => Code::of_error(error),
@@ -52,15 +43,6 @@ impl Found<'_> {
             Cause::Marks(_) => Code::Direction,
             Cause::Unexplained(_) => Code::Unchecked,
             Cause::SameId(_) => Code::SameId,
-        }
-    }
-
-    pub fn rank(&self) -> Rank {
-        let Loc { start, end } = self.place;
-        Rank {
-            start,
-            end,
-            severity: self.severity(),
         }
     }
 

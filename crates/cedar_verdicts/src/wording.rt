@@ -7,9 +7,6 @@ use cedar_reading::Position;
 use cedar_types::base::{Message, Template, ValidatorSchema};
 use std::alloc::{AllocError, Global};
 
-/// How many findings of a policy are put into words.
-const MAX_FINDINGS: usize = 100;
-
 /// How many other types of one mistake are named.
 const MAX_ALSO: usize = 4;
 
@@ -24,80 +21,92 @@ pub struct About<'a> {
     pub applicable: u64,
 }
 
-/// The first findings in order, and how many more there are. What is found of several types in the same way is one finding.
+/// What is found in the same way at one place: the first cause, and others that differ in nothing but types.
+#[derive(Drop)]
+struct Mistake<'a> {
+    first: Found<'a>,
+    others: Vec<Found<'a>>,
+}
+
+/// The first findings, in ascending order, and how many more there are.
+#[derive(Drop)]
+pub struct FirstFindings {
+    pub listed: Vec<Finding>,
+    pub others: usize,
+}
+
+/// The first findings in order, at most so many. What is found of several types in the same way is one finding.
 pub fn first_findings(
     alloc: Global,
     about: About<'_>,
-    mut found: Vec<Found<'_>>,
-) -> Result<(Vec<Finding>, usize), AllocError> {
-    found.sort_by_key(|it| it.rank())?;
-    let (sizes, others) = first_mistakes(alloc, found.as_slice())?;
-    let mut findings = Vec::new(alloc);
-    let mut start = 0usize;
-    for size in sizes {
-        let end = start.saturating_add(size);
-        let mistake = found.as_slice().get(start..end).unwrap_or(&[]);
-        if let Some(finding) = finding_of(alloc, about, mistake)? {
-            findings.push(finding)?;
+    mut causes: Vec<Found<'_>>,
+    most: usize,
+) -> Result<FirstFindings, AllocError> {
+    causes.sort_by_key(|it| (it.place.start, it.place.end))?;
+    let mut findings = FirstFindings {
+        listed: Vec::new(alloc),
+        others: 0,
+    };
+    let Some((first, rest)) = causes.as_slice().split_first() else {
+        return Ok(findings);
+    };
+    let mut mistake = Mistake::new(alloc, *first);
+    for cause in rest {
+        if mistake.last().is_same_mistake(cause) {
+            mistake.others.push(*cause)?;
+        } else {
+            add_mistake(alloc, about, &mistake, most, &mut findings)?;
+            mistake = Mistake::new(alloc, *cause);
         }
-        start = end;
     }
-    findings.sort()?;
-    Ok((findings, others))
+    add_mistake(alloc, about, &mistake, most, &mut findings)?;
+    findings.listed.sort()?;
+    Ok(findings)
 }
 
-/// How many errors each of the first mistakes has, and how many mistakes there are behind these.
-fn first_mistakes(alloc: Global, found: &[Found<'_>]) -> Result<(Vec<usize>, usize), AllocError> {
-    let mut sizes = Vec::new(alloc);
-    let mut others = 0usize;
-    let mut size = 0usize;
-    let mut before: Option<&Found<'_>> = None;
-    for it in found {
-        let is_same = before.is_some_and(|last| last.is_same_mistake(it));
-        before = Some(it);
-        if is_same {
-            size = size.saturating_add(1);
-            continue;
+impl<'a> Mistake<'a> {
+    fn new(alloc: Global, first: Found<'a>) -> Mistake<'a> {
+        Mistake {
+            first,
+            others: Vec::new(alloc),
         }
-        if size > 0 && sizes.len() < MAX_FINDINGS {
-            sizes.push(size)?;
-        } else if size > 0 {
-            others = others.saturating_add(1);
-        }
-        size = 1;
     }
-    if size > 0 && sizes.len() < MAX_FINDINGS {
-        sizes.push(size)?;
-    } else if size > 0 {
-        others = others.saturating_add(1);
+
+    fn last(&self) -> &Found<'a> {
+        self.others.last().unwrap_or(&self.first)
     }
-    Ok((sizes, others))
 }
 
-/// The finding of a mistake: the words of its first error, and the types and environments of all.
+/// Adds the finding of a mistake, or counts it where there are so many.
+fn add_mistake(
+    alloc: Global,
+    about: About<'_>,
+    mistake: &Mistake<'_>,
+    most: usize,
+    findings: &mut FirstFindings,
+) -> Result<(), AllocError> {
+    if findings.listed.len() < most {
+        findings.listed.push(finding_of(alloc, about, mistake)?)?;
+    } else {
+        findings.others = findings.others.saturating_add(1);
+    }
+    Ok(())
+}
+
+/// The finding of a mistake: the words of its first cause, and the types and environments of all.
 fn finding_of(
     alloc: Global,
     about: About<'_>,
-    mistake: &[Found<'_>],
-) -> Result<Option<Finding>, AllocError> {
-    let Some((first, others)) = mistake.split_first() else {
-        return Ok(None);
-    };
+    mistake: &Mistake<'_>,
+) -> Result<Finding, AllocError> {
+    let Mistake { first, others } = mistake;
     let text = text_of(alloc, first.cause)?;
-    let severity = first.severity();
     let place = Some(first.place);
-    let mut finding = Finding::new(
-        alloc,
-        about.policy,
-        severity,
-        first.code(),
-        place,
-        text.as_str(),
-    )?;
+    let mut finding = Finding::new(alloc, about.policy, first.code(), place, text.as_str())?;
     finding.hint = hint(alloc, about, first.cause)?;
-    finding.also = types_of(alloc, others)?;
+    finding.also = types_of(alloc, others.as_slice())?;
     finding.environments = environments_of(alloc, about.applicable, mistake)?;
-    Ok(Some(finding))
+    Ok(finding)
 }
 
 fn text_of(alloc: Global, cause: Cause<'_>) -> Result<String, AllocError> {
@@ -143,19 +152,27 @@ fn types_of(alloc: Global, errors: &[Found<'_>]) -> Result<Vec<String>, AllocErr
 fn environments_of(
     alloc: Global,
     applicable: u64,
-    mistake: &[Found<'_>],
+    mistake: &Mistake<'_>,
 ) -> Result<Vec<String>, AllocError> {
     let mut all = ShownEnvironments::new(alloc);
-    let mut most = applicable;
-    for it in mistake {
-        match it.cause {
-            Cause::Error(_, environments) => all.add(alloc, environments)?,
-            Cause::FalsePart(_, part) => {
-                all.add(alloc, &part.environments)?;
-                most = u64::MAX;
-            }
-            Cause::Warning(_) | Cause::Marks(_) | Cause::Unexplained(_) | Cause::SameId(_) => {}
-        }
+    add_environments(alloc, mistake.first.cause, &mut all)?;
+    for it in &mistake.others {
+        add_environments(alloc, it.cause, &mut all)?;
     }
-    all.finish(alloc, most)
+    match mistake.first.cause {
+        Cause::FalsePart(_, _) => all.finish(alloc, u64::MAX),
+        _ => all.finish(alloc, applicable),
+    }
+}
+
+fn add_environments(
+    alloc: Global,
+    cause: Cause<'_>,
+    all: &mut ShownEnvironments,
+) -> Result<(), AllocError> {
+    match cause {
+        Cause::Error(_, environments) => all.add(alloc, environments),
+        Cause::FalsePart(_, part) => all.add(alloc, &part.environments),
+        Cause::Warning(_) | Cause::Marks(_) | Cause::Unexplained(_) | Cause::SameId(_) => Ok(()),
+    }
 }

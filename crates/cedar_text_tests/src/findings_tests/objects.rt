@@ -49,9 +49,10 @@ fn add_policy(
     let verdict = Verdict {
         is_accepted,
         requirement,
-        findings: Vec::new(alloc),
+        errors: Vec::new(alloc),
+        warnings: Vec::new(alloc),
         others: 0,
-        warnings: 0,
+        warning_count: 0,
     };
     Objects.add(out, Entry::Policy(PLACE, id, &verdict))?;
     Ok(())
@@ -73,10 +74,16 @@ fn findings_and_faults(rt: HostRuntime) -> Result<(), Fail> {
         String::from_str(alloc, "h")?,
         String::from_str(alloc, "t\t")?,
     ]?;
-    let somewhere = finding(alloc, Severity::Error, environments)?;
-    Objects.add(&mut out, Entry::Finding(PLACE, "i", &somewhere))?;
-    let nowhere = finding(alloc, Severity::Warning, Vec::new(alloc))?;
-    Objects.add(&mut out, Entry::Finding(PLACE, "i", &nowhere))?;
+    let somewhere = finding(alloc, environments)?;
+    Objects.add(
+        &mut out,
+        Entry::Finding(PLACE, "i", Severity::Error, &somewhere),
+    )?;
+    let nowhere = finding(alloc, Vec::new(alloc))?;
+    Objects.add(
+        &mut out,
+        Entry::Finding(PLACE, "i", Severity::Warning, &nowhere),
+    )?;
     Objects.add(&mut out, Entry::Fault(PLACE, "`;` is expected"))?;
     Objects.add(&mut out, Entry::Missing("\u{1b}", "none"))?;
     let totals = Totals {
@@ -94,11 +101,7 @@ fn findings_and_faults(rt: HostRuntime) -> Result<(), Fail> {
     Ok(())
 }
 
-fn finding(
-    alloc: Global,
-    severity: Severity,
-    environments: Vec<String>,
-) -> Result<Finding, AllocError> {
+fn finding(alloc: Global, environments: Vec<String>) -> Result<Finding, AllocError> {
     let mut also = Vec::new(alloc);
     let mut hint = String::new(alloc);
     if !environments.is_empty() {
@@ -108,7 +111,6 @@ fn finding(
     Ok(Finding {
         start: 0,
         end: 1,
-        severity,
         text: String::from_str(alloc, "\u{202e}")?,
         hint,
         also,

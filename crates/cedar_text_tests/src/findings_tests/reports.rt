@@ -1,6 +1,6 @@
 // A policy with more findings than are shown.
 use cedar_findings::codes::Code;
-use cedar_findings::findings::{Finding, Requirement, Severity, Verdict};
+use cedar_findings::findings::{Finding, Requirement, Verdict};
 use cedar_findings::formats::Format;
 use cedar_findings::reports::Report;
 use cedar_findings::sources::Source;
@@ -80,19 +80,20 @@ fn describe(alloc: Global, count: usize, others: usize, name: &str) -> Result<St
         return Ok(out);
     };
     let policy = read?.template;
-    let mut findings = Vec::new(alloc);
+    let mut errors = Vec::new(alloc);
     for _ in 0..count {
         let code = Code::Level;
-        findings.push(Finding::new(alloc, &policy, Severity::Error, code, None, "e")?)?;
+        errors.push(Finding::new(alloc, &policy, code, None, "e")?)?;
     }
     let verdict = Verdict {
         is_accepted: false,
         requirement: Requirement::Unsaid,
-        findings,
+        errors,
+        warnings: Vec::new(alloc),
         others,
-        warnings: 0,
+        warning_count: 0,
     };
-    report.push_policy(&mut out, &policy, &verdict)?;
+    report.push_policy(alloc, &mut out, &policy, &verdict)?;
     Ok(out)
 }
 

@@ -1,0 +1,118 @@
+// What may be a slip in a policy.
+use crate::causes::{Cause, Found, place_of};
+use crate::impossible::{FalsePart, false_parts};
+use crate::settings::Settings;
+use cedar_findings::marks::marked_parts;
+use cedar_host::policy_sets::Findings;
+use cedar_typechecker::survey::Environments;
+use cedar_types::base::{ArgumentCheck, Template, ValidationError, ValidationWarning};
+use std::alloc::{AllocError, Global};
+use std::collections::BTreeMap;
+
+/// Why a policy is impossible, where that does not follow from errors.
+pub fn find_false_parts<C: ArgumentCheck>(
+    alloc: Global,
+    settings: &Settings<'_, C>,
+    found: &Findings,
+    policy: &Template,
+) -> Result<Vec<FalsePart>, AllocError> {
+    for warning in &found.warnings {
+        let is_impossible = matches!(warning, ValidationWarning::ImpossiblePolicy(_));
+        if is_impossible && !follows(warning, &found.errors, policy) {
+            return false_parts(alloc, settings, policy);
+        }
+    }
+    Ok(Vec::new(alloc))
+}
+
+/// The warnings: those that do not follow from errors, and the texts with marks of direction.
+pub fn warning_causes<'a>(
+    alloc: Global,
+    found: &'a Findings,
+    parts: &'a [FalsePart],
+    policy: &Template,
+) -> Result<Vec<Found<'a>>, AllocError> {
+    let mut causes = Vec::new(alloc);
+    add_warnings(found, parts, policy, &mut causes)?;
+    add_marks(alloc, policy, &mut causes)?;
+    Ok(causes)
+}
+
+/// Adds the warnings that do not follow from errors: that a policy is impossible at each part that is false.
+fn add_warnings<'a>(
+    found: &'a Findings,
+    parts: &'a [FalsePart],
+    policy: &Template,
+    causes: &mut Vec<Found<'a>>,
+) -> Result<(), AllocError> {
+    for warning in &found.warnings {
+        if follows(warning, &found.errors, policy) {
+            continue;
+        }
+        let parts = match warning {
+            ValidationWarning::ImpossiblePolicy(_) => parts,
+            ValidationWarning::InvalidActionApplication(_) => &[],
+        };
+        if parts.is_empty() {
+            let place = warning.source_loc().unwrap_or(place_of(policy));
+            let cause = Cause::Warning(warning);
+            causes.push(Found { place, cause })?;
+        }
+        for part in parts {
+            let cause = Cause::FalsePart(warning, part);
+            causes.push(Found {
+                place: part.place,
+                cause,
+            })?;
+        }
+    }
+    Ok(())
+}
+
+/// Adds the texts with marks of direction.
+fn add_marks(
+    alloc: Global,
+    policy: &Template,
+    causes: &mut Vec<Found<'_>>,
+) -> Result<(), AllocError> {
+    for it in marked_parts(alloc, policy)? {
+        let place = it.place.unwrap_or(place_of(policy));
+        let cause = Cause::Marks(it.text);
+        causes.push(Found { place, cause })?;
+    }
+    Ok(())
+}
+
+/// Whether a warning follows from a name that the schema does not have: nothing is of a type that is not declared, and no action
+/// fits a scope that names one.
+fn follows(
+    warning: &ValidationWarning,
+    errors: &BTreeMap<ValidationError, Environments>,
+    policy: &Template,
+) -> bool {
+    let mut unknown = errors.keys().filter(|error| is_unknown_name(error));
+    match warning {
+        ValidationWarning::ImpossiblePolicy(_) => unknown.next().is_some(),
+        ValidationWarning::InvalidActionApplication(_) => {
+            unknown.any(|error| is_in_scope(error, policy))
+        }
+    }
+}
+
+fn is_unknown_name(error: &ValidationError) -> bool {
+    matches!(
+        error,
+        ValidationError::UnrecognizedEntityType(_) | ValidationError::UnrecognizedActionId(_)
+    )
+}
+
+/// Whether an error stands outside the conditions of its policy.
+fn is_in_scope(error: &ValidationError, policy: &Template) -> bool {
+    let condition = policy.non_scope_constraints.as_ref();
+    match (error.source_loc(), condition.and_then(|it| it.loc)) {
+        (Some(place), Some(condition)) => {
+            place.start < condition.start || condition.end <= place.start
+        }
+        _ => true,
+    }
+}
