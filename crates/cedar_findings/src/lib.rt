@@ -12,6 +12,7 @@ pub mod faults;
 pub mod findings;
 pub mod forbidden_parts;
 pub mod formats;
+pub mod help;
 pub mod hints;
 pub mod json_faults;
 pub mod lines;

@@ -46,14 +46,15 @@ impl<'a> Report<'a> {
         }
     }
 
-    /// Adds a policy, and what is found in it: the first findings in the order of their places, and how many more there are.
-    pub fn push_policy(
+    /// How a policy is shown, and what is found in it: the first findings in the order of their places, and how many more there are.
+    pub fn policy_shown(
         &mut self,
         alloc: Global,
-        out: &mut String,
         policy: &Template,
         verdict: &Verdict,
-    ) -> Result<(), AllocError> {
+    ) -> Result<String, AllocError> {
+        let mut shown = String::new(alloc);
+        let out = &mut shown;
         let place = self.place(loc_of(policy));
         let id = policy.id.text.as_str();
         self.format.add(out, Entry::Policy(place, id, verdict))?;
@@ -65,32 +66,43 @@ impl<'a> Report<'a> {
             self.format
                 .add(out, Entry::Finding(found_at, id, severity, finding))?;
         }
-        if verdict.others == 0 {
-            return Ok(());
+        if verdict.others > 0 {
+            self.format
+                .add(out, Entry::Rest(place, id, verdict.others))?;
         }
-        self.format.add(out, Entry::Rest(place, id, verdict.others))
+        Ok(shown)
     }
 
-    /// Adds each mistake in data: as a fault what is no data.
-    pub fn push_data(&mut self, out: &mut String, verdict: &DataVerdict) -> Result<(), AllocError> {
+    /// How the mistakes in data are shown: as a fault what is no data.
+    pub fn data_shown(
+        &mut self,
+        alloc: Global,
+        verdict: &DataVerdict,
+    ) -> Result<String, AllocError> {
+        let mut shown = String::new(alloc);
         for finding in &verdict.findings {
             let place = self.place(finding.place);
-            match finding.code {
-                Code::Fault => {
-                    let text = finding.text.as_str();
-                    self.format.add(out, Entry::Fault(place, text))?;
-                }
-                _ => self.format.add(out, Entry::Data(place, finding))?,
-            }
+            let entry = match finding.code {
+                Code::Fault => Entry::Fault(place, finding.text.as_str()),
+                _ => Entry::Data(place, finding),
+            };
+            self.format.add(&mut shown, entry)?;
         }
-        Ok(())
+        Ok(shown)
     }
 
-    /// Adds a fault of the text.
-    pub fn push_fault(&mut self, out: &mut String, fault: &TextFault) -> Result<(), AllocError> {
+    /// How a fault of the text is shown.
+    pub fn fault_shown(&mut self, alloc: Global, fault: &TextFault) -> Result<String, AllocError> {
+        let mut shown = String::new(alloc);
         let place = self.place(fault.place);
         self.format
-            .add(out, Entry::Fault(place, fault.text.as_str()))
+            .add(&mut shown, Entry::Fault(place, fault.text.as_str()))?;
+        Ok(shown)
+    }
+
+    /// How it is shown that the file, or the rest of it, cannot be had.
+    pub fn missing_shown(&mut self, alloc: Global, why: &str) -> Result<String, AllocError> {
+        render_missing(alloc, &mut self.format, self.source.name, why)
     }
 }
 
@@ -119,9 +131,8 @@ pub fn render_fault(
     source: Source<'_>,
     fault: &TextFault,
 ) -> Result<String, AllocError> {
-    let mut shown = String::new(alloc);
     let mut report = Report::new(alloc, *format, source);
-    report.push_fault(&mut shown, fault)?;
+    let shown = report.fault_shown(alloc, fault)?;
     *format = report.format();
     Ok(shown)
 }

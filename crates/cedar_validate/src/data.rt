@@ -37,9 +37,8 @@ pub fn validate_data<R: Files + AllocGlobal + Input, O: Write>(
         let text = text.as_str();
         let verdict = judge_data(alloc, schema, kind, text)?;
         totals.add_data(&verdict);
-        let mut shown = String::new(alloc);
         let mut report = Report::new(alloc, *format, Source { name, text });
-        report.push_data(&mut shown, &verdict)?;
+        let shown = report.data_shown(alloc, &verdict)?;
         *format = report.format();
         out.write_all(shown.as_bytes())?;
     }

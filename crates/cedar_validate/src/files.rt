@@ -51,74 +51,48 @@ pub fn validate_file<R: Files + AllocGlobal + Input, O: Write, T: Write>(
         return Ok(());
     };
     let text = text.as_str();
+    let whole = PolicyText::new(alloc, settings.syntax, text)?;
     let mut report = Report::new(alloc, *format, Source { name, text });
-    let is_whole = validate_text(alloc, settings, text, &mut report, totals, progress, out)?;
-    *format = report.format();
-    progress.clear();
-    if !is_whole {
-        totals.add_fault();
-        let rest = format!(in alloc; "{MAX_FAULTS} faults, so the rest of the file is not read")?;
-        let shown = render_missing(alloc, format, name, rest.as_str())?;
-        out.write_all(shown.as_bytes())?;
-    }
-    Ok(())
-}
-
-/// Validates the policies of a text in either syntax, or shows the fault that it has as a whole. Whether all of it was read.
-fn validate_text<O: Write, T: Write>(
-    alloc: Global,
-    settings: &Settings<'_>,
-    text: &str,
-    report: &mut Report<'_>,
-    totals: &mut Totals,
-    progress: &mut Progress<T>,
-    out: &mut O,
-) -> io::Result<bool> {
-    let whole = match PolicyText::new(alloc, settings.syntax, text)? {
-        Ok(whole) => whole,
-        Err(fault) => {
-            write_fault(alloc, report, totals, &fault, out)?;
-            return Ok(true);
-        }
-    };
     if whole.is_json() {
         report.index_places()?;
     }
     match whole.verdicts(alloc)? {
-        Ok(verdicts) => write_verdicts(alloc, settings, verdicts, report, totals, progress, out),
-        Err(fault) => {
-            write_fault(alloc, report, totals, &fault, out)?;
-            Ok(true)
-        }
+        Ok(said) => write_said(alloc, settings, said, &mut report, totals, progress, out)?,
+        Err(fault) => write_fault(alloc, &mut report, totals, &fault, out)?,
     }
+    *format = report.format();
+    Ok(())
 }
 
-/// Counts and writes what is said of policies, one after another. Whether all was read.
-fn write_verdicts<O: Write, T: Write>(
+/// Counts and writes what is said of policies, one after another.
+fn write_said<O: Write, T: Write>(
     alloc: Global,
     settings: &Settings<'_>,
-    mut verdicts: PolicyVerdicts<'_>,
+    mut said: PolicyVerdicts<'_>,
     report: &mut Report<'_>,
     totals: &mut Totals,
     progress: &mut Progress<T>,
     out: &mut O,
-) -> io::Result<bool> {
-    for _ in 0..verdicts.most() {
-        let Some(said) = verdicts.next_said(alloc, settings)? else {
-            break;
-        };
-        match said {
-            Said::Verdict(policy, verdict) => {
+) -> io::Result<()> {
+    for _ in 0..said.most() {
+        match said.next_said(alloc, settings)? {
+            None => break,
+            Some(Said::Verdict(policy, verdict)) => {
                 totals.add(&verdict);
-                let mut shown = String::new(alloc);
-                report.push_policy(alloc, &mut shown, &policy, &verdict)?;
+                let shown = report.policy_shown(alloc, &policy, &verdict)?;
                 out.write_all(shown.as_bytes())?;
             }
-            Said::Fault(fault) => write_fault(alloc, report, totals, &fault, out)?,
+            Some(Said::Fault(fault)) => write_fault(alloc, report, totals, &fault, out)?,
         }
         progress.show(totals.policies);
     }
-    Ok(!verdicts.is_cut())
+    progress.clear();
+    if said.is_cut() {
+        totals.add_fault();
+        let why = format!(in alloc; "{MAX_FAULTS} faults, so the rest of the file is not read")?;
+        out.write_all(report.missing_shown(alloc, why.as_str())?.as_bytes())?;
+    }
+    Ok(())
 }
 
 /// Counts and writes a fault.
@@ -130,7 +104,5 @@ fn write_fault<O: Write>(
     out: &mut O,
 ) -> io::Result<()> {
     totals.add_fault();
-    let mut shown = String::new(alloc);
-    report.push_fault(&mut shown, fault)?;
-    out.write_all(shown.as_bytes())
+    out.write_all(report.fault_shown(alloc, fault)?.as_bytes())
 }

@@ -17,10 +17,7 @@ use std::env;
 use std::io::{ErrorKind, IsTerminal, Write};
 use std::process::ExitCode;
 
-/// The status of a program that cannot begin.
-const CANNOT_BEGIN: u8 = 2;
-
-/// Why it cannot, where it is no word of the command line.
+/// Why the program cannot begin, where it is no word of the command line.
 const NO_MEMORY: &str = "memory was refused";
 
 fn main(rt: HostRuntime) -> ExitCode {
@@ -70,5 +67,5 @@ fn main(rt: HostRuntime) -> ExitCode {
 /// Says why the program cannot begin, and answers its status.
 fn cannot_begin<E: Write>(err: &mut E, why: &str) -> ExitCode {
     let _ = writeln!(err, "cedar-validate: {why}");
-    ExitCode::from(CANNOT_BEGIN)
+    ExitCode::from(2)
 }

@@ -6,49 +6,15 @@ use crate::schemas::read_schema;
 use crate::version::{VERSION, build};
 use cedar_findings::arguments::{Arguments, Asked, read_arguments};
 use cedar_findings::formats::Format;
+use cedar_findings::help::{HELP, USAGE};
 use cedar_findings::totals::Totals;
 use cedar_findings::writers::FindingsWriter;
 use cedar_typechecker::rbac::Validator;
 use cedar_types::base::ExtensionSchemas;
 use cedar_verdicts::settings::Settings;
-use std::alloc::Global;
 use std::io;
 use std::io::Write;
 use std::rt::Files;
-
-const USAGE: &str = "usage: cedar-validate [--mode strict|permissive|partial] [--level N] \
-     [--deny-warnings] [--format lines|json|sarif] [--input text|json] [--entities FILE] \
-     [--request FILE] SCHEMA POLICY..\n";
-
-const HELP: &str = "\
-Validates the policies of some files by a schema, and says what is wrong and where.
-With --entities or --request it checks data by the schema too, or alone.
-
-  --mode MODE   strict (without this option), permissive or partial
-  --level N     how many entities a policy may dereference, one after another
-  --deny-warnings  a warning counts for the exit status as a refused policy does
-  --format FORM lines for people (without this option), json, which is an object a line,
-                or sarif, one object that code hosts show beside the lines
-  --json        the same as --format json
-  --input FORM  text or json: how all files are written; without this option a file is JSON
-                where it begins with { or [
-  --schema FILE a file of the schema; it can stand several times, and then each file that is
-                named without it is one of policies
-  --entities FILE  a list of entities in JSON; policies may be left out then
-  --request FILE   a request in JSON: principal, action, resource and context
-  -h, --help    this text
-  --version     the version of the program
-  --            what comes behind it is a file, whatever it begins with
-  -             in place of a file: standard input
-
-  cedar-validate --level 1 photos.cedarschema share.cedar
-
-  cedar-validate --entities entities.json --request request.json photos.cedarschema
-
-The exit status is 0 where all policies are accepted and all data is as the schema says,
-1 where some are not, or have a warning and --deny-warnings is given, and 2 where a file
-cannot be read or understood.
-";
 
 /// Does what the words ask for, and answers the exit status: 0 where all policies are accepted, 1 where some are refused, 2 where
 /// the words are wrong, a file cannot be read or understood, or memory or a writer fails.
@@ -98,7 +64,7 @@ fn answer<R: Files + AllocGlobal + Input, O: Write, E: Write, T: Write>(
     }
 }
 
-/// Validates the policies of all files, and checks data.
+/// Validates the policies of all files, and checks data. The answer is the exit status.
 fn validate_files<R: Files + AllocGlobal + Input, O: Write, T: Write>(
     rt: &R,
     arguments: &Arguments,
@@ -111,36 +77,26 @@ fn validate_files<R: Files + AllocGlobal + Input, O: Write, T: Write>(
     let mut shown = String::new(rt.alloc());
     format.begin(&mut shown)?;
     out.write_all(shown.as_bytes())?;
-    let Some(schema) = read_schema(rt, arguments, &mut format, out)? else {
-        totals.add_missing_schema();
-        return end(rt.alloc(), arguments, &mut format, &totals, out);
-    };
-    let validator = Validator::new(schema, extensions);
-    let settings = Settings {
-        validator: &validator,
-        mode: arguments.mode,
-        level: arguments.level,
-        syntax: arguments.syntax,
-    };
-    for name in &arguments.policies {
-        let name = name.as_str();
-        validate_file(rt, &mut format, &settings, name, &mut totals, progress, out)?;
+    match read_schema(rt, arguments, &mut format, out)? {
+        None => totals.add_missing_schema(),
+        Some(schema) => {
+            let validator = Validator::new(schema, extensions);
+            let settings = Settings {
+                validator: &validator,
+                mode: arguments.mode,
+                level: arguments.level,
+                syntax: arguments.syntax,
+            };
+            for name in &arguments.policies {
+                let name = name.as_str();
+                validate_file(rt, &mut format, &settings, name, &mut totals, progress, out)?;
+            }
+            let schema = validator.schema();
+            validate_data(rt, &mut format, schema, arguments, &mut totals, out)?;
+        }
     }
-    let schema = validator.schema();
-    validate_data(rt, &mut format, schema, arguments, &mut totals, out)?;
-    end(rt.alloc(), arguments, &mut format, &totals, out)
-}
-
-/// Ends what is written, and answers the exit status.
-fn end<O: Write>(
-    alloc: Global,
-    arguments: &Arguments,
-    format: &mut Format,
-    totals: &Totals,
-    out: &mut O,
-) -> io::Result<u8> {
-    let mut shown = String::new(alloc);
-    format.end(&mut shown, totals)?;
+    let mut shown = String::new(rt.alloc());
+    format.end(&mut shown, &totals)?;
     out.write_all(shown.as_bytes())?;
     Ok(totals.status(arguments.denies_warnings))
 }

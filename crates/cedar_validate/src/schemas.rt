@@ -7,7 +7,7 @@ use cedar_findings::schema_texts::SchemaTexts;
 use cedar_findings::sources::Source;
 use cedar_findings::syntaxes::Syntax;
 use cedar_types::base::ValidatorSchema;
-use cedar_verdicts::schemas::{json_schema_or_fault, schema_or_faults};
+use cedar_verdicts::schemas::{SchemaFault, json_schema_or_fault, schema_or_faults};
 use std::alloc::Global;
 use std::io;
 use std::io::Write;
@@ -41,20 +41,18 @@ pub fn read_schema<R: Files + AllocGlobal + Input, O: Write>(
         Ok(schema) => return Ok(Some(schema)),
         Err(faults) => faults,
     };
-    for found in &faults {
-        let name = match arguments.schemas.get(found.number) {
+    for SchemaFault { number, fault } in &faults {
+        let name = match arguments.schemas.get(*number) {
             Some(name) => name.as_str(),
             None => "",
         };
-        let text = texts.text_of(found.number);
-        let shown = render_fault(alloc, format, Source { name, text }, &found.fault)?;
-        out.write_all(shown.as_bytes())?;
+        let text = texts.text_of(*number);
+        out.write_all(render_fault(alloc, format, Source { name, text }, fault)?.as_bytes())?;
     }
     Ok(None)
 }
 
-/// The schema that a file of JSON declares, which has to be the only one. Where there is none, why is written, and the answer is
-/// `None`.
+/// The schema of a file of JSON, which has to be the only one. Where there is none, why is written, and the answer is `None`.
 fn read_json_schema<O: Write>(
     alloc: Global,
     format: &mut Format,

@@ -1,4 +1,6 @@
 // What is wrong in a policy, before it is put into words.
+ghost use Rattle.std.specs.Prelude.{◌≡◌, ◌<◌, true, false, length, is_some, IfOk, OnOk};
+
 use crate::causes::{Cause, Found, place_of};
 use cedar_host::policy_sets::Findings;
 use cedar_reading::Position;
@@ -21,7 +23,11 @@ pub fn error_causes<'a>(
     found: &'a Findings,
     policy: &Template,
     same_id: Option<Position>,
-) -> Result<Vec<Found<'a>>, AllocError> {
+) -> Result<Vec<Found<'a>>, AllocError>
+    ensures refused { IfOk result (λ causes.
+        found.now.is_accepted ≡ false → 0 < length causes.items) }
+    ensures repeated { IfOk result (λ causes. is_some same_id ≡ true → 0 < length causes.items) }
+{
     let mut causes = errors_found(alloc, found, policy)?;
     explain(mode, found.is_accepted, policy, &mut causes)?;
     add_same_id(policy, same_id, &mut causes)?;
@@ -33,7 +39,10 @@ fn add_same_id(
     policy: &Template,
     same_id: Option<Position>,
     causes: &mut Vec<Found<'_>>,
-) -> Result<(), AllocError> {
+) -> Result<(), AllocError>
+    ensures kept { OnOk result (0 < length causes.old.items → 0 < length causes.new.items) }
+    ensures added { OnOk result (is_some same_id ≡ true → 0 < length causes.new.items) }
+{
     let Some(other) = same_id else {
         return Ok(());
     };
@@ -65,7 +74,9 @@ fn explain(
     is_accepted: bool,
     policy: &Template,
     causes: &mut Vec<Found<'_>>,
-) -> Result<(), AllocError> {
+) -> Result<(), AllocError>
+    ensures { OnOk result (is_accepted ≡ false → 0 < length causes.new.items) }
+{
     if !is_accepted & causes.is_empty() {
         let place = place_of(policy);
         let cause = Cause::Unexplained(why_unexplained(mode));

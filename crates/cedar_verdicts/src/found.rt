@@ -1,4 +1,14 @@
 // What validation finds in a policy, in any mode.
+ghost use Rattle.std.specs.Prelude.{◌≡◌, true, None, option_map, IfOk, IfSome};
+ghost use Rattle.cedar_types.specs.declared.base.types.ValidationMode.TheVariants.{Partial};
+ghost use Rattle.cedar_types.specs.Templates.{template_of};
+ghost use Rattle.cedar_typechecker.specs.declared.survey.Survey.{Survey};
+ghost use Rattle.cedar_typechecker.specs.Levels.Required.{IsRequiredLevel};
+ghost use Rattle.cedar_typechecker.specs.Surveys.{IsSurveyOf, passes_of};
+ghost use Rattle.cedar_typechecker.specs.ValidatorViews.{basis_in};
+ghost use Rattle.cedar_host.specs.Safety.{validation_mode};
+ghost use Rattle.cedar_verdicts.specs.Verdicts.{basis_of, is_sound, passes_all, finds_nothing, IsPromised};
+
 use crate::settings::Settings;
 use cedar_extensions::unread_texts::unread_texts;
 use cedar_host::policy_sets::{Findings, validate};
@@ -18,7 +28,17 @@ pub fn find<C: ArgumentCheck>(
     alloc: Global,
     settings: &Settings<'_, C>,
     policy: &Template,
-) -> Result<Findings, AllocError> {
+) -> Result<Findings, AllocError>
+    ensures promised { IfOk result (λ found. IsPromised (basis_of C.refusal settings.now)
+        settings.now.level (template_of policy.now) found.is_accepted) }
+    ensures level { IfOk result (λ found. is_sound settings.now.mode ≡ true
+        → IsRequiredLevel (basis_of C.refusal settings.now) (template_of policy.now)
+        (option_map (λ l. l.level) found.level)) }
+    ensures exact { IfOk result (λ found. (survey : Survey)
+        × IsSurveyOf (basis_of C.refusal settings.now) (template_of policy.now) survey
+        × (found.is_accepted ≡ finds_nothing (basis_of C.refusal settings.now)
+        settings.now.level (template_of policy.now) survey)) }
+{
     let mut found = find_by_mode(alloc, settings, policy)?;
     let unread = unread_texts(alloc, policy)?;
     let is_read = unread.is_empty();
@@ -44,17 +64,39 @@ fn find_by_mode<C: ArgumentCheck>(
     alloc: Global,
     settings: &Settings<'_, C>,
     policy: &Template,
-) -> Result<Findings, AllocError> {
+) -> Result<Findings, AllocError>
+    ensures promised { IfOk result (λ found. IsPromised (basis_of C.refusal settings.now)
+        settings.now.level (template_of policy.now) found.is_accepted) }
+    ensures level { IfOk result (λ found. is_sound settings.now.mode ≡ true
+        → IsRequiredLevel (basis_of C.refusal settings.now) (template_of policy.now)
+        (option_map (λ l. l.level) found.level)) }
+    ensures exact { IfOk result (λ found. (survey : Survey)
+        × IsSurveyOf (basis_of C.refusal settings.now) (template_of policy.now) survey
+        × (found.is_accepted ≡ passes_all (basis_of C.refusal settings.now)
+        settings.now.level (template_of policy.now) survey)) }
+{
     let validator = settings.validator;
-    match (sound_mode(settings.mode), settings.level) {
-        (None, _) => find_in_partial(alloc, validator, policy),
-        (Some(mode), None) => validate(alloc, validator, mode, policy),
-        (Some(mode), Some(steps)) => validate_within(alloc, validator, mode, steps, policy),
+    let Some(mode) = sound_mode(settings.mode) else {
+        let found = find_in_partial(alloc, validator, policy)?;
+        return Ok(found);
+    };
+    match settings.level {
+        None => {
+            let found = validate(alloc, validator, mode, policy)?;
+            Ok(found)
+        }
+        Some(steps) => {
+            let found = validate_within(alloc, validator, mode, steps, policy)?;
+            Ok(found)
+        }
     }
 }
 
 /// The mode, if it is one in which validation promises something of evaluation.
-fn sound_mode(mode: ValidationMode) -> Option<SoundMode> {
+fn sound_mode(mode: ValidationMode) -> Option<SoundMode>
+    ensures some { IfSome result (λ m. mode ≡ validation_mode m) }
+    ensures none { result ≡ None → mode ≡ Partial }
+{
     match mode {
         ValidationMode::Strict => Some(SoundMode::Strict),
         ValidationMode::Permissive => Some(SoundMode::Permissive),
@@ -67,8 +109,13 @@ fn find_in_partial<C: ArgumentCheck>(
     alloc: Global,
     validator: &Validator<'_, C>,
     policy: &Template,
-) -> Result<Findings, AllocError> {
+) -> Result<Findings, AllocError>
+    ensures { IfOk result (λ found. (survey : Survey)
+        × IsSurveyOf (basis_in C.refusal validator.now Partial) (template_of policy.now) survey
+        × (found.is_accepted ≡ passes_of survey)) }
+{
     let survey = validator.survey(alloc, policy, ValidationMode::Partial)?;
+    let passes = survey.passes();
     let is_impossible = survey.is_impossible();
     let mut warnings = Vec::new(alloc);
     if is_impossible {
@@ -76,7 +123,7 @@ fn find_in_partial<C: ArgumentCheck>(
         warnings.push(ValidationWarning::impossible_policy(policy.loc, id))?;
     }
     Ok(Findings {
-        is_accepted: survey.passes(),
+        is_accepted: passes,
         is_impossible,
         warnings,
         applicable_environments: survey.applicable_environments(),

@@ -1,4 +1,8 @@
 // The ids of the policies of a set.
+ghost use Rattle.std.specs.Prelude.{◌≡◌, ◌||◌, false, is_some, IfOk, OnOk};
+ghost use Rattle.cedar_types.specs.Names.{Text, text_eq, text_of};
+ghost use Rattle.cedar_verdicts.specs.Ids.{has_id};
+
 use cedar_types::base::PolicyID;
 use std::alloc::{AllocError, Global};
 use std::collections::BTreeMap;
@@ -12,14 +16,20 @@ pub struct Ids {
 
 impl Ids {
     /// None so far.
-    pub fn new(alloc: Global) -> Ids {
+    pub fn new(alloc: Global) -> Ids
+        ensures { (t : Text) → has_id result t ≡ false }
+    {
         Ids {
             starts: BTreeMap::new(alloc),
         }
     }
 
     /// Takes note of the id of a policy that begins at this byte. Where an earlier one has that id, the answer is where it begins.
-    pub fn take(&mut self, id: &PolicyID, start: usize) -> Result<Option<usize>, AllocError> {
+    pub fn take(&mut self, id: &PolicyID, start: usize) -> Result<Option<usize>, AllocError>
+        ensures known { IfOk result (λ first. is_some first ≡ has_id self.old (text_of id.now.text)) }
+        ensures taken { OnOk result ((t : Text)
+            → has_id self.new t ≡ (text_eq t (text_of id.now.text) || has_id self.old t)) }
+    {
         let id = id.text.clone()?;
         if let Some(first) = self.starts.get(&id) {
             return Ok(Some(*first));

@@ -1,4 +1,11 @@
 //! What is said of the policies of a set, where two may not have one id.
+ghost use Rattle.std.specs.Prelude.{◌≡◌, ◌||◌, false, is_some, map, IfOk, OnOk};
+ghost use Rattle.cedar_types.specs.Names.{Text, text_eq, text_of};
+ghost use Rattle.cedar_types.specs.Templates.{template_of};
+ghost use Rattle.cedar_verdicts.specs.Ids.{has_id};
+ghost use Rattle.cedar_verdicts.specs.Sets.{AreVerdictsOn};
+ghost use Rattle.cedar_verdicts.specs.Verdicts.{basis_of, IsRightVerdict, IsWholeVerdict};
+
 use crate::causes::place_of;
 use crate::ids::Ids;
 use crate::settings::Settings;
@@ -22,7 +29,9 @@ pub struct SetJudge<'a> {
 
 impl<'a> SetJudge<'a> {
     /// Of a set without policies so far, whose places are in this text, and whose hints take their examples from that one.
-    pub fn new(alloc: Global, text: &'a str, examples: &'a str) -> SetJudge<'a> {
+    pub fn new(alloc: Global, text: &'a str, examples: &'a str) -> SetJudge<'a>
+        ensures { (t : Text) → has_id result.ids t ≡ false }
+    {
         SetJudge {
             ids: Ids::new(alloc),
             examples,
@@ -37,22 +46,34 @@ impl<'a> SetJudge<'a> {
         alloc: Global,
         settings: &Settings<'_, C>,
         policy: &Template,
-    ) -> Result<Verdict, AllocError> {
+    ) -> Result<Verdict, AllocError>
+        ensures right { IfOk result (IsRightVerdict (basis_of C.refusal settings.now)
+            settings.now.level (template_of policy.now)) }
+        ensures whole { IfOk result (IsWholeVerdict (basis_of C.refusal settings.now)
+            settings.now.level (template_of policy.now)
+            (has_id self.old.ids (text_of policy.now.id.text))) }
+        ensures taken { OnOk result ((t : Text) → has_id self.new.ids t
+            ≡ (text_eq t (text_of policy.now.id.text) || has_id self.old.ids t)) }
+    {
         let first = self.ids.take(&policy.id, place_of(policy).start)?;
-        let same_id = match first {
-            Some(start) => Some(self.position_of(start)?),
-            None => None,
-        };
-        judge_in_set(alloc, settings, self.examples, policy, same_id)
+        let same_id = self.position_of(first)?;
+        let verdict = judge_in_set(alloc, settings, self.examples, policy, same_id)?;
+        Ok(verdict)
     }
 
-    /// Where a byte of the text stands.
-    fn position_of(&mut self, byte: usize) -> Result<Position, AllocError> {
+    /// Where the first policy of an id stands, if there is one, which begins at this byte.
+    fn position_of(&mut self, first: Option<usize>) -> Result<Option<Position>, AllocError>
+        ensures same { IfOk result (λ position. is_some position ≡ is_some first) }
+        ensures kept { self.new.ids ≡ self.old.ids }
+    {
+        let Some(start) = first else {
+            return Ok(None);
+        };
         if !self.has_index {
             self.places.index()?;
             self.has_index = true;
         }
-        Ok(self.places.position(byte))
+        Ok(Some(self.places.position(start)))
     }
 }
 
@@ -64,7 +85,10 @@ pub fn judge_set<C: ArgumentCheck>(
     settings: &Settings<'_, C>,
     text: &str,
     policies: &[Template],
-) -> Result<Vec<Verdict>, AllocError> {
+) -> Result<Vec<Verdict>, AllocError>
+    ensures { IfOk result (λ verdicts. AreVerdictsOn (basis_of C.refusal settings.now)
+        settings.now.level (map template_of policies.now) verdicts.items) }
+{
     let mut judge = SetJudge::new(alloc, text, text);
     let mut verdicts = Vec::with_capacity(alloc, policies.len())?;
     for policy in policies {

@@ -1,4 +1,8 @@
 //! What is said of a policy.
+ghost use Rattle.std.specs.Prelude.{false, is_some, IfOk};
+ghost use Rattle.cedar_types.specs.Templates.{template_of};
+ghost use Rattle.cedar_verdicts.specs.Verdicts.{basis_of, IsRightVerdict, IsWholeVerdict};
+
 use crate::errors::error_causes;
 use crate::found::find;
 use crate::requirements::requirement;
@@ -22,8 +26,14 @@ pub fn judge<C: ArgumentCheck>(
     settings: &Settings<'_, C>,
     text: &str,
     policy: &Template,
-) -> Result<Verdict, AllocError> {
-    judge_in_set(alloc, settings, text, policy, None)
+) -> Result<Verdict, AllocError>
+    ensures right { IfOk result (IsRightVerdict (basis_of C.refusal settings.now)
+        settings.now.level (template_of policy.now)) }
+    ensures whole { IfOk result (IsWholeVerdict (basis_of C.refusal settings.now)
+        settings.now.level (template_of policy.now) false) }
+{
+    let verdict = judge_in_set(alloc, settings, text, policy, None)?;
+    Ok(verdict)
 }
 
 /// What is said of a policy of a set: where an earlier one of the set has its id, at this position of the text, it is refused.
@@ -33,7 +43,12 @@ pub(crate) fn judge_in_set<C: ArgumentCheck>(
     text: &str,
     policy: &Template,
     same_id: Option<Position>,
-) -> Result<Verdict, AllocError> {
+) -> Result<Verdict, AllocError>
+    ensures right { IfOk result (IsRightVerdict (basis_of C.refusal settings.now)
+        settings.now.level (template_of policy.now)) }
+    ensures whole { IfOk result (IsWholeVerdict (basis_of C.refusal settings.now)
+        settings.now.level (template_of policy.now) (is_some same_id)) }
+{
     let found = find(alloc, settings, policy)?;
     let about = About {
         schema: settings.validator.schema(),

@@ -1,4 +1,6 @@
 // Which findings of a policy are put into words, and these.
+ghost use Rattle.std.specs.Prelude.{◌<◌, length, IfOk, OnOk};
+
 use crate::causes::{Cause, Found, types_shown};
 use crate::environments::ShownEnvironments;
 use cedar_findings::findings::Finding;
@@ -41,7 +43,10 @@ pub fn first_findings(
     about: About<'_>,
     mut causes: Vec<Found<'_>>,
     most: usize,
-) -> Result<FirstFindings, AllocError> {
+) -> Result<FirstFindings, AllocError>
+    ensures { IfOk result (λ findings.
+        0 < most → 0 < length causes.entry.items → 0 < length findings.listed.items) }
+{
     causes.sort_by_key(|it| (it.place.start, it.place.end))?;
     let mut findings = FirstFindings {
         listed: Vec::new(alloc),
@@ -84,7 +89,9 @@ fn add_mistake(
     mistake: &Mistake<'_>,
     most: usize,
     findings: &mut FirstFindings,
-) -> Result<(), AllocError> {
+) -> Result<(), AllocError>
+    ensures { OnOk result (0 < most → 0 < length findings.new.listed.items) }
+{
     if findings.listed.len() < most {
         findings.listed.push(finding_of(alloc, about, mistake)?)?;
     } else {

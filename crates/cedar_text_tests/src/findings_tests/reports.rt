@@ -66,9 +66,8 @@ fn findings_and_how_many_more(rt: HostRuntime) -> Result<(), Fail> {
 
 /// What is shown of a policy with so many findings, and so many more, in the format of this name.
 fn describe(alloc: Global, count: usize, others: usize, name: &str) -> Result<String, Fail> {
-    let mut out = String::new(alloc);
     let Some(format) = Format::by_name(name) else {
-        return Ok(out);
+        return Ok(String::new(alloc));
     };
     let source = Source {
         name: "f",
@@ -77,7 +76,7 @@ fn describe(alloc: Global, count: usize, others: usize, name: &str) -> Result<St
     let mut report = Report::new(alloc, format, source);
     let mut policies = Policies::new(alloc, TEXT)?;
     let Some(read) = policies.next_policy() else {
-        return Ok(out);
+        return Ok(String::new(alloc));
     };
     let policy = read?.template;
     let mut errors = Vec::new(alloc);
@@ -93,8 +92,7 @@ fn describe(alloc: Global, count: usize, others: usize, name: &str) -> Result<St
         others,
         warning_count: 0,
     };
-    report.push_policy(alloc, &mut out, &policy, &verdict)?;
-    Ok(out)
+    Ok(report.policy_shown(alloc, &policy, &verdict)?)
 }
 
 /// What each format writes of no file, with a schema and without one: SARIF always begins and ends.

@@ -1,0 +1,4 @@
+// What is said of policies and of data in texts.
+mod data;
+mod policies;
+mod said;

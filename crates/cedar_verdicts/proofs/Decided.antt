@@ -1,0 +1,85 @@
+-- What is found in a policy, in the words of a verdict.
+use Rattle.std.proofs.Common.{◌≡◌, ◌∙◌, ℕ, Bool, true, false, ◌&&◌, not, true≢false, List, map, length, Option, Some, None, sym, ap, subst}
+use Rattle.std.specs.Bool.{◌==◌}
+use Rattle.cedar_types.specs.declared.base.errors.validation_errors.ValidationError.{ValidationError}
+use Rattle.cedar_types.specs.declared.base.types.ValidationMode.{ValidationMode}
+use Rattle.cedar_types.specs.declared.base.types.ValidationMode.TheVariants.{Strict, Permissive, Partial}
+use Rattle.cedar_types.specs.Errors.{Finding, finding_of}
+use Rattle.cedar_types.specs.Extensions.Functions.{Refusals}
+use Rattle.cedar_types.specs.Lemmas.Comparisons.{and_left}
+use Rattle.cedar_types.specs.Templates.{PlainTemplate}
+use Rattle.cedar_typing.specs.PolicyCheck.Outcome.{is_silent}
+use Rattle.cedar_typing.specs.Soundness.Policies.{Basis}
+use Rattle.cedar_typing.proofs.Policies.Tallies.{silent}
+use Rattle.cedar_typechecker.specs.declared.rbac.validator.Validator.{Validator}
+use Rattle.cedar_typechecker.specs.declared.survey.Survey.{Survey}
+use Rattle.cedar_typechecker.specs.Levels.Required.{IsRequiredLevel}
+use Rattle.cedar_typechecker.specs.Surveys.{IsSurveyOf, passes_of}
+use Rattle.cedar_typechecker.specs.ValidatorViews.{basis_in}
+use Rattle.cedar_host.specs.declared.policy_sets.Findings.{Findings}
+use Rattle.cedar_host.specs.declared.safety.SoundMode.{SoundMode}
+use Rattle.cedar_host.specs.Found.{AreFindingsOn, AreFindingsWithin}
+use Rattle.cedar_host.specs.Safety.{DoesNotGoWrong, validation_mode}
+use Rattle.cedar_host.specs.Slices.{NeedsSliceAlone}
+use Rattle.cedar_verdicts.specs.Verdicts.{is_sound, passes_all, IsPromised}
+
+-- a survey decides whether a policy is accepted
+abbrev pub Decided : Basis → Option ℕ → PlainTemplate → Bool → Type 0
+Decided b level t accepted = (s : Survey) × IsSurveyOf b t s × (accepted ≡ passes_all b level t s)
+
+module _ {C : Type 0} (meaning : C → Refusals) (v : Validator C) (t : PlainTemplate) where
+  abbrev pub by : ValidationMode → Basis
+  by m = basis_in meaning v m
+
+  pub without_level : (m : SoundMode) (f : Findings) → AreFindingsOn (by (validation_mode m)) t f
+      → Decided (by (validation_mode m)) None t f.is_accepted
+  without_level SoundMode.Strict f (s, surveyed, found) = (s, surveyed, found.accepted)
+  without_level SoundMode.Permissive f (s, surveyed, found) = (s, surveyed, found.accepted)
+
+  pub with_level : (m : SoundMode) (n : ℕ) (f : Findings) → AreFindingsWithin n (by (validation_mode m)) t f
+      → Decided (by (validation_mode m)) (Some n) t f.is_accepted
+  with_level SoundMode.Strict n f (s, surveyed, found) = (s, surveyed, found.accepted)
+  with_level SoundMode.Permissive n f (s, surveyed, found) = (s, surveyed, found.accepted)
+
+  pub in_partial : (level : Option ℕ) (s : Survey) (accepted : Bool) → IsSurveyOf (by Partial) t s
+      → accepted ≡ passes_of s → Decided (by Partial) level t accepted
+  in_partial None s accepted surveyed is = (s, surveyed, is)
+  in_partial (Some n) s accepted surveyed is = (s, surveyed, is)
+
+  -- in Partial nothing is promised
+  pub unpromised : (level : Option ℕ) (accepted : Bool) → IsPromised (by Partial) level t accepted
+  unpromised level accepted = record {
+    safe = λ sound. absurd (true≢false (sym sound));
+    sliced = λ n is sound. absurd (true≢false (sym sound));
+  }
+
+  pub promised_without : (m : ValidationMode) (accepted : Bool)
+      → (accepted ≡ true → DoesNotGoWrong (by m) t) → IsPromised (by m) None t accepted
+  promised_without m accepted safe = record {
+    safe = λ sound h. safe h;
+    sliced = λ n is. cc;
+  }
+
+  pub promised_within : (m : ValidationMode) (k : ℕ) (accepted : Bool)
+      → (accepted ≡ true → DoesNotGoWrong (by m) t) → (accepted ≡ true → NeedsSliceAlone (by m) t k)
+      → IsPromised (by m) (Some k) t accepted
+  promised_within m k accepted safe sliced = record {
+    safe = λ sound h. safe h;
+    sliced = λ n is sound h. subst (NeedsSliceAlone (by m) t) (same_number k n is) (sliced h);
+  }
+    where
+      same_number : (k n : ℕ) → Some k ≡ Some n → k ≡ n
+      same_number k n is = cc
+
+-- what more is asked leaves the promise
+pub promised_still : (b : Basis) (level : Option ℕ) (t : PlainTemplate) (one other : Bool)
+    → IsPromised b level t one → IsPromised b level t (one && other)
+promised_still b level t one other h = record {
+  safe = λ sound e. h.safe sound (and_left _ _ e);
+  sliced = λ n is sound e. h.sliced n is sound (and_left _ _ e);
+}
+
+-- a test that the texts of calls say values
+pub all_read : (found : List ValidationError) (all : List Finding) (n : ℕ) (b : Bool)
+    → map finding_of found ≡ all → n ≡ length found → b ≡ (n == 0) → b ≡ is_silent all
+all_read found all n b same counted tested = silent found n b counted tested ∙ ap is_silent same

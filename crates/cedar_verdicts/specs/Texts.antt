@@ -1,0 +1,27 @@
+-- What is said next of a text of policies.
+use Rattle.std.specs.Prelude.{◌≡◌, ℕ, ◌||◌, Option, Some, None}
+use Rattle.cedar_types.specs.Names.{Text, text_eq, text_of}
+use Rattle.cedar_types.specs.Templates.{template_of}
+use Rattle.cedar_typing.specs.Soundness.Policies.{Basis}
+use Rattle.cedar_verdicts.specs.declared.ids.Ids.{Ids}
+use Rattle.cedar_verdicts.specs.declared.texts.Said.{Said}
+use Rattle.cedar_verdicts.specs.declared.texts.Said.TheVariants as Said
+use Rattle.cedar_verdicts.specs.Ids.{has_id}
+use Rattle.cedar_verdicts.specs.Verdicts.{IsRightVerdict, IsWholeVerdict}
+
+-- a verdict on a policy is right
+abbrev pub IsRightSaid : Basis → Option ℕ → Said → Type 0
+IsRightSaid b level (Said.Verdict p v) = IsRightVerdict b level (template_of p) v
+IsRightSaid b level (Said.Fault f) = Unit {0}
+
+-- and whole, where these ids are those of the policies before
+abbrev pub IsWholeSaid : Basis → Option ℕ → Ids → Said → Type 0
+IsWholeSaid b level ids (Said.Verdict p v) =
+    IsWholeVerdict b level (template_of p) (has_id ids (text_of p.id.text)) v
+IsWholeSaid b level ids (Said.Fault f) = Unit {0}
+
+-- the ids gain that of a policy of which something is said
+abbrev pub AreIdsAfter : Ids → Ids → Option Said → Type 0
+AreIdsAfter old new None = (t : Text) → has_id new t ≡ has_id old t
+AreIdsAfter old new (Some (Said.Verdict p v)) = (t : Text) → has_id new t ≡ (text_eq t (text_of p.id.text) || has_id old t)
+AreIdsAfter old new (Some (Said.Fault f)) = (t : Text) → has_id new t ≡ has_id old t
