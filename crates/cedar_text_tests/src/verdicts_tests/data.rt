@@ -21,7 +21,7 @@ const CASES: [(DataKind, &str, &str); 5] = [
     (
         DataKind::Request,
         r#"{"principal": "User::\"a\"", "action": "Action::\"vew\"", "resource": "File::\"f\"", "context": {}}"#,
-        "refused, entities 0, 38 data-undeclared",
+        "refused, entities 0, 39 data-undeclared",
     ),
 ];
 

@@ -57,7 +57,7 @@ const CASES: [(&str, Option<u32>, &str, &str); 14] = [
         "partial",
         None,
         "permit(principal is Usr, action, resource);",
-        "policy0 accepted, warning 0 impossible\n",
+        "policy0 accepted\n",
     ),
     (
         "strict",
