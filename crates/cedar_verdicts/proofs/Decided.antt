@@ -1,5 +1,5 @@
 -- What is found in a policy, in the words of a verdict.
-use Rattle.std.proofs.Common.{◌≡◌, ◌∙◌, ℕ, Bool, true, false, ◌&&◌, not, true≢false, List, map, length, Option, Some, None, sym, ap, subst}
+use Rattle.std.proofs.Common.{◌≡◌, ◌∙◌, ℕ, ◌<◌, Bool, true, false, ◌&&◌, not, true≢false, List, map, length, Option, Some, None, refl, sym, ap, subst}
 use Rattle.std.specs.Bool.{◌==◌}
 use Rattle.cedar_types.specs.declared.base.errors.validation_errors.ValidationError.{ValidationError}
 use Rattle.cedar_types.specs.declared.base.types.ValidationMode.{ValidationMode}
@@ -83,3 +83,16 @@ promised_still b level t one other h = record {
 pub all_read : (found : List ValidationError) (all : List Finding) (n : ℕ) (b : Bool)
     → map finding_of found ≡ all → n ≡ length found → b ≡ (n == 0) → b ≡ is_silent all
 all_read found all n b same counted tested = silent found n b counted tested ∙ ap is_silent same
+
+-- ---- a verdict by what is found, and by whether an id is repeated
+
+pub twice_not : (a b : Bool) → a ≡ not b → b ≡ not a
+twice_not a true e = ap not (sym e)
+twice_not a false e = ap not (sym e)
+
+-- where a policy is refused, by one or by the other, there is a cause
+pub some_cause : (accepted new repeated : Bool) (size : ℕ) → repeated ≡ not new
+    → (accepted ≡ false → 0 < size) → (repeated ≡ true → 0 < size) → (accepted && new) ≡ false → 0 < size
+some_cause false new repeated size is refused shared h = refused refl
+some_cause true true repeated size is refused shared h = absurd (true≢false h)
+some_cause true false repeated size is refused shared h = shared is

@@ -1,11 +1,22 @@
-use Rattle.std.proofs.Common.{◌≡◌, ◌∙◌, ◌+◌, ◌∷◌, ◌++◌, [], ◌||◌, map, take, sym, ap}
+use Rattle.std.proofs.Common.{◌≡◌, ◌∙◌, ◌+◌, List, ◌∷◌, ◌++◌, [], ◌||◌, map, take, sym, ap, subst}
 use Rattle.cedar_types.specs.Names.{text_eq}
 use Rattle.cedar_types.specs.Templates.{template_of}
 use Rattle.cedar_types.proofs.Schema.Places.{next_mapped}
-use Rattle.cedar_verdicts.specs.Sets.{has_policy}
+use Rattle.cedar_findings.specs.declared.findings.Verdict.{Verdict}
+use Rattle.cedar_verdicts.specs.Sets.{AreVerdictsOn, has_policy, none_yet}
 use Rattle.cedar_verdicts.specs.Verdicts.{basis_of}
 use Rattle.cedar_verdicts.proofs.OneMore.{has_one_more, with_one_more}
 use Rattle.cedar_verdicts.proofs.sets.judge_set.Goals as goal
+
+pub loop-policy-init : goal.loop-policy-init
+loop-policy-init g c =
+    let b = basis_of g.C.ArgumentCheck.refusal c.args.settings.now in
+    record {
+      known = c.new-judge.ensures;
+      said =
+          subst (λ (vs : List Verdict). AreVerdictsOn b c.args.settings.now.level [] vs) (sym c.in_ok-verdicts.ensures.items)
+          none_yet;
+    }
 
 pub loop-policy-preserved : goal.loop-policy-preserved
 loop-policy-preserved g c =
