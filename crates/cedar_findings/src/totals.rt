@@ -28,9 +28,9 @@ pub struct DataTally {
 }
 
 impl DataTally {
-    /// Counts an entity.
-    pub fn add_entity(&mut self) {
-        self.entities = self.entities.saturating_add(1);
+    /// Counts so many entities more.
+    pub fn add_entities(&mut self, count: u64) {
+        self.entities = self.entities.saturating_add(count);
     }
 
     /// Notes that data is not as the schema says.
@@ -59,9 +59,7 @@ impl Totals {
 
     /// Counts data, and each of its mistakes: as a fault what is no data.
     pub fn add_data(&mut self, verdict: &DataVerdict) {
-        for _ in 0..verdict.entities {
-            self.data.add_entity();
-        }
+        self.data.add_entities(verdict.entities as u64);
         if !verdict.is_accepted {
             self.data.refuse();
         }

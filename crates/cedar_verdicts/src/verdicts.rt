@@ -61,7 +61,7 @@ pub(crate) fn judge_in_set<C: ArgumentCheck>(
     let room = MAX_FINDINGS.saturating_sub(errors.listed.len());
     let parts = find_false_parts(alloc, settings, &found, policy)?;
     let causes = warning_causes(alloc, &found, parts.as_slice(), policy)?;
-    let warning_count = counted(causes.as_slice());
+    let warning_count = causes.len() as u64;
     let warnings = first_findings(alloc, about, causes, room)?;
     Ok(Verdict {
         is_accepted: found.is_accepted & same_id.is_none(),
@@ -71,12 +71,4 @@ pub(crate) fn judge_in_set<C: ArgumentCheck>(
         others: errors.others.saturating_add(warnings.others),
         warning_count,
     })
-}
-
-fn counted<T>(all: &[T]) -> u64 {
-    let mut count = 0u64;
-    for _ in all {
-        count = count.saturating_add(1);
-    }
-    count
 }

@@ -138,7 +138,7 @@ fn data_as_objects(rt: HostRuntime) -> Result<(), Fail> {
     Objects.add(&mut out, Entry::Data(PLACE, &finding))?;
     let mut totals = Totals::default();
     totals.data.is_asked = true;
-    totals.data.add_entity();
+    totals.data.add_entities(1);
     totals.data.add_error();
     totals.data.add_error();
     totals.data.refuse();
