@@ -18,13 +18,13 @@ use std::marker::Model;
 /// Accepted policies, with entities that conform to their schema, of which nothing is declared elsewhere. Only `check` makes
 /// it, so that a host whose entities stay checks them once for all requests.
 #[derive(Drop)]
-pub struct CheckedStore<'a, C: ArgumentCheck> {
-    policies: &'a AcceptedPolicies<'a, C>,
-    entities: &'a Entities,
+pub struct CheckedStore<'a, 'p, 'e, C: ArgumentCheck> {
+    policies: &'p AcceptedPolicies<'a, C>,
+    entities: &'e Entities,
 }
 
 // A contract sees the policies and the entities.
-impl<'a, C: ArgumentCheck> Model for CheckedStore<'a, C> {
+impl<'a, 'p, 'e, C: ArgumentCheck> Model for CheckedStore<'a, 'p, 'e, C> {
     ghost use Rattle.cedar_conformance.specs.declared.entities.Entities.{Entities};
     ghost use Rattle.cedar_host.specs.declared.accepted.AcceptedPolicies.{AcceptedPolicies};
     ghost use Rattle.cedar_host.specs.Accepted.{schema_by};
@@ -43,15 +43,15 @@ impl<'a, C: ArgumentCheck> Model for CheckedStore<'a, C> {
     ghost invariant = { λ s. IsChecked (schema_by s.policies.now) s.entities.now };
 }
 
-impl<'a, C: ArgumentCheck> CheckedStore<'a, C> {
+impl<'a, 'p, 'e, C: ArgumentCheck> CheckedStore<'a, 'p, 'e, C> {
     /// Checks the entities by the schema of the policies. It answers Ok exactly where nothing of the schema is declared
     /// elsewhere and the entities conform (clause `exact`). Else the fault of the schema, or those of the entities (clause
     /// `first`). Where memory is refused, the answer is an `AllocError`.
     pub fn check(
         alloc: Global,
-        policies: &'a AcceptedPolicies<'a, C>,
-        entities: &'a Entities,
-    ) -> Result<Result<CheckedStore<'a, C>, PremiseFault>, AllocError>
+        policies: &'p AcceptedPolicies<'a, C>,
+        entities: &'e Entities,
+    ) -> Result<Result<CheckedStore<'a, 'p, 'e, C>, PremiseFault>, AllocError>
         ensures exact { IfOk result (λ r.
             IsOk r ↔ IsChecked (schema_by policies.now) entities.now) }
         ensures first { IfOk result (λ r. IfErr r (λ f.

@@ -156,25 +156,31 @@ fn only_accepted_policies_are_added(rt: HostRuntime) -> Result<(), Fail> {
     Ok(())
 }
 
+/// Links that bind the principal's slot to alice.
+fn to_alice(alloc: Global) -> Result<SlotEnv, AllocError> {
+    let mut values = BTreeMap::new(alloc);
+    values.insert(SlotId::Principal, id(alloc, "User", "alice")?)?;
+    Ok(values)
+}
+
 #[test]
 fn a_template_is_added_with_its_links_alone(rt: HostRuntime) -> Result<(), Fail> {
     let alloc = rt.alloc();
     let template = of_one_user(alloc)?;
     let extensions = ExtensionSchemas::default(alloc);
     let validator = Validator::new(documents(alloc)?, &extensions);
-    let unbound: SlotEnv = BTreeMap::new(alloc);
-    let mut bound: SlotEnv = BTreeMap::new(alloc);
-    bound.insert(SlotId::Principal, id(alloc, "User", "alice")?)?;
+    let no_links: SlotEnv = BTreeMap::new(alloc);
+    let links = to_alice(alloc)?;
     let fault = PolicyFault::UnboundSlot(SlotId::Principal);
     let refusal = Err(AdmissionFault::Policy(template.id.clone()?, fault));
     let policy = LinkedTemplate {
         template: &template,
-        values: &unbound,
+        values: &no_links,
     };
     adds(&rt, alloc, &validator, policy, refusal)?;
     let policy = LinkedTemplate {
         template: &template,
-        values: &bound,
+        values: &links,
     };
     adds(&rt, alloc, &validator, policy, Ok(()))?;
     Ok(())
@@ -184,7 +190,7 @@ fn a_template_is_added_with_its_links_alone(rt: HostRuntime) -> Result<(), Fail>
 fn views_are_let_in<C: ArgumentCheck>(
     rt: &impl Abort,
     alloc: Global,
-    store: &CheckedStore<'_, C>,
+    store: &CheckedStore<'_, '_, '_, C>,
 ) -> Result<(), AllocError> {
     let request = view_by(alloc, id(alloc, "User", "alice")?)?;
     assert_eq!(rt; store.admit(alloc, &request)?, Ok(()));
@@ -194,11 +200,11 @@ fn views_are_let_in<C: ArgumentCheck>(
 }
 
 /// How many faults these entities have, if they have any; if they have none, views over them are let in.
-fn faults_or_views<'a, C: ArgumentCheck>(
+fn faults_or_views<C: ArgumentCheck>(
     rt: &impl Abort,
     alloc: Global,
-    policies: &'a AcceptedPolicies<'a, C>,
-    entities: &'a Entities,
+    policies: &AcceptedPolicies<'_, C>,
+    entities: &Entities,
 ) -> Result<Option<usize>, AllocError> {
     match CheckedStore::check(alloc, policies, entities)? {
         Ok(store) => {
@@ -214,7 +220,7 @@ fn let_in_over<'a, C: ArgumentCheck>(
     rt: &impl Abort,
     alloc: Global,
     validator: &'a Validator<'a, C>,
-    entities: &'a Entities,
+    entities: &Entities,
 ) -> Result<Option<usize>, AllocError> {
     let policies = AcceptedPolicies::new(alloc, validator, SoundMode::Strict, 1);
     let found = faults_or_views(rt, alloc, &policies, entities)?;
