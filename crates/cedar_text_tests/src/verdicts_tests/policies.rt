@@ -82,7 +82,7 @@ const CASES: [(&str, Option<u32>, &str, &str); 14] = [
         None,
         "@id(\"a\") permit(principal, action, resource); @id(\"b\") forbid(principal, action, resource);\
          @id(\"a\") permit(principal, action, resource); @id(\"a\") permit(principal, action, resource);",
-        "a accepted, level 0\nb accepted, level 0\na refused, level 0, error 93 same-id\na refused, level 0, error 138 same-id\n",
+        "a accepted, level 0\nb accepted, level 0\na refused, level 0, error 91 same-id\na refused, level 0, error 137 same-id\n",
     ),
     (
         "strict",
