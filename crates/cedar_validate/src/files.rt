@@ -1,13 +1,12 @@
 // What is done with a file.
 use crate::progress::Progress;
-use cedar_findings::faults::TextFault;
 use cedar_findings::formats::Format;
 use cedar_findings::reports::{Report, render_fault, render_missing};
 use cedar_findings::sources::{Content, Source, read};
 use cedar_findings::totals::Totals;
 use cedar_verdicts::settings::Settings;
 use cedar_verdicts::texts::{MAX_FAULTS, PolicyText, PolicyVerdicts, Said};
-use std::alloc::{AllocError, Global};
+use std::alloc::Global;
 use std::io;
 use std::io::Write;
 use std::rt::Files;
@@ -58,7 +57,7 @@ pub fn validate_file<R: Files + AllocGlobal + Input, O: Write, T: Write>(
     }
     match whole.verdicts(alloc)? {
         Ok(said) => write_said(alloc, settings, said, &mut report, totals, progress, out)?,
-        Err(fault) => write_fault(alloc, &mut report, totals, &fault, out)?,
+        Err(fault) => write_one(alloc, &Said::Fault(fault), &mut report, totals, out)?,
     }
     *format = report.format();
     Ok(())
@@ -75,15 +74,10 @@ fn write_said<O: Write, T: Write>(
     out: &mut O,
 ) -> io::Result<()> {
     for _ in 0..said.most() {
-        match said.next_said(alloc, settings)? {
-            None => break,
-            Some(Said::Verdict(policy, verdict)) => {
-                totals.add(&verdict);
-                let shown = report.policy_shown(alloc, &policy, &verdict)?;
-                out.write_all(shown.as_bytes())?;
-            }
-            Some(Said::Fault(fault)) => write_fault(alloc, report, totals, &fault, out)?,
-        }
+        let Some(next) = said.next_said(alloc, settings)? else {
+            break;
+        };
+        write_one(alloc, &next, report, totals, out)?;
         progress.show(totals.policies);
     }
     progress.clear();
@@ -95,14 +89,23 @@ fn write_said<O: Write, T: Write>(
     Ok(())
 }
 
-/// Counts and writes a fault.
-fn write_fault<O: Write>(
+/// Counts and writes what is said of a policy.
+fn write_one<O: Write>(
     alloc: Global,
+    said: &Said,
     report: &mut Report<'_>,
     totals: &mut Totals,
-    fault: &TextFault,
     out: &mut O,
 ) -> io::Result<()> {
-    totals.add_fault();
-    out.write_all(report.fault_shown(alloc, fault)?.as_bytes())
+    let shown = match said {
+        Said::Verdict(policy, verdict) => {
+            totals.add(verdict);
+            report.policy_shown(alloc, policy, verdict)?
+        }
+        Said::Fault(fault) => {
+            totals.add_fault();
+            report.fault_shown(alloc, fault)?
+        }
+    };
+    out.write_all(shown.as_bytes())
 }

@@ -45,17 +45,14 @@ fn answer<R: Files + AllocGlobal + Input, O: Write, E: Write, T: Write>(
 ) -> io::Result<u8> {
     match read_arguments(rt.alloc(), words)? {
         Ok(Asked::Help) => {
-            out.write_all(USAGE.as_bytes())?;
-            out.write_all(HELP.as_bytes())?;
+            write!(out, "{USAGE}{HELP}")?;
             Ok(0)
         }
         Ok(Asked::Version) => {
             writeln!(out, "{VERSION}\n{}", build())?;
             Ok(0)
         }
-        Ok(Asked::Validation(arguments)) => {
-            validate_files(rt, &arguments, extensions, progress, out)
-        }
+        Ok(Asked::Validation(arguments)) => validate(rt, &arguments, extensions, progress, out),
         Err(misuse) => {
             writeln!(err, "cedar-validate: {misuse}")?;
             err.write_all(USAGE.as_bytes())?;
@@ -65,7 +62,7 @@ fn answer<R: Files + AllocGlobal + Input, O: Write, E: Write, T: Write>(
 }
 
 /// Validates the policies of all files, and checks data. The answer is the exit status.
-fn validate_files<R: Files + AllocGlobal + Input, O: Write, T: Write>(
+fn validate<R: Files + AllocGlobal + Input, O: Write, T: Write>(
     rt: &R,
     arguments: &Arguments,
     extensions: &ExtensionSchemas,
