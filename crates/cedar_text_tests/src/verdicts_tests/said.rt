@@ -4,7 +4,7 @@ use cedar_findings::schema_texts::SchemaTexts;
 use cedar_types::base::{ValidationMode, ValidatorSchema};
 use cedar_verdicts::schemas::schema_or_faults;
 use cedar_verdicts::settings::Settings;
-use cedar_verdicts::texts::{PolicyText, Said};
+use cedar_verdicts::texts::{PolicyText, PolicyVerdicts, Said};
 use std::alloc::{AllocError, Global};
 
 /// By which the tests judge.
@@ -26,25 +26,40 @@ pub fn verdicts_shown(
     settings: &Settings<'_>,
     text: &str,
 ) -> Result<String, AllocError> {
-    let mut shown = String::new(alloc);
     let whole = PolicyText::new(alloc, settings.syntax, text)?;
-    let Ok(mut verdicts) = whole.verdicts(alloc)? else {
-        return String::from_str(alloc, "no policies");
-    };
+    match whole.verdicts(alloc)? {
+        Ok(mut verdicts) => all_shown(alloc, settings, &mut verdicts),
+        Err(_fault) => String::from_str(alloc, "no policies"),
+    }
+}
+
+fn all_shown(
+    alloc: Global,
+    settings: &Settings<'_>,
+    verdicts: &mut PolicyVerdicts<'_>,
+) -> Result<String, AllocError> {
+    let mut shown = String::new(alloc);
     for _ in 0..verdicts.most() {
-        match verdicts.next_said(alloc, settings)? {
-            None => break,
-            Some(Said::Verdict(policy, verdict)) => {
-                shown.push_str(policy.id.text.as_str())?;
-                push_verdict(&mut shown, &verdict)?;
-            }
-            Some(Said::Fault(fault)) => writeln!(shown, "fault: {}", fault.text)?,
-        }
+        let Some(said) = verdicts.next_said(alloc, settings)? else {
+            break;
+        };
+        push_said(&mut shown, &said)?;
     }
     if verdicts.is_cut() {
         shown.push_str("cut\n")?;
     }
     Ok(shown)
+}
+
+fn push_said(shown: &mut String, said: &Said) -> Result<(), AllocError> {
+    match said {
+        Said::Verdict(policy, verdict) => {
+            shown.push_str(policy.id.text.as_str())?;
+            push_verdict(shown, verdict)?;
+        }
+        Said::Fault(fault) => writeln!(shown, "fault: {}", fault.text)?,
+    }
+    Ok(())
 }
 
 /// Adds a verdict: whether it accepts, the level, and each finding by its first byte and its code.
