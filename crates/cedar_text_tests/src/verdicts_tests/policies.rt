@@ -6,7 +6,7 @@ use cedar_types::base::{ExtensionSchemas, Template, ValidationMode};
 use cedar_verdicts::sets::judge_set;
 use cedar_verdicts::settings::Settings;
 use cedar_verdicts::verdicts::judge;
-use std::alloc::Global;
+use std::alloc::{AllocError, Global};
 use std::test::Fail;
 
 /// The mode, the level, policies, and what is said of each.
@@ -100,23 +100,32 @@ const CASES: [(&str, Option<u32>, &str, &str); 14] = [
 
 #[test]
 fn verdicts_of_texts(rt: HostRuntime) -> Result<(), Fail> {
-    let alloc = rt.alloc();
-    let extensions = ExtensionSchemas::default(alloc);
-    let Some(schema) = schema_of(alloc, SCHEMA)? else {
-        return Ok(());
-    };
-    let validator = Validator::new(schema, &extensions);
     for (mode, level, text, wanted) in &CASES {
-        let settings = Settings {
-            validator: &validator,
-            mode: mode_of(mode),
-            level: *level,
-            syntax: None,
-        };
-        let shown = verdicts_shown(alloc, &settings, text)?;
+        let shown = shown_by(rt.alloc(), mode, *level, text)?;
         assert_eq!(rt; shown.as_str(), *wanted, "{text}");
     }
     Ok(())
+}
+
+/// What is said of the policies of a text, in the mode of this name and at a level, if there is one.
+fn shown_by(
+    alloc: Global,
+    mode: &str,
+    level: Option<u32>,
+    text: &str,
+) -> Result<String, AllocError> {
+    let extensions = ExtensionSchemas::default(alloc);
+    let Some(schema) = schema_of(alloc, SCHEMA)? else {
+        return Ok(String::new(alloc));
+    };
+    let validator = Validator::new(schema, &extensions);
+    let settings = Settings {
+        validator: &validator,
+        mode: mode_of(mode),
+        level,
+        syntax: None,
+    };
+    verdicts_shown(alloc, &settings, text)
 }
 
 /// The policies of a text.
