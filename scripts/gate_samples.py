@@ -216,10 +216,15 @@ def beginnings():
             yield f"the gate{' in CI' * ('CI' in env)}", notes == ["ci cedar_types", "ci cedar_types", last]
 
 
+def heed_interrupts():
+    """Has a child heed SIGINT, which a shell has what it starts in the background ignore."""
+    signal.signal(signal.SIGINT, signal.SIG_DFL)
+
+
 def stopped(words, env, begun, number):
     """How a script ends at a signal, once `rt` has begun: its status, and what it says last."""
     begun.unlink(missing_ok=True)
-    child = subprocess.Popen(words, env=env, stdin=subprocess.DEVNULL, stdout=subprocess.PIPE, stderr=subprocess.PIPE, text=True)
+    child = subprocess.Popen(words, env=env, stdin=subprocess.DEVNULL, stdout=subprocess.PIPE, stderr=subprocess.PIPE, text=True, preexec_fn=heed_interrupts)
     for _ in range(SECONDS * 10):
         if begun.exists() or child.poll() is not None:
             break

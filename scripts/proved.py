@@ -18,6 +18,8 @@ import unproved
 
 TOP = Path(__file__).resolve().parent.parent
 CRATE = "cedar_validate"
+# What stops a proof.
+STOPS = (signal.SIGTERM, signal.SIGINT)
 KEPT = TOP / "out" / "proved" / CRATE
 # What `rt run` builds.
 BUILT = TOP / "crates" / CRATE / "out" / CRATE
@@ -77,10 +79,22 @@ def keep(built, texts):
         part.unlink(missing_ok=True)
 
 
+def heed():
+    """Has this process heed what stops it."""
+    signal.pthread_sigmask(signal.SIG_UNBLOCK, STOPS)
+
+
 def run(words):
     """Runs a command of the toolchain, in a group of its own that ends where this script is stopped. Its status."""
-    child = subprocess.Popen(words, cwd=TOP / "crates" / CRATE, stdin=subprocess.DEVNULL, stdout=sys.stderr, start_new_session=True)
+    # (a signal that came between the child's start and the `try` would leave it running)
+    signal.pthread_sigmask(signal.SIG_BLOCK, STOPS)
     try:
+        child = subprocess.Popen(words, cwd=TOP / "crates" / CRATE, stdin=subprocess.DEVNULL, stdout=sys.stderr, start_new_session=True, preexec_fn=heed)
+    except OSError:
+        heed()
+        raise
+    try:
+        heed()
         return child.wait()
     except BaseException:
         try:
@@ -110,8 +124,8 @@ def stop(number, frame):
 
 def stopping():
     """From here on SIGTERM and SIGINT raise `Stopped`, also in a process that a shell runs in the background."""
-    signal.signal(signal.SIGTERM, stop)
-    signal.signal(signal.SIGINT, stop)
+    for number in STOPS:
+        signal.signal(number, stop)
 
 
 def main(words):
