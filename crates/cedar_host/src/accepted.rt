@@ -43,6 +43,7 @@ impl<'a, C: ArgumentCheck> Model for AcceptedPolicies<'a, C> {
     ghost use Rattle.cedar_host.specs.contracts.admission.LinkedTemplate as linked_template;
     ghost use mir.Syntax.{named};
 
+    // The view holds values of these types. A type with a lifetime has its row at one that is made up here.
     ghost coded = { Prim.hlevel (
       codes,
       set_code,

@@ -1,7 +1,7 @@
-//! What a host of policies calls: it validates a set of policies, for whole stores or for slices, lets
+//! The calls of a host of policies: it validates a set of policies, for whole stores or for slices, lets
 //! them in with a request and entities, finds the entities of a slice, and takes the typed conditions of
-//! a policy. Each call has its promise beside it. The extension functions of Cedar are here too, with a
-//! check of their texts.
+//! a policy. Each call has its promise beside it. The crate `cedar_extensions` has the extension
+//! functions of Cedar.
 #![tactic(auto)]
 
 pub mod accepted;
