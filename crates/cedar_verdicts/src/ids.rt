@@ -26,7 +26,8 @@ impl Ids {
 
     /// Takes note of the id of a policy that begins at this byte. Where an earlier one has that id, the answer is where it begins.
     pub fn take(&mut self, id: &PolicyID, start: usize) -> Result<Option<usize>, AllocError>
-        ensures known { IfOk result (λ first. is_some first ≡ has_id self.old (text_of id.now.text)) }
+        ensures known { IfOk result (λ first.
+            is_some first ≡ has_id self.old (text_of id.now.text)) }
         ensures taken { OnOk result ((t : Text)
             → has_id self.new t ≡ (text_eq t (text_of id.now.text) || has_id self.old t)) }
     {
