@@ -1,1 +1,7 @@
+pub mod Decimals
 pub mod Fits
+pub mod Keys
+pub mod Ranges
+pub mod ReadEscapes
+pub mod Says
+pub mod Unescaped

@@ -1,6 +1,6 @@
 -- Where the parts of a value stand, and how deep it is.
 use Rattle.std.specs.Prelude.{ℕ, ◌-◌, ◌<◌, ◌≤◌, ⊤}
-use Rattle.cedar_json.specs.Tree.{Tree, tree, Form, object, array, text, integer, boolean, Items, no_items, item, Members, no_members, member}
+use Rattle.cedar_json.specs.Tree.{Tree, tree, Form, object, array, text, integer, boolean, null, Items, no_items, item, Members, no_members, member}
 
 abbrev mutual
   -- The value stands between these two bytes, each part inside what it is a part of. At most so many objects and arrays stand
@@ -14,6 +14,7 @@ abbrev mutual
   FormFits depth low high (text x) = ⊤
   FormFits depth low high (integer z) = ⊤
   FormFits depth low high (boolean b) = ⊤
+  FormFits depth low high null = ⊤
 
   pub ItemsFit : ℕ → ℕ → ℕ → Items → Type 0
   ItemsFit depth low high no_items = ⊤

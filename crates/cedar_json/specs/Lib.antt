@@ -1,5 +1,9 @@
 pub mod Cursors
 pub mod Fits
+pub mod Keys
 pub mod Numbers
+pub mod Says
+pub mod TextExamples
+pub mod Texts
 pub mod Tree
 pub mod View

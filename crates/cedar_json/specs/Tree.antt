@@ -11,6 +11,7 @@ mutual
     text : List ℕ → Form
     integer : ℤ → Form
     boolean : Bool → Form
+    null : Form
 
   pub data Items : Type 0 where
     no_items : Items

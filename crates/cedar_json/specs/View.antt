@@ -5,7 +5,7 @@ use Rattle.cedar_json.specs.declared.values.Value.{Value, fold-Value}
 use Rattle.cedar_json.specs.declared.values.ValueKind.{ValueKind, fold-ValueKind}
 use Rattle.cedar_json.specs.declared.values.ValueKind.TheOpen.{ValueKind-F, Value-F}
 use Rattle.cedar_types.specs.Names.{text_of}
-use Rattle.cedar_json.specs.Tree.{Tree, tree, Form, object, array, text, integer, boolean, Items, no_items, item, Members, no_members, member}
+use Rattle.cedar_json.specs.Tree.{Tree, tree, Form, object, array, text, integer, boolean, null, Items, no_items, item, Members, no_members, member}
 
 abbrev pub items_of : List Tree → Items
 items_of [] = no_items
@@ -22,6 +22,7 @@ form_step (ValueKind-F.Array v) = array (items_of v.items)
 form_step (ValueKind-F.Text s) = text (text_of s)
 form_step (ValueKind-F.Integer z) = integer z
 form_step (ValueKind-F.Boolean b) = boolean b
+form_step ValueKind-F.Null = null
 
 abbrev pub tree_step : Value-F Form Tree → Tree
 tree_step v = tree v.place.start v.place.end v.kind

@@ -38,8 +38,6 @@ pub enum Fault {
     /// The same key stands twice in an object.
     #[error("the same key twice")]
     SameKey,
-    #[error("`null` has no meaning here")]
-    Null,
     /// No digit stands behind a minus.
     #[error("a digit is expected")]
     Digit,

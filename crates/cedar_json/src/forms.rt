@@ -14,6 +14,9 @@ pub enum FormFault {
     /// Something else should stand here.
     #[error("{0} is expected")]
     Expected(&'static str),
+    /// `null` stands where Cedar has a value.
+    #[error("`null` has no meaning here")]
+    Null,
     /// An object has no entry of this key.
     #[error("the key `{0}` is missing")]
     Missing(&'static str),
@@ -107,6 +110,12 @@ impl<'a> Object<'a> {
         None
     }
 
+    /// The value of this key, if it is there: none where it is `null`, as Cedar writes what is not there.
+    pub fn given(&self, key: &str) -> Option<&'a Value> {
+        let value = self.get(key)?;
+        if is_null(value) { None } else { Some(value) }
+    }
+
     /// The value of this key, which has to be there.
     pub fn need(&self, key: &'static str) -> Result<&'a Value, FormError> {
         match self.get(key) {
@@ -135,9 +144,18 @@ fn is_among(keys: &[&str], name: &str) -> bool {
     false
 }
 
+/// Whether a value is `null`.
+pub fn is_null(value: &Value) -> bool {
+    matches!(value.kind, ValueKind::Null)
+}
+
 /// The fault of a value in whose place something else is expected.
 pub fn expected(value: &Value, what: &'static str) -> FormError {
-    FormError::At(value.place.start, FormFault::Expected(what))
+    let fault = match &value.kind {
+        ValueKind::Null => FormFault::Null,
+        _ => FormFault::Expected(what),
+    };
+    FormError::At(value.place.start, fault)
 }
 
 /// The items of the array that a value has to be.
@@ -164,13 +182,22 @@ pub fn truth_of(value: &Value) -> Result<bool, FormError> {
     }
 }
 
-/// Fails where annotations are no object of texts.
+/// Fails where annotations are no object of texts. In place of a text may stand `null`, as Cedar writes an annotation without a
+/// value.
 pub fn check_annotations(object: Object<'_>) -> Result<(), FormError> {
-    let Some(annotations) = object.get("annotations") else {
+    let Some(annotations) = object.given("annotations") else {
         return Ok(());
     };
     for (_, value) in Object::of(annotations)?.entries {
-        text_of(value)?;
+        annotation_of(value)?;
     }
     Ok(())
+}
+
+/// The value of an annotation: the empty text where it has none.
+pub fn annotation_of(value: &Value) -> Result<&str, FormError> {
+    if is_null(value) {
+        return Ok("");
+    }
+    text_of(value)
 }

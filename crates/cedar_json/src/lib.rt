@@ -3,12 +3,15 @@
 #![tactic(auto)]
 
 mod cursor;
+mod escapes;
+mod examples;
 mod faults;
 mod forms;
 mod literals;
 mod names;
 mod numbers;
 mod objects;
+mod parts;
 mod policies;
 mod schemas;
 mod steps;
@@ -17,8 +20,10 @@ mod translations;
 mod values;
 mod whole;
 
+pub use examples::examples_of_texts;
 pub use faults::{Fault, ReadError};
 pub use forms::{FormError, FormFault, Object, expected, items_of, text_of};
+pub use parts::{Items, value_at};
 pub use policies::{Policies, ReadPolicy, entity_uid};
 pub use schemas::schema_text;
 pub use steps::MAX_LENGTH;

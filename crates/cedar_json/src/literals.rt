@@ -2,6 +2,7 @@
 ghost use Rattle.std.specs.Prelude.{ℕ, length, OnOk, IfOk, IfErr};
 ghost use Rattle.cedar_json.specs.Cursors.{GoesOn, IsFaultWithin};
 ghost use Rattle.cedar_json.specs.Fits.{FormFits};
+ghost use Rattle.cedar_json.specs.Says.{FormSays};
 ghost use Rattle.cedar_json.specs.View.{form_of};
 
 use crate::cursor::Cursor;
@@ -14,6 +15,8 @@ use crate::values::ValueKind;
 pub fn literal(cursor: &mut Cursor<'_>) -> Result<ValueKind, ReadError>
     ensures on { OnOk result (GoesOn cursor.old cursor.new) }
     ensures flat { (depth low high : ℕ) → IfOk result (λ k. FormFits depth low high (form_of k)) }
+    ensures says { IfOk result
+        (λ k. FormSays cursor.old.text.now cursor.old.at cursor.new.at (form_of k)) }
     ensures err { IfErr result (λ e. IsFaultWithin (length cursor.old.text.now) e) }
 {
     match cursor.peek() {
@@ -23,22 +26,27 @@ pub fn literal(cursor: &mut Cursor<'_>) -> Result<ValueKind, ReadError>
     }
 }
 
-/// Reads `true` or `false`.
+/// Reads `true`, `false` or `null`.
 fn word(cursor: &mut Cursor<'_>) -> Result<ValueKind, ReadError>
     ensures on { OnOk result (GoesOn cursor.old cursor.new) }
     ensures flat { (depth low high : ℕ) → IfOk result (λ k. FormFits depth low high (form_of k)) }
+    ensures says { IfOk result
+        (λ k. FormSays cursor.old.text.now cursor.old.at cursor.new.at (form_of k)) }
     ensures err { IfErr result (λ e. IsFaultWithin (length cursor.old.text.now) e) }
 {
-    let rest = cursor.rest();
-    let size = rest
-        .find(|c: char| !c.is_alphanumeric())
-        .unwrap_or(rest.len());
-    let kind = match rest.get(..size).unwrap_or("") {
-        "true" => ValueKind::Boolean(true),
-        "false" => ValueKind::Boolean(false),
-        "null" => return Err(cursor.fault(Fault::Null)),
+    let size = letters_in_front(cursor.rest());
+    let kind = match cursor.text.get(cursor.at..cursor.at.saturating_add(size)) {
+        Some("true") => ValueKind::Boolean(true),
+        Some("false") => ValueKind::Boolean(false),
+        Some("null") => ValueKind::Null,
         _ => return Err(cursor.fault(Fault::Value)),
     };
     cursor.pass(size);
     Ok(kind)
+}
+
+/// How many bytes of letters and digits a text begins with.
+fn letters_in_front(text: &str) -> usize {
+    text.find(|c: char| !c.is_alphanumeric())
+        .unwrap_or(text.len())
 }

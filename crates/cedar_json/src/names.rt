@@ -12,18 +12,15 @@ pub fn is_word(text: &str) -> bool {
         && !text.starts_with(|c: char| c.is_ascii_digit())
 }
 
+/// Whether a word is the name of an extension type.
+pub fn is_extension_type(word: &str) -> bool {
+    matches!(word, "ipaddr" | "decimal" | "datetime" | "duration")
+}
+
 /// What stands before the last `::` of a name: nothing where there is none.
 pub fn path_of(name: &str) -> &str {
     match name.rsplit_once("::") {
         Some((path, _)) => path,
         None => "",
-    }
-}
-
-/// What stands behind the last `::` of a name.
-pub fn basename_of(name: &str) -> &str {
-    match name.rsplit_once("::") {
-        Some((_, basename)) => basename,
-        None => name,
     }
 }

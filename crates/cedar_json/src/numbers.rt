@@ -1,7 +1,8 @@
 // Numbers. Those that are read are whole and fit 64 bits.
-ghost use Rattle.std.specs.Prelude.{length, slice_range, IfSome, OnOk, IfOk, IfErr};
+ghost use Rattle.std.specs.Prelude.{◌≡◌, ◌≢◌, ◌+◌, ℕ, false, length, ◌<◌, ◌≤◌, slice_range, slice_index, IfSome, OnOk, IfOk, IfErr};
 ghost use Rattle.cedar_json.specs.Cursors.{GoesOn, IsFaultWithin};
-ghost use Rattle.cedar_json.specs.Numbers.{SaysInteger};
+ghost use Rattle.cedar_json.specs.Numbers.{SaysInteger, IsDecimal};
+ghost use Rattle.std.specs.Int.{IsInRange};
 
 use crate::cursor::Cursor;
 use crate::faults::{Fault, ReadError};
@@ -11,24 +12,33 @@ pub fn integer(cursor: &mut Cursor<'_>) -> Result<i64, ReadError>
     ensures on { OnOk result (GoesOn cursor.old cursor.new) }
     ensures ok { let read = slice_range cursor.old.text.now cursor.old.at cursor.new.at in
         IfOk result (λ z. SaysInteger read z) }
+    ensures decimal { OnOk result
+        (IsDecimal (slice_range cursor.old.text.now cursor.old.at cursor.new.at)) }
     ensures err { IfErr result (λ e. IsFaultWithin (length cursor.old.text.now) e) }
 {
     let start = cursor.at;
     cursor.takes(b'-');
-    let digits = cursor.rest();
-    let count = digits_in_front(digits);
-    if count == 0 {
+    let end = behind_digits(cursor.text.as_bytes(), cursor.at);
+    if end == cursor.at {
         return Err(cursor.fault(Fault::Digit));
     }
-    if count > 1 && cursor.peek() == Some(b'0') {
+    if begins_with_zero(cursor.text.as_bytes(), cursor.at, end) {
         return Err(cursor.fault(Fault::LeadingZero));
     }
-    cursor.pass(count);
+    cursor.at = end;
     check_whole(cursor)?;
     match number_at(cursor.text, start, cursor.at) {
         Some(number) => Ok(number),
         None => Err(ReadError::At(start, Fault::Range)),
     }
+}
+
+/// Whether several digits stand between these bytes, of which a zero is the first.
+fn begins_with_zero(bytes: &[u8], start: usize, end: usize) -> bool
+    requires within { (start < «end») × («end» ≤ length bytes.now) }
+    ensures { result ≡ false → start + 1 < «end» → slice_index bytes.now start ≢ 48 }
+{
+    bytes[start] == b'0' && start + 1 < end
 }
 
 /// The number between these bytes of a text, if it fits.
@@ -38,10 +48,17 @@ fn number_at(text: &str, start: usize, end: usize) -> Option<i64>
     text.get(start..end)?.parse::<i64>().ok()
 }
 
-/// How many digits a text begins with.
-fn digits_in_front(text: &str) -> usize {
-    text.find(|c: char| !c.is_ascii_digit())
-        .unwrap_or(text.len())
+/// Where the digits end that stand from this byte on.
+fn behind_digits(bytes: &[u8], start: usize) -> usize
+    requires { start ≤ length bytes.now }
+    ensures within { (start ≤ result) × (result ≤ length bytes.now) }
+    ensures digits { (i : ℕ) → start ≤ i → i < result → IsInRange 48 57 (slice_index bytes.now i) }
+{
+    let mut at = start;
+    'digits: while at < bytes.len() && bytes[at].is_ascii_digit() {
+        at += 1;
+    }
+    at
 }
 
 /// Fails where a fraction or an exponent stands behind the digits of a number.

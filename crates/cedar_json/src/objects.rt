@@ -1,6 +1,10 @@
 // The entries of an object.
-ghost use Rattle.std.specs.Prelude.{◌≡◌, ◌≤◌, ◌∷◌, [], ◌++◌, length, OnOk, IfOk, IfErr};
+ghost use Rattle.std.specs.Prelude.{◌≡◌, ℕ, ◌≤◌, ◌∷◌, [], ◌++◌, true, false, length, OnOk, IfOk, IfErr};
 ghost use Rattle.cedar_json.specs.Cursors.{GoesOn, IsFaultWithin};
+ghost use Rattle.cedar_json.specs.Keys.{is_among, KeepsAll};
+ghost use Rattle.cedar_json.specs.Says.{Blanks, KeyReads};
+ghost use Rattle.cedar_json.specs.Texts.{Quotes};
+ghost use Rattle.cedar_types.specs.Names.{text_of};
 
 use crate::cursor::Cursor;
 use crate::faults::{Fault, ReadError};
@@ -30,31 +34,47 @@ impl Entries {
 
     /// Reads a key and the `:` behind it. It fails where the key is there.
     pub fn key(&mut self, cursor: &mut Cursor<'_>) -> Result<Key, ReadError>
+        ensures fresh { IfOk result (λ k. is_among self.old.keys (text_of k.name) ≡ false) }
+        ensures known { IfOk result (λ k. is_among self.new.keys (text_of k.name) ≡ true) }
+        ensures more { OnOk result (KeepsAll self.old.keys self.new.keys) }
+        ensures stands { IfOk result (λ k. KeyReads cursor.old.text.now cursor.old.at cursor.new.at
+            k.place.start k.place.«end» (text_of k.name)) }
         ensures same { OnOk result (self.new.entries.items ≡ self.old.entries.items) }
         ensures on { OnOk result (GoesOn cursor.old cursor.new) }
         ensures ok { IfOk result (λ k. (cursor.old.at ≤ k.place.start)
             × (k.place.start ≤ k.place.«end») × (k.place.«end» ≤ cursor.new.at)) }
         ensures err { IfErr result (λ e. IsFaultWithin (length cursor.old.text.now) e) }
     {
-        cursor.pass_blanks();
-        if cursor.peek() != Some(b'"') {
-            return Err(cursor.fault(Fault::Key));
-        }
-        let start = cursor.at;
-        let name = text(cursor)?;
-        if !self.keys.insert(name.clone()?)? {
-            return Err(ReadError::At(start, Fault::SameKey));
-        }
-        let place = cursor.since(start);
+        let key = key_in_quotes(cursor)?;
+        self.note(&key)?;
         cursor.pass_blanks();
         cursor.expect(b':', Fault::Colon)?;
-        Ok(Key { name, place })
+        Ok(key)
+    }
+
+    /// Takes note of a key. It fails where the key is there.
+    fn note(&mut self, key: &Key) -> Result<(), ReadError>
+        ensures fresh { OnOk result (is_among self.old.keys (text_of key.now.name) ≡ false) }
+        ensures known { OnOk result (is_among self.new.keys (text_of key.now.name) ≡ true) }
+        ensures more { OnOk result (KeepsAll self.old.keys self.new.keys) }
+        ensures same { self.new.entries.items ≡ self.old.entries.items }
+        ensures err { (size : ℕ) → key.now.place.start ≤ size
+            → IfErr result (λ e. IsFaultWithin size e) }
+    {
+        let kept = key.name.clone()?;
+        let is_new = self.keys.insert(kept)?;
+        if is_new {
+            Ok(())
+        } else {
+            Err(ReadError::At(key.place.start, Fault::SameKey))
+        }
     }
 
     /// Adds the entry of this key.
     pub fn push(&mut self, key: Key, value: Value) -> Result<(), AllocError>
-        ensures { OnOk result (self.new.entries.items
+        ensures added { OnOk result (self.new.entries.items
             ≡ self.old.entries.items ++ (key, value) ∷ []) }
+        ensures keys { OnOk result (self.new.keys ≡ self.old.keys) }
     {
         self.entries.push((key, value))?;
         Ok(())
@@ -67,4 +87,24 @@ impl Entries {
         let Entries { entries, keys: _ } = self;
         entries
     }
+}
+
+/// Reads the text of a key, with the blanks before it.
+fn key_in_quotes(cursor: &mut Cursor<'_>) -> Result<Key, ReadError>
+    ensures on { OnOk result (GoesOn cursor.old cursor.new) }
+    ensures blanks { IfOk result (λ k. Blanks cursor.old.text.now cursor.old.at k.place.start) }
+    ensures quotes { IfOk result (λ k. Quotes cursor.old.text.now
+        k.place.start k.place.«end» (text_of k.name)) }
+    ensures place { IfOk result (λ k. (k.place.start ≤ k.place.«end»)
+        × (k.place.«end» ≡ cursor.new.at)) }
+    ensures err { IfErr result (λ e. IsFaultWithin (length cursor.old.text.now) e) }
+{
+    cursor.pass_blanks();
+    let Some(b'"') = cursor.peek() else {
+        return Err(cursor.fault(Fault::Key));
+    };
+    let start = cursor.at;
+    let name = text(cursor)?;
+    let place = cursor.since(start);
+    Ok(Key { name, place })
 }

@@ -6,6 +6,7 @@ mod expressions;
 mod leaves;
 mod literals;
 mod operators;
+mod outline;
 mod patterns;
 mod sets;
 mod templates;

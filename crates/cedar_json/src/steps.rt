@@ -1,6 +1,8 @@
 // The steps of a cursor.
-ghost use Rattle.std.specs.Prelude.{◌≡◌, ◌+◌, ◌<◌, ◌≤◌, length, slice_get, drop, IsTrue, IsErr, Some, None, IfErr, IfOk, OnOk};
+ghost use Rattle.std.specs.Prelude.{◌≡◌, ◌+◌, ◌<◌, ◌≤◌, length, slice_get, false, IsTrue, IfSome, IfNone, IfErr, IfOk, OnOk};
 ghost use Rattle.cedar_json.specs.Cursors.{GoesOn, IsFaultWithin};
+ghost use Rattle.cedar_json.specs.Says.{Blanks, is_blank};
+ghost use Rattle.cedar_json.specs.Texts.{HasByte};
 
 use crate::cursor::Cursor;
 use crate::faults::{Fault, ReadError};
@@ -27,7 +29,9 @@ impl<'a> Cursor<'a> {
 
     /// The next byte, which stays.
     pub fn peek(&self) -> Option<u8>
-        ensures { result ≡ slice_get self.now.text.now self.now.at }
+        ensures value { result ≡ slice_get self.now.text.now self.now.at }
+        ensures past { IfNone result (length self.now.text.now ≤ self.now.at) }
+        ensures byte { IfSome result (λ b. HasByte self.now.text.now self.now.at b) }
     {
         self.text.as_bytes().get(self.at).copied()
     }
@@ -39,34 +43,42 @@ impl<'a> Cursor<'a> {
 
     /// Passes so many bytes, or those that there are.
     pub fn pass(&mut self, count: usize)
-        ensures { GoesOn self.old self.new }
+        ensures on { GoesOn self.old self.new }
+        ensures passed { self.old.at + count ≤ length self.old.text.now
+            → self.new.at ≡ self.old.at + count }
     {
         self.at = self.at.saturating_add(count).min(self.text.len());
     }
 
     /// Passes blanks: spaces, tabs and ends of lines.
     pub fn pass_blanks(&mut self)
-        ensures { GoesOn self.old self.new }
+        ensures on { GoesOn self.old self.new }
+        ensures blanks { Blanks self.old.text.now self.old.at self.new.at }
     {
-        let rest = self.rest();
-        let size = rest.find(|c: char| !is_blank(c)).unwrap_or(rest.len());
-        self.pass(size);
+        self.at = behind_blanks(self.text.as_bytes(), self.at);
     }
 
     /// Whether this byte comes next. It is read then.
     pub fn takes(&mut self, byte: u8) -> bool
-        ensures { GoesOn self.old self.new }
+        ensures on { GoesOn self.old self.new }
+        ensures taken { IsTrue result
+            → HasByte self.old.text.now self.old.at byte × (self.new.at ≡ self.old.at + 1) }
+        ensures kept { result ≡ false → self.new.at ≡ self.old.at }
     {
-        let is_there = self.peek() == Some(byte);
-        if is_there {
-            self.pass(1);
+        match self.peek() {
+            Some(next) if next == byte => {
+                self.at += 1;
+                true
+            }
+            _ => false,
         }
-        is_there
     }
 
     /// Reads this byte, which has to come next, else this is the fault.
     pub fn expect(&mut self, byte: u8, fault: Fault) -> Result<(), ReadError>
         ensures on { OnOk result (GoesOn self.old self.new) }
+        ensures taken { OnOk result
+            (HasByte self.old.text.now self.old.at byte × (self.new.at ≡ self.old.at + 1)) }
         ensures err { IfErr result (λ e. IsFaultWithin (length self.old.text.now) e) }
     {
         if self.takes(byte) {
@@ -94,6 +106,21 @@ impl<'a> Cursor<'a> {
     }
 }
 
-fn is_blank(c: char) -> bool {
-    matches!(c, ' ' | '\t' | '\n' | '\r')
+/// Where the blanks end that stand from this byte on.
+fn behind_blanks(bytes: &[u8], start: usize) -> usize
+    requires { start ≤ length bytes.now }
+    ensures within { result ≤ length bytes.now }
+    ensures blanks { Blanks bytes.now start result }
+{
+    let mut at = start;
+    'blanks: while at < bytes.len() && is_blank(bytes[at]) {
+        at += 1;
+    }
+    at
+}
+
+fn is_blank(byte: u8) -> bool
+    ensures { result ≡ is_blank byte }
+{
+    matches!(byte, b' ' | b'\t' | b'\n' | b'\r')
 }

@@ -33,6 +33,8 @@ pub enum ValueKind {
     Text(RcStr),
     Integer(i64),
     Boolean(bool),
+    /// `null`.
+    Null,
 }
 
 /// The key of an entry, and where it stands, quotes included.

@@ -1,8 +1,10 @@
 // Values, and the texts that are one. Each object and each array goes one step deeper, up to `MAX_DEPTH`.
-ghost use Rattle.std.specs.Prelude.{◌-◌, ◌<◌, ◌≤◌, length, OnOk, IfOk, IfErr};
+ghost use Rattle.std.specs.Prelude.{◌≡◌, ◌+◌, ◌-◌, ◌<◌, true, false, length, IsTrue, if◌then◌else◌, OnOk, IfOk, IfErr};
 ghost use Rattle.cedar_json.specs.Cursors.{GoesOn, IsFaultWithin};
-ghost use Rattle.cedar_json.specs.Fits.{FitsIn, ItemsFit, MembersFit};
-ghost use Rattle.cedar_json.specs.View.{tree_of, items_view, members_view};
+ghost use Rattle.cedar_json.specs.Fits.{FitsIn, FormFits, ItemsFit, MembersFit};
+ghost use Rattle.cedar_json.specs.Says.{Blanks, FormSays, ItemsStand, KeysDiffer, MembersStand, Says, Separates, Stands};
+ghost use Rattle.cedar_json.specs.Texts.{HasByte};
+ghost use Rattle.cedar_json.specs.View.{tree_of, form_of, items_view, members_view};
 
 use crate::cursor::Cursor;
 use crate::faults::{Fault, ReadError};
@@ -14,42 +16,61 @@ use std::alloc::Global;
 /// Reads a text that is a value and nothing else, with blanks around it.
 pub fn value_alone(alloc: Global, text: &str) -> Result<Value, ReadError>
     ensures ok { IfOk result (λ v. FitsIn MAX_DEPTH 0 (length text.now) (tree_of v)) }
+    ensures says { IfOk result (λ v. Says text.now (tree_of v)) }
     ensures err { IfErr result (λ e. IsFaultWithin (length text.now) e) }
 {
     let mut cursor = Cursor::new(alloc, text)?;
     let read = value(&mut cursor, MAX_DEPTH)?;
     cursor.pass_blanks();
-    if cursor.peek().is_some() {
-        return Err(cursor.fault(Fault::Trailing));
+    match cursor.peek() {
+        None => Ok(read),
+        Some(_) => Err(cursor.fault(Fault::Trailing)),
     }
-    Ok(read)
 }
 
 /// Reads a value, in which so many objects and arrays may stand inside each other.
 #[cycle(values)]
-fn value(cursor: &mut Cursor<'_>, left: usize) -> Result<Value, ReadError>
+pub fn value(cursor: &mut Cursor<'_>, left: usize) -> Result<Value, ReadError>
     ensures on { OnOk result (GoesOn cursor.old cursor.new) }
     ensures ok { IfOk result (λ v. FitsIn left cursor.old.at cursor.new.at (tree_of v)) }
+    ensures says { IfOk result
+        (λ v. Stands cursor.old.text.now cursor.old.at cursor.new.at (tree_of v)) }
     ensures err { IfErr result (λ e. IsFaultWithin (length cursor.old.text.now) e) }
 {
     cursor.pass_blanks();
     let start = cursor.at;
-    let kind = match cursor.peek() {
-        Some(b'{') => ValueKind::Object(entries(cursor, left)?),
-        Some(b'[') => ValueKind::Array(items(cursor, left)?),
-        _ => literal(cursor)?,
-    };
+    let kind = kind(cursor, left)?;
     Ok(Value {
         place: cursor.since(start),
         kind,
     })
 }
 
+/// Reads a value that begins with the next byte.
+#[cycle(values)]
+fn kind(cursor: &mut Cursor<'_>, left: usize) -> Result<ValueKind, ReadError>
+    ensures on { OnOk result (GoesOn cursor.old cursor.new) }
+    ensures ok { IfOk result (λ k. FormFits left cursor.old.at cursor.new.at (form_of k)) }
+    ensures says { IfOk result
+        (λ k. FormSays cursor.old.text.now cursor.old.at cursor.new.at (form_of k)) }
+    ensures err { IfErr result (λ e. IsFaultWithin (length cursor.old.text.now) e) }
+{
+    match cursor.peek() {
+        Some(b'{') => Ok(ValueKind::Object(entries(cursor, left)?)),
+        Some(b'[') => Ok(ValueKind::Array(items(cursor, left)?)),
+        _ => literal(cursor),
+    }
+}
+
 /// Reads the entries of an object.
 #[cycle(values)]
 fn entries(cursor: &mut Cursor<'_>, left: usize) -> Result<Vec<(Key, Value)>, ReadError>
+    requires { HasByte cursor.old.text.now cursor.old.at 123 }
     ensures on { OnOk result (GoesOn cursor.old cursor.new) }
     ensures deep { OnOk result (0 < left) }
+    ensures differ { IfOk result (λ es. KeysDiffer (members_view es.items)) }
+    ensures stand { IfOk result (λ es. MembersStand cursor.old.text.now
+        (cursor.old.at + 1) cursor.new.at (members_view es.items)) }
     ensures ok { IfOk result
         (λ es. MembersFit (left - 1) cursor.old.at cursor.new.at (members_view es.items)) }
     ensures err { IfErr result (λ e. IsFaultWithin (length cursor.old.text.now) e) }
@@ -75,8 +96,11 @@ fn entries(cursor: &mut Cursor<'_>, left: usize) -> Result<Vec<(Key, Value)>, Re
 /// Reads the items of an array.
 #[cycle(values)]
 fn items(cursor: &mut Cursor<'_>, left: usize) -> Result<Vec<Value>, ReadError>
+    requires { HasByte cursor.old.text.now cursor.old.at 91 }
     ensures on { OnOk result (GoesOn cursor.old cursor.new) }
     ensures deep { OnOk result (0 < left) }
+    ensures stand { IfOk result (λ vs. ItemsStand cursor.old.text.now
+        (cursor.old.at + 1) cursor.new.at (items_view vs.items)) }
     ensures ok { IfOk result
         (λ vs. ItemsFit (left - 1) cursor.old.at cursor.new.at (items_view vs.items)) }
     ensures err { IfErr result (λ e. IsFaultWithin (length cursor.old.text.now) e) }
@@ -99,8 +123,12 @@ fn items(cursor: &mut Cursor<'_>, left: usize) -> Result<Vec<Value>, ReadError>
 }
 
 /// Reads the bracket before several parts, and the one behind them if there is no part.
-fn begins_empty(cursor: &mut Cursor<'_>, closing: u8) -> bool
-    ensures { GoesOn cursor.old cursor.new }
+pub fn begins_empty(cursor: &mut Cursor<'_>, closing: u8) -> bool
+    ensures on { GoesOn cursor.old cursor.new }
+    ensures closed { cursor.old.at < length cursor.old.text.now → IsTrue result
+        → Separates cursor.old.text.now (cursor.old.at + 1) cursor.new.at closing }
+    ensures opened { cursor.old.at < length cursor.old.text.now → result ≡ false
+        → Blanks cursor.old.text.now (cursor.old.at + 1) cursor.new.at }
 {
     cursor.pass(1);
     cursor.pass_blanks();
@@ -108,8 +136,10 @@ fn begins_empty(cursor: &mut Cursor<'_>, closing: u8) -> bool
 }
 
 /// Whether no part follows behind one. Reads the bracket behind the last part, or the comma behind another.
-fn ends(cursor: &mut Cursor<'_>, closing: u8, fault: Fault) -> Result<bool, ReadError>
+pub fn ends(cursor: &mut Cursor<'_>, closing: u8, fault: Fault) -> Result<bool, ReadError>
     ensures on { OnOk result (GoesOn cursor.old cursor.new) }
+    ensures separates { IfOk result (λ last. Separates cursor.old.text.now cursor.old.at
+        cursor.new.at (if last then closing else 44)) }
     ensures err { IfErr result (λ e. IsFaultWithin (length cursor.old.text.now) e) }
 {
     cursor.pass_blanks();

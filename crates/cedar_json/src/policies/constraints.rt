@@ -17,7 +17,7 @@ pub fn entity_constraint(
     let object = Object::of(value)?;
     let op = object.need("op")?;
     match text_of(op)? {
-        "All" => {
+        "All" | "all" => {
             object.allow(&["op"])?;
             Ok(PrincipalOrResourceConstraint::Any)
         }
@@ -43,7 +43,7 @@ fn type_constraint(
 ) -> Result<PrincipalOrResourceConstraint, FormError> {
     object.allow(&["op", "entity_type", "in"])?;
     let named = entity_type(alloc, object.need("entity_type")?)?;
-    let Some(above) = object.get("in") else {
+    let Some(above) = object.given("in") else {
         return Ok(PrincipalOrResourceConstraint::Is(named));
     };
     let above = Object::of(above)?;
@@ -79,7 +79,7 @@ pub fn action_constraint(alloc: Global, value: &Value) -> Result<ActionConstrain
     let object = Object::of(value)?;
     let op = object.need("op")?;
     match text_of(op)? {
-        "All" => {
+        "All" | "all" => {
             object.allow(&["op"])?;
             Ok(ActionConstraint::Any)
         }

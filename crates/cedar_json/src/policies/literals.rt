@@ -1,5 +1,5 @@
 // Literals, and values of sets, records and extension types. Each call goes one step deeper, up to `MAX_DEPTH`.
-use crate::forms::{FormError, FormFault, Object};
+use crate::forms::{FormError, FormFault, Object, items_of};
 use crate::policies::entities::{entity_uid, name_of};
 use crate::values::{Key, Value, ValueKind};
 use cedar_types::base::{Expr, Literal};
@@ -19,23 +19,24 @@ pub fn literal(alloc: Global, value: &Value, left: usize) -> Result<Expr, FormEr
         ValueKind::Boolean(truth) => Expr::val(Literal::Bool(*truth)),
         ValueKind::Integer(number) => Expr::val(Literal::Long(*number)),
         ValueKind::Text(text) => Expr::val(Literal::String(text.clone()?)),
-        ValueKind::Array(items) => set(alloc, items.as_slice(), left)?,
+        ValueKind::Array(items) => Expr::set(values(alloc, items.as_slice(), left)?),
+        ValueKind::Null => return Err(FormError::At(value.place.start, FormFault::Null)),
         ValueKind::Object(_) => object(alloc, Object::of(value)?, value, left)?,
     };
     Ok(whole.with_maybe_source_loc(Some(value.place)))
 }
 
-/// Reads the members of a set.
+/// Reads the members of a set, or the arguments of a call.
 #[cycle(values_of_policies)]
-fn set(alloc: Global, items: &[Value], left: usize) -> Result<Expr, FormError> {
+fn values(alloc: Global, items: &[Value], left: usize) -> Result<Vec<Expr>, FormError> {
     let Some(left) = left.checked_sub(1) else {
         return Err(FormError::At(0, FormFault::TooDeep));
     };
-    let mut members = Vec::new(alloc);
+    let mut read = Vec::new(alloc);
     for item in items {
-        members.push(literal(alloc, item, left)?)?;
+        read.push(literal(alloc, item, left)?)?;
     }
-    Ok(Expr::set(members))
+    Ok(read)
 }
 
 /// Reads an entity, a value of an extension type, or a record.
@@ -59,12 +60,18 @@ fn object(
     record(alloc, object.entries, left)
 }
 
-/// Reads the call of the function that makes a value of an extension type.
+/// Reads the call of the function that makes a value of an extension type, on one value as `arg`, or on each of `args`.
 #[cycle(values_of_policies)]
 fn extension_value(alloc: Global, call: Object<'_>, left: usize) -> Result<Expr, FormError> {
     let Some(left) = left.checked_sub(1) else {
         return Err(FormError::At(call.place.start, FormFault::TooDeep));
     };
+    if let Some(list) = call.get("args") {
+        call.allow(&["fn", "args"])?;
+        let name = name_of(alloc, call.need("fn")?)?;
+        let arguments = values(alloc, items_of(list)?, left)?;
+        return Ok(Expr::call_extension_fn(name, arguments));
+    }
     call.allow(&["fn", "arg"])?;
     let name = name_of(alloc, call.need("fn")?)?;
     let mut arguments = Vec::new(alloc);

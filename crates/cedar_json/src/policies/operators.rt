@@ -66,7 +66,7 @@ impl Operator {
 
     /// Whether the tree has the first operand twice: in `a is T in b`.
     pub fn is_doubled(self, object: Object<'_>) -> bool {
-        self == Operator::Is && object.get("in").is_some()
+        self == Operator::Is && object.given("in").is_some()
     }
 }
 

@@ -1,27 +1,34 @@
 // The policies of a text, one after another.
-use crate::forms::{FormError, FormFault, Object, items_of, text_of};
+use crate::cursor::Cursor;
+use crate::forms::{FormError, FormFault, Object, annotation_of, expected, items_of, text_of};
+use crate::parts::value_at;
 use crate::policies::entities::Slots;
+use crate::policies::outline::{ENTRY_DEPTH, INNER_DEPTH, Outline, Places};
 use crate::policies::templates::{ReadPolicy, policy};
-use crate::values::{Key, Value, ValueKind};
+use crate::values::{Key, MAX_DEPTH, Value};
+use crate::whole::value_alone;
 use cedar_types::base::{Loc, PolicyID};
 use std::alloc::{AllocError, Global};
 use std::collections::BTreeMap;
 use std::rc::RcStr;
 
-/// The policies of a value, one after another: one policy, a list of policies, an object of policies by their ids, or a policy
-/// set with `staticPolicies`, `templates` and `templateLinks`.
+/// The policies of a text, one after another: one policy, a list of policies, an object of policies by their ids, or a policy
+/// set with `staticPolicies`, `templates` and `templateLinks`. Each is read when it comes, and its tree is dropped then.
 #[derive(Drop)]
 pub struct Policies<'a> {
     alloc: Global,
-    root: &'a Value,
+    text: &'a str,
+    /// At which byte the value of the text begins.
+    start: usize,
     kind: Kind,
+    outline: Outline,
     /// At which entry of `templates` each is.
     templates: BTreeMap<RcStr, usize>,
     /// How many policies were read.
     count: usize,
 }
 
-/// What the policies of a value are.
+/// What the policies of a text are.
 #[derive(Clone, Copy, PartialEq, Eq, Debug)]
 enum Kind {
     One,
@@ -31,26 +38,59 @@ enum Kind {
 }
 
 impl<'a> Policies<'a> {
-    /// The policies of this value. It fails where the value has none of the forms.
-    pub fn new(alloc: Global, root: &'a Value) -> Result<Policies<'a>, FormError> {
-        let kind = kind_of(root)?;
-        let mut templates = BTreeMap::new(alloc);
-        if kind == Kind::Set {
-            let object = Object::of(root)?;
-            object.allow(&["staticPolicies", "templates", "templateLinks"])?;
-            for (at, (key, _)) in entries_of(object, "templates")?.iter().enumerate() {
-                templates.insert(key.name.clone()?, at)?;
-            }
-            entries_of(object, "staticPolicies")?;
-            links_of(object)?;
+    /// The policies of this text. It fails where the text is no JSON, and where it has none of the forms. A policy that is nested
+    /// too deep is left to `next_policy`.
+    pub fn new(alloc: Global, text: &'a str) -> Result<Policies<'a>, FormError> {
+        let mut cursor = Cursor::new(alloc, text)?;
+        cursor.pass_blanks();
+        let start = cursor.at;
+        if !matches!(cursor.peek(), Some(b'[') | Some(b'{')) {
+            return Err(expected(&value_alone(alloc, text)?, "an object"));
         }
-        Ok(Policies {
+        let outline = Outline::read(&mut cursor)?;
+        let kind = kind_of(text, start, &outline);
+        let templates = numbers_of(alloc, &outline.templates)?;
+        let policies = Policies {
             alloc,
-            root,
+            text,
+            start,
             kind,
+            outline,
             templates,
             count: 0,
-        })
+        };
+        if kind == Kind::Set {
+            policies.check_set()?;
+        }
+        Ok(policies)
+    }
+
+    /// Fails where a part of a set has another form.
+    fn check_set(&self) -> Result<(), FormError> {
+        for (key, _) in &self.outline.entries {
+            if !PARTS.iter().any(|part| *part == key.name.as_str()) {
+                return Err(FormError::At(key.place.start, FormFault::UnknownKey));
+            }
+        }
+        for key in ["templates", "staticPolicies"] {
+            if let Some(part) = self.part_of_other_form(key, b'{')? {
+                Object::of(&part)?;
+            }
+        }
+        if let Some(part) = self.part_of_other_form("templateLinks", b'[')? {
+            items_of(&part)?;
+        }
+        Ok(())
+    }
+
+    /// The part of this key of a set, if it is there and does not begin with this bracket.
+    fn part_of_other_form(&self, key: &str, bracket: u8) -> Result<Option<Value>, FormError> {
+        for (own, start) in &self.outline.entries {
+            if own.name.as_str() == key && byte_at(self.text, *start) != Some(bracket) {
+                return Ok(Some(self.read_at(*start, ENTRY_DEPTH)?));
+            }
+        }
+        Ok(None)
     }
 
     /// The next policy, or its first fault; `None` where all were read. A policy has its own part of the text as its place, and
@@ -71,62 +111,70 @@ impl<'a> Policies<'a> {
     /// The policy of this number, if there is one.
     fn policy_at(&self, number: usize) -> Result<Option<ReadPolicy>, FormError> {
         match self.kind {
-            Kind::One if number == 0 => Ok(Some(self.read_unnamed(self.root, number)?)),
+            Kind::One if number == 0 => {
+                let body = self.read_at(self.start, MAX_DEPTH)?;
+                Ok(Some(self.unnamed(&body, number)?))
+            }
             Kind::One => Ok(None),
-            Kind::List => match items_of(self.root)?.get(number) {
-                Some(body) => Ok(Some(self.read_unnamed(body, number)?)),
-                None => Ok(None),
-            },
-            Kind::ById => self.named_at(Object::of(self.root)?.entries, number),
-            Kind::Set => self.policy_of_set(Object::of(self.root)?, number),
+            Kind::List => self.listed_at(number),
+            Kind::ById => self.named_at(self.outline.entries.as_slice(), number, ENTRY_DEPTH),
+            Kind::Set => self.policy_of_set(number),
         }
     }
 
+    /// The policy of this number of a list.
+    fn listed_at(&self, number: usize) -> Result<Option<ReadPolicy>, FormError> {
+        let Some(start) = self.outline.items.get(number) else {
+            return Ok(None);
+        };
+        let body = self.read_at(*start, ENTRY_DEPTH)?;
+        Ok(Some(self.unnamed(&body, number)?))
+    }
+
     /// The policy of this number of a set: static policies come first, and then templates and links.
-    fn policy_of_set(
-        &self,
-        set: Object<'a>,
-        number: usize,
-    ) -> Result<Option<ReadPolicy>, FormError> {
-        let fixed = entries_of(set, "staticPolicies")?;
+    fn policy_of_set(&self, number: usize) -> Result<Option<ReadPolicy>, FormError> {
+        let fixed = self.outline.fixed.as_slice();
         let Some(behind_fixed) = number.checked_sub(fixed.len()) else {
-            return self.named_at(fixed, number);
+            return self.named_at(fixed, number, INNER_DEPTH);
         };
-        let templates = entries_of(set, "templates")?;
+        let templates = self.outline.templates.as_slice();
         let Some(behind_templates) = behind_fixed.checked_sub(templates.len()) else {
-            return self.named_at(templates, behind_fixed);
+            return self.named_at(templates, behind_fixed, INNER_DEPTH);
         };
-        match links_of(set)?.get(behind_templates) {
-            Some(link) => Ok(Some(self.link(templates, link)?)),
-            None => Ok(None),
-        }
+        let Some(start) = self.outline.links.get(behind_templates) else {
+            return Ok(None);
+        };
+        let link = self.read_at(*start, INNER_DEPTH)?;
+        Ok(Some(self.link(&link)?))
     }
 
     /// The policy at this entry, whose key is its id.
     fn named_at(
         &self,
-        entries: &[(Key, Value)],
+        entries: &[(Key, usize)],
         at: usize,
+        left: usize,
     ) -> Result<Option<ReadPolicy>, FormError> {
-        let Some((key, body)) = entries.get(at) else {
+        let Some((key, start)) = entries.get(at) else {
             return Ok(None);
         };
+        let body = self.read_at(*start, left)?;
         let id = PolicyID::from_string(self.alloc, key.name.as_str())?;
         let place = Loc {
             start: key.place.start,
             end: body.place.end,
         };
-        Ok(Some(policy(self.alloc, &Slots::Open, id, body, place)?))
+        Ok(Some(policy(self.alloc, &Slots::Open, id, &body, place)?))
     }
 
     /// A policy without a key.
-    fn read_unnamed(&self, body: &Value, number: usize) -> Result<ReadPolicy, FormError> {
+    fn unnamed(&self, body: &Value, number: usize) -> Result<ReadPolicy, FormError> {
         let id = policy_id(self.alloc, annotated_id(body)?, number)?;
         policy(self.alloc, &Slots::Open, id, body, body.place)
     }
 
-    /// A link of one of these templates.
-    fn link(&self, templates: &[(Key, Value)], link: &Value) -> Result<ReadPolicy, FormError> {
+    /// A link of one of the templates.
+    fn link(&self, link: &Value) -> Result<ReadPolicy, FormError> {
         let object = Object::of(link)?;
         object.allow(&["templateId", "newId", "values"])?;
         let of = object.need("templateId")?;
@@ -134,55 +182,64 @@ impl<'a> Policies<'a> {
         let slots = Slots::of_link(self.alloc, object.need("values")?)?;
         let name = RcStr::from_str(self.alloc, text_of(of)?)?;
         let at = self.templates.get(&name).copied();
-        let Some((_, body)) = at.and_then(|at| templates.get(at)) else {
+        let Some((_, start)) = at.and_then(|at| self.outline.templates.get(at)) else {
             return Err(FormError::At(of.place.start, FormFault::Undeclared));
         };
+        let body = self.read_at(*start, INNER_DEPTH)?;
         let id = PolicyID::from_string(self.alloc, id)?;
-        policy(self.alloc, &slots, id, body, link.place)
+        policy(self.alloc, &slots, id, &body, link.place)
+    }
+
+    /// The value that begins at a byte, in which so many objects and arrays may stand inside each other.
+    fn read_at(&self, start: usize, left: usize) -> Result<Value, FormError> {
+        Ok(value_at(self.alloc, self.text, start, left)?)
     }
 }
 
-/// What the policies of a value are.
-fn kind_of(root: &Value) -> Result<Kind, FormError> {
-    if matches!(root.kind, ValueKind::Array(_)) {
-        return Ok(Kind::List);
+/// The keys of a policy set.
+const PARTS: [&str; 3] = ["staticPolicies", "templates", "templateLinks"];
+
+/// What the policies of a text are, whose value begins at a byte.
+fn kind_of(text: &str, start: usize, outline: &Outline) -> Kind {
+    if byte_at(text, start) == Some(b'[') {
+        Kind::List
+    } else if PARTS.iter().any(|part| has_key(outline, part)) {
+        Kind::Set
+    } else if has_key(outline, "effect") {
+        Kind::One
+    } else {
+        Kind::ById
     }
-    let object = Object::of(root)?;
-    let is_set = ["staticPolicies", "templates", "templateLinks"]
+}
+
+/// At which of these entries each key is.
+fn numbers_of(alloc: Global, entries: &Places) -> Result<BTreeMap<RcStr, usize>, AllocError> {
+    let mut numbers = BTreeMap::new(alloc);
+    for (at, (key, _)) in entries.iter().enumerate() {
+        drop(numbers.insert(key.name.clone()?, at)?);
+    }
+    Ok(numbers)
+}
+
+fn byte_at(text: &str, at: usize) -> Option<u8> {
+    text.as_bytes().get(at).copied()
+}
+
+/// Whether the text has an entry of this key.
+fn has_key(outline: &Outline, key: &str) -> bool {
+    outline
+        .entries
         .iter()
-        .any(|key| object.get(key).is_some());
-    if is_set {
-        return Ok(Kind::Set);
-    }
-    match object.get("effect") {
-        Some(_) => Ok(Kind::One),
-        None => Ok(Kind::ById),
-    }
-}
-
-/// The entries behind this key of a set: none where it is missing.
-fn entries_of<'a>(set: Object<'a>, key: &str) -> Result<&'a [(Key, Value)], FormError> {
-    match set.get(key) {
-        Some(value) => Ok(Object::of(value)?.entries),
-        None => Ok(&[]),
-    }
-}
-
-/// The links of a set.
-fn links_of(set: Object<'_>) -> Result<&[Value], FormError> {
-    match set.get("templateLinks") {
-        Some(value) => items_of(value),
-        None => Ok(&[]),
-    }
+        .any(|(own, _)| own.name.as_str() == key)
 }
 
 /// What the annotation `id` of a policy says, if it is there.
 fn annotated_id(body: &Value) -> Result<Option<&str>, FormError> {
-    let Some(annotations) = Object::of(body)?.get("annotations") else {
+    let Some(annotations) = Object::of(body)?.given("annotations") else {
         return Ok(None);
     };
     match Object::of(annotations)?.get("id") {
-        Some(id) => Ok(Some(text_of(id)?)),
+        Some(id) => Ok(Some(annotation_of(id)?)),
         None => Ok(None),
     }
 }

@@ -21,7 +21,7 @@ pub fn put_action(
     check_no_attributes(body)?;
     out.put("action ")?;
     out.put_quoted(key.place, key.name.as_str())?;
-    if let Some(parents) = body.get("memberOf") {
+    if let Some(parents) = body.given("memberOf") {
         out.put_from(parents.place, " in [")?;
         for parent in items_of(parents)? {
             put_parent(out, Object::of(parent)?)?;
@@ -29,7 +29,7 @@ pub fn put_action(
         }
         out.put("]")?;
     }
-    if let Some(applies_to) = body.get("appliesTo") {
+    if let Some(applies_to) = body.given("appliesTo") {
         put_application(out, declared, namespace, Object::of(applies_to)?)?;
     }
     out.put(";\n")
@@ -37,7 +37,7 @@ pub fn put_action(
 
 /// Fails where an action has attributes.
 fn check_no_attributes(body: Object<'_>) -> Result<(), FormError> {
-    let Some(attributes) = body.get("attributes") else {
+    let Some(attributes) = body.given("attributes") else {
         return Ok(());
     };
     if Object::of(attributes)?.entries.is_empty() {
@@ -50,7 +50,7 @@ fn check_no_attributes(body: Object<'_>) -> Result<(), FormError> {
 fn put_parent(out: &mut Translation, parent: Object<'_>) -> Result<(), FormError> {
     parent.allow(&["id", "type"])?;
     let id = parent.need("id")?;
-    if let Some(own_type) = parent.get("type") {
+    if let Some(own_type) = parent.given("type") {
         let name = text_of(own_type)?;
         if !is_name(name) {
             return Err(FormError::At(own_type.place.start, FormFault::Name));

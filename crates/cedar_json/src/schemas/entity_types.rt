@@ -53,7 +53,7 @@ fn put_standard(
         out.put_from(shape.place, " = ")?;
         put_shape(out, declared, namespace, shape, MAX_DEPTH)?;
     }
-    if let Some(tags) = body.get("tags") {
+    if let Some(tags) = body.given("tags") {
         out.put_from(tags.place, " tags ")?;
         let spaces = Spaces::of(namespace)?;
         put_type(out, declared, &spaces, tags, MAX_DEPTH)?;

@@ -1,6 +1,6 @@
 // What the names of types mean.
 use crate::forms::{FormError, FormFault, text_of};
-use crate::names::{basename_of, is_name};
+use crate::names::{is_extension_type, is_name};
 use crate::schemas::declared::{Declared, qualify};
 use crate::translations::Translation;
 use crate::values::Value;
@@ -85,28 +85,38 @@ pub fn put_type_name(
         return Err(FormError::At(start, FormFault::Name));
     }
     let meant = meaning_of(declared, spaces.declared.as_str(), name, of)?;
-    if meant == Meaning::Nothing && has_to_be_declared(name, of) {
-        return Err(FormError::At(start, FormFault::Undeclared));
-    }
     let whole = match &meant {
         Meaning::EntityType(whole) | Meaning::CommonType(whole) => whole.as_str(),
         Meaning::Nothing => name,
     };
     let written = meaning_of(declared, spaces.written.as_str(), whole, NameOf::Either)?;
+    if meant == Meaning::Nothing && has_other_meaning(name, of, &written) {
+        return Err(FormError::At(start, FormFault::Undeclared));
+    }
     if written != meant {
         return Err(FormError::At(start, FormFault::Hidden));
     }
     out.put_from(value.place, whole)
 }
 
-/// Whether a name that nothing declares is a fault here. Others are left to what reads the text: names of the language, those of
-/// the types of actions, and where either may be meant those that nothing has.
-fn has_to_be_declared(name: &str, of: NameOf) -> bool {
+/// Whether a name that nothing declares would have a meaning in Cedar's own syntax, where it means this. Other names are left to
+/// what reads the text, which tells all that nothing declares at once.
+fn has_other_meaning(name: &str, of: NameOf, written: &Meaning) -> bool {
     match of {
-        NameOf::EntityType => basename_of(name) != "Action",
-        NameOf::CommonType => !name.starts_with("__cedar::"),
+        NameOf::EntityType => *written != Meaning::Nothing || is_of_language(name),
+        NameOf::CommonType => *written != Meaning::Nothing,
         NameOf::Either => false,
     }
+}
+
+/// Whether a name is one of Cedar's own syntax that is no entity type.
+fn is_of_language(name: &str) -> bool {
+    name.starts_with("__cedar::")
+        || is_extension_type(name)
+        || matches!(
+            name,
+            "Long" | "String" | "Bool" | "Boolean" | "Set" | "Record"
+        )
 }
 
 /// Writes names of entity types, in brackets.

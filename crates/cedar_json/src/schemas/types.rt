@@ -1,6 +1,6 @@
 // Types. Each call goes one step deeper into the value, up to `MAX_DEPTH`.
 use crate::forms::{FormError, FormFault, Object, check_annotations, expected, text_of, truth_of};
-use crate::names::{is_name, path_of};
+use crate::names::{is_extension_type, is_name, path_of};
 use crate::schemas::declared::Declared;
 use crate::schemas::meanings::{Meaning, NameOf, Spaces, meaning_of, put_type_name};
 use crate::translations::Translation;
@@ -116,15 +116,36 @@ fn put_plain_type(
         "EntityOrCommon" => {
             put_type_name(out, declared, spaces, object.need("name")?, NameOf::Either)
         }
-        _ => put_type_name(out, declared, spaces, named, NameOf::CommonType),
+        _ => put_common_type_name(out, declared, spaces, named),
     }
 }
 
-/// Writes the extension type of this name.
+/// Writes the name of a common type, or of an extension type where no common type has it.
+fn put_common_type_name(
+    out: &mut Translation,
+    declared: &Declared<'_>,
+    spaces: &Spaces,
+    named: &Value,
+) -> Result<(), FormError> {
+    let name = text_of(named)?;
+    if is_extension_type(name) {
+        let space = spaces.declared.as_str();
+        let meant = meaning_of(declared, space, name, NameOf::CommonType)?;
+        if meant == Meaning::Nothing {
+            return put_extension(out, named);
+        }
+    }
+    put_type_name(out, declared, spaces, named, NameOf::CommonType)
+}
+
+/// Writes the extension type of this name, which is none of the primitive types.
 fn put_extension(out: &mut Translation, named: &Value) -> Result<(), FormError> {
     let name = text_of(named)?;
     if !is_name(name) {
         return Err(FormError::At(named.place.start, FormFault::Name));
+    }
+    if matches!(name, "Long" | "String" | "Bool") {
+        return Err(FormError::At(named.place.start, FormFault::Undeclared));
     }
     out.put_from(named.place, "__cedar::")?;
     out.put(name)
@@ -176,9 +197,11 @@ fn common_type(
         }
         _ => (named, NameOf::CommonType),
     };
-    match meaning_of(declared, namespace, text_of(name)?, of)? {
+    let word = text_of(name)?;
+    match meaning_of(declared, namespace, word, of)? {
         Meaning::CommonType(whole) => Ok(whole),
         Meaning::EntityType(_) => Err(expected(name, "a record")),
+        Meaning::Nothing if is_extension_type(word) => Err(expected(name, "a record")),
         Meaning::Nothing => Err(FormError::At(name.place.start, FormFault::Undeclared)),
     }
 }

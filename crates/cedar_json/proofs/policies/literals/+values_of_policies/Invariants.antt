@@ -3,8 +3,8 @@ use Rattle.cedar_json.proofs.policies.literals.+values_of_policies.Given as goal
 abbrev pub decreases-literal : goal.decreases-literal
 decreases-literal l = l.left
 
-abbrev pub decreases-set : goal.decreases-set
-decreases-set l = l.left
+abbrev pub decreases-values : goal.decreases-values
+decreases-values l = l.left
 
 abbrev pub decreases-object : goal.decreases-object
 decreases-object l = l.left

@@ -1,0 +1,77 @@
+// Parts of a text, of which one may be dropped before the next one is read.
+ghost use Rattle.std.specs.Prelude.{◌≡◌, length, IfOk, IfErr, IfSome, OnOk};
+ghost use Rattle.cedar_json.specs.Cursors.{GoesOn, IsFaultWithin};
+ghost use Rattle.cedar_json.specs.Fits.{FitsIn};
+ghost use Rattle.cedar_json.specs.View.{tree_of};
+
+use crate::cursor::Cursor;
+use crate::faults::{Fault, ReadError};
+use crate::values::{MAX_DEPTH, Value};
+use crate::whole::{begins_empty, ends, value};
+use std::alloc::Global;
+
+/// How many objects and arrays may stand inside each other in an item.
+const ITEM_DEPTH: usize = MAX_DEPTH - 1;
+
+/// Reads the items of a text that is an array, one after another.
+#[derive(Drop)]
+pub struct Items<'a> {
+    cursor: Cursor<'a>,
+    /// Whether the bracket behind the last item was read.
+    is_ended: bool,
+}
+
+impl<'a> Items<'a> {
+    /// The items of a text, of which none was read yet; `None` where the text begins with something else than an array.
+    pub fn new(alloc: Global, text: &'a str) -> Result<Option<Items<'a>>, ReadError>
+        ensures ok { IfOk result (λ o. IfSome o (λ i. i.cursor.text.now ≡ text.now)) }
+        ensures err { IfErr result (λ e. IsFaultWithin (length text.now) e) }
+    {
+        let mut cursor = Cursor::new(alloc, text)?;
+        cursor.pass_blanks();
+        if cursor.peek() != Some(b'[') {
+            return Ok(None);
+        }
+        let is_ended = begins_empty(&mut cursor, b']');
+        Ok(Some(Items { cursor, is_ended }))
+    }
+
+    /// The next item; `None` behind the last one, where the text ends. The faults are those of the whole text, in its order.
+    pub fn next_item(&mut self) -> Result<Option<Value>, ReadError>
+        ensures on { OnOk result (GoesOn self.old.cursor self.new.cursor) }
+        ensures ok { IfOk result (λ o. IfSome o (λ v.
+            FitsIn ITEM_DEPTH self.old.cursor.at self.new.cursor.at (tree_of v))) }
+        ensures err { IfErr result (λ e. IsFaultWithin (length self.old.cursor.text.now) e) }
+    {
+        if self.is_ended {
+            end(&mut self.cursor)?;
+            return Ok(None);
+        }
+        let item = value(&mut self.cursor, ITEM_DEPTH)?;
+        self.is_ended = ends(&mut self.cursor, b']', Fault::InArray)?;
+        Ok(Some(item))
+    }
+}
+
+/// Reads blanks up to the end of a text, where something else is a fault.
+pub fn end(cursor: &mut Cursor<'_>) -> Result<(), ReadError>
+    ensures on { OnOk result (GoesOn cursor.old cursor.new) }
+    ensures err { IfErr result (λ e. IsFaultWithin (length cursor.old.text.now) e) }
+{
+    cursor.pass_blanks();
+    if cursor.peek().is_some() {
+        return Err(cursor.fault(Fault::Trailing));
+    }
+    Ok(())
+}
+
+/// Reads the value that begins at a byte of a text, in which so many objects and arrays may stand inside each other. What stands
+/// before and behind it is not looked at.
+pub fn value_at(alloc: Global, text: &str, start: usize, left: usize) -> Result<Value, ReadError>
+    ensures ok { IfOk result (λ v. FitsIn left 0 (length text.now) (tree_of v)) }
+    ensures err { IfErr result (λ e. IsFaultWithin (length text.now) e) }
+{
+    let at = start.min(text.len());
+    let mut cursor = Cursor { alloc, text, at };
+    value(&mut cursor, left)
+}
