@@ -10,6 +10,8 @@ pub mod Outcomes
 pub mod PolicyFaults
 pub mod Records
 pub mod RequestDecisions
+pub mod RequestFaults
+pub mod SharedIds
 pub mod Slots
 pub mod StoreDecisions
 pub mod TypeTests

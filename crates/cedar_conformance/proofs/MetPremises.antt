@@ -1,6 +1,6 @@
 -- All premises together, from the checks of each and back.
 use Rattle.std.proofs.Common.{◌≡◌, ◌↔◌, ◌∙◌, refl, sym, ap, subst, true, false, true≢false, [], None, is_some}
-use Rattle.std.proofs.Common.{Result, Ok, Err, IsOk}
+use Rattle.std.proofs.Common.{Result, Ok, Err, IsOk, IfErr}
 use Rattle.std.specs.BTreeMap.{BTreeMap}
 use Rattle.cedar_types.specs.Extensions.{ExtensionTable}
 use Rattle.cedar_types.specs.Schemas.Contents.{schema_of}
@@ -33,6 +33,10 @@ unmet r e is h p = absurd (true≢false (sym (subst (λ x. IsOk x) is (h.1 p))))
 -- and else it is
 pub met : {A E P : Type 0} (r : Result A E) (x : A) → r ≡ Ok x → IsOk r ↔ P → P
 met r x is h = h.0 (subst (λ y. IsOk y) (sym is) refl)
+
+-- and the fault is as each is that it answers
+pub fault_of : {A E : Type 0} (P : E → Type 0) (r : Result A E) (e : E) → r ≡ Err e → IfErr r P → P e
+fault_of P r e is h = subst (λ x. IfErr x P) is h
 
 -- a fault is answered of what is not so
 pub refused : {P : Type 0} → (P → ⊥) → (false ≡ true) ↔ P

@@ -1,4 +1,4 @@
--- What is found, as a test.
+-- The findings of a search, as tests.
 use Rattle.std.specs.Prelude.{◌≡◌, Bool, true, false, ◌&&◌, List, [], ◌∷◌, Option, Some, None, Result, Ok, Err, IfOk}
 
 -- nothing is found
@@ -6,7 +6,7 @@ abbrev pub finds_none : {A : Type 0} → Option A → Bool
 finds_none None = true
 finds_none (Some x) = false
 
--- what is found, if something is, passes
+-- the finding, if there is one, passes
 abbrev pub passes_if_any : {A : Type 0} → (A → Bool) → Option A → Bool
 passes_if_any p None = true
 passes_if_any p (Some x) = p x
@@ -16,7 +16,7 @@ abbrev pub fault_in : {F : Type 0} → Result (Unit {0}) F → Option F
 fault_in (Ok u) = None
 fault_in (Err f) = Some f
 
--- the list of what is found is empty
+-- the list of findings is empty
 abbrev pub lists_none : {A : Type 0} → List A → Bool
 lists_none [] = true
 lists_none (x ∷ xs) = false
@@ -25,7 +25,7 @@ lists_none (x ∷ xs) = false
 abbrev pub FindsNoneWhere : {A E : Type 0} → Result (Option A) E → Bool → Type 0
 FindsNoneWhere found holds = IfOk found (λ o. finds_none o ≡ holds)
 
--- what a search finds passes
+-- the finding of a search passes
 abbrev pub FindsWhat : {A E : Type 0} → Result (Option A) E → (A → Bool) → Type 0
 FindsWhat found p = IfOk found (λ o. passes_if_any p o ≡ true)
 

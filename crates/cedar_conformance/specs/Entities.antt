@@ -1,18 +1,18 @@
 -- The entities that a program has, as a store.
 use Rattle.std.specs.Prelude.{◌≡◌, List, map}
 use Rattle.cedar_types.specs.Names.{Uid, uid_of}
-use Rattle.cedar_types.specs.Schemas.Declarations.{uids_of}
 use Rattle.cedar_types.specs.Values.Stores as store
 use Rattle.cedar_types.specs.Values.Stores.{Store, entity_at}
 use Rattle.cedar_types.specs.declared.base.names.entities.EntityUID.{EntityUID}
 use Rattle.cedar_conformance.specs.declared.entities.Entity.{Entity}
 use Rattle.cedar_conformance.specs.declared.entities.Entities.{Entities}
+use Rattle.cedar_conformance.specs.Ids.{ids_of}
 use Rattle.cedar_conformance.specs.Values.{record_of}
 
 abbrev pub entity_of : Entity → store.Entity
 entity_of e = record {
   attributes = record_of e.attributes;
-  ancestors = uids_of e.ancestors;
+  ancestors = ids_of e.ancestors;
   tags = record_of e.tags;
 }
 

@@ -1,4 +1,4 @@
--- What the faults of entities say of a store.
+-- The meaning of the faults of entities, for a store.
 use Rattle.std.specs.Prelude.{Bool, false, not, ◌&&◌, ◌||◌, List, Option, Some, None}
 use Rattle.std.specs.List.{list_any, list_all}
 use Rattle.std.specs.Option.{is_some}
@@ -62,7 +62,7 @@ action_has acts u e (problem.MissingAncestor v) =
     declares_ancestor acts u (uid_of v) && not (uid_is_among e.ancestors (uid_of v))
 action_has acts u e f = false
 
--- what is stored under this id, whose type is declared so, has the problem
+-- the data under this id, whose type is declared so, has the problem
 abbrev pub entity_has : Schema → Uid → Option DeclaredType → Entity → EntityProblem → Bool
 entity_has s u None e f = action_has s.actions u e f
 entity_has s u (Some t) e f = kind_has s.types u.entity_type t.kind e f
@@ -78,7 +78,7 @@ lacks_action s store u problem.MissingAction =
     declares_action s.actions u && not (is_some (entity_at store u))
 lacks_action s store u f = false
 
--- the problem of this id is one that there is: the action is missing, or what is stored under the id has the problem
+-- the problem of this id is one that there is: the action is missing, or the data under the id has the problem
 abbrev pub is_there : Schema → Store → Uid → EntityProblem → Bool
 is_there s store u f = lacks_action s store u f || list_any (entry_has s u f) store
 

@@ -1,8 +1,10 @@
 pub mod Answers
 pub mod Entities
 pub mod EntityFaults
+pub mod Ids
 pub mod PolicyTests
 pub mod Premises
+pub mod RequestFaults
 pub mod RequestTests
 pub mod Requests
 pub mod StoreTests

@@ -15,7 +15,7 @@ use Rattle.cedar_typing.specs.Evaluation.World.{Slots}
 use Rattle.cedar_typing.specs.Silence.{is_unknown}
 use Rattle.cedar_typing.specs.TypedExpr.{Source}
 
--- what the slots are bound to
+-- the entities to which the slots are bound
 abbrev pub slots_of : BTreeMap SlotId EntityUID → Slots
 slots_of m = λ s. option_map uid_of (bound_to s m.entries)
 

@@ -1,6 +1,8 @@
--- What a host owes to the promises, on what it has.
-use Rattle.std.specs.Prelude.{◌≡◌, true, false}
+-- The premises that a host owes to the promises, on its own data.
+use Rattle.std.specs.Prelude.{◌≡◌, true, false, Some}
 use Rattle.std.specs.BTreeMap.{BTreeMap}
+use Rattle.std.specs.declared.alloc.Global.{Global}
+use Rattle.std.specs.declared.vec.Vec.{Vec}
 use Rattle.cedar_types.specs.Schemas.Contents.{schema_of}
 use Rattle.cedar_types.specs.Templates.{template_of}
 use Rattle.cedar_types.specs.declared.base.names.entities.EntityUID.{EntityUID}
@@ -12,10 +14,14 @@ use Rattle.cedar_types.specs.Values.Stores.{ConformingStore}
 use Rattle.cedar_typing.specs.Evaluation.Conformance.{ConformingRequest, KeepsTable, has_external}
 use Rattle.cedar_typing.specs.Evaluation.World.{World}
 use Rattle.cedar_typing.specs.Soundness.Policies.{Basis, IsClosedIn, IsWellFormed, IsConforming}
+use Rattle.cedar_conformance.specs.Answers.{lists_none}
 use Rattle.cedar_conformance.specs.Entities.{store_of}
-use Rattle.cedar_conformance.specs.PolicyTests.{slots_of}
+use Rattle.cedar_conformance.specs.EntityFaults.{all_there}
+use Rattle.cedar_conformance.specs.PolicyTests.{policy_fault, slots_of}
+use Rattle.cedar_conformance.specs.RequestFaults.{request_has}
 use Rattle.cedar_conformance.specs.Requests.{request_of}
 use Rattle.cedar_conformance.specs.declared.entities.Entities.{Entities}
+use Rattle.cedar_conformance.specs.declared.entity_faults.EntityFault.{EntityFault}
 use Rattle.cedar_conformance.specs.declared.premises.PremiseFault.{PremiseFault}
 use Rattle.cedar_conformance.specs.declared.premises.PremiseFault.TheVariants as fault
 use Rattle.cedar_conformance.specs.declared.requests.Request.{Request}
@@ -46,18 +52,24 @@ pub record ArePremises (schema : ValidatorSchema) (template : Template)
 
 -- ---- the first that is not met
 
--- of the request and the entities: the request does not conform; or it does, and the entities do
--- not
+-- the entities do not conform, some faults are listed, and they have each of these
+pub record AreFaultsOf (fs : Vec EntityFault Global) (schema : ValidatorSchema) (entities : Entities) : Type 0 where
+  pub unfit : ConformingStore (schema_of schema) (store_of entities) → ⊥
+  pub some : lists_none fs.items ≡ false
+  pub there : all_there (schema_of schema) (store_of entities) fs.items ≡ true
+
+-- of the request and the entities: the request does not conform, and this is its fault; or it does, and the entities do
+-- not, and each of these faults is one that they have
 abbrev pub IsFirstOfData : PremiseFault → ValidatorSchema → Request → Entities → Type 0
 IsFirstOfData fault.External schema request entities = ⊥
 IsFirstOfData (fault.Policy f) schema request entities = ⊥
 IsFirstOfData (fault.Request f) schema request entities =
-    ConformingRequest (schema_of schema) (request_of request) → ⊥
+    (ConformingRequest (schema_of schema) (request_of request) → ⊥)
+    × (request_has (schema_of schema) (request_of request) f ≡ true)
 IsFirstOfData (fault.Entities fs) schema request entities =
-    ConformingRequest (schema_of schema) (request_of request)
-    × (ConformingStore (schema_of schema) (store_of entities) → ⊥)
+    ConformingRequest (schema_of schema) (request_of request) × AreFaultsOf fs schema entities
 
--- of all: the schema is not closed; or it is, and the policy with its links is not well-formed; or it
+-- of all: the schema is not closed; or it is, and the policy with its links is not well-formed, and this is its fault; or it
 -- is too, and the request or the entities do not conform
 abbrev pub IsFirstUnmet : PremiseFault → ValidatorSchema → Template → BTreeMap SlotId EntityUID
     → Request → Entities → Type 0
@@ -66,6 +78,7 @@ IsFirstUnmet fault.External schema template values request entities =
 IsFirstUnmet (fault.Policy f) schema template values request entities =
     (has_external (schema_of schema) ≡ false)
     × (IsWellFormed (template_of template) (slots_of values) → ⊥)
+    × (policy_fault (template_of template) (slots_of values) ≡ Some f)
 IsFirstUnmet (fault.Request f) schema template values request entities =
     (has_external (schema_of schema) ≡ false)
     × IsWellFormed (template_of template) (slots_of values)

@@ -21,7 +21,7 @@ abbrev pub keyed_of : List (RcStr Global × plain.Value) → Entries
 keyed_of [] = no_entries
 keyed_of (e ∷ es) = more_entries (text_of e.0) e.1 (keyed_of es)
 
--- one layer of a value, over what its parts are
+-- one layer of a value, over the values of its parts
 abbrev pub value_step : Value-F plain.Value → plain.Value
 value_step (layer.Bool b) = VBool b
 value_step (layer.Long n) = VLong n

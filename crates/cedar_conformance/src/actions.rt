@@ -1,4 +1,4 @@
-// Whether what is stored of an action is as a schema says.
+// Whether the stored data of an action is as a schema says.
 ghost use Rattle.std.specs.Prelude.{◌≡◌, ◌&&◌, IfOk};
 ghost use Rattle.std.specs.List.{list_all};
 ghost use Rattle.cedar_types.specs.Names.{uid_of};
@@ -18,7 +18,7 @@ use crate::sets::{has_id, is_empty};
 use cedar_types::base::{EntityUID, ValidatorActionId, ValidatorSchema};
 use std::alloc::Global;
 
-/// How what is stored under an id is not a declared action, with its declared ancestors and nothing else.
+/// The first way in which the data under an id is no declared action, with its declared ancestors and nothing else.
 pub(crate) fn find_in_action(
     alloc: Global,
     schema: &ValidatorSchema,
@@ -59,7 +59,9 @@ fn find_undeclared_ancestor(
     ensures there { FindsWhat result
         (action_has (schema_of schema.now).actions (uid_of id.now) (entity_of entity.now)) }
 {
-    for ancestor in entity.ancestors.iter() {
+    let ids = entity.ancestors.as_slice();
+    for shared in ids {
+        let ancestor: &EntityUID = &**shared;
         if !is_declared_ancestor(schema, id, ancestor) {
             return Ok(Some(EntityProblem::UndeclaredAncestor(ancestor.clone()?)));
         }
@@ -104,5 +106,5 @@ fn has_ancestor_of(id: &EntityUID, entity: &Entity, action: &ValidatorActionId) 
     ensures { result ≡ has_its_ancestor (uid_of id.now) (entity_of entity.now)
         (declared_action action.now) }
 {
-    !has_id(&action.descendants, id) || has_id(&entity.ancestors, &action.name)
+    !has_id(&action.descendants, id) || entity.ancestors.contains(&action.name)
 }

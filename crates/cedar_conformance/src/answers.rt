@@ -1,14 +1,14 @@
-//! What checks of a host's data answer.
+//! The answers of checks of a host's data.
 ghost use Rattle.std.specs.Prelude.{◌≡◌};
 ghost use Rattle.std.specs.Result.{is_ok};
 ghost use Rattle.cedar_conformance.specs.Answers.{fault_in, finds_none};
 
 use std::alloc::AllocError;
 
-/// What a check answers: nothing, or the fault that it finds. Where memory is refused, it is an `AllocError`.
+/// The answer of a check: nothing, or the fault that it finds. Where memory is refused, it is an `AllocError`.
 pub type Checked<F> = Result<Result<(), F>, AllocError>;
 
-/// What a search for a fault finds, if there is one.
+/// The fault that a search finds, if there is one.
 pub(crate) type Found<F> = Result<Option<F>, AllocError>;
 
 /// The answer of a check that searches for a fault.

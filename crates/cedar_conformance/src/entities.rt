@@ -4,17 +4,18 @@ ghost use Rattle.cedar_types.specs.Names.{uid_of};
 ghost use Rattle.cedar_types.specs.Values.Stores.{IsBare, entity_at};
 ghost use Rattle.cedar_conformance.specs.Entities.{entity_of, store_of, stored_all, IsSameStore};
 
+use crate::ids::Ids;
 use crate::values::Record;
 use cedar_types::base::EntityUID;
 use std::alloc::{AllocError, Global};
-use std::collections::{BTreeMap, BTreeSet};
+use std::collections::BTreeMap;
 
 /// What is stored of an entity.
 #[derive(Debug, Drop)]
 pub struct Entity {
     pub attributes: Record,
     /// Whatever the entity is in, at any distance.
-    pub ancestors: BTreeSet<EntityUID>,
+    pub ancestors: Ids,
     pub tags: Record,
 }
 
@@ -25,7 +26,7 @@ impl Entity {
     {
         Entity {
             attributes: BTreeMap::new(alloc),
-            ancestors: BTreeSet::new(alloc),
+            ancestors: Ids::new(alloc),
             tags: BTreeMap::new(alloc),
         }
     }

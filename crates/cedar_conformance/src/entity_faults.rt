@@ -69,7 +69,7 @@ impl fmt::Display for EntityFault {
     }
 }
 
-/// Adds what was found of an entity, if something was. Where memory is refused, nothing is added.
+/// Adds the problem that was found in an entity, if there is one. Where memory is refused, nothing is added.
 pub(crate) fn add_found(
     faults: &mut Vec<EntityFault>,
     id: &EntityUID,

@@ -98,12 +98,12 @@ pub enum Mismatch {
 pub struct ValueFault {
     // the last step first
     steps_back: Vec<Step>,
-    /// What is wrong there.
+    /// The mismatch there.
     pub mismatch: Mismatch,
 }
 
 impl ValueFault {
-    /// What is wrong with the value itself.
+    /// The mismatch of the value itself.
     pub(crate) fn here(alloc: Global, mismatch: Mismatch) -> ValueFault {
         ValueFault {
             steps_back: Vec::new(alloc),

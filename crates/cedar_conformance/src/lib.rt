@@ -8,6 +8,7 @@ mod copies;
 pub mod entities;
 pub mod entity_faults;
 pub mod faults;
+pub mod ids;
 pub mod policies;
 pub mod premises;
 pub mod requests;

@@ -1,4 +1,4 @@
-// What the promises ask of a policy and of its links.
+// The premises of the promises on a policy and on its links.
 ghost use Rattle.std.specs.Prelude.{◌≡◌, ◌↔◌, IfOk, IsOk, option_map, is_some};
 ghost use Rattle.cedar_types.specs.Expressions.View.{written};
 ghost use Rattle.cedar_types.specs.Templates.{template_of};

@@ -1,12 +1,13 @@
 // Requests, and whether one conforms to a schema.
-ghost use Rattle.std.specs.Prelude.{◌≡◌, false, ◌↔◌, Some, IfOk, IsOk};
+ghost use Rattle.std.specs.Prelude.{◌≡◌, true, false, ◌↔◌, Some, IfOk, IfErr, IsOk};
 ghost use Rattle.cedar_types.specs.Schemas.Contents.{schema_of};
 ghost use Rattle.cedar_types.specs.Schemas.Declarations.{application};
 ghost use Rattle.cedar_types.specs.Names.{type_of, uid_of};
 ghost use Rattle.cedar_types.specs.Types.{ty_of, kind_of};
 ghost use Rattle.cedar_types.specs.Values.{VRecord};
 ghost use Rattle.cedar_typing.specs.Evaluation.Conformance.{ConformingRequest};
-ghost use Rattle.cedar_conformance.specs.Answers.{FindsNoneWhere};
+ghost use Rattle.cedar_conformance.specs.Answers.{FindsNoneWhere, FindsWhat};
+ghost use Rattle.cedar_conformance.specs.RequestFaults.{application_has, request_has};
 ghost use Rattle.cedar_conformance.specs.Requests.{request_of};
 ghost use Rattle.cedar_conformance.specs.RequestTests.{request_fits, application_fits};
 ghost use Rattle.cedar_conformance.specs.Tests.{has_type};
@@ -23,7 +24,7 @@ use cedar_types::base::{
 use std::alloc::{AllocError, Global};
 use std::fmt;
 
-/// Who asks to do what with what, and the context.
+/// A request: a principal asks to do an action with a resource, in a context.
 #[derive(Debug, Drop)]
 pub struct Request {
     pub principal: EntityUID,
@@ -37,7 +38,7 @@ pub struct Request {
 pub enum RequestFault {
     /// The action is not declared.
     UndeclaredAction(EntityUID),
-    /// The action is declared elsewhere, so it is not known what it applies to.
+    /// The action is declared elsewhere, so that nobody knows the types to which it applies.
     ExternalAction(EntityUID),
     /// The action does not apply to principals of this type.
     PrincipalType(EntityType),
@@ -68,29 +69,35 @@ impl fmt::Display for RequestFault {
 }
 
 /// Whether the request is one of those that the schema allows: it is about an action that is declared, entities of types that
-/// the action applies to, and a context of the action's type. Else the first fault. Whether there are such entities is not
-/// asked. Where memory for a fault is refused, the answer is an `AllocError`.
+/// the action applies to, and a context of the action's type (clause `exact`). Else the first fault that it has, in the order
+/// of `RequestFault` (clause `first`). Whether there are such entities is not asked. Where memory for a fault is refused, the
+/// answer is an `AllocError`.
 pub fn check_request(
     alloc: Global,
     schema: &ValidatorSchema,
     request: &Request,
 ) -> Checked<RequestFault>
-    ensures { IfOk result (λ r.
+    ensures exact { IfOk result (λ r.
         IsOk r ↔ ConformingRequest (schema_of schema.now) (request_of request.now)) }
+    ensures first { IfOk result (λ r. IfErr r (λ f.
+        request_has (schema_of schema.now) (request_of request.now) f ≡ true)) }
 {
     let found = find_in_request(alloc, schema, request)?;
     Ok(answer(found))
 }
 
+#[tactic(auto, using(crate::proofs::RequestFaults::action_there))]
 fn find_in_request(
     alloc: Global,
     schema: &ValidatorSchema,
     request: &Request,
 ) -> Found<RequestFault>
-    ensures { FindsNoneWhere result
+    ensures none { FindsNoneWhere result
         (request_fits (schema_of schema.now) (uid_of request.now.principal)
         (uid_of request.now.action) (uid_of request.now.resource)
         (record_of request.now.context)) }
+    ensures there { FindsWhat result
+        (request_has (schema_of schema.now) (request_of request.now)) }
 {
     let Some(action) = schema.get_action_id(&request.action) else {
         let undeclared = request.action.clone()?;
@@ -107,8 +114,11 @@ fn find_in_application(
     applies_to: &ValidatorApplySpec,
     request: &Request,
 ) -> Found<RequestFault>
-    ensures { FindsNoneWhere result
+    ensures none { FindsNoneWhere result
         (application_fits (Some (application applies_to.now)) (type_of request.now.principal.entity_type)
+        (type_of request.now.resource.entity_type) (record_of request.now.context)) }
+    ensures there { FindsWhat result
+        (application_has (application applies_to.now) (type_of request.now.principal.entity_type)
         (type_of request.now.resource.entity_type) (record_of request.now.context)) }
 {
     if !is_among_types(

@@ -5,7 +5,7 @@ ghost use Rattle.cedar_types.specs.Schemas.Declarations.{uids_of};
 ghost use Rattle.cedar_types.specs.Schemas.{is_among, uid_is_among};
 ghost use Rattle.cedar_types.specs.Types.{types_of};
 ghost use Rattle.cedar_types.specs.Values.{entry_at};
-ghost use Rattle.cedar_conformance.specs.StoreTests.{is_empty_record, are_no_ids};
+ghost use Rattle.cedar_conformance.specs.StoreTests.{is_empty_record};
 ghost use Rattle.cedar_conformance.specs.Values.{value_of, record_of};
 
 use crate::values::{Record, Value};
@@ -25,13 +25,6 @@ pub(crate) fn has_id(ids: &BTreeSet<EntityUID>, id: &EntityUID) -> bool
     ensures { result ≡ uid_is_among (uids_of ids.now) (uid_of id.now) }
 {
     ids.contains(id)
-}
-
-/// Whether a set of ids has none.
-pub(crate) fn has_no_ids(ids: &BTreeSet<EntityUID>) -> bool
-    ensures { result ≡ are_no_ids (uids_of ids.now) }
-{
-    ids.is_empty()
 }
 
 /// The value at a key.

@@ -3,13 +3,13 @@ ghost use Rattle.std.specs.Prelude.{◌≡◌, ◌&&◌, ◌↔◌, true, Some, 
 ghost use Rattle.std.specs.List.{list_all};
 ghost use Rattle.cedar_types.specs.Names.{type_of, uid_of};
 ghost use Rattle.cedar_types.specs.Schemas.Contents.{schema_of};
-ghost use Rattle.cedar_types.specs.Schemas.Declarations.{uids_of};
 ghost use Rattle.cedar_types.specs.Schemas.{type_named};
 ghost use Rattle.cedar_types.specs.Types.{ty_of, attributes_of};
 ghost use Rattle.cedar_types.specs.Values.Stores.{FitsDeclaration};
 ghost use Rattle.cedar_conformance.specs.Answers.{finds_none, passes_if_any, FindsNoneWhere, FindsWhat};
 ghost use Rattle.cedar_conformance.specs.Entities.{entity_of};
 ghost use Rattle.cedar_conformance.specs.EntityFaults.{ancestors_have, bare_has, entity_has, standard_has, tags_have};
+ghost use Rattle.cedar_conformance.specs.Ids.{ids_of};
 ghost use Rattle.cedar_conformance.specs.StoreTests.{tags_fit, ancestor_fits, is_bare, fits_standard, fits_declaration};
 ghost use Rattle.cedar_conformance.specs.Tests.{all_entries, has_type};
 ghost use Rattle.cedar_conformance.specs.Values.{record_of};
@@ -19,7 +19,8 @@ use crate::answers::{Checked, Found, answer};
 use crate::entities::Entity;
 use crate::entity_faults::EntityProblem;
 use crate::faults::{Step, ValueFault};
-use crate::sets::{has_no_ids, is_among_types, is_empty};
+use crate::ids::Ids;
+use crate::sets::{is_among_types, is_empty};
 use crate::typed::{find_fault, find_in_record};
 use crate::values::Record;
 use cedar_types::base::{
@@ -27,7 +28,6 @@ use cedar_types::base::{
     ValidatorSchema,
 };
 use std::alloc::Global;
-use std::collections::BTreeSet;
 
 /// Whether what is stored of the entity of this id is as the schema says; else how it is not, first. Of an entity of a type
 /// with declared attributes: it has only those and all that are required, each of its type, tags of their type if there is
@@ -134,16 +134,18 @@ fn find_in_typed_tags(alloc: Global, ty: &CedarType, entries: &Record) -> Found<
 fn find_in_ancestors(
     schema: &ValidatorSchema,
     id: &EntityUID,
-    ancestors: &BTreeSet<EntityUID>,
+    ancestors: &Ids,
 ) -> Found<EntityProblem>
     ensures none { FindsNoneWhere result
         (list_all (ancestor_fits (schema_of schema.now).types (type_of id.now.entity_type))
-        (uids_of ancestors.now)) }
+        (ids_of ancestors.now)) }
     ensures there { FindsWhat result
         (ancestors_have (schema_of schema.now).types (type_of id.now.entity_type)
-        (uids_of ancestors.now)) }
+        (ids_of ancestors.now)) }
 {
-    for ancestor in ancestors.iter() {
+    let ids = ancestors.as_slice();
+    for shared in ids {
+        let ancestor: &EntityUID = &**shared;
         if !may_be_in(schema, id, ancestor) {
             return Ok(Some(EntityProblem::Ancestor(ancestor.clone()?)));
         }
@@ -168,7 +170,7 @@ fn find_in_bare(entity: &Entity) -> Option<EntityProblem>
 {
     if !is_empty(&entity.attributes) {
         Some(EntityProblem::HasAttributes)
-    } else if !has_no_ids(&entity.ancestors) {
+    } else if !entity.ancestors.is_empty() {
         Some(EntityProblem::HasAncestors)
     } else if !is_empty(&entity.tags) {
         Some(EntityProblem::HasTags)

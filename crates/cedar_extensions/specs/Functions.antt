@@ -1,4 +1,4 @@
--- Cedar's extension functions: what each takes and gives.
+-- Cedar's extension functions: the types that each takes, and the type that it gives.
 use Rattle.std.specs.Prelude.{Bool, false, List, [], ◌∷◌, ◌++◌, Option, Some, None, codes, map}
 use Rattle.std.specs.List.{list_any, find}
 use Rattle.std.specs.Option.{is_some}
@@ -44,7 +44,7 @@ ordered_types = plain_name (codes "datetime") ∷ plain_name (codes "duration") 
 
 -- ---- the table
 
--- a function: its name, the types of what it takes, and the type of what it gives
+-- a function: its name, the types of its arguments, and the type of its value
 pub record Signature : Type 0 where
   pub name : Text
   pub takes : List ValueType
@@ -68,7 +68,7 @@ constructors =
 abbrev pub constructor_signature : Constructor → Signature
 constructor_signature c = signature (name_of c) (type.String ∷ []) (made_by c)
 
--- the other functions. A policy calls each as a method of what it takes first, `a.isInRange(b)`
+-- the other functions. A policy calls each as a method of its first argument, `a.isInRange(b)`
 abbrev pub methods : List Signature
 methods =
     signature (codes "isIpv4") (type.Ipaddr ∷ []) type.Bool
@@ -91,7 +91,7 @@ methods =
     ∷ signature (codes "toDays") (type.Duration ∷ []) type.Long
     ∷ []
 
--- ---- what is found by a name
+-- ---- functions by their names
 
 -- the constructor of this name
 abbrev pub constructor_named : Text → Option Constructor
@@ -105,7 +105,7 @@ constructor_of p = find (λ c. path_eq (plain_name (type_name (made_by c))) p) c
 abbrev pub is_method_named : Text → Bool
 is_method_named s = list_any (λ m. text_eq m.name s) methods
 
--- ---- what a table of functions has
+-- ---- the entries of a table of functions
 
 -- a function with this check of its arguments, if it has one
 abbrev pub checked : Signature → Option Refusals → ExtensionFunction

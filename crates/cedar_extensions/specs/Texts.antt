@@ -1,4 +1,4 @@
--- Which texts the functions read that make extension values, and what is said of the others.
+-- The texts that the functions read which make extension values, and the refusals of all others.
 use Rattle.std.specs.Prelude.{Bool, List, [], ◌∷◌, ◌++◌, Option, Some, None, codes, if◌then◌else◌}
 use Rattle.cedar_types.specs.Expressions.Tree.{Tree, lit, string}
 use Rattle.cedar_types.specs.Expressions.View.{Written}

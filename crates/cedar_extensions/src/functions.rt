@@ -108,7 +108,7 @@ fn method_function(alloc: Global, method: &Method) -> Result<ExtensionFunctionTy
     function(alloc, method.name, method.takes, method.gives, None)
 }
 
-/// A function of this name, with what it takes and gives.
+/// A function of this name, with the types that it takes and the type that it gives.
 fn function(
     alloc: Global,
     name: &str,

@@ -1,14 +1,14 @@
 //! The extension functions that a policy calls as methods.
 use crate::types::ValueType;
 
-/// A function that a policy calls as a method of what it takes first: `a.isInRange(b)`.
+/// A function that a policy calls as a method of its first argument: `a.isInRange(b)`.
 #[derive(Clone, Copy, Debug)]
 pub struct Method {
     /// How a policy calls it.
     pub name: &'static str,
-    /// The types of what it takes, from the one before the dot on.
+    /// The types of its arguments, beginning with the one before the dot.
     pub takes: &'static [ValueType],
-    /// The type of what it gives.
+    /// The type of its value.
     pub gives: ValueType,
 }
 

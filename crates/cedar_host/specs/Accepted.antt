@@ -1,4 +1,4 @@
--- Policies that validation accepts by one validator, each with what its slots are bound to.
+-- Policies that validation accepts by one validator, each with the entities to which its slots are bound.
 use Rattle.std.specs.Prelude.{◌≡◌, ◌↔◌, ℕ, true, false, List, [], ◌∷◌, ◌++◌, Some, Result, IsOk, IfErr}
 use Rattle.cedar_types.specs.declared.base.names.policy_ids.PolicyID.{PolicyID}
 use Rattle.cedar_types.specs.declared.base.schema.ValidatorSchema.{ValidatorSchema}
@@ -49,7 +49,7 @@ IsFirstFaultOf (fault.NotAccepted id) found p = (found.is_accepted ≡ false) ×
 IsFirstFaultOf (fault.Policy id f) found p = (found.is_accepted ≡ true) × IsFaultOfForm (fault.Policy id f) p
 IsFirstFaultOf (fault.Premise f) found p = ⊥
 
--- an answer is Ok exactly where what is found in it for slices accepts it, and with its links it is well-formed; else it is
+-- an answer is Ok exactly where the findings in it for slices accept it, and with its links it is well-formed; else it is
 -- its first fault
 pub record AcceptsExactly (b : Basis) (steps : ℕ) (p : LinkedTemplate) (answer : Result (Unit {0}) AdmissionFault)
     : Type 0 where

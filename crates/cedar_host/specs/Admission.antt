@@ -1,6 +1,5 @@
--- What is promised of policies that validation accepts, over data that was checked. No premise is
--- left on the schema, the policies, the request and the entities: only that the extension functions
--- keep the table.
+-- The promise of policies that validation accepts, over data that was checked. No premise is left on the
+-- schema, the policies, the request and the entities: only that the extension functions keep the table.
 use Rattle.std.specs.Prelude.{◌≡◌, ◌↔◌, ℕ, true, false, All, Result, IsOk, IfErr}
 use Rattle.cedar_types.specs.Extensions.Functions.{Refusals}
 use Rattle.cedar_types.specs.Schemas.Contents.{schema_of}
@@ -62,7 +61,7 @@ IsFirstRefusal (fault.Policy id f) found schema p request entities = ⊥
 IsFirstRefusal (fault.Premise f) found schema p request entities =
     (found.is_accepted ≡ true) × IsFirstPremise (fault.Premise f) schema p request entities
 
--- an answer is Ok exactly where what is found in the policy for slices accepts it, and the premises are met; else it is the
+-- an answer is Ok exactly where the findings in the policy for slices accept it, and the premises are met; else it is the
 -- first fault
 pub record LetsInExactly (b : Basis) (steps : ℕ) (schema : ValidatorSchema) (p : LinkedTemplate) (request : Request)
     (entities : Entities) (answer : Result (Unit {0}) AdmissionFault) : Type 0 where

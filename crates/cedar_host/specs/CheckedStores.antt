@@ -6,6 +6,7 @@ use Rattle.cedar_types.specs.Values.Stores.{ConformingStore}
 use Rattle.cedar_typing.specs.Evaluation.Conformance.{has_external}
 use Rattle.cedar_conformance.specs.declared.entities.Entities.{Entities}
 use Rattle.cedar_conformance.specs.Entities.{store_of}
+use Rattle.cedar_conformance.specs.Premises.{AreFaultsOf}
 use Rattle.cedar_conformance.specs.declared.premises.PremiseFault.{PremiseFault}
 use Rattle.cedar_conformance.specs.declared.premises.PremiseFault.TheVariants as premise
 
@@ -20,4 +21,4 @@ IsFirstNotChecked premise.External schema entities = has_external (schema_of sch
 IsFirstNotChecked (premise.Policy f) schema entities = ⊥
 IsFirstNotChecked (premise.Request f) schema entities = ⊥
 IsFirstNotChecked (premise.Entities fs) schema entities =
-    (has_external (schema_of schema) ≡ false) × (ConformingStore (schema_of schema) (store_of entities) → ⊥)
+    (has_external (schema_of schema) ≡ false) × AreFaultsOf fs schema entities

@@ -1,4 +1,4 @@
--- What a host that goes on with the typed conditions of a policy may rely on, as a compiler of policies
+-- The promise to a host that goes on with the typed conditions of a policy, as a compiler of policies
 -- to queries does.
 use Rattle.std.specs.Prelude.{◌≡◌, List, map, Option, Some, None, All, IsPermutation}
 use Rattle.cedar_types.specs.declared.base.types.ValidationMode.{ValidationMode}
@@ -53,7 +53,7 @@ abbrev pub AreConditionsOf : Basis → PlainTemplate → Option (List TypedCondi
 AreConditionsOf b t None = FailsSomewhere b t
 AreConditionsOf b t (Some cs) = AreOfAllChecks b t cs
 
--- ---- what they mean, in a mode
+-- ---- the meaning of typed conditions, in a mode
 
 -- in each world of its environment it evaluates as the policy's condition does
 abbrev pub MeansTheConditionIn : ValidationMode → Basis → PlainTemplate → TypedCondition → Type 0

@@ -1,4 +1,4 @@
--- What is found in a policy: exactly what its survey, the passes over its names and its levels find.
+-- The findings in a policy: exactly those of its survey, of the passes over its names and of its levels.
 use Rattle.std.specs.Prelude.{◌≡◌, ◌↔◌, ℕ, Bool, true, false, ◌&&◌, List, [], ◌∷◌, ◌++◌, map, cond}
 use Rattle.std.specs.BTreeMap.{BTreeMap, keys}
 use Rattle.cedar_types.specs.declared.base.errors.validation_errors.ValidationError.{ValidationError}
@@ -21,7 +21,7 @@ use Rattle.cedar_host.specs.declared.reports.PolicyReport.{PolicyReport}
 abbrev pub listed : BTreeMap ValidationError Environments → List Finding
 listed errors = findings (keys errors)
 
--- what is found by a survey, by the passes over names, which find the same in Strict and in Permissive, and by levels, which
+-- the findings of a survey, of the passes over names, which find the same in Strict and in Permissive, and by levels, which
 -- have these errors
 pub record AreFoundBy (s : Schema) (t : PlainTemplate) (survey : Survey) (levels : List Finding) (f : Findings) : Type 0 where
   -- the policy is accepted where no level and no name has an error, and each check passes
@@ -34,7 +34,7 @@ pub record AreFoundBy (s : Schema) (t : PlainTemplate) (survey : Survey) (levels
   pub warnings : map warning_of f.warnings.items
       ≡ application_warnings Strict s t ++ cond (impossible_of survey) (warning_that_impossible t ∷ []) []
 
--- what is found in a policy, without levels
+-- the findings in a policy, without levels
 abbrev pub AreFindingsOn : Basis → PlainTemplate → Findings → Type 0
 AreFindingsOn b t f = (survey : Survey) × IsSurveyOf b t survey × AreFoundBy b.schema t survey [] f
 
@@ -49,7 +49,7 @@ AreFindingsWithin n b t f =
 abbrev pub ListsAnError : PolicyReport → Type 0
 ListsAnError r = r.is_accepted ≡ false → r.errors.items ≡ [] → ⊥
 
--- it says of its policy what is found in it, and where it refuses the policy it lists an error
+-- a report has the findings in its policy, and if it refuses the policy it lists an error
 pub record IsReportOf (AreFindings : PlainTemplate → Findings → Type 0) (r : PolicyReport) : Type 0 where
   pub outcome : Findings
   pub found : AreFindings (template_of r.policy.now.template) outcome

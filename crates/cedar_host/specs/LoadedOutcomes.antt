@@ -1,4 +1,4 @@
--- What a host gets that evaluates over the entities that it loaded: the same as over the whole store.
+-- Evaluation over the entities that a host loaded: its results are those over the whole store.
 use Rattle.std.specs.Prelude.{◌≡◌, ℕ, false, List}
 use Rattle.cedar_types.specs.Names.{Uid}
 use Rattle.cedar_types.specs.Templates.{PlainTemplate}

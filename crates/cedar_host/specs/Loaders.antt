@@ -1,4 +1,4 @@
--- What a host loaded in rounds: of which stores it has the slice.
+-- The entities that a host loaded in rounds: of which stores they have the slice.
 use Rattle.std.specs.Prelude.{ℕ, List, []}
 use Rattle.cedar_types.specs.Names.{Uid}
 use Rattle.cedar_types.specs.Schemas.Declarations.{uids_of}
@@ -19,7 +19,7 @@ HoldsSliceOf request n loaded =
     (store : Store) → IsLoaded store (uids_of loaded.ids) (store_of loaded.entities)
     → HoldsSlice (request_of request) store n (store_of loaded.entities)
 
--- what a store holds in the entity of an id
+-- the ids that a store holds in the entity of an id
 abbrev pub held_in : Store → Uid → List Uid
 held_in store u = ids_of (entity_at store u)
 

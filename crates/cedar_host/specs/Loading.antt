@@ -1,4 +1,4 @@
--- What a host loads for a slice: the ids within some steps of a request, and a store with the
+-- The entities that a host loads for a slice: the ids within some steps of a request, and a store with the
 -- entries of these.
 use Rattle.std.specs.Prelude.{◌≡◌, ◌⊎◌, ℕ, zero, suc, List, [], ◌++◌}
 use Rattle.std.specs.List.{flat_map}
@@ -30,7 +30,7 @@ abbrev pub ids_below : (Uid → List Uid) → List Uid → ℕ → List Uid
 ids_below answered start zero = []
 ids_below answered start (suc n) = ids_below answered start n ++ ids_at answered start n
 
--- ---- what is loaded
+-- ---- the entities that are loaded
 
 -- a part of a store that has of each of these ids what the store has
 pub record IsLoaded (store : Store) (ids : List Uid) (part : Store) : Type 0 where

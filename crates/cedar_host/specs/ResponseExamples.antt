@@ -1,4 +1,4 @@
--- What an authoriser answers of some policies, by the outcome of each.
+-- Examples of an authoriser's response to some policies, by the outcome of each.
 use Rattle.std.specs.Prelude.{◌≡◌, true, false, List, [], ◌∷◌, None, codes}
 use Rattle.cedar_types.specs.declared.base.templates.effects.Effect.{Effect}
 use Rattle.cedar_types.specs.declared.base.templates.effects.Effect.TheVariants.{Permit, Forbid}
@@ -9,7 +9,7 @@ use Rattle.cedar_typing.specs.Examples.Expressions.{true_lit}
 use Rattle.cedar_typing.specs.Examples.PolicySoundness.{policy_when}
 use Rattle.cedar_host.specs.Responses.{LinkedPolicy, Answer, PolicyError, Decision, allow, deny, Response, response_to}
 
--- a permit and a forbid with their outcomes: what they ask does not matter here
+-- a permit and a forbid with their outcomes: their conditions do not matter here
 abbrev pub named : Effect → Text → LinkedPolicy
 named e n = record { name = n; effect = e; template = policy_when true_lit; slots = λ x. None }
 

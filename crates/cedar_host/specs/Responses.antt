@@ -1,4 +1,4 @@
--- What an authoriser answers of a set of policies: a decision, the policies that determine it, and those that err.
+-- The response of an authoriser to a set of policies: a decision, the policies that determine it, and those that err.
 use Rattle.std.specs.Prelude.{◌≡◌, ℕ, Bool, true, false, ◌&&◌, List, [], ◌∷◌, if◌then◌else◌}
 use Rattle.cedar_types.specs.declared.base.templates.effects.Effect.{Effect}
 use Rattle.cedar_types.specs.declared.base.templates.effects.Effect.TheVariants.{Permit, Forbid}
@@ -27,7 +27,7 @@ same_effect Permit Forbid = false
 same_effect Forbid Permit = false
 same_effect Forbid Forbid = true
 
--- a template with what its slots are bound to, under a name of its own: one without slots is linked too
+-- a template with the entities to which its slots are bound, under a name of its own: one without slots is linked too
 pub record LinkedPolicy : Type 0 where
   pub name : Text
   pub effect : Effect
@@ -85,7 +85,7 @@ abbrev pub decision : List Text → List Text → Decision
 decision (p ∷ ps) [] = allow
 decision ps fs = deny
 
--- what determines that: the satisfied forbids, if there are any, and else the satisfied permits, if there are any
+-- the determining policies: the satisfied forbids, if there are any, and else the satisfied permits, if there are any
 abbrev pub determining : List Text → List Text → List Text
 determining ps [] = ps
 determining ps (f ∷ fs) = f ∷ fs

@@ -10,7 +10,7 @@ use Rattle.cedar_typing.specs.Evaluation.Conformance.{IsOneOf}
 use Rattle.cedar_host.specs.declared.rounds.Rounds.{Rounds}
 use Rattle.cedar_host.specs.Loading.{AreAmong, ids_below, LoadsSlices}
 
--- ---- what was handed in
+-- ---- the ids that were handed in
 
 -- the ids whose entries were asked for in a round, and the ids that were handed in for them
 pub record Round : Type 0 where
@@ -26,7 +26,7 @@ AreAnswered answered done =
 abbrev pub HoldNoMore : Store → List Round → Type 0
 HoldNoMore store done = AreAnswered (λ u. ids_of (entity_at store u)) done
 
--- ---- what the rounds have
+-- ---- the ids that the rounds have
 
 abbrev pub ids_in : Rounds → List Uid
 ids_in r = uids_of r.ids
@@ -38,7 +38,7 @@ wanted_in r = map uid_of r.wanted.items
 abbrev pub left_in : Rounds → ℕ
 left_in r = r.left
 
--- ---- what is found
+-- ---- the ids that are found
 
 -- where the ids are answered so: what is found when some steps are left
 pub record HaveFound (answered : Uid → List Uid) (start : List Uid) (steps left : ℕ)

@@ -1,4 +1,4 @@
--- What a host may rely on in its mode, where a policy is accepted and where it is impossible.
+-- The promise to a host in its mode, if a policy is accepted and if it is impossible.
 use Rattle.std.specs.Prelude.{◌≡◌, Bool, true, false}
 use Rattle.cedar_types.specs.declared.base.types.ValidationMode.{ValidationMode}
 use Rattle.cedar_types.specs.Extensions.{functions_of, overloaded_types_of}
@@ -21,7 +21,7 @@ use Rattle.cedar_typing.specs.Soundness.{IsTrueOutcome, IsWorldOf}
 use Rattle.cedar_host.specs.declared.reports.PolicyReport.{PolicyReport}
 use Rattle.cedar_host.specs.declared.safety.SoundMode.{SoundMode}
 
--- ---- what a host stands on
+-- ---- the schema, the functions and the mode of a host
 
 -- the libraries' mode for the host's
 abbrev pub validation_mode : SoundMode → ValidationMode

@@ -1,4 +1,4 @@
--- What a host that loads slices may rely on, in its mode.
+-- The promise to a host that loads slices, in its mode.
 use Rattle.std.specs.Prelude.{◌≡◌, ℕ, true, false, option_map}
 use Rattle.cedar_types.specs.Templates.{PlainTemplate, template_of}
 use Rattle.cedar_typechecker.specs.Levels.Required.{IsRequiredLevel}

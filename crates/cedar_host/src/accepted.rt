@@ -14,8 +14,8 @@ use cedar_types::base::{ArgumentCheck, ValidatorSchema};
 use std::alloc::{AllocError, Global};
 use std::marker::Model;
 
-/// Policies that one validator accepts, in a mode and for slices of some steps, each with what its slots are bound to. Only
-/// `add` puts one in, where validation accepts it, so nothing has to be believed of a report.
+/// Policies that one validator accepts, in a mode and for slices of some steps, each with the entities to which its slots are
+/// bound. Only `add` puts one in, if validation accepts it, so that nobody has to believe a report.
 #[derive(Drop)]
 pub struct AcceptedPolicies<'a, C: ArgumentCheck> {
     validator: &'a Validator<'a, C>,

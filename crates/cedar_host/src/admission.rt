@@ -1,6 +1,6 @@
-//! Policies, a request and entities, checked before anything is evaluated. What passes keeps the promise of validation. The
-//! host sees to two things: its extension functions keep the validator's table, and its evaluator is the one that
-//! docs/PROFILE.md describes, over the very request, entities and links that were checked.
+//! Policies, a request and entities, checked before anything is evaluated. Policies that pass keep the promise of validation.
+//! You must see to two things as a host: your extension functions keep the validator's table, and your evaluator is the one
+//! that docs/PROFILE.md describes, over the very request, entities and links that were checked.
 ghost use Rattle.std.specs.Prelude.{◌↔◌, IfOk, IfErr, IsOk};
 ghost use Rattle.cedar_types.specs.Templates.{template_of};
 ghost use Rattle.cedar_typechecker.specs.ValidatorViews.{schema_in};
@@ -22,14 +22,14 @@ use cedar_typechecker::rbac::Validator;
 use cedar_types::base::{ArgumentCheck, PolicyID, SlotEnv, Template, ValidatorSchema};
 use std::alloc::{AllocError, Global};
 
-/// A policy, with what its slots are bound to.
+/// A policy with the entities to which its slots are bound.
 #[derive(Drop)]
 pub struct LinkedTemplate<'a> {
     pub template: &'a Template,
     pub values: &'a SlotEnv,
 }
 
-/// Why nothing is promised: the first of what was found.
+/// The reason for which nothing is promised: the first that was found.
 #[derive(Debug, PartialEq, Eq, Drop)]
 pub enum AdmissionFault {
     /// Validation does not accept this policy.
@@ -70,7 +70,7 @@ pub fn admit<C: ArgumentCheck>(
     Ok(checked)
 }
 
-/// That nothing of the schema is declared elsewhere, and that the data conforms.
+/// Checks that nothing of the schema is declared elsewhere, and that the data conforms.
 fn check_closed_data(
     alloc: Global,
     schema: &ValidatorSchema,

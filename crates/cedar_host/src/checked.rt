@@ -1,6 +1,9 @@
 //! A store that was checked once, and requests that are let in over it.
-ghost use Rattle.std.specs.Prelude.{◌≡◌, ◌↔◌, IfOk, IfErr, IsOk};
+ghost use Rattle.std.specs.Prelude.{◌≡◌, ◌↔◌, true, IfOk, IfErr, IsOk};
+ghost use Rattle.cedar_types.specs.Schemas.Contents.{schema_of};
 ghost use Rattle.cedar_conformance.specs.Premises.{DataConforms};
+ghost use Rattle.cedar_conformance.specs.RequestFaults.{request_has};
+ghost use Rattle.cedar_conformance.specs.Requests.{request_of};
 ghost use Rattle.cedar_host.specs.Accepted.{schema_by};
 ghost use Rattle.cedar_host.specs.Admission.{AllEvaluateSafely, AllEvaluateInSlices};
 ghost use Rattle.cedar_host.specs.CheckedStores.{IsChecked, IsFirstNotChecked};
@@ -68,7 +71,8 @@ impl<'a, 'p, 'e, C: ArgumentCheck> CheckedStore<'a, 'p, 'e, C> {
     /// answers Ok exactly where the request conforms, so that the data does (clause `exact`). Then each policy evaluates to a
     /// boolean, or fails only for a missing entity, an overflow or an extension function (clause `safe`), and comes to the same
     /// over each part of the entities that has the slice (clause `sliced`). No premise is left but that the extension
-    /// functions keep the validator's table. Else the request's fault. Where memory is refused, the answer is an `AllocError`.
+    /// functions keep the validator's table. Else the first fault that the request has (clause `first`). Where memory is
+    /// refused, the answer is an `AllocError`.
     pub fn admit(
         &self,
         alloc: Global,
@@ -76,6 +80,8 @@ impl<'a, 'p, 'e, C: ArgumentCheck> CheckedStore<'a, 'p, 'e, C> {
     ) -> Result<Result<(), RequestFault>, AllocError>
         ensures exact { IfOk result (λ r.
             IsOk r ↔ DataConforms (schema_by self.now.0) request.now self.now.1) }
+        ensures first { IfOk result (λ r. IfErr r (λ f.
+            request_has (schema_of (schema_by self.now.0)) (request_of request.now) f ≡ true)) }
         ensures safe { IfOk result (λ r. IsOk r
             → AllEvaluateSafely C.refusal self.now.0 request.now self.now.1) }
         ensures sliced { IfOk result (λ r. IsOk r

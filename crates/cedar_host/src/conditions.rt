@@ -1,5 +1,5 @@
 //! The typed conditions of a policy, for a host that goes on with them: a compiler of policies to queries, or an editor that
-//! shows what of a policy is left in an environment.
+//! shows which part of a policy is left in an environment.
 ghost use Rattle.std.specs.Prelude.{◌≡◌, IfOk, option_map};
 ghost use Rattle.cedar_types.specs.declared.base.types.ValidationMode.TheVariants.{Permissive, Strict};
 ghost use Rattle.cedar_types.specs.Templates.{template_of};

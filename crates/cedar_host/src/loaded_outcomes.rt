@@ -1,8 +1,8 @@
-//! What a host gets of the entities that it loaded: laws, each on a function that does nothing.
+//! Evaluation and authorisation over the entities that a host loaded: laws, each on a function that does nothing.
 ghost use Rattle.cedar_host.specs.LoadedOutcomes.{LoadedGiveTheSame, LoadedRespondTheSame};
 
-/// A policy that is accepted for slices of n steps evaluates over what was loaded with the ids of n steps as over the whole
-/// store, and an authoriser with such policies gives the same response.
+/// A policy that is accepted for slices of n steps evaluates over the entities that were loaded with the ids of n steps as over
+/// the whole store, and an authoriser with such policies gives the same response.
 pub fn loaded_is_enough()
     ensures outcomes { LoadedGiveTheSame }
     ensures responses { LoadedRespondTheSame }

@@ -24,7 +24,7 @@ pub struct Loader {
     entities: Entities,
 }
 
-/// What was loaded.
+/// The entities that a host loaded for a slice.
 #[derive(Debug, Drop)]
 pub struct Loaded {
     /// The ids that were asked for.
@@ -72,8 +72,8 @@ impl Loader {
         Ok(Loader { rounds, entities })
     }
 
-    /// What was loaded. Where nothing is wanted now, it has the slice of the request, of each store that has of
-    /// the ids that were asked for what was handed in.
+    /// The loaded entities. If nothing is wanted now, they have the slice of the request, for each store that agrees
+    /// with the entries that were handed in for the ids that were asked for (clause `slices`).
     pub fn finish(self) -> Loaded
         ensures slices { wanted_of self ≡ [] → (request : Request) (steps : ℕ)
             → IsLoaderOf request steps self → HoldsSliceOf request steps result }

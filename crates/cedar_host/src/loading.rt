@@ -17,11 +17,11 @@ pub trait Entities {
     // the store that they are
     ghost store: { Self → Store };
 
-    // what is answered of an id
+    // the ids that are answered for an id
     ghost answered: { Self → Uid → List Uid };
 
     /// The ids inside the attributes and the tags of this entity, at any depth and in any order; none,
-    /// where there is no such entity. An answer may have more, and what these hold is then found too.
+    /// where there is no such entity. An answer may have more ids, and the ids that these hold are then found too.
     /// Where memory is refused, it is an `AllocError`.
     fn held(&self, alloc: Global, id: &EntityUID) -> Result<Vec<EntityUID>, AllocError>
         ensures { IfOk result (λ held. map uid_of held.items ≡ answered self.now (uid_of id.now)) };
@@ -35,7 +35,7 @@ pub trait Entities {
 /// these: its principal, its action, its resource, and the ids inside its context.
 ///
 /// They are found in rounds, of which there are fewer than `steps`, and fewer still where a round
-/// finds nothing new. No entity is asked twice for what it holds, and those of the last step are not
+/// finds nothing new. No entity is asked twice for the ids that it holds, and those of the last step are not
 /// asked. Of several equal ids the first is answered, with its place. Where memory is refused, the
 /// answer is an `AllocError`.
 pub fn ids_within<E: Entities>(
@@ -63,8 +63,8 @@ pub fn ids_within<E: Entities>(
     Ok(ids)
 }
 
-/// Adds what each of these holds to the ids, and answers those that were not there. What an entity holds is added before the
-/// next is asked, so that repeats among what they hold take no memory.
+/// Adds the ids that each of these holds, and answers those that were not there. The ids of one entity are added before the next
+/// is asked, so that repeats among them take no memory.
 fn add_held<E: Entities>(
     alloc: Global,
     ids: &mut BTreeSet<EntityUID>,

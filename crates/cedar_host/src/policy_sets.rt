@@ -33,33 +33,34 @@ use std::rc::RcStr;
 /// A policy, and the text that its places are in: that of a whole file too, which its policies share.
 #[derive(Debug, Drop)]
 pub struct WrittenPolicy {
-    /// What it does where it is satisfied: validation does not ask for it, and an authoriser does.
+    /// The effect of a satisfied policy. Validation does not use it, an authoriser does.
     pub effect: Effect,
     pub template: Template,
     pub text: RcStr,
 }
 
-/// What validation finds in a policy.
+/// The findings of validation in a policy.
 #[derive(Debug, Drop)]
 pub struct Findings {
-    /// Whether each name and id is the schema's, and no environment refuses the policy.
+    /// Whether the schema has each name and id, and no environment refuses the policy.
     pub is_accepted: bool,
-    /// Whether it is false in each environment, so that it never applies.
+    /// Whether the policy is false in each environment, so that it never applies.
     pub is_impossible: bool,
-    /// The errors in order, each with the environments in which typing finds it: none, of what is not
-    /// found by typing.
+    /// The errors in order, each with the environments in which typing finds it: none for an error that
+    /// typing does not find, for example an unknown name.
     pub errors: BTreeMap<ValidationError, Environments>,
-    /// That no action fits the scope, and that the policy is impossible.
+    /// The warnings: no action fits the scope; the policy is impossible.
     pub warnings: Vec<ValidationWarning>,
-    /// In how many environments the policy may apply: in which its check is not irrelevant, or finds an
-    /// error.
+    /// The number of environments in which the policy may apply, because its check is not irrelevant there, or
+    /// finds an error.
     pub applicable_environments: u64,
-    /// The least steps at which it has no level error; `None` where there is no such number.
+    /// The required level: the least number of steps at which the policy has no level error; `None` if no number is
+    /// enough.
     pub level: Option<EntityDerefLevel>,
 }
 
-/// A report on each policy of the set, checked in this mode. Those that are accepted do not go wrong,
-/// and those that are impossible are never true. A policy is accepted exactly where its checks and the
+/// Validates each policy of the set in this mode, and reports on each. Accepted policies do not go wrong,
+/// and impossible ones are never true (clause `right`). A policy is accepted exactly where its checks and the
 /// passes over its names find nothing, and a report that refuses one lists an error (clause `exact`).
 /// Where memory is refused, the answer is an `AllocError`.
 pub fn validate_set<'a, C: ArgumentCheck>(
@@ -82,9 +83,9 @@ pub fn validate_set<'a, C: ArgumentCheck>(
     Ok(reports)
 }
 
-/// The ids that a policy of a set shares with an earlier one, in the order of the set. Findings name policies by their ids, so a
-/// host that shows them, or links policies by their ids, refuses such a set. Where memory is refused, the answer is an
-/// `AllocError`.
+/// The ids that a policy of a set shares with an earlier one, in the order of the set. A host that shows findings, or links
+/// policies by their ids, must refuse such a set, because findings name policies by their ids. Where memory is refused, the
+/// answer is an `AllocError`.
 pub fn repeated_ids(alloc: Global, policies: &[WrittenPolicy]) -> Result<Vec<PolicyID>, AllocError>
     ensures { IfOk result (λ repeated.
         AreRepeats (map id_in policies.now) (map (λ i. text_of i.text) repeated.items)) }
@@ -100,9 +101,10 @@ pub fn repeated_ids(alloc: Global, policies: &[WrittenPolicy]) -> Result<Vec<Pol
     Ok(repeated)
 }
 
-/// What is found in a policy: the types, actions and ids that the schema does not have, what typing
-/// finds in all environments, in this mode, and whether no action fits the scope. It is accepted
-/// exactly where its checks pass and no name has an error, and each error is listed (clause `exact`).
+/// The findings in a policy: the types, actions and ids that the schema does not have, the errors that
+/// typing finds in all environments, in this mode, and whether no action fits the scope. The policy is
+/// accepted exactly where its checks pass and no name has an error, and each error is listed (clause
+/// `exact`).
 /// Where memory is refused, the answer is an `AllocError`.
 pub fn validate<C: ArgumentCheck>(
     alloc: Global,
@@ -127,7 +129,7 @@ pub fn validate<C: ArgumentCheck>(
     Ok(findings)
 }
 
-/// What is found in a policy, by its survey.
+/// The findings in a policy, from its survey.
 pub(crate) fn find<C: ArgumentCheck>(
     alloc: Global,
     validator: &Validator<'_, C>,
@@ -162,7 +164,7 @@ pub(crate) fn find<C: ArgumentCheck>(
     })
 }
 
-/// That no action fits the scope, and that the policy is impossible.
+/// The warnings that no action fits the scope, and that the policy is impossible.
 fn find_warnings<C: ArgumentCheck>(
     alloc: Global,
     validator: &Validator<'_, C>,
@@ -215,7 +217,7 @@ fn name_errors(
     Ok(found)
 }
 
-/// Adds all that is left of a pass.
+/// Adds all errors that a pass still gives.
 fn collect(found: &mut Vec<ValidationError>, pass: LiteralErrors<'_>) -> Result<(), AllocError>
     ensures { OnOk result (
         findings found.new.items ≡ findings found.old.items ++ errors_left pass.entry) }
@@ -240,7 +242,7 @@ fn add_all(
     Ok(())
 }
 
-/// Adds an error of no environment.
+/// Adds an error that typing does not find, so that it has no environment.
 pub(crate) fn add_error(
     alloc: Global,
     errors: &mut BTreeMap<ValidationError, Environments>,

@@ -1,4 +1,4 @@
-//! What a host says of a policy, and what it may keep of that when the policy has gone.
+//! A host's report on a policy, and the part of it that the host may keep when the policy has gone.
 ghost use Rattle.std.specs.Prelude.{◌≡◌, [], IfOk, OnOk};
 ghost use Rattle.cedar_types.specs.Names.{text_of};
 ghost use Rattle.cedar_host.specs.Found.{ListsAnError};
@@ -12,21 +12,22 @@ use std::alloc::{AllocError, Global};
 use std::collections::BTreeMap;
 use std::fmt;
 
-/// What may have failed where there is no error.
+/// The possible reasons if a policy is refused without an error.
 const UNEXPLAINED: &str = "no error says why: an unknown, or too deep a nesting";
 
-/// What is wrong with a policy. It is shown as its line.
+/// An error of a policy. It is shown as its line.
 #[derive(Debug, Drop)]
 pub struct PolicyError {
-    /// Where that stands in the policy's text, if it is known.
+    /// The error's place in the policy's text, if it is known.
     pub place: Option<Loc>,
-    /// What is wrong, on one line, without the policy's id.
+    /// The message on one line, without the policy's id.
     pub message: String,
-    /// The same behind the place, what stands there, and the policy's id.
+    /// The place, the text that stands there, the policy's id and the message, on one line.
     pub line: String,
-    /// The error itself; `None` of a policy that is refused without one.
+    /// The error itself; `None` for a policy that is refused without one.
     pub error: Option<ValidationError>,
-    /// The environments in which typing finds it: none, of what is not found by typing.
+    /// The environments in which typing finds the error: none for an error that typing does not find, for example an
+    /// unknown name.
     pub environments: Environments,
 }
 
@@ -36,14 +37,14 @@ impl fmt::Display for PolicyError {
     }
 }
 
-/// What may be a slip in a policy. It is shown as its line.
+/// A warning: a possible slip in a policy. It is shown as its line.
 #[derive(Debug, Drop)]
 pub struct PolicyWarning {
-    /// Where that stands in the policy's text, if it is known.
+    /// The warning's place in the policy's text, if it is known.
     pub place: Option<Loc>,
-    /// What may be a slip, on one line, without the policy's id.
+    /// The message on one line, without the policy's id.
     pub message: String,
-    /// The same behind the policy's id.
+    /// The policy's id and the message, on one line.
     pub line: String,
     pub warning: ValidationWarning,
 }
@@ -54,19 +55,19 @@ impl fmt::Display for PolicyWarning {
     }
 }
 
-/// What the host says of a policy.
+/// A host's report on a policy.
 #[derive(Debug, Drop)]
 pub struct PolicyReport<'a> {
     pub policy: &'a WrittenPolicy,
     pub is_accepted: bool,
     pub is_impossible: bool,
-    /// Its errors in the order of their places, first those without one. Of several that are shown alike there is one.
+    /// The errors in the order of their places, first those without a place. Errors that are shown alike are listed once.
     pub errors: Vec<PolicyError>,
-    /// Its warnings in the same order.
+    /// The warnings in the order of their places.
     pub warnings: Vec<PolicyWarning>,
 }
 
-/// The same without the policy.
+/// A report that owns its parts, with the policy's id in place of the policy.
 #[derive(Debug, Drop)]
 pub struct KeptReport {
     pub policy: PolicyID,
@@ -78,7 +79,7 @@ pub struct KeptReport {
 }
 
 impl PolicyReport<'_> {
-    /// What a host may keep when the policy has gone. Where memory is refused, the answer is an `AllocError`.
+    /// The report that a host may keep when the policy has gone. Where memory is refused, the answer is an `AllocError`.
     pub fn keep(self) -> Result<KeptReport, AllocError>
         ensures policy { IfOk result (λ kept.
             text_of kept.policy.text ≡ text_of self.entry.policy.now.template.id.text) }
@@ -99,14 +100,14 @@ impl PolicyReport<'_> {
     }
 }
 
-/// By what findings are ordered: the place, and what is shown there.
+/// The key by which findings are ordered: the place, then the line that is shown.
 #[derive(PartialEq, Eq, PartialOrd, Ord, Drop)]
 struct Order {
     place: Option<Loc>,
     line: String,
 }
 
-/// What the host says of a policy in which this was found. One that is refused has an error at least.
+/// The report on a policy with these findings. A refused policy has at least one error, because a reader must see a reason.
 pub(crate) fn report<'a>(
     alloc: Global,
     policy: &'a WrittenPolicy,
@@ -133,7 +134,7 @@ pub(crate) fn report<'a>(
     })
 }
 
-/// Where there is no error, adds one that says so.
+/// Adds an error to a list without any, which says that no error tells the reason.
 fn explain(
     alloc: Global,
     policy: &PolicyID,
@@ -178,7 +179,7 @@ fn warnings(
     in_order(alloc, ordered)
 }
 
-/// What a map holds, in the order of its keys.
+/// The values of a map, in the order of its keys.
 fn in_order<T: Drop>(alloc: Global, ordered: BTreeMap<Order, T>) -> Result<Vec<T>, AllocError> {
     let mut all = Vec::new(alloc);
     for (_order, one) in ordered {
@@ -187,7 +188,7 @@ fn in_order<T: Drop>(alloc: Global, ordered: BTreeMap<Order, T>) -> Result<Vec<T
     Ok(all)
 }
 
-/// An error as it is shown: its place, what stands there, and what is wrong.
+/// An error as it is shown: its place, the text that stands there, and its message.
 fn render_error(
     alloc: Global,
     policy: &WrittenPolicy,
@@ -224,7 +225,7 @@ fn one_line(alloc: Global, text: &str) -> Result<String, AllocError> {
     format!(in alloc; "{}", OneLine(text))
 }
 
-/// A text on one line, behind the place that it is about and what stands there.
+/// A text on one line, behind its place and the part of the policy that stands there.
 fn line(alloc: Global, text: &str, place: Option<Loc>, shown: &str) -> Result<String, AllocError> {
     let shown = OneLine(shown);
     let Some(Loc { start, end }) = place else {
@@ -234,7 +235,7 @@ fn line(alloc: Global, text: &str, place: Option<Loc>, shown: &str) -> Result<St
     format!(in alloc; "{start}..{end} `{part}`: {shown}")
 }
 
-/// What is said of a policy that is refused without an error.
+/// The error of a policy that is refused without one.
 fn unexplained_error(alloc: Global, policy: &PolicyID) -> Result<PolicyError, AllocError> {
     let id = Escaped(policy.text.as_str());
     Ok(PolicyError {

@@ -1,4 +1,4 @@
-//! What an authoriser answers of policies, over a store and over parts of it: laws, each on a function that does nothing.
+//! The response of an authoriser over a store and over parts of it: laws, each on a function that does nothing.
 ghost use Rattle.cedar_host.specs.ResponseExamples.{ResponseExamples};
 ghost use Rattle.cedar_host.specs.Responses.{AcceptedNeedSliceAlone, ErrorsAreAllowed, ImpossibleIsNeverSatisfied, ResponsesNeedSliceAlone, TypedResponsesAreTheSame};
 

@@ -15,7 +15,7 @@ use std::collections::BTreeSet;
 /// `wanted`, and hands in the ids inside them, until none is wanted.
 ///
 /// There are at most as many rounds as steps. Of every store whose entries hold no id beyond those that
-/// were handed in for them, what was loaded has the slice (clause `slices` of `into_ids`).
+/// were handed in for them, the loaded part has the slice (clause `slices` of `into_ids`).
 #[derive(Debug, Drop)]
 pub struct Rounds {
     ids: BTreeSet<EntityUID>,
@@ -59,15 +59,15 @@ impl Rounds {
         &self.wanted
     }
 
-    /// Whether no step is left behind this round: its entries are loaded, but what they hold is not asked.
+    /// Whether no step is left behind this round: its entries are loaded, but the ids that they hold are not asked.
     pub fn is_last(&self) -> bool
         ensures { IsTrue result ↔ (left_in self.now ≡ 0) }
     {
         self.left == 0
     }
 
-    /// The next round, where the entries of all that was wanted hold these ids, in their attributes and in
-    /// their tags, at any depth and in any order. More may be handed in than is held, and is then found too.
+    /// The next round, if the entries of all wanted ids hold these ids, in their attributes and in their tags,
+    /// at any depth and in any order. You may hand in more ids than they hold, and these are then found too.
     /// In the last round nothing is looked at. Where memory is refused, the answer is an `AllocError`, and
     /// the rounds are gone.
     pub fn hand_in(self, alloc: Global, held: &[EntityUID]) -> Result<Rounds, AllocError>

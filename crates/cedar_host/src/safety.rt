@@ -1,4 +1,4 @@
-//! The modes of a host, and what the promise of a check gives to it.
+//! The modes of a host, and the promise of a check in each.
 ghost use Rattle.std.specs.Prelude.{◌≡◌, true, IfOk};
 ghost use Rattle.cedar_types.specs.Environments.RequestEnvs.{env_of};
 ghost use Rattle.cedar_types.specs.Templates.{template_of};
@@ -11,13 +11,13 @@ use cedar_types::types::request_env::RequestEnv;
 use cedar_typing::typecheck::{PolicyCheck, Typechecker};
 use std::alloc::{AllocError, Global};
 
-/// A mode in which validation promises something of evaluation. Partial, of which nothing is promised,
-/// is none of them.
+/// A mode in which validation makes a promise about evaluation. Partial is left out, because nothing is
+/// promised in it.
 #[derive(Clone, Copy, PartialEq, Eq, Debug)]
 pub enum SoundMode {
-    /// Types that meet have to agree.
+    /// Types that meet, for example in the branches of an `if`, must agree.
     Strict,
-    /// Entity types that meet unite, and records that meet keep what they share.
+    /// Entity types that meet unite, and records that meet keep the attributes that they share.
     Permissive,
 }
 
@@ -35,7 +35,7 @@ impl From<SoundMode> for ValidationMode {
     }
 }
 
-/// What types policies by a validator's schema and functions, in this mode.
+/// The typechecker by a validator's schema and functions, in this mode.
 pub(crate) fn typechecker_in<'a, C: ArgumentCheck>(
     validator: &'a Validator<'_, C>,
     mode: SoundMode,
@@ -47,8 +47,8 @@ pub(crate) fn typechecker_in<'a, C: ArgumentCheck>(
     Typechecker::new(schema, extensions, ValidationMode::from(mode))
 }
 
-/// Whether a policy is a success in this environment of the schema: exactly where its check is one
-/// (clause `exact`). Where it is, its evaluation on what conforms does not go wrong (clause `safe`).
+/// Whether the check of a policy in this environment of the schema is a success (clause `exact`). Then
+/// its evaluation on conforming data does not go wrong (clause `safe`).
 /// Where memory is refused, the answer is an `AllocError`.
 pub fn is_safe_in<C: ArgumentCheck>(
     alloc: Global,

@@ -22,20 +22,21 @@ use cedar_types::base::{
 use std::alloc::{AllocError, Global};
 use std::collections::{BTreeMap, BTreeSet};
 
-/// What the host says of a policy that it evaluates over slices.
+/// A host's report on a policy that it evaluates over slices.
 #[derive(Debug, Drop)]
 pub struct SliceReport<'a> {
-    /// The report as of any policy; it is accepted only where it needs no more than the slice.
+    /// The report as on any policy. The policy is accepted only if it needs no more than the slice.
     pub report: PolicyReport<'a>,
-    /// The least steps at which it has no level error; `None` where there is no such number.
+    /// The required level: the least number of steps at which the policy has no level error; `None` if no number is
+    /// enough.
     pub level: Option<EntityDerefLevel>,
 }
 
-/// A report on each policy of the set, checked in this mode, for slices of `steps` steps. Those that
-/// are accepted do not go wrong and need the slice alone, and those that are impossible are never
-/// true. So an authoriser that has the accepted ones, each under a name, with an effect and with its
-/// slots bound, answers a request over such a slice as over the whole store (clause `responses`). A
-/// policy is accepted exactly where its checks, the passes over its names and its levels find nothing,
+/// Validates each policy of the set in this mode, for slices of `steps` steps, and reports on each.
+/// Accepted policies do not go wrong and need the slice alone, and impossible ones are never true
+/// (clause `right`). So an authoriser that has the accepted ones, each under a name, with an effect and
+/// with its slots bound, answers a request over such a slice as over the whole store (clause
+/// `responses`). A policy is accepted exactly where its checks, the passes over its names and its levels find nothing,
 /// and a report that refuses one lists an error (clause `exact`). Where memory is refused, the answer
 /// is an `AllocError`.
 pub fn validate_for_slices<'a, C: ArgumentCheck>(
@@ -64,7 +65,8 @@ pub fn validate_for_slices<'a, C: ArgumentCheck>(
     Ok(reports)
 }
 
-/// The least steps at which no policy of these reports has a level error; `None` where there is no such number.
+/// The required level of a set: the least number of steps at which no policy of these reports has a level error; `None` if no
+/// number is enough.
 pub fn level_of(reports: &[SliceReport<'_>]) -> Option<EntityDerefLevel>
     ensures { IsLevelOfAll (map level_in reports.now) (option_map (λ l. l.level) result) }
 {
@@ -80,9 +82,10 @@ pub fn level_of(reports: &[SliceReport<'_>]) -> Option<EntityDerefLevel>
     Some(EntityDerefLevel { level: greatest })
 }
 
-/// What is found in a policy, and where it dereferences more than `steps` entities, one after another.
-/// Each environment is typed once. It is accepted exactly where neither its checks, nor its names, nor
-/// its levels have an error, and each error is listed (clause `exact`). Where memory is refused, the
+/// The findings in a policy, with a level error for each place where it dereferences more than `steps`
+/// entities, one after another. Each environment is typed once, because one survey answers both. The
+/// policy is accepted exactly where neither its checks, nor its names, nor its levels have an error, and
+/// each error is listed (clause `exact`). Where memory is refused, the
 /// answer is an `AllocError`.
 pub fn validate_within<C: ArgumentCheck>(
     alloc: Global,

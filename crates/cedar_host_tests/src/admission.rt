@@ -63,7 +63,7 @@ fn view_by(alloc: Global, principal: EntityUID) -> Result<Request, AllocError> {
     })
 }
 
-/// What is answered of one policy that is accepted for slices of one step, in a view by this principal.
+/// The answer on one policy that is accepted for slices of one step, in a view by this principal.
 fn admitted<'a, C: ArgumentCheck>(
     alloc: Global,
     validator: &'a Validator<'a, C>,
@@ -78,7 +78,7 @@ fn admitted<'a, C: ArgumentCheck>(
     Ok(answer)
 }
 
-/// What is answered of the policy of documents by their contact, in a view by this principal.
+/// The answer on the policy of documents by their contact, in a view by this principal.
 fn by_contact_admitted(
     alloc: Global,
     principal: EntityUID,
@@ -186,7 +186,7 @@ fn a_template_is_added_with_its_links_alone(rt: HostRuntime) -> Result<(), Fail>
     Ok(())
 }
 
-/// What is answered of a view over the store by each of two principals.
+/// The answers on a view over the store by each of two principals.
 fn views_are_let_in<C: ArgumentCheck>(
     rt: &impl Abort,
     alloc: Global,
@@ -240,7 +240,7 @@ fn requests_are_let_in_over_a_store_that_was_checked(rt: HostRuntime) -> Result<
     Ok(())
 }
 
-/// What is answered of a policy that is validated at once, for slices of so many steps, in a view by alice.
+/// The answer on a policy that is validated at once, for slices of so many steps, in a view by alice.
 fn validated(
     alloc: Global,
     template: &Template,

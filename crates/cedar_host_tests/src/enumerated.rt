@@ -1,4 +1,4 @@
-// What the host says of a policy that names an id which its enumerated type does not list.
+// The host's report on a policy that names an id which its enumerated type does not list.
 use crate::embedding::policies::permit_when;
 use crate::wanted::{IMPOSSIBLE, REFUSED, Want, alone, are_said};
 use cedar_host::policy_sets::validate_set;

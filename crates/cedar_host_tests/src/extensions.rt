@@ -1,4 +1,4 @@
-// Which texts the functions of Cedar read, and what a gate says of a policy with another.
+// The texts that the functions of Cedar read, and a gate's findings on a policy with another.
 use crate::embedding::policies::permit_when;
 use crate::embedding::schemas::documents;
 use crate::wanted::{REFUSED, Want, alone, are_said};
@@ -29,7 +29,7 @@ pub fn cedar_functions(alloc: Global) -> Result<ExtensionSchemas, Fail> {
     Ok(ExtensionSchemas::new(functions, overloaded_types(alloc)?)?)
 }
 
-/// Cedar's functions, each with the types of what it takes and gives.
+/// Cedar's functions, each with the types that it takes and the type that it gives.
 const SIGNATURES: &[(&str, &str)] = &[
     ("ip", "(String) -> ipaddr"),
     ("decimal", "(String) -> decimal"),
@@ -55,7 +55,7 @@ const SIGNATURES: &[(&str, &str)] = &[
     ("toDays", "(duration) -> Long"),
 ];
 
-/// What a function takes and gives.
+/// The types that a function takes and gives.
 fn signature(alloc: Global, function: &ExtensionFunctionType) -> Result<String, AllocError> {
     let mut shown = String::from_str(alloc, "(")?;
     for (index, ty) in function.argument_types.iter().enumerate() {

@@ -13,6 +13,8 @@ mod enumerated;
 #[cfg(test)]
 mod extensions;
 #[cfg(test)]
+mod ids;
+#[cfg(test)]
 mod loading;
 pub mod memory;
 #[cfg(test)]

@@ -1,4 +1,4 @@
-// Which ids a host finds in a small store, and how often it asks for what an entity holds.
+// The ids that a host finds in a small store, and how often it asks for those that an entity holds.
 use crate::memory::{Linked, Memory};
 use cedar_host::loading::ids_within;
 use cedar_types::base::{EntityType, EntityUID, Name};
@@ -53,7 +53,7 @@ pub fn memory(alloc: Global) -> Result<Memory, AllocError> {
     })
 }
 
-/// What is found within so many steps of `ann`, and how often the store is asked.
+/// The ids that are found within so many steps of `ann`, and how often the store is asked.
 const WANTED: [(u32, &[&str], i64); 6] = [
     (0, &[], 0),
     (1, &["ann"], 0),
@@ -145,7 +145,7 @@ fn what_many_hold_is_not_gathered(rt: HostRuntime) -> Result<(), Fail> {
     };
     let ids = ids_within(alloc, &memory, users.as_slice().get(..1).unwrap_or(&[]), 3)?;
     assert_eq!(rt; ids.len(), MANY);
-    // the store has MANY times MANY, and what is found is a few times MANY
+    // the store has MANY times MANY, and a few times MANY are found
     let most = memory.most.get();
     assert!(rt; most < MANY * MANY + 8 * MANY, "{most}");
     Ok(())

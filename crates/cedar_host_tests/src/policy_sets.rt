@@ -1,4 +1,4 @@
-// What the host says of a set of policies.
+// The host's reports on a set of policies.
 use crate::embedding::policies::{
     APPROVED_SHARING, BY_A_DOCUMENT, FROM_NOWHERE, FROM_RANGE, HAUNTED, MISSPELT, OF_EITHER,
     OF_ONE_USER, UNGUARDED, approved_sharing, by_a_document, from_nowhere, from_range, haunted,

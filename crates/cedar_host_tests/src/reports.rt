@@ -1,4 +1,4 @@
-// What a host keeps of its reports: errors with their places, and reports without the policies; and what it says of a set.
+// Kept reports: errors with their places, and reports without the policies; and the host's reports on a set.
 use crate::embedding::policies::{by_its_contact, by_their_contact, permit_when, unguarded};
 use crate::embedding::schemas::documents;
 use crate::wanted::{add, alone};
@@ -30,7 +30,7 @@ fn twice_unguarded(alloc: Global) -> Result<Template, AllocError> {
     permit_when(alloc, "", Expr::is_eq(alloc, second, first)?)
 }
 
-/// What is kept of the report on this policy alone, when the policy has gone.
+/// The report on this policy alone that is kept when the policy has gone.
 fn keep(alloc: Global, policy: Template) -> Result<Vec<KeptReport>, SchemaError> {
     let policies = alone(alloc, policy, "")?;
     let extensions = ExtensionSchemas::default(alloc);

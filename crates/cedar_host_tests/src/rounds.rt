@@ -7,10 +7,10 @@ use std::alloc::{AllocError, Global};
 use std::process::Abort;
 use std::test::Fail;
 
-/// What is wanted in each round, where `ann` is the start: what is reached in no step, in one, in two, and in three.
+/// The ids that each round wants if `ann` is the start: those reached in no step, in one, in two, and in three.
 const ROUNDS: [&[&str]; 4] = [&["ann"], &["bob", "cal"], &["dan"], &["gil"]];
 
-/// What is reached from `ann` within so many steps.
+/// The ids that are reached from `ann` within so many steps.
 const WITHIN: [(u32, &[&str]); 6] = [
     (0, &[]),
     (1, &["ann"]),
@@ -33,7 +33,7 @@ impl From<AllocError> for LoadError {
     }
 }
 
-/// What these entities hold, by one query, which is closed to `gil`.
+/// The ids that these entities hold, by one query, which is closed to `gil`.
 fn query(alloc: Global, wanted: &[EntityUID]) -> Result<Vec<EntityUID>, LoadError> {
     if wanted.iter().any(|id| id.eid.as_str() == "gil") {
         return Err(LoadError::Closed);
@@ -57,7 +57,7 @@ fn are_wanted(
     Ok(())
 }
 
-/// The ids of a slice, where the last round is not asked what it holds.
+/// The ids of a slice, if the last round is not asked for the ids that it holds.
 fn load(alloc: Global, steps: u32) -> Result<usize, LoadError> {
     let mut rounds = Rounds::begin(alloc, &users(alloc, &["ann"])?, steps)?;
     for _round in 1..steps {

@@ -1,4 +1,4 @@
-// What the host says of a set of policies that it evaluates over slices.
+// The host's reports on a set of policies that it evaluates over slices.
 use crate::embedding::policies::{
     APPROVED_SHARING, BY_ITS_CONTACT, BY_THEIR_CONTACT, MISSPELT, UNGUARDED, approved_sharing,
     by_its_contact, by_their_contact, misspelt, unguarded,
@@ -121,7 +121,7 @@ fn are_said(
     Ok(())
 }
 
-/// What is said for slices of no step, of one and of two, in each mode.
+/// The reports for slices of no step, of one and of two, in each mode.
 const SAID: [(SoundMode, u32, &[Want]); 6] = [
     (SoundMode::Strict, 0, WITHOUT_STEPS),
     (SoundMode::Strict, 1, WITH_ONE),

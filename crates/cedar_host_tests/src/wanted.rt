@@ -1,4 +1,4 @@
-// What the host has to say of a policy, and whether it does.
+// The report that the host should give on a policy, and whether it does.
 use crate::embedding::policies::permit_when;
 use cedar_host::policy_sets::WrittenPolicy;
 use cedar_host::reports::PolicyReport;
@@ -54,7 +54,7 @@ pub fn of_an_unknown(alloc: Global) -> Result<Template, AllocError> {
     permit_when(alloc, "", Expr::unknown(later))
 }
 
-/// What the host has to say of a policy.
+/// The report that the host should give on a policy.
 #[derive(Clone, Copy)]
 pub struct Want {
     pub is_accepted: bool,
@@ -70,7 +70,7 @@ pub const ACCEPTED: Want = Want {
     warnings: &[],
 };
 
-/// Without what is found.
+/// The report without findings.
 pub const REFUSED: Want = Want {
     is_accepted: false,
     ..ACCEPTED

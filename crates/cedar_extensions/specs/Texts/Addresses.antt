@@ -8,7 +8,7 @@ has_leading_zero [] = false
 has_leading_zero (a ∷ []) = false
 has_leading_zero (a ∷ b ∷ rest) = (a == 48) && is_ascii_digit b
 
--- what follows a number up to this, without a leading zero
+-- the rest behind a number up to this one, without a leading zero
 unfoldable pub read_count : ℕ → List ℕ → Option (List ℕ)
 read_count greatest s =
     if has_leading_zero s then None
@@ -25,7 +25,7 @@ read_ipv4 s = do
   after_c ← read_byte 46 c
   read_count 255 after_c
 
--- what follows one hex digit, or the whole without it
+-- the rest behind one hex digit, or the whole text if it does not begin with one
 abbrev pub skip_hex : List ℕ → List ℕ
 skip_hex [] = []
 skip_hex (c ∷ cs) = if is_ascii_hexdigit c then cs else c ∷ cs
@@ -40,7 +40,7 @@ abbrev pub read_next_group : Bool → List ℕ → Option (List ℕ)
 read_next_group true s = read_group s
 read_next_group false s = read_byte 58 s >>= read_group
 
--- how many groups there are, up to so many, and what follows them
+-- the number of groups at the front, up to so many, and the rest behind them
 unfoldable pub read_groups : ℕ → Bool → List ℕ → ℕ × List ℕ
 read_groups zero is_first s = (0, s)
 read_groups (suc room) is_first s =

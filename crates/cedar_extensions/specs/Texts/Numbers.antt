@@ -43,7 +43,7 @@ abbrev pub begins_with_letter : List ℕ → Bool
 begins_with_letter [] = false
 begins_with_letter (c ∷ cs) = is_ascii_alphabetic c
 
--- what follows these letters, where it is no letter
+-- the rest behind these letters, if it does not begin with a letter
 unfoldable pub read_unit : List ℕ → List ℕ → Option (List ℕ)
 read_unit [] s = if begins_with_letter s then None else Some s
 read_unit (c ∷ cs) s = read_byte c s >>= read_unit cs
@@ -55,7 +55,7 @@ read_quantity unit s = do
   rest ← read_unit unit n.1
   Some (n.0, rest)
 
--- how many milliseconds are said with this unit, which has so many, and what follows; none, where it is not there
+-- the milliseconds that a text gives in this unit, which has so many, and the rest; none if the unit is left out
 abbrev pub found_in : ℕ → List ℕ → Read ℕ → ℕ × List ℕ
 found_in milliseconds s None = (0, s)
 found_in milliseconds s (Some q) = (q.0 * milliseconds, q.1)
@@ -63,7 +63,7 @@ found_in milliseconds s (Some q) = (q.0 * milliseconds, q.1)
 unfoldable pub skip_unit : List ℕ → ℕ → List ℕ → ℕ × List ℕ
 skip_unit unit milliseconds s = found_in milliseconds s (read_quantity unit s)
 
--- the milliseconds of days, hours, minutes, seconds and milliseconds, of which each may be there, and what follows
+-- the milliseconds of days, hours, minutes, seconds and milliseconds, each of which may be left out, and the rest
 unfoldable pub milliseconds : List ℕ → ℕ × List ℕ
 milliseconds s =
     let d = skip_unit (100 ∷ []) 86400000 s in

@@ -1,4 +1,4 @@
--- What stands at the front of a text, and what follows it.
+-- Readers of the front of a text: each gives the part that it read and the rest.
 use Rattle.std.specs.Prelude.{ℕ, ◌+◌, ◌*◌, ◌-◌, ◌^◌, min, Bool, true, false, ◌&&◌, List, [], ◌∷◌, Option, Some, None, option_map, option_and_then, ◌==◌, if◌then◌else◌}
 use Rattle.std.specs.Borrow.{Bor}
 use Rattle.std.specs.Char.{is_ascii_digit}
@@ -7,7 +7,7 @@ use Rattle.std.specs.Char.{is_ascii_digit}
 abbrev pub Read : Type 0 → Type 0
 Read A = Option (A × List ℕ)
 
--- what a function read
+-- a part that a reader read
 abbrev pub read_in : {A : Type 0} → Option (A × Bor (List ℕ)) → Read A
 read_in r = option_map (λ p. (p.0, p.1.now)) r
 
@@ -29,7 +29,7 @@ abbrev pub is_all : Option (List ℕ) → Bool
 is_all None = false
 is_all (Some rest) = is_empty rest
 
--- what follows this byte
+-- the rest behind this byte
 abbrev pub read_byte : ℕ → List ℕ → Option (List ℕ)
 read_byte byte [] = None
 read_byte byte (c ∷ cs) = if c == byte then Some cs else None
@@ -44,7 +44,7 @@ digit c = c - 48
 abbrev pub in_64_bits : ℕ → ℕ
 in_64_bits n = min n (2 ^ 64 - 1)
 
--- the number that is said by the digits so far and those at the front, and what follows these; the values
+-- the number of the digits so far and those at the front, and the rest behind these; the values
 -- that a text may say are smaller than the greatest number of 64 bits
 abbrev pub number_after : ℕ → List ℕ → ℕ × List ℕ
 number_after n [] = (n, [])
@@ -66,7 +66,7 @@ read_two_digits (a ∷ []) = None
 read_two_digits (a ∷ b ∷ rest) =
     if is_ascii_digit a && is_ascii_digit b then Some (10 * digit a + digit b, rest) else None
 
--- whether there is a minus, and what follows it or is there without it
+-- whether a text begins with a minus, and the rest behind it, or the whole text without one
 abbrev pub without_minus : List ℕ → Bool × List ℕ
 without_minus [] = (false, [])
 without_minus (c ∷ cs) = if c == 45 then (true, cs) else (false, c ∷ cs)

@@ -46,7 +46,7 @@ read_three_digits (a ∷ rest) =
 abbrev pub read_fraction : List ℕ → Option (List ℕ)
 read_fraction s = read_byte 46 s >>= read_three_digits
 
--- what follows `.SSS`, or the whole without it
+-- the rest behind `.SSS`, or the whole text if it does not begin with a fraction
 abbrev pub skip_fraction : List ℕ → List ℕ
 skip_fraction s = elim (read_fraction s) [ None ↦ s | Some rest ↦ rest ]
 

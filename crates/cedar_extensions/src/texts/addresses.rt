@@ -14,7 +14,7 @@ fn has_leading_zero(s: &[u8]) -> bool
     }
 }
 
-/// What follows a number up to this, without a leading zero.
+/// The rest behind a number up to this one, without a leading zero.
 #[tactic(auto, unfolding(crate::specs::Texts::Addresses::read_count))]
 fn read_count(greatest: u64, s: &[u8]) -> Option<&[u8]>
     ensures { left_in result ≡ Address.read_count greatest s.now }
@@ -26,7 +26,7 @@ fn read_count(greatest: u64, s: &[u8]) -> Option<&[u8]>
     if number <= greatest { Some(rest) } else { None }
 }
 
-/// What follows four numbers of 8 bits with dots between them.
+/// The rest behind four numbers of 8 bits with dots between them.
 #[tactic(auto, unfolding(crate::specs::Texts::Addresses::read_ipv4))]
 fn read_ipv4(s: &[u8]) -> Option<&[u8]>
     ensures { left_in result ≡ Address.read_ipv4 s.now }
@@ -37,7 +37,7 @@ fn read_ipv4(s: &[u8]) -> Option<&[u8]>
     read_count(255, s)
 }
 
-/// What follows one hex digit, or the whole without it.
+/// The rest behind one hex digit, or the whole text if it does not begin with one.
 fn skip_hex(s: &[u8]) -> &[u8]
     ensures { result.now ≡ Address.skip_hex s.now }
 {
@@ -68,7 +68,7 @@ fn read_next_group(is_first: bool, s: &[u8]) -> Option<&[u8]>
     }
 }
 
-/// How many groups there are, up to so many, and what follows them.
+/// The number of groups at the front, up to so many, and the rest behind them.
 #[tactic(auto, unfolding(crate::specs::Texts::Addresses::read_groups))]
 fn read_groups(room: u32, is_first: bool, s: &[u8]) -> (u32, &[u8])
     ensures value { (result.0, result.1.now) ≡ Address.read_groups room is_first s.now }
@@ -84,7 +84,7 @@ fn read_groups(room: u32, is_first: bool, s: &[u8]) -> (u32, &[u8])
     (more + 1, rest)
 }
 
-/// What follows two colons, which stand for a group at least, and the groups behind them.
+/// The rest behind two colons, which stand for at least one group, and the groups behind them.
 #[tactic(auto, unfolding(crate::specs::Texts::Addresses::read_tail))]
 fn read_tail(head: u32, s: &[u8]) -> Option<&[u8]>
     ensures { left_in result ≡ Address.read_tail head s.now }
@@ -94,7 +94,7 @@ fn read_tail(head: u32, s: &[u8]) -> Option<&[u8]>
     Some(rest)
 }
 
-/// What follows eight groups, or fewer with two colons among them.
+/// The rest behind eight groups, or behind fewer with two colons among them.
 #[tactic(auto, unfolding(crate::specs::Texts::Addresses::read_ipv6))]
 fn read_ipv6(s: &[u8]) -> Option<&[u8]>
     ensures { left_in result ≡ Address.read_ipv6 s.now }

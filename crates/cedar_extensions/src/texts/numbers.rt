@@ -80,7 +80,7 @@ fn begins_with_letter(s: &[u8]) -> bool
     }
 }
 
-/// What follows these letters, where it is no letter.
+/// The rest behind these letters, if it does not begin with a letter.
 #[tactic(auto, unfolding(crate::specs::Texts::Numbers::read_unit))]
 fn read_unit<'a>(unit: &[u8], s: &'a [u8]) -> Option<&'a [u8]>
     ensures { left_in result ≡ Number.read_unit unit.now s.now }
@@ -101,7 +101,7 @@ fn read_quantity<'a>(unit: &[u8], s: &'a [u8]) -> Option<(u64, &'a [u8])>
     Some((number, rest))
 }
 
-/// How many milliseconds are said with this unit, which has so many, and what follows; none, where it is not there.
+/// The milliseconds that a text gives in this unit, which has so many, and the rest; none if the unit is left out.
 #[tactic(auto, unfolding(crate::specs::Texts::Numbers::skip_unit))]
 fn skip_unit<'a>(unit: &[u8], milliseconds: u32, s: &'a [u8]) -> (u128, &'a [u8])
     ensures value { (result.0, result.1.now) ≡ Number.skip_unit unit.now milliseconds s.now }
@@ -113,7 +113,7 @@ fn skip_unit<'a>(unit: &[u8], milliseconds: u32, s: &'a [u8]) -> (u128, &'a [u8]
     }
 }
 
-/// The milliseconds of days, hours, minutes, seconds and milliseconds, of which each may be there, and what follows.
+/// The milliseconds of days, hours, minutes, seconds and milliseconds, each of which may be left out, and the rest.
 #[tactic(auto, unfolding(crate::specs::Texts::Numbers::milliseconds))]
 fn milliseconds(s: &[u8]) -> (u128, &[u8])
     ensures { (result.0, result.1.now) ≡ Number.milliseconds s.now }

@@ -1,9 +1,9 @@
-// What stands at the front of a text, and what follows it.
+// Readers of the front of a text: each answers the part that it read and the rest.
 ghost use Rattle.std.specs.Prelude.{◌≡◌, ◌<◌, IfSome};
 ghost use Rattle.cedar_extensions.specs.Texts.Readers.{read_in, left_in, begins_with_digit};
 ghost use Rattle.cedar_extensions.specs.Texts.Readers as Reader;
 
-/// What follows this byte.
+/// The rest behind this byte.
 pub(crate) fn read_byte(s: &[u8], byte: u8) -> Option<&[u8]>
     ensures { left_in result ≡ Reader.read_byte byte s.now }
 {
@@ -73,7 +73,7 @@ pub(crate) fn read_two_digits(s: &[u8]) -> Option<(u64, &[u8])>
     }
 }
 
-/// Whether there is a minus, and what follows it or is there without it.
+/// Whether a text begins with a minus, and the rest behind it, or the whole text without one.
 pub(crate) fn without_minus(s: &[u8]) -> (bool, &[u8])
     ensures { (result.0, result.1.now) ≡ Reader.without_minus s.now }
 {

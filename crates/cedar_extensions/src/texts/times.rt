@@ -26,7 +26,7 @@ fn days_of(year: u64, month: u64) -> u64
     }
 }
 
-/// What follows `YYYY-MM-DD`, of a day that there is.
+/// The rest behind `YYYY-MM-DD`, if the calendar has that day.
 #[tactic(auto, unfolding(crate::specs::Texts::Times::read_date))]
 fn read_date(s: &[u8]) -> Option<&[u8]>
     ensures { left_in result ≡ Time.read_date s.now }
@@ -42,7 +42,7 @@ fn read_date(s: &[u8]) -> Option<&[u8]>
     }
 }
 
-/// What follows `hh:mm:ss`, of a day.
+/// The rest behind `hh:mm:ss`, if a day has that second.
 #[tactic(auto, unfolding(crate::specs::Texts::Times::read_clock))]
 fn read_clock(s: &[u8]) -> Option<&[u8]>
     ensures { left_in result ≡ Time.read_clock s.now }
@@ -57,7 +57,7 @@ fn read_clock(s: &[u8]) -> Option<&[u8]>
     }
 }
 
-/// What follows three digits.
+/// The rest behind three digits.
 fn read_three_digits(s: &[u8]) -> Option<&[u8]>
     ensures { left_in result ≡ Time.read_three_digits s.now }
 {
@@ -70,14 +70,14 @@ fn read_three_digits(s: &[u8]) -> Option<&[u8]>
     }
 }
 
-/// What follows `.SSS`.
+/// The rest behind `.SSS`.
 fn read_fraction(s: &[u8]) -> Option<&[u8]>
     ensures { left_in result ≡ Time.read_fraction s.now }
 {
     read_three_digits(read_byte(s, b'.')?)
 }
 
-/// What follows `.SSS`, or the whole without it.
+/// The rest behind `.SSS`, or the whole text if it does not begin with a fraction.
 fn skip_fraction(s: &[u8]) -> &[u8]
     ensures { result.now ≡ Time.skip_fraction s.now }
 {
@@ -87,7 +87,7 @@ fn skip_fraction(s: &[u8]) -> &[u8]
     }
 }
 
-/// What follows `hhmm`, of less than a day.
+/// The rest behind `hhmm`, if it is less than a day.
 #[tactic(auto, unfolding(crate::specs::Texts::Times::read_offset))]
 fn read_offset(s: &[u8]) -> Option<&[u8]>
     ensures { left_in result ≡ Time.read_offset s.now }

@@ -30,7 +30,7 @@ pub fn ids_in_rounds<E: Entities>(
     Ok(rounds.into_ids())
 }
 
-/// What these entities hold, together. Where memory is refused, the answer is an `AllocError`.
+/// The ids that these entities hold, together. Where memory is refused, the answer is an `AllocError`.
 pub fn held_by<E: Entities>(
     alloc: Global,
     entities: &E,

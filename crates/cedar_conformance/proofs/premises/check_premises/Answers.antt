@@ -1,5 +1,6 @@
-use Rattle.std.proofs.Common.{◌∙◌, sym}
+use Rattle.std.proofs.Common.{◌∙◌, ap, sym}
 use Rattle.std.proofs.lemmas.Result.{IfErr-weaker}
+use Rattle.cedar_conformance.specs.Answers.{fault_in}
 use Rattle.cedar_conformance.proofs.MetPremises.{unmet, met, refused, not_closed, all_decided, first_behind}
 use Rattle.cedar_conformance.proofs.premises.check_premises.Goals as goal
 
@@ -28,4 +29,5 @@ pub returns-in-Err : goal.returns-in-Err
 returns-in-Err c =
     let closed = sym c.in_ok-is_external.ensures ∙ c.if-is_external.false in
     let unfit = unmet _ _ c.in-Err.is c.in_ok-check_policy.ensures.exact in
-    record { exact = refused (λ p. unfit p.well_formed); first = (closed, unfit) }
+    let found = sym c.in_ok-check_policy.ensures.fault ∙ ap fault_in c.in-Err.is in
+    record { exact = refused (λ p. unfit p.well_formed); first = (closed, unfit, found) }

@@ -4,7 +4,8 @@ use Rattle.cedar_types.specs.Schemas.Contents.{schema_of}
 use Rattle.cedar_types.specs.Values.Stores.{ConformingStore}
 use Rattle.cedar_typing.specs.Evaluation.Conformance.{has_external}
 use Rattle.cedar_conformance.specs.Entities.{store_of}
-use Rattle.cedar_conformance.proofs.MetPremises.{met, unmet, refused}
+use Rattle.cedar_conformance.specs.Premises.{AreFaultsOf}
+use Rattle.cedar_conformance.proofs.MetPremises.{met, unmet, refused, fault_of}
 use Rattle.cedar_host.specs.Accepted.{schema_by}
 use Rattle.cedar_host.proofs.checked.check_closed_store.Goals as goal
 
@@ -26,7 +27,11 @@ pub returns-in-Err : goal.returns-in-Err
 returns-in-Err g c =
     let same = ap (λ (s : ValidatorSchema). has_external (schema_of s)) c.schema-schema.ensures in
     let closed = sym same ∙ (sym c.in_ok-is_external.ensures ∙ c.if-is_external.false) in
-    let Conforms : ValidatorSchema → Type 0 = λ s. ConformingStore (schema_of s) (store_of c.args.entities.now) in
     let no = unmet _ _ c.in-Err.is c.in_ok-check_entities.ensures.exact in
-    let unfit : Conforms (schema_by c.args.policies.now) → ⊥ = λ k. no (subst Conforms (sym c.schema-schema.ensures) k) in
-    record { exact = refused (λ a. unfit a.conforming); first = (closed, unfit) }
+    let listed : AreFaultsOf c.in-Err.faults c.schema-schema.result.now c.args.entities.now = record {
+      unfit = no;
+      some = fault_of _ _ _ c.in-Err.is c.in_ok-check_entities.ensures.some;
+      there = fault_of _ _ _ c.in-Err.is c.in_ok-check_entities.ensures.there;
+    } in
+    let faults = subst (λ s. AreFaultsOf c.in-Err.faults s c.args.entities.now) c.schema-schema.ensures listed in
+    record { exact = refused (λ a. faults.unfit a.conforming); first = (closed, faults) }
