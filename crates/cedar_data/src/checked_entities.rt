@@ -7,18 +7,20 @@ ghost use Rattle.cedar_conformance.specs.Entities.{store_of};
 ghost use Rattle.cedar_json.specs.Cursors.{IsFaultWithin};
 ghost use Rattle.cedar_data.specs.Faults.{has_none};
 
-use crate::closures::{Ancestors, add_ancestors};
+use crate::closures::add_ancestors;
 use crate::collected::{Collected, ExtensionText, Faults};
 use crate::faults::{DataError, Problem};
 use crate::listed::{List, Listed};
+use crate::reached::Ancestors;
 use crate::unfit::add_unfit;
 use cedar_conformance::entities::{Entities, Entity};
 use cedar_conformance::entity_faults::EntityFault;
+use cedar_conformance::ids::Ids;
 use cedar_conformance::stores::check_entities;
-use cedar_json::value_alone;
 use cedar_types::base::{Loc, ValidatorSchema};
 use std::alloc::{AllocError, Global};
-use std::collections::{BTreeMap, BTreeSet};
+use std::collections::BTreeMap;
+use std::rc::Rc;
 
 /// What a text of entities gives.
 #[derive(Debug, Drop)]
@@ -47,9 +49,8 @@ pub fn check_entities_text(
     ensures agrees { IfOk result (λ c. is_some c.conforming ≡ has_none c.faults) }
     ensures err { IfErr result (λ e. IsFaultWithin (length text.now) e) }
 {
-    let value = value_alone(alloc, text)?;
     let mut collected = Collected::new(alloc, schema);
-    let mut list = List::read(&mut collected, &value)?;
+    let mut list = List::read(&mut collected, text)?;
     let declared = declared_ancestors(alloc, schema)?;
     add_ancestors(&mut collected, &mut list, &declared)?;
     add_unfit(&mut collected, &list)?;
@@ -96,12 +97,13 @@ fn declared_ancestors(alloc: Global, schema: &ValidatorSchema) -> Result<Ancesto
     let mut declared = BTreeMap::new(alloc);
     let actions = schema.action_ids(alloc)?;
     for action in &actions {
-        drop(declared.insert(action.name.clone()?, BTreeSet::new(alloc))?);
+        drop(declared.insert(action.name.clone()?, Ids::new(alloc))?);
     }
     for action in &actions {
+        let shared = Rc::new(alloc, action.name.clone()?)?;
         for below in action.descendants.iter() {
             if let Some(ancestors) = declared.get_mut(below) {
-                ancestors.insert(action.name.clone()?)?;
+                ancestors.share(shared.clone()?)?;
             }
         }
     }

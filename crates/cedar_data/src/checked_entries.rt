@@ -45,7 +45,7 @@ pub fn check_entry_text(
 {
     let value = value_alone(alloc, text)?;
     let mut collected = Collected::new(alloc, schema);
-    let listed = read_stored(&mut collected, &value)?;
+    let listed = read_stored(&mut collected, text, &value)?;
     if let Some(listed) = &listed {
         add_unfit_one(&mut collected, listed)?;
     }

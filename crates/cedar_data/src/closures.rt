@@ -1,16 +1,11 @@
-// The ancestors of listed entities: whatever is reached by parents.
+// The ancestors of listed entities, in topological order by Kahn's algorithm, and the circles that it leaves.
 use crate::collected::Collected;
 use crate::faults::Problem;
 use crate::listed::{List, Listed, Parent};
-use cedar_types::base::{EntityUID, Loc};
+use crate::reached::{Ancestors, Graph};
+use cedar_types::base::Loc;
 use std::alloc::{AllocError, Global};
-use std::collections::{BTreeMap, BTreeSet};
-
-/// How many ancestors the entities of a text may have, all together.
-pub const MAX_ANCESTORS: usize = 4_000_000;
-
-/// Ids by ids.
-pub(crate) type Ancestors = BTreeMap<EntityUID, BTreeSet<EntityUID>>;
+use std::collections::BTreeMap;
 
 /// Gives each entity of a list its ancestors. Actions that are not listed have those that are declared. Entities that are in a
 /// circle, or below one, get none, and each circle is listed as a mistake.
@@ -20,16 +15,14 @@ pub(crate) fn add_ancestors(
     declared: &Ancestors,
 ) -> Result<(), AllocError> {
     let mut order = Order::new(collected.alloc, list)?;
-    let mut room = MAX_ANCESTORS;
+    let mut graph = Graph::new(collected.alloc, list, declared)?;
     for _ in 0..list.entries.len() {
         let Some(at) = order.next()? else {
             break;
         };
-        let ancestors = ancestors_of(collected.alloc, list, declared, at)?;
-        let Some(left) = room.checked_sub(ancestors.len()) else {
+        let Some(ancestors) = graph.close(at)? else {
             return add_excess(collected, list, at);
         };
-        room = left;
         if let Some(listed) = list.entries.get_mut(at) {
             listed.entity.ancestors = ancestors;
         }
@@ -44,32 +37,6 @@ fn add_excess(collected: &mut Collected<'_>, list: &List<'_>, at: usize) -> Resu
         None => Loc { start: 0, end: 0 },
     };
     collected.faults.add(place, Problem::TooManyAncestors)
-}
-
-/// The parents of an entity, and what these are in.
-fn ancestors_of(
-    alloc: Global,
-    list: &List<'_>,
-    declared: &Ancestors,
-    at: usize,
-) -> Result<BTreeSet<EntityUID>, AllocError> {
-    let mut ancestors = BTreeSet::new(alloc);
-    let Some(listed) = list.entries.get(at) else {
-        return Ok(ancestors);
-    };
-    for parent in &listed.parents {
-        ancestors.insert(parent.id.clone()?)?;
-        let above = match list.get(&parent.id) {
-            Some(own) => Some(&own.entity.ancestors),
-            None => declared.get(&parent.id),
-        };
-        if let Some(above) = above {
-            for id in above.iter() {
-                ancestors.insert(id.clone()?)?;
-            }
-        }
-    }
-    Ok(ancestors)
 }
 
 /// The entities of a list, each after the listed ones that it is in.

@@ -10,12 +10,15 @@ mod collected;
 mod faults;
 mod listed;
 mod mismatches;
+mod numbers;
+mod reached;
 mod unfit;
 mod values;
+mod walks;
 
 pub use checked_entities::{CheckedEntities, check_entities_text};
 pub use checked_entries::{CheckedEntry, check_entry_text};
 pub use checked_requests::{CheckedRequest, check_request_text};
-pub use closures::MAX_ANCESTORS;
 pub use collected::{ExtensionText, Faults, MAX_FAULTS};
 pub use faults::{DataError, DataFault, Owner, Problem};
+pub use reached::MAX_ANCESTORS;

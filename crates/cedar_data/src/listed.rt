@@ -1,16 +1,41 @@
 // Entities as they are listed in a text.
+ghost use Rattle.std.specs.Prelude.{length, IfErr};
+ghost use Rattle.cedar_json.specs.Cursors.{IsFaultWithin};
+
 use crate::collected::Collected;
-use crate::faults::Problem;
+use crate::faults::{DataError, Problem};
 use crate::values::{Types, read_record};
 use cedar_conformance::entities::Entity;
+use cedar_conformance::ids::Ids;
 use cedar_conformance::values::Record;
-use cedar_json::{FormFault, Object, Value, entity_uid, items_of};
+use cedar_json::{
+    FormFault, Items, MAX_DEPTH, Object, Value, entity_uid, items_of, value_alone, value_at,
+};
 use cedar_types::base::{EntityUID, Loc, ValidatorEntityTypeKind, ValidatorSchema};
-use std::alloc::AllocError;
-use std::collections::{BTreeMap, BTreeSet};
+use std::alloc::{AllocError, Global};
+use std::collections::BTreeMap;
 
 /// The keys of an entity.
 const KEYS: [&str; 4] = ["uid", "attrs", "parents", "tags"];
+
+/// A part of a text, which is a value.
+#[derive(Clone, Copy)]
+pub(crate) struct Part<'a> {
+    pub(crate) text: &'a str,
+    /// At which byte it begins.
+    pub(crate) start: usize,
+}
+
+impl Part<'_> {
+    /// The value, which was read before; `None` where it cannot be read.
+    pub(crate) fn read_again(self, alloc: Global) -> Result<Option<Value>, AllocError> {
+        match value_at(alloc, self.text, self.start, MAX_DEPTH) {
+            Ok(value) => Ok(Some(value)),
+            Err(DataError::Memory(error)) => Err(error),
+            Err(DataError::At(_, _)) => Ok(None),
+        }
+    }
+}
 
 /// A parent of an entity, and where it is named.
 #[derive(Drop)]
@@ -25,8 +50,8 @@ pub(crate) struct Listed<'a> {
     pub(crate) id: EntityUID,
     /// Where its id stands.
     pub(crate) place: Loc,
-    /// All that is written of it.
-    pub(crate) object: Object<'a>,
+    /// All that is written of it. It is read again for its mistakes, so that those without any keep no tree of their text.
+    pub(crate) part: Part<'a>,
     pub(crate) entity: Entity,
     pub(crate) parents: Vec<Parent>,
 }
@@ -40,25 +65,39 @@ pub(crate) struct List<'a> {
 }
 
 impl<'a> List<'a> {
-    /// Reads the entities of a list, and lists what has another form than it has to have.
-    pub(crate) fn read(
-        collected: &mut Collected<'_>,
-        value: &'a Value,
-    ) -> Result<List<'a>, AllocError> {
+    /// Reads the entities of a list, and lists what has another form than it has to have. The tree of one entity is dropped
+    /// before the next one is read.
+    pub(crate) fn read(collected: &mut Collected<'_>, text: &'a str) -> Result<List<'a>, DataError>
+        ensures { IfErr result (λ e. IsFaultWithin (length text.now) e) }
+    {
         let mut list = List {
             entries: Vec::new(collected.alloc),
             places: BTreeMap::new(collected.alloc),
         };
-        let items = items_of(value);
-        let Some(items) = collected.keep(items)? else {
+        let Some(mut items) = Items::new(collected.alloc, text)? else {
+            add_no_list(collected, text)?;
             return Ok(list);
         };
-        for item in items {
-            if let Some(listed) = read_listed(collected, item)? {
-                list.add(collected, listed)?;
-            }
+        for _ in 0..text.len() {
+            let Some(item) = items.next_item()? else {
+                return Ok(list);
+            };
+            list.read_item(collected, text, &item)?;
         }
         Ok(list)
+    }
+
+    /// Adds the entity that an item of the text is.
+    fn read_item(
+        &mut self,
+        collected: &mut Collected<'_>,
+        text: &'a str,
+        item: &Value,
+    ) -> Result<(), AllocError> {
+        match read_listed(collected, text, item)? {
+            Some(listed) => self.add(collected, listed),
+            None => Ok(()),
+        }
     }
 
     /// Adds an entity, unless there is one of its id.
@@ -78,12 +117,23 @@ impl<'a> List<'a> {
     }
 }
 
+/// Lists that a text, which does not begin with an array, is no list.
+fn add_no_list(collected: &mut Collected<'_>, text: &str) -> Result<(), DataError>
+    ensures { IfErr result (λ e. IsFaultWithin (length text.now) e) }
+{
+    let value = value_alone(collected.alloc, text)?;
+    let items = items_of(&value);
+    drop(collected.keep(items)?);
+    Ok(())
+}
+
 /// Reads an entity whose parents are all that it is in. Without an id there is none.
 pub(crate) fn read_stored<'a>(
     collected: &mut Collected<'_>,
-    item: &'a Value,
+    text: &'a str,
+    item: &Value,
 ) -> Result<Option<Listed<'a>>, AllocError> {
-    let Some(mut listed) = read_listed(collected, item)? else {
+    let Some(mut listed) = read_listed(collected, text, item)? else {
         return Ok(None);
     };
     let stored = &mut listed;
@@ -93,10 +143,11 @@ pub(crate) fn read_stored<'a>(
     Ok(Some(listed))
 }
 
-/// Reads an entity. Without an id there is none.
+/// Reads an entity of a text. Without an id there is none.
 fn read_listed<'a>(
     collected: &mut Collected<'_>,
-    item: &'a Value,
+    text: &'a str,
+    item: &Value,
 ) -> Result<Option<Listed<'a>>, AllocError> {
     let object = Object::of(item);
     let Some(object) = collected.keep(object)? else {
@@ -114,14 +165,17 @@ fn read_listed<'a>(
     collected.check_id(uid.place, &id)?;
     let entity = Entity {
         attributes: read_attributes(collected, &id, object)?,
-        ancestors: BTreeSet::new(collected.alloc),
+        ancestors: Ids::new(collected.alloc),
         tags: read_tags(collected, &id, object)?,
     };
     let parents = read_parents(collected, object)?;
     Ok(Some(Listed {
         id,
         place: uid.place,
-        object,
+        part: Part {
+            text,
+            start: item.place.start,
+        },
         entity,
         parents,
     }))

@@ -6,6 +6,7 @@ use cedar_conformance::values::{Record, Value};
 use cedar_json::Object;
 use cedar_types::base::{Attributes, BoolType, CedarType, EntityKind, EntityUID, Loc, OpenTag};
 use std::alloc::{AllocError, Global};
+use std::collections::BTreeMap;
 use std::rc::RcStr;
 
 /// The mistakes of the values of an owner, and the way to the value that is looked at.
@@ -125,11 +126,12 @@ impl<'a> Mismatches<'a> {
         fields: &Record,
         object: Object<'_>,
     ) -> Result<(), AllocError> {
+        let texts = by_key(self.alloc, object)?;
         for (name, attribute) in attributes.attrs.iter() {
-            match (fields.get(name), object.get(name.as_str())) {
+            match (fields.get(name), texts.get(name)) {
                 (Some(value), Some(text)) => {
                     self.enter(Step::Attribute(name.clone()?))?;
-                    self.add_in_value(&attribute.attr_type, value, text)?;
+                    self.add_in_value(&attribute.attr_type, value, *text)?;
                     self.leave();
                 }
                 (None, None) if attribute.is_required => {
@@ -187,6 +189,18 @@ impl<'a> Mismatches<'a> {
         }
         Ok(())
     }
+}
+
+/// The values of an object by their keys, so that each attribute is found without a look at the others.
+fn by_key<'a>(
+    alloc: Global,
+    object: Object<'a>,
+) -> Result<BTreeMap<RcStr, &'a cedar_json::Value>, AllocError> {
+    let mut texts = BTreeMap::new(alloc);
+    for (key, text) in object.entries {
+        texts.insert(key.name.clone()?, text)?;
+    }
+    Ok(texts)
 }
 
 fn copy_step(step: &Step) -> Result<Step, AllocError> {

@@ -39,18 +39,22 @@ fn add_problems(
     listed: &Listed<'_>,
     problem: EntityProblem,
 ) -> Result<(), AllocError> {
+    let written = listed.part.read_again(collected.alloc)?;
+    let Some(object) = written.as_ref().and_then(|it| Object::of(it).ok()) else {
+        return add_problem(collected, listed, listed.place, problem);
+    };
     match &problem {
         EntityProblem::Attribute(_)
         | EntityProblem::Tag(_)
         | EntityProblem::UndeclaredTags
         | EntityProblem::Ancestor(_) => {
-            add_in_attributes(collected, listed)?;
-            add_in_tags(collected, listed)?;
+            add_in_attributes(collected, listed, object)?;
+            add_in_tags(collected, listed, object)?;
             add_in_parents(collected, listed)
         }
-        EntityProblem::UndeclaredAncestor(_) => add_in_action(collected, listed, problem),
+        EntityProblem::UndeclaredAncestor(_) => add_in_action(collected, listed, object, problem),
         _ => {
-            let place = place_of(listed, &problem);
+            let place = place_of(listed, object, &problem);
             add_problem(collected, listed, place, problem)
         }
     }
@@ -68,20 +72,20 @@ fn add_problem(
 }
 
 /// Where an entity is not as the schema says.
-fn place_of(listed: &Listed<'_>, problem: &EntityProblem) -> Loc {
+fn place_of(listed: &Listed<'_>, object: Object<'_>, problem: &EntityProblem) -> Loc {
     match problem {
-        EntityProblem::HasAttributes => place_of_key(listed, "attrs"),
-        EntityProblem::HasTags => place_of_key(listed, "tags"),
-        EntityProblem::UndeclaredTags => place_of_key(listed, "tags"),
-        EntityProblem::HasAncestors => place_of_key(listed, "parents"),
-        EntityProblem::MissingAncestor(_) => place_of_key(listed, "parents"),
+        EntityProblem::HasAttributes => place_of_key(listed, object, "attrs"),
+        EntityProblem::HasTags => place_of_key(listed, object, "tags"),
+        EntityProblem::UndeclaredTags => place_of_key(listed, object, "tags"),
+        EntityProblem::HasAncestors => place_of_key(listed, object, "parents"),
+        EntityProblem::MissingAncestor(_) => place_of_key(listed, object, "parents"),
         _ => listed.place,
     }
 }
 
 /// Where a key of an entity stands, or else its id.
-fn place_of_key(listed: &Listed<'_>, name: &str) -> Loc {
-    for (key, _) in listed.object.entries {
+fn place_of_key(listed: &Listed<'_>, object: Object<'_>, name: &str) -> Loc {
+    for (key, _) in object.entries {
         if key.name.as_str() == name {
             return key.place;
         }
@@ -89,8 +93,12 @@ fn place_of_key(listed: &Listed<'_>, name: &str) -> Loc {
     listed.place
 }
 
-fn add_in_attributes(collected: &mut Collected<'_>, listed: &Listed<'_>) -> Result<(), AllocError> {
-    let Some(object) = object_at(listed.object, "attrs") else {
+fn add_in_attributes(
+    collected: &mut Collected<'_>,
+    listed: &Listed<'_>,
+    object: Object<'_>,
+) -> Result<(), AllocError> {
+    let Some(attrs) = object_at(object, "attrs") else {
         return Ok(());
     };
     let Types::Attributes(attributes) = attribute_types(collected.schema, &listed.id) else {
@@ -100,23 +108,27 @@ fn add_in_attributes(collected: &mut Collected<'_>, listed: &Listed<'_>) -> Resu
     let closed = OpenTag::ClosedAttributes;
     let alloc = collected.alloc;
     let mut found = Mismatches::new(alloc, &mut collected.faults, Some(&listed.id));
-    found.add_in_record(attributes, closed, fields, object)
+    found.add_in_record(attributes, closed, fields, attrs)
 }
 
-fn add_in_tags(collected: &mut Collected<'_>, listed: &Listed<'_>) -> Result<(), AllocError> {
-    let Some(object) = object_at(listed.object, "tags") else {
+fn add_in_tags(
+    collected: &mut Collected<'_>,
+    listed: &Listed<'_>,
+    object: Object<'_>,
+) -> Result<(), AllocError> {
+    let Some(written) = object_at(object, "tags") else {
         return Ok(());
     };
     let tags = &listed.entity.tags;
     if let Types::Tags(ty) = tag_types(collected.schema, &listed.id) {
         let alloc = collected.alloc;
         let mut found = Mismatches::new(alloc, &mut collected.faults, Some(&listed.id));
-        return found.add_in_tags(ty, tags, object);
+        return found.add_in_tags(ty, tags, written);
     }
     if tags.is_empty() {
         return Ok(());
     }
-    let place = place_of_key(listed, "tags");
+    let place = place_of_key(listed, object, "tags");
     add_problem(collected, listed, place, EntityProblem::UndeclaredTags)
 }
 
@@ -147,6 +159,7 @@ fn may_be_in(schema: &ValidatorSchema, id: &EntityUID, parent: &EntityUID) -> bo
 fn add_in_action(
     collected: &mut Collected<'_>,
     listed: &Listed<'_>,
+    object: Object<'_>,
     problem: EntityProblem,
 ) -> Result<(), AllocError> {
     let mut is_found = false;
@@ -160,7 +173,7 @@ fn add_in_action(
     if is_found {
         return Ok(());
     }
-    let place = place_of_key(listed, "parents");
+    let place = place_of_key(listed, object, "parents");
     add_problem(collected, listed, place, problem)
 }
 

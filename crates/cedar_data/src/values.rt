@@ -22,6 +22,7 @@ pub(crate) fn read_value(
     match &value.kind {
         ValueKind::Boolean(truth) => Ok(Value::Bool(*truth)),
         ValueKind::Integer(number) => Ok(Value::Long(*number)),
+        ValueKind::Null => Err(expected(value, "a value")),
         ValueKind::Text(text) => text_or_extension(collected, value, text, ty),
         ValueKind::Array(items) => read_set(items, collected, element_type(ty)),
         ValueKind::Object(entries) => match object_form(value, ty)? {

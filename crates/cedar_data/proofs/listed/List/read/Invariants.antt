@@ -1,0 +1,6 @@
+use Rattle.std.proofs.Common.{◌≡◌}
+use Rattle.cedar_data.proofs.listed.List.read.Given as goal
+
+-- the items that are read are those of the text
+abbrev pub invariant-loop : goal.invariant-loop
+invariant-loop l = l.items.cursor.text.now ≡ l.fn.text
