@@ -4,6 +4,7 @@ use crate::notes::Notes;
 use crate::tokens::{Token, TokenKind, token_from};
 use cedar_types::base::Loc;
 use std::alloc::Global;
+use std::mem;
 
 /// How deep the parts of a text may stand inside each other: of an expression its nodes, and also the brackets and operators
 /// that are begun at a place; of a type the steps of the grammar.
@@ -11,9 +12,6 @@ pub const MAX_GRAMMAR_STEPS: usize = 800;
 
 /// How many bytes a text may have.
 pub const MAX_LENGTH: usize = 1 << 26;
-
-/// How many tokens of aliases may be read more than once.
-const MAX_REPEATED: usize = 1 << 20;
 
 /// Reads the tokens of a text, one after another.
 #[derive(Drop)]
@@ -24,7 +22,7 @@ pub struct Cursor<'a> {
     next: Token<'a>,
     /// Where the token before it ended.
     end: usize,
-    /// How many tokens were read, those of aliases included.
+    /// How many tokens were read.
     tokens: usize,
     /// Where the last operand ended that stands in the tree twice.
     copied: usize,
@@ -106,19 +104,15 @@ impl<'a> Cursor<'a> {
         self.whole_end
     }
 
-    /// Counts what was read elsewhere in the text. Fails where that is too much, as of aliases that stand for others again
-    /// and again.
-    pub fn count(&mut self, other: &Cursor<'_>) -> Result<(), ReadError> {
-        self.tokens = other.tokens;
-        if self.has_repeated_much() {
-            return Err(self.fault(Fault::TooLarge));
-        }
-        Ok(())
+    /// How many tokens were read.
+    pub fn tokens(&self) -> usize {
+        self.tokens
     }
 
-    /// Whether more was read than the text and what may be read again.
-    pub fn has_repeated_much(&self) -> bool {
-        self.tokens > self.text.len().saturating_add(MAX_REPEATED)
+    /// The faults that were noted so far. No more are noted then.
+    pub fn take_notes(&mut self) -> Notes {
+        let none = Notes::new(self.alloc, false);
+        mem::replace(&mut self.notes, none)
     }
 
     /// Whether an operand may stand in the tree twice: if nothing in it does.

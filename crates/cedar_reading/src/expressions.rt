@@ -100,17 +100,24 @@ fn begin_with_mark(
     }
 }
 
-/// Reads what stands behind a minus, which stands at this byte: a minus before a number belongs to the number.
+/// Reads what stands behind a minus, which stands at this byte: a minus before a number belongs to the number, unless the number
+/// is a member's: `-5.x` is `-(5.x)`.
 fn behind_minus(
     cursor: &mut Cursor<'_>,
     open: &mut Vec<Open>,
     start: usize,
 ) -> Result<Next, ReadError> {
-    if cursor.peek().kind != TokenKind::Number {
+    let token = cursor.peek();
+    if token.kind != TokenKind::Number || is_before_member(&cursor.at(token.place.end)) {
         return begin(open, Open::Prefix(Prefix::Minus, start));
     }
     let whole = negative_number(cursor, start)?;
     Ok(Next::Behind(leaf_since(cursor, start, whole), Level::Product))
+}
+
+/// Whether an access or a call of a method comes next.
+fn is_before_member(cursor: &Cursor<'_>) -> bool {
+    cursor.is_at(".") || cursor.is_at("[")
 }
 
 /// Reads the beginning of an operand that begins with a word. An `if` may only begin a whole expression.

@@ -3,7 +3,7 @@
 use crate::cursor::{Cursor, MAX_GRAMMAR_STEPS};
 use crate::faults::{Expected, Fault, ReadError};
 use crate::names::{PlacedName, placed_name};
-use crate::schemas::actions::{application_to_nothing, empty_record};
+use crate::schemas::applications::{application_to_nothing, empty_record};
 use crate::schemas::closed::{copy_of_action_kind, copy_of_kind};
 use crate::schemas::entity_types::ids;
 use crate::schemas::lists::{Listing, one_or_in_brackets};

@@ -32,8 +32,8 @@ pub use given::{declarations_as_given, schema_as_given};
 pub use policies::{Policies, ReadPolicy};
 pub use positions::Position;
 pub use schemas::{
-    RefusedName, SchemaDeclarations, SchemaFault, SchemaReadError, refused_name, schema,
-    schema_declarations, schema_faults, shadowing_name,
+    ReadSchema, RefusedName, SchemaDeclarations, SchemaFault, SchemaReadError, refused_name,
+    schema, schema_declarations, schema_faults, schema_with_hiding, shadowing_name,
 };
 pub use scopes::{condition, name_alone, policy, scope_alone, uid_alone, whole_policy};
 pub use shown_types::type_alone;

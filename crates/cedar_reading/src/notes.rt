@@ -1,6 +1,8 @@
 // Faults behind which reading goes on.
 use crate::faults::{Expected, Fault, ReadError};
+use crate::schemas::written::{Mention, Role, WrittenName};
 use std::alloc::{AllocError, Global};
+use std::mem;
 
 /// A fault that was met.
 #[derive(Clone, Copy, PartialEq, Eq, Debug)]
@@ -45,6 +47,8 @@ pub struct Notes {
     /// The byte at which the name of the alias stands whose type is read.
     alias: Option<usize>,
     uses: Vec<AliasUse>,
+    /// The names that were read of the declaration that is read.
+    mentions: Vec<Mention>,
 }
 
 impl Notes {
@@ -55,6 +59,7 @@ impl Notes {
             met: Vec::new(alloc),
             alias: None,
             uses: Vec::new(alloc),
+            mentions: Vec::new(alloc),
         }
     }
 
@@ -93,5 +98,20 @@ impl Notes {
             self.uses.push(AliasUse { start, user, used })?;
         }
         Ok(())
+    }
+
+    /// Notes that a name was read, where reading goes on behind a fault.
+    pub fn mention(&mut self, name: &WrittenName, role: Role) -> Result<(), AllocError> {
+        if self.are_taken {
+            let name = name.copy()?;
+            self.mentions.push(Mention { name, role })?;
+        }
+        Ok(())
+    }
+
+    /// The names that were read since this was last asked.
+    pub fn take_mentions(&mut self) -> Vec<Mention> {
+        let alloc = *self.mentions.allocator();
+        mem::replace(&mut self.mentions, Vec::new(alloc))
     }
 }

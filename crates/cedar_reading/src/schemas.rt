@@ -1,30 +1,39 @@
 // Schemas, as Cedar's own syntax has them.
-pub mod actions;
+mod actions;
 mod all_faults;
+pub mod applications;
 mod blocks;
 pub mod closed;
 mod cycles;
 mod declarations;
 mod descendants;
 pub mod entity_types;
+mod expansions;
 mod groups;
+mod language;
 pub mod lists;
 mod meanings;
+mod meant_declarations;
+mod meant_types;
 mod recovery;
 mod refusals;
 mod reserved;
 mod shadows;
 mod types;
 mod unsure;
+pub mod written;
 
+use crate::cursor::Cursor;
 use crate::faults::ReadError;
 pub use all_faults::{SchemaFault, schema_faults};
-use blocks::all_declarations;
+use blocks::written_declarations;
 use cedar_types::base::{SchemaError, ValidatorActionId, ValidatorEntityType, ValidatorSchema};
 use closed::{closed_actions, closed_types};
 use declarations::Declarations;
-use meanings::Names;
+use expansions::Expansions;
+use meant_declarations::{Named, with_meanings};
 pub use refusals::{RefusedName, refused_name};
+use shadows::first_hiding_name;
 pub use shadows::shadowing_name;
 use std::alloc::Global;
 use thiserror::Error;
@@ -56,12 +65,33 @@ impl From<SchemaError> for SchemaReadError {
     }
 }
 
+/// The schema that a text declares, and the first name in the text that hides another.
+#[derive(Drop)]
+pub struct ReadSchema {
+    pub schema: ValidatorSchema,
+    /// As `shadowing_name` finds it.
+    pub hiding: Option<RefusedName>,
+}
+
 /// The schema that a text declares. It fails where the text cannot be read, where a parent in it is declared nowhere, and
 /// where `ValidatorSchema::new` refuses the declarations.
 ///
 /// Descendants are what `in` says, over any number of steps. An action without `appliesTo` applies to nothing.
 pub fn schema(alloc: Global, text: &str) -> Result<ValidatorSchema, SchemaReadError> {
     schema_of(alloc, schema_declarations(alloc, text)?)
+}
+
+/// The schema that a text declares, with the first name that hides another, in one reading. It fails as `schema` does.
+pub fn schema_with_hiding(alloc: Global, text: &str) -> Result<ReadSchema, SchemaReadError> {
+    let read = declarations_of(alloc, text, Named::Any)?;
+    let declared = closed_declarations(alloc, &read)?;
+    let hiding = match first_hiding_name(alloc, &read) {
+        Ok(hiding) => hiding,
+        Err(error) => return Err(SchemaReadError::Read(ReadError::Memory(error))),
+    };
+    drop(read);
+    let schema = schema_of(alloc, declared)?;
+    Ok(ReadSchema { schema, hiding })
 }
 
 /// The schema of these declarations.
@@ -82,19 +112,25 @@ pub struct SchemaDeclarations {
 /// What a text declares, each name on its own. It fails where the text cannot be read, and where a parent in it is declared
 /// nowhere.
 pub fn schema_declarations(alloc: Global, text: &str) -> Result<SchemaDeclarations, ReadError> {
-    let read = declarations_of(alloc, text)?;
+    closed_declarations(alloc, &declarations_of(alloc, text, Named::Any)?)
+}
+
+/// What was read, each name on its own. It fails where a parent is declared nowhere.
+fn closed_declarations(
+    alloc: Global,
+    read: &Declarations,
+) -> Result<SchemaDeclarations, ReadError> {
     read.check_parents()?;
     Ok(SchemaDeclarations {
-        entity_types: closed_types(alloc, &read)?,
-        actions: closed_actions(alloc, &read)?,
+        entity_types: closed_types(alloc, read)?,
+        actions: closed_actions(alloc, read)?,
     })
 }
 
-/// What a text declares.
-fn declarations_of(alloc: Global, text: &str) -> Result<Declarations, ReadError> {
-    // what a name means depends on what stands behind it, so the first reading only finds what is
-    // declared
-    let nothing = Declarations::new(alloc);
-    let first = all_declarations(text, Names::outside(alloc, &nothing))?;
-    all_declarations(text, Names::outside(alloc, &first))
+/// What a text declares. It is read once; then names are looked up, because what a name means depends on what stands behind it.
+fn declarations_of(alloc: Global, text: &str, named: Named) -> Result<Declarations, ReadError> {
+    let mut cursor = Cursor::new(alloc, text)?;
+    let written = written_declarations(&mut cursor)?;
+    let mut expansions = Expansions::new(alloc, text.len(), cursor.take_notes());
+    with_meanings(alloc, written, named, &mut expansions)
 }

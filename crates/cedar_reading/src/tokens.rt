@@ -1,5 +1,8 @@
 // The smallest parts of a text: words, numbers, texts in quotes, and marks.
+mod plain;
+
 use cedar_types::base::Loc;
+use plain::plain_token;
 
 /// What a token is.
 #[derive(Clone, Copy, PartialEq, Eq, Debug)]
@@ -34,6 +37,14 @@ const MARKS: [&str; 27] = [
 
 /// The first token of the text from this byte on, after blanks and comments.
 pub fn token_from(text: &str, from: usize) -> Token<'_> {
+    match plain_token(text, from) {
+        Some(token) => token,
+        None => any_token(text, from),
+    }
+}
+
+/// The first token, whatever characters it has, and whatever stands before it.
+fn any_token(text: &str, from: usize) -> Token<'_> {
     let rest = after_blanks(text.get(from..).unwrap_or(""));
     let start = text.len().saturating_sub(rest.len());
     let (kind, size) = first_of(rest);

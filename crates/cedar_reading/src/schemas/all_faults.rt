@@ -3,10 +3,10 @@ use crate::cursor::Cursor;
 use crate::faults::{Fault, ReadError};
 use crate::names::placed_name;
 use crate::notes::Met;
-use crate::schemas::blocks::declarations_behind;
+use crate::schemas::blocks::written_declarations;
 use crate::schemas::cycles::alias_cycles;
-use crate::schemas::declarations::Declarations;
-use crate::schemas::meanings::Names;
+use crate::schemas::expansions::Expansions;
+use crate::schemas::meant_declarations::{Named, with_meanings};
 use crate::schemas::refusals::{RefusedName, add_refusals};
 use crate::schemas::shadows::hiding_names;
 use cedar_types::base::SchemaError;
@@ -69,25 +69,19 @@ fn first_by_place(
 
 /// The faults of a text, in any order.
 fn unsorted_faults(alloc: Global, text: &str) -> Result<Vec<SchemaFault>, ReadError> {
-    // what is declared has to be known before names are looked up
-    let nothing = Declarations::new(alloc);
-    let outside = Names::outside(alloc, &nothing);
-    let declared = declarations_behind(&mut Cursor::noting(alloc, text)?, outside)?;
-    let names = Names {
-        have_to_be_known: true,
-        ..Names::outside(alloc, &declared)
-    };
     let mut cursor = Cursor::noting(alloc, text)?;
-    let read = declarations_behind(&mut cursor, names)?;
+    let written = written_declarations(&mut cursor)?;
+    let mut expansions = Expansions::new(alloc, text.len(), cursor.take_notes());
+    let read = with_meanings(alloc, written, Named::Declared, &mut expansions)?;
     let mut faults = Vec::new(alloc);
     for start in read.unknown_parents(alloc)? {
         faults.push(SchemaFault::Read(start, Fault::Undeclared))?;
     }
-    add_met(&cursor, &mut faults)?;
-    for start in alias_cycles(alloc, &read, cursor.notes.uses())? {
+    add_met(&cursor, expansions.notes.met(), &mut faults)?;
+    for start in alias_cycles(alloc, &read.declared, expansions.notes.uses())? {
         faults.push(SchemaFault::Read(start, Fault::TooDeep))?;
     }
-    if !read.unsure.are_all() {
+    if !read.declared.unsure.are_all() {
         add_refusals(alloc, &read, &mut faults)?;
         for name in hiding_names(alloc, &read)? {
             faults.push(SchemaFault::Hides(name))?;
@@ -97,8 +91,12 @@ fn unsorted_faults(alloc: Global, text: &str) -> Result<Vec<SchemaFault>, ReadEr
 }
 
 /// Adds the faults that reading met.
-fn add_met(cursor: &Cursor<'_>, faults: &mut Vec<SchemaFault>) -> Result<(), ReadError> {
-    for (start, met) in cursor.notes.met() {
+fn add_met(
+    cursor: &Cursor<'_>,
+    met: &[(usize, Met)],
+    faults: &mut Vec<SchemaFault>,
+) -> Result<(), ReadError> {
+    for (start, met) in met {
         let fault = match met {
             Met::Fault(fault) => SchemaFault::Read(*start, *fault),
             Met::UnknownType => {

@@ -1,86 +1,99 @@
 // The whole of a schema's text, and its namespaces.
 use crate::annotations::pass_annotations;
-use crate::cursor::Cursor;
+use crate::cursor::{Cursor, MAX_GRAMMAR_STEPS};
 use crate::faults::{Expected, Fault, ReadError};
 use crate::notes::Met;
 use crate::schemas::actions::action_declaration;
-use crate::schemas::declarations::{Alias, Declarations};
+use crate::schemas::declarations::{Declared, Written};
 use crate::schemas::entity_types::entity_declaration;
-use crate::schemas::meanings::Names;
 use crate::schemas::recovery::{go_on_behind, go_on_inside};
 use crate::schemas::reserved::{free_alias, free_word};
-use crate::schemas::types::cedar_type;
+use crate::schemas::types::written_type;
+use crate::schemas::written::{Alias, Item, Space};
 use cedar_types::base::Name;
-
-/// Reads the declarations of a text, whose names mean this outside of namespaces.
-pub fn all_declarations(text: &str, outside: Names<'_>) -> Result<Declarations, ReadError> {
-    let mut cursor = Cursor::new(outside.alloc, text)?;
-    declarations_behind(&mut cursor, outside)
-}
+use std::alloc::AllocError;
 
 /// Reads the declarations from here on. Where faults are noted, those without a fault.
-pub fn declarations_behind(
-    cursor: &mut Cursor<'_>,
-    outside: Names<'_>,
-) -> Result<Declarations, ReadError> {
-    let mut read = Declarations::new(outside.alloc);
+pub fn written_declarations<'a>(cursor: &mut Cursor<'a>) -> Result<Written<'a>, ReadError> {
+    let mut read = Written {
+        declared: Declared::new(cursor.alloc),
+        spaces: Vec::new(cursor.alloc),
+    };
     for _ in 0..cursor.most_left() {
         if cursor.is_at_end() {
             break;
         }
         let start = cursor.start();
-        let block = block(cursor, outside, &mut read);
-        go_on_behind(cursor, start, block, &mut read.unsure)?;
+        let block = block(cursor, &mut read);
+        let faulty = go_on_behind(cursor, start, block, &mut read.declared.unsure)?;
+        read.add_faulty(faulty)?;
     }
     Ok(read)
 }
 
 /// Reads a namespace, or a declaration outside of namespaces.
-fn block(
-    cursor: &mut Cursor<'_>,
-    outside: Names<'_>,
-    read: &mut Declarations,
-) -> Result<(), ReadError> {
+fn block<'a>(cursor: &mut Cursor<'a>, read: &mut Written<'a>) -> Result<(), ReadError> {
     pass_annotations(cursor)?;
     if cursor.takes("namespace") {
-        namespace(cursor, outside, read)
-    } else {
-        declaration(cursor, &outside, read)
+        return namespace(cursor, read);
     }
+    let item = declaration(cursor, &[], &mut read.declared)?;
+    read.add_outside(item)?;
+    Ok(())
 }
 
 /// Reads a namespace behind its first word.
-fn namespace(
-    cursor: &mut Cursor<'_>,
-    outside: Names<'_>,
-    read: &mut Declarations,
-) -> Result<(), ReadError> {
-    let path = match head(cursor) {
+fn namespace<'a>(cursor: &mut Cursor<'a>, read: &mut Written<'a>) -> Result<(), ReadError> {
+    let namespace = match head(cursor) {
         Ok(path) => path,
         Err(error) => {
-            if !go_on_inside(cursor, error, &mut read.unsure)? {
+            if !go_on_inside(cursor, error, &mut read.declared.unsure)? {
                 return Ok(());
             }
-            Vec::new(outside.alloc)
+            Vec::new(cursor.alloc)
         }
     };
-    let names = Names {
-        namespace: path.as_slice(),
-        ..outside
-    };
+    let mut items = Vec::new(cursor.alloc);
     for _ in 0..cursor.most_left() {
         if cursor.takes("}") {
             break;
         }
         let is_last = cursor.is_at_end();
         let start = cursor.start();
-        let declaration = declaration(cursor, &names, read);
-        go_on_behind(cursor, start, declaration, &mut read.unsure)?;
+        let read_item = add_declaration(
+            cursor,
+            namespace.as_slice(),
+            &mut read.declared,
+            &mut items,
+        );
+        let faulty = go_on_behind(cursor, start, read_item, &mut read.declared.unsure)?;
+        add_faulty(faulty, &mut items)?;
         if is_last {
             break;
         }
     }
     cursor.takes(";");
+    read.spaces.push(Space { namespace, items })?;
+    Ok(())
+}
+
+/// Adds a declaration with a fault, if there is one.
+fn add_faulty(faulty: Option<Item>, items: &mut Vec<Item>) -> Result<(), AllocError> {
+    if let Some(item) = faulty {
+        items.push(item)?;
+    }
+    Ok(())
+}
+
+/// Reads a declaration of a namespace, and adds it.
+fn add_declaration(
+    cursor: &mut Cursor<'_>,
+    namespace: &[&str],
+    declared: &mut Declared,
+    items: &mut Vec<Item>,
+) -> Result<(), ReadError> {
+    let item = declaration(cursor, namespace, declared)?;
+    items.push(item)?;
     Ok(())
 }
 
@@ -103,50 +116,57 @@ fn path<'a>(cursor: &mut Cursor<'a>) -> Result<Vec<&'a str>, ReadError> {
     Ok(words)
 }
 
-/// Reads a declaration, and adds it.
+/// Reads a declaration in the namespace of this name, and adds the names that it declares.
 fn declaration(
     cursor: &mut Cursor<'_>,
-    names: &Names<'_>,
-    read: &mut Declarations,
-) -> Result<(), ReadError> {
+    namespace: &[&str],
+    declared: &mut Declared,
+) -> Result<Item, ReadError> {
     pass_annotations(cursor)?;
     if cursor.takes("entity") {
-        read.add_types(entity_declaration(cursor, names)?)?;
+        let types = entity_declaration(cursor, namespace)?;
+        declared.add_types(&types)?;
+        Ok(Item::Types(types))
     } else if cursor.takes("action") {
-        read.add_actions(action_declaration(cursor, names)?)?;
+        let actions = action_declaration(cursor, namespace)?;
+        declared.add_actions(&actions)?;
+        Ok(Item::Actions(actions))
     } else if cursor.takes("type") {
-        alias_declaration(cursor, names, read)?;
+        alias_declaration(cursor, namespace, declared)
     } else {
-        return Err(cursor.fault(Fault::Expected(Expected::Declaration)));
+        Err(cursor.fault(Fault::Expected(Expected::Declaration)))
     }
-    Ok(())
 }
 
 /// Reads a declaration of a name for a type behind its first word, and adds it.
 fn alias_declaration(
     cursor: &mut Cursor<'_>,
-    names: &Names<'_>,
-    read: &mut Declarations,
-) -> Result<(), ReadError> {
+    namespace: &[&str],
+    declared: &mut Declared,
+) -> Result<Item, ReadError> {
     let own_start = cursor.start();
     let word = free_alias(cursor)?;
-    let name = Name::new(cursor.alloc, word, names.namespace)?;
-    let is_there = read.alias(&name).is_some();
+    let name = Name::new(cursor.alloc, word, namespace)?;
+    let is_there = declared.alias(&name).is_some();
     if is_there {
         cursor.notes.meet(own_start, Met::Fault(Fault::SameName))?;
     }
     cursor.expect("=")?;
-    let start = cursor.start();
-    cursor.notes.read_alias(Some(own_start));
-    cedar_type(cursor, names)?;
-    cursor.notes.read_alias(None);
+    let tokens_before = cursor.tokens();
+    let written = written_type(cursor, MAX_GRAMMAR_STEPS)?;
+    let tokens = cursor.tokens();
     cursor.expect(";")?;
-    if !is_there {
-        read.add_alias(Alias {
-            name,
-            own_start,
-            start,
-        })?;
+    let alias = Alias {
+        name,
+        own_start,
+        written,
+        tokens_before,
+        tokens,
+    };
+    if is_there {
+        return Ok(Item::RepeatedAlias(alias));
     }
-    Ok(())
+    let name = alias.name.clone()?;
+    declared.add_alias(alias)?;
+    Ok(Item::Alias(name))
 }

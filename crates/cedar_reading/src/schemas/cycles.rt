@@ -1,6 +1,6 @@
 // Common types that stand in themselves.
 use crate::notes::AliasUse;
-use crate::schemas::declarations::Declarations;
+use crate::schemas::declarations::Declared;
 use crate::schemas::groups::{Graph, group_of_each};
 use std::alloc::{AllocError, Global};
 use std::collections::{BTreeMap, BTreeSet};
@@ -8,11 +8,11 @@ use std::collections::{BTreeMap, BTreeSet};
 /// Where in each cycle of aliases the first of them stands in the type of one.
 pub fn alias_cycles(
     alloc: Global,
-    read: &Declarations,
+    declared: &Declared,
     uses: &[AliasUse],
 ) -> Result<Vec<usize>, AllocError> {
     let mut numbers = BTreeMap::new(alloc);
-    for (number, alias) in read.aliases.values().enumerate() {
+    for (number, alias) in declared.aliases.values().enumerate() {
         numbers.insert(alias.own_start, number)?;
     }
     let mut graph = Graph::new(alloc, numbers.len())?;

@@ -1,18 +1,13 @@
-// The declarations that were read of a schema's text.
+// The declarations that were read of a schema's text, and their names.
 use crate::faults::{Fault, ReadError};
+use crate::schemas::language::primitive_of;
 use crate::schemas::unsure::UnsureNames;
+use crate::schemas::written::{Alias, Item, Placed, Space, WrittenActions, WrittenTypes};
 use cedar_types::base::{
     EntityType, EntityUID, Name, ValidatorActionKind, ValidatorEntityTypeKind,
 };
 use std::alloc::{AllocError, Global};
 use std::collections::{BTreeMap, BTreeSet};
-
-/// What was read, and the byte at which it stands.
-#[derive(Drop)]
-pub struct Placed<N> {
-    pub name: N,
-    pub start: usize,
-}
 
 /// A declaration of entity types or actions.
 #[derive(Drop)]
@@ -23,45 +18,34 @@ pub struct Declaration<N, K> {
     pub kind: K,
 }
 
-/// A declaration of a name for a type.
-#[derive(Drop)]
-pub struct Alias {
-    pub name: Name,
-    /// The byte at which the name stands.
-    pub own_start: usize,
-    /// The byte at which the type begins.
-    pub start: usize,
-}
-
 /// Declarations of entity types.
 pub type TypeDeclaration = Declaration<EntityType, ValidatorEntityTypeKind>;
 
 /// Declarations of actions.
 pub type ActionDeclaration = Declaration<EntityUID, ValidatorActionKind>;
 
-/// What a text declares, in its order.
+/// The names that a text declares.
 #[derive(Drop)]
-pub struct Declarations {
+pub struct Declared {
+    /// Of aliases of one name the first.
     pub aliases: BTreeMap<Name, Alias>,
-    pub entity_types: Vec<TypeDeclaration>,
-    pub actions: Vec<ActionDeclaration>,
-    /// What declarations with a fault may declare.
-    pub unsure: UnsureNames,
-    /// The names that all of them declare.
     type_names: BTreeSet<EntityType>,
     action_names: BTreeSet<EntityUID>,
+    /// Whether the last part of an entity type's name is the word of a primitive type.
+    pub has_primitive_word: bool,
+    /// What declarations with a fault may declare.
+    pub unsure: UnsureNames,
 }
 
-impl Declarations {
+impl Declared {
     /// None so far.
-    pub fn new(alloc: Global) -> Declarations {
-        Declarations {
+    pub fn new(alloc: Global) -> Declared {
+        Declared {
             aliases: BTreeMap::new(alloc),
-            entity_types: Vec::new(alloc),
-            actions: Vec::new(alloc),
-            unsure: UnsureNames::new(alloc),
             type_names: BTreeSet::new(alloc),
             action_names: BTreeSet::new(alloc),
+            has_primitive_word: false,
+            unsure: UnsureNames::new(alloc),
         }
     }
 
@@ -72,18 +56,18 @@ impl Declarations {
         Ok(())
     }
 
-    /// Adds a declaration of entity types.
-    pub fn add_types(&mut self, declaration: TypeDeclaration) -> Result<(), AllocError> {
-        add_names(declaration.names.as_slice(), &mut self.type_names)?;
-        self.entity_types.push(declaration)?;
-        Ok(())
+    /// Adds the names of entity types.
+    pub fn add_types(&mut self, declaration: &WrittenTypes) -> Result<(), AllocError> {
+        for own in &declaration.names {
+            let is_primitive = primitive_of(own.name.name.basename.as_str()).is_some();
+            self.has_primitive_word = self.has_primitive_word || is_primitive;
+        }
+        add_names(declaration.names.as_slice(), &mut self.type_names)
     }
 
-    /// Adds a declaration of actions.
-    pub fn add_actions(&mut self, declaration: ActionDeclaration) -> Result<(), AllocError> {
-        add_names(declaration.names.as_slice(), &mut self.action_names)?;
-        self.actions.push(declaration)?;
-        Ok(())
+    /// Adds the names of actions.
+    pub fn add_actions(&mut self, declaration: &WrittenActions) -> Result<(), AllocError> {
+        add_names(declaration.names.as_slice(), &mut self.action_names)
     }
 
     /// The alias of this name, if it is declared.
@@ -105,17 +89,62 @@ impl Declarations {
     pub fn has_action(&self, name: &EntityUID) -> bool {
         self.action_names.contains(name)
     }
+}
 
+/// What a text declares, in its order, and the names of that.
+#[derive(Drop)]
+pub struct Written<'a> {
+    pub declared: Declared,
+    pub spaces: Vec<Space<'a>>,
+}
+
+impl<'a> Written<'a> {
+    /// Adds a declaration with a fault outside of namespaces, if there is one.
+    pub fn add_faulty(&mut self, faulty: Option<Item>) -> Result<(), AllocError> {
+        match faulty {
+            Some(item) => self.add_outside(item),
+            None => Ok(()),
+        }
+    }
+
+    /// Adds a declaration outside of namespaces, behind the others.
+    pub fn add_outside(&mut self, item: Item) -> Result<(), AllocError> {
+        let alloc = *self.spaces.allocator();
+        if let Some(space) = self.spaces.last_mut() {
+            if space.namespace.is_empty() {
+                space.items.push(item)?;
+                return Ok(());
+            }
+        }
+        let items = vec![in alloc; item]?;
+        self.spaces.push(Space {
+            namespace: Vec::new(alloc),
+            items,
+        })?;
+        Ok(())
+    }
+}
+
+/// What a text declares, in its order, with what the names in it mean.
+#[derive(Drop)]
+pub struct Declarations {
+    pub declared: Declared,
+    pub entity_types: Vec<TypeDeclaration>,
+    pub actions: Vec<ActionDeclaration>,
+}
+
+impl Declarations {
     /// Where the parents stand that are not declared, nor may be.
     pub fn unknown_parents(&self, alloc: Global) -> Result<Vec<usize>, AllocError> {
+        let declared = &self.declared;
         let mut starts = Vec::new(alloc);
         for parent in self.entity_types.iter().flat_map(|d| d.parents.iter()) {
-            if !self.may_have_type(&parent.name) {
+            if !declared.may_have_type(&parent.name) {
                 starts.push(parent.start)?;
             }
         }
         for parent in self.actions.iter().flat_map(|d| d.parents.iter()) {
-            if !self.has_action(&parent.name) && !self.unsure.has(&parent.name.eid) {
+            if !declared.has_action(&parent.name) && !declared.unsure.has(&parent.name.eid) {
                 starts.push(parent.start)?;
             }
         }
@@ -124,8 +153,10 @@ impl Declarations {
 
     /// Fails where a parent is not declared, with the place of the first.
     pub fn check_parents(&self) -> Result<(), ReadError> {
-        let missing_type = undeclared_parent(self.entity_types.as_slice(), &self.type_names);
-        match missing_type.or(undeclared_parent(self.actions.as_slice(), &self.action_names)) {
+        let declared = &self.declared;
+        let missing_type = undeclared_parent(self.entity_types.as_slice(), &declared.type_names);
+        let actions = self.actions.as_slice();
+        match missing_type.or(undeclared_parent(actions, &declared.action_names)) {
             Some(start) => Err(ReadError::At(start, Fault::Undeclared)),
             None => Ok(()),
         }
@@ -133,7 +164,7 @@ impl Declarations {
 }
 
 /// Adds names to those that are known.
-pub fn add_names<N: Ord + Clone + Drop>(
+fn add_names<N: Ord + Clone + Drop>(
     names: &[Placed<N>],
     known: &mut BTreeSet<N>,
 ) -> Result<(), AllocError> {

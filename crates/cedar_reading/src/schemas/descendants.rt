@@ -1,7 +1,8 @@
 // What is in what, over any number of steps.
 use crate::faults::{Fault, ReadError};
-use crate::schemas::declarations::{Declaration, Placed};
+use crate::schemas::declarations::Declaration;
 use crate::schemas::groups::{Graph, Groups};
+use crate::schemas::written::Placed;
 use std::alloc::{AllocError, Global};
 use std::collections::{BTreeMap, BTreeSet};
 
@@ -12,7 +13,7 @@ pub const MAX_DESCENDANTS: usize = 1 << 20;
 #[derive(Drop)]
 pub struct Family<'a, N: Ord> {
     alloc: Global,
-    /// The names that are declared, each once.
+    /// The declared names that are in others or have others in them, each once.
     names: Vec<&'a N>,
     /// Where each of them stands there.
     numbers: BTreeMap<&'a N, usize>,
@@ -79,21 +80,41 @@ fn check_parents<N, K>(declared: &[Declaration<N, K>]) -> Result<(), ReadError> 
     Ok(())
 }
 
-/// The names that are declared, each once, and where each stands among them.
+/// The declared names that are in others or have others in them, each once, and where each stands among them.
 fn number_names<'a, N: Ord, K>(
     alloc: Global,
     declared: &'a [Declaration<N, K>],
 ) -> Result<(Vec<&'a N>, BTreeMap<&'a N, usize>), AllocError> {
+    let above = all_parents(alloc, declared)?;
     let mut names = Vec::new(alloc);
     let mut numbers = BTreeMap::new(alloc);
-    for own in declared.iter().flat_map(|d| d.names.iter()) {
-        let name: &'a N = &own.name;
-        if numbers.get(&name).is_none() {
-            numbers.insert(name, names.len())?;
-            names.push(name)?;
+    if above.is_empty() {
+        return Ok((names, numbers));
+    }
+    for declaration in declared {
+        let is_in_some = !declaration.parents.is_empty();
+        for own in &declaration.names {
+            let name: &'a N = &own.name;
+            if (is_in_some || above.contains(&name)) && numbers.get(&name).is_none() {
+                numbers.insert(name, names.len())?;
+                names.push(name)?;
+            }
         }
     }
     Ok((names, numbers))
+}
+
+/// The names of which some are in.
+fn all_parents<'a, N: Ord, K>(
+    alloc: Global,
+    declared: &'a [Declaration<N, K>],
+) -> Result<BTreeSet<&'a N>, AllocError> {
+    let mut above = BTreeSet::new(alloc);
+    for parent in declared.iter().flat_map(|d| d.parents.iter()) {
+        let name: &'a N = &parent.name;
+        above.insert(name)?;
+    }
+    Ok(above)
 }
 
 /// Adds what a declaration says by one step.

@@ -1,12 +1,15 @@
 // Declarations of entity types.
-use crate::cursor::Cursor;
+use crate::cursor::{Cursor, MAX_GRAMMAR_STEPS};
 use crate::faults::ReadError;
-use crate::names::placed_name;
+use crate::notes::Met;
 use crate::schemas::declarations::{Declaration, TypeDeclaration};
-use crate::schemas::lists::{Listable, Listing, Place, one_or_more, own_names};
-use crate::schemas::meanings::Names;
+use crate::schemas::expansions::Expansions;
+use crate::schemas::lists::{Listable, Listing, one_or_more, own_names};
+use crate::schemas::meanings::{Names, own_type};
+use crate::schemas::meant_types::{meant_attributes, meant_type};
 use crate::schemas::reserved::free_word;
-use crate::schemas::types::{attributes, cedar_type};
+use crate::schemas::types::{written_attributes, written_name, written_type};
+use crate::schemas::written::{Placed, Role, WrittenKind, WrittenName, WrittenTypes};
 use crate::texts::text;
 use cedar_types::base::{
     Attributes, EntityType, EnumChoices, StandardValidatorEntityType, ValidatorEntityTypeKind,
@@ -17,32 +20,41 @@ use std::rc::RcStr;
 /// Reads a declaration of entity types behind its first word.
 pub fn entity_declaration(
     cursor: &mut Cursor<'_>,
-    names: &Names<'_>,
-) -> Result<TypeDeclaration, ReadError> {
-    let declared = own_names(cursor, names)?;
+    namespace: &[&str],
+) -> Result<WrittenTypes, ReadError> {
+    let names = own_names(cursor, namespace)?;
     let mut parents = Vec::new(cursor.alloc);
     let kind = if cursor.takes("enum") {
-        ValidatorEntityTypeKind::Enum(ids(cursor)?)
+        WrittenKind::Enum(ids(cursor)?)
     } else {
         if cursor.takes("in") {
-            parents = one_or_more(cursor, names)?;
+            parents = one_or_more(cursor)?;
         }
-        ValidatorEntityTypeKind::Standard(standard(cursor, names)?)
+        standard(cursor)?
     };
     cursor.expect(";")?;
-    Ok(Declaration {
-        names: declared,
+    Ok(WrittenTypes {
+        names,
         parents,
         kind,
     })
 }
 
-impl Listable for EntityType {
-    fn read(cursor: &mut Cursor<'_>, names: &Names<'_>, place: Place) -> Result<Self, ReadError> {
-        match place {
-            Place::Declared => Ok(names.own_type(free_word(cursor)?)?),
-            Place::Named => named_type(cursor, names),
-        }
+impl Listable for Placed<EntityType> {
+    /// Reads a name that is declared.
+    fn read(cursor: &mut Cursor<'_>, namespace: &[&str]) -> Result<Self, ReadError> {
+        let start = cursor.start();
+        let name = own_type(cursor.alloc, namespace, free_word(cursor)?)?;
+        Ok(Placed { name, start })
+    }
+}
+
+impl Listable for WrittenName {
+    /// Reads a name that is declared elsewhere.
+    fn read(cursor: &mut Cursor<'_>, _namespace: &[&str]) -> Result<Self, ReadError> {
+        let read = written_name(cursor)?;
+        cursor.notes.mention(&read, Role::EntityType)?;
+        Ok(read)
     }
 }
 
@@ -60,29 +72,73 @@ pub fn ids(cursor: &mut Cursor<'_>) -> Result<EnumChoices, ReadError> {
     Ok(EnumChoices::new(cursor.alloc, ids)?)
 }
 
-/// Reads the name of an entity type.
-fn named_type(cursor: &mut Cursor<'_>, names: &Names<'_>) -> Result<EntityType, ReadError> {
-    let start = cursor.start();
-    let name = names.entity_type(placed_name(cursor)?.name)?;
-    names.check_known(cursor, &name, start)?;
-    Ok(name)
-}
-
 /// Reads attributes and tags, of which both may be missing.
-fn standard(
-    cursor: &mut Cursor<'_>,
-    names: &Names<'_>,
-) -> Result<StandardValidatorEntityType, ReadError> {
+fn standard(cursor: &mut Cursor<'_>) -> Result<WrittenKind, ReadError> {
     let has_attributes = cursor.takes("=") || cursor.is_at("{");
     let attributes = if has_attributes {
-        attributes(cursor, names)?
-    } else {
-        Attributes::with_attributes(cursor.alloc, BTreeMap::new(cursor.alloc))?
-    };
-    let tags = if cursor.takes("tags") {
-        Some(cedar_type(cursor, names)?)
+        Some(written_attributes(cursor, MAX_GRAMMAR_STEPS)?)
     } else {
         None
     };
-    Ok(StandardValidatorEntityType { attributes, tags })
+    let tags = if cursor.takes("tags") {
+        Some(written_type(cursor, MAX_GRAMMAR_STEPS)?)
+    } else {
+        None
+    };
+    Ok(WrittenKind::Standard(attributes, tags))
+}
+
+/// The declaration, with what the names in it mean.
+pub fn meant_entity_types(
+    written: WrittenTypes,
+    names: &Names<'_>,
+    expansions: &mut Expansions,
+) -> Result<TypeDeclaration, ReadError> {
+    let mut parents = Vec::new(names.alloc);
+    for parent in &written.parents {
+        let name = meant_entity_type(parent, names, expansions)?;
+        parents.push(Placed {
+            name,
+            start: parent.start,
+        })?;
+    }
+    let kind = meant_kind(written.kind, names, expansions)?;
+    Ok(Declaration {
+        names: written.names,
+        parents,
+        kind,
+    })
+}
+
+/// The entity type that a name means. It is no fault of a parent that it is not declared, so long as names may be unknown.
+pub fn meant_entity_type(
+    written: &WrittenName,
+    names: &Names<'_>,
+    expansions: &mut Expansions,
+) -> Result<EntityType, ReadError> {
+    let meant = names.entity_type(&written.name)?;
+    if names.is_unknown(&meant) {
+        expansions.notes.meet(written.start, Met::UnknownType)?;
+    }
+    Ok(meant)
+}
+
+fn meant_kind(
+    written: WrittenKind,
+    names: &Names<'_>,
+    expansions: &mut Expansions,
+) -> Result<ValidatorEntityTypeKind, ReadError> {
+    let (attributes, tags) = match written {
+        WrittenKind::Enum(ids) => return Ok(ValidatorEntityTypeKind::Enum(ids)),
+        WrittenKind::Standard(attributes, tags) => (attributes, tags),
+    };
+    let attributes = match &attributes {
+        Some(record) => meant_attributes(record, names, MAX_GRAMMAR_STEPS, expansions)?,
+        None => Attributes::with_attributes(names.alloc, BTreeMap::new(names.alloc))?,
+    };
+    let tags = match &tags {
+        Some(tags) => Some(meant_type(tags, names, MAX_GRAMMAR_STEPS, expansions)?),
+        None => None,
+    };
+    Ok(ValidatorEntityTypeKind::Standard(StandardValidatorEntityType { attributes, tags }))
 }

@@ -1,8 +1,6 @@
 // Parts of a schema of which there may be several.
 use crate::cursor::Cursor;
 use crate::faults::ReadError;
-use crate::schemas::declarations::Placed;
-use crate::schemas::meanings::Names;
 
 /// How many parts may stand at a place, and what stands around them.
 #[derive(Clone, Copy, PartialEq, Eq, Debug)]
@@ -41,51 +39,38 @@ impl Listing {
     }
 }
 
-/// Whether names are declared where they stand.
-#[derive(Clone, Copy, PartialEq, Eq, Debug)]
-pub enum Place {
-    Declared,
-    Named,
-}
-
 /// A name of which several may be listed.
 pub trait Listable: Drop + Sized {
-    /// Reads one at such a place.
-    fn read(cursor: &mut Cursor<'_>, names: &Names<'_>, place: Place) -> Result<Self, ReadError>;
+    /// Reads one, in the namespace of this name.
+    fn read(cursor: &mut Cursor<'_>, namespace: &[&str]) -> Result<Self, ReadError>;
 }
 
-/// Reads names, so many as may be listed here, each with where it stands.
+/// Reads names, so many as may be listed here.
 fn listed<N: Listable>(
     cursor: &mut Cursor<'_>,
-    names: &Names<'_>,
+    namespace: &[&str],
     listing: Listing,
-    place: Place,
-) -> Result<Vec<Placed<N>>, ReadError> {
+) -> Result<Vec<N>, ReadError> {
     let mut listed = Vec::new(cursor.alloc);
     for _ in 0..cursor.most_left() {
         if !listing.goes_on(cursor, listed.len())? {
             break;
         }
-        let start = cursor.start();
-        let name = N::read(cursor, names, place)?;
-        listed.push(Placed { name, start })?;
+        listed.push(N::read(cursor, namespace)?)?;
     }
     Ok(listed)
 }
 
-/// Reads a name, or any number of them in brackets.
-pub fn one_or_more<N: Listable>(
-    cursor: &mut Cursor<'_>,
-    names: &Names<'_>,
-) -> Result<Vec<Placed<N>>, ReadError> {
+/// Reads a name that is declared elsewhere, or any number of them in brackets.
+pub fn one_or_more<N: Listable>(cursor: &mut Cursor<'_>) -> Result<Vec<N>, ReadError> {
     let listing = one_or_in_brackets(cursor);
-    listed(cursor, names, listing, Place::Named)
+    listed(cursor, &[], listing)
 }
 
-/// Reads the names that are declared.
+/// Reads the names that are declared in the namespace of this name.
 pub fn own_names<N: Listable>(
     cursor: &mut Cursor<'_>,
-    names: &Names<'_>,
-) -> Result<Vec<Placed<N>>, ReadError> {
-    listed(cursor, names, Listing::WithCommas, Place::Declared)
+    namespace: &[&str],
+) -> Result<Vec<N>, ReadError> {
+    listed(cursor, namespace, Listing::WithCommas)
 }

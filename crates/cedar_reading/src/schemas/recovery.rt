@@ -3,24 +3,25 @@ use crate::cursor::Cursor;
 use crate::faults::ReadError;
 use crate::notes::Met;
 use crate::schemas::unsure::UnsureNames;
+use crate::schemas::written::Item;
 use crate::tokens::TokenKind;
 use std::alloc::AllocError;
 
 /// Goes on behind the declaration that began at this byte, if it has a fault and faults are noted; else fails with the fault.
-/// The names in it, but for those in brackets, are unsure then.
+/// The names in it, but for those in brackets, are unsure then; those that were read before the fault are answered.
 pub fn go_on_behind(
     cursor: &mut Cursor<'_>,
     start: usize,
     read: Result<(), ReadError>,
     unsure: &mut UnsureNames,
-) -> Result<(), ReadError> {
+) -> Result<Option<Item>, ReadError> {
+    let mentions = cursor.notes.take_mentions();
     let Err(error) = read else {
-        return Ok(());
+        return Ok(None);
     };
     note(cursor, error)?;
-    cursor.notes.read_alias(None);
     pass_declaration(cursor, start, unsure)?;
-    Ok(())
+    Ok(Some(Item::Faulty(mentions)))
 }
 
 /// Goes on in the braces of a namespace, if what stands before them has a fault and faults are noted; else fails with the

@@ -3,10 +3,10 @@ use crate::cursor::Cursor;
 use crate::faults::ReadError;
 use crate::names::placed_name;
 use crate::schemas::all_faults::SchemaFault;
-use crate::schemas::blocks::all_declarations;
-use crate::schemas::declarations::{Declaration, Declarations, Placed};
+use crate::schemas::declarations::{Declaration, Declarations};
 use crate::schemas::declarations_of;
-use crate::schemas::meanings::Names;
+use crate::schemas::meant_declarations::Named;
+use crate::schemas::written::Placed;
 use cedar_types::base::{EntityType, SchemaError, ValidatorEntityTypeKind};
 use std::alloc::{AllocError, Global};
 use std::collections::BTreeSet;
@@ -42,7 +42,7 @@ fn name_of_fault(
     text: &str,
     fault: &SchemaError,
 ) -> Result<Option<RefusedName>, ReadError> {
-    let read = declarations_of(alloc, text)?;
+    let read = declarations_of(alloc, text, Named::Any)?;
     let types = read.entity_types.as_slice();
     let found = match fault {
         SchemaError::DuplicateEntityType => show(alloc, find_repeated(alloc, types)?)?,
@@ -51,7 +51,7 @@ fn name_of_fault(
         }
         SchemaError::ActionTypeDeclared => show(alloc, of_actions(types))?,
         SchemaError::EmptyEnum => show(alloc, without_ids(types))?,
-        SchemaError::UnknownType | SchemaError::VagueType => unfit(alloc, text, &read)?,
+        SchemaError::UnknownType | SchemaError::VagueType => unfit(alloc, text)?,
         _ => None,
     };
     Ok(found)
@@ -168,17 +168,9 @@ fn has_no_ids(kind: &ValidatorEntityTypeKind) -> bool {
 }
 
 /// The first type that is named and neither declared nor one of actions, or of which a context is and
-/// that is no record, found by a reading that fails at both.
-fn unfit(
-    alloc: Global,
-    text: &str,
-    declared: &Declarations,
-) -> Result<Option<RefusedName>, ReadError> {
-    let names = Names {
-        have_to_be_known: true,
-        ..Names::outside(alloc, declared)
-    };
-    let start = match all_declarations(text, names) {
+/// that is no record, found by looking names up so that this fails at both.
+fn unfit(alloc: Global, text: &str) -> Result<Option<RefusedName>, ReadError> {
+    let start = match declarations_of(alloc, text, Named::Declared) {
         Ok(_) => return Ok(None),
         Err(ReadError::At(start, _)) => start,
         Err(memory) => return Err(memory),

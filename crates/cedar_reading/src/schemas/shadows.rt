@@ -2,8 +2,9 @@
 use crate::faults::ReadError;
 use crate::schemas::declarations::Declarations;
 use crate::schemas::declarations_of;
+use crate::schemas::meant_declarations::Named;
 use crate::schemas::refusals::{RefusedName, refused};
-use cedar_types::base::Name;
+use cedar_types::base::{EntityUID, Name};
 use std::alloc::{AllocError, Global};
 use std::collections::BTreeSet;
 
@@ -11,15 +12,22 @@ use std::collections::BTreeSet;
 /// an alias with the last part of another, or an action with the id of another. Cedar refuses a schema with such a name.
 /// `None` where there is none, and where the text cannot be read.
 pub fn shadowing_name(alloc: Global, text: &str) -> Result<Option<RefusedName>, AllocError> {
-    let read = match declarations_of(alloc, text) {
-        Ok(read) => read,
-        Err(ReadError::Memory(error)) => return Err(error),
-        Err(ReadError::At(_, _)) => return Ok(None),
-    };
-    let mut names = hiding_types(alloc, &read)?.into_iter();
+    match declarations_of(alloc, text, Named::Any) {
+        Ok(read) => first_hiding_name(alloc, &read),
+        Err(ReadError::Memory(error)) => Err(error),
+        Err(ReadError::At(_, _)) => Ok(None),
+    }
+}
+
+/// The first such name of what was read.
+pub fn first_hiding_name(
+    alloc: Global,
+    read: &Declarations,
+) -> Result<Option<RefusedName>, AllocError> {
+    let mut names = hiding_types(alloc, read)?.into_iter();
     match names.next() {
         Some(name) => Ok(Some(name)),
-        None => Ok(hiding_actions(alloc, &read)?.into_iter().next()),
+        None => Ok(hiding_actions(alloc, read)?.into_iter().next()),
     }
 }
 
@@ -34,16 +42,13 @@ pub fn hiding_names(alloc: Global, read: &Declarations) -> Result<Vec<RefusedNam
 
 /// The entity types and aliases of namespaces whose last part is the name of one outside, by place.
 fn hiding_types(alloc: Global, read: &Declarations) -> Result<Vec<RefusedName>, AllocError> {
-    let mut outside = BTreeSet::new(alloc);
-    let mut inside = Vec::new(alloc);
-    for own in read.entity_types.iter().flat_map(|d| d.names.iter()) {
-        sort_out(&own.name.name, own.start, &mut outside, &mut inside)?;
-    }
-    for alias in read.aliases.values() {
-        sort_out(&alias.name, alias.own_start, &mut outside, &mut inside)?;
-    }
-    inside.sort()?;
+    let mut inside = names_inside(alloc, read)?;
     let mut found = Vec::new(alloc);
+    if inside.is_empty() {
+        return Ok(found);
+    }
+    let outside = names_outside(alloc, read)?;
+    inside.sort()?;
     for (start, name) in &inside {
         if outside.contains(&name.basename.as_str()) {
             let name = name.to_string(alloc)?;
@@ -56,35 +61,73 @@ fn hiding_types(alloc: Global, read: &Declarations) -> Result<Vec<RefusedName>, 
     Ok(found)
 }
 
-/// Adds the last part of a name to those outside of namespaces, or the name to those inside.
-fn sort_out<'a>(
-    name: &'a Name,
-    start: usize,
-    outside: &mut BTreeSet<&'a str>,
-    inside: &mut Vec<(usize, &'a Name)>,
-) -> Result<(), AllocError> {
-    if name.path.is_empty() {
-        outside.insert(name.basename.as_str())?;
-    } else {
-        inside.push((start, name))?;
+/// The entity types and aliases of namespaces, and where they stand.
+fn names_inside(alloc: Global, read: &Declarations) -> Result<Vec<(usize, &Name)>, AllocError> {
+    let mut inside = Vec::new(alloc);
+    for own in read.entity_types.iter().flat_map(|d| d.names.iter()) {
+        let name = &own.name.name;
+        if !name.path.is_empty() {
+            inside.push((own.start, name))?;
+        }
     }
-    Ok(())
+    for alias in read.declared.aliases.values() {
+        if !alias.name.path.is_empty() {
+            inside.push((alias.own_start, &alias.name))?;
+        }
+    }
+    Ok(inside)
+}
+
+/// The names of the entity types and aliases outside of namespaces.
+fn names_outside(alloc: Global, read: &Declarations) -> Result<BTreeSet<&str>, AllocError> {
+    let mut outside = BTreeSet::new(alloc);
+    for own in read.entity_types.iter().flat_map(|d| d.names.iter()) {
+        let name = &own.name.name;
+        if name.path.is_empty() {
+            outside.insert(name.basename.as_str())?;
+        }
+    }
+    for alias in read.declared.aliases.values() {
+        if alias.name.path.is_empty() {
+            outside.insert(alias.name.basename.as_str())?;
+        }
+    }
+    Ok(outside)
 }
 
 /// The actions of namespaces whose id is that of one outside, in the order of the text.
 fn hiding_actions(alloc: Global, read: &Declarations) -> Result<Vec<RefusedName>, AllocError> {
-    let mut outside = BTreeSet::new(alloc);
+    let mut inside = Vec::new(alloc);
     for own in read.actions.iter().flat_map(|d| d.names.iter()) {
-        if own.name.entity_type.name.path.is_empty() {
-            outside.insert(own.name.eid.as_str())?;
+        if is_inside(&own.name) {
+            inside.push(own)?;
         }
     }
     let mut found = Vec::new(alloc);
-    for own in read.actions.iter().flat_map(|d| d.names.iter()) {
-        let is_inside = !own.name.entity_type.name.path.is_empty();
-        if is_inside && outside.contains(&own.name.eid.as_str()) {
+    if inside.is_empty() {
+        return Ok(found);
+    }
+    let outside = ids_outside(alloc, read)?;
+    for own in inside {
+        if outside.contains(&own.name.eid.as_str()) {
             found.push(refused(alloc, own)?)?;
         }
     }
     Ok(found)
+}
+
+/// The ids of the actions outside of namespaces.
+fn ids_outside(alloc: Global, read: &Declarations) -> Result<BTreeSet<&str>, AllocError> {
+    let mut outside = BTreeSet::new(alloc);
+    for own in read.actions.iter().flat_map(|d| d.names.iter()) {
+        if !is_inside(&own.name) {
+            outside.insert(own.name.eid.as_str())?;
+        }
+    }
+    Ok(outside)
+}
+
+/// Whether an action is one of a namespace.
+fn is_inside(action: &EntityUID) -> bool {
+    !action.entity_type.name.path.is_empty()
 }

@@ -1,16 +1,10 @@
 use Rattle.cedar_reading.proofs.schemas.types.+types.Given as goal
 
-abbrev pub decreases-attributes : goal.decreases-attributes
-decreases-attributes l = l.names.now.left
+abbrev pub decreases-written_type : goal.decreases-written_type
+decreases-written_type l = l.left
 
-abbrev pub decreases-cedar_type : goal.decreases-cedar_type
-decreases-cedar_type l = l.names.now.left
+abbrev pub decreases-written_record : goal.decreases-written_record
+decreases-written_record l = l.left
 
-abbrev pub decreases-record : goal.decreases-record
-decreases-record l = l.names.now.left
-
-abbrev pub decreases-named_type : goal.decreases-named_type
-decreases-named_type l = l.names.now.left
-
-abbrev pub decreases-expand_alias : goal.decreases-expand_alias
-decreases-expand_alias l = l.names.now.left
+abbrev pub decreases-written_attributes : goal.decreases-written_attributes
+decreases-written_attributes l = l.left
