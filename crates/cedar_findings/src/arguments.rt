@@ -1,28 +1,62 @@
-//! The words that the program is called with.
+//! What the words of the command line ask for.
+pub use crate::command_lines::read_arguments;
 use crate::formats::Format;
 use crate::lines::Lines;
 pub use crate::misuses::Misuse;
-use crate::objects::Objects;
 use crate::options::ValueOption;
+use crate::shells::Shell;
+use crate::statuses::Statuses;
 use crate::syntaxes::Syntax;
 use cedar_types::base::ValidationMode;
 use std::alloc::{AllocError, Global};
 
+/// What is done with the files.
+#[derive(Clone, Copy, PartialEq, Eq, Debug)]
+pub enum Task {
+    /// Policies are validated, and data is checked.
+    Validation,
+    /// Policies are validated by two schemas, and what changed is told.
+    Comparison,
+    /// Texts are read, and nothing is validated.
+    Parsing,
+}
+
+/// In how many files an id may stand.
+#[derive(Clone, Copy, PartialEq, Eq, Debug)]
+pub enum IdScope {
+    /// In any number, once in each.
+    File,
+    /// In one of all that are named.
+    Call,
+}
+
 /// What is to be validated, and how.
 #[derive(Drop)]
 pub struct Arguments {
+    pub task: Task,
     pub mode: ValidationMode,
     /// How many entities a policy may dereference, one after another; any number without it.
     pub level: Option<u32>,
     pub format: Format,
     /// The syntax of all files, where their first characters do not tell it.
     pub syntax: Option<Syntax>,
+    /// That of the schema's files, and that of the files of policies: where none is given, that of all.
+    pub schema_syntax: Option<Syntax>,
+    pub policy_syntax: Option<Syntax>,
     /// Whether a warning counts for the exit status as a refused policy does.
     pub denies_warnings: bool,
-    /// The files of the schema, one at least.
+    /// Whether nothing is written of accepted policies without a finding, nor how many policies there are.
+    pub is_quiet: bool,
+    pub id_scope: IdScope,
+    pub statuses: Statuses,
+    /// The files of the schema: one at least, unless texts are read alone.
     pub schemas: Vec<String>,
-    /// The files of policies. There is one at least, unless there is data.
+    /// The files of an older schema, with which the schema is compared, if it is.
+    pub old_schemas: Vec<String>,
+    /// The files of policies. There is one at least, unless there is data, or a schema to be read alone.
     pub policies: Vec<String>,
+    /// The file of links, if there is one.
+    pub links: Option<String>,
     /// The file of entities, if they are to be checked.
     pub entities: Option<String>,
     /// The file of a request, if it is to be checked.
@@ -34,187 +68,146 @@ pub struct Arguments {
 pub enum Asked {
     Help,
     Version,
+    /// The page of the program for `man`.
+    Page,
+    /// What completes the words of the program in a shell.
+    Completion(Shell),
     Validation(Arguments),
 }
 
-/// What is asked for by these words, or what is wrong with them. It fails where memory is refused.
-pub fn read_arguments(
-    alloc: Global,
-    words: &[String],
-) -> Result<Result<Asked, Misuse>, AllocError> {
-    let mut read = Reading::new(alloc);
-    for word in words {
-        if let Some(asked) = read.asks_about_program(word.as_str()) {
-            return Ok(Ok(asked));
-        }
-        if let Some(misuse) = read.take(word)? {
-            return Ok(Err(misuse));
-        }
-    }
-    read.finish()
-}
-
-/// What comes next.
-#[derive(Clone, Copy)]
-enum Next {
-    Any,
-    /// The value of an option.
-    Value(ValueOption),
-    /// A file, behind `--`.
-    File,
-}
-
-/// What was read so far: each file that no option names stands with those of policies.
-#[derive(Drop)]
-struct Reading {
-    alloc: Global,
-    arguments: Arguments,
-    next: Next,
-}
-
-impl Reading {
-    fn new(alloc: Global) -> Reading {
-        Reading {
-            alloc,
-            arguments: Arguments {
-                mode: ValidationMode::Strict,
-                level: None,
-                format: Format::Lines(Lines),
-                syntax: None,
-                denies_warnings: false,
-                schemas: Vec::new(alloc),
-                policies: Vec::new(alloc),
-                entities: None,
-                request: None,
-            },
-            next: Next::Any,
+impl Arguments {
+    /// Those of no words.
+    pub(crate) fn new(alloc: Global) -> Arguments {
+        Arguments {
+            task: Task::Validation,
+            mode: ValidationMode::Strict,
+            level: None,
+            format: Format::Lines(Lines),
+            syntax: None,
+            schema_syntax: None,
+            policy_syntax: None,
+            denies_warnings: false,
+            is_quiet: false,
+            id_scope: IdScope::File,
+            statuses: Statuses::Own,
+            schemas: Vec::new(alloc),
+            old_schemas: Vec::new(alloc),
+            policies: Vec::new(alloc),
+            links: None,
+            entities: None,
+            request: None,
         }
     }
 
-    /// What a word asks about the program itself, unless it stands behind `--`.
-    fn asks_about_program(&self, word: &str) -> Option<Asked> {
-        match (self.next, word) {
-            (Next::File, _) => None,
-            (_, "--help" | "-h") => Some(Asked::Help),
-            (_, "--version") => Some(Asked::Version),
-            _ => None,
-        }
-    }
-
-    /// Reads a word, and says what is wrong with it.
-    fn take(&mut self, word: &String) -> Result<Option<Misuse>, AllocError> {
-        match self.next {
-            Next::Value(option) => {
-                self.next = Next::Any;
-                self.take_value(option, word.as_str())
-            }
-            Next::Any => self.take_option_or_file(word),
-            Next::File => self.take_file(word),
-        }
-    }
-
-    fn take_file(&mut self, word: &String) -> Result<Option<Misuse>, AllocError> {
-        self.arguments.policies.push(word.clone()?)?;
-        Ok(None)
-    }
-
-    fn take_option_or_file(&mut self, word: &String) -> Result<Option<Misuse>, AllocError> {
-        let text = word.as_str();
-        if let Some(option) = ValueOption::by_name(text) {
-            self.next = Next::Value(option);
-            return Ok(None);
-        }
-        if let Some((name, value)) = text.split_once('=') {
-            if let Some(option) = ValueOption::by_name(name) {
-                return self.take_value(option, value);
-            }
-        }
-        match text {
-            "--json" => self.arguments.format = Format::Objects(Objects),
-            "--deny-warnings" => self.arguments.denies_warnings = true,
-            "--" => self.next = Next::File,
-            _ if text.len() > 1 && text.starts_with("-") => {
-                return Ok(Some(Misuse::UnknownOption(word.clone()?)));
-            }
-            _ => return self.take_file(word),
-        }
-        Ok(None)
-    }
-
-    /// Reads the value of an option, and says what is wrong with it.
-    fn take_value(
+    /// Takes note of a file that an option names. Whether it may be named.
+    pub(crate) fn name_file(
         &mut self,
+        alloc: Global,
         option: ValueOption,
-        value: &str,
-    ) -> Result<Option<Misuse>, AllocError> {
-        let is_taken = self.set(option, value)?;
-        Ok((!is_taken).then_some(option.misuse()))
+        name: &str,
+    ) -> Result<bool, AllocError> {
+        match option {
+            ValueOption::Schema => add_file(alloc, &mut self.schemas, name),
+            ValueOption::Policies => add_file(alloc, &mut self.policies, name),
+            ValueOption::Since => add_file(alloc, &mut self.old_schemas, name),
+            ValueOption::Links => set_once(alloc, &mut self.links, name),
+            ValueOption::Entities => set_once(alloc, &mut self.entities, name),
+            ValueOption::Request => set_once(alloc, &mut self.request, name),
+            _ => Ok(false),
+        }
     }
 
-    /// Sets what an option is for. Whether it takes this value.
-    fn set(&mut self, option: ValueOption, value: &str) -> Result<bool, AllocError> {
-        let alloc = self.alloc;
-        let arguments = &mut self.arguments;
+    /// Sets what an option is for that names no file. Whether it takes this value.
+    pub(crate) fn set(&mut self, option: ValueOption, value: &str) -> bool {
         match option {
             ValueOption::Mode => {
                 let mode = mode_by_name(value);
-                arguments.mode = mode.unwrap_or(arguments.mode);
-                Ok(mode.is_some())
+                self.mode = mode.unwrap_or(self.mode);
+                mode.is_some()
             }
             ValueOption::Level => {
-                arguments.level = value.parse::<u32>().ok();
-                Ok(arguments.level.is_some())
+                self.level = value.parse::<u32>().ok();
+                self.level.is_some()
             }
             ValueOption::Format => {
                 let format = Format::by_name(value);
-                arguments.format = format.unwrap_or(arguments.format);
-                Ok(format.is_some())
+                self.format = format.unwrap_or(self.format);
+                format.is_some()
             }
             ValueOption::Input => {
-                arguments.syntax = Syntax::by_name(value);
-                Ok(arguments.syntax.is_some())
+                self.syntax = Syntax::by_name(value);
+                self.syntax.is_some()
             }
-            ValueOption::Schema => {
-                arguments.schemas.push(String::from_str(alloc, value)?)?;
-                Ok(true)
+            ValueOption::SchemaFormat => {
+                self.schema_syntax = Syntax::by_format(value);
+                self.schema_syntax.is_some()
             }
-            ValueOption::Entities => set_once(alloc, &mut arguments.entities, value),
-            ValueOption::Request => set_once(alloc, &mut arguments.request, value),
+            ValueOption::PolicyFormat => {
+                self.policy_syntax = Syntax::by_format(value);
+                self.policy_syntax.is_some()
+            }
+            _ => false,
         }
     }
 
-    fn finish(self) -> Result<Result<Asked, Misuse>, AllocError> {
-        let Reading {
-            mut arguments,
-            next,
-            ..
-        } = self;
-        if let Next::Value(option) = next {
-            return Ok(Err(option.misuse()));
+    /// Completes what is read: the first file that no option names is the schema where none is named, the syntax of all files
+    /// is that of each, and with an older schema both are compared.
+    pub(crate) fn take_schema(&mut self, first_unnamed: Option<usize>) -> Result<(), AllocError> {
+        self.schema_syntax = self.schema_syntax.or(self.syntax);
+        self.policy_syntax = self.policy_syntax.or(self.syntax);
+        if self.task == Task::Parsing {
+            return Ok(());
         }
-        if arguments.mode == ValidationMode::Partial && arguments.level.is_some() {
-            return Ok(Err(Misuse::LevelInPartial));
+        if !self.old_schemas.is_empty() {
+            self.task = Task::Comparison;
         }
-        if arguments.schemas.is_empty() && !arguments.policies.is_empty() {
-            let first = arguments.policies.remove(0);
-            arguments.schemas.push(first)?;
+        let Some(at) = first_unnamed else {
+            return Ok(());
+        };
+        if self.schemas.is_empty() && at < self.policies.len() {
+            let first = self.policies.remove(at);
+            self.schemas.push(first)?;
         }
-        let has_data = arguments.entities.is_some() || arguments.request.is_some();
-        if arguments.schemas.is_empty() || arguments.policies.is_empty() && !has_data {
-            return Ok(Err(Misuse::TooFewFiles));
-        }
-        if arguments.inputs() > 1 {
-            return Ok(Err(Misuse::InputTwice));
-        }
-        Ok(Ok(Asked::Validation(arguments)))
+        Ok(())
     }
-}
 
-impl Arguments {
+    /// What is wrong with these together.
+    pub(crate) fn misuse(&self) -> Option<Misuse> {
+        if self.mode == ValidationMode::Partial && self.level.is_some() {
+            return Some(Misuse::LevelInPartial);
+        }
+        let has_data = self.entities.is_some() || self.request.is_some();
+        let misuse = match self.task {
+            Task::Parsing => self.misuse_in_parsing(has_data),
+            Task::Comparison if has_data => Some(Misuse::SinceAlone),
+            Task::Comparison => self.too_few_files(false),
+            Task::Validation => self.too_few_files(has_data),
+        };
+        if misuse.is_none() && self.inputs() > 1 {
+            return Some(Misuse::InputTwice);
+        }
+        misuse
+    }
+
+    fn misuse_in_parsing(&self, has_data: bool) -> Option<Misuse> {
+        if has_data || self.links.is_some() || !self.old_schemas.is_empty() {
+            return Some(Misuse::ParseAlone);
+        }
+        let is_empty = self.schemas.is_empty() && self.policies.is_empty();
+        is_empty.then_some(Misuse::NothingToParse)
+    }
+
+    fn too_few_files(&self, has_data: bool) -> Option<Misuse> {
+        let is_empty = self.schemas.is_empty() || self.policies.is_empty() && !has_data;
+        is_empty.then_some(Misuse::TooFewFiles)
+    }
+
     /// How often standard input is named.
     fn inputs(&self) -> usize {
         inputs_in(self.schemas.as_slice())
+            .saturating_add(inputs_in(self.old_schemas.as_slice()))
             .saturating_add(inputs_in(self.policies.as_slice()))
+            .saturating_add(usize::from(is_input(&self.links)))
             .saturating_add(usize::from(is_input(&self.entities)))
             .saturating_add(usize::from(is_input(&self.request)))
     }
@@ -228,6 +221,12 @@ fn mode_by_name(name: &str) -> Option<ValidationMode> {
         "partial" => Some(ValidationMode::Partial),
         _ => None,
     }
+}
+
+/// Adds a file to those of a kind, of which there may be any number.
+fn add_file(alloc: Global, files: &mut Vec<String>, name: &str) -> Result<bool, AllocError> {
+    files.push(String::from_str(alloc, name)?)?;
+    Ok(true)
 }
 
 /// Sets a file that is named once. Whether it was not named before.

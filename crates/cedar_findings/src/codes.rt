@@ -26,6 +26,7 @@ pub enum Code {
     Impossible,
     NoAction,
     Direction,
+    LookAlike,
     DataType,
     DataMissing,
     DataUndeclared,
@@ -37,7 +38,7 @@ pub enum Code {
 }
 
 /// All kinds, in order.
-pub const CODES: [Code; 30] = [
+pub const CODES: [Code; 31] = [
     Code::UnknownType,
     Code::UnknownAction,
     Code::UnknownId,
@@ -60,6 +61,7 @@ pub const CODES: [Code; 30] = [
     Code::Impossible,
     Code::NoAction,
     Code::Direction,
+    Code::LookAlike,
     Code::DataType,
     Code::DataMissing,
     Code::DataUndeclared,
@@ -127,6 +129,7 @@ impl Code {
             Code::Impossible => "impossible",
             Code::NoAction => "no-action",
             Code::Direction => "direction",
+            Code::LookAlike => "look-alike",
             Code::DataType => "data-type",
             Code::DataMissing => "data-missing",
             Code::DataUndeclared => "data-undeclared",
@@ -163,6 +166,7 @@ impl Code {
             Code::Impossible => "A policy is false for every request.",
             Code::NoAction => "No action fits the scope of a policy.",
             Code::Direction => "A text has marks that change the direction of what is shown.",
+            Code::LookAlike => "A text has letters that may be taken for others.",
             Code::DataType => "A value has another type than the schema declares.",
             Code::DataMissing => "An attribute that the schema requires is not there.",
             Code::DataUndeclared => "The schema does not declare what data has.",

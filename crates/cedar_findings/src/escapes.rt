@@ -1,61 +1,68 @@
 //! Texts that others wrote, shown so that none of their characters steers what shows them.
+use std::alloc::AllocError;
 use std::fmt;
 
-/// A text as JSON has it, in quotes.
-#[derive(Drop)]
-pub struct Quoted<'a>(pub &'a str);
-
-impl fmt::Display for Quoted<'_> {
-    fn fmt<W: fmt::Write>(&self, f: &mut fmt::Formatter<W>) -> fmt::Result {
-        let inside = Escaped(self.0);
-        write!(f, "\"{inside}\"")
-    }
-}
-
-/// A part of what stands between the quotes of a text of JSON. What [`is_hidden`] stands as `\u` with its digits.
-#[derive(Drop)]
-pub struct Escaped<'a>(pub &'a str);
-
-impl fmt::Display for Escaped<'_> {
-    fn fmt<W: fmt::Write>(&self, f: &mut fmt::Formatter<W>) -> fmt::Result {
-        for c in self.0.chars() {
-            if c == '"' || c == '\\' {
-                write!(f, "\\{c}")?;
-            } else if is_hidden(c) {
-                write_units(f, u32::from(c))?;
-            } else {
-                write!(f, "{c}")?;
-            }
-        }
-        Ok(())
-    }
-}
-
-/// Writes the number of a character as JSON has it: as two units where one is too small.
-fn write_units<W: fmt::Write>(f: &mut fmt::Formatter<W>, number: u32) -> fmt::Result {
-    if number < 0x10000 {
-        return write!(f, "\\u{number:04x}");
-    }
-    let rest = number.saturating_sub(0x10000);
-    let high = (rest >> 10) | 0xd800;
-    let low = (rest & 0x3ff) | 0xdc00;
-    write!(f, "\\u{high:04x}\\u{low:04x}")
-}
-
-/// A text on one line: what [`is_hidden`] is escaped, and quotes and backslashes stay as they are.
+/// A text on one line: a character that [`is_hidden`] is escaped, and a `#` behind another; quotes and backslashes stay as they
+/// are.
 #[derive(Drop)]
 pub struct Shown<'a>(pub &'a str);
 
 impl fmt::Display for Shown<'_> {
     fn fmt<W: fmt::Write>(&self, f: &mut fmt::Formatter<W>) -> fmt::Result {
+        if self.0.bytes().all(is_printable) {
+            return f.write_str(self.0);
+        }
+        let mut before = ' ';
         for c in self.0.chars() {
-            match c {
-                '"' | '\'' | '\\' => f.write_char(c)?,
-                _ => write_escaped(f, c)?,
-            }
+            write_shown(f, before, c)?;
+            before = c;
         }
         Ok(())
     }
+}
+
+/// Adds a text on one line, as [`Shown`] shows it.
+pub(crate) fn push_shown(out: &mut String, text: &str) -> Result<(), AllocError> {
+    if text.bytes().all(is_printable) {
+        return out.push_str(text);
+    }
+    let shown = Shown(text);
+    write!(out, "{shown}")
+}
+
+/// Adds an id, as [`ShownId`] shows it.
+pub(crate) fn push_shown_id(out: &mut String, id: &str) -> Result<(), AllocError> {
+    if id.bytes().all(is_plain_in_id) {
+        return out.push_str(id);
+    }
+    let shown = ShownId(id);
+    write!(out, "{shown}")
+}
+
+/// Writes a character of a text as [`Shown`] does, which stands behind another in the text.
+pub fn write_shown<W: fmt::Write>(f: &mut fmt::Formatter<W>, before: char, c: char) -> fmt::Result {
+    match c {
+        '"' | '\'' | '\\' => f.write_char(c),
+        '#' if begins_command(before, c) => f.write_str(ESCAPED_MARK),
+        _ => write_escaped(f, c),
+    }
+}
+
+/// How many places a character takes in what [`write_shown`] writes.
+pub fn shown_width(before: char, c: char) -> usize {
+    if begins_command(before, c) {
+        return ESCAPED_MARK.len();
+    }
+    display_width(c)
+}
+
+/// A `#` as it is shown behind another.
+const ESCAPED_MARK: &str = "\\u{23}";
+
+/// Whether a character ends the mark `##`, with which lines of a pipeline give commands: `##[` and `##vso[` do so wherever they
+/// stand in a line.
+fn begins_command(before: char, c: char) -> bool {
+    before == '#' && c == '#'
 }
 
 /// An id between backquotes: double quotes, backquotes and backslashes are escaped too, so it ends neither.
@@ -64,15 +71,31 @@ pub struct ShownId<'a>(pub &'a str);
 
 impl fmt::Display for ShownId<'_> {
     fn fmt<W: fmt::Write>(&self, f: &mut fmt::Formatter<W>) -> fmt::Result {
+        if self.0.bytes().all(is_plain_in_id) {
+            return f.write_str(self.0);
+        }
+        let mut before = ' ';
         for c in self.0.chars() {
             match c {
                 '\'' => f.write_char(c)?,
                 '`' => f.write_str("\\u{60}")?,
+                '#' if begins_command(before, c) => f.write_str(ESCAPED_MARK)?,
                 _ => write_escaped(f, c)?,
             }
+            before = c;
         }
         Ok(())
     }
+}
+
+/// Whether a byte is a character of ASCII that takes one place, whatever stands before it.
+fn is_printable(byte: u8) -> bool {
+    matches!(byte, b' '..=b'~') && byte != b'#'
+}
+
+/// Whether such a byte stands in an id as it is.
+fn is_plain_in_id(byte: u8) -> bool {
+    is_printable(byte) && byte != b'"' && byte != b'`' && byte != b'\\'
 }
 
 fn write_escaped<W: fmt::Write>(f: &mut fmt::Formatter<W>, c: char) -> fmt::Result {
@@ -90,13 +113,16 @@ fn write_escaped<W: fmt::Write>(f: &mut fmt::Formatter<W>, c: char) -> fmt::Resu
 
 /// Whether a character is a control character, a mark of direction, a line's end, takes no place of its own, or shows nothing.
 pub fn is_hidden(c: char) -> bool {
+    if c.is_ascii() {
+        return c.is_ascii_control();
+    }
     display_width(c) > 1
 }
 
 /// How many places a character takes in what [`Shown`] shows.
 pub fn display_width(c: char) -> usize {
     match c {
-        '"' | '\'' | '\\' => 1,
+        ' '..='~' => 1,
         _ if is_filler(c) => c.escape_unicode().count(),
         _ => c.escape_debug().count(),
     }

@@ -1,9 +1,16 @@
 // What may help against faults of texts.
-use crate::faults::{Trouble, Written};
+use crate::faults::{Trouble, Written, push_hint};
 use cedar_reading::{Expected, Fault};
+use std::alloc::AllocError;
 
 /// What may help where JSON is read as Cedar's own syntax.
 const JSON: &str = "JSON is read where a file begins with it, or by `--input json`";
+
+/// What may help at a key that has other characters than a word.
+const KEY: &str = "a key that is no word stands in quotes, as `\"a-b\"`";
+
+/// How many digits a decimal number has behind its point at most.
+const MOST_PLACES: usize = 4;
 
 /// What may help where something else is expected.
 pub(crate) fn hint(written: Written, trouble: Trouble, read: &str) -> &'static str {
@@ -57,6 +64,7 @@ fn hint_by_place(trouble: Trouble, read: &str) -> &'static str {
         (Trouble::Other(Fault::Expected(Expected::Name)), _) if is_text => {
             "an id has its type before it, as `User::\"ann\"`"
         }
+        (Trouble::Missing(":"), _) if is_in_key(read) => KEY,
         (Trouble::Missing(","), "is") => {
             "behind `action` stand `==` and `in` alone, and a condition may have `is`"
         }
@@ -72,7 +80,66 @@ fn hint_in_schema(trouble: Trouble, read: &str) -> &'static str {
     match (trouble, read) {
         (_, "{") => JSON,
         (_, "?") => "the `?` stands behind an attribute, as in `a?: Long`",
+        (Trouble::Missing(":"), _) if is_in_key(read) => KEY,
         (Trouble::Other(Fault::Expected(Expected::Name)), "[") => "a type of sets is `Set<..>`",
+        _ => "",
+    }
+}
+
+/// Whether a mark seems to be one of a key that stands without quotes.
+fn is_in_key(read: &str) -> bool {
+    read.starts_with('-') || matches!(read, "." | "/" | "+" | "*" | "$" | "#" | "@" | "%")
+}
+
+/// Adds how a number with a fraction is written, where its places are read at this byte as the name of an attribute.
+pub(crate) fn push_fraction(
+    message: &mut String,
+    text: &str,
+    start: usize,
+    read: &str,
+) -> Result<(), AllocError> {
+    let is_number = !read.is_empty() && read.chars().all(|c: char| c.is_ascii_digit());
+    match whole_before_point(text, start) {
+        Some(whole) if is_number && read.len() <= MOST_PLACES => {
+            write!(
+                message,
+                "; numbers are whole, and `decimal(\"{whole}.{read}\")` has a fraction"
+            )
+        }
+        Some(_) if is_number => push_hint(message, "numbers are whole"),
+        _ => Ok(()),
+    }
+}
+
+/// The digits before the point that stands right before a byte.
+fn whole_before_point(text: &str, start: usize) -> Option<&str> {
+    let before = text.get(..start)?.strip_suffix('.')?;
+    let front = before.trim_end_matches(|c: char| c.is_ascii_digit());
+    let is_in_word = front.ends_with(|c: char| c.is_alphanumeric() || c == '_');
+    let digits = before.get(front.len()..)?;
+    (!digits.is_empty() && !is_in_word).then_some(digits)
+}
+
+/// The type of Cedar that may be meant by the name that a type has elsewhere.
+pub(crate) fn meant_type(name: &str) -> &'static str {
+    match name {
+        "string" | "str" | "Str" | "text" | "Text" => "texts are of the type `String`",
+        "int" | "Int" | "integer" | "Integer" | "long" | "number" | "Number" => {
+            "whole numbers are of the type `Long`"
+        }
+        "bool" | "boolean" => "truth values are of the type `Bool`",
+        "float" | "Float" | "double" | "Double" | "Decimal" => {
+            "numbers with a fraction are of the type `decimal`"
+        }
+        "date" | "Date" | "time" | "Time" | "timestamp" | "Timestamp" | "DateTime" | "Datetime" => {
+            "points in time are of the type `datetime`"
+        }
+        "Duration" => "spans of time are of the type `duration`",
+        "ip" | "Ip" | "IP" | "ipAddress" | "IpAddress" | "IPAddress" => {
+            "addresses are of the type `ipaddr`"
+        }
+        "list" | "List" | "array" | "Array" | "set" => "a type of sets is `Set<..>`",
+        "record" | "object" | "Object" | "map" | "Map" => "a type of records is `{ a: Long }`",
         _ => "",
     }
 }

@@ -1,8 +1,8 @@
 //! What is wrong with texts that cannot be read, in words.
-use crate::fault_hints::{hint, is_alias};
+use crate::fault_hints::{hint, is_alias, meant_type, push_fraction};
 use cedar_reading::{
-    Fault, MAX_GRAMMAR_STEPS, ReadError, RefusedName, SchemaFault, SchemaReadError, refused_name,
-    schema_faults, shadowing_name, token_text,
+    Expected, Fault, MAX_GRAMMAR_STEPS, ReadError, RefusedName, SchemaFault, SchemaReadError,
+    refused_name, schema_faults, shadowing_name, token_text,
 };
 use cedar_types::base::{Loc, SchemaError};
 use std::alloc::{AllocError, Global};
@@ -34,6 +34,8 @@ pub struct TextFault {
 pub enum Written {
     Schema,
     Policies,
+    /// Entities or a request.
+    Data,
 }
 
 /// What is wrong at a place, for people.
@@ -81,6 +83,9 @@ pub fn read_fault(
     let mut message = trouble_text(alloc, written, trouble, read)?;
     if is_behind_long_text(text, start) {
         push_hint(&mut message, LONG_TEXT)?;
+    }
+    if fault == Fault::Expected(Expected::Name) {
+        push_fraction(&mut message, text, start, read)?;
     }
     if fault == Fault::Undeclared && is_alias(text, read) {
         push_hint(&mut message, ALIAS)?;
@@ -131,6 +136,9 @@ fn trouble_of(written: Written, fault: Fault, token: &str) -> Trouble {
         Fault::Text => Trouble::OpenText,
         Fault::CarriageReturn => Trouble::CarriageReturn,
         Fault::Missing(word) => Trouble::Missing(word),
+        // the comma before the part is missing, so that the parts end there
+        Fault::Expected(Expected::Principal) if token == "principal" => Trouble::Missing(","),
+        Fault::Expected(Expected::Resource) if token == "resource" => Trouble::Missing(","),
         _ => Trouble::Other(fault),
     }
 }
@@ -192,14 +200,13 @@ fn refused_fault(
     fault: &SchemaError,
     name: Option<RefusedName>,
 ) -> Result<TextFault, AllocError> {
-    let alias = match (fault, &name) {
-        (SchemaError::UnknownType, Some(it)) => is_alias(text, it.name.as_str()),
-        _ => false,
+    let hint = match (fault, &name) {
+        (SchemaError::UnknownType, Some(it)) if is_alias(text, it.name.as_str()) => ALIAS,
+        (SchemaError::UnknownType, Some(it)) => meant_type(it.name.as_str()),
+        _ => "",
     };
     let mut refused = refusal(alloc, text, refusal_text(fault), name)?;
-    if alias {
-        push_hint(&mut refused.text, ALIAS)?;
-    }
+    push_hint(&mut refused.text, hint)?;
     Ok(refused)
 }
 
@@ -231,7 +238,16 @@ fn told_fault(alloc: Global, text: &str, fault: SchemaFault) -> Result<TextFault
 
 /// What is wrong with a schema that can be had, as Cedar has it: a name of a namespace that hides one outside.
 pub fn shadowing_fault(alloc: Global, text: &str) -> Result<Option<TextFault>, AllocError> {
-    match shadowing_name(alloc, text)? {
+    hiding_fault(alloc, text, shadowing_name(alloc, text)?)
+}
+
+/// The fault of a schema whose text has this name of a namespace that hides one outside, if it has one.
+pub fn hiding_fault(
+    alloc: Global,
+    text: &str,
+    hiding: Option<RefusedName>,
+) -> Result<Option<TextFault>, AllocError> {
+    match hiding {
         None => Ok(None),
         name => Ok(Some(refusal(alloc, text, HIDES, name)?)),
     }

@@ -1,39 +1,62 @@
-//! What Cedar's own parser refuses in conditions, though it can be read: slots, unknowns, and functions that are called as
-//! methods, or methods as functions.
-use crate::faults::TextFault;
+//! What Cedar's own parser refuses in conditions, though it can be read: slots, unknowns, calls of functions that there are not,
+//! and functions that are called as methods, or methods as functions.
+use crate::faults::{TextFault, push_hint};
+use crate::hints::hint_for_call;
+use crate::marks::{Marked, add_part, marked_in_scope};
 use crate::parts::text_at;
 use cedar_extensions::functions::{is_constructor, is_method};
-use cedar_types::base::{Expr, ExprKind, Loc, Template};
+use cedar_types::base::{Expr, ExprKind, ExtensionSchemas, Loc, Name, Template};
 use std::alloc::{AllocError, Global};
 
-/// What stands in a condition and may not. Validation promises nothing of policies with slots or unknowns there. How functions
-/// are called is seen in the text; of JSON there is none, since it calls all of them alike.
-pub fn forbidden_part(
+/// What stands in a condition and may not. Validation promises nothing of policies with slots or unknowns there. A call of no
+/// function may stand nowhere, not even where typing never looks: the functions are those of Cedar, and those of this table,
+/// which a host may have of its own. How functions are called is seen in the text; of JSON there is none, since it calls all of
+/// them alike.
+pub fn forbidden_part<C>(
     alloc: Global,
+    functions: &ExtensionSchemas<C>,
     text: Option<&str>,
     policy: &Template,
 ) -> Result<Option<TextFault>, AllocError> {
+    Ok(marks_unless_forbidden(alloc, functions, text, policy)?.err())
+}
+
+/// The parts of a policy that may be read as others, if nothing in it is forbidden, or the fault of a part that is. Both take one
+/// walk.
+pub fn marks_unless_forbidden<C>(
+    alloc: Global,
+    functions: &ExtensionSchemas<C>,
+    text: Option<&str>,
+    policy: &Template,
+) -> Result<Result<Vec<Marked>, TextFault>, AllocError> {
+    let mut marked = marked_in_scope(alloc, policy)?;
     let Some(condition) = &policy.non_scope_constraints else {
-        return Ok(None);
+        return Ok(Ok(marked));
     };
     for item in condition.subexpressions(alloc)? {
         let part = item?;
-        if let Some(text) = why_forbidden(alloc, text, part)? {
+        if let Some(text) = why_forbidden(alloc, functions, text, part)? {
             let place = part.loc.unwrap_or(Loc { start: 0, end: 0 });
-            return Ok(Some(TextFault { place, text }));
+            return Ok(Err(TextFault { place, text }));
         }
+        add_part(&mut marked, part)?;
     }
-    Ok(None)
+    Ok(Ok(marked))
 }
 
-fn why_forbidden(
+fn why_forbidden<C>(
     alloc: Global,
+    functions: &ExtensionSchemas<C>,
     text: Option<&str>,
     part: &Expr,
 ) -> Result<Option<String>, AllocError> {
     let message = match &part.kind {
         ExprKind::Slot(_) => "a slot can stand in the scope alone, before the conditions",
         ExprKind::Unknown(_) => "an unknown has no value",
+        ExprKind::ExtensionFunctionApp(name, arguments) if !is_function(functions, name) => {
+            let text = text.unwrap_or("");
+            return Ok(Some(no_function(alloc, text, name, arguments)?));
+        }
         ExprKind::ExtensionFunctionApp(name, arguments) if name.path.is_empty() => {
             let Some(text) = text else {
                 return Ok(None);
@@ -45,6 +68,26 @@ fn why_forbidden(
     Ok(Some(String::from_str(alloc, message)?))
 }
 
+/// Whether there is a function of this name: in Cedar, or in this table.
+fn is_function<C>(functions: &ExtensionSchemas<C>, name: &Name) -> bool {
+    let own = name.basename.as_str();
+    let is_of_cedar = name.path.is_empty() && (is_constructor(own) || is_method(own));
+    is_of_cedar || functions.func_type(name).is_some()
+}
+
+/// That there is no function of a name, and what may be meant by it.
+fn no_function(
+    alloc: Global,
+    text: &str,
+    name: &Name,
+    arguments: &Vec<Expr>,
+) -> Result<String, AllocError> {
+    let mut message = format!(in alloc; "undefined extension function `{name}`")?;
+    let hint = hint_for_call(alloc, text, name, arguments.as_slice())?;
+    push_hint(&mut message, hint.as_str())?;
+    Ok(message)
+}
+
 /// How a function is called, where it is called as a method, and a method where it is called as a function.
 fn explain_call(
     alloc: Global,
@@ -53,10 +96,10 @@ fn explain_call(
     name: &str,
     arguments: &Vec<Expr>,
 ) -> Result<Option<String>, AllocError> {
-    let Some(first) = arguments.first() else {
-        return Ok(None);
+    let shown = match arguments.first() {
+        Some(first) => text_at(text, first.loc).unwrap_or("a"),
+        None => "a",
     };
-    let shown = text_at(text, first.loc).unwrap_or("a");
     if is_called_as_function(text, place, name) {
         if is_method(name) {
             let dots = if arguments.len() > 1 { ".." } else { "" };

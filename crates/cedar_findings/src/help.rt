@@ -1,37 +1,144 @@
-//! What `cedar-validate` says of itself.
+//! What `cedar-validate` says of itself: its use in some lines, and its help. Both are made of the table of words.
+use crate::options::{Asks, Values, WORDS, Word};
+use std::alloc::{AllocError, Global};
 
-/// How the program is called, in one line.
-pub const USAGE: &str = "usage: cedar-validate [--mode strict|permissive|partial] [--level N] \
-     [--deny-warnings] [--format lines|json|sarif] [--input text|json] [--entities FILE] \
-     [--request FILE] SCHEMA POLICY..\n";
+/// How many columns the lines of the use may have.
+const WIDTH: usize = 96;
 
-/// What it does, and each option.
-pub const HELP: &str = "\
+/// What stands behind the options.
+const FILES: &str = "[--] SCHEMA POLICY..";
+
+/// What the program does.
+pub const PURPOSE: &str = "\
 Validates the policies of some files by a schema, and says what is wrong and where.
 With --entities or --request it checks data by the schema too, or alone.
-
-  --mode MODE   strict (without this option), permissive or partial
-  --level N     how many entities a policy may dereference, one after another
-  --deny-warnings  a warning counts for the exit status as a refused policy does
-  --format FORM lines for people (without this option), json, which is an object a line,
-                or sarif, one object that code hosts show beside the lines
-  --json        the same as --format json
-  --input FORM  text or json: how all files are written; without this option a file is JSON
-                where it begins with { or [
-  --schema FILE a file of the schema; it can stand several times, and then each file that is
-                named without it is one of policies
-  --entities FILE  a list of entities in JSON; policies may be left out then
-  --request FILE   a request in JSON: principal, action, resource and context
-  -h, --help    this text
-  --version     the version of the program
-  --            what comes behind it is a file, whatever it begins with
-  -             in place of a file: standard input
-
-  cedar-validate --level 1 photos.cedarschema share.cedar
-
-  cedar-validate --entities entities.json --request request.json photos.cedarschema
-
-The exit status is 0 where all policies are accepted and all data is as the schema says,
-1 where some are not, or have a warning and --deny-warnings is given, and 2 where a file
-cannot be read or understood.
 ";
+
+/// What is no option.
+const OTHERS: &str = "  --
+        each word behind it is a file, whatever it begins with
+  -
+        in place of a file: standard input
+";
+
+/// Calls that are right.
+pub const EXAMPLES: [&str; 4] = [
+    "cedar-validate --level 1 photos.cedarschema share.cedar",
+    "cedar-validate --schema photos.cedarschema --policies share.cedar --template-linked links.json",
+    "cedar-validate --since old.cedarschema photos.cedarschema share.cedar",
+    "cedar-validate --entities entities.json --request request.json photos.cedarschema",
+];
+
+/// The exit statuses: the program's own, that of `cedar validate`, which --cedar-status gives, and when it comes.
+pub const STATUSES: [(&str, &str, &str); 4] = [
+    (
+        "0",
+        "0",
+        "all policies are accepted, and all data is as the schema says",
+    ),
+    (
+        "1",
+        "3",
+        "some are not, or have a warning and --deny-warnings is given",
+    ),
+    ("2", "1", "a file cannot be read or understood"),
+    (
+        "2",
+        "2",
+        "the words are wrong, or memory or the output fails",
+    ),
+];
+
+/// How the program is called: each word of the table.
+pub fn usage(alloc: Global) -> Result<String, AllocError> {
+    let mut shown = String::from_str(alloc, "usage: cedar-validate")?;
+    let mut column = shown.len();
+    for word in &WORDS {
+        let mut part = String::from_str(alloc, "[")?;
+        push_names(&mut part, word, "|")?;
+        push_values(&mut part, word)?;
+        part.push_str("]")?;
+        push_wrapped(&mut shown, &mut column, part.as_str())?;
+    }
+    push_wrapped(&mut shown, &mut column, FILES)?;
+    shown.push_str("\n")?;
+    Ok(shown)
+}
+
+/// What the program does, each option, and each exit status.
+pub fn help(alloc: Global) -> Result<String, AllocError> {
+    let mut shown = usage(alloc)?;
+    shown.push_str(PURPOSE)?;
+    shown.push_str("\n")?;
+    for word in &WORDS {
+        shown.push_str("  ")?;
+        push_names(&mut shown, word, ", ")?;
+        push_values(&mut shown, word)?;
+        writeln!(shown, "\n        {}", word.about)?;
+    }
+    shown.push_str(OTHERS)?;
+    for example in EXAMPLES {
+        write!(shown, "\n  {example}\n")?;
+    }
+    shown.push_str("\nThe exit status, and in brackets the one with --cedar-status:\n")?;
+    for (own, cedar, when) in STATUSES {
+        writeln!(shown, "  {own} ({cedar})  {when}")?;
+    }
+    Ok(shown)
+}
+
+/// Adds a part behind a blank, or on a new line where this one has no room.
+fn push_wrapped(shown: &mut String, column: &mut usize, part: &str) -> Result<(), AllocError> {
+    let end = column.saturating_add(part.len()).saturating_add(1);
+    if end > WIDTH {
+        shown.push_str("\n    ")?;
+        *column = part.len().saturating_add(4);
+    } else {
+        shown.push_str(" ")?;
+        *column = end;
+    }
+    shown.push_str(part)
+}
+
+/// Adds the names of a word.
+pub(crate) fn push_names(shown: &mut String, word: &Word, between: &str) -> Result<(), AllocError> {
+    let mut is_first = true;
+    for name in word.names {
+        if !is_first {
+            shown.push_str(between)?;
+        }
+        is_first = false;
+        shown.push_str(name)?;
+    }
+    Ok(())
+}
+
+/// Adds the values that a word takes, behind a blank, if it takes some.
+pub(crate) fn push_values(shown: &mut String, word: &Word) -> Result<(), AllocError> {
+    let Asks::Value(_, values) = word.asks else {
+        return Ok(());
+    };
+    shown.push_str(" ")?;
+    match values {
+        Values::File => shown.push_str("FILE"),
+        Values::Number => shown.push_str("N"),
+        Values::OneOf(texts) => push_texts(shown, texts, "|"),
+    }
+}
+
+/// Adds these texts.
+pub(crate) fn push_texts(
+    shown: &mut String,
+    texts: &[&str],
+    between: &str,
+) -> Result<(), AllocError> {
+    let mut is_first = true;
+    for text in texts {
+        if !is_first {
+            shown.push_str(between)?;
+        }
+        is_first = false;
+        shown.push_str(text)?;
+    }
+    Ok(())
+}

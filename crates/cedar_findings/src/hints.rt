@@ -6,6 +6,8 @@ mod records;
 mod scopes;
 mod types;
 
+pub use accesses::hint_for_undeclared;
+pub(crate) use calls::hint_for_call;
 use cedar_types::base::{Template, ValidationError, ValidationWarning, ValidatorSchema};
 use std::alloc::{AllocError, Global};
 

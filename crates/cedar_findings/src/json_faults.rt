@@ -1,5 +1,7 @@
 //! What is wrong with texts of JSON that cannot be read, in words.
+use crate::fault_hints::meant_type;
 use crate::faults::{TextFault, Written, beginning, push_hint};
+use crate::similar::Search;
 use cedar_json::{Fault, FormError, FormFault, MAX_DEPTH};
 use cedar_types::base::Loc;
 use std::alloc::{AllocError, Global};
@@ -7,7 +9,24 @@ use std::alloc::{AllocError, Global};
 /// What may help where one file was taken for the other.
 const ORDER: &str = "the schema is the first file, and policies come behind it";
 
-/// Why a text of JSON gives no schema or no policy. It fails where it was memory that was refused.
+/// The keys that data has.
+const KEYS_OF_DATA: [&str; 13] = [
+    "uid",
+    "attrs",
+    "parents",
+    "tags",
+    "principal",
+    "action",
+    "resource",
+    "context",
+    "type",
+    "id",
+    "fn",
+    "arg",
+    "args",
+];
+
+/// Why a text of JSON gives no schema, no policy or no data. It fails where it was memory that was refused.
 pub fn form_fault(
     alloc: Global,
     written: Written,
@@ -36,6 +55,9 @@ pub fn form_fault(
         Mention::Token => write!(message, ", where `{token}` is read")?,
     }
     push_hint(&mut message, hint(written, text, start, fault, token))?;
+    if written == Written::Data && fault == FormFault::UnknownKey {
+        push_nearest_key(&mut message, alloc, token.trim_matches('"'))?;
+    }
     Ok(TextFault {
         place: Loc {
             start,
@@ -43,6 +65,21 @@ pub fn form_fault(
         },
         text: message,
     })
+}
+
+/// Adds the key of data that may be meant by another one.
+fn push_nearest_key(message: &mut String, alloc: Global, wrong: &str) -> Result<(), AllocError> {
+    let mut search = Search::new(alloc, wrong)?;
+    let mut nearest = None;
+    for key in KEYS_OF_DATA {
+        if search.is_nearer(key, false)? {
+            nearest = Some(key);
+        }
+    }
+    match nearest {
+        Some(key) => write!(message, "; did you mean `{key}`?"),
+        None => Ok(()),
+    }
 }
 
 /// What is said of what stands at a fault.
@@ -88,8 +125,10 @@ fn hint(written: Written, text: &str, start: usize, fault: FormFault, token: &st
     let is_schema = written == Written::Schema;
     match fault {
         FormFault::Json(fault) => hint_in_json(fault, token, is_first(text, start)),
-        FormFault::UnknownKey if !is_schema && is_key_of_schema(token) => ORDER,
+        FormFault::Null => "what is not there is left out with its key",
+        FormFault::UnknownKey if written == Written::Policies && is_key_of_schema(token) => ORDER,
         FormFault::Expected(_) if is_schema && is_effect(token) => ORDER,
+        FormFault::Undeclared if is_schema => meant_type(token.trim_matches('"')),
         _ => "",
     }
 }
@@ -99,7 +138,6 @@ fn hint_in_json(fault: Fault, token: &str, is_first: bool) -> &'static str {
     match fault {
         Fault::Value | Fault::Key if token == "'" => "texts stand in double quotes",
         Fault::Value if is_first => "this is no JSON",
-        Fault::Null => "what is not there is left out with its key",
         Fault::Fraction | Fault::Exponent => "numbers are whole",
         _ => "",
     }

@@ -1,9 +1,11 @@
 //! What is found, as lines for people.
-use crate::escapes::{Shown, ShownId};
+use crate::digits::push_number;
+use crate::escapes::{push_shown, push_shown_id};
 use crate::excerpts::Excerpt;
 use crate::findings::{Finding, Requirement, Severity, Verdict};
 use crate::totals::Totals;
 use crate::writers::{Entry, FindingsWriter, Place};
+use cedar_reading::Position;
 use std::alloc::AllocError;
 
 /// Writes lines for people, with the text that is meant.
@@ -17,7 +19,11 @@ impl FindingsWriter for Lines {
             Entry::Finding(place, _, severity, finding) => {
                 push_finding(out, place, severity, finding)
             }
-            Entry::Rest(place, _, count) => writeln!(out, "{place}: {count} more findings"),
+            Entry::Rest(place, _, count) => {
+                push_place(out, place)?;
+                push_number(out, count as u64)?;
+                out.push_str(" more findings\n")
+            }
             Entry::Data(place, finding) => {
                 let text = finding.text.as_str();
                 push_message(out, place, "error", text, finding.hint.as_str())
@@ -35,6 +41,17 @@ impl FindingsWriter for Lines {
     }
 }
 
+/// Adds a place, and a colon behind it.
+fn push_place(out: &mut String, place: Place<'_>) -> Result<(), AllocError> {
+    push_shown(out, place.source.name)?;
+    let Position { line, column } = place.at;
+    out.push_str(":")?;
+    push_number(out, line as u64)?;
+    out.push_str(":")?;
+    push_number(out, column as u64)?;
+    out.push_str(": ")
+}
+
 /// Adds the line of a policy.
 fn push_policy(
     out: &mut String,
@@ -42,13 +59,14 @@ fn push_policy(
     id: &str,
     verdict: &Verdict,
 ) -> Result<(), AllocError> {
-    let id = ShownId(id);
-    let outcome = if verdict.is_accepted {
-        "accepted"
+    push_place(out, place)?;
+    out.push_str("policy `")?;
+    push_shown_id(out, id)?;
+    out.push_str(if verdict.is_accepted {
+        "`: accepted"
     } else {
-        "refused"
-    };
-    write!(out, "{place}: policy `{id}`: {outcome}")?;
+        "`: refused"
+    })?;
     push_requirement(out, verdict.requirement)
 }
 
@@ -57,7 +75,11 @@ fn push_requirement(out: &mut String, requirement: Requirement) -> Result<(), Al
     match requirement {
         Requirement::Unsaid => out.push_str("\n"),
         Requirement::NoLevel => out.push_str(", no level is enough\n"),
-        Requirement::Level(level) => writeln!(out, ", level {level}"),
+        Requirement::Level(level) => {
+            out.push_str(", level ")?;
+            push_number(out, u64::from(level.level))?;
+            out.push_str("\n")
+        }
     }
 }
 
@@ -71,14 +93,20 @@ fn push_finding(
     let text = finding.text.as_str();
     push_message(out, place, severity.text(), text, finding.hint.as_str())?;
     for other in &finding.also {
-        let other = Shown(other.as_str());
-        writeln!(out, "  the same for {other}")?;
+        push_indented(out, "the same for ", other.as_str())?;
     }
     for environment in &finding.environments {
-        let environment = Shown(environment.as_str());
-        writeln!(out, "  only for {environment}")?;
+        push_indented(out, "only for ", environment.as_str())?;
     }
     Ok(())
+}
+
+/// Adds a line that belongs to the one before, of these words and a text.
+fn push_indented(out: &mut String, words: &str, text: &str) -> Result<(), AllocError> {
+    out.push_str("  ")?;
+    out.push_str(words)?;
+    push_shown(out, text)?;
+    out.push_str("\n")
 }
 
 /// Adds the line of what is said of a place, with what may help where that is known, and the lines of the place.
@@ -89,37 +117,45 @@ fn push_message(
     text: &str,
     hint: &str,
 ) -> Result<(), AllocError> {
-    let message = Shown(text);
-    write!(out, "{place}: {kind}: {message}")?;
+    push_place(out, place)?;
+    out.push_str(kind)?;
+    out.push_str(": ")?;
+    push_shown(out, text)?;
     if !hint.is_empty() {
-        let hint = Shown(hint);
-        write!(out, "; {hint}")?;
+        out.push_str("; ")?;
+        push_shown(out, hint)?;
     }
-    let excerpt = Excerpt::new(place.source.text, place.loc);
+    let excerpt = Excerpt::new(place.source.text, place.loc, place.at.line);
     write!(out, "\n{excerpt}")
 }
 
 /// Adds the line of a file that cannot be had.
 fn push_missing(out: &mut String, file: &str, why: &str) -> Result<(), AllocError> {
-    let file = Shown(file);
-    let why = Shown(why);
-    writeln!(out, "{file}: fault: {why}")
+    push_shown(out, file)?;
+    out.push_str(": fault: ")?;
+    push_shown(out, why)?;
+    out.push_str("\n")
 }
 
 /// Adds the last line.
 fn push_totals(out: &mut String, totals: &Totals) -> Result<(), AllocError> {
     let mut before = "";
     for (name, count) in totals.counts() {
-        write!(out, "{before}{name}: {count}")?;
+        out.push_str(before)?;
+        push_count(out, name, count)?;
         before = ", ";
     }
     let data = totals.data;
     if data.is_asked {
-        write!(
-            out,
-            ", entities: {}, errors in data: {}",
-            data.entities, data.errors
-        )?;
+        push_count(out, ", entities", data.entities)?;
+        push_count(out, ", errors in data", data.errors)?;
     }
     push_requirement(out, totals.requirement)
+}
+
+/// Adds a count behind its name.
+fn push_count(out: &mut String, name: &str, count: u64) -> Result<(), AllocError> {
+    out.push_str(name)?;
+    out.push_str(": ")?;
+    push_number(out, count)
 }

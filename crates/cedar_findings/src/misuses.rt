@@ -17,12 +17,30 @@ pub enum Misuse {
     Format,
     #[error("`--input` takes `text` or `json`")]
     Input,
+    #[error("`--schema-format` takes `cedar` or `json`")]
+    SchemaFormat,
+    #[error("`--policy-format` takes `cedar` or `json`")]
+    PolicyFormat,
     #[error("`--schema` takes a file")]
     Schema,
+    #[error("`--policies` takes a file")]
+    Policies,
+    #[error("`--template-linked` takes a file, once")]
+    Links,
     #[error("`--entities` takes a file, once")]
     Entities,
     #[error("`--request` takes a file, once")]
     Request,
+    #[error("`--since` takes a file")]
+    Since,
+    #[error("`--completion` takes `bash`, `zsh` or `fish`")]
+    Completion,
+    #[error("`--check-parse` is for schemas and policies alone: without `--since`, `--template-linked`, `--entities` and `--request`")]
+    ParseAlone,
+    #[error("`--since` is for policies alone: without `--entities` and `--request`")]
+    SinceAlone,
+    #[error("at least one file is wanted, of policies or behind `--schema`")]
+    NothingToParse,
     #[error("a schema and at least one file of policies are wanted")]
     TooFewFiles,
     #[error("standard input, `-`, can be read once")]

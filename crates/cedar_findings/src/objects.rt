@@ -1,7 +1,7 @@
 //! The same as objects of JSON, one a line.
 use crate::codes::Code;
-use crate::escapes::Quoted;
 use crate::findings::{Finding, Requirement, Severity, Verdict};
+use crate::json::JsonWriter;
 use crate::totals::Totals;
 use crate::writers::{Entry, FindingsWriter, Place};
 use cedar_reading::Position;
@@ -13,157 +13,169 @@ pub struct Objects;
 
 impl FindingsWriter for Objects {
     fn add(&mut self, out: &mut String, entry: Entry<'_>) -> Result<(), AllocError> {
-        match entry {
-            Entry::Policy(place, id, verdict) => push_policy(out, place, id, verdict),
-            Entry::Finding(place, id, severity, finding) => {
-                push_finding(out, place, id, severity, finding)
-            }
-            Entry::Rest(place, id, count) => push_rest(out, place, id, count),
-            Entry::Data(place, finding) => {
-                push_place(out, "data", place)?;
-                push_code(out, finding.code)?;
-                push_text(out, finding.text.as_str(), finding.hint.as_str())?;
-                out.push_str("}\n")
-            }
-            Entry::Fault(place, text) => {
-                push_place(out, "fault", place)?;
-                push_code(out, Code::Fault)?;
-                push_text(out, text, "")?;
-                out.push_str("}\n")
-            }
-            Entry::Missing(file, why) => push_missing(out, file, why),
-        }
+        let mut json = JsonWriter::new();
+        json.begin_object(out)?;
+        add_members(&mut json, out, entry)?;
+        json.end_object(out)?;
+        json.end_line(out)
     }
 
     fn end(&mut self, out: &mut String, totals: &Totals) -> Result<(), AllocError> {
         if totals.lacks_schema {
             return Ok(());
         }
-        push_totals(out, totals)
+        let mut json = JsonWriter::new();
+        add_totals(&mut json, out, totals)?;
+        json.end_line(out)
+    }
+}
+
+/// Adds the members of what is found.
+fn add_members(
+    json: &mut JsonWriter,
+    out: &mut String,
+    entry: Entry<'_>,
+) -> Result<(), AllocError> {
+    match entry {
+        Entry::Policy(place, id, verdict) => add_policy(json, out, place, id, verdict),
+        Entry::Finding(place, id, severity, finding) => {
+            add_place(json, out, severity.text(), place)?;
+            add_finding(json, out, id, finding)
+        }
+        Entry::Rest(place, id, count) => {
+            add_place(json, out, "rest", place)?;
+            json.text_at(out, "id", id)?;
+            json.number_at(out, "findings", count as u64)
+        }
+        Entry::Data(place, finding) => {
+            add_place(json, out, "data", place)?;
+            json.text_at(out, "code", finding.code.text())?;
+            add_text(json, out, finding.text.as_str(), finding.hint.as_str())
+        }
+        Entry::Fault(place, text) => {
+            add_place(json, out, "fault", place)?;
+            json.text_at(out, "code", Code::Fault.text())?;
+            add_text(json, out, text, "")
+        }
+        Entry::Missing(file, why) => {
+            json.text_at(out, "kind", "fault")?;
+            json.text_at(out, "file", file)?;
+            json.text_at(out, "code", Code::File.text())?;
+            add_text(json, out, why, "")
+        }
     }
 }
 
 /// Adds the kind of an object and its place.
-fn push_place(out: &mut String, kind: &str, place: Place<'_>) -> Result<(), AllocError> {
-    let file = Quoted(place.source.name);
+/// Adds the kind of a line, and its place.
+pub(crate) fn add_place(
+    json: &mut JsonWriter,
+    out: &mut String,
+    kind: &str,
+    place: Place<'_>,
+) -> Result<(), AllocError> {
+    json.text_at(out, "kind", kind)?;
+    json.text_at(out, "file", place.source.name)?;
     let Position { line, column } = place.at;
-    write!(
-        out,
-        "{{\"kind\":\"{kind}\",\"file\":{file},\"line\":{line},\"column\":{column}"
-    )?;
+    json.number_at(out, "line", line as u64)?;
+    json.number_at(out, "column", column as u64)?;
     let Position { line, column } = place.end();
-    write!(out, ",\"end_line\":{line},\"end_column\":{column}")
-}
-
-/// Adds the id of a policy.
-fn push_id(out: &mut String, id: &str) -> Result<(), AllocError> {
-    let id = Quoted(id);
-    write!(out, ",\"id\":{id}")
-}
-
-/// Adds of which kind it is what is found.
-fn push_code(out: &mut String, code: Code) -> Result<(), AllocError> {
-    let code = code.text();
-    write!(out, ",\"code\":\"{code}\"")
+    json.number_at(out, "end_line", line as u64)?;
+    json.number_at(out, "end_column", column as u64)
 }
 
 /// Adds what is said, and what may help where that is known.
-fn push_text(out: &mut String, text: &str, hint: &str) -> Result<(), AllocError> {
-    let text = Quoted(text);
-    write!(out, ",\"text\":{text}")?;
+fn add_text(
+    json: &mut JsonWriter,
+    out: &mut String,
+    text: &str,
+    hint: &str,
+) -> Result<(), AllocError> {
+    json.text_at(out, "text", text)?;
     if !hint.is_empty() {
-        let hint = Quoted(hint);
-        write!(out, ",\"hint\":{hint}")?;
+        json.text_at(out, "hint", hint)?;
     }
     Ok(())
 }
 
-/// Adds the object of a policy.
-fn push_policy(
+/// Adds the members of a policy.
+fn add_policy(
+    json: &mut JsonWriter,
     out: &mut String,
     place: Place<'_>,
     id: &str,
     verdict: &Verdict,
 ) -> Result<(), AllocError> {
-    push_place(out, "policy", place)?;
-    push_id(out, id)?;
-    let accepted = verdict.is_accepted;
-    write!(out, ",\"accepted\":{accepted}")?;
-    push_requirement(out, verdict.requirement)
+    add_place(json, out, "policy", place)?;
+    json.text_at(out, "id", id)?;
+    json.key(out, "accepted")?;
+    json.boolean(out, verdict.is_accepted)?;
+    add_requirement(json, out, verdict.requirement)
 }
 
-/// Adds what is needed, and ends the object.
-fn push_requirement(out: &mut String, requirement: Requirement) -> Result<(), AllocError> {
+/// Adds what is needed, if that is said.
+fn add_requirement(
+    json: &mut JsonWriter,
+    out: &mut String,
+    requirement: Requirement,
+) -> Result<(), AllocError> {
     match requirement {
-        Requirement::Unsaid => out.push_str("}\n"),
-        Requirement::NoLevel => out.push_str(",\"level\":null}\n"),
-        Requirement::Level(level) => writeln!(out, ",\"level\":{level}}}"),
+        Requirement::Unsaid => Ok(()),
+        Requirement::NoLevel => {
+            json.key(out, "level")?;
+            json.null(out)
+        }
+        Requirement::Level(level) => json.number_at(out, "level", u64::from(level.level)),
     }
 }
 
-/// Adds the object of a finding in the policy of this id.
-fn push_finding(
+/// Adds the members of a finding in the policy of this id, behind its place.
+fn add_finding(
+    json: &mut JsonWriter,
     out: &mut String,
-    place: Place<'_>,
     id: &str,
-    severity: Severity,
     finding: &Finding,
 ) -> Result<(), AllocError> {
-    push_place(out, severity.text(), place)?;
-    push_code(out, finding.code)?;
-    push_id(out, id)?;
-    push_text(out, finding.text.as_str(), finding.hint.as_str())?;
+    json.text_at(out, "code", finding.code.text())?;
+    json.text_at(out, "id", id)?;
+    add_text(json, out, finding.text.as_str(), finding.hint.as_str())?;
     if !finding.also.is_empty() {
-        push_list(out, "also", &finding.also)?;
+        add_texts(json, out, "also", &finding.also)?;
     }
-    push_list(out, "only", &finding.environments)?;
-    out.push_str("}\n")
+    add_texts(json, out, "only", &finding.environments)
 }
 
 /// Adds a member of this name, a list of texts.
-fn push_list(out: &mut String, name: &str, texts: &Vec<String>) -> Result<(), AllocError> {
-    write!(out, ",\"{name}\":[")?;
-    let mut is_first = true;
+fn add_texts(
+    json: &mut JsonWriter,
+    out: &mut String,
+    name: &str,
+    texts: &Vec<String>,
+) -> Result<(), AllocError> {
+    json.key(out, name)?;
+    json.begin_list(out)?;
     for text in texts {
-        if !is_first {
-            out.push_str(",")?;
-        }
-        is_first = false;
-        let text = Quoted(text.as_str());
-        write!(out, "{text}")?;
+        json.text(out, text.as_str())?;
     }
-    out.push_str("]")
+    json.end_list(out)
 }
 
-/// Adds the object of the policy of this id that has so many findings more than are shown.
-fn push_rest(out: &mut String, place: Place<'_>, id: &str, count: usize) -> Result<(), AllocError> {
-    push_place(out, "rest", place)?;
-    push_id(out, id)?;
-    writeln!(out, ",\"findings\":{count}}}")
-}
-
-/// Adds the object of a file that cannot be had.
-fn push_missing(out: &mut String, file: &str, why: &str) -> Result<(), AllocError> {
-    let file = Quoted(file);
-    write!(out, "{{\"kind\":\"fault\",\"file\":{file}")?;
-    push_code(out, Code::File)?;
-    push_text(out, why, "")?;
-    out.push_str("}\n")
-}
-
-/// Adds the last object.
-pub fn push_totals(out: &mut String, totals: &Totals) -> Result<(), AllocError> {
-    out.push_str("{\"kind\":\"summary\"")?;
+/// Adds the object of all counts.
+pub fn add_totals(
+    json: &mut JsonWriter,
+    out: &mut String,
+    totals: &Totals,
+) -> Result<(), AllocError> {
+    json.begin_object(out)?;
+    json.text_at(out, "kind", "summary")?;
     for (name, count) in totals.counts() {
-        write!(out, ",\"{name}\":{count}")?;
+        json.number_at(out, name, count)?;
     }
     let data = totals.data;
     if data.is_asked {
-        write!(
-            out,
-            ",\"entities\":{},\"data_errors\":{}",
-            data.entities, data.errors
-        )?;
+        json.number_at(out, "entities", data.entities)?;
+        json.number_at(out, "data_errors", data.errors)?;
     }
-    push_requirement(out, totals.requirement)
+    add_requirement(json, out, totals.requirement)?;
+    json.end_object(out)
 }

@@ -1,43 +1,218 @@
-// The options that take a value.
+//! The words of the command line: one table, by which they are read, and of which the help, the completion and the page are made.
 use crate::misuses::Misuse;
 
 /// An option that takes a value, as the next word or behind a `=`.
 #[derive(Clone, Copy)]
 pub enum ValueOption {
+    Schema,
+    Policies,
+    Links,
     Mode,
     Level,
     Format,
     Input,
-    Schema,
+    SchemaFormat,
+    PolicyFormat,
     Entities,
     Request,
+    Since,
+    Completion,
+}
+
+/// An option that takes no value.
+#[derive(Clone, Copy)]
+pub enum Flag {
+    DeniesWarnings,
+    Json,
+    Quiet,
+    UniqueIds,
+    CedarStatus,
+    CheckParse,
+    Page,
+    Help,
+    Version,
+}
+
+/// An option.
+#[derive(Clone, Copy)]
+pub enum Asks {
+    Value(ValueOption, Values),
+    Flag(Flag),
+}
+
+/// The values of an option.
+#[derive(Clone, Copy)]
+pub enum Values {
+    /// The name of a file.
+    File,
+    Number,
+    /// One of these words.
+    OneOf(&'static [&'static str]),
+}
+
+/// A word of the command line that is an option.
+#[derive(Clone, Copy)]
+pub struct Word {
+    /// Its names, of which one or two mean the same.
+    pub names: &'static [&'static str],
+    pub asks: Asks,
+    /// What it is for, in one line.
+    pub about: &'static str,
+}
+
+const MODES: Values = Values::OneOf(&["strict", "permissive", "partial"]);
+
+const FORMATS: Values = Values::OneOf(&["lines", "json", "sarif"]);
+
+const INPUTS: Values = Values::OneOf(&["text", "json"]);
+
+const SYNTAXES: Values = Values::OneOf(&["cedar", "json"]);
+
+const SHELLS: Values = Values::OneOf(&["bash", "zsh", "fish"]);
+
+/// All options, in the order of the help.
+pub const WORDS: [Word; 22] = [
+    Word {
+        names: &["-s", "--schema"],
+        asks: Asks::Value(ValueOption::Schema, Values::File),
+        about: "a file of the schema; with it each file without an option is one of policies",
+    },
+    Word {
+        names: &["-p", "--policies"],
+        asks: Asks::Value(ValueOption::Policies, Values::File),
+        about: "a file of policies, as one without an option; - is standard input",
+    },
+    Word {
+        names: &["-k", "--template-linked"],
+        asks: Asks::Value(ValueOption::Links, Values::File),
+        about: "a list in JSON of links: objects of template_id, link_id and args",
+    },
+    Word {
+        names: &["--mode", "--validation-mode"],
+        asks: Asks::Value(ValueOption::Mode, MODES),
+        about: "how strict types are; strict without this option",
+    },
+    Word {
+        names: &["--level"],
+        asks: Asks::Value(ValueOption::Level, Values::Number),
+        about: "how many entities a policy may dereference, one after another",
+    },
+    Word {
+        names: &["--deny-warnings"],
+        asks: Asks::Flag(Flag::DeniesWarnings),
+        about: "a warning counts for the exit status as a refused policy does",
+    },
+    Word {
+        names: &["--since"],
+        asks: Asks::Value(ValueOption::Since, Values::File),
+        about: "an older schema: tells which policies another verdict is given on since",
+    },
+    Word {
+        names: &["--check-parse"],
+        asks: Asks::Flag(Flag::CheckParse),
+        about: "reads policies, and files of --schema, and validates nothing",
+    },
+    Word {
+        names: &["--unique-ids"],
+        asks: Asks::Flag(Flag::UniqueIds),
+        about: "refuses a policy of which another file of the call has the id",
+    },
+    Word {
+        names: &["--format"],
+        asks: Asks::Value(ValueOption::Format, FORMATS),
+        about: "lines for people, an object of JSON a line, or one object of SARIF",
+    },
+    Word {
+        names: &["--json"],
+        asks: Asks::Flag(Flag::Json),
+        about: "the same as --format json",
+    },
+    Word {
+        names: &["-q", "--quiet"],
+        asks: Asks::Flag(Flag::Quiet),
+        about: "leaves out accepted policies without a finding, and the last line",
+    },
+    Word {
+        names: &["--input"],
+        asks: Asks::Value(ValueOption::Input, INPUTS),
+        about: "how all files are written; without it one is JSON where it begins with { or [",
+    },
+    Word {
+        names: &["--schema-format"],
+        asks: Asks::Value(ValueOption::SchemaFormat, SYNTAXES),
+        about: "how the files of the schema are written",
+    },
+    Word {
+        names: &["--policy-format"],
+        asks: Asks::Value(ValueOption::PolicyFormat, SYNTAXES),
+        about: "how the files of policies are written",
+    },
+    Word {
+        names: &["--entities"],
+        asks: Asks::Value(ValueOption::Entities, Values::File),
+        about: "a list of entities in JSON; policies may be left out then",
+    },
+    Word {
+        names: &["--request"],
+        asks: Asks::Value(ValueOption::Request, Values::File),
+        about: "a request in JSON: principal, action, resource and context",
+    },
+    Word {
+        names: &["--cedar-status"],
+        asks: Asks::Flag(Flag::CedarStatus),
+        about: "ends with the exit status of cedar validate",
+    },
+    Word {
+        names: &["--completion"],
+        asks: Asks::Value(ValueOption::Completion, SHELLS),
+        about: "writes what completes these words in a shell",
+    },
+    Word {
+        names: &["--man"],
+        asks: Asks::Flag(Flag::Page),
+        about: "writes a page for man",
+    },
+    Word {
+        names: &["-h", "--help"],
+        asks: Asks::Flag(Flag::Help),
+        about: "this text",
+    },
+    Word {
+        names: &["-V", "--version"],
+        asks: Asks::Flag(Flag::Version),
+        about: "the version of the program",
+    },
+];
+
+/// The option of this name, if there is one.
+pub fn option_by_name(name: &str) -> Option<Asks> {
+    for word in WORDS {
+        for own in word.names {
+            if *own == name {
+                return Some(word.asks);
+            }
+        }
+    }
+    None
 }
 
 impl ValueOption {
-    /// The option of this name, if there is one.
-    pub fn by_name(name: &str) -> Option<ValueOption> {
-        match name {
-            "--mode" => Some(ValueOption::Mode),
-            "--level" => Some(ValueOption::Level),
-            "--format" => Some(ValueOption::Format),
-            "--input" => Some(ValueOption::Input),
-            "--schema" => Some(ValueOption::Schema),
-            "--entities" => Some(ValueOption::Entities),
-            "--request" => Some(ValueOption::Request),
-            _ => None,
-        }
-    }
-
     /// What is wrong where its value is not there, or none that it takes.
     pub fn misuse(self) -> Misuse {
         match self {
+            ValueOption::Schema => Misuse::Schema,
+            ValueOption::Policies => Misuse::Policies,
+            ValueOption::Links => Misuse::Links,
             ValueOption::Mode => Misuse::Mode,
             ValueOption::Level => Misuse::Level,
             ValueOption::Format => Misuse::Format,
             ValueOption::Input => Misuse::Input,
-            ValueOption::Schema => Misuse::Schema,
+            ValueOption::SchemaFormat => Misuse::SchemaFormat,
+            ValueOption::PolicyFormat => Misuse::PolicyFormat,
             ValueOption::Entities => Misuse::Entities,
             ValueOption::Request => Misuse::Request,
+            ValueOption::Since => Misuse::Since,
+            ValueOption::Completion => Misuse::Completion,
         }
     }
 }

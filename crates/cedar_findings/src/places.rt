@@ -83,10 +83,20 @@ const BEGINNING: Position = Position { line: 1, column: 1 };
 /// The position behind this text, which begins at that one.
 pub fn position_behind(start: Position, text: &str) -> Position {
     let mut position = start;
-    for c in text.chars() {
-        position = behind(position, c);
+    for byte in text.bytes() {
+        if byte == b'\n' {
+            position.line = position.line.saturating_add(1);
+            position.column = 1;
+        } else if is_first_of_character(byte) {
+            position.column = position.column.saturating_add(1);
+        }
     }
     position
+}
+
+/// Whether a byte of UTF-8 is the first of its character: the others are 0x80 to 0xbf.
+fn is_first_of_character(byte: u8) -> bool {
+    byte & 0xc0 != 0x80
 }
 
 /// The position behind a character.

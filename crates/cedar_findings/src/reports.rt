@@ -10,6 +10,9 @@ use crate::writers::{Entry, FindingsWriter, Place};
 use cedar_types::base::{Loc, Template};
 use std::alloc::{AllocError, Global};
 
+/// How many bytes a line has room for before it grows.
+const LINE: usize = 128;
+
 /// Shows what is found in a file.
 #[derive(Drop)]
 pub struct Report<'a> {
@@ -53,7 +56,7 @@ impl<'a> Report<'a> {
         policy: &Template,
         verdict: &Verdict,
     ) -> Result<String, AllocError> {
-        let mut shown = String::new(alloc);
+        let mut shown = String::with_capacity(alloc, LINE)?;
         let out = &mut shown;
         let place = self.place(loc_of(policy));
         let id = policy.id.text.as_str();

@@ -1,189 +1,275 @@
 //! The same as SARIF 2.1.0, one object of JSON for all: what code hosts show beside the lines.
 use crate::codes::{CODES, Code};
 use crate::data_findings::DataFinding;
-use crate::escapes::{Escaped, Quoted};
 use crate::findings::{Finding, Severity};
+use crate::json::JsonWriter;
 use crate::objects;
+use crate::rules::{description, help};
 use crate::totals::Totals;
 use crate::writers::{Entry, FindingsWriter, Place};
 use cedar_reading::Position;
 use std::alloc::AllocError;
-use std::fmt;
 
-/// What stands before the kinds of findings.
-const BEGINNING: &str =
-    "{\"$schema\":\"https://json.schemastore.org/sarif-2.1.0.json\",\"version\":\"2.1.0\",\
-     \"runs\":[{\"tool\":{\"driver\":{\"name\":\"cedar-validate\",\"version\":\"0.1.0\",\"rules\":[";
+/// Where the form of SARIF is written down.
+const SCHEMA: &str = "https://json.schemastore.org/sarif-2.1.0.json";
 
 /// Writes one object of SARIF for all.
 #[derive(Clone, Copy)]
 pub struct Sarif {
-    /// Whether a result was written: between two stands a comma.
-    has_results: bool,
+    json: JsonWriter,
 }
 
 impl FindingsWriter for Sarif {
     fn begin(&mut self, out: &mut String) -> Result<(), AllocError> {
-        push_beginning(out)
+        add_beginning(&mut self.json, out)
     }
 
     fn add(&mut self, out: &mut String, entry: Entry<'_>) -> Result<(), AllocError> {
+        let json = &mut self.json;
         match entry {
-            Entry::Policy(_, _, _) => Ok(()),
+            Entry::Policy(_, _, _) => return Ok(()),
             Entry::Finding(place, id, severity, finding) => {
-                self.push_kind(out, finding.code, severity)?;
-                push_finding(out, id, finding)?;
-                push_place(out, place)
+                begin_result(json, out, finding.code, severity)?;
+                add_finding(json, out, id, finding)?;
+                add_place(json, out, place)?;
             }
             Entry::Rest(place, id, count) => {
-                self.push_kind(out, Code::Rest, Severity::Error)?;
-                let id = Escaped(id);
-                write!(out, "policy `{id}`: {count} more findings")?;
-                push_place(out, place)
+                begin_result(json, out, Code::Rest, Severity::Error)?;
+                add_rest(json, out, id, count)?;
+                add_place(json, out, place)?;
             }
             Entry::Data(place, finding) => {
-                self.push_kind(out, finding.code, Severity::Error)?;
-                push_data(out, finding)?;
-                push_place(out, place)
+                begin_result(json, out, finding.code, Severity::Error)?;
+                add_data(json, out, finding)?;
+                add_place(json, out, place)?;
             }
             Entry::Fault(place, text) => {
-                self.push_kind(out, Code::Fault, Severity::Error)?;
-                push_text(out, "", text)?;
-                push_place(out, place)
+                begin_result(json, out, Code::Fault, Severity::Error)?;
+                json.text_part(out, text)?;
+                add_place(json, out, place)?;
             }
             Entry::Missing(file, why) => {
-                self.push_kind(out, Code::File, Severity::Error)?;
-                push_text(out, "", why)?;
-                push_file(out, file)?;
-                out.push_str("}}]}")
+                begin_result(json, out, Code::File, Severity::Error)?;
+                json.text_part(out, why)?;
+                add_file(json, out, file)?;
             }
         }
+        end_result(json, out)
     }
 
     fn end(&mut self, out: &mut String, totals: &Totals) -> Result<(), AllocError> {
-        push_end(out, totals)
+        add_end(&mut self.json, out, totals)
     }
 }
 
 impl Sarif {
     /// Where nothing is written yet.
     pub fn new() -> Sarif {
-        Sarif { has_results: false }
-    }
-
-    /// Adds a result up to its message, and a comma before it where it is not the first.
-    fn push_kind(
-        &mut self,
-        out: &mut String,
-        code: Code,
-        severity: Severity,
-    ) -> Result<(), AllocError> {
-        out.push_str(if self.has_results { ",\n" } else { "\n" })?;
-        self.has_results = true;
-        let code = code.text();
-        let level = severity.text();
-        write!(
-            out,
-            "{{\"ruleId\":\"{code}\",\"level\":\"{level}\",\"message\":{{\"text\":\""
-        )
+        Sarif {
+            json: JsonWriter::new(),
+        }
     }
 }
 
 /// Adds what stands before the results.
-fn push_beginning(out: &mut String) -> Result<(), AllocError> {
-    out.push_str(BEGINNING)?;
-    let mut is_first = true;
+fn add_beginning(json: &mut JsonWriter, out: &mut String) -> Result<(), AllocError> {
+    json.begin_object(out)?;
+    json.text_at(out, "$schema", SCHEMA)?;
+    json.text_at(out, "version", "2.1.0")?;
+    json.key(out, "runs")?;
+    json.begin_list(out)?;
+    json.begin_object(out)?;
+    json.key(out, "tool")?;
+    json.begin_object(out)?;
+    json.key(out, "driver")?;
+    json.begin_object(out)?;
+    json.text_at(out, "name", "cedar-validate")?;
+    json.text_at(out, "version", "0.1.0")?;
+    json.key(out, "rules")?;
+    json.begin_list(out)?;
     for code in CODES {
-        out.push_str(if is_first { "\n" } else { ",\n" })?;
-        is_first = false;
-        let id = code.text();
-        let meaning = Quoted(code.meaning());
-        write!(
-            out,
-            "{{\"id\":\"{id}\",\"shortDescription\":{{\"text\":{meaning}}}}}"
-        )?;
+        json.begin_line(out)?;
+        add_rule(json, out, code)?;
     }
-    out.push_str("]}},\n\"columnKind\":\"unicodeCodePoints\",\"results\":[")
+    json.end_list(out)?;
+    json.end_object(out)?;
+    json.end_object(out)?;
+    json.begin_line(out)?;
+    json.text_at(out, "columnKind", "unicodeCodePoints")?;
+    json.key(out, "results")?;
+    json.begin_list(out)
 }
 
-/// Adds a part of a message, behind the words that lead to it.
-fn push_text(out: &mut String, words: &str, text: &str) -> Result<(), AllocError> {
-    let text = Escaped(text);
-    write!(out, "{words}{text}")
+/// Adds a kind of finding. It has no `helpUri`, because SARIF wants an absolute address there and the documentation has none.
+fn add_rule(json: &mut JsonWriter, out: &mut String, code: Code) -> Result<(), AllocError> {
+    json.begin_object(out)?;
+    json.text_at(out, "id", code.text())?;
+    add_message(json, out, "shortDescription", code.meaning())?;
+    add_message(json, out, "fullDescription", description(code))?;
+    add_message(json, out, "help", help(code))?;
+    json.end_object(out)
+}
+
+/// Adds a member of this name that is a message.
+fn add_message(
+    json: &mut JsonWriter,
+    out: &mut String,
+    name: &str,
+    text: &str,
+) -> Result<(), AllocError> {
+    json.key(out, name)?;
+    json.begin_object(out)?;
+    json.text_at(out, "text", text)?;
+    json.end_object(out)
+}
+
+/// Begins a result on a line of its own, up to the text of its message.
+fn begin_result(
+    json: &mut JsonWriter,
+    out: &mut String,
+    code: Code,
+    severity: Severity,
+) -> Result<(), AllocError> {
+    json.begin_line(out)?;
+    json.begin_object(out)?;
+    json.text_at(out, "ruleId", code.text())?;
+    json.text_at(out, "level", severity.text())?;
+    json.key(out, "message")?;
+    json.begin_object(out)?;
+    json.key(out, "text")?;
+    json.begin_text(out)
 }
 
 /// Adds what is found in the policy of this id, with what may help, and where it is so.
-fn push_finding(out: &mut String, id: &str, finding: &Finding) -> Result<(), AllocError> {
-    push_text(out, "policy `", id)?;
-    push_text(out, "`: ", finding.text.as_str())?;
+fn add_finding(
+    json: &JsonWriter,
+    out: &mut String,
+    id: &str,
+    finding: &Finding,
+) -> Result<(), AllocError> {
+    add_part(json, out, "policy `", id)?;
+    add_part(json, out, "`: ", finding.text.as_str())?;
     if !finding.hint.is_empty() {
-        push_text(out, "; ", finding.hint.as_str())?;
+        add_part(json, out, "; ", finding.hint.as_str())?;
     }
     for other in &finding.also {
-        push_text(out, "; the same for ", other.as_str())?;
+        add_part(json, out, "; the same for ", other.as_str())?;
     }
     for environment in &finding.environments {
-        push_text(out, "; only for ", environment.as_str())?;
+        add_part(json, out, "; only for ", environment.as_str())?;
     }
     Ok(())
+}
+
+/// Adds how many more findings the policy of this id has.
+fn add_rest(json: &JsonWriter, out: &mut String, id: &str, count: usize) -> Result<(), AllocError> {
+    add_part(json, out, "policy `", id)?;
+    json.text_part(out, "`: ")?;
+    json.number_part(out, count as u64)?;
+    json.text_part(out, " more findings")
 }
 
 /// Adds a mistake in data, with what may help.
-fn push_data(out: &mut String, finding: &DataFinding) -> Result<(), AllocError> {
-    push_text(out, "", finding.text.as_str())?;
+fn add_data(json: &JsonWriter, out: &mut String, finding: &DataFinding) -> Result<(), AllocError> {
+    json.text_part(out, finding.text.as_str())?;
     if !finding.hint.is_empty() {
-        push_text(out, "; ", finding.hint.as_str())?;
+        add_part(json, out, "; ", finding.hint.as_str())?;
     }
     Ok(())
 }
 
-/// Ends the message, and adds a file.
-fn push_file(out: &mut String, file: &str) -> Result<(), AllocError> {
-    let file = Uri(file);
-    out.push_str("\"},\"locations\":[{\"physicalLocation\":")?;
-    write!(out, "{{\"artifactLocation\":{{\"uri\":\"{file}\"}}")
+/// Adds a part of a message, behind the words that lead to it.
+fn add_part(
+    json: &JsonWriter,
+    out: &mut String,
+    words: &str,
+    text: &str,
+) -> Result<(), AllocError> {
+    json.text_part(out, words)?;
+    json.text_part(out, text)
 }
 
-/// Ends the message, adds a place, and ends the result.
-fn push_place(out: &mut String, place: Place<'_>) -> Result<(), AllocError> {
-    push_file(out, place.source.name)?;
+/// Ends the message, and begins its place with a file.
+fn add_file(json: &mut JsonWriter, out: &mut String, file: &str) -> Result<(), AllocError> {
+    json.end_text(out)?;
+    json.end_object(out)?;
+    json.key(out, "locations")?;
+    json.begin_list(out)?;
+    json.begin_object(out)?;
+    json.key(out, "physicalLocation")?;
+    json.begin_object(out)?;
+    json.key(out, "artifactLocation")?;
+    json.begin_object(out)?;
+    json.key(out, "uri")?;
+    json.begin_text(out)?;
+    add_reference(json, out, file)?;
+    json.end_text(out)?;
+    json.end_object(out)
+}
+
+/// Ends the message, and begins its place with a file and where in it that is.
+fn add_place(json: &mut JsonWriter, out: &mut String, place: Place<'_>) -> Result<(), AllocError> {
+    add_file(json, out, place.source.name)?;
+    json.key(out, "region")?;
+    json.begin_object(out)?;
     let Position { line, column } = place.at;
-    write!(
-        out,
-        ",\"region\":{{\"startLine\":{line},\"startColumn\":{column}"
-    )?;
+    json.number_at(out, "startLine", line as u64)?;
+    json.number_at(out, "startColumn", column as u64)?;
     let Position { line, column } = place.end();
-    write!(out, ",\"endLine\":{line},\"endColumn\":{column}}}}}}}]}}")
+    json.number_at(out, "endLine", line as u64)?;
+    json.number_at(out, "endColumn", column as u64)?;
+    json.end_object(out)
+}
+
+/// Ends the place of a result, and the result.
+fn end_result(json: &mut JsonWriter, out: &mut String) -> Result<(), AllocError> {
+    json.end_object(out)?;
+    json.end_object(out)?;
+    json.end_list(out)?;
+    json.end_object(out)
+}
+
+/// Adds the name of a file as a reference: what is no letter, digit or one of `-._~/` stands as `%` with its number.
+fn add_reference(json: &JsonWriter, out: &mut String, file: &str) -> Result<(), AllocError> {
+    if file.starts_with('/') {
+        json.text_part(out, "file://")?;
+    }
+    for byte in file.bytes() {
+        if byte.is_ascii_alphanumeric() || matches!(byte, b'-' | b'.' | b'_' | b'~' | b'/') {
+            json.char_part(out, char::from(byte))?;
+        } else {
+            json.char_part(out, '%')?;
+            json.char_part(out, digit(byte >> 4))?;
+            json.char_part(out, digit(byte & 15))?;
+        }
+    }
+    Ok(())
+}
+
+/// The hexadecimal digit of a number below 16, as a capital letter.
+fn digit(number: u8) -> char {
+    match char::from_digit(u32::from(number), 16) {
+        Some(digit) => digit.to_ascii_uppercase(),
+        None => '0',
+    }
 }
 
 /// Adds what stands behind the results: the counts of all, and whether all was read.
-fn push_end(out: &mut String, totals: &Totals) -> Result<(), AllocError> {
-    let is_read = totals.faults == 0;
-    write!(
-        out,
-        "],\n\"invocations\":[{{\"executionSuccessful\":{is_read}}}]"
-    )?;
-    out.push_str(",\"properties\":")?;
-    objects::push_totals(out, totals)?;
-    out.push_str("}]}\n")
-}
-
-/// The name of a file as a reference: what is no letter, digit or one of `-._~/` stands as `%` with its number.
-#[derive(Drop)]
-pub struct Uri<'a>(pub &'a str);
-
-impl fmt::Display for Uri<'_> {
-    fn fmt<W: fmt::Write>(&self, f: &mut fmt::Formatter<W>) -> fmt::Result {
-        if self.0.starts_with('/') {
-            f.write_str("file://")?;
-        }
-        for byte in self.0.bytes() {
-            if byte.is_ascii_alphanumeric() || matches!(byte, b'-' | b'.' | b'_' | b'~' | b'/') {
-                f.write_char(char::from(byte))?;
-            } else {
-                write!(f, "%{byte:02X}")?;
-            }
-        }
-        Ok(())
-    }
+fn add_end(json: &mut JsonWriter, out: &mut String, totals: &Totals) -> Result<(), AllocError> {
+    json.end_list(out)?;
+    json.begin_line(out)?;
+    json.key(out, "invocations")?;
+    json.begin_list(out)?;
+    json.begin_object(out)?;
+    json.key(out, "executionSuccessful")?;
+    json.boolean(out, totals.faults == 0)?;
+    json.end_object(out)?;
+    json.end_list(out)?;
+    json.key(out, "properties")?;
+    objects::add_totals(json, out, totals)?;
+    json.end_line(out)?;
+    json.end_object(out)?;
+    json.end_list(out)?;
+    json.end_object(out)?;
+    json.end_line(out)
 }

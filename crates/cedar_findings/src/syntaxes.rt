@@ -19,6 +19,15 @@ impl Syntax {
         }
     }
 
+    /// The syntax that a format of Cedar's command line names, if it is one.
+    pub fn by_format(word: &str) -> Option<Syntax> {
+        match word {
+            "cedar" => Some(Syntax::Cedar),
+            "json" => Some(Syntax::Json),
+            _ => None,
+        }
+    }
+
     /// The syntax of a text. JSON begins with a brace or a bracket, perhaps behind blanks, and nothing of Cedar's own syntax does.
     pub fn of(text: &str) -> Syntax {
         if text.trim_start().starts_with(['{', '[']) {

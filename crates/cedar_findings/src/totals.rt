@@ -57,6 +57,11 @@ impl Totals {
         self.requirement = self.requirement.join(verdict.requirement);
     }
 
+    /// Counts so many policies that were read, and not validated.
+    pub fn add_read(&mut self, count: u64) {
+        self.policies = self.policies.saturating_add(count);
+    }
+
     /// Counts data, and each of its mistakes: as a fault what is no data.
     pub fn add_data(&mut self, verdict: &DataVerdict) {
         self.data.add_entities(verdict.entities as u64);

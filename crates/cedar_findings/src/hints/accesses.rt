@@ -16,24 +16,34 @@ pub fn hint_for_attribute(
     schema: &ValidatorSchema,
     found: &UnsafeAttributeAccess,
 ) -> Result<String, AllocError> {
-    let nearest = match &found.accessed_type {
-        CedarType::Record { attributes, .. } => nearest_attribute(alloc, found, attributes)?,
-        CedarType::Entity(EntityKind::Entity(types)) => {
-            if let Some(lacking) = type_without(schema, types, &found.attr) {
-                return format!(in alloc; "of these types `{lacking}` does not declare it");
-            }
-            match types
-                .iter()
-                .next()
-                .and_then(|first| attributes_of(schema, first))
-            {
-                Some(attributes) => nearest_attribute(alloc, found, attributes)?,
-                None => None,
-            }
+    if let CedarType::Entity(EntityKind::Entity(types)) = &found.accessed_type {
+        if let Some(lacking) = type_without(schema, types, &found.attr) {
+            return format!(in alloc; "of these types `{lacking}` does not declare it");
         }
+    }
+    hint_for_undeclared(alloc, schema, &found.accessed_type, &found.attr)
+}
+
+/// The attribute of a type that may be meant by one that it does not declare, or an empty text. Of several entity types the
+/// attributes of the first are compared.
+pub fn hint_for_undeclared(
+    alloc: Global,
+    schema: &ValidatorSchema,
+    ty: &CedarType,
+    attribute: &RcStr,
+) -> Result<String, AllocError> {
+    let attributes = match ty {
+        CedarType::Record { attributes, .. } => Some(attributes),
+        CedarType::Entity(EntityKind::Entity(types)) => types
+            .iter()
+            .next()
+            .and_then(|first| attributes_of(schema, first)),
         _ => None,
     };
-    match nearest {
+    let Some(attributes) = attributes else {
+        return Ok(String::new(alloc));
+    };
+    match nearest_attribute(alloc, attribute.as_str(), attributes)? {
         Some(name) => format!(in alloc; "did you mean `{name}`?"),
         None => Ok(String::new(alloc)),
     }
@@ -41,10 +51,10 @@ pub fn hint_for_attribute(
 
 fn nearest_attribute<'a>(
     alloc: Global,
-    found: &UnsafeAttributeAccess,
+    unknown: &str,
     attributes: &'a Attributes,
 ) -> Result<Option<&'a RcStr>, AllocError> {
-    let mut search = Search::new(alloc, found.attr.as_str())?;
+    let mut search = Search::new(alloc, unknown)?;
     let mut nearest = None;
     for name in attributes.attrs.keys() {
         if search.is_over() {

@@ -2,8 +2,9 @@
 use crate::parts::{arguments_at, text_at};
 use crate::similar::Search;
 use cedar_extensions::checks::CONSTRUCTORS;
+use cedar_extensions::functions::{is_constructor, is_method};
 use cedar_extensions::methods::METHODS as EXTENSION_METHODS;
-use cedar_types::base::{Expr, ExprKind, Literal, Template, UndefinedFunction};
+use cedar_types::base::{Expr, ExprKind, Literal, Name, Template, UndefinedFunction};
 use std::alloc::{AllocError, Global};
 
 /// The methods of the language itself.
@@ -20,15 +21,30 @@ const METHODS: [&str; 6] = [
 const ALL: &str = "there are `contains`, `containsAll`, `containsAny`, `isEmpty`, `hasTag`, \
      `getTag`, and the functions of the extensions";
 
-/// That a name is one of a method, which function or method is nearest, or what there is in place of others.
+/// What may be meant by a call of no function that validation found.
 pub fn hint_for_function(
     alloc: Global,
     policy: &Template,
     text: &str,
     found: &UndefinedFunction,
 ) -> Result<String, AllocError> {
-    let name = found.name.basename.as_str();
     let arguments = arguments_at(alloc, policy, found.source_loc)?.unwrap_or(&[]);
+    hint_for_call(alloc, text, &found.name, arguments)
+}
+
+/// What may be meant by a call of no function, of this name and on these arguments: that a function has no path, that the name is
+/// one of a method, which function or method is nearest, or what there is in place of others.
+pub fn hint_for_call(
+    alloc: Global,
+    text: &str,
+    name: &Name,
+    arguments: &[Expr],
+) -> Result<String, AllocError> {
+    let has_path = !name.path.is_empty();
+    let name = name.basename.as_str();
+    if has_path && (is_constructor(name) || is_method(name)) {
+        return format!(in alloc; "`{name}` stands without a path");
+    }
     if METHODS.contains(&name) {
         return hint_for_method(alloc, text, name, arguments);
     }

@@ -1,0 +1,76 @@
+//! What changed for the policies of a file, in the format that is asked for.
+use crate::changes::{Comparison, Whose, push_change, push_gone};
+use crate::findings::{Finding, Verdict};
+use crate::formats::Format;
+use crate::places::Places;
+use crate::sources::Source;
+use crate::writers::{Entry, FindingsWriter, Place};
+use cedar_types::base::{Loc, Template};
+use std::alloc::{AllocError, Global};
+
+/// Shows what changed for the policies of a file.
+#[derive(Drop)]
+pub struct ChangeReport<'a> {
+    source: Source<'a>,
+    places: Places<'a>,
+}
+
+impl<'a> ChangeReport<'a> {
+    /// For this file. Findings that came and those that went do not stand in one order, so places have an index.
+    pub fn new(alloc: Global, source: Source<'a>) -> Result<ChangeReport<'a>, AllocError> {
+        let mut places = Places::new(alloc, source.text);
+        places.index()?;
+        Ok(ChangeReport { source, places })
+    }
+
+    /// The file.
+    pub fn source(&self) -> Source<'a> {
+        self.source
+    }
+
+    /// How a change is shown: what became of the policy, the findings that came, and those that went. Nothing, where nothing
+    /// changed.
+    pub fn change_shown(
+        &mut self,
+        alloc: Global,
+        format: &mut Format,
+        policy: &Template,
+        (old, new): (&Verdict, &Verdict),
+        comparison: &Comparison<'_, '_>,
+    ) -> Result<String, AllocError> {
+        let mut shown = String::new(alloc);
+        if comparison.is_empty() {
+            return Ok(shown);
+        }
+        let id = policy.id.text.as_str();
+        let place = self.place(policy.loc.unwrap_or(Loc { start: 0, end: 0 }));
+        push_change(
+            &mut shown,
+            *format,
+            Whose { place, id },
+            old,
+            new,
+            comparison,
+        )?;
+        for (severity, finding) in &comparison.came {
+            let entry = Entry::Finding(self.place_of(finding), id, *severity, finding);
+            format.add(&mut shown, entry)?;
+        }
+        for found in &comparison.went {
+            let place = self.place_of(found.1);
+            push_gone(&mut shown, *format, place, id, *found)?;
+        }
+        Ok(shown)
+    }
+
+    fn place_of(&mut self, finding: &Finding) -> Place<'a> {
+        let (start, end) = (finding.start, finding.end);
+        self.place(Loc { start, end })
+    }
+
+    fn place(&mut self, loc: Loc) -> Place<'a> {
+        let at = self.places.position(loc.start);
+        let source = self.source;
+        Place { source, loc, at }
+    }
+}

@@ -1,0 +1,261 @@
+//! What changes for a policy from one schema to another, in each format.
+use crate::escapes::{Shown, ShownId};
+use crate::findings::{Finding, Requirement, Severity, Verdict};
+use crate::formats::Format;
+use crate::json::JsonWriter;
+use crate::objects::add_place;
+use crate::writers::Place;
+use std::alloc::AllocError;
+
+/// What became of a policy.
+#[derive(Clone, Copy, PartialEq, Eq, Debug)]
+pub enum Change {
+    /// It is refused, and was accepted.
+    Refused,
+    /// It is accepted, and was refused.
+    Accepted,
+    /// It is impossible, and was not.
+    Impossible,
+    /// It was impossible, and is not.
+    Possible,
+    /// It needs another level.
+    Level,
+}
+
+impl Change {
+    /// What it is called: by lines for people, and by objects.
+    pub fn texts(self) -> (&'static str, &'static str) {
+        match self {
+            Change::Refused => ("newly refused", "refused"),
+            Change::Accepted => ("newly accepted", "accepted"),
+            Change::Impossible => ("newly impossible", "impossible"),
+            Change::Possible => ("no longer impossible", "possible"),
+            Change::Level => ("another level", "level"),
+        }
+    }
+}
+
+/// What changed from one verdict to the next.
+#[derive(Drop)]
+pub struct Comparison<'o, 'n> {
+    pub is_worse: bool,
+    pub changes: Vec<Change>,
+    /// The findings that came, of the newer verdict.
+    pub came: Vec<(Severity, &'n Finding)>,
+    /// The findings that went, of the older one.
+    pub went: Vec<(Severity, &'o Finding)>,
+}
+
+impl Comparison<'_, '_> {
+    /// Whether nothing changed.
+    pub fn is_empty(&self) -> bool {
+        self.changes.is_empty() && self.came.is_empty() && self.went.is_empty()
+    }
+}
+
+/// How many policies were compared, how many of them have changed, and how many are worse off.
+#[derive(Clone, Copy, Default)]
+pub struct ChangeTally {
+    pub policies: u64,
+    pub changed: u64,
+    pub worse: u64,
+}
+
+impl ChangeTally {
+    /// Counts a policy.
+    pub fn add(&mut self, comparison: &Comparison<'_, '_>) {
+        self.policies = self.policies.saturating_add(1);
+        self.changed = self
+            .changed
+            .saturating_add(u64::from(!comparison.is_empty()));
+        self.worse = self.worse.saturating_add(u64::from(comparison.is_worse));
+    }
+}
+
+/// A policy: its id, and where it stands.
+#[derive(Clone, Copy)]
+pub struct Whose<'a> {
+    pub place: Place<'a>,
+    pub id: &'a str,
+}
+
+/// Adds what changed for a policy, without its findings: nothing in SARIF, of which a result is a finding.
+pub fn push_change(
+    out: &mut String,
+    format: Format,
+    policy: Whose<'_>,
+    old: &Verdict,
+    new: &Verdict,
+    comparison: &Comparison<'_, '_>,
+) -> Result<(), AllocError> {
+    match format {
+        Format::Lines(_) => push_line(out, policy, (old.requirement, new.requirement), comparison),
+        Format::Objects(_) => push_object(out, policy, old, new, comparison),
+        Format::Sarif(_) => Ok(()),
+    }
+}
+
+/// Adds a finding that went: nothing in SARIF, because what is shown there is there.
+pub fn push_gone(
+    out: &mut String,
+    format: Format,
+    place: Place<'_>,
+    id: &str,
+    found: (Severity, &Finding),
+) -> Result<(), AllocError> {
+    match format {
+        Format::Lines(_) => {
+            let (severity, finding) = found;
+            let kind = severity.text();
+            let text = Shown(finding.text.as_str());
+            writeln!(out, "{place}: gone: {kind}: {text}")
+        }
+        Format::Objects(_) => push_gone_object(out, place, id, found),
+        Format::Sarif(_) => Ok(()),
+    }
+}
+
+/// Adds what stands behind all, unless the format is SARIF.
+pub fn push_tally(
+    out: &mut String,
+    format: Format,
+    tally: ChangeTally,
+    faults: u64,
+) -> Result<(), AllocError> {
+    let ChangeTally {
+        policies,
+        changed,
+        worse,
+    } = tally;
+    match format {
+        Format::Lines(_) => writeln!(
+            out,
+            "policies: {policies}, changed: {changed}, worse: {worse}, faults: {faults}"
+        ),
+        Format::Objects(_) => push_tally_object(out, tally, faults),
+        Format::Sarif(_) => Ok(()),
+    }
+}
+
+fn push_line(
+    out: &mut String,
+    policy: Whose<'_>,
+    levels: (Requirement, Requirement),
+    comparison: &Comparison<'_, '_>,
+) -> Result<(), AllocError> {
+    let place = policy.place;
+    let id = ShownId(policy.id);
+    write!(out, "{place}: policy `{id}`: ")?;
+    let mut before = if comparison.is_worse { "worse: " } else { "" };
+    for change in &comparison.changes {
+        let (text, _) = change.texts();
+        out.push_str(before)?;
+        out.push_str(text)?;
+        if *change == Change::Level {
+            push_levels(out, levels)?;
+        }
+        before = ", ";
+    }
+    if comparison.changes.is_empty() {
+        out.push_str("other findings")?;
+    }
+    out.push_str("\n")
+}
+
+fn push_levels(out: &mut String, (old, new): (Requirement, Requirement)) -> Result<(), AllocError> {
+    out.push_str(", ")?;
+    push_level(out, new)?;
+    out.push_str(" in place of ")?;
+    push_level(out, old)
+}
+
+fn push_level(out: &mut String, requirement: Requirement) -> Result<(), AllocError> {
+    match requirement {
+        Requirement::Unsaid => out.push_str("none that is said"),
+        Requirement::NoLevel => out.push_str("none that is enough"),
+        Requirement::Level(level) => write!(out, "{level}"),
+    }
+}
+
+fn push_gone_object(
+    out: &mut String,
+    place: Place<'_>,
+    id: &str,
+    (severity, finding): (Severity, &Finding),
+) -> Result<(), AllocError> {
+    let mut json = JsonWriter::new();
+    json.begin_object(out)?;
+    add_place(&mut json, out, "gone", place)?;
+    json.text_at(out, "code", finding.code.text())?;
+    json.text_at(out, "id", id)?;
+    json.text_at(out, "severity", severity.text())?;
+    json.text_at(out, "text", finding.text.as_str())?;
+    json.end_object(out)?;
+    json.end_line(out)
+}
+
+fn push_tally_object(out: &mut String, tally: ChangeTally, faults: u64) -> Result<(), AllocError> {
+    let mut json = JsonWriter::new();
+    json.begin_object(out)?;
+    json.text_at(out, "kind", "changes")?;
+    json.number_at(out, "policies", tally.policies)?;
+    json.number_at(out, "changed", tally.changed)?;
+    json.number_at(out, "worse", tally.worse)?;
+    json.number_at(out, "faults", faults)?;
+    json.end_object(out)?;
+    json.end_line(out)
+}
+
+fn push_object(
+    out: &mut String,
+    policy: Whose<'_>,
+    old: &Verdict,
+    new: &Verdict,
+    comparison: &Comparison<'_, '_>,
+) -> Result<(), AllocError> {
+    let mut json = JsonWriter::new();
+    json.begin_object(out)?;
+    add_place(&mut json, out, "change", policy.place)?;
+    json.text_at(out, "id", policy.id)?;
+    add_boolean(&mut json, out, "worse", comparison.is_worse)?;
+    json.key(out, "changes")?;
+    json.begin_list(out)?;
+    for change in &comparison.changes {
+        let (_, text) = change.texts();
+        json.text(out, text)?;
+    }
+    json.end_list(out)?;
+    add_boolean(&mut json, out, "accepted", new.is_accepted)?;
+    add_boolean(&mut json, out, "was_accepted", old.is_accepted)?;
+    add_level(&mut json, out, "level", new.requirement)?;
+    add_level(&mut json, out, "was_level", old.requirement)?;
+    json.end_object(out)?;
+    json.end_line(out)
+}
+
+fn add_boolean(
+    json: &mut JsonWriter,
+    out: &mut String,
+    name: &str,
+    value: bool,
+) -> Result<(), AllocError> {
+    json.key(out, name)?;
+    json.boolean(out, value)
+}
+
+/// Adds a level, as objects of policies have it: null where no number is enough, and nothing where none is said.
+fn add_level(
+    json: &mut JsonWriter,
+    out: &mut String,
+    name: &str,
+    requirement: Requirement,
+) -> Result<(), AllocError> {
+    match requirement {
+        Requirement::Unsaid => Ok(()),
+        Requirement::NoLevel => {
+            json.key(out, name)?;
+            json.null(out)
+        }
+        Requirement::Level(level) => json.number_at(out, name, u64::from(level.level)),
+    }
+}

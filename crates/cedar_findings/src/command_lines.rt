@@ -1,0 +1,174 @@
+// How the words of the command line are read, one after another.
+use crate::arguments::{Arguments, Asked, IdScope, Misuse, Task};
+use crate::formats::Format;
+use crate::objects::Objects;
+use crate::options::{Asks, Flag, ValueOption, option_by_name};
+use crate::shells::Shell;
+use crate::statuses::Statuses;
+use std::alloc::{AllocError, Global};
+
+/// What is asked for by these words, or what is wrong with them. It fails where memory is refused.
+pub fn read_arguments(
+    alloc: Global,
+    words: &[String],
+) -> Result<Result<Asked, Misuse>, AllocError> {
+    let mut read = Reading::new(alloc);
+    for word in words {
+        if let Some(asked) = read.asks_about_program(word.as_str()) {
+            return Ok(Ok(asked));
+        }
+        if let Some(misuse) = read.take(word)? {
+            return Ok(Err(misuse));
+        }
+    }
+    read.finish()
+}
+
+/// What comes next.
+#[derive(Clone, Copy)]
+enum Next {
+    Any,
+    /// The value of an option.
+    Value(ValueOption),
+    /// A file, behind `--`.
+    File,
+}
+
+/// What was read so far: each file that no option names stands with those of policies.
+#[derive(Drop)]
+struct Reading {
+    alloc: Global,
+    arguments: Arguments,
+    /// Which of the files of policies no option names, the first one.
+    first_unnamed: Option<usize>,
+    shell: Option<Shell>,
+    next: Next,
+}
+
+impl Reading {
+    fn new(alloc: Global) -> Reading {
+        Reading {
+            alloc,
+            arguments: Arguments::new(alloc),
+            first_unnamed: None,
+            shell: None,
+            next: Next::Any,
+        }
+    }
+
+    /// What a word asks about the program itself, unless it stands behind `--`.
+    fn asks_about_program(&self, word: &str) -> Option<Asked> {
+        match (self.next, option_by_name(word)) {
+            (Next::File, _) => None,
+            (_, Some(Asks::Flag(Flag::Help))) => Some(Asked::Help),
+            (_, Some(Asks::Flag(Flag::Version))) => Some(Asked::Version),
+            (_, Some(Asks::Flag(Flag::Page))) => Some(Asked::Page),
+            _ => None,
+        }
+    }
+
+    /// Reads a word, and says what is wrong with it.
+    fn take(&mut self, word: &String) -> Result<Option<Misuse>, AllocError> {
+        match self.next {
+            Next::Value(option) => {
+                self.next = Next::Any;
+                self.take_value(option, word.as_str())
+            }
+            Next::Any => self.take_option_or_file(word),
+            Next::File => self.take_file(word),
+        }
+    }
+
+    fn take_file(&mut self, word: &String) -> Result<Option<Misuse>, AllocError> {
+        let count = self.arguments.policies.len();
+        self.arguments.policies.push(word.clone()?)?;
+        self.first_unnamed = self.first_unnamed.or(Some(count));
+        Ok(None)
+    }
+
+    fn take_option_or_file(&mut self, word: &String) -> Result<Option<Misuse>, AllocError> {
+        let text = word.as_str();
+        match option_by_name(text) {
+            Some(Asks::Value(option, _)) => {
+                self.next = Next::Value(option);
+                return Ok(None);
+            }
+            Some(Asks::Flag(flag)) => {
+                self.raise(flag);
+                return Ok(None);
+            }
+            None => {}
+        }
+        if let Some((name, value)) = text.split_once('=') {
+            if let Some(Asks::Value(option, _)) = option_by_name(name) {
+                return self.take_value(option, value);
+            }
+        }
+        if text == "--" {
+            self.next = Next::File;
+            return Ok(None);
+        }
+        if text.len() > 1 && text.starts_with("-") {
+            return Ok(Some(Misuse::UnknownOption(word.clone()?)));
+        }
+        self.take_file(word)
+    }
+
+    /// Does what an option without a value is for.
+    fn raise(&mut self, flag: Flag) {
+        let arguments = &mut self.arguments;
+        match flag {
+            Flag::DeniesWarnings => arguments.denies_warnings = true,
+            Flag::Json => arguments.format = Format::Objects(Objects),
+            Flag::Quiet => arguments.is_quiet = true,
+            Flag::UniqueIds => arguments.id_scope = IdScope::Call,
+            Flag::CedarStatus => arguments.statuses = Statuses::Cedar,
+            Flag::CheckParse => arguments.task = Task::Parsing,
+            // what these ask was answered before
+            Flag::Page | Flag::Help | Flag::Version => {}
+        }
+    }
+
+    /// Reads the value of an option, and says what is wrong with it.
+    fn take_value(
+        &mut self,
+        option: ValueOption,
+        value: &str,
+    ) -> Result<Option<Misuse>, AllocError> {
+        let is_taken = match option {
+            ValueOption::Completion => {
+                self.shell = Shell::by_name(value);
+                self.shell.is_some()
+            }
+            ValueOption::Schema
+            | ValueOption::Policies
+            | ValueOption::Since
+            | ValueOption::Links
+            | ValueOption::Entities
+            | ValueOption::Request => self.arguments.name_file(self.alloc, option, value)?,
+            _ => self.arguments.set(option, value),
+        };
+        Ok((!is_taken).then_some(option.misuse()))
+    }
+
+    fn finish(self) -> Result<Result<Asked, Misuse>, AllocError> {
+        let Reading {
+            mut arguments,
+            first_unnamed,
+            shell,
+            next,
+            ..
+        } = self;
+        if let Next::Value(option) = next {
+            return Ok(Err(option.misuse()));
+        }
+        if let Some(shell) = shell {
+            return Ok(Ok(Asked::Completion(shell)));
+        }
+        arguments.take_schema(first_unnamed)?;
+        match arguments.misuse() {
+            Some(misuse) => Ok(Err(misuse)),
+            None => Ok(Ok(Asked::Validation(arguments))),
+        }
+    }
+}

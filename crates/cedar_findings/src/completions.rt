@@ -1,0 +1,158 @@
+//! What completes the words of the program in a shell. It is made of the table of words.
+use crate::help::{push_names, push_texts};
+use crate::options::{Asks, Values, WORDS, Word};
+use crate::shells::Shell;
+use std::alloc::{AllocError, Global};
+use std::fmt;
+
+/// What stands before the values of words in a script for bash.
+const BASH_BEFORE: &str = "_cedar_validate() {
+    local current=${COMP_WORDS[COMP_CWORD]} before=${COMP_WORDS[COMP_CWORD - 1]}
+    case $before in
+";
+
+/// What stands between the values and the names.
+const BASH_BETWEEN: &str = "    esac
+    if [[ $current == -* ]]; then
+        mapfile -t COMPREPLY < <(compgen -W '";
+
+/// What stands behind the names.
+const BASH_BEHIND: &str = "' -- \"$current\")
+    else
+        mapfile -t COMPREPLY < <(compgen -f -- \"$current\")
+    fi
+}
+complete -o filenames -F _cedar_validate cedar-validate
+";
+
+/// The script that completes the words of the program in this shell.
+pub fn completion(alloc: Global, shell: Shell) -> Result<String, AllocError> {
+    let mut shown = String::new(alloc);
+    match shell {
+        Shell::Bash => push_bash(&mut shown)?,
+        Shell::Zsh => push_zsh(&mut shown)?,
+        Shell::Fish => push_fish(&mut shown)?,
+    }
+    Ok(shown)
+}
+
+fn push_bash(shown: &mut String) -> Result<(), AllocError> {
+    shown.push_str(BASH_BEFORE)?;
+    for word in &WORDS {
+        let Asks::Value(_, values) = word.asks else {
+            continue;
+        };
+        shown.push_str("    ")?;
+        push_names(shown, word, "|")?;
+        push_bash_values(shown, values)?;
+    }
+    shown.push_str(BASH_BETWEEN)?;
+    let mut blank = "";
+    for word in &WORDS {
+        shown.push_str(blank)?;
+        push_names(shown, word, " ")?;
+        blank = " ";
+    }
+    shown.push_str(BASH_BEHIND)
+}
+
+fn push_bash_values(shown: &mut String, values: Values) -> Result<(), AllocError> {
+    match values {
+        Values::File => {
+            shown.push_str(") mapfile -t COMPREPLY < <(compgen -f -- \"$current\"); return ;;\n")
+        }
+        Values::Number => shown.push_str(") COMPREPLY=(); return ;;\n"),
+        Values::OneOf(texts) => {
+            shown.push_str(") mapfile -t COMPREPLY < <(compgen -W '")?;
+            push_texts(shown, texts, " ")?;
+            shown.push_str("' -- \"$current\"); return ;;\n")
+        }
+    }
+}
+
+fn push_zsh(shown: &mut String) -> Result<(), AllocError> {
+    shown.push_str("#compdef cedar-validate\n_arguments \\\n")?;
+    for word in &WORDS {
+        match word.names {
+            [name] => write!(shown, "  '*{name}")?,
+            _ => {
+                shown.push_str("  '*'{")?;
+                push_names(shown, word, ",")?;
+                shown.push_str("}'")?;
+            }
+        }
+        let about = ZshText(word.about);
+        write!(shown, "[{about}]")?;
+        if let Asks::Value(_, values) = word.asks {
+            push_zsh_values(shown, values)?;
+        }
+        shown.push_str("' \\\n")?;
+    }
+    shown.push_str("  '*:file:_files'\n")
+}
+
+fn push_zsh_values(shown: &mut String, values: Values) -> Result<(), AllocError> {
+    match values {
+        Values::File => shown.push_str(":file:_files"),
+        Values::Number => shown.push_str(":number: "),
+        Values::OneOf(texts) => {
+            shown.push_str(":value:(")?;
+            push_texts(shown, texts, " ")?;
+            shown.push_str(")")
+        }
+    }
+}
+
+fn push_fish(shown: &mut String) -> Result<(), AllocError> {
+    for word in &WORDS {
+        shown.push_str("complete -c cedar-validate")?;
+        push_fish_names(shown, word)?;
+        if let Asks::Value(_, values) = word.asks {
+            push_fish_values(shown, values)?;
+        }
+        writeln!(shown, " -d '{}'", word.about)?;
+    }
+    Ok(())
+}
+
+/// Adds the names of a word: a long one begins with two hyphens.
+fn push_fish_names(shown: &mut String, word: &Word) -> Result<(), AllocError> {
+    for name in word.names {
+        match name.strip_prefix("--") {
+            Some(long) => write!(shown, " -l {long}")?,
+            None => {
+                let short = name.trim_start_matches('-');
+                write!(shown, " -s {short}")?;
+            }
+        }
+    }
+    Ok(())
+}
+
+fn push_fish_values(shown: &mut String, values: Values) -> Result<(), AllocError> {
+    match values {
+        Values::File => shown.push_str(" -r -F"),
+        Values::Number => shown.push_str(" -x"),
+        Values::OneOf(texts) => {
+            shown.push_str(" -x -a '")?;
+            push_texts(shown, texts, " ")?;
+            shown.push_str("'")
+        }
+    }
+}
+
+/// A text in the brackets of a description for zsh.
+#[derive(Drop)]
+struct ZshText<'a>(&'a str);
+
+impl fmt::Display for ZshText<'_> {
+    fn fmt<W: fmt::Write>(&self, f: &mut fmt::Formatter<W>) -> fmt::Result {
+        for c in self.0.chars() {
+            if matches!(c, '[' | ']' | ':' | '\\') {
+                f.write_char('\\')?;
+            }
+            f.write_char(c)?;
+        }
+        Ok(())
+    }
+}

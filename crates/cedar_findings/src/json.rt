@@ -1,0 +1,176 @@
+//! A writer of JSON. It alone writes brackets, commas, colons, quotes and escapes.
+use crate::digits::push_number;
+use crate::escapes::is_hidden;
+use std::alloc::AllocError;
+
+/// Writes values of JSON behind a text, one after another. It remembers whether the next value stands behind another, so that a
+/// comma is due; nothing else has to be known at any depth, because a value that ends is one that stands before the next.
+#[derive(Clone, Copy)]
+pub struct JsonWriter {
+    is_behind_value: bool,
+}
+
+impl JsonWriter {
+    /// A writer that has written nothing yet.
+    pub fn new() -> JsonWriter {
+        JsonWriter {
+            is_behind_value: false,
+        }
+    }
+
+    /// Begins an object. Each of its members is a key and then a value.
+    pub fn begin_object(&mut self, out: &mut String) -> Result<(), AllocError> {
+        self.begin(out, "{")
+    }
+
+    /// Ends the object that was begun last.
+    pub fn end_object(&mut self, out: &mut String) -> Result<(), AllocError> {
+        self.end(out, "}")
+    }
+
+    /// Begins a list.
+    pub fn begin_list(&mut self, out: &mut String) -> Result<(), AllocError> {
+        self.begin(out, "[")
+    }
+
+    /// Ends the list that was begun last.
+    pub fn end_list(&mut self, out: &mut String) -> Result<(), AllocError> {
+        self.end(out, "]")
+    }
+
+    /// Adds a key, behind which its value has to come.
+    pub fn key(&mut self, out: &mut String, key: &str) -> Result<(), AllocError> {
+        self.text(out, key)?;
+        out.push_str(":")?;
+        self.is_behind_value = false;
+        Ok(())
+    }
+
+    /// Adds a text.
+    pub fn text(&mut self, out: &mut String, text: &str) -> Result<(), AllocError> {
+        self.begin_text(out)?;
+        self.text_part(out, text)?;
+        self.end_text(out)
+    }
+
+    /// Begins a text that is written in parts.
+    pub fn begin_text(&mut self, out: &mut String) -> Result<(), AllocError> {
+        self.begin(out, "\"")
+    }
+
+    /// Adds a part of the text that was begun.
+    pub fn text_part(&self, out: &mut String, part: &str) -> Result<(), AllocError> {
+        if part.bytes().all(is_plain) {
+            return out.push_str(part);
+        }
+        for c in part.chars() {
+            push_char(out, c)?;
+        }
+        Ok(())
+    }
+
+    /// Adds a character to the text that was begun.
+    pub fn char_part(&self, out: &mut String, part: char) -> Result<(), AllocError> {
+        push_char(out, part)
+    }
+
+    /// Adds a number to the text that was begun.
+    pub fn number_part(&self, out: &mut String, part: u64) -> Result<(), AllocError> {
+        push_number(out, part)
+    }
+
+    /// Ends the text that was begun.
+    pub fn end_text(&mut self, out: &mut String) -> Result<(), AllocError> {
+        self.end(out, "\"")
+    }
+
+    /// Adds a number.
+    pub fn number(&mut self, out: &mut String, number: u64) -> Result<(), AllocError> {
+        self.begin(out, "")?;
+        push_number(out, number)?;
+        self.end(out, "")
+    }
+
+    /// Adds `true` or `false`.
+    pub fn boolean(&mut self, out: &mut String, value: bool) -> Result<(), AllocError> {
+        self.begin(out, if value { "true" } else { "false" })?;
+        self.end(out, "")
+    }
+
+    /// Adds `null`.
+    pub fn null(&mut self, out: &mut String) -> Result<(), AllocError> {
+        self.begin(out, "null")?;
+        self.end(out, "")
+    }
+
+    /// Adds a member that is a text.
+    pub fn text_at(&mut self, out: &mut String, key: &str, text: &str) -> Result<(), AllocError> {
+        self.key(out, key)?;
+        self.text(out, text)
+    }
+
+    /// Adds a member that is a number.
+    pub fn number_at(
+        &mut self,
+        out: &mut String,
+        key: &str,
+        number: u64,
+    ) -> Result<(), AllocError> {
+        self.key(out, key)?;
+        self.number(out, number)
+    }
+
+    /// Begins a line between two values, where JSON takes blanks. A comma that is due comes before it.
+    pub fn begin_line(&mut self, out: &mut String) -> Result<(), AllocError> {
+        self.begin(out, "\n")
+    }
+
+    /// Ends the line behind a value.
+    pub fn end_line(&self, out: &mut String) -> Result<(), AllocError> {
+        out.push_str("\n")
+    }
+
+    /// Adds the beginning of the next value, behind a comma where one is due.
+    fn begin(&mut self, out: &mut String, beginning: &str) -> Result<(), AllocError> {
+        if self.is_behind_value {
+            out.push_str(",")?;
+        }
+        self.is_behind_value = false;
+        out.push_str(beginning)
+    }
+
+    /// Adds the end of a value.
+    fn end(&mut self, out: &mut String, end: &str) -> Result<(), AllocError> {
+        self.is_behind_value = true;
+        out.push_str(end)
+    }
+}
+
+/// Whether a byte is a character of ASCII that stands in a text as it is, whatever stands before it.
+fn is_plain(byte: u8) -> bool {
+    matches!(byte, b' '..=b'~') && byte != b'"' && byte != b'\\' && byte != b'#'
+}
+
+/// Adds a character of a text: a quote and a backslash behind a backslash, and one that [`is_hidden`], or a `#` behind another,
+/// as `\u` with its digits.
+fn push_char(out: &mut String, c: char) -> Result<(), AllocError> {
+    if c == '"' || c == '\\' {
+        out.push('\\')?;
+        return out.push(c);
+    }
+    if is_hidden(c) || (c == '#' && out.ends_with('#')) {
+        return push_units(out, u32::from(c));
+    }
+    out.push(c)
+}
+
+/// Adds the number of a character: as two units where one is too small.
+fn push_units(out: &mut String, number: u32) -> Result<(), AllocError> {
+    if number < 0x10000 {
+        return write!(out, "\\u{number:04x}");
+    }
+    let rest = number.saturating_sub(0x10000);
+    let high = (rest >> 10) | 0xd800;
+    let low = (rest & 0x3ff) | 0xdc00;
+    write!(out, "\\u{high:04x}\\u{low:04x}")
+}

@@ -1,0 +1,76 @@
+//! The page of the program for `man`. It is made of the table of words.
+use crate::help::{EXAMPLES, PURPOSE, STATUSES, push_names, push_values};
+use crate::options::WORDS;
+use std::alloc::{AllocError, Global};
+use std::fmt;
+
+const BEGINNING: &str = ".TH CEDAR\\-VALIDATE 1
+.SH NAME
+cedar\\-validate \\- validates policies of Cedar by a schema
+.SH SYNOPSIS
+.B cedar\\-validate
+[OPTION].. [\\-\\-] SCHEMA POLICY..
+.SH DESCRIPTION
+";
+
+/// What is no option.
+const OTHERS: &str = ".TP
+.B \\-\\-
+each word behind it is a file, whatever it begins with
+.TP
+.B \\-
+in place of a file: standard input
+";
+
+/// The page.
+pub fn man_page(alloc: Global) -> Result<String, AllocError> {
+    let mut shown = String::from_str(alloc, BEGINNING)?;
+    let purpose = Roff(PURPOSE);
+    write!(shown, "{purpose}")?;
+    shown.push_str(".SH OPTIONS\n")?;
+    for word in &WORDS {
+        let mut names = String::new(alloc);
+        push_names(&mut names, word, ", ")?;
+        push_values(&mut names, word)?;
+        let names = Roff(names.as_str());
+        let about = Roff(word.about);
+        write!(shown, ".TP\n.B {names}\n{about}\n")?;
+    }
+    shown.push_str(OTHERS)?;
+    push_statuses(&mut shown)?;
+    shown.push_str(".SH EXAMPLES\n")?;
+    for example in EXAMPLES {
+        let example = Roff(example);
+        write!(shown, ".PP\n{example}\n")?;
+    }
+    Ok(shown)
+}
+
+fn push_statuses(shown: &mut String) -> Result<(), AllocError> {
+    shown.push_str(".SH EXIT STATUS\n")?;
+    for (own, cedar, when) in STATUSES {
+        let when = Roff(when);
+        write!(
+            shown,
+            ".TP\n.B {own}\n{when}; {cedar} with \\-\\-cedar\\-status\n"
+        )?;
+    }
+    Ok(())
+}
+
+/// A text of the page, of which no character is a command.
+#[derive(Drop)]
+struct Roff<'a>(&'a str);
+
+impl fmt::Display for Roff<'_> {
+    fn fmt<W: fmt::Write>(&self, f: &mut fmt::Formatter<W>) -> fmt::Result {
+        for c in self.0.chars() {
+            match c {
+                '-' => f.write_str("\\-")?,
+                '\\' => f.write_str("\\e")?,
+                _ => f.write_char(c)?,
+            }
+        }
+        Ok(())
+    }
+}
