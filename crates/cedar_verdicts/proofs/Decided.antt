@@ -8,11 +8,13 @@ use Rattle.cedar_types.specs.Errors.{Finding, finding_of}
 use Rattle.cedar_types.specs.Extensions.Functions.{Refusals}
 use Rattle.cedar_types.specs.Lemmas.Comparisons.{and_left}
 use Rattle.cedar_types.specs.Templates.{PlainTemplate}
+use Rattle.cedar_extensions.specs.Calls.{unread_in}
 use Rattle.cedar_typing.specs.PolicyCheck.Outcome.{is_silent}
 use Rattle.cedar_typing.specs.Soundness.Policies.{Basis}
 use Rattle.cedar_typing.proofs.Policies.Tallies.{silent}
 use Rattle.cedar_typechecker.specs.declared.rbac.validator.Validator.{Validator}
 use Rattle.cedar_typechecker.specs.declared.survey.Survey.{Survey}
+use Rattle.cedar_typechecker.specs.Levels.Outcome.{name_findings}
 use Rattle.cedar_typechecker.specs.Levels.Required.{IsRequiredLevel}
 use Rattle.cedar_typechecker.specs.Surveys.{IsSurveyOf, passes_of}
 use Rattle.cedar_typechecker.specs.ValidatorViews.{basis_in}
@@ -21,7 +23,7 @@ use Rattle.cedar_host.specs.declared.safety.SoundMode.{SoundMode}
 use Rattle.cedar_host.specs.Found.{AreFindingsOn, AreFindingsWithin}
 use Rattle.cedar_host.specs.Safety.{DoesNotGoWrong, validation_mode}
 use Rattle.cedar_host.specs.Slices.{NeedsSliceAlone}
-use Rattle.cedar_verdicts.specs.Verdicts.{is_sound, passes_all, IsPromised}
+use Rattle.cedar_verdicts.specs.Verdicts.{is_sound, levels_against, passes_all, finds_nothing, IsPromised, PassesWithoutLevel}
 
 -- a survey decides whether a policy is accepted
 abbrev pub Decided : Basis → Option ℕ → PlainTemplate → Bool → Type 0
@@ -96,3 +98,25 @@ pub some_cause : (accepted new repeated : Bool) (size : ℕ) → repeated ≡ no
 some_cause false new repeated size is refused shared h = refused refl
 some_cause true true repeated size is refused shared h = absurd (true≢false h)
 some_cause true false repeated size is refused shared h = shared is
+
+-- ---- what is found without a level
+
+no_levels : (m : ValidationMode) (s : Survey) → is_silent (levels_against m None s) ≡ true
+no_levels Strict s = refl
+no_levels Permissive s = refl
+no_levels Partial s = refl
+
+with_silent : (l k r u : Bool) → k ≡ true → ((l && r) && u) ≡ true → ((k && r) && u) ≡ true
+with_silent true k r u silent h = (λ i. (silent i && r) && u) ∙ h
+with_silent false k r u silent h = absurd (true≢false (sym h))
+
+-- a policy passes without a level where it is accepted at one, or where that is looked at
+pub passes_without : (b : Basis) (level : Option ℕ) (t : PlainTemplate) (s : Survey) (accepted : Bool) → IsSurveyOf b t s
+    → accepted ≡ finds_nothing b level t s → (accepted ≡ false → PassesWithoutLevel b t) → PassesWithoutLevel b t
+passes_without b level t s true surveyed is h = (
+  s,
+  surveyed,
+  with_silent (is_silent (levels_against b.mode level s)) (is_silent (levels_against b.mode None s))
+      (is_silent (name_findings b.mode b.schema t) && passes_of s) (is_silent (unread_in t)) (no_levels b.mode s) (sym is),
+)
+passes_without b level t s false surveyed is h = h refl

@@ -1,9 +1,11 @@
 -- What is said next of a text of policies.
-use Rattle.std.specs.Prelude.{◌≡◌, ℕ, ◌||◌, Option, Some, None}
+use Rattle.std.specs.Prelude.{◌≡◌, ℕ, ◌+◌, ◌||◌, Option, Some, None}
 use Rattle.cedar_types.specs.Names.{Text, text_eq, text_of}
 use Rattle.cedar_types.specs.Templates.{template_of}
 use Rattle.cedar_typing.specs.Soundness.Policies.{Basis}
 use Rattle.cedar_verdicts.specs.declared.ids.Ids.{Ids}
+use Rattle.cedar_verdicts.specs.declared.policies.Read.{Read}
+use Rattle.cedar_verdicts.specs.declared.policies.Read.TheVariants as Read
 use Rattle.cedar_verdicts.specs.declared.texts.Said.{Said}
 use Rattle.cedar_verdicts.specs.declared.texts.Said.TheVariants as Said
 use Rattle.cedar_verdicts.specs.Ids.{has_id}
@@ -25,3 +27,17 @@ abbrev pub AreIdsAfter : Ids → Ids → Option Said → Type 0
 AreIdsAfter old new None = (t : Text) → has_id new t ≡ has_id old t
 AreIdsAfter old new (Some (Said.Verdict p v)) = (t : Text) → has_id new t ≡ (text_eq t (text_of p.id.text) || has_id old t)
 AreIdsAfter old new (Some (Said.Fault f)) = (t : Text) → has_id new t ≡ has_id old t
+
+-- what is said is of this policy of the text: a verdict on the very policy where it is read, and its very fault where it is not
+abbrev pub IsSaidOf : Option Read → Said → Type 0
+IsSaidOf (Some (Read.Policy p marks)) (Said.Verdict q v) = q ≡ p
+IsSaidOf (Some (Read.Fault f)) (Said.Fault g) = g ≡ f
+IsSaidOf (Some (Read.Policy p marks)) (Said.Fault g) = ⊥
+IsSaidOf (Some (Read.Fault f)) (Said.Verdict q v) = ⊥
+IsSaidOf None s = ⊥
+
+-- so many faults were told, with the one that is said
+abbrev pub faults_after : ℕ → Option Said → ℕ
+faults_after n (Some (Said.Fault f)) = n + 1
+faults_after n (Some (Said.Verdict p v)) = n
+faults_after n None = n

@@ -52,6 +52,10 @@ finds_nothing b level t s = passes_all b level t s && is_silent (unread_in t)
 
 -- ---- the level that is said
 
+-- nothing is found against a policy if no level is asked for
+abbrev pub PassesWithoutLevel : Basis → PlainTemplate → Type 0
+PassesWithoutLevel b t = (s : Survey) × IsSurveyOf b t s × (finds_nothing b None t s ≡ true)
+
 abbrev pub is_said : Requirement → Bool
 is_said Requirement.Unsaid = false
 is_said Requirement.NoLevel = true
@@ -70,10 +74,12 @@ pub record IsPromised (b : Basis) (level : Option ℕ) (t : PlainTemplate) (is_a
   pub safe : is_sound b.mode ≡ true → is_accepted ≡ true → DoesNotGoWrong b t
   pub sliced : (n : ℕ) → level ≡ Some n → is_sound b.mode ≡ true → is_accepted ≡ true → NeedsSliceAlone b t n
 
--- a verdict says no more of a policy than is so: acceptance keeps its promise, and a level that is said is the required one
+-- a verdict says no more of a policy than is so: acceptance keeps its promise, a level that is said is the required one, and it is
+-- said only where nothing is found but levels
 pub record IsRightVerdict (b : Basis) (level : Option ℕ) (t : PlainTemplate) (v : Verdict) : Type 0 where
   pub promised : IsPromised b level t v.is_accepted
   pub required : is_said v.requirement ≡ true → IsRequiredLevel b t (level_said v.requirement)
+  pub only : is_said v.requirement ≡ true → PassesWithoutLevel b t
 
 -- and no less: a policy of which another of its set has the id before it, or has not, is accepted exactly where nothing is found
 -- against it and none has

@@ -15,8 +15,8 @@ pub enum Cause<'a> {
     Warning(&'a ValidationWarning),
     /// A policy is impossible, as this part is false.
     FalsePart(&'a ValidationWarning, &'a FalsePart),
-    /// A text with marks of direction.
-    Marks(&'static str),
+    /// Characters because of which a policy may be read as another one: of this kind, and what is said of them.
+    Marks(Code, &'static str),
     /// It is refused without an error: why.
     Unexplained(&'static str),
     /// Another policy has its id, at this position of the file.
@@ -40,7 +40,7 @@ impl Found<'_> {
         match self.cause {
             Cause::Error(error, _) => Code::of_error(error),
             Cause::Warning(warning) | Cause::FalsePart(warning, _) => Code::of_warning(warning),
-            Cause::Marks(_) => Code::Direction,
+            Cause::Marks(code, _) => code,
             Cause::Unexplained(_) => Code::Unchecked,
             Cause::SameId(_) => Code::SameId,
         }

@@ -9,7 +9,10 @@ use cedar_data::{
 use cedar_extensions::checks::Constructor;
 use cedar_findings::codes::Code;
 use cedar_findings::data_findings::{DataFinding, DataVerdict};
+use cedar_findings::faults::{TextFault, Written};
+use cedar_findings::json_faults::form_fault;
 use cedar_findings::places::Places;
+use cedar_json::FormError;
 use cedar_reading::Position;
 use cedar_types::base::{Loc, ValidatorSchema};
 use std::alloc::{AllocError, Global};
@@ -43,20 +46,18 @@ pub fn judge_data(
     text: &str,
 ) -> Result<DataVerdict, AllocError> {
     match found_in(alloc, schema, kind, text) {
-        Err(DataError::Memory(error)) => Err(error),
-        Err(DataError::At(start, fault)) => {
-            let text = format!(in alloc; "{fault}")?;
-            no_data(alloc, start, text)
-        }
+        Err(error) => no_data(alloc, text, error),
         Ok(found) => verdict_of(alloc, schema, text, &found),
     }
 }
 
-/// What is said of a text that is no data, because of a fault at this byte.
-fn no_data(alloc: Global, start: usize, text: String) -> Result<DataVerdict, AllocError> {
+/// What is said of a text that is no data. It fails where it was memory that was refused.
+fn no_data(alloc: Global, text: &str, error: DataError) -> Result<DataVerdict, AllocError> {
+    let error = FormError::from(error);
+    let TextFault { place, text } = form_fault(alloc, Written::Data, text, error)?;
     let mut findings = Vec::new(alloc);
     findings.push(DataFinding {
-        place: Loc { start, end: start },
+        place,
         code: Code::Fault,
         text,
         hint: String::new(alloc),
@@ -111,7 +112,7 @@ fn verdict_of(
     let mut places = Places::new(alloc, text);
     let mut findings = Vec::new(alloc);
     for fault in found.faults.listed() {
-        findings.push(finding_of(alloc, &mut places, schema, fault)?)?;
+        findings.push(finding_of(alloc, &mut places, schema, text, fault)?)?;
     }
     let mut is_accepted = found.conforms;
     for text in &found.texts {
@@ -159,9 +160,15 @@ fn finding_of(
     alloc: Global,
     places: &mut Places<'_>,
     schema: &ValidatorSchema,
+    text: &str,
     fault: &DataFault,
 ) -> Result<DataFinding, AllocError> {
     let text = match &fault.problem {
+        Problem::Form(form) => {
+            let error = FormError::At(fault.place.start, *form);
+            let TextFault { place: _, text } = form_fault(alloc, Written::Data, text, error)?;
+            text
+        }
         Problem::SameId(id, first) => {
             let Position { line, column } = places.position(first.start);
             format!(in alloc; "{id}: the entity at {line}:{column} of this file has the same id")?

@@ -1,9 +1,11 @@
 // Why a policy is impossible.
 use crate::settings::Settings;
+use cedar_findings::hints::hint_for_undeclared;
 use cedar_typechecker::survey::{Environment, Environments};
 use cedar_typechecker::typecheck::{PolicyCheck, Typechecker};
 use cedar_types::base::{
-    ActionConstraint, ArgumentCheck, BoolType, CedarType, EntityType, Expr, ExprKind, Loc, Template,
+    ActionConstraint, ArgumentCheck, BoolType, CedarType, EntityType, Expr, ExprKind, Loc,
+    Template, ValidatorSchema,
 };
 use cedar_types::types::request_env::RequestEnv;
 use std::alloc::{AllocError, Global};
@@ -27,6 +29,8 @@ type Typed = Expr<Option<CedarType>>;
 pub struct FalsePart {
     pub place: Loc,
     pub environments: Environments,
+    /// What may be meant, where it tests for an attribute that is never there; else empty.
+    pub hint: String,
 }
 
 /// The smallest parts of the conditions that are false, of each environment that the scope admits. Where the scope admits
@@ -52,12 +56,13 @@ pub fn false_parts<C: ArgumentCheck>(
             return Ok(Vec::new(alloc));
         }
         count = count.saturating_add(1);
-        let place = false_place(checks.check(&env)?);
-        if place == policy.loc {
+        let check = checks.check(&env)?;
+        let part = false_part(&check);
+        if part.and_then(|it: &Typed| it.loc) == policy.loc {
             // the scope does not admit the environment
             continue;
         }
-        if !add_part(alloc, &mut parts, place, &env)? {
+        if !add_part(alloc, schema, &mut parts, part, &env)? {
             return Ok(Vec::new(alloc));
         }
     }
@@ -65,14 +70,18 @@ pub fn false_parts<C: ArgumentCheck>(
     Ok(parts)
 }
 
-/// Adds an environment to the part at this place, unless there is none or one too many.
+/// Adds an environment to a part, unless there is none with a place or one too many.
 fn add_part(
     alloc: Global,
+    schema: &ValidatorSchema,
     parts: &mut Vec<FalsePart>,
-    place: Option<Loc>,
+    part: Option<&Typed>,
     env: &RequestEnv<'_>,
 ) -> Result<bool, AllocError> {
-    let Some(place) = place else {
+    let Some(own) = part else {
+        return Ok(false);
+    };
+    let Some(place) = own.loc else {
         return Ok(false);
     };
     for part in parts.iter_mut() {
@@ -89,8 +98,20 @@ fn add_part(
     parts.push(FalsePart {
         place,
         environments,
+        hint: hint_for(alloc, schema, own)?,
     })?;
     Ok(true)
+}
+
+/// The attribute that may be meant, where a part tests for one that is never there.
+fn hint_for(alloc: Global, schema: &ValidatorSchema, part: &Typed) -> Result<String, AllocError> {
+    let ExprKind::HasAttr(base, attribute) = &part.kind else {
+        return Ok(String::new(alloc));
+    };
+    match &base.annotation {
+        Some(ty) => hint_for_undeclared(alloc, schema, ty, attribute),
+        None => Ok(String::new(alloc)),
+    }
 }
 
 fn add_environment(
@@ -138,15 +159,15 @@ fn is_of_action(env: &RequestEnv<'_>, constraint: &ActionConstraint) -> bool {
     }
 }
 
-/// Where the smallest part stands that makes a condition false.
-fn false_place(check: PolicyCheck) -> Option<Loc> {
+/// The smallest part that makes a condition false.
+fn false_part(check: &PolicyCheck) -> Option<&Typed> {
     match check {
-        PolicyCheck::Irrelevant(_, condition) => smallest_false(&condition),
+        PolicyCheck::Irrelevant(_, condition) => Some(smallest_false(condition)),
         PolicyCheck::Success(_) | PolicyCheck::Fail(_) => None,
     }
 }
 
-fn smallest_false(condition: &Typed) -> Option<Loc> {
+fn smallest_false(condition: &Typed) -> &Typed {
     let mut part = condition;
     for _ in 0..MAX_DEPTH {
         match false_operand(part) {
@@ -154,7 +175,7 @@ fn smallest_false(condition: &Typed) -> Option<Loc> {
             None => break,
         }
     }
-    part.loc
+    part
 }
 
 /// The part of a false expression that makes it so, if one part alone does.

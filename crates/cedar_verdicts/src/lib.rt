@@ -2,7 +2,9 @@
 //! words and places, and counts. No file is read here, and nothing is written.
 #![tactic(auto)]
 
+pub mod call_ids;
 mod causes;
+pub mod changes;
 pub mod data;
 mod data_hints;
 mod environments;
@@ -10,6 +12,8 @@ mod errors;
 mod found;
 mod ids;
 mod impossible;
+pub mod links;
+pub mod parses;
 pub mod policies;
 mod requirements;
 pub mod schemas;

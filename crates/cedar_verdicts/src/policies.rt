@@ -1,16 +1,32 @@
 //! The policies of a text, in one syntax or the other.
+ghost use Rattle.std.specs.Prelude.{◌≡◌, IfOk, OnErr, OnOk};
+ghost use Rattle.cedar_verdicts.specs.Reading.{comes_next, IsBegun, IsReadOn};
+
 use cedar_findings::faults::{TextFault, Written, read_fault};
-use cedar_findings::forbidden_parts::forbidden_part;
+use cedar_findings::forbidden_parts::marks_unless_forbidden;
 use cedar_findings::json_faults::form_fault;
-use cedar_json::Value;
-use cedar_types::base::Template;
+use cedar_findings::marks::Marked;
+use cedar_types::base::{ExtensionSchemas, Template};
 use std::alloc::{AllocError, Global};
 
-/// Reads the policies of a text, one after another.
+/// A policy of a text, read or not.
+#[derive(Drop)]
+pub enum Read {
+    /// It is read, and these of its texts have marks of direction.
+    Policy(Template, Vec<Marked>),
+    /// It cannot be read, or has a part that Cedar's own parser refuses.
+    Fault(TextFault),
+}
+
+/// Gives the policies of a text, one after another. It has read the one that comes next.
 #[derive(Drop)]
 pub struct Policies<'a> {
     text: &'a str,
     reader: Reader<'a>,
+    /// The one that comes next; none where all were given.
+    next: Option<Read>,
+    /// How many may come behind that one, since each has a byte at least; none once the text has ended.
+    left: usize,
 }
 
 /// What reads them.
@@ -22,29 +38,34 @@ enum Reader<'a> {
 
 impl<'a> Policies<'a> {
     /// Those of a text in Cedar's own syntax, or the fault that it has as a whole.
-    pub fn of_text(
+    pub fn of_text<C>(
         alloc: Global,
+        functions: &ExtensionSchemas<C>,
         text: &'a str,
-    ) -> Result<Result<Policies<'a>, TextFault>, AllocError> {
+    ) -> Result<Result<Policies<'a>, TextFault>, AllocError>
+        ensures { IfOk result (λ read. IfOk read IsBegun) }
+    {
         match cedar_reading::Policies::new(alloc, text) {
             Ok(policies) => {
-                let reader = Reader::Cedar(policies);
-                Ok(Ok(Policies { text, reader }))
+                let policies = Policies::begin(alloc, functions, text, Reader::Cedar(policies))?;
+                Ok(Ok(policies))
             }
             Err(error) => Ok(Err(read_fault(alloc, Written::Policies, text, error)?)),
         }
     }
 
-    /// Those of a value of JSON that was read from this text, or the fault that it has as a whole.
-    pub fn of_json(
+    /// Those of a text of JSON, or the fault that it has as a whole.
+    pub fn of_json<C>(
         alloc: Global,
+        functions: &ExtensionSchemas<C>,
         text: &'a str,
-        root: &'a Value,
-    ) -> Result<Result<Policies<'a>, TextFault>, AllocError> {
-        match cedar_json::Policies::new(alloc, root) {
+    ) -> Result<Result<Policies<'a>, TextFault>, AllocError>
+        ensures { IfOk result (λ read. IfOk read IsBegun) }
+    {
+        match cedar_json::Policies::new(alloc, text) {
             Ok(policies) => {
-                let reader = Reader::Json(policies);
-                Ok(Ok(Policies { text, reader }))
+                let policies = Policies::begin(alloc, functions, text, Reader::Json(policies))?;
+                Ok(Ok(policies))
             }
             Err(error) => Ok(Err(form_fault(alloc, Written::Policies, text, error)?)),
         }
@@ -52,7 +73,7 @@ impl<'a> Policies<'a> {
 
     /// How many policies there are at most: each has a byte at least.
     pub fn most(&self) -> usize {
-        self.text.len()
+        self.left.saturating_add(1)
     }
 
     /// The text that hints take their examples from, in Cedar's own syntax: none of JSON.
@@ -63,41 +84,115 @@ impl<'a> Policies<'a> {
         }
     }
 
-    /// The next policy, or the fault that it has; `None` where all were read.
-    pub fn next_policy(
+    /// Before the first policy.
+    fn begin<C>(
+        alloc: Global,
+        functions: &ExtensionSchemas<C>,
+        text: &'a str,
+        reader: Reader<'a>,
+    ) -> Result<Policies<'a>, AllocError>
+        ensures { IfOk result IsBegun }
+    {
+        let mut policies = Policies {
+            text,
+            reader,
+            next: None,
+            left: text.len(),
+        };
+        policies.next = policies.read_next(alloc, functions)?;
+        Ok(policies)
+    }
+
+    /// Gives the policy that comes next, and reads on; `None` where all were given. Calls in the policy behind it are of the
+    /// functions of Cedar, or of this table. Where memory is refused, the answer is an `AllocError`, and the same policy comes
+    /// next.
+    pub fn give<C>(
         &mut self,
         alloc: Global,
-    ) -> Result<Option<Result<Template, TextFault>>, AllocError> {
-        let text = self.text;
-        match &mut self.reader {
+        functions: &ExtensionSchemas<C>,
+    ) -> Result<Option<Read>, AllocError>
+        ensures next { IfOk result (λ read. read ≡ self.old.next) }
+        ensures read_on { OnOk result (IsReadOn self.old self.new) }
+        ensures kept { OnErr result (self.new.next ≡ self.old.next) }
+    {
+        let Some(read) = self.next.take() else {
+            self.left = 0;
+            return Ok(None);
+        };
+        match self.read_next(alloc, functions) {
+            Ok(following) => {
+                self.next = following;
+                Ok(Some(read))
+            }
+            Err(error) => {
+                self.next = Some(read);
+                Err(error)
+            }
+        }
+    }
+
+    /// Reads the policy behind the one that comes next; `None` where the text has ended.
+    fn read_next<C>(
+        &mut self,
+        alloc: Global,
+        functions: &ExtensionSchemas<C>,
+    ) -> Result<Option<Read>, AllocError>
+        ensures { IfOk result (comes_next self.old.left self.new.left) }
+    {
+        if self.left == 0 {
+            return Ok(None);
+        }
+        match self.reader.read(alloc, functions, self.text)? {
+            None => {
+                self.left = 0;
+                Ok(None)
+            }
+            Some(read) => {
+                self.left -= 1;
+                Ok(Some(read))
+            }
+        }
+    }
+}
+
+impl Reader<'_> {
+    /// Reads the next policy; `None` where the text has ended.
+    fn read<C>(
+        &mut self,
+        alloc: Global,
+        functions: &ExtensionSchemas<C>,
+        text: &str,
+    ) -> Result<Option<Read>, AllocError> {
+        match self {
             Reader::Cedar(policies) => match policies.next_policy() {
                 None => Ok(None),
-                Some(Ok(read)) => Ok(Some(allow(alloc, Some(text), read.template)?)),
+                Some(Ok(read)) => Ok(Some(allow(alloc, functions, Some(text), read.template)?)),
                 Some(Err(error)) => {
                     let fault = read_fault(alloc, Written::Policies, text, error)?;
-                    Ok(Some(Err(fault)))
+                    Ok(Some(Read::Fault(fault)))
                 }
             },
             Reader::Json(policies) => match policies.next_policy() {
                 None => Ok(None),
-                Some(Ok(read)) => Ok(Some(allow(alloc, None, read.template)?)),
+                Some(Ok(read)) => Ok(Some(allow(alloc, functions, None, read.template)?)),
                 Some(Err(error)) => {
                     let fault = form_fault(alloc, Written::Policies, text, error)?;
-                    Ok(Some(Err(fault)))
+                    Ok(Some(Read::Fault(fault)))
                 }
             },
         }
     }
 }
 
-/// A policy that was read, with its text in Cedar's own syntax if there is one, or the fault of what may not stand in it.
-fn allow(
+/// A policy that was read, with its text in Cedar's own syntax if there is one, unless a part may not stand in it.
+fn allow<C>(
     alloc: Global,
+    functions: &ExtensionSchemas<C>,
     text: Option<&str>,
     policy: Template,
-) -> Result<Result<Template, TextFault>, AllocError> {
-    match forbidden_part(alloc, text, &policy)? {
-        None => Ok(Ok(policy)),
-        Some(fault) => Ok(Err(fault)),
+) -> Result<Read, AllocError> {
+    match marks_unless_forbidden(alloc, functions, text, &policy)? {
+        Ok(marks) => Ok(Read::Policy(policy, marks)),
+        Err(fault) => Ok(Read::Fault(fault)),
     }
 }

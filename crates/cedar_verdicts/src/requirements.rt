@@ -1,24 +1,37 @@
 // The level that is said of a policy.
-ghost use Rattle.std.specs.Prelude.{◌≡◌, true, option_map};
-ghost use Rattle.cedar_verdicts.specs.Verdicts.{is_said, is_sound, level_said};
+ghost use Rattle.std.specs.Prelude.{◌≡◌, true, false, option_map, IfOk};
+ghost use Rattle.cedar_types.specs.Templates.{template_of};
+ghost use Rattle.cedar_verdicts.specs.Verdicts.{basis_of, is_said, is_sound, level_said, PassesWithoutLevel};
 
+use crate::found::find;
+use crate::settings::Settings;
 use cedar_findings::findings::Requirement;
 use cedar_host::policy_sets::Findings;
-use cedar_types::base::{ValidationError, ValidationMode};
+use cedar_types::base::{ArgumentCheck, Template, ValidationError, ValidationMode};
+use std::alloc::{AllocError, Global};
 
-/// The level that a policy requires, unless its check fails.
-pub fn requirement(mode: ValidationMode, found: &Findings) -> Requirement
-    ensures level { is_said result ≡ true
-        → level_said result ≡ option_map (λ l. l.level) found.now.level }
-    ensures sound { is_said result ≡ true → is_sound mode ≡ true }
-    ensures said { is_sound mode ≡ true → found.now.is_accepted ≡ true → is_said result ≡ true }
+/// The level that a policy requires, unless something else than its level is found against it.
+pub fn requirement<C: ArgumentCheck>(
+    alloc: Global,
+    settings: &Settings<'_, C>,
+    policy: &Template,
+    found: &Findings,
+) -> Result<Requirement, AllocError>
+    ensures level { IfOk result (λ r. is_said r ≡ true
+        → level_said r ≡ option_map (λ l. l.level) found.now.level) }
+    ensures sound { IfOk result (λ r. is_said r ≡ true → is_sound settings.now.mode ≡ true) }
+    ensures said { IfOk result (λ r. is_sound settings.now.mode ≡ true
+        → found.now.is_accepted ≡ true → is_said r ≡ true) }
+    ensures only { IfOk result (λ r. is_said r ≡ true → found.now.is_accepted ≡ false
+        → PassesWithoutLevel (basis_of C.refusal settings.now) (template_of policy.now)) }
 {
-    if !has_levels(mode) | !passes_without_level(found) {
-        return Requirement::Unsaid;
+    let passes = passes_without_level(alloc, settings, policy, found)?;
+    if !has_levels(settings.mode) | !passes {
+        return Ok(Requirement::Unsaid);
     }
     match found.level {
-        Some(level) => Requirement::Level(level),
-        None => Requirement::NoLevel,
+        Some(level) => Ok(Requirement::Level(level)),
+        None => Ok(Requirement::NoLevel),
     }
 }
 
@@ -32,14 +45,32 @@ fn has_levels(mode: ValidationMode) -> bool
     }
 }
 
-/// Whether a policy is accepted, or would be if no level were asked for.
-fn passes_without_level(found: &Findings) -> bool
-    ensures { found.now.is_accepted ≡ true → result ≡ true }
+/// Whether a policy is accepted, or would be if no level were asked for. That is looked at only where all its errors are about
+/// its level: a part that is nested too deep can fail its check without an error of its own.
+fn passes_without_level<C: ArgumentCheck>(
+    alloc: Global,
+    settings: &Settings<'_, C>,
+    policy: &Template,
+    found: &Findings,
+) -> Result<bool, AllocError>
+    ensures accepted { IfOk result (λ passes. found.now.is_accepted ≡ true → passes ≡ true) }
+    ensures refused { IfOk result (λ passes. passes ≡ true → found.now.is_accepted ≡ false
+        → PassesWithoutLevel (basis_of C.refusal settings.now) (template_of policy.now)) }
 {
     if found.is_accepted {
-        return true;
+        return Ok(true);
     }
-    !found.errors.is_empty() && found.errors.keys().all(is_about_level)
+    if found.errors.is_empty() || !found.errors.keys().all(is_about_level) {
+        return Ok(false);
+    }
+    let without = Settings {
+        validator: settings.validator,
+        mode: settings.mode,
+        level: None,
+        syntax: settings.syntax,
+    };
+    let found = find(alloc, &without, policy)?;
+    Ok(found.is_accepted)
 }
 
 fn is_about_level(error: &ValidationError) -> bool {

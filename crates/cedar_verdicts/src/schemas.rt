@@ -1,12 +1,10 @@
 //! The schema of texts, or what is wrong with it, in one syntax or the other.
-use cedar_findings::faults::{
-    TextFault, Written, all_schema_faults, schema_fault, shadowing_fault,
-};
+use cedar_findings::faults::{TextFault, Written, all_schema_faults, hiding_fault, schema_fault};
 use cedar_findings::json_faults::form_fault;
 use cedar_findings::schema_texts::SchemaTexts;
 use cedar_json::schema_text;
-use cedar_reading::schema;
-use cedar_types::base::ValidatorSchema;
+use cedar_reading::{ReadSchema, schema_with_hiding};
+use cedar_types::base::{Loc, ValidatorSchema};
 use std::alloc::{AllocError, Global};
 
 /// A fault of a schema, in the text of this number.
@@ -33,22 +31,41 @@ pub fn schema_or_faults(
     Ok(Err(faults))
 }
 
-/// The schema that a text of JSON declares, or the fault that it has, where it stands there.
-pub fn json_schema_or_fault(
+/// The schema that a text of JSON declares, or each of its faults, by place, where they stand there. A fault of its form is
+/// told alone.
+pub fn json_schema_or_faults(
     alloc: Global,
     json: &str,
-) -> Result<Result<ValidatorSchema, TextFault>, AllocError> {
+) -> Result<Result<ValidatorSchema, Vec<TextFault>>, AllocError> {
+    let mut faults = Vec::new(alloc);
     let written = match schema_text(alloc, json) {
         Ok(written) => written,
-        Err(error) => return Ok(Err(form_fault(alloc, Written::Schema, json, error)?)),
+        Err(error) => {
+            faults.push(form_fault(alloc, Written::Schema, json, error)?)?;
+            return Ok(Err(faults));
+        }
     };
-    match schema_or_fault(alloc, written.text())? {
-        Ok(schema) => Ok(Ok(schema)),
-        Err(TextFault { place, text }) => Ok(Err(TextFault {
-            place: written.origin_of(place.start),
-            text,
-        })),
+    let first = match schema_or_fault(alloc, written.text())? {
+        Ok(schema) => return Ok(Ok(schema)),
+        Err(fault) => fault,
+    };
+    for fault in all_schema_faults(alloc, written.text(), first)? {
+        let TextFault { place, text } = fault;
+        let place = written.origin_of(place.start);
+        // a common type that stands for a shape is written at each, and its faults stand at one place
+        if !is_told(&faults, place, text.as_str()) {
+            faults.push(TextFault { place, text })?;
+        }
     }
+    faults.sort_by_key(|it| (it.place.start, it.place.end))?;
+    Ok(Err(faults))
+}
+
+/// Whether these have the fault of this text at this place.
+fn is_told(faults: &Vec<TextFault>, place: Loc, text: &str) -> bool {
+    faults
+        .iter()
+        .any(|it| it.place == place && it.text.as_str() == text)
 }
 
 /// The schema that a text in Cedar's own syntax declares, or the first fault that it has.
@@ -56,11 +73,11 @@ fn schema_or_fault(
     alloc: Global,
     text: &str,
 ) -> Result<Result<ValidatorSchema, TextFault>, AllocError> {
-    let schema = match schema(alloc, text) {
-        Ok(schema) => schema,
+    let ReadSchema { schema, hiding } = match schema_with_hiding(alloc, text) {
+        Ok(read) => read,
         Err(error) => return Ok(Err(schema_fault(alloc, text, error)?)),
     };
-    match shadowing_fault(alloc, text)? {
+    match hiding_fault(alloc, text, hiding)? {
         None => Ok(Ok(schema)),
         Some(fault) => Ok(Err(fault)),
     }

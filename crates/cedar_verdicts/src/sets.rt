@@ -11,6 +11,7 @@ use crate::ids::Ids;
 use crate::settings::Settings;
 use crate::verdicts::judge_in_set;
 use cedar_findings::findings::Verdict;
+use cedar_findings::marks::{Marked, marked_parts};
 use cedar_findings::places::Places;
 use cedar_reading::Position;
 use cedar_types::base::{ArgumentCheck, Template};
@@ -55,9 +56,30 @@ impl<'a> SetJudge<'a> {
         ensures taken { OnOk result ((t : Text) → has_id self.new.ids t
             ≡ (text_eq t (text_of policy.now.id.text) || has_id self.old.ids t)) }
     {
+        let marks = marked_parts(alloc, policy)?;
+        let verdict = self.judge_marked(alloc, settings, policy, marks.as_slice())?;
+        Ok(verdict)
+    }
+
+    /// What is said of the next policy of the set, in which these texts have marks of direction.
+    pub(crate) fn judge_marked<C: ArgumentCheck>(
+        &mut self,
+        alloc: Global,
+        settings: &Settings<'_, C>,
+        policy: &Template,
+        marks: &[Marked],
+    ) -> Result<Verdict, AllocError>
+        ensures right { IfOk result (IsRightVerdict (basis_of C.refusal settings.now)
+            settings.now.level (template_of policy.now)) }
+        ensures whole { IfOk result (IsWholeVerdict (basis_of C.refusal settings.now)
+            settings.now.level (template_of policy.now)
+            (has_id self.old.ids (text_of policy.now.id.text))) }
+        ensures taken { OnOk result ((t : Text) → has_id self.new.ids t
+            ≡ (text_eq t (text_of policy.now.id.text) || has_id self.old.ids t)) }
+    {
         let first = self.ids.take(&policy.id, place_of(policy).start)?;
         let same_id = self.position_of(first)?;
-        let verdict = judge_in_set(alloc, settings, self.examples, policy, same_id)?;
+        let verdict = judge_in_set(alloc, settings, self.examples, policy, marks, same_id)?;
         Ok(verdict)
     }
 

@@ -1,77 +1,57 @@
 //! What is said of the policies of a text, one after another.
-ghost use Rattle.std.specs.Prelude.{◌≡◌, false, IfOk, IfSome};
+ghost use Rattle.std.specs.Prelude.{◌≡◌, ◌<◌, false, None, IfOk, IfSome};
 ghost use Rattle.cedar_types.specs.Names.{Text};
 ghost use Rattle.cedar_verdicts.specs.Ids.{has_id};
-ghost use Rattle.cedar_verdicts.specs.Texts.{AreIdsAfter, IsRightSaid, IsWholeSaid};
+ghost use Rattle.cedar_verdicts.specs.Reading.{IsBegun, IsReadOn};
+ghost use Rattle.cedar_verdicts.specs.Texts.{faults_after, AreIdsAfter, IsRightSaid, IsSaidOf, IsWholeSaid};
 ghost use Rattle.cedar_verdicts.specs.Verdicts.{basis_of};
 
-use crate::policies::Policies;
+use crate::policies::{Policies, Read};
 use crate::sets::SetJudge;
 use crate::settings::Settings;
-use cedar_findings::faults::{TextFault, Written};
+use cedar_findings::faults::TextFault;
 use cedar_findings::findings::Verdict;
-use cedar_findings::json_faults::form_fault;
 use cedar_findings::syntaxes::Syntax;
-use cedar_json::{FormError, Value, value_alone};
-use cedar_types::base::{ArgumentCheck, Template};
+use cedar_types::base::{ArgumentCheck, ExtensionSchemas, Template};
 use std::alloc::{AllocError, Global};
 
 /// How many faults of a text are told.
 pub const MAX_FAULTS: u64 = 100;
 
-/// A text of policies.
-#[derive(Drop)]
+/// A text of policies, and its syntax.
+#[derive(Clone, Copy)]
 pub struct PolicyText<'a> {
     text: &'a str,
-    tree: Tree,
-}
-
-/// The tree of a text, or the fault of one that is none.
-#[derive(Drop)]
-enum Tree {
-    /// It is in Cedar's own syntax.
-    Cedar,
-    Json(Value),
-    Fault(TextFault),
+    syntax: Syntax,
 }
 
 impl<'a> PolicyText<'a> {
-    /// A text, with its tree where it is JSON: by the syntax, or by its first characters.
-    pub fn new(
-        alloc: Global,
-        syntax: Option<Syntax>,
-        text: &'a str,
-    ) -> Result<PolicyText<'a>, AllocError> {
-        let tree = match syntax.unwrap_or(Syntax::of(text)) {
-            Syntax::Cedar => Tree::Cedar,
-            Syntax::Json => tree_of(alloc, text)?,
-        };
-        Ok(PolicyText { text, tree })
+    /// A text in a syntax, or in the one that its first characters are of.
+    pub fn new(syntax: Option<Syntax>, text: &'a str) -> PolicyText<'a> {
+        let syntax = syntax.unwrap_or(Syntax::of(text));
+        PolicyText { text, syntax }
     }
 
     /// Whether it is JSON: then its policies do not come in the order of their places.
     pub fn is_json(&self) -> bool {
-        !matches!(self.tree, Tree::Cedar)
+        self.syntax == Syntax::Json
     }
 
-    /// What is said of its policies, of which none was judged yet, or the fault that it has as a whole.
-    pub fn verdicts(
+    /// What is said of its policies, of which none was judged yet, or the fault that it has as a whole. Calls in them are of the
+    /// functions of Cedar, or of this table.
+    pub fn verdicts<C>(
         &self,
         alloc: Global,
+        functions: &ExtensionSchemas<C>,
     ) -> Result<Result<PolicyVerdicts<'_>, TextFault>, AllocError>
-        ensures { IfOk result (λ said. IfOk said (λ verdicts.
+        ensures ids { IfOk result (λ said. IfOk said (λ verdicts.
             (t : Text) → has_id verdicts.judge.ids t ≡ false)) }
+        ensures faults { IfOk result (λ said. IfOk said (λ verdicts. verdicts.faults ≡ 0)) }
+        ensures begun { IfOk result (λ said. IfOk said (λ verdicts. IsBegun verdicts.policies)) }
     {
-        let policies = match &self.tree {
-            Tree::Cedar => Policies::of_text(alloc, self.text)?,
-            Tree::Json(root) => Policies::of_json(alloc, self.text, root)?,
-            Tree::Fault(TextFault { place, text }) => {
-                let text = String::from_str(alloc, text.as_str())?;
-                Err(TextFault {
-                    place: *place,
-                    text,
-                })
-            }
+        let policies = match self.syntax {
+            Syntax::Cedar => Policies::of_text(alloc, functions, self.text)?,
+            Syntax::Json => Policies::of_json(alloc, functions, self.text)?,
         };
         match policies {
             Ok(policies) => {
@@ -84,16 +64,6 @@ impl<'a> PolicyText<'a> {
                 }))
             }
             Err(fault) => Ok(Err(fault)),
-        }
-    }
-}
-
-fn tree_of(alloc: Global, text: &str) -> Result<Tree, AllocError> {
-    match value_alone(alloc, text) {
-        Ok(root) => Ok(Tree::Json(root)),
-        Err(error) => {
-            let error = FormError::from(error);
-            Ok(Tree::Fault(form_fault(alloc, Written::Policies, text, error)?))
         }
     }
 }
@@ -127,33 +97,44 @@ impl PolicyVerdicts<'_> {
         self.is_cut
     }
 
-    /// What is said next; `None` where all is said, or the rest is not read. What is said of a policy is as `judge` says it (clause
-    /// `right`), and a policy is refused where one before it has its id (clauses `whole` and `taken`).
+    /// What is said next; `None` where all is said, or the rest is not read. Each policy of the text, read or not, gets one word in
+    /// its order: the word is of the policy that comes next (clause `each`), and the one behind it comes then (clause `in_order`).
+    /// Where nothing is said, none comes, or a hundred faults were told (clauses `none_left` and `counted`). What is said of a policy is
+    /// as `judge` says it (clause `right`), and a policy is refused where one before it has its id (clauses `whole` and `taken`).
     pub fn next_said<C: ArgumentCheck>(
         &mut self,
         alloc: Global,
         settings: &Settings<'_, C>,
     ) -> Result<Option<Said>, AllocError>
+        ensures each { IfOk result (λ said. IfSome said (IsSaidOf self.old.policies.next)) }
+        ensures none_left { IfOk result (λ said.
+            said ≡ None → self.old.faults < 100 → self.old.policies.next ≡ None) }
+        ensures in_order { IfOk result (λ said.
+            IfSome said (λ s. IsReadOn self.old.policies self.new.policies)) }
+        ensures counted { IfOk result (λ said.
+            self.new.faults ≡ faults_after self.old.faults said) }
         ensures right { IfOk result (λ said. IfSome said
             (IsRightSaid (basis_of C.refusal settings.now) settings.now.level)) }
         ensures whole { IfOk result (λ said. IfSome said
             (IsWholeSaid (basis_of C.refusal settings.now) settings.now.level self.old.judge.ids)) }
         ensures taken { IfOk result (AreIdsAfter self.old.judge.ids self.new.judge.ids) }
     {
-        let Some(next) = self.policies.next_policy(alloc)? else {
+        let functions = settings.validator.extensions();
+        let Some(read) = self.policies.give(alloc, functions)? else {
             return Ok(None);
         };
         if self.faults >= MAX_FAULTS {
             self.is_cut = true;
             return Ok(None);
         }
-        match next {
-            Ok(policy) => {
-                let verdict = self.judge.judge_next(alloc, settings, &policy)?;
+        match read {
+            Read::Policy(policy, marks) => {
+                let marks = marks.as_slice();
+                let verdict = self.judge.judge_marked(alloc, settings, &policy, marks)?;
                 Ok(Some(Said::Verdict(policy, verdict)))
             }
-            Err(fault) => {
-                self.faults = self.faults.saturating_add(1);
+            Read::Fault(fault) => {
+                self.faults += 1;
                 Ok(Some(Said::Fault(fault)))
             }
         }

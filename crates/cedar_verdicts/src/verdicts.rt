@@ -10,6 +10,7 @@ use crate::settings::Settings;
 use crate::warnings::{find_false_parts, warning_causes};
 use crate::wording::{About, first_findings};
 use cedar_findings::findings::Verdict;
+use cedar_findings::marks::{Marked, marked_parts};
 use cedar_reading::Position;
 use cedar_types::base::{ArgumentCheck, Template};
 use std::alloc::{AllocError, Global};
@@ -32,16 +33,19 @@ pub fn judge<C: ArgumentCheck>(
     ensures whole { IfOk result (IsWholeVerdict (basis_of C.refusal settings.now)
         settings.now.level (template_of policy.now) false) }
 {
-    let verdict = judge_in_set(alloc, settings, text, policy, None)?;
+    let marks = marked_parts(alloc, policy)?;
+    let verdict = judge_in_set(alloc, settings, text, policy, marks.as_slice(), None)?;
     Ok(verdict)
 }
 
-/// What is said of a policy of a set: where an earlier one of the set has its id, at this position of the text, it is refused.
+/// What is said of a policy of a set, in which these texts have marks of direction: where an earlier one of the set has its id, at
+/// this position of the text, it is refused.
 pub(crate) fn judge_in_set<C: ArgumentCheck>(
     alloc: Global,
     settings: &Settings<'_, C>,
     text: &str,
     policy: &Template,
+    marks: &[Marked],
     same_id: Option<Position>,
 ) -> Result<Verdict, AllocError>
     ensures right { IfOk result (IsRightVerdict (basis_of C.refusal settings.now)
@@ -60,12 +64,13 @@ pub(crate) fn judge_in_set<C: ArgumentCheck>(
     let errors = first_findings(alloc, about, causes, MAX_FINDINGS)?;
     let room = MAX_FINDINGS.saturating_sub(errors.listed.len());
     let parts = find_false_parts(alloc, settings, &found, policy)?;
-    let causes = warning_causes(alloc, &found, parts.as_slice(), policy)?;
+    let causes = warning_causes(alloc, &found, parts.as_slice(), marks, policy)?;
     let warning_count = causes.len() as u64;
     let warnings = first_findings(alloc, about, causes, room)?;
+    let requirement = requirement(alloc, settings, policy, &found)?;
     Ok(Verdict {
         is_accepted: found.is_accepted & same_id.is_none(),
-        requirement: requirement(settings.mode, &found),
+        requirement,
         errors: errors.listed,
         warnings: warnings.listed,
         others: errors.others.saturating_add(warnings.others),

@@ -2,7 +2,7 @@
 use crate::causes::{Cause, Found, place_of};
 use crate::impossible::{FalsePart, false_parts};
 use crate::settings::Settings;
-use cedar_findings::marks::marked_parts;
+use cedar_findings::marks::Marked;
 use cedar_host::policy_sets::Findings;
 use cedar_typechecker::survey::Environments;
 use cedar_types::base::{ArgumentCheck, Template, ValidationError, ValidationWarning};
@@ -25,16 +25,17 @@ pub fn find_false_parts<C: ArgumentCheck>(
     Ok(Vec::new(alloc))
 }
 
-/// The warnings: those that do not follow from errors, and the texts with marks of direction.
+/// The warnings: those that do not follow from errors, and the texts that may be read as others.
 pub fn warning_causes<'a>(
     alloc: Global,
     found: &'a Findings,
     parts: &'a [FalsePart],
+    marks: &[Marked],
     policy: &Template,
 ) -> Result<Vec<Found<'a>>, AllocError> {
     let mut causes = Vec::new(alloc);
     add_warnings(found, parts, policy, &mut causes)?;
-    add_marks(alloc, policy, &mut causes)?;
+    add_marks(policy, marks, &mut causes)?;
     Ok(causes)
 }
 
@@ -69,15 +70,15 @@ fn add_warnings<'a>(
     Ok(())
 }
 
-/// Adds the texts with marks of direction.
+/// Adds the texts that may be read as others.
 fn add_marks(
-    alloc: Global,
     policy: &Template,
+    marks: &[Marked],
     causes: &mut Vec<Found<'_>>,
 ) -> Result<(), AllocError> {
-    for it in marked_parts(alloc, policy)? {
+    for it in marks {
         let place = it.place.unwrap_or(place_of(policy));
-        let cause = Cause::Marks(it.text);
+        let cause = Cause::Marks(it.code, it.text);
         causes.push(Found { place, cause })?;
     }
     Ok(())

@@ -9,6 +9,9 @@ use cedar_reading::Position;
 use cedar_types::base::{Message, Template, ValidatorSchema};
 use std::alloc::{AllocError, Global};
 
+/// What is said of a part that makes a policy impossible.
+const NEVER_TRUE: &str = "this part is never true";
+
 /// How many other types of one mistake are named.
 const MAX_ALSO: usize = 4;
 
@@ -122,7 +125,7 @@ fn text_of(alloc: Global, cause: Cause<'_>) -> Result<String, AllocError> {
         Cause::Warning(warning) | Cause::FalsePart(warning, _) => {
             Message(warning).to_string(alloc)
         }
-        Cause::Marks(text) | Cause::Unexplained(text) => String::from_str(alloc, text),
+        Cause::Marks(_, text) | Cause::Unexplained(text) => String::from_str(alloc, text),
         Cause::SameId(Position { line, column }) => {
             format!(in alloc; "the policy at {line}:{column} of this file has the same id")
         }
@@ -135,9 +138,17 @@ fn hint(alloc: Global, about: About<'_>, cause: Cause<'_>) -> Result<String, All
             hint_for_error(alloc, about.schema, about.policy, about.text, error)
         }
         Cause::Warning(warning) => hint_for_warning(alloc, about.schema, about.policy, warning),
-        Cause::FalsePart(_, _) => String::from_str(alloc, "this part is never true"),
-        Cause::Marks(_) | Cause::Unexplained(_) | Cause::SameId(_) => Ok(String::new(alloc)),
+        Cause::FalsePart(_, part) => hint_for_false(alloc, part.hint.as_str()),
+        Cause::Marks(_, _) | Cause::Unexplained(_) | Cause::SameId(_) => Ok(String::new(alloc)),
     }
+}
+
+/// That a part is never true, and what may be meant by it.
+fn hint_for_false(alloc: Global, meant: &str) -> Result<String, AllocError> {
+    if meant.is_empty() {
+        return String::from_str(alloc, NEVER_TRUE);
+    }
+    format!(in alloc; "{NEVER_TRUE}: {meant}")
 }
 
 /// The types of these errors: of the first few, and how many more there are.
@@ -180,6 +191,6 @@ fn add_environments(
     match cause {
         Cause::Error(_, environments) => all.add(alloc, environments),
         Cause::FalsePart(_, part) => all.add(alloc, &part.environments),
-        Cause::Warning(_) | Cause::Marks(_) | Cause::Unexplained(_) | Cause::SameId(_) => Ok(()),
+        Cause::Warning(_) | Cause::Marks(_, _) | Cause::Unexplained(_) | Cause::SameId(_) => Ok(()),
     }
 }

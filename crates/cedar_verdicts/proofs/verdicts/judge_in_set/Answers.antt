@@ -2,7 +2,7 @@ use Rattle.std.proofs.Common.{◌∙◌, ◌&&◌, is_some, length, sym, subst, 
 use Rattle.cedar_types.specs.Templates.{template_of}
 use Rattle.cedar_typechecker.specs.Levels.Required.{IsRequiredLevel}
 use Rattle.cedar_verdicts.specs.Verdicts.{basis_of}
-use Rattle.cedar_verdicts.proofs.Decided.{promised_still, some_cause, twice_not}
+use Rattle.cedar_verdicts.proofs.Decided.{passes_without, promised_still, some_cause, twice_not}
 use Rattle.cedar_verdicts.proofs.verdicts.judge_in_set.Goals as goal
 
 pub returns-clause-right : goal.returns-clause-right
@@ -10,11 +10,14 @@ returns-clause-right g c =
     let b = basis_of g.C.ArgumentCheck.refusal c.args.settings.now in
     let t = template_of c.args.policy.now in
     let found = c.in_ok-found.ensures in
-    let said = c.requirement.ensures in
+    let said = c.in_ok-requirement.ensures in
+    let exact = found.exact in
     record {
       promised =
           promised_still b c.args.settings.now.level t c.in_ok-found.found.is_accepted c.is_none.result found.promised;
       required = λ h. subst (IsRequiredLevel b t) (sym (said.level h)) (found.level (said.sound h));
+      only = λ h.
+          passes_without b c.args.settings.now.level t exact.0 c.in_ok-found.found.is_accepted exact.1 exact.2 (said.only h);
     }
 
 pub returns-clause-whole : goal.returns-clause-whole
@@ -30,5 +33,5 @@ returns-clause-whole g c =
           c.in_ok-errors.ensures (omega arith)
           (some_cause c.in_ok-found.found.is_accepted c.is_none.result (is_some c.args.same_id)
           (length c.in_ok-causes.causes.items) c.is_none.ensures causes.refused causes.repeated h);
-      said = λ nothing sound. c.requirement.ensures.said sound (found.2 ∙ nothing);
+      said = λ nothing sound. c.in_ok-requirement.ensures.said sound (found.2 ∙ nothing);
     }

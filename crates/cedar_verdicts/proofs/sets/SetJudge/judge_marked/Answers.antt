@@ -2,7 +2,7 @@ use Rattle.std.proofs.Common.{Bool, ◌∙◌, ap, subst}
 use Rattle.cedar_types.specs.Templates.{template_of}
 use Rattle.cedar_verdicts.specs.Ids.{has_id}
 use Rattle.cedar_verdicts.specs.Verdicts.{basis_of, IsWholeVerdict}
-use Rattle.cedar_verdicts.proofs.sets.SetJudge.judge_next.Goals as goal
+use Rattle.cedar_verdicts.proofs.sets.SetJudge.judge_marked.Goals as goal
 
 pub returns-clause-whole : goal.returns-clause-whole
 returns-clause-whole g c =

@@ -1,0 +1,197 @@
+//! What changes for policies from one schema to another.
+ghost use Rattle.std.specs.Prelude.{◌≡◌, IfOk};
+ghost use Rattle.cedar_verdicts.specs.Changes.{has_impossible, is_impossible_code, needs_more, is_worse_by};
+
+use crate::settings::Settings;
+use crate::texts::{PolicyText, PolicyVerdicts, Said};
+use cedar_findings::changes::{Change, Comparison};
+use cedar_findings::codes::Code;
+use cedar_findings::faults::TextFault;
+use cedar_findings::findings::{Finding, Requirement, Severity, Verdict};
+use cedar_types::base::{ArgumentCheck, ExtensionSchemas, Template};
+use std::alloc::{AllocError, Global};
+
+/// Whether a policy is worse off by the second verdict: it was accepted, and is refused, or is impossible where it was not, or
+/// needs more steps than before. A policy that was refused cannot be worse off.
+pub fn is_worse(old: &Verdict, new: &Verdict) -> bool
+    ensures { result ≡ is_worse_by old.now new.now }
+{
+    let is_refused = !new.is_accepted;
+    let is_newly_impossible = is_impossible(new) & !is_impossible(old);
+    old.is_accepted & (is_refused | (is_newly_impossible | rises(old.requirement, new.requirement)))
+}
+
+/// Whether a warning says that a policy is impossible.
+fn is_impossible(verdict: &Verdict) -> bool
+    ensures { result ≡ has_impossible verdict.now }
+{
+    verdict.warnings.iter().any(tells_impossible)
+}
+
+fn tells_impossible(finding: &Finding) -> bool
+    ensures { result ≡ is_impossible_code finding.now.code }
+{
+    matches!(finding.code, Code::Impossible)
+}
+
+/// Whether the second is more than the first.
+fn rises(old: Requirement, new: Requirement) -> bool
+    ensures { result ≡ needs_more old new }
+{
+    match (old, new) {
+        (Requirement::Level(old), Requirement::Level(new)) => old.level < new.level,
+        (Requirement::Level(_), Requirement::NoLevel) => true,
+        _ => false,
+    }
+}
+
+/// What changed for a policy from one verdict to the next. It fails where memory is refused.
+pub fn compare<'o, 'n>(
+    alloc: Global,
+    old: &'o Verdict,
+    new: &'n Verdict,
+) -> Result<Comparison<'o, 'n>, AllocError>
+    ensures { IfOk result (λ it. it.is_worse ≡ is_worse_by old.now new.now) }
+{
+    let is_worse = is_worse(old, new);
+    let changes = changes_between(alloc, old, new)?;
+    let came = findings_without(alloc, new, old)?;
+    let went = findings_without(alloc, old, new)?;
+    Ok(Comparison {
+        is_worse,
+        changes,
+        came,
+        went,
+    })
+}
+
+fn changes_between(alloc: Global, old: &Verdict, new: &Verdict) -> Result<Vec<Change>, AllocError> {
+    let mut changes = Vec::new(alloc);
+    match (old.is_accepted, new.is_accepted) {
+        (true, false) => changes.push(Change::Refused)?,
+        (false, true) => changes.push(Change::Accepted)?,
+        _ => {}
+    }
+    match (is_impossible(old), is_impossible(new)) {
+        (false, true) => changes.push(Change::Impossible)?,
+        (true, false) => changes.push(Change::Possible)?,
+        _ => {}
+    }
+    if is_other_level(old.requirement, new.requirement) {
+        changes.push(Change::Level)?;
+    }
+    Ok(changes)
+}
+
+/// Whether both are said, and are not one.
+fn is_other_level(old: Requirement, new: Requirement) -> bool {
+    match (old, new) {
+        (Requirement::Unsaid, _) | (_, Requirement::Unsaid) => false,
+        (Requirement::NoLevel, Requirement::NoLevel) => false,
+        (Requirement::Level(old), Requirement::Level(new)) => old != new,
+        _ => true,
+    }
+}
+
+/// The findings of one verdict that another has not.
+fn findings_without<'a>(
+    alloc: Global,
+    one: &'a Verdict,
+    other: &Verdict,
+) -> Result<Vec<(Severity, &'a Finding)>, AllocError> {
+    let mut found = Vec::new(alloc);
+    for finding in &one.errors {
+        if !has_same(&other.errors, finding) {
+            found.push((Severity::Error, finding))?;
+        }
+    }
+    for finding in &one.warnings {
+        if !has_same(&other.warnings, finding) {
+            found.push((Severity::Warning, finding))?;
+        }
+    }
+    Ok(found)
+}
+
+/// Whether one of these findings says the same of the same place.
+fn has_same(findings: &Vec<Finding>, wanted: &Finding) -> bool {
+    for it in findings {
+        let is_there = it.start == wanted.start && it.end == wanted.end;
+        if is_there && it.code == wanted.code && it.text == wanted.text {
+            return true;
+        }
+    }
+    false
+}
+
+/// What two schemas say of the policies of a text, one after another.
+#[derive(Drop)]
+pub struct Comparisons<'a> {
+    old: PolicyVerdicts<'a>,
+    new: PolicyVerdicts<'a>,
+}
+
+/// What they say of a policy.
+#[derive(Drop)]
+pub enum Compared {
+    /// This policy, and the verdicts by the older schema and by the other.
+    Verdicts(Template, Verdict, Verdict),
+    /// A policy that cannot be read.
+    Fault(TextFault),
+}
+
+impl<'a> Comparisons<'a> {
+    /// Of a text of which nothing was said yet, or the fault that it has as a whole. Calls in it are of the functions of Cedar,
+    /// or of this table.
+    pub fn new<C>(
+        alloc: Global,
+        functions: &ExtensionSchemas<C>,
+        text: &'a PolicyText<'a>,
+    ) -> Result<Result<Comparisons<'a>, TextFault>, AllocError> {
+        let old = match text.verdicts(alloc, functions)? {
+            Ok(old) => old,
+            Err(fault) => return Ok(Err(fault)),
+        };
+        match text.verdicts(alloc, functions)? {
+            Ok(new) => Ok(Ok(Comparisons { old, new })),
+            Err(fault) => Ok(Err(fault)),
+        }
+    }
+
+    /// How often something is said at most.
+    pub fn most(&self) -> usize {
+        self.new.most()
+    }
+
+    /// Whether the rest of the text was not read, because it has too many faults.
+    pub fn is_cut(&self) -> bool {
+        self.new.is_cut()
+    }
+
+    /// What is said next; `None` where all is said, or the rest is not read.
+    pub fn next_compared<C: ArgumentCheck>(
+        &mut self,
+        alloc: Global,
+        old: &Settings<'_, C>,
+        new: &Settings<'_, C>,
+    ) -> Result<Option<Compared>, AllocError> {
+        let Some(was) = self.old.next_said(alloc, old)? else {
+            return Ok(None);
+        };
+        let Some(is) = self.new.next_said(alloc, new)? else {
+            return Ok(None);
+        };
+        Ok(Some(joined(was, is)))
+    }
+}
+
+/// What both say of one policy, which both could read or neither.
+fn joined(was: Said, is: Said) -> Compared {
+    match is {
+        Said::Fault(fault) => Compared::Fault(fault),
+        Said::Verdict(policy, is) => match was {
+            Said::Fault(fault) => Compared::Fault(fault),
+            Said::Verdict(_policy, was) => Compared::Verdicts(policy, was, is),
+        },
+    }
+}
