@@ -1,8 +1,12 @@
 //! Validates the policies of files by a schema: `cedar-validate SCHEMA POLICY..`.
 #![tactic(auto)]
 
+mod changes;
 mod data;
 mod files;
+mod links;
+mod output;
+mod parses;
 mod progress;
 mod run;
 mod schemas;
@@ -10,10 +14,13 @@ mod version;
 
 use cedar_extensions::checks::Constructor;
 use cedar_extensions::functions::{Checks, functions, overloaded_types};
+use cedar_findings::colours::Colours;
 use cedar_types::base::ExtensionSchemas;
+use output::Output;
 use progress::Progress;
 use run::run;
 use std::env;
+use std::env::VarError;
 use std::io::{ErrorKind, IsTerminal, Write};
 use std::process::ExitCode;
 
@@ -56,12 +63,28 @@ fn main(rt: HostRuntime) -> ExitCode {
     let Ok(extensions) = ExtensionSchemas::new(functions, overloaded) else {
         return cannot_begin(&mut err, NO_MEMORY);
     };
-    let mut out = rt.stdout();
+    let out = rt.stdout();
+    let is_terminal = out.is_terminal();
     // on a terminal the lines of the policies show how far the program is
-    let terminal = (err.is_terminal() && !out.is_terminal()).then_some(rt.stderr());
-    let mut progress = Progress::new(terminal);
+    let terminal = (err.is_terminal() && !is_terminal).then_some(rt.stderr());
+    let colours = if is_terminal && !refuses_colours(&rt) {
+        Colours::Terminal
+    } else {
+        Colours::None
+    };
+    let mut output = Output::new(out, colours, Progress::new(terminal));
     let words = words.as_slice();
-    ExitCode::from(run(&rt, words, &extensions, &mut progress, &mut out, &mut err))
+    ExitCode::from(run(&rt, words, &extensions, &mut output, &mut err))
+}
+
+/// Whether the environment has a `NO_COLOR` that is not empty.
+fn refuses_colours(rt: &HostRuntime) -> bool {
+    match env::var(rt, "NO_COLOR") {
+        Ok(text) => !text.is_empty(),
+        Err(VarError::NotPresent) => false,
+        // a text that is none in UTF-8 is not empty, and without memory nothing is painted
+        Err(_) => true,
+    }
 }
 
 /// Says why the program cannot begin, and answers its status.

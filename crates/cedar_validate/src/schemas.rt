@@ -1,13 +1,11 @@
 // The schema of files.
-use crate::files::read_text;
-use cedar_findings::arguments::Arguments;
-use cedar_findings::formats::Format;
-use cedar_findings::reports::{render_fault, render_missing};
+use crate::files::read_file;
+use crate::output::Output;
 use cedar_findings::schema_texts::SchemaTexts;
 use cedar_findings::sources::Source;
 use cedar_findings::syntaxes::Syntax;
 use cedar_types::base::ValidatorSchema;
-use cedar_verdicts::schemas::{SchemaFault, json_schema_or_fault, schema_or_faults};
+use cedar_verdicts::schemas::{SchemaFault, json_schema_or_faults, schema_or_faults};
 use std::alloc::Global;
 use std::io;
 use std::io::Write;
@@ -16,24 +14,27 @@ use std::rt::Files;
 /// What is said of a schema in JSON that is not the only file of the schema.
 const NOT_ALONE: &str = "a schema in JSON has to be the only file of the schema";
 
-/// The schema. Where there is none, why is written, and the answer is `None`.
-pub fn read_schema<R: Files + AllocGlobal + Input, O: Write>(
+/// The schema of these files. Where there is none, why is written, and the answer is `None`.
+pub fn read_schema<R: Files + AllocGlobal + Input, O: Write, T: Write>(
     rt: &R,
-    arguments: &Arguments,
-    format: &mut Format,
-    out: &mut O,
+    names: &[String],
+    syntax: Option<Syntax>,
+    output: &mut Output<O, T>,
 ) -> io::Result<Option<ValidatorSchema>> {
     let alloc = rt.alloc();
     let mut texts = SchemaTexts::new(alloc);
-    for name in &arguments.schemas {
+    for name in names {
         let name = name.as_str();
-        let Some(text) = read_text(rt, format, name, out)? else {
+        let Some(text) = read_file(rt, name, output)? else {
             return Ok(None);
         };
         let text = text.as_str();
-        if arguments.syntax.unwrap_or(Syntax::of(text)) == Syntax::Json {
-            let is_alone = arguments.schemas.len() == 1;
-            return read_json_schema(alloc, format, Source { name, text }, is_alone, out);
+        if syntax.unwrap_or(Syntax::of(text)) == Syntax::Json {
+            if names.len() > 1 {
+                output.write_missing(alloc, name, NOT_ALONE)?;
+                return Ok(None);
+            }
+            return read_json_schema(alloc, Source { name, text }, output);
         }
         texts.add(text)?;
     }
@@ -42,32 +43,28 @@ pub fn read_schema<R: Files + AllocGlobal + Input, O: Write>(
         Err(faults) => faults,
     };
     for SchemaFault { number, fault } in &faults {
-        let name = match arguments.schemas.get(*number) {
+        let name = match names.get(*number) {
             Some(name) => name.as_str(),
             None => "",
         };
         let text = texts.text_of(*number);
-        out.write_all(render_fault(alloc, format, Source { name, text }, fault)?.as_bytes())?;
+        output.write_fault(alloc, Source { name, text }, fault)?;
     }
     Ok(None)
 }
 
-/// The schema of a file of JSON, which has to be the only one. Where there is none, why is written, and the answer is `None`.
-fn read_json_schema<O: Write>(
+/// The schema of a file of JSON. Where there is none, why is written, and the answer is `None`.
+fn read_json_schema<O: Write, T: Write>(
     alloc: Global,
-    format: &mut Format,
     source: Source<'_>,
-    is_alone: bool,
-    out: &mut O,
+    output: &mut Output<O, T>,
 ) -> io::Result<Option<ValidatorSchema>> {
-    let shown = if is_alone {
-        match json_schema_or_fault(alloc, source.text)? {
-            Ok(schema) => return Ok(Some(schema)),
-            Err(fault) => render_fault(alloc, format, source, &fault)?,
-        }
-    } else {
-        render_missing(alloc, format, source.name, NOT_ALONE)?
+    let faults = match json_schema_or_faults(alloc, source.text)? {
+        Ok(schema) => return Ok(Some(schema)),
+        Err(faults) => faults,
     };
-    out.write_all(shown.as_bytes())?;
+    for fault in &faults {
+        output.write_fault(alloc, source, fault)?;
+    }
     Ok(None)
 }
