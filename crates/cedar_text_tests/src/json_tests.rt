@@ -1,5 +1,7 @@
 // Which tree a text of JSON gives, or which fault and where. Each subject has a module.
 mod cases;
+mod cedar_forms;
+mod outlines;
 mod policies;
 mod policy_faults;
 mod policy_trees;

@@ -59,7 +59,7 @@ fn stored_shown(alloc: Global, text: &str, id: &str) -> Result<String, AllocErro
     for (name, value) in entity.attributes.iter() {
         write!(shown, "{name}: {value}; ")?;
     }
-    for ancestor in entity.ancestors.iter() {
+    for ancestor in entity.ancestors.as_slice() {
         write!(shown, "in {ancestor}; ")?;
     }
     for (name, value) in entity.tags.iter() {

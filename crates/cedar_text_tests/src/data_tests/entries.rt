@@ -38,7 +38,7 @@ fn an_entity_alone_has_mistakes(rt: HostRuntime) -> Result<(), Fail> {
             r#"{"uid": {"type": "Color", "id": "blue"}, "attrs": {}, "parents": [{"type": "Color", "id": "x"}]}"#,
             "at byte 8: Color::\"blue\": the type `Color` does not have this id; at byte 54: Color::\"blue\": it may be in no other; at byte 66: Color::\"x\": the type `Color` does not have this id",
         ),
-        (r#"{"uid": null}"#, "8 `null` has no meaning here\n"),
+        (r#"{"uid": null}"#, "at byte 8: `null` has no meaning here"),
     ];
     for (text, wanted) in cases {
         assert_eq!(rt; entry_shown(rt.alloc(), text)?.as_str(), wanted, "{text}");

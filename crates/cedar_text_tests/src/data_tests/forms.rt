@@ -13,11 +13,10 @@ const BOSS: Frame<'_> = (
 );
 
 /// Texts that are no JSON, and the fault of each.
-const BROKEN_TEXTS: [(&str, &str); 8] = [
+const BROKEN_TEXTS: [(&str, &str); 7] = [
     ("", "0 a value is expected\n"),
     ("[", "1 a value is expected\n"),
     ("[] x", "3 the end is expected\n"),
-    (r#"[{"uid": null}]"#, "9 `null` has no meaning here\n"),
     (r#"[{"uid": 1.5}]"#, "10 a number with a fraction\n"),
     (
         r#"[{"uid": 9223372036854775808}]"#,
@@ -28,10 +27,11 @@ const BROKEN_TEXTS: [(&str, &str); 8] = [
 ];
 
 /// JSON that is no list of entities.
-const OTHER_SHAPES: [(&str, &str); 10] = [
+const OTHER_SHAPES: [(&str, &str); 11] = [
     ("{}", " | a list is expected\n"),
     ("[3]", " | an object is expected\n"),
     ("[{}]", " | the key `uid` is missing\n"),
+    (r#"[{"uid": null}]"#, " | `null` has no meaning here\n"),
     (
         r#"[{"uid": "User::\"a\"", "attrs": {}, "parents": []}]"#,
         " | an object is expected\n",

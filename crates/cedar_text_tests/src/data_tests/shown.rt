@@ -109,7 +109,7 @@ pub fn ancestors_shown(alloc: Global, text: &str, id: &str) -> Result<String, Al
         return String::from_str(alloc, "not stored");
     };
     let mut shown = String::new(alloc);
-    for ancestor in entity.ancestors.iter() {
+    for ancestor in entity.ancestors.as_slice() {
         write!(shown, "{ancestor} ")?;
     }
     Ok(shown)
@@ -129,7 +129,7 @@ pub fn entry_shown(alloc: Global, text: &str) -> Result<String, AllocError> {
         return format!(in alloc; "{}", checked.faults);
     };
     let mut shown = format!(in alloc; "{id} in ")?;
-    for ancestor in entity.ancestors.iter() {
+    for ancestor in entity.ancestors.as_slice() {
         write!(shown, "{ancestor} ")?;
     }
     Ok(shown)

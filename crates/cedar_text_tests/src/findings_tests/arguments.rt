@@ -137,6 +137,8 @@ fn show_arguments(alloc: Global, line: &str) -> Result<String, Fail> {
         Ok(Asked::Validation(arguments)) => arguments,
         Ok(Asked::Help) => return Ok(String::from_str(alloc, "help")?),
         Ok(Asked::Version) => return Ok(String::from_str(alloc, "version")?),
+        Ok(Asked::Page) => return Ok(String::from_str(alloc, "page")?),
+        Ok(Asked::Completion(_)) => return Ok(String::from_str(alloc, "completion")?),
         Err(misuse) => return Ok(misuse.to_string(alloc)?),
     };
     let mut got = String::from_str(alloc, mode_text(arguments.mode))?;

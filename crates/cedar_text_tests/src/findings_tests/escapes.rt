@@ -1,5 +1,6 @@
 // Characters that show nothing, or change the order in which others are shown.
-use cedar_findings::escapes::{Quoted, Shown, ShownId, is_hidden};
+use cedar_findings::escapes::{Shown, ShownId, is_hidden};
+use cedar_findings::json::JsonWriter;
 use std::test::Fail;
 
 /// The first and the last of each run of characters that Unicode's tables have as ones that are not shown by default, but for
@@ -56,7 +57,8 @@ fn how_it_is_shown(rt: HostRuntime) -> Result<(), Fail> {
         shown.as_str(),
         "a\\u{3164}\\u{202e}\\u{60}\\\"'\\\\\\u{1d159}"
     );
-    let shown = format!(in alloc; "{}", Quoted(text))?;
+    let mut shown = String::new(alloc);
+    JsonWriter::new().text(&mut shown, text)?;
     assert_eq!(rt;
         shown.as_str(),
         "\"a\\u3164\\u202e`\\\"'\\\\\\ud834\\udd59\""

@@ -101,10 +101,7 @@ const CONDITIONS: [(&str, &str); 26] = [
         "2:24: `}` is expected, where `==` is read; one comparison does not follow another: `&&` \
          joins two",
     ),
-    (
-        "(if true then 1 else 2).a + - 3 .b };",
-        "2:40: `}` is expected, where `.` is read",
-    ),
+    ("(if true then 1 else 2).a + - 3 .b };", "no fault"),
     ("\"\\u{1_0}\\u{1f_6_00}\" == \"\" };", "no fault"),
     (
         "\"\\u{_1}\" == \"\" };",

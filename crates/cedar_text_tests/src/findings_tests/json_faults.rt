@@ -1,7 +1,7 @@
 // Texts of JSON with a fault: which it is, and where.
 use cedar_findings::faults::{TextFault, Written};
 use cedar_findings::json_faults::form_fault;
-use cedar_json::{FormError, Policies, schema_text, value_alone};
+use cedar_json::{FormError, Policies, schema_text};
 use cedar_reading::Position;
 use cedar_types::base::Loc;
 use std::alloc::Global;
@@ -69,11 +69,7 @@ fn of_policies(rt: HostRuntime) -> Result<(), Fail> {
 
 /// The fault of the first policy of a text, or of the whole text.
 fn policies_fault(alloc: Global, json: &str) -> Option<FormError> {
-    let root = match value_alone(alloc, json) {
-        Ok(root) => root,
-        Err(error) => return Some(FormError::from(error)),
-    };
-    match Policies::new(alloc, &root) {
+    match Policies::new(alloc, json) {
         Ok(mut policies) => policies.next_policy()?.err(),
         Err(error) => Some(error),
     }

@@ -19,7 +19,7 @@ const CASES: [(usize, usize, &str, usize, &str); 7] = [
         0,
         "lines",
         301,
-        "  ^^^^^^^^^^^^^^^^^^^^^^^^^^^^^^^^^^^^",
+        "    | ^^^^^^^^^^^^^^^^^^^^^^^^^^^^^^^^^^^^",
     ),
     (100, 1, "lines", 302, "f:2:1: 1 more findings"),
     (100, 250, "lines", 302, "f:2:1: 250 more findings"),
@@ -104,8 +104,8 @@ fn nothing_found(rt: HostRuntime) -> Result<(), Fail> {
         ("lines", true, 0),
         ("json", false, 1),
         ("json", true, 0),
-        ("sarif", false, 34),
-        ("sarif", true, 34),
+        ("sarif", false, 35),
+        ("sarif", true, 35),
     ] {
         let Some(mut format) = Format::by_name(name) else {
             continue;

@@ -2,7 +2,7 @@
 use crate::frames::Frame;
 use crate::json_tests::cases::check;
 use crate::json_tests::policy_trees::show_policies;
-use cedar_json::{Policies, ReadPolicy, value_alone};
+use cedar_json::{Policies, ReadPolicy};
 use cedar_types::base::Loc;
 use std::alloc::{AllocError, Global};
 use std::test::Fail;
@@ -200,8 +200,7 @@ fn places(rt: HostRuntime) -> Result<(), Fail> {
     let alloc = rt.alloc();
     let json =
         r#"{"p": {"effect": "permit", "principal": {"op": "All"}, "action": {"op": "All"}, "resource": {"op": "All"}, "conditions": [{"kind": "when", "body": {"!": {"arg": {"Value": true}}}}]}}"#;
-    let root = value_alone(alloc, json)?;
-    let mut policies = Policies::new(alloc, &root)?;
+    let mut policies = Policies::new(alloc, json)?;
     let mut places = Vec::new(alloc);
     if let Some(read) = policies.next_policy() {
         let ReadPolicy {

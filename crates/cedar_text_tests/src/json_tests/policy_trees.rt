@@ -1,7 +1,7 @@
 // Policies as lines: the effect, the constraints and the condition of each.
 use crate::json_tests::trees::push_expr;
 use cedar_fixtures::shown::push_constraint;
-use cedar_json::{FormError, Policies, ReadPolicy, value_alone};
+use cedar_json::{FormError, Policies, ReadPolicy};
 use cedar_types::base::{ActionConstraint, PrincipalOrResourceConstraint};
 use std::alloc::{AllocError, Global};
 
@@ -16,8 +16,7 @@ pub fn show_policies(alloc: Global, json: &str) -> Result<String, AllocError> {
 }
 
 fn push_policies(alloc: Global, out: &mut String, json: &str) -> Result<(), FormError> {
-    let root = value_alone(alloc, json)?;
-    let mut policies = Policies::new(alloc, &root)?;
+    let mut policies = Policies::new(alloc, json)?;
     for _ in 0..json.len() {
         let Some(read) = policies.next_policy() else {
             break;

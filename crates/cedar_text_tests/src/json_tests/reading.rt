@@ -83,7 +83,7 @@ fn schemas(rt: HostRuntime) -> Result<(), Fail> {
 }
 
 /// Schemas with a fault at the mark, and which.
-const FAULTS: [(&str, &str); 14] = [
+const FAULTS: [(&str, &str); 16] = [
     (
         r#"{"": {"entityTypes": {"A": {"memberOfTypes": [§"B"]}}, "actions": {}}}"#,
         "Undeclared",
@@ -114,6 +114,14 @@ const FAULTS: [(&str, &str); 14] = [
     ),
     (
         r#"{"": {"entityTypes": {"A": {"tags": {"type": "EntityOrCommon", "name": §"B"}}}, "actions": {}}}"#,
+        "UnknownType",
+    ),
+    (
+        r#"{"": {"entityTypes": {"A": {"tags": {"type": "Entity", "name": §"B"}}}, "actions": {}}}"#,
+        "UnknownType",
+    ),
+    (
+        r#"{"": {"entityTypes": {"A": {"tags": {"type": §"Lnog"}}}, "actions": {}}}"#,
         "UnknownType",
     ),
     (

@@ -41,10 +41,7 @@ const WHOLE: [(&str, &str); 13] = [
         r#"{"N": {"entityTypes": {}, "actions": {}}, §"N": {}}"#,
         "Json(SameKey)",
     ),
-    (
-        r#"{"N": {"entityTypes": {}, "actions": §null}}"#,
-        "Json(Null)",
-    ),
+    (r#"{"N": {"entityTypes": {}, "actions": §null}}"#, "Null"),
 ];
 
 #[test]
@@ -70,9 +67,7 @@ fn in_entity_types(rt: HostRuntime) -> Result<(), Fail> {
 }
 
 /// Types, here those of the tags of an entity type.
-const TYPES: [(&str, &str); 6] = [
-    (r#"{"type": §"Lnog"}"#, "Undeclared"),
-    (r#"{"type": "Entity", "name": §"B"}"#, "Undeclared"),
+const TYPES: [(&str, &str); 4] = [
     (r#"{"type": "Entity", "name": §"Long"}"#, "Undeclared"),
     (r#"§{"name": "A"}"#, r#"Missing("type")"#),
     (r#"§{"type": "Set"}"#, r#"Missing("element")"#),

@@ -18,6 +18,7 @@ fn push_value(out: &mut String, value: &Value) -> Result<(), AllocError> {
     match &value.kind {
         ValueKind::Text(text) => write!(out, "`{text}`")?,
         ValueKind::Integer(number) => write!(out, "={number}")?,
+        ValueKind::Null => write!(out, "=null")?,
         ValueKind::Boolean(truth) => write!(out, "={truth}")?,
         ValueKind::Array(items) => {
             out.push('[')?;

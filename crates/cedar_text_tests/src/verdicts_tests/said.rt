@@ -26,8 +26,8 @@ pub fn verdicts_shown(
     settings: &Settings<'_>,
     text: &str,
 ) -> Result<String, AllocError> {
-    let whole = PolicyText::new(alloc, settings.syntax, text)?;
-    match whole.verdicts(alloc)? {
+    let whole = PolicyText::new(settings.syntax, text);
+    match whole.verdicts(alloc, settings.validator.extensions())? {
         Ok(mut verdicts) => all_shown(alloc, settings, &mut verdicts),
         Err(_fault) => String::from_str(alloc, "no policies"),
     }
