@@ -2,7 +2,8 @@
 """What cedar-validate says and how it ends: scripts/application_cases.py [PROGRAM].
 
 PROGRAM is cedar_validate, by default as it is built without a proof. It is called with words that are right and wrong, and given
-texts that are large, deep or broken: each has to end in time with the status and the words that are wanted. Then each file
+files that are large or broken: each has to end in time with the status and the words that are wanted. (Other texts are judged
+by the tests of crates/cedar_text_tests, which ask the library cedar_verdicts.) Then each file
 apps_*.tsv of crates/cedar_cases/data is a schema and some policies, with what has to be said of them: whether each is
 accepted in a mode, with which errors and at which texts, its least sufficient level where it is accepted, and its errors at
 a level. All policies of a file are validated by one run for each of these columns, and its objects of JSON are compared.
@@ -16,9 +17,8 @@ import tempfile
 from pathlib import Path
 
 import unproved
-from validation_data import DATA, DATA_SCHEMA, GOOD_ENTITIES, GOOD_REQUEST
-from mistakes import HINT_SCHEMA, HINTS
-from validation_json import RUNS, TEAM, TEN, TEN_TALLY
+from validation_data import DATA_SCHEMA, GOOD_ENTITIES, GOOD_REQUEST
+from validation_json import RUNS
 
 TOP = Path(__file__).resolve().parent.parent
 CASES = TOP / "crates" / "cedar_cases" / "data"
@@ -29,10 +29,10 @@ action view appliesTo { principal: User, resource: File, context: { n: Long } };
 """
 SCOPE = "permit(principal, action, resource)"
 LARGE = 10_000_000
-USAGE = "[--mode strict|permissive|partial] [--level N] [--deny-warnings] [--format lines|json|sarif] [--input text|json] [--entities FILE] [--request FILE]"
+USAGE = "[-s|--schema FILE] [-p|--policies FILE] [-k|--template-linked FILE]"
 # Words, the exit status, and what the program says on standard output or, where that is empty, on standard error.
 CALLS = (
-    (["--help"], 0, f"usage: cedar-validate {USAGE} SCHEMA POLICY..\nValidates the policies"),
+    (["--help"], 0, f"usage: cedar-validate {USAGE}\n"),
     ([], 2, "cedar-validate: a schema and at least one file of policies are wanted\nusage: "),
     (["--modes", "strict", "s", "p"], 2, "cedar-validate: there is no option `--modes`\nusage: "),
     (["--mode", "loose", "s", "p"], 2, "cedar-validate: `--mode` takes `strict`, `permissive` or `partial`\nusage: "),
@@ -42,7 +42,7 @@ CALLS = (
     (["--json", "missing", "p"], 2, '{"kind":"fault","file":"missing","code":"file","text":"cannot be read: No such file or directory (os error 2)"}\n'),
     (["--schema", "s", "--schema=t", "p"], 0, "p:1:1: policy `policy0`: accepted, level 1\npolicies: 1"),
     (["p", "--schema", "s"], 0, "p:1:1: policy `policy0`: accepted, level 1\npolicies: 1"),
-    (["--schema", "t", "--schema", "s", "--schema", "u", "p"], 2, "u:2:6: fault: a type that is not declared: `Nope`\n  , b: Nope"),
+    (["--schema", "t", "--schema", "s", "--schema", "u", "p"], 2, "u:2:6: fault: a type that is not declared: `Nope`\n  2 | , b: Nope"),
     (["--schema", "s"], 2, "cedar-validate: a schema and at least one file of policies are wanted\nusage: "),
     (["s", "p", "--schema"], 2, "cedar-validate: `--schema` takes a file\nusage: "),
     (["--entities", "missing", "s"], 2, "missing: fault: cannot be read: No such file or directory (os error 2)\npolicies: 0"),
@@ -76,11 +76,15 @@ def when(condition):
 
 
 GOOD = when("principal.age > 3")
+# Policies with lines that are commands to a code host, if they stand at the beginning of a line, or anywhere.
+COMMANDS = (
+    f"{SCOPE} when {{\n::error file=app.js,line=1::forged by a policy\n}};\n",
+    f'@id("a")\n{SCOPE} when {{ principal.name == "\n::stop-commands::x\n" && resource.nope }};\n',
+    f'@id("##[error]x")\n{SCOPE} when {{ principal.name == "##vso[task.setvariable]" && resource["##[b]"] }};\n',
+)
 # Policies, the exit status, and what one of the first lines begins with.
 POLICIES = (
     ("\ufeff" + GOOD, 0, "p:1:1: policy `policy0`: accepted, level 1"),
-    (GOOD.replace(" when", "\r\nwhen") * 2, 0, "p:3:1: policy `policy1`: accepted, level 1"),
-    (GOOD + "\ufeff", 2, "p:2:1: fault: `permit` or `forbid` is expected, where `\\u{feff}` is read"),
     ((GOOD + 'permit "').encode() + b"\xff", 2, "p:2:9: fault: the byte 0xff is no text in UTF-8, as a file has to be"),
     (GOOD.encode("utf-16"), 2, "p:1:1: fault: the byte 0xff is no text in UTF-8, as a file has to be; it seems to be UTF-16"),
     ("//" + "x" * LARGE + "\n" + GOOD, 0, "p:2:1: policy `policy0`: accepted, level 1"),
@@ -88,96 +92,15 @@ POLICIES = (
     (when(f"[{'1,' * (LARGE // 20)}1].contains(context.n)"), 0, "p:1:1: policy `policy0`: accepted, level 0"),
     (when("(" * LARGE), 2, "p:1:844: fault: nested too deep: 800 brackets and operators are read"),
     (when("!" * LARGE), 2, "p:1:844: fault: nested too deep: 800 brackets and operators are read"),
-    (when("(" * 799 + "true" + ")" * 799), 0, "p:1:1: policy `policy0`: accepted, level 0"),
-    (when("(" * 395 + "true" + " || true)" * 395), 0, "p:1:1: policy `policy0`: accepted, level 0"),
-    (when("(true || " * 395 + "true" + ")" * 395), 0, "p:1:1: policy `policy0`: accepted, level 0"),
-    (when("(" * 700 + "principal" + ".boss" * 450 + ")" * 700 + ".boss" * 450), 2, "p:1:5453: fault: nested too deep: 800"),
-    (when("principal has " + ".".join(["boss"] * 100_000)), 2, "p:1:4062: fault: nested too deep: 800 brackets and operators are read"),
-    (when("principal" + ".boss" * 350 + ".age > 1"), 0, "p:1:1: policy `policy0`: accepted, level 351"),
-    (when("principal" + ".boss" * 450 + ".age > 1"), 1, "p:1:1: error: nested too deep to be checked: fewer than 400 parts may stand inside each other"),
-    (when(" && ".join(["true"] * 100_000)), 2, "p:1:6449: fault: nested too deep: 800 brackets and operators are read"),
-    (SCOPE + " when { true }" * 801 + ";", 2, "p:1:11237: fault: nested too deep: 800 brackets and operators are read"),
     (";" * LARGE, 2, "p: fault: 100 faults, so the rest of the file is not read"),
     ('"' + "\\" * LARGE, 2, "p:1:1: fault: `permit` or `forbid` is expected"),
     ("/" * (1 + (1 << 26)), 2, "p:1:1: fault: the text is longer than 64 MiB"),
-    (when("principal.age > - 9223372036854775808 && - - 5 > -\n// five\n5"), 0, "p:1:1: policy `policy0`: accepted, level 1"),
-    (when("principal.age > - 9223372036854775809"), 2, "p:1:60: fault: a number that does not fit 64 bits, where `- 9223372036854775809` is read"),
-    ("permit(principal, action is Action, resource);", 2, "p:1:26: fault: `,` is expected, where `is` is read; behind `action` stand `==` and `in` alone, and a condition may"),
-    (when("true && if true then true else true"), 2, "p:1:52: fault: an expression is expected, where `if` is read; an `if` that is a part of something else stands in"),
-    (when('isIpv4(ip("10.0.0.1"))'), 2, 'p:1:44: fault: `isIpv4` is a method: `ip("10.0.0.1").isIpv4()`'),
-    (when('"2024-01-01".datetime() == datetime("2024-01-01")'), 2, 'p:1:44: fault: `datetime` is a function: `datetime("2024-01-01")`'),
-    (when('ip("10.0.0.1").isInRange(ip("10.0.0.0/8"))'), 0, "p:1:1: policy `policy0`: accepted, level 0"),
-    (SCOPE.replace("action", 'action == Action::"vew"') + ";", 1, "policies: 1, accepted: 0, refused: 1, warnings: 0, faults: 0"),
-    (SCOPE.replace("principal", "principal is Usr") + ";", 1, "policies: 1, accepted: 0, refused: 1, warnings: 0, faults: 0"),
-    (when("principal is Usr"), 1, "policies: 1, accepted: 0, refused: 1, warnings: 0, faults: 0"),
-    (SCOPE.replace("principal", "principal is File") + " when { resource is Usr };", 1, "policies: 1, accepted: 0, refused: 1, warnings: 1, faults: 0"),
-    (when("context.n > 1 && principal is File"), 0, "p:1:61: warning: policy is impossible: it evaluates to false for every valid request; this part is never true"),
-    ('permit(principal == File::"a", action, resource) when { context.n > 1 };', 0, "p:1:1: warning: policy is impossible: it evaluates to false for every valid request"),
-    ("permit(principal is File, action, resource);", 0, "p:1:1: warning: unable to find an applicable action given the policy scope constraints; no action applies to "
-     "a principal of the type `File`"),
-    ('permit(principal, action == Action::"view", resource == User::"a");', 0, "p:1:1: warning: unable to find an applicable action given the policy "
-     "scope constraints; `Action::\"view\"` applies to no resource of the type `User`"),
-    (GOOD + when("principal.boss.boss.age > 1") + when("principal.x"), 1, "policies: 3, accepted: 2, refused: 1, warnings: 0, faults: 0, level 3"),
-    (when('User::"a".age > 1') + GOOD, 0, "policies: 2, accepted: 2, refused: 0, warnings: 0, faults: 0, no level is enough"),
-    (when("principal.x"), 1, "policies: 1, accepted: 0, refused: 1, warnings: 0, faults: 0"),
-    (when("resource::owner == principal"), 2, "p:1:44: fault: an expression is expected, where `resource` is read"),
-    (when("true::x"), 2, "p:1:44: fault: an expression is expected, where `true` is read"),
-    ('permit(principal == User "a", action, resource);', 2, "p:1:26: fault: `::` is expected, where `\"a\"` is read"),
-    (when("(principal is User in principal) is User in principal"), 2, "p:1:85: fault: an `is .. in` behind an operand that has one too"),
-    ("permit(principal, action, resource,);\n", 0, "policies: 1, accepted: 1, refused: 0, warnings: 0, faults: 0"),
-    ('permit(principal, action in [Action::"view",], resource);', 0, "policies: 1, accepted: 1, refused: 0, warnings: 0, faults: 0"),
-    ('permit(principal, action == User::"a", resource);', 2, "p:1:29: fault: the type of an action has to be named `Action`, where `User`"),
-    ('permit(principal, action in [Action::"view", File::"b"], resource);', 2, "p:1:46: fault: the type of an action has to be named"),
-    (when('principal == User :: "a"'), 0, "p:1:1: policy `policy0`: accepted, level 0"),
-    (when('"\\u{6_1}" == "a"'), 0, "policies: 1, accepted: 1, refused: 0, warnings: 0, faults: 0"),
-    (when('"a\rb" == "a"'), 2, "p:1:44: fault: a carriage return in a text: `\\r` stands for one, where"),
-    ('@id("admin\u3164") ' + GOOD, 0, "p:1:1: policy `admin\\u{3164}`: accepted, level 1"),
-    (when('principal.name == "\u202e"'), 0, "p:1:62: warning: a text with marks of direction, which may be shown in another order"),
-    (when('principal != User::"\\u{2066}"'), 0, "p:1:57: warning: an id with marks of direction, which may be shown in another order"),
-    (when(f"[{'principal.x, ' * 150}1].isEmpty()"), 1, "p:1:1: 50 more findings"),
-    (when("[1].contains()"), 2, "p:1:48: fault: one argument is expected, where `contains` is read"),
-    (when("[1].contains(1, 2) && true"), 2, "p:1:48: fault: one argument is expected, where `contains` is read"),
-    (when("[1].isEmpty(1) && true"), 2, "p:1:48: fault: no argument is expected, where `isEmpty` is read"),
-    (when("true || unknown(1)"), 2, "p:1:52: fault: the name of an unknown is expected, where `unknown` is read"),
-    (f'@id("x") @level(3)\n{SCOPE};\n', 2, "policies: 0, accepted: 0, refused: 0, warnings: 0, faults: 1"),
-    (f'@id("x") # permit\n@level("3")\n{SCOPE};\n{GOOD}', 2, "policies: 1, accepted: 1, refused: 0, warnings: 0, faults: 1"),
-    (f'@permit("x") # all\n{SCOPE};\n', 2, "policies: 0, accepted: 0, refused: 0, warnings: 0, faults: 1"),
-    (f"forbid(principal, action, resource) when {{ true ; {SCOPE}; }};\n", 2, "policies: 0, accepted: 0, refused: 0, warnings: 0, faults: 1"),
-    (f"{SCOPE} when {{ [(1 ;\n{GOOD}", 2, "p:2:1: policy `policy1`: accepted, level 1"),
-    (f'{SCOPE} when {{ [(1 ;\n@id("b")\n{GOOD}', 2, "p:2:1: policy `b`: accepted, level 1"),
-    (f"{SCOPE} wen {{ true; true }};\n{GOOD}", 2, "p:1:37: fault: `when`, `unless` or `;` is expected, where `wen` is read"),
-    (f"{SCOPE} when {{ true }}", 2, "p:1:50: fault: `when`, `unless` or `;` is expected, where the text ends"),
-    (2 * 'permit(principal == User::"a, action, resource);\n', 2, "p:2:28: fault: `,` is expected, where `a` is read; the text in quotes before"),
-    (GOOD + '[{"effect": "permit"}]', 2, "p:2:1: fault: `permit` or `forbid` is expected, where `[` is read; JSON is read where a file begins with it"),
-    (f"{SCOPE};\n// harmless\rforbid(principal, action, resource);\n", 0, "policies: 2, accepted: 2, refused: 0, warnings: 0, faults: 0"),
-    ('@id("a")' + GOOD + GOOD + '@id("a")' + GOOD, 1, "p:3:1: error: the policy at 1:1 of this file has the same id"),
 )
 # Schemas, the exit status, and what one of the first lines begins with.
 SCHEMAS = (
     ("\ufeff" + SCHEMA, 0, "p:1:1: policy `policy0`: accepted, level 1"),
     (SCHEMA.encode() + b"\xff", 2, "s:4:1: fault: the byte 0xff is no text in UTF-8"),
     ("entity A { a: " + "Set<" * LARGE, 2, "s:1:3211: fault: nested too deep, as a type that contains itself is"),
-    ("type Long = String; " + SCHEMA, 2, "s:1:6: fault: a name that the language keeps for itself, where `Long` is read"),
-    ("entity A, if; " + SCHEMA, 2, "s:1:11: fault: a name that the language keeps for itself, where `if` is read"),
-    ("namespace A::__cedar { entity B; }", 2, "s:1:14: fault: a name that the language keeps for itself, where `__cedar` is read"),
-    (SCHEMA.replace("age: Long", "age: [Long]"), 2, "s:1:42: fault: a type such as `Set<Long>` is expected, where `[` is read"),
-    ("action a in A::Action \"x\";", 2, "s:1:23: fault: `::` is expected, where `\"x\"` is read"),
-    ("type has = Long;", 2, "s:1:6: fault: a name that the language keeps for itself, where `has` is read"),
-    ("entity A { a: Long\n b: Long };", 2, "s:2:2: fault: `,` or `}` is expected, where `b` is read"),
-    ("// a\rentity A { a: Long? };", 2, "s:1:24: fault: `?` before the `:` is expected, where `?` is read"),
-    ("entity A { a: Long? };", 2, "s:1:19: fault: `?` before the `:` is expected, where `?` is read"),
-    ("entity A; action a appliesTo { principals: A };", 2, "s:1:32: fault: `principal`, `resource` or `context` is expected, where"),
-    ("action a in [b]; action b in [a]; namespace N { } namespace N { }\n" + SCHEMA, 0, "p:1:1: policy `policy0`: accepted"),
-    (SCHEMA + 'entity A in [User,]; entity B enum ["a", "b",]; action a in [view,] appliesTo { principal: [User,], resource: [File,] };', 0, "p:1:1:"),
-    (SCHEMA + "action a appliesTo { principal: [], resource: File };", 2, "s:4:33: fault: at least one type is expected, where `[` is read"),
-    (SCHEMA + "namespace N { entity User; }", 2, "s:4:22: fault: a name of a namespace that hides one outside of namespaces: `N::User`"),
-    (SCHEMA + "namespace N { type File = Long; }", 2, "s:4:20: fault: a name of a namespace that hides one outside of namespaces: `N::File`"),
-    (SCHEMA + "namespace N { action a, view; }", 2, "s:4:25: fault: a name of a namespace that hides one outside of namespaces: `N::Action"),
-    (SCHEMA + "entity A { b: B }; entity B; type B = Long;", 0, "p:1:1: policy `policy0`: accepted, level 1"),
-    ("namespace N { entity Long; }\n" + SCHEMA, 0, "p:1:1: policy `policy0`: accepted, level 1"),
-    ("namespace N { entity String; entity A { a: String, b: __cedar::String }; }\n" + SCHEMA, 0, "p:1:1: policy `policy0`: accepted"),
-    ("entity A; type T = A; action a appliesTo { principal: T, resource: A };", 2, "s:1:55: fault: a type that is not declared: `T`; it is the name of a common type, and of no entity type"),
-    ("type T = Set<U>; type U = T;", 2, "s:1:14: fault: nested too deep, as a type that contains itself is"),
     ("type T0 = Long; " + "".join(f"type T{i + 1} = {{a: T{i}, b: T{i}}}; " for i in range(99)), 2, "s:1:"),
     ("".join(f"entity T{i} {{ a: T{i * 7 % 10_000} }};\n" for i in range(10_000)) + SCHEMA, 0, "p:1:1: policy `policy0`: accepted"),
     ("".join(f"entity T{i} in [T{i + 1}];\n" for i in range(20_000)) + "entity T20000;", 2, "s:1449:8: fault: too many descendants"),
@@ -266,27 +189,19 @@ def json_runs(program):
     """What differs in each run over JSON; None where nothing does."""
     for words, files, status, wanted in RUNS:
         yield (words, wanted), json_differs(program, words, files, status, wanted)
-    # ten policies by id, each on a line: what is said of one stands at its line, or at the mark in it
-    lines, wanted = [], []
-    for number, (own, policy, printed) in enumerate(TEN, 2):
-        policy, found = placed(f' "{own}": {policy}')
-        lines.append(policy)
-        at = found.get("@0", "1:1").split(":")[1]
-        wanted += [it.replace("#:", f"p:{number}:2:").replace("@:", f"p:{number}:{at}:") for it in printed]
-    yield "ten policies", json_differs(program, ["s", "p"], {"s": TEAM, "p": "{\n" + ",\n".join(lines) + "\n}"}, 1, [*wanted, TEN_TALLY])
 
 
-def hints_differ(program):
-    """The conditions against which something else is said than is wanted, and what is said."""
-    with tempfile.TemporaryDirectory() as room:
-        written(Path(room, "s"), HINT_SCHEMA)
-        policies = [f'permit(principal, action == Action::"view", resource) when {{ {condition} }};' for condition, _ in HINTS]
-        written(Path(room, "p"), "\n".join(policies))
-        done = subprocess.run([str(program), "s", "p"], cwd=room, stdin=subprocess.DEVNULL, capture_output=True, text=True, timeout=SECONDS)
-    for number, (condition, wanted) in enumerate(HINTS, 1):
-        found = [line.split(": ", 2)[1:] for line in done.stdout.splitlines() if line.startswith(f"p:{number}:")]
-        printed = [it[1] for it in found if it[0] in ("error", "warning")]
-        yield condition, None if printed == wanted else printed
+def commands_differ(program):
+    """The policies of which a line of the output could be a command to a code host, and what is written."""
+    for policy in COMMANDS:
+        with tempfile.TemporaryDirectory() as room:
+            written(Path(room, "s"), SCHEMA)
+            written(Path(room, "p"), policy)
+            done = [subprocess.run([str(program), "--format", it, "s", "p"], cwd=room, stdin=subprocess.DEVNULL, capture_output=True, text=True, timeout=SECONDS)
+                    for it in ("lines", "json", "sarif")]
+        printed = "".join(it.stdout for it in done)
+        is_one = "##" in printed or any(line.lstrip().startswith("::") for line in printed.splitlines())
+        yield policy, printed if is_one or not all(it.stdout for it in done) else None
 
 
 def many_types_differ(program):
@@ -295,7 +210,7 @@ def many_types_differ(program):
     schema = "".join(f"entity {name} {{ isPublic: Bool }};\n" for name in names)
     schema += f"action view appliesTo {{ principal: T000, resource: [{', '.join(names)}] }};\n"
     wanted = ["p:1:1: policy `policy0`: refused", "p:1:44: error: attribute `isPubic` does not exist on `T000`; did you mean `isPublic`?",
-              "  " + when("resource.isPubic").strip(), " " * 45 + "^" * 16]
+              "  1 | " + when("resource.isPubic").strip(), "    | " + " " * 43 + "^" * 16]
     wanted += [f"  the same for {name}" for name in ("T001", "T002", "T003", "T004", "145 more types")]
     wanted += ["policies: 1, accepted: 0, refused: 1, warnings: 0, faults: 0"]
     with tempfile.TemporaryDirectory() as room:
@@ -312,7 +227,7 @@ def false_parts_differ(program):
     words = "warning: policy is impossible: it evaluates to false for every valid request; this part is never true"
     wanted = ["p:1:1: policy `policy0`: accepted, level 0"]
     for column, environments in ((69, ('Action::"list" by User on File', 'Action::"view" by User on File')), (88, ('Action::"list" by User on Page',))):
-        wanted += [f"p:1:{column}: {words}", "  " + policy.strip(), " " * (column + 1) + "^" * 13]
+        wanted += [f"p:1:{column}: {words}", "  1 | " + policy.strip(), "    | " + " " * (column - 1) + "^" * 13]
         wanted += [f"  only for {it}" for it in environments]
     wanted += ["policies: 1, accepted: 1, refused: 0, warnings: 2, faults: 0, level 0"]
     with tempfile.TemporaryDirectory() as room:
@@ -320,22 +235,6 @@ def false_parts_differ(program):
         written(Path(room, "p"), policy)
         done = subprocess.run([str(program), "s", "p"], cwd=room, stdin=subprocess.DEVNULL, capture_output=True, text=True, timeout=SECONDS)
     return None if sorted(done.stdout.splitlines()) == sorted(wanted) else done.stdout
-
-
-def data_differs(program):
-    """The entities and requests of which something else is said than is wanted, and what is said."""
-    for entities, request, status, wanted in DATA:
-        with tempfile.TemporaryDirectory() as room:
-            words = [str(program)]
-            for name, option, text in (("e", "--entities", entities), ("q", "--request", request)):
-                if text is not None:
-                    written(Path(room, name), text)
-                    words += [option, name]
-            written(Path(room, "s"), DATA_SCHEMA)
-            done = subprocess.run([*words, "s"], cwd=room, stdin=subprocess.DEVNULL, capture_output=True, text=True, timeout=SECONDS)
-        printed = [line for line in done.stdout.splitlines() if line.startswith(("e:", "q:", "policies:"))]
-        is_right = done.returncode == status and printed == wanted
-        yield f"{wanted[0]}", None if is_right else f"status {done.returncode}: {done.stdout[:3000]}{done.stderr}"
 
 
 def data_in_forms_differs(program):
@@ -376,8 +275,10 @@ def sarif_differs(program):
             {"physicalLocation": {"artifactLocation": file, "region": {"startLine": 4, "startColumn": 8, "endLine": 4, "endColumn": 9}}}]),
         ("file", "error", "cannot be read: No such file or directory (os error 2)", [{"physicalLocation": {"artifactLocation": {"uri": "missing"}}}]),
     ]
-    rules = [it["id"] for it in run["tool"]["driver"]["rules"]]
+    described = run["tool"]["driver"]["rules"]
+    rules = [it["id"] for it in described]
     are_known = {it[0] for it in found} <= set(rules) and len(set(rules)) == len(rules)
+    are_known &= all(it[name]["text"] for it in described for name in ("shortDescription", "fullDescription", "help"))
     ends = [(done.returncode, run["invocations"][0]["executionSuccessful"], len(run["results"])), (broken.returncode, other["invocations"][0]["executionSuccessful"], len(other["results"]))]
     if found == wanted and are_known and ends == [(2, False, 3), (2, False, 1)]:
         return None
@@ -512,14 +413,8 @@ def differs(program, words, shown):
     return None if printed == shown or agrees_so_far else done.stdout
 
 
-def main(words):
-    program = unproved.named(words, "cedar_validate")
-    passed = failed = 0
-    for what, difference in runs(program):
-        passed += difference is None
-        failed += difference is not None
-        if difference is not None:
-            print(f"{what}: {difference}")
+def applications(program):
+    """What differs in each case of the applications; None where nothing does."""
     for path in sorted(CASES.glob("apps_*.tsv")):
         schema, cases = rows(path)
         for column in cases[0]:
@@ -528,30 +423,34 @@ def main(words):
                 continue
             found = validate_cases(program, schema, [case["policy"] for case in cases], asked[0])
             for case, said_of in zip(cases, found):
-                if agrees(case, column, asked[1], said_of):
-                    passed += 1
-                else:
-                    failed += 1
-                    print(f"{path.name}: {case['about']}: {column}: {case[column]!r} is wanted, not {said_of}")
-    others = [("one mistake of 150 types", many_types_differ(program)),
-              ("two false parts", false_parts_differ(program)), ("ten faults of a schema", schema_faults_differ(program)),
-              ("SARIF", sarif_differs(program)), ("data", data_in_forms_differs(program))]
-    for what, difference in [*others, *hints_differ(program), *data_differs(program)]:
+                is_right = agrees(case, column, asked[1], said_of)
+                yield f"{path.name}: {case['about']}: {column}", None if is_right else f"{case[column]!r} is wanted, not {said_of}"
+
+
+def differences(program):
+    """All that is asked, and what differs in it; None where nothing does."""
+    yield from runs(program)
+    yield from applications(program)
+    yield "one mistake of 150 types", many_types_differ(program)
+    yield "two false parts", false_parts_differ(program)
+    yield "ten faults of a schema", schema_faults_differ(program)
+    yield "SARIF", sarif_differs(program)
+    yield "data", data_in_forms_differs(program)
+    yield from commands_differ(program)
+    for what, difference in json_runs(program):
+        yield f"JSON: {what}", difference
+    for page, asked, shown in shown_runs():
+        yield f"{page}: {' '.join(asked)}", differs(program, asked, shown)
+
+
+def main(words):
+    program = unproved.named(words, "cedar_validate")
+    passed = failed = 0
+    for what, difference in differences(program):
         passed += difference is None
         failed += difference is not None
         if difference is not None:
             print(f"{what}: {difference}")
-    for what, difference in json_runs(program):
-        passed += difference is None
-        failed += difference is not None
-        if difference is not None:
-            print(f"JSON: {what}: {difference}")
-    for page, asked, shown in shown_runs():
-        difference = differs(program, asked, shown)
-        passed += difference is None
-        failed += difference is not None
-        if difference is not None:
-            print(f"{page}: {' '.join(asked)}: {difference}")
     print(f"{passed} passed, {failed} failed")
     sys.exit(1 if failed or not passed else 0)
 

@@ -17,8 +17,15 @@ policy takes beyond one with a right id, while the type has more and more: it en
 up to it. Printed are the bytes of output and the most memory.
 
 **A file above the limit** has 65 MiB and 1 GiB. Printed is the most memory.
+
+**Ancestors of data.** Groups stand in a chain; in layers, of which each group is in all of the next layer; and each in all
+before. Counted is a run by the ancestors that all have together. In layers an ancestor costs no more than in a chain of as many,
+though many parents have the same ancestors; twice as many groups that are each in all before have four times as many ancestors,
+and cost no more than that. Then the most memory of a long chain, by the ancestor. And what an empty list of entities takes beyond
+its schema, which declares actions: twice as many of them take little more than twice as much.
 """
 import itertools
+import json
 import os
 import random
 import subprocess
@@ -44,6 +51,17 @@ CHAINS = (4, 64, 350)
 MOST_OUTPUT = 1 << 20
 SIZES = (65 << 20, 1 << 30)
 MOST_FOR_A_LARGE_FILE = 1.1
+GROUP_SCHEMA = "entity G in [G];\naction view appliesTo { principal: G, resource: G, context: {} };\n"
+# The groups of each layer, from the top, and a chain of as many ancestors. The first layer is a chain itself.
+LAYERS, AS_MANY = (500, 100, 50), 641
+MOST_FOR_LAYERS = 1.5
+STAIRS = (200, 400)
+MOST_FOR_TWICE_THE_STAIRS = 4.6
+LONG_CHAIN = 2800
+# Bytes: a pointer, a number, and what a vector has to spare.
+MOST_FOR_AN_ANCESTOR = 40
+ACTIONS = (1500, 3000)
+MOST_FOR_TWICE_THE_ACTIONS = 2.6
 
 # The hasher of a hash set: what it multiplies by, and where it begins.
 MULTIPLIER, BEGINNING, MASK = 0x9E3779B97F4A7C15, 0x243F6A8885A308D3, (1 << 64) - 1
@@ -251,6 +269,87 @@ def show_large_files(program, room, tally):
     tally.take(counts[1] < MOST_FOR_A_LARGE_FILE * counts[0])
 
 
+def chain(count):
+    """The parents of groups that are each in the next one."""
+    return [[number + 1] if number + 1 < count else [] for number in range(count)]
+
+
+def layers(first, *others):
+    """The parents of groups in a chain, and of those below it, each of which is in all of the layer above it."""
+    parents, start = chain(first), 0
+    above = range(1)
+    for size in others:
+        start = len(parents)
+        parents += [list(above) for _ in range(size)]
+        above = range(start, start + size)
+    return parents
+
+
+def stairs(count):
+    """The parents of groups that are each in all before."""
+    return [list(range(number)) for number in range(count)]
+
+
+def ancestors(parents):
+    """How many ancestors these groups have, all together."""
+    found = {}
+
+    def above(number):
+        if number not in found:
+            found[number] = set()
+            for parent in parents[number]:
+                found[number] |= {parent} | above(parent)
+        return found[number]
+
+    order = range(len(parents))
+    for number in reversed(order) if parents[0] else order:
+        above(number)
+    return sum(len(it) for it in found.values())
+
+
+def entities(room, parents):
+    """A file of groups with these parents."""
+    named = [{"type": "G", "id": f"g{number:04}"} for number in range(len(parents))]
+    listed = [{"uid": named[number], "attrs": {}, "parents": [named[it] for it in its]} for number, its in enumerate(parents)]
+    return written(room, "entities.json", json.dumps(listed))
+
+
+def for_groups(program, room, what, parents):
+    """The instructions of a run on groups with these parents, and how many those are by the ancestor."""
+    count = ancestors(parents)
+    taken = instructions([program, "--entities", entities(room, parents), written(room, "schema", GROUP_SCHEMA)], room)
+    print(f"{what}, {count:,} ancestors: {taken:,} instructions, {taken / count:,.0f} an ancestor", flush=True)
+    return taken, taken / count
+
+
+def for_actions(program, room, count):
+    """The instructions that an empty list of entities takes beyond a schema of so many actions."""
+    actions = "".join(f"action a{number:04} appliesTo {{ principal: G, resource: G, context: {{}} }};\n" for number in range(count))
+    schema = written(room, "schema", "entity G;\n" + actions)
+    none, policies = written(room, "entities.json", "[]"), written(room, "policies", "")
+    taken = instructions([program, "--entities", none, schema], room) - instructions([program, schema, policies], room)
+    print(f"an empty list of entities, by {count:,} actions: {taken:,} instructions", flush=True)
+    return taken
+
+
+def show_ancestors(program, room, tally):
+    _, plain = for_groups(program, room, f"a chain of {AS_MANY} groups", chain(AS_MANY))
+    _, layered = for_groups(program, room, f"layers of {LAYERS} groups", layers(*LAYERS))
+    tally.take(layered < MOST_FOR_LAYERS * plain)
+    fewer, more = (for_groups(program, room, f"{count} groups, each in all before", stairs(count))[0] for count in STAIRS)
+    tally.take(more < MOST_FOR_TWICE_THE_STAIRS * fewer)
+    parents, schema = chain(LONG_CHAIN), written(room, "schema", GROUP_SCHEMA)
+    count = LONG_CHAIN * (LONG_CHAIN - 1) // 2
+    most = held([program, "--entities", entities(room, parents), schema], room)[1]
+    print(f"a chain of {LONG_CHAIN} groups, {count:,} ancestors: {most:,} KiB at most, {most * 1024 / count:.0f} bytes an ancestor", flush=True)
+    tally.take(most * 1024 < MOST_FOR_AN_ANCESTOR * count)
+
+
+def show_actions(program, room, tally):
+    fewer, more = (for_actions(program, room, count) for count in ACTIONS)
+    tally.take(more < MOST_FOR_TWICE_THE_ACTIONS * fewer)
+
+
 def main(words):
     cases = benchmark.program_to_count(words[1:])
     program = str(unproved.named(words[:1], "cedar_validate"))
@@ -260,6 +359,8 @@ def main(words):
         show_ids(program, room, tally)
         show_findings(program, room, tally)
         show_large_files(program, room, tally)
+        show_ancestors(program, room, tally)
+        show_actions(program, room, tally)
     print(f"{tally.passed} passed, {tally.failed} failed")
     return 1 if tally.failed else 0
 

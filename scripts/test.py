@@ -2,7 +2,7 @@
 """Passes every test without a proof: scripts/test [PART..].
 
 The parts are `texts`, what no compiler reads; `pieces`, the pieces of examples/borrows; `tests`, each #[test]; `programs`,
-each program on its data, as `rt ci` runs it, and `product`, cedar-validate likewise; `refused`, calls and rows while memory is
+each program on its data, as `rt ci` runs it, and `product`, cedar-validate likewise, and each of its words and pairs; `refused`, calls and rows while memory is
 refused; `queries`, where-clauses in SQLite; and `applications`, all that cedar-validate says of whole applications and of odd
 texts. Without words all run, side by side where processors are free.
 
@@ -123,7 +123,9 @@ def programs():
 
 def product():
     is_well = goes_well(unproved.PRODUCT)
-    return int(is_well), int(not is_well)
+    program = unproved.program(unproved.PRODUCT)
+    runs = [of_script(TOP / "scripts" / name, program) for name in ("word_cases.py", "against_cedar")]
+    return sum(good for good, _ in runs) + is_well, sum(bad for _, bad in runs) + (not is_well)
 
 
 def refused():
