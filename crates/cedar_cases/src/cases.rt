@@ -1,4 +1,4 @@
-// Case files: which policies they ask about, and what they want of them.
+// Case files: the policies that they ask about, and the answers that they want.
 mod answers;
 mod columns;
 mod costs;

@@ -1,4 +1,4 @@
-// Case files about data that is checked by a schema: requests, entities, and policies with what their slots are bound to.
+// Case files about data that is checked by a schema: requests, entities, and policies with the bindings of their slots.
 mod cases;
 mod data;
 
@@ -9,13 +9,13 @@ use std::alloc::Global;
 use std::io;
 use std::io::Write;
 
-/// What the first line of such a file begins with: the name of a schema's file stands behind it.
+/// The beginning of the first line of such a file: the name of a schema's file stands behind it.
 const FIRST: &str = "data\t";
 
 /// How many lines there are before the cases.
 const HEAD: usize = 1;
 
-/// What a difference is shown under.
+/// The heading under which a difference is shown.
 const COLUMN: &str = "data";
 
 /// The name of the schema's file, where the cases of a file of this text are about data.

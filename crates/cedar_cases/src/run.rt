@@ -1,4 +1,4 @@
-// What the program does, over any files and any two writers.
+// The run of the program, over any files and any two writers.
 use crate::cases::{
     CaseCounts, CaseFile, FileFault, Notation, fault_of_columns, notation_of, run_cases,
     run_refusals,

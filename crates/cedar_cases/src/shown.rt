@@ -1,4 +1,4 @@
-// What a check answers, as case files write it.
+// The answer of a check, as case files write it.
 mod applications;
 mod environments;
 mod forms;

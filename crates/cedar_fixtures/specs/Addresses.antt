@@ -1,4 +1,4 @@
--- What the check of `ip` means.
+-- The meaning of the check of `ip`.
 use Rattle.std.specs.Prelude.{Bool, true, false, List, [], ◌∷◌, Option, Some, None, codes, if◌then◌else◌}
 use Rattle.cedar_types.specs.Names.{Text}
 use Rattle.cedar_types.specs.Expressions.Tree.{Tree, lit, string}

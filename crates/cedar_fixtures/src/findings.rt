@@ -8,7 +8,7 @@ use cedar_types::types::request_env::RequestEnv;
 use std::alloc::AllocError;
 use std::collections::BTreeSet;
 
-/// What stands before each finding.
+/// The mark before each finding.
 pub const BEFORE_FINDING: &str = "\n! ";
 
 /// Adds an error: its kind, with what its message leaves open, the text that it stands at, and on
@@ -39,7 +39,7 @@ pub fn push_warning(
     write!(shown, "{BEFORE_FINDING}{kind} @ {place}\n{warning}")
 }
 
-/// Adds an environment, and what its slots are linked to.
+/// Adds an environment, and the links of its slots.
 pub fn push_environment(shown: &mut String, env: &RequestEnv<'_>) -> Result<(), AllocError> {
     shown.push_str(BEFORE_FINDING)?;
     match env {

@@ -1,4 +1,4 @@
-// What a step asks, as its first line says it.
+// The question of a step, as its first line has it.
 use crate::schemas::schema_by_name;
 use cedar_types::base::ValidationMode;
 
@@ -9,9 +9,9 @@ pub struct Question<'a> {
     pub schema: &'static str,
     pub table: Table,
     pub subject: Subject,
-    /// What `?principal` is bound to.
+    /// The entity to which `?principal` is bound.
     pub bound: Option<&'a str>,
-    /// What is asked about: a policy, or its condition alone, or functions, or a chain.
+    /// The subject of the question: a policy, or its condition alone, or functions, or a chain.
     pub text: &'a str,
 }
 
@@ -22,20 +22,20 @@ pub enum Table {
     X2,
 }
 
-/// What is asked.
+/// The question.
 #[derive(Clone, Copy)]
 pub enum Subject {
     /// The check in the first environment of the schema.
     Check(ValidationMode),
     /// The checks in all environments.
     Environments(ValidationMode),
-    /// What the check of the policy adds to empty sets.
+    /// The findings that the check of the policy adds to empty sets.
     Policy(ValidationMode),
-    /// What the validation with levels finds, where this is the greatest level.
+    /// The findings of the validation with levels if this is the greatest level.
     Level(ValidationMode, u32),
     /// The least level that is enough.
     RequiredLevel(ValidationMode),
-    /// What a chain of attributes costs, behind its root: `User.user.bool`.
+    /// The cost of a chain of attributes, behind its root: `User.user.bool`.
     ChainCost,
     /// The entity types that the schema does not know.
     EntityTypes,
@@ -43,9 +43,9 @@ pub enum Subject {
     ActionIds,
     /// The ids that their enumerated type does not have.
     EnumeratedIds,
-    /// The entity types of what slots are bound to, in a policy of the id `0`.
+    /// The entity types to which slots are bound, in a policy of the id `0`.
     SlotTypes,
-    /// Whether an action applies to what the scope admits.
+    /// Whether an action applies to a principal and a resource that the scope admits.
     Application,
     /// The same with the slots bound.
     LinkedApplication,

@@ -2,7 +2,7 @@
 use cedar_types::base::{BinaryOp, EntityReference, PrincipalOrResourceConstraint, Var};
 use std::alloc::AllocError;
 
-/// Adds what a scope asks of its principal or resource: nothing, where any is taken.
+/// Adds the constraint of a scope on its principal or resource: nothing, if any is taken.
 pub fn push_constraint(
     out: &mut String,
     constraint: &PrincipalOrResourceConstraint,

@@ -1,21 +1,21 @@
-// What came of a call that was made once.
+// The outcome of a call that was made once.
 use crate::pictures::picture;
 use crate::refusals::was_refused;
 use std::alloc::{AllocError, Global};
 use std::fmt::Debug;
 
-/// What came of a call while one growth was to be refused.
+/// The outcome of a call while one growth was to be refused.
 #[derive(Drop)]
 pub struct Outcome {
     /// All of its answer, unless that was want of memory.
     pub answer: Option<String>,
-    /// All of what it was lent, as it was afterwards.
+    /// All values that were lent to the call, as they were afterwards.
     pub lent: String,
     /// Whether a growth was refused.
     pub was_refused: bool,
 }
 
-/// Ends the refusal, and keeps what a call answered and what it was lent.
+/// Ends the refusal, and keeps the answer of a call and the values that were lent to it.
 pub fn finish<T: Debug + Drop, L: Debug>(
     alloc: Global,
     answer: Result<T, AllocError>,
@@ -29,7 +29,7 @@ pub fn finish<T: Debug + Drop, L: Debug>(
     finish_shown(alloc, answer, lent, was_refused)
 }
 
-/// Keeps the text of what a call answered, if it did, and what it was lent, after the refusal has ended.
+/// Keeps the text of a call's answer, if it answered, and the values that were lent to it, after the refusal has ended.
 pub fn finish_shown<L: Debug>(
     alloc: Global,
     answer: Option<String>,

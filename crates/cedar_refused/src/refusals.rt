@@ -1,4 +1,4 @@
-// When memory is refused: what `scripts/refuse.c`, which stands between the program and the C library, is told and says.
+// Refusals of memory: the dialogue with `scripts/refuse.c`, which stands between the program and the C library.
 //
 // It knows two sizes of blocks that nothing else asks for, takes them as words, and refuses them. Without it they are
 // granted, and nothing is refused.

@@ -1,4 +1,4 @@
-// A line for each call: its name, and what came of it.
+// A line for each call: its name and its outcome.
 use crate::calls::answers::FOLLOW_UPS;
 use crate::calls::capabilities::{BASES, SETS, TAGS};
 use crate::calls::copies::COPIES;
@@ -28,7 +28,7 @@ use std::alloc::Global;
 use std::io;
 use std::io::Write;
 
-/// Makes each call, and writes what came of it.
+/// Makes each call, and writes its outcome.
 pub fn report<W: Write>(
     alloc: Global,
     extensions: &ExtensionSchemas,
@@ -53,7 +53,7 @@ pub fn report<W: Write>(
     without_memory(alloc, &validator, out)
 }
 
-/// The tables of what is made of parts, and of copies.
+/// The tables of makers from parts, and of copies.
 fn write_parts<W: Write>(alloc: Global, validator: &Validator<'_>, out: &mut W) -> io::Result<()> {
     write_table(alloc, validator, &TWO_OPERANDS, out)?;
     write_table(alloc, validator, &ONE_OPERAND, out)?;
@@ -67,7 +67,7 @@ fn write_parts<W: Write>(alloc: Global, validator: &Validator<'_>, out: &mut W) 
     write_table(alloc, validator, &FOLLOW_UPS, out)
 }
 
-/// The tables of what is asked of types, schemas, templates and environments.
+/// The tables of questions about types, schemas, templates and environments.
 fn about_schemas<W: Write>(
     alloc: Global,
     validator: &Validator<'_>,
@@ -90,7 +90,7 @@ fn write_sweep<C: Call, W: Write>(
     writeln!(out, "{name}: {outcome}")
 }
 
-/// Writes what came of the lines of a table.
+/// Writes the outcomes of the lines of a table.
 fn write_table<T: Probe, W: Write>(
     alloc: Global,
     validator: &Validator<'_>,
@@ -103,7 +103,7 @@ fn write_table<T: Probe, W: Write>(
     Ok(())
 }
 
-/// Writes what came of the lines of one call.
+/// Writes the outcomes of the lines of one call.
 fn write_lines<'x, T: Probe, W: Write>(
     alloc: Global,
     validator: &'x Validator<'x>,

@@ -1,3 +1,3 @@
-// What the calls are made on.
+// The values on which the calls are made.
 pub mod findings;
 pub mod texts;

@@ -2,7 +2,7 @@
 use crate::refusals::{refuse, was_refused};
 use std::alloc::{AllocError, Global};
 
-/// What came of a call while one growth was to be refused.
+/// The outcome of a call while one growth was to be refused.
 #[derive(Clone, Copy)]
 pub enum Attempt {
     /// Nothing was refused, and the answer is as ever.
@@ -25,16 +25,16 @@ pub const ANOTHER_LATER: &str = "afterwards its answer is another";
 
 pub const ANOTHER_POLICY: &str = "the policy is another";
 
-/// What is said of a call that no growth was refused in.
+/// The word for a call in which no growth was refused.
 pub const NOTHING_REFUSED: &str = "nothing refused";
 
-/// What is said of a call that takes no memory.
+/// The word for a call that takes no memory.
 pub const TAKES_NONE: &str = "no growth";
 
 /// The most growths that a call may have.
 const MOST: u16 = 20_000;
 
-/// What came of all attempts, in words.
+/// The outcome of all attempts, in words.
 pub fn sweep<C: Call>(alloc: Global, call: &C) -> Result<String, AllocError> {
     let mut refused: u16 = 0;
     for number in 1..MOST {
@@ -48,7 +48,7 @@ pub fn sweep<C: Call>(alloc: Global, call: &C) -> Result<String, AllocError> {
     String::from_str(alloc, "there is no end to its growths")
 }
 
-/// What a call came to whose answer is a success or not, where memory was refused or was not.
+/// The outcome of a call whose answer is a success or not, if memory was refused or was not.
 ///
 /// No call may pass over a refusal: none of those that are tried here leaves a hint of std's to chance.
 pub fn attempt_of(is_success: bool, was_refused: bool) -> Attempt {
@@ -61,7 +61,7 @@ pub fn attempt_of(is_success: bool, was_refused: bool) -> Attempt {
 }
 
 impl Attempt {
-    /// The same, where this is so; else what is wrong.
+    /// The outcome itself if this holds, else the reason why not.
     pub fn only_if(self, is_so: bool, fault: &'static str) -> Attempt {
         match self {
             Attempt::Wrong(first) => Attempt::Wrong(first),
@@ -81,7 +81,7 @@ pub trait Question {
     fn show(&self, alloc: Global, answer: Self::Answer) -> Result<String, AllocError>;
 }
 
-/// What comes of a question that is asked while the growth of this number is refused, and again with ample memory.
+/// The outcomes of a question that is asked while the growth of this number is refused, and again with ample memory.
 pub fn attempt_question<Q: Question>(
     alloc: Global,
     question: &Q,

@@ -10,7 +10,7 @@ use std::{fs, io};
 /// How many steps the slices have over which the authoriser evaluates.
 const STEPS: u32 = 2;
 
-/// What the gate decides of policies.
+/// The decision of the gate on policies.
 #[derive(Drop)]
 struct Decisions<'a> {
     admitted: Vec<SliceReport<'a>>,
@@ -43,7 +43,7 @@ fn decide<'a, C: ArgumentCheck>(
     Ok(Decisions { admitted, refused })
 }
 
-/// A policy and its verdict, and below it what speaks against it.
+/// A policy and its verdict, and below it the findings against it.
 fn show(rt: &HostRuntime, verdict: &str, of: &SliceReport<'_>) -> io::Result<()> {
     let policy = of.report.policy;
     let id = &policy.template.id;

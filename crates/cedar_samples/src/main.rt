@@ -55,7 +55,7 @@ enum SampleError {
     Load(#[from] LoadError),
 }
 
-/// What the command line asks for.
+/// The request of a command line.
 #[derive(Drop)]
 enum Asked {
     All,
@@ -77,7 +77,7 @@ fn main(rt: HostRuntime) -> ExitCode {
     }
 }
 
-/// Runs what is asked for, and answers the exit status: 0, or 2 where the command line is misused.
+/// Runs the request, and answers the exit status: 0, or 2 if the command line is misused.
 fn run_asked(rt: &HostRuntime) -> Result<ExitCode, SampleError> {
     match read_words(rt)? {
         Asked::All => {

@@ -26,7 +26,7 @@ pub fn run(rt: &HostRuntime, files: Files<'_>) -> Result<(), HostError> {
     Ok(())
 }
 
-/// Whether each policy is accepted in Strict. What speaks against one is printed.
+/// Whether each policy is accepted in Strict. The findings against one that is not are printed.
 fn are_accepted<C: ArgumentCheck>(
     rt: &HostRuntime,
     validator: &Validator<'_, C>,
@@ -69,7 +69,7 @@ fn print_queries<C: ArgumentCheck>(
     Ok(())
 }
 
-/// What the policies of a set have in an environment: a clause of each that may apply there, or why some have none.
+/// The clauses of a set's policies in an environment: one for each that may apply there, or the reason why some have none.
 #[derive(Drop)]
 struct Clauses {
     permits: Vec<SqlExpr>,

@@ -91,7 +91,7 @@ fn read_entry(
     Ok(Some(entity))
 }
 
-/// Prints which files each round reads, and what is loaded.
+/// Prints the files that each round reads, and the entities that are loaded.
 pub fn run(rt: &HostRuntime) -> Result<(), LoadError> {
     let text = fs::read_to_string(rt, "rounds/documents.cedarschema")?;
     let schema = schema(rt.alloc(), &text)?;

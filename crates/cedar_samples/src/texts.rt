@@ -1,4 +1,4 @@
-// What a host with texts calls, in one place: what reads schemas and policies, and what checks them.
+// The calls of a host with texts, in one place: they read schemas and policies, and check them.
 mod faults;
 mod written;
 

@@ -17,7 +17,7 @@ use Rattle.cedar_typing.specs.TypedExpr.{Mark, TypedTree}
 use Rattle.cedar_where.specs.Sql.{Sql, sql_null, sql_truth, sql_number, sql_text, sql_column, sql_own_id, sql_principal, sql_not}
 use Rattle.cedar_where.specs.Sql.{sql_and, sql_or, sql_case, sql_equal, sql_less, sql_less_equal, sql_is_not_null, sql_matches, sql_is_in, sql_is_in_any}
 
--- what a part evaluates to, if it has a value: of an entity SQL has the id alone, so the kind says its type
+-- the kind of a part's value, if it has one. SQL has only the id of an entity, so the kind has its type
 pub data Kind : Type 0 where
   KBool : Kind
   KLong : Kind

@@ -1,4 +1,4 @@
--- What a where-clause promises.
+-- The promise of a where-clause.
 use Rattle.std.specs.Prelude.{◌≡◌, true, ◌↔◌}
 use Rattle.cedar_types.specs.Environments.RequestEnvs.{Env}
 use Rattle.cedar_types.specs.Schemas.{Schema}

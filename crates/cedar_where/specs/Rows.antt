@@ -1,4 +1,4 @@
--- Which row holds a resource, with what a query is run on beside it.
+-- Which row holds a resource, with the parameters beside it on which a query is run.
 use Rattle.std.specs.Prelude.{◌≡◌, Bool, Option, Some, None}
 use Rattle.cedar_types.specs.Names.{Text, Uid}
 use Rattle.cedar_types.specs.Values.{Value, VBool, VLong, VString, VEntity, VSet, VRecord, VExtension, entry_at}

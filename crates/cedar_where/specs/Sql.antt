@@ -1,4 +1,4 @@
--- Expressions of SQL as plain trees, and what each of them is over a row: a truth value, a number, a text, or NULL.
+-- Expressions of SQL as plain trees, and the value of each over a row: a truth value, a number, a text, or NULL.
 use Rattle.std.specs.Prelude.{Bool, true, false, not, ◌||◌, List, ℤ, int_lt, int_le}
 use Rattle.std.specs.List.{list_any}
 use Rattle.std.specs.Ordering.{int_eq}
@@ -7,7 +7,7 @@ use Rattle.cedar_types.specs.Names.{Text, Path, Uid, text_eq, uid_eq}
 use Rattle.cedar_types.specs.Names.Comparisons.{bool_eq}
 use Rattle.cedar_typing.specs.Evaluation.Eval.{matches}
 
--- what an expression of SQL comes to
+-- the value of an expression of SQL
 pub data Cell : Type 0 where
   Null : Cell
   Truth : Bool → Cell
@@ -16,7 +16,7 @@ pub data Cell : Type 0 where
   -- where cells of two kinds meet, on which systems differ; no clause comes to it
   Undefined : Cell
 
--- what a query is run on
+-- the data on which a query is run
 pub record Data : Type 0 where
   -- the row's cells, by the names of the attributes
   pub cells : Text → Cell
@@ -165,7 +165,7 @@ id_cell test Null = Null
 id_cell test (Words s) = Truth (test s)
 id_cell test c = Undefined
 
--- ---- what an expression is
+-- ---- the value of an expression
 
 abbrev pub uid : Path → Text → Uid
 uid p t = record { entity_type = p; eid = t }

@@ -1,7 +1,7 @@
 //! Where-clauses of SQL for typed conditions: a row of a table is chosen exactly where the condition is true for the resource that
 //! the row holds.
 //!
-//! Proved: what a clause means as a tree (`SqlExpr`, `specs/Sql.antt`). Only tested, against SQLite: the text of a tree and of a
+//! Proved: the meaning of a clause as a tree (`SqlExpr`, `specs/Sql.antt`). Only tested, against SQLite: the text of a tree and of a
 //! table, and that SQLite evaluates the text as the tree says.
 #![tactic(auto)]
 

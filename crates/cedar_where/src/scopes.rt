@@ -1,4 +1,4 @@
-// What a condition is compiled in.
+// The scope in which a condition is compiled.
 use cedar_types::base::{CedarType, EntityType, EntityUID, Expr, ValidatorSchema};
 
 /// An expression with the types that were found.

@@ -18,7 +18,7 @@ use std::rc::RcStr;
 /// The column that holds an entity's own id.
 pub(crate) const ID_COLUMN: &str = "eid";
 
-/// What a column holds.
+/// The kind of the values that a column holds.
 #[derive(Clone, Copy, PartialEq, Eq, Debug)]
 pub enum ColumnType {
     /// 0 or 1.

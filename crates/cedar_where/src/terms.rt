@@ -9,7 +9,7 @@ use crate::sql::SqlExpr;
 use cedar_types::base::{EntityType, Loc};
 use std::alloc::{AllocError, Global};
 
-/// What a part of a condition evaluates to, if it has a value.
+/// The kind of a part's value, if the part has a value.
 #[derive(Drop)]
 pub(crate) enum Kind {
     /// A truth value.
@@ -86,7 +86,7 @@ impl Kind {
         }
     }
 
-    /// Whether values of the two kinds are compared by what SQL has of them.
+    /// Whether SQL compares values of the two kinds by the values of their columns.
     pub(crate) fn is_same(&self, other: &Kind) -> bool
         ensures { result ≡ same_kind (kind_of self.now) (kind_of other.now) }
     {

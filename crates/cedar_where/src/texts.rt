@@ -1,4 +1,4 @@
-// The texts of expressions and of tables, for SQLite. No contract says that they mean what the trees do: that is only tested.
+// The texts of expressions and of tables, for SQLite. No contract says that a text has the meaning of its tree: that is only tested.
 use crate::sql::SqlExpr;
 use crate::tables::{Column, ColumnType, ID_COLUMN, Table};
 use cedar_types::base::{EntityType, EntityUID, PatternElem};

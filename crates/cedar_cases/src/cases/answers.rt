@@ -1,4 +1,4 @@
-// What the checks of a policy answer, as a column shows it.
+// The answers of a policy's checks, as a column shows them.
 use crate::cases::columns::{Subject, Wanted};
 use crate::cases::names::about_names;
 use crate::shown::{Source, environment, level_outcome, outcome, policy_outcome, typed_condition};
@@ -8,7 +8,7 @@ use cedar_typing::typecheck::{PolicyCheck, Typechecker};
 use std::alloc::{AllocError, Global};
 use std::collections::HashSet;
 
-/// What stands between the environments of a field.
+/// The text between the environments of a field.
 const BETWEEN: &str = " | ";
 
 /// A policy that is asked about, and the text that its places are in.
@@ -50,7 +50,7 @@ impl Asked<'_> {
         }
     }
 
-    /// What the policy's validation with levels answers for this maximum.
+    /// The answer of the policy's validation with levels for this maximum.
     fn at_level(self, mode: ValidationMode, maximum: u32) -> Result<String, AllocError> {
         let (alloc, policy) = (self.alloc, &*self.policy.template);
         let (errors, warnings) = self
@@ -86,7 +86,7 @@ impl Asked<'_> {
         }
     }
 
-    /// In each environment that the policy is checked in, with what it is.
+    /// The outcome in each environment in which the policy is checked.
     fn in_environments(self, typechecker: &Typechecker<'_>) -> Result<String, AllocError> {
         let alloc = self.alloc;
         let mut shown = Vec::new(alloc);
@@ -100,7 +100,7 @@ impl Asked<'_> {
         shown.as_slice().join(alloc, BETWEEN)
     }
 
-    /// Whether the policy passes, and what its check adds to empty sets.
+    /// Whether the policy passes, and the findings that its check adds to empty sets.
     fn in_all(self, typechecker: &Typechecker<'_>) -> Result<String, AllocError> {
         let (alloc, policy) = (self.alloc, &*self.policy.template);
         let mut errors = HashSet::new(alloc);

@@ -1,10 +1,10 @@
 // The columns of a case file.
 use cedar_types::base::{SlotId, ValidationMode};
 
-/// What a column has.
+/// The content of a column.
 #[derive(Clone, Copy, PartialEq, Eq, Debug)]
 pub enum Column {
-    /// What a case shows, in words.
+    /// A description of a case, in words.
     About,
     /// A whole policy.
     Policy,
@@ -18,9 +18,9 @@ pub enum Column {
     Root,
     /// The attributes of the chain.
     Attributes,
-    /// What is wanted of the chain: how much it costs.
+    /// The wanted cost of the chain.
     Cost,
-    /// What is wanted of the policy.
+    /// The answer that is wanted for the policy.
     Wanted(Wanted),
 }
 
@@ -37,20 +37,20 @@ pub enum Wanted {
     Names(Question),
 }
 
-/// What is shown of a check.
+/// The part of a check that is shown.
 #[derive(Clone, Copy, PartialEq, Eq, Debug)]
 pub enum Subject {
     /// Its outcome, with the errors.
     Outcome,
     /// The typed condition.
     Typed,
-    /// What comes of the whole policy.
+    /// The outcome of the whole policy.
     Policy,
     /// Each environment that the policy is checked in, with its outcome.
     Environments,
 }
 
-/// What is asked of a policy without its types.
+/// The questions about a policy without its types.
 #[derive(Clone, Copy, PartialEq, Eq, Debug)]
 pub enum Question {
     /// The entity types that the schema does not know.
@@ -59,9 +59,9 @@ pub enum Question {
     ActionIds,
     /// The ids that their enumerated type does not have.
     EnumEntities,
-    /// The entity types of what slots are bound to that the schema does not know.
+    /// The entity types to which slots are bound and that the schema does not know.
     SlotTypes,
-    /// Whether an action applies to what the scope admits.
+    /// Whether an action applies to a principal and a resource that the scope admits.
     Application,
     /// The same with the slots bound.
     LinkedApplication,
@@ -98,7 +98,7 @@ impl Wanted {
         }
     }
 
-    /// What is asked in the mode that the name begins with: nothing behind it is the outcome.
+    /// The question in the mode with which the name begins: nothing behind it is the outcome.
     fn in_mode(name: &str) -> Option<Wanted> {
         let Some((mode, asked)) = name.split_once(' ') else {
             return Some(Wanted::Checks(mode_by_name(name)?, Subject::Outcome));

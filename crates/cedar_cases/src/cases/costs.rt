@@ -32,7 +32,7 @@ pub fn run_chain<W: Write>(
     agrees(name, case.number, "cost", wanted, got.as_str(), out)
 }
 
-/// What the chain costs, in digits.
+/// The cost of the chain, in digits.
 fn cost(
     alloc: Global,
     schema: &ValidatorSchema,

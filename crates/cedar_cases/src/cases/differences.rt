@@ -1,10 +1,10 @@
-// What is written of a case that does not agree.
+// The lines that are written for a case that does not agree.
 use cedar_reading::{Fault, Position};
 use cedar_types::base::OneLine;
 use std::io;
 use std::io::Write;
 
-/// Writes what is wrong at a byte of a case's line, and answers that the case does not agree.
+/// Writes the fault at a byte of a case's line, and answers that the case does not agree.
 pub fn write_fault<W: Write>(
     name: &str,
     number: usize,
@@ -17,7 +17,7 @@ pub fn write_fault<W: Write>(
     Ok(false)
 }
 
-/// Whether a column gets what it wants of the case in this line. Where it does not, both are written, each on one line.
+/// Whether a column gets the answer that it wants for the case in this line. If not, both are written, each on one line.
 pub fn agrees<W: Write>(
     name: &str,
     number: usize,

@@ -11,7 +11,7 @@ pub struct Field<'a> {
     pub start: usize,
 }
 
-/// A case: a policy or a chain of attributes, and what is wanted of it.
+/// A case: a policy or a chain of attributes, and the answers that it wants.
 #[derive(Drop)]
 pub struct Case<'a> {
     /// Its line in the file, from 1 on.
@@ -23,17 +23,17 @@ pub struct Case<'a> {
     pub condition: Field<'a>,
     /// The slots that are bound, each to an id.
     pub slots: Vec<(SlotId, Field<'a>)>,
-    /// What is wanted of the policy.
+    /// The answers that are wanted for the policy.
     pub wanted: Vec<Expectation<'a>>,
     /// The type that a chain begins at.
     pub root: Field<'a>,
     /// The attributes of the chain, with points between them.
     pub attributes: &'a str,
-    /// What is wanted of the chain, if anything is.
+    /// The cost that is wanted for the chain, if there is one.
     pub cost: Option<&'a str>,
 }
 
-/// What a column wants of a case.
+/// The answer that a column wants for a case.
 #[derive(Clone, Copy, Debug)]
 pub struct Expectation<'a> {
     /// The name of the column.
@@ -54,7 +54,7 @@ pub struct CaseFile<'a> {
     text: &'a str,
 }
 
-/// What is wrong with the first two lines of a case file.
+/// A fault of the first two lines of a case file.
 #[derive(Clone, Copy, Debug, PartialEq, Eq)]
 pub enum FileFault {
     /// The first line does not begin with `schema`, a tab and a name.
@@ -71,17 +71,17 @@ pub enum FileFault {
 /// The third field of the first line, where addresses are ordered.
 const ORDERED: &str = "ordered ipaddr";
 
-/// What a field says that asks nothing.
+/// The word of a field that asks nothing.
 const NOT_ASKED: &str = "?";
 
-/// What a field says of a slot that is not bound.
+/// The word of a field for a slot that is not bound.
 const UNBOUND: &str = "-";
 
 /// How many lines there are before the cases.
 const HEAD: usize = 2;
 
 impl<'a> Case<'a> {
-    /// Adds what the column of this name has.
+    /// Adds the content of the column of this name.
     fn add(&mut self, name: &'a str, column: Column, field: Field<'a>) -> Result<(), AllocError> {
         match column {
             Column::About => {}
@@ -106,7 +106,7 @@ impl<'a> Case<'a> {
 }
 
 impl<'a> CaseFile<'a> {
-    /// Reads the first two lines: the schema and what is ordered, and the names of the columns.
+    /// Reads the first two lines: the schema and the columns' order, and the names of the columns.
     pub fn new(
         alloc: Global,
         text: &'a str,
@@ -136,7 +136,7 @@ impl<'a> CaseFile<'a> {
         self.columns.iter().all(|(_, column)| column.is_of_chain())
     }
 
-    /// The byte at which a field is missing or one too many begins, and what is expected there.
+    /// The byte at which a field is missing or one too many begins, and the field that is expected there.
     /// `None` where the line has a field for each column.
     pub fn fault_of_fields(&self, line: &str) -> Option<(usize, Fault)> {
         let (wanted, count) = (self.columns.len(), line.split('\t').count());

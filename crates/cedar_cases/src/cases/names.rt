@@ -1,4 +1,4 @@
-// What a validator says of the names and the scope of a policy, as a column shows it.
+// A validator's findings on the names and the scope of a policy, as a column shows them.
 ghost use Rattle.std.specs.Iterator.{IsFinite};
 
 use crate::cases::columns::Question;
@@ -7,7 +7,7 @@ use cedar_typechecker::rbac::Validator;
 use cedar_types::base::{Policy, ValidationError};
 use std::alloc::{AllocError, Global};
 
-/// The findings of a pass, or whether an action applies to what the scope admits.
+/// The findings of a pass, or whether an action applies to a principal and a resource that the scope admits.
 pub fn about_names(
     alloc: Global,
     validator: &Validator<'_>,

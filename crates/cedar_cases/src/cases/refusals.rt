@@ -16,7 +16,7 @@ const FIRST_AS_GIVEN: &str = "schemas\tas given";
 /// Its second line.
 const COLUMNS: &str = "declarations\trefusal";
 
-/// What is answered where the declarations are a schema.
+/// The answer if the declarations are a schema.
 const NO_REFUSAL: &str = "ok";
 
 /// How many lines there are before the cases.
@@ -40,7 +40,7 @@ pub fn notation_of(text: &str) -> Option<Notation> {
     }
 }
 
-/// What is wrong with the second line of such a file: with all of its names, since it has these two.
+/// The fault of the second line of such a file: of all its names, since it has these two.
 pub fn fault_of_columns(text: &str) -> Option<FileFault> {
     if text.lines().nth(1) == Some(COLUMNS) {
         None

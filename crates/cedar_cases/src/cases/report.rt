@@ -1,4 +1,4 @@
-// What came of the cases of a file.
+// The results of the cases of a file.
 use crate::cases::answers::{Asked, in_order};
 use crate::cases::costs::run_chain;
 use crate::cases::differences::{agrees, write_fault};

@@ -1,4 +1,4 @@
-// A case: what is asked, and what is wanted of it.
+// A case: its question, and the answer that it wants.
 use crate::conformance::data::{entities_of, entity_of, record_of};
 use cedar_conformance::entity_faults::{EntityFault, EntityProblem};
 use cedar_conformance::policies::check_policy;
@@ -11,23 +11,23 @@ use std::alloc::{AllocError, Global};
 use std::collections::BTreeMap;
 use std::fmt;
 
-/// What is answered where the data conforms.
+/// The answer if the data conforms.
 const CONFORMS: &str = "conforms";
 
-/// What is answered where a field cannot be read.
+/// The answer if a field cannot be read.
 const UNREADABLE: &str = "a field cannot be read";
 
-/// What a field says of a slot that is not bound.
+/// The word of a field for a slot that is not bound.
 const UNBOUND: &str = "-";
 
-/// What a case wants, and what came of it.
+/// The answer that a case wants, and the one that it got.
 #[derive(Drop)]
 pub struct Answer<'a> {
     pub wanted: &'a str,
     pub got: String,
 }
 
-/// Runs a case. Its fields are what is asked, what it shows, the data, and what is wanted.
+/// Runs a case. Its fields are the question, a description, the data, and the wanted answer.
 pub fn run_case<'a>(
     alloc: Global,
     schema: &ValidatorSchema,
@@ -67,7 +67,7 @@ fn conforms(alloc: Global) -> Result<String, AllocError> {
     String::from_str(alloc, CONFORMS)
 }
 
-/// What is shown of a check.
+/// The part of a check that is shown.
 fn show<F: fmt::Display + Drop>(
     alloc: Global,
     checked: Result<(), F>,

@@ -1,10 +1,11 @@
 // Data that stands in a case as expressions: literals, sets and records of them, and calls for values of extension types.
 use cedar_conformance::entities::{Entities, Entity};
+use cedar_conformance::ids::Ids;
 use cedar_conformance::values::{Record, Value};
 use cedar_reading::{Expected, Fault, ReadError, condition};
 use cedar_types::base::{EntityUID, Expr, ExprKind, Literal};
 use std::alloc::{AllocError, Global};
-use std::collections::{BTreeMap, BTreeSet};
+use std::collections::BTreeMap;
 use std::rc::RcStr;
 
 fn no_data() -> ReadError {
@@ -96,8 +97,8 @@ fn members_in(expr: &Expr) -> Result<&Vec<Expr>, ReadError> {
 }
 
 /// The ids that a set has.
-fn ids_in(alloc: Global, expr: &Expr) -> Result<BTreeSet<EntityUID>, ReadError> {
-    let mut ids = BTreeSet::new(alloc);
+fn ids_in(alloc: Global, expr: &Expr) -> Result<Ids, ReadError> {
+    let mut ids = Ids::new(alloc);
     for member in members_in(expr)? {
         let id = id_in(member)?;
         ids.insert(id)?;

@@ -1,4 +1,4 @@
-// Whether an action applies to what a scope admits.
+// Whether an action applies to a principal and a resource that a scope admits.
 use crate::shown::places::{Source, push_place};
 use cedar_types::base::ValidationWarning;
 use std::alloc::{AllocError, Global};

@@ -1,4 +1,4 @@
-// Environments: what they are about, and what their slots are linked to.
+// Environments: their types and action, and the links of their slots.
 use cedar_types::types::request_env::RequestEnv;
 use std::alloc::{AllocError, Global};
 

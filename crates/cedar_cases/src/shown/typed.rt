@@ -10,7 +10,7 @@ use std::rc::RcStr;
 
 type Typed = Expr<Option<CedarType>>;
 
-/// What is still to be shown of a typed condition.
+/// The part of a typed condition that is still to be shown.
 #[derive(Drop)]
 enum Step<'a> {
     Node(&'a Typed),
@@ -49,7 +49,7 @@ pub fn typed_condition(
     Ok(shown)
 }
 
-/// What comes after a node's head, the last first: its parts in parentheses, and its end.
+/// The texts behind a node's head, the last first: its parts in parentheses, and its end.
 fn push_steps<'a>(
     alloc: Global,
     steps: &mut Vec<Step<'a>>,
@@ -77,7 +77,7 @@ fn push_end(shown: &mut String, node: &Typed, source: Source<'_>) -> Result<(), 
     push_place(shown, node.loc, source)
 }
 
-/// What a node is, without its parts.
+/// The head of a node, without its parts.
 fn push_head(shown: &mut String, node: &Typed) -> Result<(), AllocError> {
     match &node.kind {
         ExprKind::Lit(literal) => push_literal(shown, literal),

@@ -1,4 +1,4 @@
-// What follows up on answers. What is called takes memory itself.
+// Follow-ups on answers. The function that follows up takes memory itself.
 use crate::calls::capabilities::having;
 use crate::calls::lines::{Probe, Trial};
 use crate::outcomes::{Outcome, finish};
@@ -7,7 +7,7 @@ use cedar_types::base::{CedarType, Expr, ExprKind, Literal};
 use cedar_typing::typecheck::answer::TypecheckAnswer;
 use std::alloc::{AllocError, Global};
 
-/// What follows up on answers.
+/// Follow-ups on answers.
 #[derive(Clone, Copy)]
 pub enum FollowUp {
     Map,
@@ -53,7 +53,7 @@ impl Probe for FollowUp {
     }
 }
 
-/// What follows up on answers.
+/// Follow-ups on answers.
 pub const FOLLOW_UPS: [(FollowUp, &str); 3] = [
     (FollowUp::Map, "TypecheckAnswer::map_capability | nick"),
     (FollowUp::Then, "TypecheckAnswer::then_typecheck | nick"),

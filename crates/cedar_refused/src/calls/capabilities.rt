@@ -11,7 +11,7 @@ use std::alloc::{AllocError, Global};
 use std::fmt::Debug;
 use std::rc::RcStr;
 
-/// What is asked of sets.
+/// Questions about sets.
 #[derive(Clone, Copy)]
 pub enum OfSets {
     Insert,
@@ -21,7 +21,7 @@ pub enum OfSets {
     OfTwo(OfTwo),
 }
 
-/// What is asked of two sets, or of one capability.
+/// Questions about two sets, or about one capability.
 #[derive(Clone, Copy)]
 pub enum OfTwo {
     Singleton,
@@ -68,7 +68,7 @@ fn of_two<'a>(
     }
 }
 
-/// Joins two sets, which both end in what comes of it.
+/// Joins two sets, both of which end in the result.
 fn join(alloc: Global, trial: Trial<'_>) -> Result<Outcome, AllocError> {
     // four entries fill the room of the first set
     let (mut one, other) = (having(alloc, "vip", "nick")?, has(alloc, "names")?);
@@ -98,7 +98,7 @@ fn add(alloc: Global, trial: Trial<'_>) -> Result<Outcome, AllocError> {
     finish_insertion(alloc, answer, &before, &builder)
 }
 
-/// What came of an insertion, after which the set or builder is as it was where memory was refused.
+/// The outcome of an insertion, after which the set or builder is as it was if memory was refused.
 fn finish_insertion<S: Debug>(
     alloc: Global,
     answer: Result<(), AllocError>,
@@ -137,7 +137,7 @@ fn first_step(
     finish(alloc, step.capability(), &attrs)
 }
 
-/// What is known of a base that has an attribute.
+/// The known capability of a base that has an attribute.
 #[derive(Clone, Copy)]
 pub enum OfBases {
     Step,

@@ -1,4 +1,4 @@
-// Checks of policies, and what a validator is asked.
+// Checks of policies, and questions to a validator.
 use crate::calls::lines::{Probe, Trial};
 use crate::calls::surveys::{level_errors_at_0, survey};
 use crate::outcomes::{Outcome, finish, finish_shown};
@@ -40,7 +40,7 @@ impl Probe for InEnvironment {
     }
 }
 
-/// What is asked of a validator.
+/// Questions to a validator.
 #[derive(Clone, Copy)]
 pub enum OfValidator {
     /// A question whose answer is shown as it is.

@@ -9,7 +9,7 @@ use cedar_types::base::{
 };
 use std::alloc::{AllocError, Global};
 
-/// What is copied.
+/// The values that are copied.
 #[derive(Clone, Copy)]
 pub enum Copied {
     Expr,

@@ -20,16 +20,16 @@ pub struct Walk<'a> {
     pub environments: usize,
 }
 
-/// What is called.
+/// The calls.
 #[derive(Clone, Copy)]
 pub enum OfWalk {
     /// `ValidatorSchema::linked_request_envs` alone.
     MakesLinked,
-    /// Each step of what it answers.
+    /// Each step of its answer.
     WalksLinked,
     /// `Typechecker::typecheck_by_request_env` alone.
     MakesChecks,
-    /// Each step of what it answers.
+    /// Each step of its answer.
     WalksChecks,
     /// Each step of `RequestEnvChecks::next_env`.
     WalksNext,
@@ -44,7 +44,7 @@ pub struct WalkCall<'a> {
     pub called: OfWalk,
 }
 
-/// What is asked where `ValidatorSchema::linked_request_envs` is called alone.
+/// Questions for which `ValidatorSchema::linked_request_envs` is called alone.
 #[derive(Clone, Copy)]
 struct LinkedMaking<'a>(Walk<'a>);
 

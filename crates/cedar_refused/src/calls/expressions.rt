@@ -1,4 +1,4 @@
-// What makes expressions.
+// Makers of expressions.
 use crate::calls::lines::{Probe, Trial};
 use crate::outcomes::{Outcome, finish};
 use crate::refusals::refuse;
@@ -6,7 +6,7 @@ use crate::samples::texts::{entity_type, expression};
 use cedar_types::base::{AttrChain, BinaryOp, Expr, PatternElem, UnaryOp};
 use std::alloc::{AllocError, Global};
 
-/// What makes an expression of two.
+/// Makers of an expression of two.
 #[derive(Clone, Copy)]
 pub enum OfTwo {
     And,
@@ -44,7 +44,7 @@ impl Probe for OfTwo {
     }
 }
 
-/// What makes an expression of one.
+/// Makers of an expression of one.
 #[derive(Clone, Copy)]
 pub enum OfOne {
     Not,
@@ -71,7 +71,7 @@ impl Probe for OfOne {
     }
 }
 
-/// What makes an expression of one and of something else.
+/// Makers of an expression of one and of something else.
 #[derive(Clone, Copy)]
 pub enum OfMore {
     If,

@@ -14,7 +14,7 @@ pub struct Trial<'a> {
     pub number: u16,
 }
 
-/// A call that is made on what a text says.
+/// A call that is made on the value of a text.
 pub trait Probe: Copy {
     /// Makes the call while the growth of that number is refused.
     fn run(self, alloc: Global, trial: Trial<'_>) -> Result<Outcome, AllocError>;

@@ -1,4 +1,4 @@
-// What is found by a schema or by names.
+// Look-ups in a schema or by names.
 use crate::calls::lines::{Probe, Trial};
 use crate::outcomes::{Outcome, finish};
 use crate::refusals::refuse;
@@ -8,7 +8,7 @@ use cedar_types::base::CedarType;
 use std::alloc::{AllocError, Global};
 use std::rc::RcStr;
 
-/// What is looked up.
+/// The look-ups.
 #[derive(Clone, Copy)]
 pub enum Lookup {
     Bound,
@@ -85,7 +85,7 @@ impl Probe for Lookup {
     }
 }
 
-/// What is looked up, by what it is looked up for.
+/// The look-ups, by the kind of thing that is looked up.
 pub const LOOKUPS: [(Lookup, &str); 6] = [
     (Lookup::Bound, "EntityLUB::least_upper_bound | Photo"),
     (

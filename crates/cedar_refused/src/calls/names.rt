@@ -1,4 +1,4 @@
-// What makes names, ids and literals of texts.
+// Makers of names, ids and literals from texts.
 use crate::calls::lines::{Probe, Trial};
 use crate::outcomes::{Outcome, finish};
 use crate::refusals::refuse;
@@ -6,7 +6,7 @@ use crate::samples::texts::entity_type;
 use cedar_types::base::{AttrChain, EntityUID, Literal, Name, PolicyID};
 use std::alloc::{AllocError, Global};
 
-/// What is made of texts.
+/// Makers from texts.
 #[derive(Clone, Copy)]
 pub enum OfTexts {
     Unqualified,
@@ -35,7 +35,7 @@ impl Probe for OfTexts {
     }
 }
 
-/// What is made of texts.
+/// Makers from texts.
 pub const NAMES: [(OfTexts, &str); 6] = [
     (OfTexts::Unqualified, "Name::unqualified_name | User"),
     (OfTexts::Qualified, "Name::new | User"),

@@ -1,4 +1,4 @@
-// The passes over the names in a policy and over what its slots are bound to, step by step.
+// The passes over the names in a policy and over the entities to which its slots are bound, step by step.
 use crate::calls::walks::{Steps, attempt_walk};
 use crate::pictures::picture;
 use crate::sweep::{ANOTHER_POLICY, Attempt, Call};

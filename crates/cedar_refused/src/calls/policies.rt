@@ -8,7 +8,7 @@ use cedar_typing::typecheck::Typechecker;
 use std::alloc::{AllocError, Global};
 use std::collections::HashSet;
 
-/// The check of this policy, and what the sets hold before and after it.
+/// The check of this policy, and the contents of the sets before and after it.
 #[derive(Clone, Copy)]
 pub struct WholeCheck<'a> {
     pub checker: &'a Typechecker<'a>,
@@ -48,7 +48,7 @@ impl WholeCheck<'_> {
         Ok(Sets { errors, warnings })
     }
 
-    /// What the sets hold after a check with ample memory: the policies here are refused, and never apply.
+    /// The contents of the sets after a check with ample memory: the policies here are refused, and never apply.
     fn expect(&self, alloc: Global) -> Result<Option<String>, AllocError> {
         let mut sets = self.hand_in(alloc)?;
         let passes = self.check(alloc, &mut sets)?;

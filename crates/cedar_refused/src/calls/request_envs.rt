@@ -1,4 +1,4 @@
-// What is asked of environments.
+// Questions about environments.
 use crate::calls::lines::{Probe, Trial};
 use crate::outcomes::{Outcome, finish};
 use crate::refusals::refuse;
@@ -7,7 +7,7 @@ use cedar_types::base::ValidationMode;
 use cedar_types::types::request_env::RequestEnv;
 use std::alloc::{AllocError, Global};
 
-/// What is asked of an environment.
+/// Questions about an environment.
 #[derive(Clone, Copy)]
 pub enum OfEnvironment {
     RequestType,
@@ -18,7 +18,7 @@ pub enum OfEnvironment {
     Context,
 }
 
-/// The environment that is asked, and what.
+/// The environment that is asked, and the question.
 #[derive(Clone, Copy)]
 pub enum Asked {
     /// That of a declared action.

@@ -1,4 +1,4 @@
-// Schemas: what makes them, and what is asked of them.
+// Schemas: their makers, and questions about them.
 use crate::calls::lines::{Probe, Trial};
 use crate::outcomes::{Outcome, finish};
 use crate::refusals::refuse;
@@ -33,7 +33,7 @@ fn make_choices(alloc: Global, trial: Trial<'_>) -> Result<Outcome, AllocError> 
     finish(alloc, EnumChoices::new(alloc, ids), &())
 }
 
-/// What is made, or asked of a schema.
+/// The makers of a schema, and questions about it.
 #[derive(Clone, Copy)]
 pub enum OfSchema {
     New,
@@ -41,7 +41,7 @@ pub enum OfSchema {
     Asked(OfMade),
 }
 
-/// What is asked of a schema that is made.
+/// Questions about a schema that is made.
 #[derive(Clone, Copy)]
 pub enum OfMade {
     Types,
@@ -99,7 +99,7 @@ action some;
 action view appliesTo { principal: User, resource: [Photo, User], context: { since?: Long } };
 "#;
 
-/// What is made of declarations, and asked of a schema.
+/// The makers from declarations, and questions about a schema.
 pub const SCHEMAS: [(OfSchema, &str); 9] = [
     (
         OfSchema::New,

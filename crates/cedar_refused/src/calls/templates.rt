@@ -1,4 +1,4 @@
-// What is asked of a policy without a schema.
+// Questions about a policy without a schema.
 use crate::calls::lines::{Probe, Trial};
 use crate::outcomes::{Outcome, finish};
 use crate::refusals::refuse;
@@ -6,7 +6,7 @@ use crate::samples::texts::policy;
 use cedar_types::base::SlotId;
 use std::alloc::{AllocError, Global};
 
-/// What is asked of a template, or of its condition.
+/// Questions about a template, or about its condition.
 #[derive(Clone, Copy)]
 pub enum OfTemplate {
     Condition,

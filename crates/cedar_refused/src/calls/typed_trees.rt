@@ -8,12 +8,12 @@ use cedar_types::types::capability::CapabilitySet;
 use cedar_typing::typecheck::Typechecker;
 use std::alloc::{AllocError, Global};
 
-/// What is checked of a policy in the first environment of the schema, in Strict.
+/// Checks of a policy in the first environment of the schema, in Strict.
 #[derive(Clone, Copy)]
 pub enum OfPolicy {
     /// Its condition.
     Condition,
-    /// What its condition has beside the scope, where nothing is known.
+    /// The part of its condition beside the scope, while nothing is known.
     Rest,
 }
 

@@ -1,4 +1,4 @@
-// Types: what makes them, and what is asked of them.
+// Types: their makers, and questions about them.
 use crate::calls::lines::{Probe, Trial};
 use crate::outcomes::{Outcome, finish};
 use crate::refusals::refuse;
@@ -10,7 +10,7 @@ use std::alloc::{AllocError, Global};
 use std::collections::BTreeMap;
 use std::rc::RcStr;
 
-/// What is made.
+/// The values that are made.
 #[derive(Clone, Copy)]
 pub enum TypeMaker {
     Set,
@@ -53,7 +53,7 @@ impl Probe for TypeMaker {
     }
 }
 
-/// What is asked of two types.
+/// Questions about two types.
 #[derive(Clone, Copy)]
 pub enum OfTypes {
     Bound(ValidationMode),
@@ -86,7 +86,7 @@ impl Probe for OfTypes {
     }
 }
 
-/// Makers of types, and of what they are made of.
+/// Makers of types and of their parts.
 pub const TYPES: [(TypeMaker, &str); 9] = [
     (TypeMaker::Set, "CedarType::set | Set"),
     (TypeMaker::AnyRecord, "CedarType::any_record | Record"),

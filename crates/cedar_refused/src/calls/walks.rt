@@ -31,7 +31,7 @@ fn take_all<S: Steps>(steps: &mut S, items: &mut Vec<S::Item>) -> bool {
     false
 }
 
-/// What a whole walk gives with ample memory.
+/// The items of a whole walk with ample memory.
 pub fn walk_all<S: Steps>(alloc: Global, mut steps: S) -> Result<Vec<String>, AllocError> {
     let mut items = Vec::with_capacity(alloc, MOST)?;
     if take_all(&mut steps, &mut items) {

@@ -18,7 +18,7 @@ use std::alloc::{AllocError, Global};
 use std::collections::BTreeSet;
 use std::rc::RcStr;
 
-/// What came of calls that answered as they should, or did not.
+/// The outcomes of calls that answered as they should, or did not.
 fn outcome(is_as_ever: bool, was_refused: bool) -> &'static str {
     match (is_as_ever, was_refused) {
         (true, false) => TAKES_NONE,
@@ -28,7 +28,7 @@ fn outcome(is_as_ever: bool, was_refused: bool) -> &'static str {
     }
 }
 
-/// The walk over a schema's environments, how their slots are linked, and what they are made of.
+/// The walk over a schema's environments, the links of their slots, and the parts of which they are made.
 pub fn environments(alloc: Global, schema: &ValidatorSchema) -> Result<&'static str, AllocError> {
     let user = entity_type(alloc, "User")?;
     let link = entity_type(alloc, "User")?;
@@ -132,7 +132,7 @@ pub fn passes<'x>(
     Ok(outcome(is_as_ever, was_refused))
 }
 
-/// What a chain of attributes costs whose entities are of one type each.
+/// The cost of a chain of attributes whose entities are of one type each.
 pub fn chain_cost(alloc: Global, schema: &ValidatorSchema) -> Result<&'static str, AllocError> {
     let photo = CedarType::named_entity_reference(alloc, entity_type(alloc, "Photo")?)?;
     let owner = RcStr::from_str(alloc, "owner")?;
@@ -175,7 +175,7 @@ fn is_taken_for_a_tag(
     Ok(set.contains(&Capability::new_owned_tag(owner, name)))
 }
 
-/// The makers of capabilities, and what is asked of a set of them.
+/// The makers of capabilities, and questions about a set of them.
 pub fn capabilities(alloc: Global) -> Result<&'static str, AllocError> {
     let (owner, name) = (
         Expr::var(Var::Principal),
@@ -197,7 +197,7 @@ pub fn capabilities(alloc: Global) -> Result<&'static str, AllocError> {
     Ok(outcome(is_as_ever, was_refused))
 }
 
-/// The makers of answers, and what is asked of them.
+/// The makers of answers, and questions about them.
 pub fn answers(alloc: Global) -> Result<&'static str, AllocError> {
     let (first, second) = (success(alloc)?, success(alloc)?);
     let known = having(alloc, "vip", "nick")?;
@@ -217,7 +217,7 @@ pub fn answers(alloc: Global) -> Result<&'static str, AllocError> {
     Ok(outcome(is_as_ever, was_refused))
 }
 
-/// The walks over what a validation with levels found, and levels themselves.
+/// The walks over the findings of a validation with levels, and levels themselves.
 pub fn levels(alloc: Global, validator: &Validator<'_>) -> Result<&'static str, AllocError> {
     let (strict, known) = (ValidationMode::Strict, policy(alloc, KNOWN)?);
     let found = validator.validate_policy_with_level(alloc, &known.template, strict, 0)?;

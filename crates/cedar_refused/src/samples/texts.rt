@@ -1,4 +1,4 @@
-// What the calls are made on, read from texts.
+// The values on which the calls are made, read from texts.
 use cedar_reading::{ReadError, condition, schema, type_alone, uid_alone, whole_policy};
 use cedar_types::base::{
     CedarType, EntityLUB, EntityType, EntityUID, Expr, Name, Policy, SlotEnv, SlotId, Template,
@@ -52,7 +52,7 @@ pub const SUMS: usize = 9;
 /// Users, whom photos own, and photos, which users own: so the owner of either is either.
 pub const OWNERS: &str = "entity User { owner: Photo }; entity Photo { owner: User };";
 
-/// What was read. A text here that cannot be read ends the run, as want of memory does.
+/// The value that was read. A text here that cannot be read ends the run, as want of memory does.
 fn read<T>(answer: Result<T, ReadError>) -> Result<T, AllocError> {
     match answer {
         Ok(read) => Ok(read),

@@ -1,11 +1,11 @@
-// What a question comes to.
+// The answer to a question.
 use cedar_fixtures::findings::BEFORE_FINDING;
 use cedar_fixtures::questions::Subject;
 use cedar_typechecker::rbac::Validator;
 use cedar_types::base::Policy;
 use std::alloc::{AllocError, Global};
 
-/// What stands between the outcomes in several environments.
+/// The text between the outcomes in several environments.
 pub const BETWEEN_OUTCOMES: &str = "; ";
 
 /// A policy that is asked about.
@@ -18,10 +18,10 @@ pub struct Asked<'a> {
     pub text: &'a str,
 }
 
-/// What a question came to.
+/// The answer to a question.
 #[derive(Drop)]
 pub struct Answer {
-    /// What the program prints.
+    /// The text that the program prints.
     pub outcome: String,
     /// The findings, in any order, each behind its mark.
     pub findings: String,
@@ -61,7 +61,7 @@ pub fn in_order(alloc: Global, text: &str, between: &str) -> Result<String, Allo
 }
 
 impl Asked<'_> {
-    /// What the question comes to. Functions and chains are not asked about here.
+    /// The answer to the question. Functions and chains are not asked about here.
     pub fn about(self, subject: Subject) -> Result<Answer, AllocError> {
         match subject {
             Subject::Check(mode) => self.in_first_environment(mode),

@@ -1,4 +1,4 @@
-// What chains of attributes cost.
+// The costs of chains of attributes.
 use crate::rows::answers::Answer;
 use cedar_typechecker::level_validate::attr_chain_cost_from_root;
 use cedar_types::base::{
@@ -7,7 +7,7 @@ use cedar_types::base::{
 use std::alloc::{AllocError, Global};
 use std::rc::RcStr;
 
-/// What this chain costs: its root, and its attributes, each behind a point.
+/// The cost of this chain: its root, and its attributes, each behind a point.
 pub fn chain_cost(
     alloc: Global,
     schema: &ValidatorSchema,
@@ -39,7 +39,7 @@ fn root_type(alloc: Global, text: &str) -> Result<CedarType, AllocError> {
     }
 }
 
-/// The attribute of a record's type, and what stands for the attribute's type.
+/// The attribute of a record's type, and the text that stands for the attribute's type.
 fn attribute_in(text: &str) -> Option<(&str, &str)> {
     text.strip_prefix('{')?.strip_suffix('}')?.split_once(": ")
 }

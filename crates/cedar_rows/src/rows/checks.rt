@@ -27,7 +27,7 @@ impl<'a> Asked<'a> {
         Ok(answer)
     }
 
-    /// Adds what a check came to, and its errors.
+    /// Adds the outcome of a check, and its errors.
     fn add_check(self, answer: &mut Answer, check: &PolicyCheck) -> Result<(), AllocError> {
         push_outcome(&mut answer.outcome, check)?;
         for error in errors_of(check) {
@@ -49,7 +49,7 @@ impl<'a> Asked<'a> {
         Ok(answer)
     }
 
-    /// Adds what a check came to, behind the outcomes before it, its environment and its errors.
+    /// Adds the outcome of a check, behind the outcomes before it, its environment and its errors.
     fn add_environment(
         self,
         answer: &mut Answer,
@@ -63,7 +63,7 @@ impl<'a> Asked<'a> {
         self.add_check(answer, check)
     }
 
-    /// What the check in all environments adds to empty sets.
+    /// The findings that the check in all environments adds to empty sets.
     pub fn in_all(self, mode: ValidationMode) -> Result<Answer, AllocError> {
         let (alloc, policy) = (self.alloc, &*self.policy.template);
         let mut errors = HashSet::new(alloc);
@@ -101,7 +101,7 @@ impl<'a> Asked<'a> {
     }
 }
 
-/// Adds what a check came to, and how many errors there are where it may have some.
+/// Adds the outcome of a check, and the number of errors if it may have some.
 fn push_outcome(shown: &mut String, check: &PolicyCheck) -> Result<(), AllocError> {
     let count = errors_of(check).len();
     match check {

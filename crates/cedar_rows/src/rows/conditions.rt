@@ -96,7 +96,7 @@ Fail errors=1
 for policy `policy0`, access to optional attribute `vip` on `User` is not guarded
 "#;
 
-/// Operators on what they accept, and on other operands.
+/// Operators on operands that they accept, and on other operands.
 pub const OPERATORS: &str = r#"
 ? S1 Strict check: 1 < 2
 Success
@@ -186,7 +186,7 @@ for policy `policy0`, unexpected type: expected `Long` but saw `ipaddr`
 for policy `policy0`, unexpected type: expected `Long` but saw `ipaddr`
 "#;
 
-/// In Permissive entity types unite, and records keep what they share.
+/// In Permissive entity types unite, and records keep the attributes that they share.
 pub const PERMISSIVE_BOUNDS: &str = r#"
 ? S1 Permissive check: (if principal.bool then principal else resource).user is User
 Success
@@ -206,7 +206,7 @@ Fail errors=1
 for policy `policy0`, the types `Photo`, `User` are not compatible
 "#;
 
-/// What is nested too deep stands where it is never visited.
+/// A part that is nested too deep stands in a place that is never visited.
 pub const DEEP_UNVISITED: &str = r#"
 ? S1 Strict check: false && TRUE_UNDER_450
 Irrelevant errors=0
@@ -216,7 +216,7 @@ Success
 Success
 "#;
 
-/// What is nested too deep stands before parts with errors, which are visited in some forms and not in others.
+/// A part that is nested too deep stands before parts with errors, which are visited in some forms and not in others.
 pub const DEEP_BESIDE_ERRORS: &str = r#"
 ? S1 Strict check: TRUE_UNDER_450 == (1 + "a")
 Fail errors=1

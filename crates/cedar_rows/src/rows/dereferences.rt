@@ -1,4 +1,4 @@
-// The rows on levels, and on what chains of attributes cost, as texts.
+// The rows on levels, and on the costs of chains of attributes, as texts.
 
 /// A record literal under an access is no dereference.
 pub const NO_DEREFERENCE: &str = r#"
@@ -26,7 +26,7 @@ for policy `policy0`, this policy requires level 1, which exceeds the maximum al
 errors=0 warnings=0
 "#;
 
-/// What an access to a record literal leaves out counts by itself.
+/// A part that an access to a record literal leaves out counts by itself.
 pub const OTHER_KEY: &str = r#"
 ? S1 Strict level 3: {foo: principal, bar: principal.user.user.user.user}.foo.bool
 errors=1 warnings=0
@@ -54,7 +54,7 @@ errors=1 warnings=0
 for policy `policy0`, entity literals cannot be dereferenced at any level
 "#;
 
-/// What is never evaluated needs no level.
+/// A part that is never evaluated needs no level.
 pub const DROPPED_ACCESS: &str = r#"
 ? S1 Strict level 0: false && principal.bool
 errors=0 warnings=1
@@ -72,7 +72,7 @@ for policy `policy0`, this policy requires level 2, which exceeds the maximum al
 errors=0 warnings=0
 "#;
 
-/// What chains of attributes cost, from an entity and from a record.
+/// The costs of chains of attributes, from an entity and from a record.
 pub const CHAIN_COSTS: &str = r#"
 ? S1 chain cost: User.user
 1
@@ -106,7 +106,7 @@ for policy `policy0`, this policy requires level 1, which exceeds the maximum al
 errors=0 warnings=0
 "#;
 
-/// An access to what a record literal has at a key: the greatest level is the whole's.
+/// An access to the value of a record literal at a key: the greatest level is the whole's.
 pub const THROUGH_RECORD: &str = r#"
 ? S1 Strict level 0: {foo: principal.user}.foo.bool
 errors=1 warnings=0
@@ -160,7 +160,7 @@ for policy `policy0`, this policy requires level 1, which exceeds the maximum al
 errors=0 warnings=0
 "#;
 
-/// What a long chain of attributes costs.
+/// The cost of a long chain of attributes.
 pub const LONG_CHAIN: &str = r#"
 ? S1 chain cost: USER_AND_10000
 10000

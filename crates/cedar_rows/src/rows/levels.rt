@@ -5,11 +5,11 @@ use cedar_typechecker::level_validate::{LevelErrors, LevelWarnings};
 use cedar_types::base::ValidationMode;
 use std::alloc::AllocError;
 
-/// What is printed where no level is enough.
+/// The text that is printed if no level is enough.
 const NO_LEVEL: &str = "none";
 
 impl Asked<'_> {
-    /// What the validation of the policy finds, where this is the greatest level.
+    /// The findings of the policy's validation if this is the greatest level.
     pub fn at_level(self, mode: ValidationMode, level: u32) -> Result<Answer, AllocError> {
         let (alloc, policy) = (self.alloc, &*self.policy.template);
         let (errors, warnings) = self

@@ -1,4 +1,4 @@
-// What a validator says of names and scopes, and why there is no table of functions.
+// A validator's findings on names and scopes, and the reason why there is no table of functions.
 ghost use Rattle.std.specs.Iterator.{IsFinite};
 
 use crate::rows::answers::{Answer, Asked};
@@ -12,7 +12,7 @@ use std::alloc::{AllocError, Global};
 use std::collections::BTreeSet;
 
 impl Asked<'_> {
-    /// What the question comes to, where it is about no check.
+    /// The answer to the question, if it is about no check.
     pub fn about_names(self, subject: Subject) -> Result<Answer, AllocError> {
         let (alloc, validator, policy) = (self.alloc, self.validator, self.policy);
         let (schema, template) = (validator.schema(), &*policy.template);
@@ -42,7 +42,7 @@ impl Asked<'_> {
         }
     }
 
-    /// What a pass finds.
+    /// The findings of a pass.
     fn show_findings<I: Iterator<Item = Result<ValidationError, AllocError>> + Drop>(
         self,
         pass: I,
@@ -60,7 +60,7 @@ impl Asked<'_> {
         Ok(answer)
     }
 
-    /// Whether an action applies to what the scope admits.
+    /// Whether an action applies to a principal and a resource that the scope admits.
     fn show_application(
         self,
         applied: &Result<(), ValidationWarning>,

@@ -1,7 +1,7 @@
-// What came of a row.
+// The result of a row.
 use std::alloc::{AllocError, Global};
 
-/// What a row gave.
+/// The result of a row.
 #[derive(Drop)]
 pub struct Report {
     pub outcomes: Vec<String>,

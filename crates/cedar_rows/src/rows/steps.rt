@@ -1,4 +1,4 @@
-// A row as a text: what it asks, in order, and what it expects.
+// A row as a text: its questions, in order, and the answers that it expects.
 use crate::rows::answers::{Answer, Asked};
 use crate::rows::chains::chain_cost;
 use crate::rows::names::{refusal, schema_refusal};
@@ -10,7 +10,7 @@ use cedar_types::base::{ExtensionSchemas, Policy, PolicyID, SlotEnv, SlotId, Val
 use std::alloc::{AllocError, Global};
 use std::rc::Rc;
 
-/// What stands before each step.
+/// The mark before each step.
 const BEFORE_STEP: &str = "\n? ";
 
 /// A row: steps, each of which begins behind `? ` with what is asked. On its next line stands what
@@ -19,11 +19,11 @@ const BEFORE_STEP: &str = "\n? ";
 #[derive(Clone, Copy)]
 pub struct Steps<'a>(pub &'a str, pub &'a [Nested]);
 
-/// A word, and what it stands for: a text within others.
+/// A word, and the text for which it stands: a text within others.
 #[derive(Clone, Copy)]
 pub struct Nested {
     pub word: &'static str,
-    /// What stands before the inner text and behind it, each so many times.
+    /// The texts before the inner text and behind it, each so many times.
     pub around: [&'static str; 2],
     pub times: usize,
     pub inner: &'static str,
@@ -40,7 +40,7 @@ impl Nested {
 }
 
 impl Steps<'_> {
-    /// The text with what its words stand for.
+    /// The text with its words replaced by the texts for which they stand.
     fn expand(&self, alloc: Global) -> Result<String, AllocError> {
         let mut text = String::from_str(alloc, self.0)?;
         for nested in self.1 {
@@ -72,7 +72,7 @@ impl Row for Steps<'_> {
     }
 }
 
-/// What a step comes to, and whether that is what it expects.
+/// The answer of a step, and whether the step expects it.
 fn judge(
     alloc: Global,
     step: &str,
@@ -149,7 +149,7 @@ fn bound_policy(alloc: Global, text: &str, question: Question<'_>) -> Result<Pol
     })
 }
 
-/// What binds `?principal` to this, if anything.
+/// The binding of `?principal` to this, if there is one.
 fn values_of(alloc: Global, bound: Option<&str>) -> Result<SlotEnv, ReadError> {
     let mut values = SlotEnv::new(alloc);
     if let Some(bound) = bound {

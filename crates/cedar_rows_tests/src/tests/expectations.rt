@@ -1,4 +1,4 @@
-// Whether what a step came to is taken for what it expects, and for nothing else.
+// Whether the answer of a step is taken for the one that it expects, and for nothing else.
 use crate::tests::tables::{x1, x2};
 use crate::tests::wrong_expectations::{ERRORS, NAMES, OUTCOMES, UNREAD, WARNINGS};
 use crate::tests::wrong_levels::{LEVELS, OUTCOMES_AT_LEVELS, UNREAD_LEVELS};
@@ -55,7 +55,7 @@ none
 1
 "#;
 
-/// What comes of a row of this text.
+/// The result of a row of this text.
 fn report_of(alloc: Global, text: &str) -> Result<Report, Fail> {
     Ok(Steps(text, &[]).report(alloc, &x1(alloc)?, &x2(alloc)?)?)
 }
@@ -181,7 +181,7 @@ fn other_outcomes_are_not_taken_for_it(rt: HostRuntime) -> Result<(), Fail> {
     Ok(())
 }
 
-/// A step that comes to what it expects, and one that does not, in both orders.
+/// A step whose answer is the expected one, and one whose answer is not, in both orders.
 const ONE_OF_TWO: [(&str, &str); 2] = [
     (
         "S1 Strict check: true\nSuccess\n? S1 Strict check: false\nSuccess",

@@ -146,7 +146,7 @@ fn texts(alloc: Global, all: &[&str]) -> Result<Vec<String>, AllocError> {
     Ok(copies)
 }
 
-/// The status that a run answered, and what is on its two writers.
+/// The status that a run answered, and the texts of its two writers.
 #[derive(Drop)]
 struct Answer {
     status: u8,
@@ -154,7 +154,7 @@ struct Answer {
     err: Vec<u8>,
 }
 
-/// What the rows that are built answer to these words.
+/// The output of the rows that are built for these words.
 fn answer_to(alloc: Global, words: &[&str]) -> Result<Answer, Fail> {
     let words = texts(alloc, words)?;
     let (x1, x2) = (x1(alloc)?, x2(alloc)?);
@@ -177,7 +177,7 @@ fn run_samples<O: Write, E: Write>(
     Ok(run_among(alloc, &SAMPLES, words.as_slice(), &x1, &x2, out, err))
 }
 
-/// What the samples answer to these words.
+/// The output of the samples for these words.
 fn sample_answer(alloc: Global, words: &[&str]) -> Result<Answer, AllocError> {
     let mut out = Vec::new(alloc);
     let mut err = Vec::new(alloc);

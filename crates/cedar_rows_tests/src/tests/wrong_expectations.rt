@@ -1,6 +1,6 @@
-// Changes of right steps, each of which makes wrong what a step expects. But for `OUTCOMES` and `UNREAD`, outcomes are right.
+// Changes of right steps, each of which makes an expectation wrong. But for `OUTCOMES` and `UNREAD`, outcomes are right.
 
-/// The outcome is another; what is found is right.
+/// The outcome is another; the findings are right.
 pub const OUTCOMES: &str = r#"
 ? S1 Strict check: 1 == "a"
 ~ => Success
@@ -72,7 +72,7 @@ for policy `policy0`, unexpected type: expected `Long` but saw `ipaddr`
 for policy `policy0`, undefined extension function `ip`
 "#;
 
-/// What a pass finds is another.
+/// The finding of a pass is another.
 pub const NAMES: &str = r#"
 ? S1 entity types: (Unk::"a" < 1) && false
 ~ without the last

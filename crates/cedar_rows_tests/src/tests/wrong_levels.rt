@@ -1,6 +1,6 @@
-// Steps on levels and on what chains cost that come to something else than they expect, as changes of right ones.
+// Steps on levels and on the costs of chains whose answers are not the expected ones, as changes of right ones.
 
-/// The outcome is another; what is found is right.
+/// The outcome is another; the findings are right.
 pub const OUTCOMES_AT_LEVELS: &str = r#"
 ? S1 Strict level 0: {foo: principal}.foo is User
 ~ errors=0 => errors=1

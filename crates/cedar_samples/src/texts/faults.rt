@@ -5,7 +5,7 @@ use std::alloc::AllocError;
 use std::io;
 use thiserror::Error;
 
-/// Why a host cannot go on: the first of what was found.
+/// The reason for which a host cannot go on: the first that was found.
 #[derive(Debug, Drop, Error)]
 pub enum HostError {
     #[error(transparent)]

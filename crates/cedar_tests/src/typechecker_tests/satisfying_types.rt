@@ -6,7 +6,7 @@ use cedar_typechecker::rbac::Validator;
 use std::alloc::{AllocError, Global};
 use std::test::Fail;
 
-/// What a scope asks of the resource: its id is `a`, and its types have these names.
+/// The constraint of a scope on the resource: its id is `a`, and its types have these names.
 #[derive(Clone, Copy, Debug)]
 enum Asked {
     Anything,

@@ -9,7 +9,7 @@ use std::alloc::{AllocError, Global};
 use std::rc::RcStr;
 use std::test::Fail;
 
-/// What is known to be there.
+/// A known capability.
 #[derive(Clone, Copy, PartialEq, Eq, PartialOrd, Ord)]
 enum Known<'a> {
     Attribute(&'a str),
@@ -84,7 +84,7 @@ fn tell<T: Entry + Drop>(
     Ok(())
 }
 
-/// Adds what the left set has, then their union, their intersection, and a copy of the left.
+/// Adds the capabilities of the left set, then their union, their intersection, and a copy of the left.
 fn tell_each<T: Entry + Drop>(
     alloc: Global,
     told: &mut Vec<bool>,
@@ -121,7 +121,7 @@ fn is_told<T: Entry + Drop>(
     Ok(told == *wanted)
 }
 
-/// What these have to be.
+/// The sets that these have to be.
 fn expected_answers(alloc: Global, left: u32, right: u32) -> Result<Vec<bool>, AllocError> {
     let mut answers = Vec::new(alloc);
     for picked in &[left, left | right, left & right, left] {
@@ -168,7 +168,7 @@ fn add_sevens<'a>(
     add(all, Seven::of(resource, Known::Tag(principal)))
 }
 
-/// Whether both answer what they have to of the sets of these picks.
+/// Whether both give the right answers about the sets of these picks.
 fn answer_alike<T: Entry + Drop, U: Entry + Drop>(
     alloc: Global,
     all: &Vec<T>,

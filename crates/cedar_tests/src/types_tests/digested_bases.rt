@@ -1,4 +1,4 @@
-// What is asked of the base of an access, and of the access.
+// Questions about the base of an access, and about the access.
 ghost use Rattle.std.specs.Prelude.{◌≡◌};
 ghost use Rattle.cedar_types.specs.Accesses.{got};
 ghost use Rattle.cedar_types.specs.Capability.{expr_in};

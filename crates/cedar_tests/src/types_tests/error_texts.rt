@@ -8,7 +8,7 @@ fn render(alloc: Global, error: &ValidationError) -> Result<String, AllocError> 
     error.to_string(alloc)
 }
 
-/// What is said of tags of an entity type of this name, or of any entity.
+/// The message about tags of an entity type of this name, or of any entity.
 fn no_tags(alloc: Global, name: Option<&str>) -> Result<String, AllocError> {
     let owner = match name {
         Some(name) => Some(entity_type(alloc, name)?),
@@ -32,7 +32,7 @@ fn tags_are_not_allowed(rt: HostRuntime) -> Result<(), Fail> {
     Ok(())
 }
 
-/// What is said where the highest level is needed and none is allowed.
+/// The message if the highest level is needed and none is allowed.
 fn render_level_error(alloc: Global) -> Result<String, AllocError> {
     let allowed = EntityDerefLevel::default();
     let needed = EntityDerefLevel::from(4294967295);

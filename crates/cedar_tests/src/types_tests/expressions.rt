@@ -6,14 +6,14 @@ use std::test::Fail;
 /// The right side of each operator.
 const R: Var = Var::Resource;
 
-/// What is computed of numbers, one operator over another.
+/// Computations on numbers, one operator over another.
 fn of_numbers(alloc: Global, e: Expr) -> Result<Expr, AllocError> {
     let e = Expr::sub(alloc, e, Expr::var(R))?;
     let e = Expr::mul(alloc, e, Expr::var(R))?;
     Expr::lesseq(alloc, e, Expr::var(R))
 }
 
-/// What is asked of sets, one operator over another.
+/// Questions about sets, one operator over another.
 fn of_sets(alloc: Global, e: Expr) -> Result<Expr, AllocError> {
     let e = Expr::contains_all(alloc, e, Expr::var(R))?;
     let e = Expr::contains_any(alloc, e, Expr::var(R))?;

@@ -7,7 +7,7 @@ use std::alloc::{AllocError, Global};
 use std::collections::BTreeSet;
 use std::test::Fail;
 
-/// What a function returns.
+/// The type that a function returns.
 #[derive(Clone, Copy)]
 enum Returns {
     Bool,
@@ -28,7 +28,7 @@ enum Takes {
     ManyOfNoType,
 }
 
-/// A function: its name, what it takes, and what it returns.
+/// A function: its name, the types that it takes, and the type that it returns.
 struct Described(&'static str, Takes, Returns);
 
 /// Functions that no table refuses, in no order.

@@ -1,4 +1,4 @@
-// What each error and each warning says of texts, odd ones too.
+// The messages of each error and each warning about texts, odd ones too.
 use crate::types_tests::findings::{KINDS, PLAIN, application_warning, impossible};
 use crate::types_tests::kinds::{Fields, Kind, error};
 use cedar_types::base::{Message, ValidationWarning};
@@ -6,7 +6,7 @@ use std::alloc::{AllocError, Global};
 use std::test::Fail;
 
 /// A line break, a quote, a backquote, the characters ESC and NUL, one that turns the direction of a text, a backslash; and
-/// what would be a line of its own.
+/// a text that would be a line of its own.
 const ODD: [&str; 8] = [
     "x\ny",
     "x\"y",
@@ -18,7 +18,7 @@ const ODD: [&str; 8] = [
     "x` is well\nfor policy `z`, y",
 ];
 
-/// What is said of fields: each text as it is, save that in an id a quote and a backslash stand behind a backslash.
+/// The message about fields: each text as it is, save that in an id a quote and a backslash stand behind a backslash.
 fn expected_message(alloc: Global, text: &str, fields: Fields<'_>) -> Result<String, AllocError> {
     let id = fields.second.replace(alloc, '\\', "\\\\")?;
     let id = id.replace(alloc, '"', "\\\"")?;
@@ -67,11 +67,11 @@ fn errors_say_any_text_as_it_is(rt: HostRuntime) -> Result<(), Fail> {
     Ok(())
 }
 
-/// What is said where no action applies.
+/// The message if no action applies.
 const NOT_APPLICABLE: &str =
     "unable to find an applicable action given the policy scope constraints";
 
-/// What is said where a policy never applies.
+/// The message if a policy never applies.
 const IMPOSSIBLE: &str = "policy is impossible: it evaluates to false for every valid request";
 
 /// Whether this is said of the policy of this id, and without it.
@@ -86,7 +86,7 @@ fn is_text_of(
     Ok(shown == format!(in alloc; "for policy `{odd}`, {text}")? && is_message)
 }
 
-/// Whether both warnings of a policy of this id say what they should.
+/// Whether both warnings of a policy of this id have the right messages.
 fn both_warn(alloc: Global, odd: &str) -> Result<bool, AllocError> {
     let fields = Fields {
         policy: odd,

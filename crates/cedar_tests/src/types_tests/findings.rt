@@ -28,7 +28,7 @@ const FIELDS: [Field; 6] = [
     Field::Flag,
 ];
 
-/// The fields that each kind has beside its place and its policy, and what it says: `FIRST` and `SECOND` stand for the
+/// The fields that each kind has beside its place and its policy, and its message: `FIRST` and `SECOND` stand for the
 /// fields, and `ID` for the second as an id is shown.
 pub const KINDS: [(Kind, &[Field], &str); 17] = [
     (
@@ -241,8 +241,8 @@ pub fn impossible(alloc: Global, fields: Fields<'_>) -> Result<ValidationWarning
     Ok(ValidationWarning::impossible_policy(place(fields.place), id))
 }
 
-/// Whether what is said of an action is told from the same with another value of this field, and
-/// from what is said of a policy.
+/// Whether the message about an action differs from that with another value of this field, and from
+/// the message about a policy.
 fn is_told_of_actions(alloc: Global, field: Field) -> Result<bool, AllocError> {
     let plain = application_warning(alloc, PLAIN)?;
     let are_one = !counts(field, &[Field::Number, Field::Flag]);
@@ -255,7 +255,7 @@ fn is_told_of_actions(alloc: Global, field: Field) -> Result<bool, AllocError> {
     Ok(is_said(alloc, impossible(alloc, change(field))?, &plain, false)? && is_so)
 }
 
-/// Whether what is said of a policy is told from the same with another value of this field.
+/// Whether the message about a policy differs from that with another value of this field.
 fn is_told_of_policies(alloc: Global, field: Field) -> Result<bool, AllocError> {
     let plain = impossible(alloc, PLAIN)?;
     let are_one = !counts(field, &[]);

@@ -7,7 +7,7 @@ use cedar_types::base::{
 use std::alloc::{AllocError, Global};
 use std::collections::BTreeSet;
 
-/// What an error is made of. Each kind takes some of it.
+/// The parts of which an error is made. Each kind takes some of them.
 #[derive(Clone, Copy)]
 pub struct Fields<'a> {
     pub place: usize,

@@ -1,5 +1,5 @@
-// What a template names, each occurrence with its places. What comes is the rest's, the resource's, the action's and the
-// principal's, in each from the last to the first.
+// The names in a template, each occurrence with its places. The names of the rest come first, then the resource's, the
+// action's and the principal's, in each from the last to the first.
 use crate::parts::{add, boxed, place, policy};
 use cedar_types::base::{
     ActionConstraint, EntityType, EntityUID, Expr, Loc, Mention, Mentions, Name, PolicyID,
@@ -78,7 +78,7 @@ fn whole(alloc: Global) -> Result<Box<Template>, AllocError> {
     )
 }
 
-/// What is named there, as it comes.
+/// The names there, in the order in which they come.
 const NAMED: [(&str, usize, usize); 5] = [
     ("Robot", 9, 0),
     ("Photo", 7, 0),

@@ -41,7 +41,7 @@ fn request(alloc: Global, asked: &UnlinkedRequestEnv) -> Result<Option<RequestTy
     asked.as_request_env().to_request_type(alloc)
 }
 
-/// Whether there is a request, for what is asked.
+/// Whether there is a request, for this question.
 fn is_for(request: &Option<RequestType>, asked: &UnlinkedRequestEnv) -> bool {
     match request {
         Some(request) => {

@@ -1,4 +1,4 @@
-// What a set of capabilities shows of each.
+// The texts that a set of capabilities shows for each.
 use crate::parts::{boxed, text};
 use cedar_types::base::{AttrChain, Expr, Literal, Var};
 use cedar_types::types::capability::{Accesses, Capability, CapabilitySet, ChainStep, Known};

@@ -1,4 +1,4 @@
-// What an expression's parts are, one after another, and which slots occur in it.
+// The parts of an expression, one after another, and the slots that occur in it.
 use cedar_fixtures::negations::{negate, take_apart};
 use cedar_types::base::{Expr, ExprIterator, ExprKind, SlotId, Var};
 use std::alloc::{AllocError, Global};

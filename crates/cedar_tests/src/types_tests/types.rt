@@ -1,4 +1,4 @@
-// Types: their texts and their order, and what is asked of two.
+// Types: their texts and their order, and questions about two.
 use crate::parts::{add, alone, assert_text, entity, lub, types};
 use cedar_types::base::type_laws::{compare_types, equal_types, types_are_well_formed};
 use cedar_types::base::{

@@ -1,10 +1,10 @@
-// The three answers, and what is asked of each alone.
+// The three answers, and questions about each alone.
 use crate::typing_tests::parts::{is_failure, knowing, long, number};
 use cedar_types::base::CedarType;
 use cedar_typing::typecheck::answer::TypecheckAnswer;
 use std::test::Fail;
 
-/// Whether the answer is a success, and whether what it has is typed as a long.
+/// Whether the answer is a success, and whether its item is typed as a long.
 fn describe(answer: &TypecheckAnswer<'_>) -> (bool, bool) {
     (answer.typechecked(), answer.contains_type(&CedarType::Long))
 }

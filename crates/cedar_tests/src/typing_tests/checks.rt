@@ -75,7 +75,7 @@ pub fn check(alloc: Global, condition: Expr) -> Result<PolicyCheck, Fail> {
     check_policy(alloc, &policy)
 }
 
-/// What a check comes to, and the texts of its errors in ascending order.
+/// The outcome of a check, and the texts of its errors in ascending order.
 pub fn outcome(alloc: Global, check: &PolicyCheck) -> Result<String, AllocError> {
     match check {
         PolicyCheck::Success(_) => String::from_str(alloc, "success"),

@@ -1,4 +1,4 @@
-// What follows up on one answer.
+// Follow-ups on one answer.
 use crate::typing_tests::parts::{is_limit, is_long, knowing, knows, long, number};
 use cedar_types::base::CedarType;
 use cedar_typing::typecheck::answer::TypecheckAnswer;
@@ -57,7 +57,7 @@ fn only_a_success_has_a_set_to_replace(rt: HostRuntime) -> Result<(), Fail> {
     Ok(())
 }
 
-/// Follows up with a string on a `7`, and with a limit on all else, where this is what is known of `x`.
+/// Follows up with a string on a `7`, and with a limit on all else, if this is known of `x`.
 fn follow_up<'a>(
     alloc: Global,
     answer: TypecheckAnswer<'a>,

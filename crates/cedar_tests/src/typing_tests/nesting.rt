@@ -5,10 +5,10 @@ use cedar_types::base::{AttrChain, Expr, ValidationMode, Var};
 use std::alloc::{AllocError, Global};
 use std::test::Fail;
 
-/// Conditions, in each of which a word in capitals stands for what is nested as deep as is asked, in each place that is
-/// visited. Behind a condition stands the depth of that: the condition itself stands at 2, below the conjunction with what
-/// the scope asks. Then comes what the check answers in each mode where the innermost part stands at depth 400, and then
-/// at 401.
+/// Conditions, in each of which a word in capitals stands for a part that is nested as deep as the test asks, in each place
+/// that is visited. Behind a condition stands the depth of that part: the condition itself stands at 2, below the conjunction
+/// with the scope's constraints. Then come the answers of the check in each mode, first with the innermost part at depth 400,
+/// and then at 401.
 const OPERATORS: &str = r#"
 BOOL && true | 3 | success | failure
 true && BOOL | 3 | success | failure
@@ -127,7 +127,7 @@ const PARTS: [(&str, &str); 6] = [
     ("IP", "ip"),
 ];
 
-/// What words stand for in an answer.
+/// The texts for which words stand in an answer.
 const ERRORS: [(&str, &str); 7] = [
     ("NOPE", "attribute `nope` does not exist on `User`"),
     ("NO_FUNCTION", "undefined extension function `nope`"),
@@ -197,7 +197,7 @@ fn mode_that_differs(
     Ok(None)
 }
 
-/// Whether a line's condition comes to what the line says, where its innermost part stands at depth 400, and at 401.
+/// Whether a line's condition has the answers of the line, if its innermost part stands at depth 400, and at 401.
 fn agrees(alloc: Global, line: &str) -> Result<bool, Fail> {
     let (form, rest) = line.split_once(" | ").ok_or("a depth")?;
     let (depth, answers) = rest.split_once(" | ").ok_or("an answer")?;
@@ -223,7 +223,7 @@ fn line_that_differs<'a>(alloc: Global, table: &'a str) -> Result<Option<&'a str
     Ok(None)
 }
 
-/// What each table shows.
+/// The subject of each table.
 const TABLES: [(&str, &str); 5] = [
     ("an operand may stand at 400 and no deeper", OPERATORS),
     ("an entity may stand at 400 and no deeper", ENTITIES),

@@ -1,4 +1,4 @@
-// What follows up on a list of answers, which are made as they are taken.
+// Follow-ups on a list of answers, which are made as they are taken.
 ghost use Rattle.std.specs.Iterator.{at_most};
 
 use crate::typing_tests::parts::{is_limit, is_long, knowing, knows, long, number};
@@ -9,7 +9,7 @@ use std::alloc::{AllocError, Global};
 use std::cell::Cell;
 use std::test::Fail;
 
-/// What stands in a list.
+/// An item of a list.
 #[derive(Clone, Copy)]
 enum Item {
     /// A success that knows that the principal has `x`.
@@ -68,7 +68,7 @@ fn answer<'a>(alloc: Global, item: Item, value: i64) -> Result<TypecheckAnswer<'
     }
 }
 
-/// Adds what is handed on: each by its number and, where it knows `x`, an x.
+/// Adds the items that are handed on: each by its number and, if it knows `x`, an x.
 fn add_handed(
     alloc: Global,
     shown: &mut String,
@@ -82,7 +82,7 @@ fn add_handed(
     Ok(())
 }
 
-/// Which answers these items hand on, how many items are asked for, and what the answer is.
+/// The answers that these items hand on, the number of items that are asked for, and the whole answer.
 fn run_sequence(alloc: Global, items: &[Item]) -> Result<String, AllocError> {
     let asked = Cell::new(0);
     let answers = take_from(alloc, items, &asked);
