@@ -1,4 +1,4 @@
--- Calls that make extension values of texts which say none.
+-- Calls that make extension values, on texts that stand for no value.
 use Rattle.std.specs.Prelude.{List, [], ◌∷◌, Option, Some, None, option_map, option_and_then}
 use Rattle.std.specs.List.{filter_map}
 use Rattle.cedar_types.specs.Errors.{Finding, function_argument_validation}
@@ -19,8 +19,7 @@ constructor_in (t ∷ ts) s = None
 abbrev pub constructor_at : Path → Option Constructor
 constructor_at p = constructor_in p.path p.basename
 
--- the finding that a part of a policy is: a call of a constructor on one text that stands there and that the constructor does
--- not read, at the place of the call
+-- the finding at a node that calls a constructor on one string literal that it does not read; its place is that of the call
 abbrev pub unread_call : Text → Tree Written → Option Finding
 unread_call policy (call d name arguments) =
     option_map
@@ -28,11 +27,11 @@ unread_call policy (call d name arguments) =
     (option_and_then (λ c. refusal_of_unread c (listed arguments)) (constructor_at name))
 unread_call policy e = None
 
--- those of a condition
+-- the findings of a condition
 abbrev pub unread_calls : Text → Option (Tree Written) → List Finding
 unread_calls policy None = []
 unread_calls policy (Some e) = filter_map (unread_call policy) (subexpressions e)
 
--- those of a policy: of each part of its conditions, at whatever depth
+-- the findings of a policy: those of each part of its condition, at any depth
 abbrev pub unread_in : PlainTemplate → List Finding
 unread_in t = unread_calls t.id t.rest

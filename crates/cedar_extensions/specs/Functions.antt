@@ -1,4 +1,4 @@
--- Cedar's extension functions: the types that each takes, and the type that it gives.
+-- Cedar's extension functions: the types of their arguments, and the type of their value.
 use Rattle.std.specs.Prelude.{Bool, false, List, [], ◌∷◌, ◌++◌, Option, Some, None, codes, map}
 use Rattle.std.specs.List.{list_any, find}
 use Rattle.std.specs.Option.{is_some}
@@ -18,7 +18,7 @@ pub mod Methods
 abbrev pub plain_name : Text → Path
 plain_name s = record { path = []; basename = s }
 
--- a type's name in a schema
+-- the name of a type in a schema
 abbrev pub type_name : ValueType → Text
 type_name type.Bool = codes "Bool"
 type_name type.Long = codes "Long"
@@ -28,7 +28,7 @@ type_name type.Decimal = codes "decimal"
 type_name type.Datetime = codes "datetime"
 type_name type.Duration = codes "duration"
 
--- the type itself
+-- the type of a kind of values
 abbrev pub type_of : ValueType → Ty
 type_of type.Bool = TBool AnyBool
 type_of type.Long = TLong
@@ -60,7 +60,7 @@ made_by Constructor.Decimal = type.Decimal
 made_by Constructor.Datetime = type.Datetime
 made_by Constructor.Duration = type.Duration
 
--- the constructors: each makes an extension value of a text. A policy calls it as a function, `ip("1.2.3.4")`
+-- the constructors: each makes an extension value of a text. A policy calls one as a function, for example `ip("1.2.3.4")`
 abbrev pub constructors : List Constructor
 constructors =
     Constructor.Ip ∷ Constructor.Decimal ∷ Constructor.Datetime ∷ Constructor.Duration ∷ []
@@ -68,7 +68,7 @@ constructors =
 abbrev pub constructor_signature : Constructor → Signature
 constructor_signature c = signature (name_of c) (type.String ∷ []) (made_by c)
 
--- the other functions. A policy calls each as a method of its first argument, `a.isInRange(b)`
+-- the other functions. A policy calls one as a method of its first argument, for example `a.isInRange(b)`
 abbrev pub methods : List Signature
 methods =
     signature (codes "isIpv4") (type.Ipaddr ∷ []) type.Bool

@@ -1,4 +1,4 @@
-//! The checks of the arguments of functions that make extension values of a text.
+//! Constructors, which make extension values of texts, and the checks of their arguments.
 ghost use Rattle.std.specs.Prelude.{◌≡◌, IfOk, option_map, map};
 ghost use Rattle.cedar_types.specs.Expressions.View.{written};
 ghost use Rattle.cedar_types.specs.Names.{text_of, path_of, path_eq};
@@ -20,7 +20,7 @@ pub enum Constructor {
     Duration,
 }
 
-/// All of them.
+/// All constructors of extension values.
 pub const CONSTRUCTORS: [Constructor; 4] = [
     Constructor::Ip,
     Constructor::Decimal,
@@ -29,14 +29,14 @@ pub const CONSTRUCTORS: [Constructor; 4] = [
 ];
 
 impl Constructor {
-    /// The function of this name, if it is one of them.
+    /// The constructor of this name, if there is one.
     pub fn from_name(name: &str) -> Option<Constructor>
         ensures { result ≡ constructor_named name.now }
     {
         CONSTRUCTORS.iter().copied().find(|it| it.name() == name)
     }
 
-    /// The function that makes the values of this extension type, if it is the type of one of them.
+    /// The constructor of the values of this extension type, if it has one.
     pub fn of_type(wanted: &Name) -> Option<Constructor>
         ensures { result ≡ constructor_of (path_of wanted.now) }
     {
@@ -46,7 +46,7 @@ impl Constructor {
             .find(|it| it.makes_type(wanted))
     }
 
-    /// The type of the values that it makes.
+    /// The type of the values that the constructor makes.
     pub fn makes(self) -> ValueType
         ensures { result ≡ made_by self }
     {
@@ -58,14 +58,14 @@ impl Constructor {
         }
     }
 
-    /// Whether the values that it makes have the extension type of this name.
+    /// Whether the values that the constructor makes have the extension type of this name.
     fn makes_type(self, wanted: &Name) -> bool
         ensures { result ≡ path_eq (plain_name (type_name (made_by self))) (path_of wanted.now) }
     {
         wanted.path.is_empty() && self.makes().name() == wanted.basename.as_str()
     }
 
-    /// How it is called in a policy.
+    /// The name by which a policy calls the constructor.
     pub fn name(self) -> &'static str
         ensures { result.now ≡ name_of self }
     {
@@ -77,7 +77,7 @@ impl Constructor {
         }
     }
 
-    /// Whether it makes a value of this text.
+    /// Whether the constructor makes a value of this text.
     pub fn reads(self, text: &str) -> bool
         ensures { result ≡ reads self text.now }
     {
@@ -90,7 +90,8 @@ impl Constructor {
         }
     }
 
-    /// Why it makes no value of a text that it does not read. Where memory is refused, the answer is an `AllocError`.
+    /// The reason why the constructor makes no value of a text that it does not read. If memory is refused, the answer is an
+    /// `AllocError`.
     pub fn why_unread(self, alloc: Global, text: &str) -> Result<RcStr, AllocError>
         ensures { IfOk result (λ why. text_of why ≡ why_unread self text.now) }
     {
@@ -100,7 +101,7 @@ impl Constructor {
         cannot_read(alloc, self.name(), text)
     }
 
-    /// The check of its argument.
+    /// The check of the constructor's argument.
     pub fn check(self, alloc: Global) -> RefusesUnreadText
         ensures { result.constructor ≡ self }
     {
@@ -111,7 +112,8 @@ impl Constructor {
     }
 }
 
-/// Refuses a call on one text that stands in the policy, of which the function makes no value.
+/// Refuses a call on a single string literal of which the constructor makes no value. It accepts all other arguments, because
+/// typing checks their number and types.
 #[derive(Drop)]
 pub struct RefusesUnreadText {
     pub alloc: Global,
@@ -135,7 +137,7 @@ impl ArgumentCheck for RefusesUnreadText {
     }
 }
 
-/// That the function of this name cannot read a text.
+/// The message that the function of this name cannot read a text.
 fn cannot_read(alloc: Global, name: &str, text: &str) -> Result<RcStr, AllocError>
     ensures { IfOk result (λ why. text_of why ≡ cannot_read name.now text.now) }
 {
@@ -147,7 +149,7 @@ fn cannot_read(alloc: Global, name: &str, text: &str) -> Result<RcStr, AllocErro
     RcStr::from_string(why)
 }
 
-/// The text of the only argument, where that is a string literal.
+/// The text of the only argument, if it is a string literal.
 pub(crate) fn only_text(args: &[Expr]) -> Option<&str>
     ensures { option_map (λ t. t.now) result ≡ only_text (map written args.now) }
 {

@@ -15,14 +15,15 @@ use cedar_types::base::{ArgumentCheck, CedarType, ExtensionFunctionType, Name};
 use std::alloc::{AllocError, Global};
 use std::collections::BTreeSet;
 
-/// Whether a function makes an extension value of a text. In a policy it is called as a function.
+/// Whether a function is a constructor, which makes an extension value of a text. A policy calls it as a function, for example
+/// `ip("1.2.3.4")`.
 pub fn is_constructor(name: &str) -> bool
     ensures { result ≡ is_some (constructor_named name.now) }
 {
     Constructor::from_name(name).is_some()
 }
 
-/// Whether a function is another one of the extensions. In a policy it is called as a method.
+/// Whether a function is a method of an extension value. A policy calls it on its first argument, for example `a.isInRange(b)`.
 pub fn is_method(name: &str) -> bool
     ensures { result ≡ is_method_named name.now }
 {
@@ -36,7 +37,7 @@ fn has_name(methods: &[Method], name: &str) -> bool
     methods.iter().any(|method| method.name == name)
 }
 
-/// A check for each function that makes an extension value of a text.
+/// A check for each constructor of extension values.
 #[derive(Drop)]
 pub struct Checks {
     pub ip: Box<dyn ArgumentCheck>,
@@ -45,7 +46,7 @@ pub struct Checks {
     pub duration: Box<dyn ArgumentCheck>,
 }
 
-/// All functions, with these checks. Where memory is refused, the answer is an `AllocError`.
+/// All extension functions of Cedar, with these checks. If memory is refused, the answer is an `AllocError`.
 pub fn functions(alloc: Global, checks: Checks) -> Result<Vec<ExtensionFunctionType>, AllocError>
     ensures { IfOk result (λ v. (meaning : _) → map (function_of meaning) v.items
         ≡ all_functions (by_constructor (meaning checks.ip) (meaning checks.decimal)
@@ -85,7 +86,7 @@ fn constructor_function(
     )
 }
 
-/// Adds these methods.
+/// Adds the functions of these methods.
 fn add_methods(
     alloc: Global,
     functions: &mut Vec<ExtensionFunctionType>,
@@ -129,7 +130,7 @@ fn function(
     })
 }
 
-/// The types by which typing knows these.
+/// The types by which typing knows these kinds of values.
 fn types_of(alloc: Global, types: &[ValueType]) -> Result<Vec<CedarType>, AllocError>
     ensures { IfOk result (λ v. map ty_of v.items ≡ map type_of types.now) }
 {
@@ -140,7 +141,7 @@ fn types_of(alloc: Global, types: &[ValueType]) -> Result<Vec<CedarType>, AllocE
     Ok(all)
 }
 
-/// The extension types that `<` and `<=` compare. Where memory is refused, the answer is an `AllocError`.
+/// The extension types that `<` and `<=` compare. If memory is refused, the answer is an `AllocError`.
 pub fn overloaded_types(alloc: Global) -> Result<BTreeSet<Name>, AllocError>
     ensures { IfOk result (λ s. map path_of s.keys ≡ ordered_types) }
 {

@@ -1,4 +1,4 @@
-//! The extension functions of Cedar, and which texts they read.
+//! The extension functions of Cedar, and the texts that they read.
 #![tactic(auto)]
 
 pub mod checks;

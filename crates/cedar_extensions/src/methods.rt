@@ -1,18 +1,18 @@
 //! The extension functions that a policy calls as methods.
 use crate::types::ValueType;
 
-/// A function that a policy calls as a method of its first argument: `a.isInRange(b)`.
+/// A function that a policy calls as a method of its first argument, for example `a.isInRange(b)`.
 #[derive(Clone, Copy, Debug)]
 pub struct Method {
-    /// How a policy calls it.
+    /// The name by which a policy calls the method.
     pub name: &'static str,
-    /// The types of its arguments, beginning with the one before the dot.
+    /// The types of its arguments; the first is that of the value before the dot.
     pub takes: &'static [ValueType],
     /// The type of its value.
     pub gives: ValueType,
 }
 
-/// All of them.
+/// All methods of extension values.
 pub const METHODS: [Method; 18] = [
     Method {
         name: "isIpv4",

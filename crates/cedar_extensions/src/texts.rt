@@ -1,5 +1,5 @@
-//! Which texts say extension values: addresses, decimal numbers, points in time and durations. They are told
-//! byte by byte: each text is ASCII alone.
+//! Texts that stand for extension values: addresses, decimal numbers, points in time and durations. They are read byte by byte,
+//! because each of them is ASCII alone.
 mod addresses;
 mod numbers;
 mod readers;

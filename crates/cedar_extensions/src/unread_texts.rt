@@ -1,4 +1,4 @@
-//! Calls that make extension values of texts which say none, also where typing never looks.
+//! Calls that make extension values, on texts that stand for no value. They are found even in parts that typing never looks at.
 ghost use Rattle.std.specs.Prelude.{◌≡◌, IfOk, map, option_map};
 ghost use Rattle.cedar_types.specs.Errors.{finding_of};
 ghost use Rattle.cedar_types.specs.Expressions.View.{written};
@@ -10,8 +10,8 @@ use crate::checks::{Constructor, only_text};
 use cedar_types::base::{Expr, ExprKind, Name, PolicyID, Template, ValidationError};
 use std::alloc::{AllocError, Global};
 
-/// An error for each call in the condition whose text says no value, wherever it stands, in the order of `subexpressions`. Where
-/// memory is refused, the answer is an `AllocError`.
+/// An error for each call in the condition whose text stands for no value, wherever the call is, in the order of
+/// `subexpressions`. If memory is refused, the answer is an `AllocError`.
 pub fn unread_texts(alloc: Global, policy: &Template) -> Result<Vec<ValidationError>, AllocError>
     ensures { IfOk result (λ v. map finding_of v.items ≡ unread_in (template_of policy.now)) }
 {
@@ -27,7 +27,7 @@ pub fn unread_texts(alloc: Global, policy: &Template) -> Result<Vec<ValidationEr
     Ok(errors)
 }
 
-/// The error of a part, if it is a call of a constructor on a text that says no value.
+/// The error of a part, if it is a call of a constructor on a text that stands for no value.
 fn find_unread(
     alloc: Global,
     policy: &PolicyID,

@@ -1,4 +1,4 @@
--- No table of these functions is refused.
+-- The tables of these functions have no fault.
 use Rattle.std.proofs.Common.{◌≡◌, refl, ap, ◌∙◌, List, [], ◌∷◌, Some, None, map}
 use Rattle.cedar_types.specs.declared.base.expressions.extensions.ExtensionTableError.{ExtensionTableError}
 use Rattle.cedar_types.specs.Extensions.Functions.{ExtensionFunction, Refusals, table_fault}
@@ -14,7 +14,7 @@ pub none_refused : {fs gs : List ExtensionFunction} {e : ExtensionTableError} �
     → table_fault fs ≡ Some e → ⊥
 none_refused faultless same refused = cc
 
--- what two values, or three, are listed as
+-- the list of two values, and of three
 pub two_listed : {A B : Type 0} (h : A → B) {x y : A} {xs : List A} {a b : B} → xs ≡ x ∷ y ∷ [] → h x ≡ a → h y ≡ b → map h xs ≡ a ∷ b ∷ []
 two_listed h items first second = ap (map h) items ∙ cc
 

@@ -9,7 +9,7 @@ abbrev pub is_empty_text : Tree Written → Bool
 is_empty_text (lit w (string [])) = true
 is_empty_text e = false
 
--- it is the first argument
+-- the first argument is the empty string literal
 abbrev pub begins_with_empty_text : List (Tree Written) → Bool
 begins_with_empty_text [] = false
 begins_with_empty_text (e ∷ es) = is_empty_text e

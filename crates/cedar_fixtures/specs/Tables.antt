@@ -1,4 +1,4 @@
--- The functions of the tables that the rows and the cases are typed by.
+-- The functions of the tables by which rows and cases are typed.
 use Rattle.std.specs.Prelude.{true, false, [], ◌∷◌, Some, None, codes}
 use Rattle.cedar_types.specs.declared.base.types.BoolType.TheVariants.{AnyBool}
 use Rattle.cedar_types.specs.Extensions.Functions.{ExtensionFunction, Refusals}
@@ -13,7 +13,7 @@ named n = record { path = []; basename = n }
 abbrev pub address : Ty
 address = TExtension (named (codes "ipaddr"))
 
--- from a String to an address, with this check
+-- the function from a String to an address, with this check
 abbrev pub ip : Refusals → ExtensionFunction
 ip check = record {
   name = named (codes "ip");
@@ -23,7 +23,7 @@ ip check = record {
   check = Some check;
 }
 
--- from two addresses to a Bool
+-- the function from two addresses to a Bool
 abbrev pub is_in_range : ExtensionFunction
 is_in_range = record {
   name = named (codes "isInRange");
@@ -33,7 +33,7 @@ is_in_range = record {
   check = None;
 }
 
--- of one Long or more
+-- the function of one Long or more
 abbrev pub sum : ExtensionFunction
 sum = record {
   name = named (codes "sum");

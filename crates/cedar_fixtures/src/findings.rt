@@ -1,4 +1,4 @@
-// Errors and warnings as texts, which leave open nothing in which those of rows could differ.
+// Errors and warnings as texts, which show all differences that those of rows may have.
 ghost use Rattle.std.specs.Prelude.{◌≡◌, IfSome, slice_range};
 
 use cedar_types::base::{
@@ -11,8 +11,8 @@ use std::collections::BTreeSet;
 /// The mark before each finding.
 pub const BEFORE_FINDING: &str = "\n! ";
 
-/// Adds an error: its kind, with what its message leaves open, the text that it stands at, and on
-/// the next line its message.
+/// Adds an error: its kind, with the parts that its message leaves open, the text at its place, and
+/// on the next line its message.
 pub fn push_error(
     shown: &mut String,
     text: &str,
@@ -25,7 +25,8 @@ pub fn push_error(
     write!(shown, " @ {place}\n{error}")
 }
 
-/// Adds a warning, in the same way. Its flags are the outcome.
+/// Adds a warning: its kind, the text at its place, and on the next line its message. The flags are
+/// left out, because the outcome has them.
 pub fn push_warning(
     shown: &mut String,
     text: &str,
@@ -61,7 +62,7 @@ pub fn push_environment(shown: &mut String, env: &RequestEnv<'_>) -> Result<(), 
     }
 }
 
-/// Adds the type that a slot is linked to.
+/// Adds the type to which a slot is linked.
 fn push_slot(shown: &mut String, slot: &Option<EntityType>) -> Result<(), AllocError> {
     match slot {
         None => shown.push_str("none"),
@@ -109,8 +110,8 @@ fn kind_of_error(error: &ValidationError) -> &'static str {
     }
 }
 
-/// Adds what the message of an error leaves open: of which kind its types are, and where a bound
-/// was wanted.
+/// Adds the parts that the message of an error leaves open: the kinds of its types, and the place
+/// where they must have a bound.
 fn push_fields(shown: &mut String, error: &ValidationError) -> Result<(), AllocError> {
     match error {
         ValidationError::UnexpectedType(e) => {

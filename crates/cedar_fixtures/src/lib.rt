@@ -1,5 +1,5 @@
-//! What the rows are about, as texts: what they ask, by which schema, and how errors are shown; how tests show policies;
-//! the extension functions by which rows and cases are typed, and functions of which there is no table.
+//! Texts of the worked rows: questions, schemas and errors. Also parts of policies as tests show them, the extension functions
+//! by which rows and cases are typed, and functions of which there is no table.
 #![tactic(auto)]
 
 pub mod addresses;

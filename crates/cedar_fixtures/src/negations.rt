@@ -1,8 +1,8 @@
-// Negations that are nested deep.
+// Deeply nested negations.
 use cedar_types::base::{Expr, ExprKind, Literal};
 use std::alloc::{AllocError, Global};
 
-/// `true` under this many negations, made from the inside out.
+/// The literal `true` under this many negations, made from the inside out.
 pub fn negate(alloc: Global, count: usize) -> Result<Expr, AllocError> {
     let mut whole = Expr::val(Literal::from(true));
     for _ in 0..count {
@@ -11,7 +11,7 @@ pub fn negate(alloc: Global, count: usize) -> Result<Expr, AllocError> {
     Ok(whole)
 }
 
-/// Takes negations apart from the outside in: to drop them at once would recurse as deep as they are nested.
+/// Takes negations apart from the outside in, because to drop them at once would recurse as deep as they are nested.
 pub fn take_apart(negations: Expr, count: usize) {
     let mut whole = negations;
     for _ in 0..count {

@@ -1,8 +1,8 @@
-// The question of a step, as its first line has it.
+// Questions of steps, as their first lines have them.
 use crate::schemas::schema_by_name;
 use cedar_types::base::ValidationMode;
 
-/// The first line of a step: `S1 Strict check: principal.bool`.
+/// The question of a step, as its first line has it: `S1 Strict check: principal.bool`.
 #[derive(Clone, Copy)]
 pub struct Question<'a> {
     /// The text of the schema.
@@ -15,14 +15,14 @@ pub struct Question<'a> {
     pub text: &'a str,
 }
 
-/// The table of extension functions that a policy is typed by.
+/// The table of extension functions by which a policy is typed.
 #[derive(Clone, Copy)]
 pub enum Table {
     X1,
     X2,
 }
 
-/// The question.
+/// The subject of a question.
 #[derive(Clone, Copy)]
 pub enum Subject {
     /// The check in the first environment of the schema.
@@ -39,26 +39,27 @@ pub enum Subject {
     ChainCost,
     /// The entity types that the schema does not know.
     EntityTypes,
-    /// The actions that it does not declare.
+    /// The actions that the schema does not declare.
     ActionIds,
-    /// The ids that their enumerated type does not have.
+    /// The ids that are no members of their enumerated type.
     EnumeratedIds,
     /// The entity types to which slots are bound, in a policy of the id `0`.
     SlotTypes,
     /// Whether an action applies to a principal and a resource that the scope admits.
     Application,
-    /// The same with the slots bound.
+    /// Whether an action applies to a principal and a resource that the scope admits, with the
+    /// slots bound.
     LinkedApplication,
     /// The principal types that the scope admits.
     PrincipalTypes,
-    /// Why there is no table of these functions.
+    /// The reason why these functions have no table.
     Refusal,
-    /// Why there is no schema of these declarations, which are as given.
+    /// The reason why these declarations, which are as given, have no schema.
     SchemaRefusal,
 }
 
 impl<'a> Question<'a> {
-    /// Reads it. `None` where it is none.
+    /// Reads a question; `None` if the line is none.
     pub fn read(line: &'a str) -> Option<Question<'a>> {
         let (head, text) = line.split_once(": ")?;
         let (schema, subject) = head.split_once(' ')?;

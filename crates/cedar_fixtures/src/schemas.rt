@@ -1,6 +1,6 @@
-// The schemas that the rows stand on.
+// The schemas of the rows.
 
-/// The text of the schema of this name. `None` where there is none.
+/// The text of the schema of this name; `None` if there is none.
 pub fn schema_by_name(name: &str) -> Option<&'static str> {
     match name {
         "S0" => Some(""),
@@ -24,7 +24,7 @@ const PHOTOS: &str = "
     };
 ";
 
-/// The same, but users may have a nickname and a mark.
+/// Users, who may have a nickname and a mark, and their photos, with one action.
 const PHOTOS_WITH_OPTIONS: &str = "
     entity User in User {
         user: User, bool: Bool, other: String, ip: ipaddr, nested: {user: User},

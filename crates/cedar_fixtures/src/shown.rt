@@ -1,8 +1,9 @@
-// How tests show parts of policies.
+// Parts of policies, as tests show them.
 use cedar_types::base::{BinaryOp, EntityReference, PrincipalOrResourceConstraint, Var};
 use std::alloc::AllocError;
 
-/// Adds the constraint of a scope on its principal or resource: nothing, if any is taken.
+/// Adds the constraint of a scope on its principal or resource; it adds nothing if there is no
+/// constraint.
 pub fn push_constraint(
     out: &mut String,
     constraint: &PrincipalOrResourceConstraint,
@@ -30,7 +31,7 @@ fn push_reference(
     }
 }
 
-/// How a variable is written.
+/// The text of a variable in a policy.
 pub fn variable_name(variable: Var) -> &'static str {
     match variable {
         Var::Principal => "principal",
@@ -40,7 +41,7 @@ pub fn variable_name(variable: Var) -> &'static str {
     }
 }
 
-/// How an operator on two operands is written.
+/// The text of an operator on two operands in a policy.
 pub fn binary_name(operator: BinaryOp) -> &'static str {
     match operator {
         BinaryOp::Eq => "==",

@@ -1,4 +1,4 @@
-// The functions of the tables that the rows and the cases are typed by.
+// The functions of the tables by which rows and cases are typed.
 ghost use Rattle.std.specs.Prelude.{◌≡◌, [], ◌∷◌, map, IfOk};
 ghost use Rattle.cedar_types.specs.Types.{ty_of};
 ghost use Rattle.cedar_types.specs.Extensions.Functions.{function_of};
@@ -15,7 +15,7 @@ fn address(alloc: Global) -> Result<CedarType, AllocError>
     CedarType::extension(alloc, Name::unqualified_name(alloc, "ipaddr")?)
 }
 
-/// `ip`, from a String to an address.
+/// The function `ip`, from a String to an address.
 fn ip(alloc: Global, check: Box<dyn ArgumentCheck>) -> Result<ExtensionFunctionType, AllocError>
     ensures { (meaning : _) → IfOk result (λ f. function_of meaning f ≡ ip (meaning check)) }
 {
@@ -28,7 +28,7 @@ fn ip(alloc: Global, check: Box<dyn ArgumentCheck>) -> Result<ExtensionFunctionT
     })
 }
 
-/// `isInRange`, from two addresses to a Bool.
+/// The function `isInRange`, from two addresses to a Bool.
 fn is_in_range(alloc: Global) -> Result<ExtensionFunctionType, AllocError>
     ensures { (meaning : _) → IfOk result (λ f. function_of meaning f ≡ is_in_range) }
 {
@@ -41,7 +41,7 @@ fn is_in_range(alloc: Global) -> Result<ExtensionFunctionType, AllocError>
     })
 }
 
-/// `sum`, of one Long or more.
+/// The function `sum`, of one Long or more.
 fn sum(alloc: Global) -> Result<ExtensionFunctionType, AllocError>
     ensures { (meaning : _) → IfOk result (λ f. function_of meaning f ≡ sum) }
 {
@@ -54,7 +54,7 @@ fn sum(alloc: Global) -> Result<ExtensionFunctionType, AllocError>
     })
 }
 
-/// `ip`, which has this check, and `isInRange`. They have no fault together.
+/// The functions `ip`, with this check, and `isInRange`. A table of them has no fault.
 pub fn address_functions(
     alloc: Global,
     check: Box<dyn ArgumentCheck>,
@@ -65,7 +65,7 @@ pub fn address_functions(
     Ok(vec![in alloc; ip(alloc, check)?, is_in_range(alloc)?]?)
 }
 
-/// The same and `sum`. They have none either.
+/// The functions `ip`, with this check, `isInRange` and `sum`. A table of them has no fault.
 pub fn functions_with_sum(
     alloc: Global,
     check: Box<dyn ArgumentCheck>,
@@ -76,7 +76,7 @@ pub fn functions_with_sum(
     Ok(vec![in alloc; ip(alloc, check)?, is_in_range(alloc)?, sum(alloc)?]?)
 }
 
-/// The extension types that are ordered where addresses are.
+/// The overloaded types of a table that orders addresses alone.
 pub fn addresses_alone(alloc: Global) -> Result<BTreeSet<Name>, AllocError> {
     let mut ordered = BTreeSet::new(alloc);
     ordered.insert(Name::unqualified_name(alloc, "ipaddr")?)?;

@@ -1,4 +1,4 @@
-//! The worked rows of `cedar-check`. They stand apart from the program, since a crate with tests is
+//! The worked rows of `cedar-check`. They are apart from the program, because a crate with tests is
 //! proved twice.
 #![tactic(auto)]
 

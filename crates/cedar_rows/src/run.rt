@@ -32,8 +32,8 @@ pub fn run<O: Write, E: Write>(
     run_among(alloc, &WORKED, words, x1, x2, out, err)
 }
 
-/// The same among these rows, which need not be the worked ones. Its clauses are those of `run`, whose proof then need not
-/// look at the rows.
+/// Runs one of these rows, which need not be the worked ones, or all of them. Its clauses are those of `run`, so that the proof
+/// of `run` need not look at the rows.
 pub fn run_among<R: Row, O: Write, E: Write>(
     alloc: Global,
     rows: &[NamedRow<R>],

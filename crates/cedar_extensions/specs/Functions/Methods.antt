@@ -8,6 +8,6 @@ use Rattle.cedar_extensions.specs.Functions.{Signature, signature, checked}
 abbrev pub signature_of : Method → Signature
 signature_of m = signature m.name.now m.takes.now m.gives
 
--- its function, which has no check
+-- a method's function, which has no check
 abbrev pub unchecked : Method → ExtensionFunction
 unchecked m = checked (signature_of m) None

@@ -14,7 +14,7 @@ read_count greatest s =
     if has_leading_zero s then None
     else read_number s >>= λ n. if nat_le n.0 greatest then Some n.1 else None
 
--- four numbers of 8 bits with dots between them
+-- the rest behind four numbers of 8 bits with dots between them
 unfoldable pub read_ipv4 : List ℕ → Option (List ℕ)
 read_ipv4 s = do
   a ← read_count 255 s
@@ -30,12 +30,12 @@ abbrev pub skip_hex : List ℕ → List ℕ
 skip_hex [] = []
 skip_hex (c ∷ cs) = if is_ascii_hexdigit c then cs else c ∷ cs
 
--- one to four hex digits
+-- the rest behind one to four hex digits
 abbrev pub read_group : List ℕ → Option (List ℕ)
 read_group [] = None
 read_group (c ∷ cs) = if is_ascii_hexdigit c then Some (skip_hex (skip_hex (skip_hex cs))) else None
 
--- a group, which has a colon before it unless it is the first
+-- the rest behind a group, which has a colon before it unless it is the first
 abbrev pub read_next_group : Bool → List ℕ → Option (List ℕ)
 read_next_group true s = read_group s
 read_next_group false s = read_byte 58 s >>= read_group
@@ -49,25 +49,25 @@ read_groups (suc room) is_first s =
       | Some rest ↦ let more = read_groups room false rest in (more.0 + 1, more.1)
     ]
 
--- two colons stand for a group at least
+-- the rest behind two colons, which stand for at least one group, and the groups behind them
 unfoldable pub read_tail : ℕ → List ℕ → Option (List ℕ)
 read_tail head s = do
   one ← read_byte 58 s
   two ← read_byte 58 one
   Some ((read_groups (7 - head) true two).1)
 
--- eight groups, or fewer with two colons among them
+-- the rest behind eight groups, or behind fewer with two colons among them
 unfoldable pub read_ipv6 : List ℕ → Option (List ℕ)
 read_ipv6 s =
     let head = read_groups 8 true s in
     if head.0 == 8 then Some head.1 else read_tail head.0 head.1
 
--- nothing, or how many bits of an address a range keeps
+-- the text ends, or has `/` and the number of bits of an address that a range keeps
 abbrev pub is_range_end : ℕ → List ℕ → Bool
 is_range_end greatest [] = true
 is_range_end greatest (c ∷ cs) = (c == 47) && is_all (read_count greatest cs)
 
--- an address of the kind, perhaps with the bits that a range keeps
+-- the text is an address of the kind, perhaps with the number of bits that a range keeps
 abbrev pub ends_range : ℕ → Option (List ℕ) → Bool
 ends_range greatest None = false
 ends_range greatest (Some rest) = is_range_end greatest rest

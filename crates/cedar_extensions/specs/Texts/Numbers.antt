@@ -9,19 +9,19 @@ greatest is_negative = if is_negative then 0x8000_0000_0000_0000 else 0x7fff_fff
 
 -- ---- decimal numbers
 
--- how many ten thousandths the last of so many digits behind a point says; none behind no digit or more than four
+-- the value, in ten thousandths, of the last of so many digits behind a point; none without a digit or with more than four
 abbrev pub scale_of : ℕ → ℕ
 scale_of digits =
     if digits == 1 then 1000 else if digits == 2 then 100
     else if digits == 3 then 10 else if digits == 4 then 1 else 0
 
--- how many ten thousandths one to four digits say behind a point
+-- the value, in ten thousandths, of one to four digits behind a point
 unfoldable pub ten_thousandths : List ℕ → Option ℕ
 ten_thousandths s = do
   n ← read_number s
   if is_empty n.1 && not (scale_of (length s) == 0) then Some (n.0 * scale_of (length s)) else None
 
--- how many ten thousandths are said by digits, a point, and one to four digits
+-- the value, in ten thousandths, of digits, a point, and one to four digits
 unfoldable pub decimal_value : List ℕ → Option ℕ
 decimal_value s = do
   whole ← read_number s
@@ -48,14 +48,14 @@ unfoldable pub read_unit : List ℕ → List ℕ → Option (List ℕ)
 read_unit [] s = if begins_with_letter s then None else Some s
 read_unit (c ∷ cs) s = read_byte c s >>= read_unit cs
 
--- a number with its unit behind it
+-- a number with its unit behind it, and the rest
 unfoldable pub read_quantity : List ℕ → List ℕ → Read ℕ
 read_quantity unit s = do
   n ← read_number s
   rest ← read_unit unit n.1
   Some (n.0, rest)
 
--- the milliseconds that a text gives in this unit, which has so many, and the rest; none if the unit is left out
+-- the milliseconds that a text gives in this unit, which has so many of them, and the rest; none if the unit is left out
 abbrev pub found_in : ℕ → List ℕ → Read ℕ → ℕ × List ℕ
 found_in milliseconds s None = (0, s)
 found_in milliseconds s (Some q) = (q.0 * milliseconds, q.1)

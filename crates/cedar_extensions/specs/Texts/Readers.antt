@@ -3,19 +3,19 @@ use Rattle.std.specs.Prelude.{ℕ, ◌+◌, ◌*◌, ◌-◌, ◌^◌, min, Bool
 use Rattle.std.specs.Borrow.{Bor}
 use Rattle.std.specs.Char.{is_ascii_digit}
 
--- a value and the text after it
+-- a value that was read, and the text after it
 abbrev pub Read : Type 0 → Type 0
 Read A = Option (A × List ℕ)
 
--- a part that a reader read
+-- the plain data of a part that a reader read
 abbrev pub read_in : {A : Type 0} → Option (A × Bor (List ℕ)) → Read A
 read_in r = option_map (λ p. (p.0, p.1.now)) r
 
--- the text that a function left
+-- the plain data of the text that a function left
 abbrev pub left_in : Option (Bor (List ℕ)) → Option (List ℕ)
 left_in r = option_map (λ b. b.now) r
 
--- goes on where something was read
+-- the next reader goes on behind a value that was read
 infixl 10 ◌>>=◌
 abbrev pub ◌>>=◌ : {A B : Type 0} → Option A → (A → Option B) → Option B
 o >>= f = option_and_then f o
@@ -24,7 +24,7 @@ abbrev pub is_empty : List ℕ → Bool
 is_empty [] = true
 is_empty (c ∷ cs) = false
 
--- it was read, and nothing follows
+-- a part was read, and nothing follows it
 abbrev pub is_all : Option (List ℕ) → Bool
 is_all None = false
 is_all (Some rest) = is_empty rest
@@ -44,8 +44,8 @@ digit c = c - 48
 abbrev pub in_64_bits : ℕ → ℕ
 in_64_bits n = min n (2 ^ 64 - 1)
 
--- the number of the digits so far and those at the front, and the rest behind these; the values
--- that a text may say are smaller than the greatest number of 64 bits
+-- the number of the digits so far and of those at the front, and the rest behind these. No text of
+-- a value has a number beyond 64 bits, so the greatest one stands for all of them
 abbrev pub number_after : ℕ → List ℕ → ℕ × List ℕ
 number_after n [] = (n, [])
 number_after n (c ∷ cs) =
@@ -55,11 +55,11 @@ abbrev pub begins_with_digit : List ℕ → Bool
 begins_with_digit [] = false
 begins_with_digit (c ∷ cs) = is_ascii_digit c
 
--- one digit or more
+-- a number of one digit or more, and the rest
 unfoldable pub read_number : List ℕ → Read ℕ
 read_number s = if begins_with_digit s then Some (number_after 0 s) else None
 
--- two digits
+-- a number of two digits, and the rest
 abbrev pub read_two_digits : List ℕ → Read ℕ
 read_two_digits [] = None
 read_two_digits (a ∷ []) = None

@@ -47,7 +47,7 @@ fn skip_hex(s: &[u8]) -> &[u8]
     }
 }
 
-/// One to four hex digits.
+/// The rest behind one to four hex digits.
 fn read_group(s: &[u8]) -> Option<&[u8]>
     ensures { left_in result ≡ Address.read_group s.now }
 {
@@ -57,7 +57,7 @@ fn read_group(s: &[u8]) -> Option<&[u8]>
     }
 }
 
-/// A group, which has a colon before it unless it is the first.
+/// The rest behind a group, which has a colon before it unless it is the first.
 fn read_next_group(is_first: bool, s: &[u8]) -> Option<&[u8]>
     ensures { left_in result ≡ Address.read_next_group is_first s.now }
 {
@@ -107,7 +107,7 @@ fn read_ipv6(s: &[u8]) -> Option<&[u8]>
     }
 }
 
-/// Nothing, or how many bits of an address a range keeps.
+/// Whether the text ends, or has `/` and the number of bits of an address that a range keeps.
 fn is_range_end(greatest: u64, s: &[u8]) -> bool
     ensures { result ≡ Address.is_range_end greatest s.now }
 {
@@ -126,7 +126,7 @@ fn ends_range(greatest: u64, left: Option<&[u8]>) -> bool
     }
 }
 
-/// An address, or one with `/` and how many of its bits a range keeps.
+/// Whether the text is an address, or one with `/` and the number of its bits that a range keeps.
 pub fn is_address_or_range(s: &[u8]) -> bool
     ensures { result ≡ Address.is_address_or_range s.now }
 {

@@ -16,7 +16,7 @@ fn greatest(is_negative: bool) -> u128
     }
 }
 
-/// How many ten thousandths the last of so many digits behind a point says; none behind no digit or more than four.
+/// The value, in ten thousandths, of the last of so many digits behind a point; none without a digit or with more than four.
 fn scale_of(digits: usize) -> u128
     ensures value { result ≡ Number.scale_of digits }
     ensures bound { result < 1001 }
@@ -34,7 +34,7 @@ fn scale_of(digits: usize) -> u128
     }
 }
 
-/// How many ten thousandths one to four digits say behind a point.
+/// The value, in ten thousandths, of one to four digits behind a point.
 #[tactic(auto, unfolding(crate::specs::Texts::Numbers::ten_thousandths))]
 fn ten_thousandths(s: &[u8]) -> Option<u128>
     ensures value { result ≡ Number.ten_thousandths s.now }
@@ -49,7 +49,7 @@ fn ten_thousandths(s: &[u8]) -> Option<u128>
     }
 }
 
-/// How many ten thousandths are said by digits, a point, and one to four digits.
+/// The value, in ten thousandths, of digits, a point, and one to four digits.
 #[tactic(auto, unfolding(crate::specs::Texts::Numbers::decimal_value))]
 fn decimal_value(s: &[u8]) -> Option<u128>
     ensures { result ≡ Number.decimal_value s.now }
@@ -60,7 +60,7 @@ fn decimal_value(s: &[u8]) -> Option<u128>
     Some(u128::from(whole) * 10000 + part)
 }
 
-/// Digits, a point, and one to four digits; perhaps a minus before them.
+/// Whether the text is digits, a point, and one to four digits, perhaps with a minus before them.
 pub fn is_decimal(s: &[u8]) -> bool
     ensures { result ≡ Number.is_decimal s.now }
 {
@@ -91,7 +91,7 @@ fn read_unit<'a>(unit: &[u8], s: &'a [u8]) -> Option<&'a [u8]>
     }
 }
 
-/// A number with its unit behind it.
+/// A number with its unit behind it, and the rest.
 #[tactic(auto, unfolding(crate::specs::Texts::Numbers::read_quantity))]
 fn read_quantity<'a>(unit: &[u8], s: &'a [u8]) -> Option<(u64, &'a [u8])>
     ensures { read_in result ≡ Number.read_quantity unit.now s.now }
@@ -101,7 +101,7 @@ fn read_quantity<'a>(unit: &[u8], s: &'a [u8]) -> Option<(u64, &'a [u8])>
     Some((number, rest))
 }
 
-/// The milliseconds that a text gives in this unit, which has so many, and the rest; none if the unit is left out.
+/// The milliseconds that a text gives in this unit, which has so many of them, and the rest; none if the unit is left out.
 #[tactic(auto, unfolding(crate::specs::Texts::Numbers::skip_unit))]
 fn skip_unit<'a>(unit: &[u8], milliseconds: u32, s: &'a [u8]) -> (u128, &'a [u8])
     ensures value { (result.0, result.1.now) ≡ Number.skip_unit unit.now milliseconds s.now }
@@ -126,7 +126,8 @@ fn milliseconds(s: &[u8]) -> (u128, &[u8])
     (days + hours + minutes + seconds + rest, s)
 }
 
-/// Numbers with units behind them, each unit at most once and the greater first; perhaps a minus before them.
+/// Whether the text is numbers with units behind them, perhaps with a minus before them. Each unit comes at most once, and the
+/// greater first, for example `1h30m`.
 pub fn is_duration(s: &[u8]) -> bool
     ensures { result ≡ Number.is_duration s.now }
 {

@@ -13,7 +13,7 @@ pub(crate) fn read_byte(s: &[u8], byte: u8) -> Option<&[u8]>
     }
 }
 
-/// Whether it was read, and nothing follows.
+/// Whether a part was read, and nothing follows it.
 pub(crate) fn is_all(left: Option<&[u8]>) -> bool
     ensures { result ≡ Reader.is_all (left_in left.entry) }
 {
@@ -40,7 +40,8 @@ fn begins_with_digit(s: &[u8]) -> bool
     }
 }
 
-/// One digit or more; the greatest number of 64 bits stands for all that are greater.
+/// A number of one digit or more, and the rest. The greatest number of 64 bits stands for all that
+/// are greater.
 #[tactic(auto, unfolding(crate::specs::Texts::Readers::read_number))]
 pub(crate) fn read_number(s: &[u8]) -> Option<(u64, &[u8])>
     ensures { read_in result ≡ Reader.read_number s.now }
@@ -60,7 +61,7 @@ pub(crate) fn read_number(s: &[u8]) -> Option<(u64, &[u8])>
     Some((value, rest))
 }
 
-/// Two digits.
+/// A number of two digits, and the rest.
 pub(crate) fn read_two_digits(s: &[u8]) -> Option<(u64, &[u8])>
     ensures value { read_in result ≡ Reader.read_two_digits s.now }
     ensures bound { IfSome result (λ r. r.0 < 2300) }

@@ -11,7 +11,7 @@ fn is_leap_year(year: u64) -> bool
     year % 4 == 0 && (year % 100 != 0 || year % 400 == 0)
 }
 
-/// How many days a month has; none where there is no such month.
+/// The number of days in a month; none if there is no such month.
 fn days_of(year: u64, month: u64) -> u64
     ensures { result ≡ Time.days_of year month }
 {
@@ -101,7 +101,7 @@ fn read_offset(s: &[u8]) -> Option<&[u8]>
     }
 }
 
-/// `Z`, `+hhmm` or `-hhmm`.
+/// Whether the text is `Z`, `+hhmm` or `-hhmm`.
 fn is_zone(s: &[u8]) -> bool
     ensures { result ≡ Time.is_zone s.now }
 {
@@ -117,7 +117,8 @@ fn is_zone(s: &[u8]) -> bool
     }
 }
 
-/// Nothing, or `T` and a time of the day, perhaps with milliseconds, and its zone.
+/// Whether the text is empty, or is `T` and a time of the day, perhaps with milliseconds, and its
+/// zone.
 fn is_time(s: &[u8]) -> bool
     ensures { result ≡ Time.is_time s.now }
 {
@@ -127,7 +128,7 @@ fn is_time(s: &[u8]) -> bool
     }
 }
 
-/// A time of the day, perhaps with milliseconds, and its zone.
+/// Whether the text is a time of the day, perhaps with milliseconds, and its zone.
 fn is_clock_with_zone(s: &[u8]) -> bool
     ensures { result ≡ Time.is_clock_with_zone s.now }
 {
@@ -137,7 +138,7 @@ fn is_clock_with_zone(s: &[u8]) -> bool
     }
 }
 
-/// A date, or a date and a time of the day with its zone.
+/// Whether the text is a date, or a date and a time of the day with its zone.
 pub fn is_point_in_time(s: &[u8]) -> bool
     ensures { result ≡ Time.is_point_in_time s.now }
 {

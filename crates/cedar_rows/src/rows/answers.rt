@@ -14,7 +14,7 @@ pub struct Asked<'a> {
     pub alloc: Global,
     pub validator: &'a Validator<'a>,
     pub policy: &'a Policy,
-    /// The text that places are in. The policy stands at all of it.
+    /// The text of the policy's places. The policy stands at all of it.
     pub text: &'a str,
 }
 
@@ -36,8 +36,8 @@ impl Answer {
         }
     }
 
-    /// Whether it is the expected one: its outcome, and behind that each finding, as often, in any
-    /// order.
+    /// Whether the answer is the expected one: its outcome, and behind that each finding, as often,
+    /// in any order.
     pub fn is(&self, alloc: Global, expected: &str) -> Result<bool, AllocError> {
         match expected.strip_prefix(self.outcome.as_str()) {
             None => Ok(false),
@@ -49,9 +49,10 @@ impl Answer {
     }
 }
 
-/// The parts of a text, sorted by bytes, with the same between them.
+/// The parts of a text, sorted by bytes, with `between` from one to the next.
 pub fn in_order(alloc: Global, text: &str, between: &str) -> Result<String, AllocError> {
-    // one by one, as `collect` passes over memory that is refused for a hint of how many there are
+    // one by one, because `collect` ignores memory that is refused for a hint of the number of
+    // parts
     let mut parts = Vec::new(alloc);
     for part in text.split(between) {
         parts.push(part)?;
@@ -61,7 +62,7 @@ pub fn in_order(alloc: Global, text: &str, between: &str) -> Result<String, Allo
 }
 
 impl Asked<'_> {
-    /// The answer to the question. Functions and chains are not asked about here.
+    /// The answer to the question. Questions about functions and about chains have no answer here.
     pub fn about(self, subject: Subject) -> Result<Answer, AllocError> {
         match subject {
             Subject::Check(mode) => self.in_first_environment(mode),

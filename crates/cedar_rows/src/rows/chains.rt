@@ -39,7 +39,7 @@ fn root_type(alloc: Global, text: &str) -> Result<CedarType, AllocError> {
     }
 }
 
-/// The attribute of a record's type, and the text that stands for the attribute's type.
+/// The attribute of a record's type, and the text of the attribute's type.
 fn attribute_in(text: &str) -> Option<(&str, &str)> {
     text.strip_prefix('{')?.strip_suffix('}')?.split_once(": ")
 }

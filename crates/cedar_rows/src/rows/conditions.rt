@@ -1,6 +1,6 @@
 // The rows on conditions, as texts.
 
-/// An optional attribute is read behind a test that it is there, and without one.
+/// An optional attribute is read behind a `has` test, and without one.
 pub const GUARDED_ACCESS: &str = r#"
 ? S2 Strict check: principal has vip && principal.vip
 Success
@@ -10,7 +10,7 @@ Fail errors=1
 for policy `policy0`, access to optional attribute `vip` on `User` is not guarded
 "#;
 
-/// One is compared beside a test.
+/// An optional attribute is compared beside a test.
 pub const TEST_BESIDE_EQUALITY: &str = r#"
 ? S2 Strict check: principal has nick || principal.nick == "a"
 Fail errors=1
@@ -18,7 +18,7 @@ Fail errors=1
 for policy `policy0`, access to optional attribute `nick` on `User` is not guarded
 "#;
 
-/// Literals may differ in type, as they are never equal then. Other sides may not.
+/// Literals may differ in type, because they are never equal then. Other sides may not.
 pub const SIDES_WITHOUT_BOUND: &str = r#"
 ? S1 Strict check: 1 == "a"
 Irrelevant errors=0
@@ -52,7 +52,7 @@ Fail errors=1
 for policy `policy0`, undefined extension function `nope`
 "#;
 
-/// A tag is read behind a test, and without one. Where a type declares no tags, none is there.
+/// A tag is read behind a test, and without one. A type that declares no tags has none.
 pub const TAGS: &str = r#"
 ? S1 Strict check: principal.hasTag("t") && principal.getTag("t").bool
 Success
@@ -64,7 +64,7 @@ for policy `policy0`, access to a tag of `User` is not guarded
 Irrelevant errors=0
 "#;
 
-/// Which forms let a test of one part guard a read in another.
+/// Forms that let a test of one part guard a read in another, and forms that do not.
 pub const GUARDING_FORMS: &str = r#"
 ? S2 Strict check: principal has vip || principal.vip
 Fail errors=1
@@ -142,7 +142,7 @@ Fail errors=1
 for policy `policy0`, the types `admins`, `bin` are not compatible
 "#;
 
-/// A chain goes on from records and entities alone, and is False where an attribute is not declared.
+/// A chain goes on from records and entities alone, and is False if an attribute is not declared.
 pub const CHAINS: &str = r#"
 ? S2 Strict check: principal has user.vip && principal.user.vip
 Success
@@ -162,7 +162,7 @@ Fail errors=1
 for policy `policy0`, unexpected type: expected `{..}` or `entity` but saw `Bool`
 "#;
 
-/// A variadic function, and a comparison of addresses where they are ordered, and where they are not.
+/// A variadic function, and comparisons of addresses, with a table that orders them and with one that does not.
 pub const VARIADIC_CALLS: &str = r#"
 ? S1 X2 Strict check: sum(1) == 1
 Success
@@ -206,7 +206,7 @@ Fail errors=1
 for policy `policy0`, the types `Photo`, `User` are not compatible
 "#;
 
-/// A part that is nested too deep stands in a place that is never visited.
+/// A part that is nested too deep has a place that is never visited.
 pub const DEEP_UNVISITED: &str = r#"
 ? S1 Strict check: false && TRUE_UNDER_450
 Irrelevant errors=0

@@ -16,7 +16,7 @@ for policy `policy0`, this policy requires level 1, which exceeds the maximum al
 errors=0 warnings=0
 "#;
 
-/// The environment's own action may be dereferenced where it is a literal.
+/// The literal of the environment's own action may be dereferenced.
 pub const ACTION_LITERAL: &str = r#"
 ? S1 Strict level 0: Action::"view" in action
 errors=1 warnings=0
@@ -46,7 +46,7 @@ for policy `policy0`, this policy requires level 3, which exceeds the maximum al
 errors=0 warnings=0
 "#;
 
-/// The one literal that is dereferenced is an error, the other is none.
+/// A literal that is dereferenced is an error, and another literal is none.
 pub const ENTITY_LITERALS: &str = r#"
 ? S1 Strict level 1: {foo: User::"alice", bar: User::"bob"}.foo.bool
 errors=1 warnings=0
@@ -96,7 +96,7 @@ for policy `policy0`, this policy requires level 6, which exceeds the maximum al
 errors=0 warnings=0
 "#;
 
-/// The left of `||` counts where its right is True.
+/// The left side of `||` counts even if its right side is True.
 pub const LEFT_OF_TRUE: &str = r#"
 ? S1 Strict level 0: (principal.bool || true) || true
 errors=1 warnings=0
@@ -136,7 +136,7 @@ for policy `policy0`, this policy requires level 1, which exceeds the maximum al
 errors=0 warnings=0
 "#;
 
-/// An impossible policy may need a level, as it is evaluated all the same.
+/// An impossible policy may need a level, because it is evaluated all the same.
 pub const IMPOSSIBLE: &str = r#"
 ? S1 Strict level 0: principal.bool && false
 errors=1 warnings=1
@@ -192,7 +192,8 @@ errors=1 warnings=0
 for policy `policy0`, entity literals cannot be dereferenced at any level
 "#;
 
-/// The least level that is enough: of the policies of other rows; of one that fails, or has no environment, it is 0.
+/// The least level that is enough for the policies of other rows. It is 0 for a policy that fails, and for one without an
+/// environment.
 pub const REQUIRED_LEVELS: &str = r#"
 ? S1 Strict required level: {foo: principal}.foo is User
 0
@@ -214,7 +215,7 @@ none
 1
 "#;
 
-/// Conditionals that a test decides hold one branch twice. A walk over both would not end.
+/// Conditionals that a test decides hold one branch twice. Each is walked once, because a walk over both would not end.
 pub const SHARED_BRANCHES: &str = r#"
 ? S1 Strict level 0: ACCESS_UNDER_64
 errors=1 warnings=0

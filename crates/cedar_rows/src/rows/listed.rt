@@ -23,7 +23,7 @@ const NEGATIONS: [Nested; 3] = [
     },
 ];
 
-/// A chain of so many attributes, behind its root and alone.
+/// A chain of so many attributes, with its root and without.
 const USERS: [Nested; 2] = [
     Nested {
         word: "USER_AND_10000",

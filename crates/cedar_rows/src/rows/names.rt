@@ -1,4 +1,5 @@
-// A validator's findings on names and scopes, and the reason why there is no table of functions.
+// A validator's findings on names and scopes, and the reasons for which tables and schemas are
+// refused.
 ghost use Rattle.std.specs.Iterator.{IsFinite};
 
 use crate::rows::answers::{Answer, Asked};
@@ -12,7 +13,7 @@ use std::alloc::{AllocError, Global};
 use std::collections::BTreeSet;
 
 impl Asked<'_> {
-    /// The answer to the question, if it is about no check.
+    /// The answer to the question, unless it is about a check.
     pub fn about_names(self, subject: Subject) -> Result<Answer, AllocError> {
         let (alloc, validator, policy) = (self.alloc, self.validator, self.policy);
         let (schema, template) = (validator.schema(), &*policy.template);
@@ -102,7 +103,7 @@ fn push_flags(shown: &mut String, warning: &ValidationWarning) -> Result<(), All
     }
 }
 
-/// Why there is no table of these functions.
+/// The reason for which a table of these functions is refused.
 pub fn refusal(alloc: Global, functions: &str) -> Result<Answer, AllocError> {
     let outcome = match ExtensionSchemas::new(
         functions_in(alloc, functions)?,
@@ -114,7 +115,7 @@ pub fn refusal(alloc: Global, functions: &str) -> Result<Answer, AllocError> {
     Ok(Answer::new(alloc, outcome))
 }
 
-/// Why there is no schema of these declarations, which are as given.
+/// The reason for which a schema of these declarations, which are as given, is refused.
 pub fn schema_refusal(alloc: Global, declarations: &str) -> Result<Answer, ReadError> {
     let outcome = match schema_as_given(alloc, declarations) {
         Ok(_schema) => String::from_str(alloc, "a schema")?,

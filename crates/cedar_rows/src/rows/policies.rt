@@ -1,6 +1,6 @@
 // The rows on policies in their environments, on names and scopes, and on tables, as texts.
 
-/// A type that is not declared stands where it is never evaluated. It is found all the same.
+/// A type that is not declared has a place that is never evaluated. It is found all the same.
 pub const UNKNOWN_TYPE: &str = r#"
 ? S1 Strict policy: (Unk::"a" < 1) && false
 true errors=0 warnings=1
@@ -28,7 +28,7 @@ Success; Success
 ! User Action::"view" Photo, linked to User and none: Success
 "#;
 
-/// The action is on users and widgets, and the scope has entities that they may be in.
+/// The action is on users and widgets, and the scope has entities in which they may be.
 pub const GROUPS_IN_SCOPE: &str = r#"
 ? S3 applies: permit(principal == admins::"admin1", action == Action::"act", resource == bin::"bin")
 warning principal=true resource=true
@@ -92,7 +92,7 @@ false errors=1 warnings=0
 for policy `policy0`, attribute `nope` does not exist on `User`
 "#;
 
-/// The action is compared with the one that there is, and with another, which is found.
+/// The action is compared with the declared one, and with another, which is found.
 pub const UNKNOWN_ACTION: &str = r#"
 ? S1 Strict check: action == Action::"view"
 Success
@@ -108,7 +108,7 @@ errors=1
 for policy `policy0`, unrecognized action `Action::"edit"`
 "#;
 
-/// Functions of which there is no table. Of several faults the first counts.
+/// Functions whose table is refused. Of several faults the first counts.
 pub const FAULTY_TABLES: &str = r#"
 ? S0 table: f() -> {}
 BadReturnType
@@ -138,7 +138,7 @@ for policy `policy0`, unexpected type: expected `Long` but saw `String`
 for policy `policy0`, policy is impossible: it evaluates to false for every valid request
 "#;
 
-/// Each occurrence of an id that its type does not have counts.
+/// Each occurrence of an id that is no member of its type counts.
 pub const NO_MEMBERS: &str = r#"
 ? S5 enumerated ids: Color::"red" == Color::"blue"
 errors=1
@@ -180,7 +180,7 @@ for policy `policy0`, unable to find an applicable action given the policy scope
 applies
 "#;
 
-/// Declarations of which there is no schema, as they are given. Of several faults the first counts.
+/// Declarations whose schema is refused, as they are given. Of several faults the first counts.
 pub const FAULTY_SCHEMAS: &str = r#"
 ? S0 schema: entity A; entity A;
 DuplicateEntityType

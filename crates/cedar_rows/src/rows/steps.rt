@@ -13,9 +13,9 @@ use std::rc::Rc;
 /// The mark before each step.
 const BEFORE_STEP: &str = "\n? ";
 
-/// A row: steps, each of which begins behind `? ` with what is asked. On its next line stands what
-/// the program prints, and behind `! ` each finding, as often as it is found, in any order. Beside
-/// the text stands what words in it stand for.
+/// A row: steps, each of which begins behind `? ` with its question. On the next line is the text
+/// that the program prints, and behind `! ` each finding, as often as it is found, in any order.
+/// Beside the text are the words in it that stand for longer texts.
 #[derive(Clone, Copy)]
 pub struct Steps<'a>(pub &'a str, pub &'a [Nested]);
 
@@ -23,7 +23,7 @@ pub struct Steps<'a>(pub &'a str, pub &'a [Nested]);
 #[derive(Clone, Copy)]
 pub struct Nested {
     pub word: &'static str,
-    /// The texts before the inner text and behind it, each so many times.
+    /// The texts before the inner text and behind it, each repeated so many times.
     pub around: [&'static str; 2],
     pub times: usize,
     pub inner: &'static str,
@@ -125,7 +125,7 @@ fn about_policy(
     Ok(asked.about(question.subject)?)
 }
 
-/// The text of a policy, of which this may be the condition alone.
+/// The text of a policy. A text that is a condition alone gets a scope.
 fn policy_text(alloc: Global, text: &str) -> Result<String, AllocError> {
     if text.starts_with("permit(") {
         format!(in alloc; "{text};")

@@ -3,7 +3,7 @@ use Rattle.cedar_types.specs.Extensions.Functions.{function_of}
 use Rattle.cedar_extensions.specs.Functions.Methods.{unchecked}
 use Rattle.cedar_extensions.proofs.functions.add_methods.Given as goal
 
--- the functions so far, and then those of the methods that are left
+-- the functions so far, followed by those of the methods to come, are all functions
 abbrev pub invariant-loop-method : goal.invariant-loop-method
 invariant-loop-method g l =
     (meaning : _)
