@@ -1,4 +1,4 @@
-// The rules of typing, form by form.
+// The rules of typing, one file for each group of forms.
 pub(crate) mod attributes;
 pub(crate) mod calls;
 mod chains;

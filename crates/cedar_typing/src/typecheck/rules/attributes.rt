@@ -1,4 +1,4 @@
-// `has` and `.`.
+// The rules of `e has x` and `e.x`.
 ghost use Rattle.std.specs.Prelude.{◌≡◌, IfOk, IfSome, option_map};
 ghost use Rattle.cedar_types.specs.Names.{text_of};
 ghost use Rattle.cedar_types.specs.Types.{ty_of};
@@ -21,7 +21,7 @@ use cedar_types::types::capability::{Capability, DigestedBase};
 use std::alloc::AllocError;
 use std::rc::RcStr;
 
-/// That the base has the attribute.
+/// The capability that the base has the attribute.
 fn attribute_of<'a>(base: &mut DigestedBase<'a>, attr: &RcStr) -> Result<Capability<'a>, AllocError>
     ensures of_it { IfOk result (λ c.
         cap_of c ≡ attribute_of (written (expr_in base.old)) (text_of attr.now)) }
@@ -31,7 +31,8 @@ fn attribute_of<'a>(base: &mut DigestedBase<'a>, attr: &RcStr) -> Result<Capabil
 }
 
 impl TypeEnv<'_, '_, '_, '_> {
-    /// The type of `base has attr` by that of the base, and that the attribute is there, where it is declared.
+    /// The type of `base has attr` by the base's type. If that type declares the attribute, the whole produces that it is
+    /// there.
     pub(crate) fn decide_has<'a>(
         &self,
         prior: &Prior<'_, 'a>,
@@ -60,7 +61,7 @@ impl TypeEnv<'_, '_, '_, '_> {
         }
     }
 
-    /// Whether the type requires the attribute, if it declares it.
+    /// Whether the type requires the attribute; `None` if it does not declare it.
     pub(crate) fn required(
         &self,
         owner: &CedarType,
@@ -79,11 +80,12 @@ impl TypeEnv<'_, '_, '_, '_> {
         }
     }
 
+    /// The type of `has` for an attribute that the owner's type does not declare.
     pub(crate) fn undeclared_type(&self, owner: &CedarType, attr: &RcStr) -> CedarType
         ensures { ty_of result
             ≡ undeclared_has (env_at self.now).schema (ty_of owner.now) (text_of attr.now) }
     {
-        // an open record, or one of several entity types, may have what the type does not declare
+        // an open record, or a union of several entity types, may have an attribute that its type does not declare
         if CedarType::may_have_attr(self.schema, owner, attr) {
             CedarType::Bool(BoolType::AnyBool)
         } else {
@@ -91,7 +93,7 @@ impl TypeEnv<'_, '_, '_, '_> {
         }
     }
 
-    /// The type of `base.attr` by that of the base, or an error at `loc`.
+    /// The decision on `base.attr` by the base's type: the attribute's type, or an error at `loc`.
     pub(crate) fn decide_get<'a>(
         &self,
         prior: &Prior<'_, 'a>,
@@ -108,7 +110,8 @@ impl TypeEnv<'_, '_, '_, '_> {
         let Some(owner) = found else {
             return Ok(Decision::Refuses(None, Vec::new(self.alloc)));
         };
-        // What is required needs no guard, so nothing is asked of what is known: a first question costs a walk over the base.
+        // A required attribute needs no guard, so we do not ask the prior capabilities: a first question costs a walk over
+        // the base.
         if let Some(decision) = self.decide_required(owner, attr)? {
             return Ok(decision);
         }
@@ -117,7 +120,7 @@ impl TypeEnv<'_, '_, '_, '_> {
         Ok(decision)
     }
 
-    /// The same of a base of this type that requires the attribute, whatever is known; `None` of any other.
+    /// The decision on `base.attr` if the base's type requires the attribute, whatever is known; otherwise `None`.
     fn decide_required<'a>(
         &self,
         owner: &CedarType,
@@ -137,7 +140,7 @@ impl TypeEnv<'_, '_, '_, '_> {
         }
     }
 
-    /// The same of a base of this type, where it is known or not that the attribute is there.
+    /// The decision on `base.attr` by the base's type, and by whether the attribute is known to be there.
     pub(crate) fn decide_access<'a>(
         &self,
         loc: Option<Loc>,
@@ -159,13 +162,13 @@ impl TypeEnv<'_, '_, '_, '_> {
                     return Ok(Decision::Gives(found.attr_type, no_capabilities(self.alloc)));
                 }
                 let error = self.unguarded(loc, attr, owner)?;
-                // the type is known all the same, so what is wrong further up is found too
+                // the access keeps its declared type, so that a wrong use of its value further up is found too
                 refuses_with(self.alloc, Some(found.attr_type), error)
             }
         }
     }
 
-    /// Of an attribute that is not declared: Never where it may be there, in Partial alone.
+    /// The decision on an undeclared attribute: in Partial the type Never if the attribute may be there, otherwise an error.
     fn decide_undeclared<'a>(
         &self,
         loc: Option<Loc>,
@@ -176,7 +179,8 @@ impl TypeEnv<'_, '_, '_, '_> {
             ≡ undeclared_get (env_at self.now) loc (text_of attr.now) (ty_of owner.now)) }
     {
         let may_exist = CedarType::may_have_attr(self.schema, owner, attr);
-        // a schema of a part of what there is need not declare all attributes
+        // in Partial the schema need not declare all attributes, so an undeclared one may be there, of a type that is not
+        // known
         if (self.mode == ValidationMode::Partial) & may_exist {
             return Ok(Decision::Gives(CedarType::Never, no_capabilities(self.alloc)));
         }
@@ -207,13 +211,14 @@ impl TypeEnv<'_, '_, '_, '_> {
     }
 }
 
+/// The type of `has` for a declared attribute, by whether the type requires it and whether it is known to be there.
 pub(crate) fn declared_type(owner: &CedarType, is_required: bool, is_known: bool) -> CedarType
     ensures { ty_of result ≡ declared_has (ty_of owner.now) is_required is_known }
 {
     if is_known {
         return CedarType::Bool(BoolType::True);
     }
-    // an entity may be missing from the store, and `has` is false of it then; a record is always there
+    // an entity may be missing from the store, and `has` is false then; a record has each attribute that its type requires
     if is_required && is_record_type(owner) {
         CedarType::Bool(BoolType::True)
     } else {

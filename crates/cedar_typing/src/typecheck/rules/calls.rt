@@ -1,4 +1,4 @@
-// Calls of extension functions.
+// The rule of calls of extension functions.
 ghost use Rattle.std.specs.Prelude.{◌≡◌, ◌≤◌, ◌+◌, ◌∷◌, ◌++◌, length, is_some, IfOk, Some, map, option_map};
 ghost use Rattle.cedar_types.specs.Errors.{finding_of, wrong_number_arguments};
 ghost use Rattle.cedar_types.specs.Extensions.Functions.{function_of};
@@ -30,19 +30,19 @@ use cedar_types::base::{
 };
 use std::alloc::{AllocError, Global};
 
-/// What is known of a call before its arguments are typed.
+/// A call, as far as it is known before its arguments are typed.
 #[derive(Drop)]
 pub(crate) struct Call<'f> {
-    /// The type of the answer, where there is a function of the name.
+    /// The return type, if a function has the name.
     return_type: Option<&'f CedarType>,
-    /// The types that the arguments have to be of. Beside an error of the call there are none.
+    /// The types that the arguments must have: none beside an error of the call.
     pub argument_types: &'f [CedarType],
-    /// The errors of the call itself.
+    /// The errors of the call itself, which its arguments' types do not decide.
     errors: Vec<ValidationError>,
 }
 
 impl<C: ArgumentCheck> SingleEnvTypechecker<'_, '_, '_, '_, C> {
-    /// A call of an extension function, at `loc`.
+    /// Types a call of an extension function, at `loc`.
     #[cycle(typing)]
     #[inline(never)]
     pub(crate) fn type_call<'a>(
@@ -68,7 +68,7 @@ impl<C: ArgumentCheck> SingleEnvTypechecker<'_, '_, '_, '_, C> {
         Ok(answer)
     }
 
-    /// The call of the function of this name, if there is one, at `loc`.
+    /// The call of the function with this name at `loc`, or the error that no function has it.
     #[inline(never)]
     pub(crate) fn call_of(
         &self,
@@ -89,7 +89,7 @@ impl<C: ArgumentCheck> SingleEnvTypechecker<'_, '_, '_, '_, C> {
             });
         };
         let errors = self.env.call_errors(loc, function, arguments)?;
-        // beside an error of the call nothing is asked of its arguments: one mistake, one error
+        // one mistake is one error, so beside an error of the call its arguments may have any type
         let argument_types = types_wanted(function, &errors);
         Ok(Call {
             return_type: Some(&function.return_type),
@@ -100,7 +100,7 @@ impl<C: ArgumentCheck> SingleEnvTypechecker<'_, '_, '_, '_, C> {
 }
 
 impl TypeEnv<'_, '_, '_, '_> {
-    /// The error of a name without a function.
+    /// The error that no function has this name.
     fn unknown_function(
         &self,
         loc: Option<Loc>,
@@ -115,7 +115,8 @@ impl TypeEnv<'_, '_, '_, '_> {
         Ok(errors)
     }
 
-    /// The errors of a call of this function with these arguments: each that applies.
+    /// The errors of the call itself, each that applies: a wrong number of arguments, a refusal by
+    /// the function's check, and in Strict an argument of a checked function that is not a literal.
     fn call_errors<C: ArgumentCheck>(
         &self,
         loc: Option<Loc>,
@@ -173,7 +174,7 @@ impl TypeEnv<'_, '_, '_, '_> {
         Ok(ValidationError::wrong_number_args(loc, policy_id, expected, actual))
     }
 
-    /// Asks the check, where there is one.
+    /// Adds the refusal of the function's check, if it has a check, and this refuses the arguments.
     fn add_refusal<C: ArgumentCheck>(
         &self,
         loc: Option<Loc>,
@@ -198,7 +199,7 @@ impl TypeEnv<'_, '_, '_, '_> {
         Ok(())
     }
 
-    /// In Strict a function with a check takes literals alone.
+    /// Adds the error of Strict if a function with a check has an argument that is not a literal.
     fn add_literal_error(
         &self,
         loc: Option<Loc>,
@@ -213,7 +214,7 @@ impl TypeEnv<'_, '_, '_, '_> {
             (literal_faults self.now.mode check (map written arguments.now))) }
     {
         let is_strict = self.mode == ValidationMode::Strict;
-        // the check can only read a text that stands there
+        // the check can read only a text that stands in the policy, so Strict asks for literals
         if !(is_strict & is_checked) || all_literals(arguments) {
             return Ok(());
         }
@@ -222,7 +223,9 @@ impl TypeEnv<'_, '_, '_, '_> {
         Ok(())
     }
 
-    /// A call at `loc`, where the arguments are typed or one is too deep. Its own errors are kept.
+    /// The answer for a call at `loc` whose arguments are typed, or one of which is too deep. The
+    /// call's own errors are kept beside the limit too, because they are found before the arguments
+    /// are typed.
     #[inline(never)]
     pub(crate) fn call_answer<'a>(
         &self,
@@ -255,7 +258,7 @@ impl TypeEnv<'_, '_, '_, '_> {
     }
 }
 
-/// The types that the arguments have to be of, beside these errors of the call.
+/// The types that the arguments must have if the call has these errors: none beside an error.
 fn types_wanted<'f, C>(
     function: &'f ExtensionFunctionType<C>,
     errors: &[ValidationError],
@@ -269,7 +272,7 @@ fn types_wanted<'f, C>(
     }
 }
 
-/// Whether the function takes as many arguments.
+/// Whether the function takes this number of arguments. A variadic function takes more too.
 fn takes<C>(function: &ExtensionFunctionType<C>, count: usize) -> bool
     ensures { (meaning : _) → result ≡ takes (function_of meaning function.now) count }
 {
@@ -280,7 +283,7 @@ fn takes<C>(function: &ExtensionFunctionType<C>, count: usize) -> bool
     }
 }
 
-/// The type of the answer, or the errors of the call.
+/// The return type of the call, or its errors.
 fn decide_call<'a>(alloc: Global, call: Call<'_>) -> Result<Decision<'a>, AllocError>
     ensures { IfOk result (λ d. decision_of d
         ≡ call_decides (option_map (λ t. ty_of t.now) call.entry.return_type)

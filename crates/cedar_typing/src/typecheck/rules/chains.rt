@@ -1,4 +1,4 @@
-// Extended `has`, `base has x.y.z`: one step after another.
+// The rule of extended `has`, `base has x.y.z`: one step for each attribute.
 ghost use Rattle.std.specs.Prelude.{◌≡◌, ◌||◌, is_some, IfOk, option_map};
 ghost use Rattle.cedar_types.specs.Capability.{caps_so_far, cap_of};
 ghost use Rattle.cedar_types.specs.ChainSteps.{step_attr, step_written};
@@ -24,35 +24,36 @@ use cedar_types::types::capability::{Capability, CapabilitySetBuilder, ChainStep
 use std::alloc::{AllocError, Global};
 use std::rc::RcStr;
 
-/// What the steps so far say.
+/// The progress of a chain: the knowledge that its steps so far have given.
 #[derive(Drop)]
 pub(crate) struct Progress<'a> {
-    /// That attributes are there. One set of them is made at the end: what is put into a set moves what stands above it.
+    /// The capabilities that the steps earned. We make one set of them at the end, because each insertion into a set moves
+    /// the elements above it.
     earned: CapabilitySetBuilder<'a>,
-    /// Whether each of them is True.
+    /// Whether each step so far is True.
     all_true: bool,
 }
 
-/// What comes of a step.
+/// The result of a step.
 #[derive(Drop)]
 pub(crate) enum Step<'a> {
-    /// The chain ends with it.
+    /// The chain ends with the step.
     Ends(Decision<'a>),
-    /// What the steps say with it, and whether it is known now that the attribute is there.
+    /// The chain goes on, with its progress, and with whether the attribute is now known to be there.
     GoesOn(Progress<'a>, bool),
 }
 
-/// What comes of a step and of the access after it.
+/// The result of a step and of the access after it.
 #[derive(Drop)]
 pub(crate) enum Link<'a> {
-    /// The chain ends with it.
+    /// The chain ends with the step, or with the access.
     Ends(Decision<'a>),
-    /// The type of the access, and what the steps say.
+    /// The chain goes on, with the type of the access, and with its progress.
     GoesOn(CedarType, Progress<'a>),
 }
 
 impl<'a> Progress<'a> {
-    /// No step so far. It takes no memory.
+    /// The progress before the first step. It takes no memory.
     fn none(alloc: Global) -> Progress<'a>
         ensures { progress_of result ≡ no_steps }
     {
@@ -62,7 +63,8 @@ impl<'a> Progress<'a> {
         }
     }
 
-    /// A further step of this type. Of a declared attribute it earns that it is there, where that is new.
+    /// The progress with a further step of this type. The step earns that its attribute is there, if the attribute is
+    /// declared and the step is not True.
     fn with(
         self,
         ty: &CedarType,
@@ -76,7 +78,7 @@ impl<'a> Progress<'a> {
         let is_true = is_true_type(ty);
         let all_true = self.all_true & is_true;
         let mut earned = self.earned;
-        // what is True is known already, or needs no guard
+        // a True step earns nothing, because its attribute is known to be there already, or needs no guard
         if is_declared & !is_true {
             earned.insert(there)?;
             return Ok(Progress { earned, all_true });
@@ -84,7 +86,7 @@ impl<'a> Progress<'a> {
         Ok(Progress { earned, all_true })
     }
 
-    /// What a chain comes to at its end.
+    /// The decision at the end of a chain: True if each step is True, otherwise Bool, with all that the steps earned.
     fn end(self, alloc: Global) -> Result<Decision<'a>, AllocError>
         ensures { IfOk result (λ d. decision_of d ≡ end_of_chain (progress_of self.entry)) }
     {
@@ -96,7 +98,7 @@ impl<'a> Progress<'a> {
     }
 }
 
-/// Whether it is known that the attribute is there: before, or by steps of this chain.
+/// Whether the attribute is known to be there, from before the chain or from an earlier step.
 fn knows<'a>(prior: &Prior<'_, 'a>, progress: &Progress<'a>, there: &Capability<'a>) -> bool
     ensures { result
         ≡ union (known_in prior.now) (caps_so_far progress.now.earned) (cap_of there.now) }
@@ -104,7 +106,7 @@ fn knows<'a>(prior: &Prior<'_, 'a>, progress: &Progress<'a>, there: &Capability<
     prior.contains(there) | progress.earned.contains(there)
 }
 
-/// Whether it is known after a step that the attribute is there: it was, or the step earns it.
+/// Whether the attribute is known to be there after a step: it was known before, or the step earns it.
 fn knows_after(is_known: bool, ty: &CedarType, is_declared: bool) -> bool
     ensures { (a : _) → is_some a ≡ is_declared → (there : _)
         → result ≡ (is_known || step_earns (ty_of ty.now) there a there) }
@@ -113,8 +115,8 @@ fn knows_after(is_known: bool, ty: &CedarType, is_declared: bool) -> bool
 }
 
 impl TypeEnv<'_, '_, '_, '_> {
-    /// The type of `base has x.y` by that of the base, and what it earns. Errors of the first attribute stand at the base,
-    /// those of later ones at `loc`.
+    /// The decision on `base has x.y` by the base's type. Errors of the first attribute stand at the base, those of later
+    /// ones at `loc`.
     pub(crate) fn decide_chain<'a>(
         &self,
         prior: &Prior<'_, 'a>,
@@ -143,14 +145,14 @@ impl TypeEnv<'_, '_, '_, '_> {
                 }
             }
             at = next;
-            // the accesses behind the first attribute have no text of their own
+            // the accesses behind the first attribute have no text of their own, so their errors stand at the whole
             place = loc;
         }
         let decision = self.last_step(prior, place, &at, &ty, progress)?;
         Ok(decision)
     }
 
-    /// The last step, with errors at `place`.
+    /// The decision on the last step, with errors at `place`.
     fn last_step<'a>(
         &self,
         prior: &Prior<'_, 'a>,
@@ -174,7 +176,7 @@ impl TypeEnv<'_, '_, '_, '_> {
         }
     }
 
-    /// A step that is not the last, and the access after it, with errors at `place`.
+    /// The result of a step that is not the last, and of the access after it, with errors at `place`.
     fn link<'a>(
         &self,
         prior: &Prior<'_, 'a>,
@@ -197,7 +199,7 @@ impl TypeEnv<'_, '_, '_, '_> {
         }
     }
 
-    /// The access after a step, with errors at `place`.
+    /// The result of the access after a step, with errors at `place`. An access that fails ends the chain.
     fn access<'a>(
         &self,
         place: Option<Loc>,
@@ -221,7 +223,8 @@ impl TypeEnv<'_, '_, '_, '_> {
         }
     }
 
-    /// One step, with its error at `place`.
+    /// The result of one step, with its error at `place`. An operand that is neither a record nor an entity ends the
+    /// chain.
     fn step<'a>(
         &self,
         prior: &Prior<'_, 'a>,
@@ -249,7 +252,7 @@ impl TypeEnv<'_, '_, '_, '_> {
         let required = self.required(ty, attr)?;
         let is_declared = required.is_some();
         let step_ty = self.step_type(ty, attr, required, is_known);
-        // the steps behind it are never evaluated
+        // the steps behind a False one are never evaluated, so they are not typed
         if is_false_type(&step_ty) {
             return Ok(Step::Ends(gives(self.alloc, bool_type(false))));
         }
@@ -258,7 +261,8 @@ impl TypeEnv<'_, '_, '_, '_> {
         Ok(Step::GoesOn(progress, is_known))
     }
 
-    /// The type of a step, by whether the attribute is required, if it is declared.
+    /// The type of a step, by whether the type requires the attribute, if it declares it, and by whether it is known to be
+    /// there.
     fn step_type(
         &self,
         owner: &CedarType,

@@ -1,4 +1,4 @@
-// Forms whose operands are all typed before a table decides: what tables say.
+// Decisions of the forms whose operands are all typed before a table decides.
 ghost use Rattle.std.specs.Prelude.{◌≡◌, [], ◌∷◌, ◌++◌, IfOk, option_map};
 ghost use Rattle.cedar_types.specs.Errors.{finding_of};
 ghost use Rattle.cedar_types.specs.Types.{ty_of};
@@ -11,23 +11,24 @@ use cedar_types::base::{CedarType, ValidationError};
 use cedar_types::types::capability::CapabilitySet;
 use std::alloc::{AllocError, Global};
 
-/// What the table of a form says by the types of its operands.
+/// The decision of a form's table on the whole, by the types of its operands.
 #[derive(Drop)]
 pub(crate) enum Decision<'a> {
     /// The whole has this type, and produces these capabilities.
     Gives(CedarType, CapabilitySet<'a>),
-    /// It fails: the type that stays, if one does, and the errors.
+    /// The whole fails: the type that it keeps, if any, and its errors.
     Refuses(Option<CedarType>, Vec<ValidationError>),
 }
 
-/// The type, without capabilities. It takes no memory.
+/// The decision that the whole has this type, without capabilities. It takes no memory.
 pub(crate) fn gives<'a>(alloc: Global, ty: CedarType) -> Decision<'a>
     ensures { decision_of result ≡ gives (ty_of ty) no_caps }
 {
     Decision::Gives(ty, no_capabilities(alloc))
 }
 
-/// The type, or the errors if there are any.
+/// The decision that the whole has this type, or fails with these errors if there are any. A
+/// failure keeps the type.
 pub(crate) fn gives_unless<'a>(
     alloc: Global,
     errors: Vec<ValidationError>,
@@ -41,7 +42,7 @@ pub(crate) fn gives_unless<'a>(
     Decision::Refuses(Some(ty), errors)
 }
 
-/// A failure with this error, where this type stays, if one does.
+/// The decision that the whole fails with this error, and keeps this type, if there is one.
 pub(crate) fn refuses_with<'a>(
     alloc: Global,
     ty: Option<CedarType>,
@@ -55,7 +56,7 @@ pub(crate) fn refuses_with<'a>(
     Ok(Decision::Refuses(ty, errors))
 }
 
-/// Adds errors to those so far.
+/// Adds these errors to those found so far.
 pub(crate) fn add_errors(
     errors: &mut Vec<ValidationError>,
     more: Vec<ValidationError>,

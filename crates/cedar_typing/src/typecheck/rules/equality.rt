@@ -1,4 +1,4 @@
-// `==`, and the operators on sets and their members.
+// The rule of `==`, and the type of a set's members, which `contains` compares.
 ghost use Rattle.std.specs.Prelude.{◌≡◌, IfOk, option_map};
 ghost use Rattle.cedar_types.specs.Types.{ty_of};
 ghost use Rattle.cedar_types.specs.Expressions.View.{lit_of, written};
@@ -15,7 +15,7 @@ use cedar_types::base::{
 use std::alloc::AllocError;
 
 impl TypeEnv<'_, '_, '_, '_> {
-    /// What `left == right` has for a type by theirs.
+    /// The decision on `left == right` by the types of both sides.
     pub(crate) fn decide_equality<'a>(
         &self,
         loc: Option<Loc>,
@@ -36,7 +36,7 @@ impl TypeEnv<'_, '_, '_, '_> {
         let one = self.literal_of(left)?;
         let other = self.literal_of(right)?;
         let ty = equality_type(&one, &other, left_type, right_type);
-        // what is decided needs no bound: `1 == "a"` is false, and no mistake, in Strict too
+        // a decided comparison needs no bound: `1 == "a"` is false, and no mistake, in Strict too
         if !is_any_bool_type(&ty) {
             return Ok(gives(self.alloc, ty));
         }
@@ -44,7 +44,8 @@ impl TypeEnv<'_, '_, '_, '_> {
         Ok(gives_unless(self.alloc, errors, ty))
     }
 
-    /// The literal that an expression is. The variable `action` counts as the environment's action.
+    /// The literal that an expression stands for, if any. The variable `action` counts as the
+    /// environment's action.
     pub(crate) fn literal_of(&self, e: &Expr) -> Result<Option<Literal>, AllocError>
         ensures { IfOk result (λ o.
             option_map lit_of o
@@ -64,6 +65,7 @@ impl TypeEnv<'_, '_, '_, '_> {
         }
     }
 
+    /// The environment's action as a literal; `None` in the environment of undeclared actions.
     fn action_literal(&self) -> Result<Option<Literal>, AllocError>
         ensures { IfOk result (λ o.
             option_map lit_of o ≡ action_literal (env_at self.now).request_env) }
@@ -75,7 +77,8 @@ impl TypeEnv<'_, '_, '_, '_> {
     }
 }
 
-/// The type of `==`, before Strict asks for a bound.
+/// The type of `==` before Strict asks for a bound: False for disjoint types, else the result of
+/// comparing literals, else Bool.
 fn equality_type(
     one: &Option<Literal>,
     other: &Option<Literal>,
@@ -86,18 +89,19 @@ fn equality_type(
         ≡ equality_type (option_map lit_of one.now) (option_map lit_of other.now)
         (option_map (λ t. ty_of t.now) left.entry) (option_map (λ t. ty_of t.now) right.entry) }
 {
-    // entities that have no type in common are never equal, whatever they are
+    // entities of disjoint types are never equal, whatever they are
     if are_apart(left, right) {
         return CedarType::Bool(BoolType::False);
     }
     compared_literals(one, other)
 }
 
+/// The type of `==` by comparing literals: Bool if a side is not a literal.
 fn compared_literals(one: &Option<Literal>, other: &Option<Literal>) -> CedarType
     ensures { ty_of result
         ≡ compared_literals (option_map lit_of one.now) (option_map lit_of other.now) }
 {
-    // of anything but literals the value is not known before there is a request
+    // the value of any other expression is not known before there is a request
     let Some(one) = one else {
         return any_bool();
     };
@@ -131,7 +135,7 @@ fn is_same_literal(one: &Literal, other: &Literal) -> bool
     *one == *other
 }
 
-/// The type of a set's members, where it names one.
+/// The type of a set's members, if the type names one: a set of anything and Never do not.
 pub(crate) fn member_type(ty: &Option<CedarType>) -> Option<&CedarType>
     ensures { option_map (λ t. ty_of t.now) result ≡ member_type (option_map ty_of ty.now) }
 {

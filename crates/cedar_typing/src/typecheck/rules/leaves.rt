@@ -1,4 +1,4 @@
-// Expressions without parts: literals, variables, slots and unknowns.
+// The rules of expressions without parts: literals, variables, slots and unknowns.
 ghost use Rattle.std.specs.Prelude.{◌≡◌, is_some, IfOk, None, Some, option_map};
 ghost use Rattle.cedar_types.specs.Names.{uid_of, path_of};
 ghost use Rattle.cedar_types.specs.Types.{ty_of};
@@ -23,6 +23,8 @@ use std::alloc::{AllocError, Global};
 use std::rc::RcStr;
 
 impl TypeEnv<'_, '_, '_, '_> {
+    /// Types a literal. An entity whose type the schema does not know fails without an error,
+    /// because the passes over names report it.
     #[inline(never)]
     pub(crate) fn check_literal<'a>(
         &self,
@@ -41,6 +43,8 @@ impl TypeEnv<'_, '_, '_, '_> {
         Ok(answer)
     }
 
+    /// Types a variable. `action` fails without an error if the schema does not declare the
+    /// environment's action.
     #[inline(never)]
     pub(crate) fn type_variable<'a>(
         &self,
@@ -69,6 +73,7 @@ impl TypeEnv<'_, '_, '_, '_> {
         }
     }
 
+    /// Types a slot: it has the type to which it is linked, else any entity.
     #[inline(never)]
     pub(crate) fn type_slot<'a>(
         &self,
@@ -89,7 +94,8 @@ impl TypeEnv<'_, '_, '_, '_> {
         Ok(answer)
     }
 
-    /// An expression without parts, of this type. Without one it is refused.
+    /// The answer for an expression without parts, of this type. Without a type it fails, and adds
+    /// no error.
     fn leaf_answer<'a>(
         &self,
         loc: Option<Loc>,
@@ -105,7 +111,7 @@ impl TypeEnv<'_, '_, '_, '_> {
         Ok(without_capabilities(self.alloc, succeeded, typed))
     }
 
-    /// An unknown has no type, and its typed expression no place.
+    /// Types an unknown: it fails, without a type, and its typed copy has no place.
     #[inline(never)]
     pub(crate) fn type_unknown<'a>(&self, name: &Name) -> Result<TypecheckAnswer<'a>, AllocError>
         ensures { IfOk result (λ r. answer_of r ≡ infer_unknown (path_of name.now) (at None)) }

@@ -1,4 +1,4 @@
-// Which expressions are literals, as the arguments of a checked function have to be in Strict.
+// Literals, which the arguments of a function with a check must be in Strict.
 ghost use Rattle.std.specs.Prelude.{◌≡◌, map};
 ghost use Rattle.std.specs.List.{list_all};
 ghost use Rattle.cedar_types.specs.Expressions.View.{written};
@@ -6,7 +6,7 @@ ghost use Rattle.cedar_typing.specs.Rules.Calls.{is_literal};
 
 use cedar_types::base::{Expr, ExprKind};
 
-/// Whether each of them is a literal.
+/// Whether each argument is a literal.
 pub(crate) fn all_literals(arguments: &[Expr]) -> bool
     ensures { result ≡ list_all is_literal (map written arguments.now) }
 {

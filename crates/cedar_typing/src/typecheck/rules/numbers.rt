@@ -1,4 +1,4 @@
-// `<` and `<=`.
+// The rule of `<` and `<=`.
 ghost use Rattle.std.specs.Prelude.{◌≡◌, IfOk, map, option_map};
 ghost use Rattle.cedar_types.specs.Types.Bounds.{ty_eq};
 ghost use Rattle.cedar_types.specs.Types.{ty_of, TLong};
@@ -17,7 +17,7 @@ use std::alloc::AllocError;
 use std::rc::Rc;
 
 impl TypeEnv<'_, '_, '_, '_> {
-    /// What a comparison of operands at these places has for a type by theirs.
+    /// The decision on a comparison of operands at these places, by their types.
     pub(crate) fn decide_comparison<'a>(
         &self,
         left_loc: Option<Loc>,
@@ -49,7 +49,7 @@ impl TypeEnv<'_, '_, '_, '_> {
         ensures { IfOk result (λ d. decision_of d
             ≡ compares (env_at self.now) left_loc right_loc (ty_of left.now) (ty_of right.now)) }
     {
-        // nothing says which of the types that are compared is meant
+        // beside each other, two Nevers do not tell which comparable type is meant
         if is_never_type(left) & is_never_type(right) {
             return Ok(Decision::Refuses(Some(any_bool()), Vec::new(self.alloc)));
         }
@@ -68,7 +68,7 @@ impl TypeEnv<'_, '_, '_, '_> {
         Ok(Decision::Refuses(Some(any_bool()), errors))
     }
 
-    /// The error at `loc` of a type beside Never that is not comparable.
+    /// The error at `loc` of a type beside Never; none if the type is comparable.
     fn beside_never(
         &self,
         loc: Option<Loc>,
@@ -85,7 +85,7 @@ impl TypeEnv<'_, '_, '_, '_> {
         Ok(errors)
     }
 
-    /// The errors of two types that are not one comparable type.
+    /// The errors of two sides that are not of one comparable type.
     fn incomparable(
         &self,
         left_loc: Option<Loc>,
@@ -98,7 +98,7 @@ impl TypeEnv<'_, '_, '_, '_> {
             ≡ incomparable (env_at self.now) left_loc right_loc (ty_of left.now) (ty_of right.now)) }
     {
         let mut errors = Vec::new(self.alloc);
-        // a Long on one side tells what the other should have been
+        // a Long on one side tells the type that the other side should have had
         if is_long(left) {
             errors.push(self.unexpected(Expected::Long, right_loc, right)?)?;
         } else if is_long(right) {
@@ -114,7 +114,7 @@ impl TypeEnv<'_, '_, '_, '_> {
         Ok(errors)
     }
 
-    /// That one of the types that are compared is expected at `loc`.
+    /// The error at `loc` that one of the comparable types is expected.
     fn expected_comparable(
         &self,
         loc: Option<Loc>,
@@ -130,7 +130,7 @@ impl TypeEnv<'_, '_, '_, '_> {
         Ok(ValidationError::expected_one_of_types(loc, policy_id, types, actual))
     }
 
-    /// The types that are compared: Longs, and the overloaded extension types.
+    /// The comparable types: Long, and the overloaded extension types.
     fn comparable_types(&self) -> Result<Vec<CedarType>, AllocError>
         ensures { IfOk result (λ v. map ty_of v.items ≡ comparable_types (env_at self.now)) }
     {
@@ -153,7 +153,7 @@ impl TypeEnv<'_, '_, '_, '_> {
         }
     }
 
-    /// Whether values of this extension type are compared.
+    /// Whether `<` and `<=` compare values of this extension type.
     fn is_overloaded(&self, name: &Name) -> bool
         ensures { result
             ≡ list_any (path_eq (path_of name.now)) (env_at self.now).overloaded_types }
@@ -168,7 +168,7 @@ fn is_long(ty: &CedarType) -> bool
     matches!(ty, CedarType::Long)
 }
 
-/// The name of an extension type.
+/// The name of an extension type; `None` for any other type.
 fn extension_name(ty: &CedarType) -> Option<&Name>
     ensures { option_map (λ n. path_of n.now) result ≡ extension_named (ty_of ty.now) }
 {

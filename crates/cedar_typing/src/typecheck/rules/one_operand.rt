@@ -44,7 +44,7 @@ pub(crate) enum OneOperand<'x> {
 }
 
 impl OneOperand<'_> {
-    /// What the operand has to be.
+    /// The expected type of the operand.
     fn expected(self) -> Expected<'static>
         ensures { (env : _) → (m : _) → (prior : _) → (e : _)
             → first_expectation (form_of_one env m prior e self.entry).expects
@@ -62,7 +62,7 @@ impl OneOperand<'_> {
         }
     }
 
-    /// The typed whole.
+    /// The typed copy of the whole.
     fn node(
         self,
         alloc: Global,
@@ -107,7 +107,7 @@ impl OneOperand<'_> {
 }
 
 impl<C: ArgumentCheck> SingleEnvTypechecker<'_, '_, '_, '_, C> {
-    /// A form with one operand, at `loc`.
+    /// Types a form with one operand, at `loc`.
     #[cycle(typing)]
     pub(crate) fn type_one_operand<'a>(
         &self,
@@ -133,8 +133,8 @@ impl<C: ArgumentCheck> SingleEnvTypechecker<'_, '_, '_, '_, C> {
         Ok(answer)
     }
 
-    /// A part that has to be of certain types, and the same part as a base of accesses. The base that an access is comes from its
-    /// own base, so that digests are carried along a chain.
+    /// Types a part that has an expected type, and gives the part as a base of accesses too. The base of an access comes from
+    /// that of its own operand, so that digests are carried along a chain, for example `a.b.c`.
     #[cycle(typing)]
     fn type_base<'a>(
         &self,
@@ -171,9 +171,9 @@ impl<C: ArgumentCheck> SingleEnvTypechecker<'_, '_, '_, '_, C> {
 }
 
 impl TypeEnv<'_, '_, '_, '_> {
-    /// A form with one operand, at `loc`, by what typing says of the operand.
+    /// The answer for a form with one operand, at `loc`, from the typed operand.
     ///
-    /// Two functions of the cycle call it, so no compiler makes its locals part of their frames.
+    /// It is never inlined, because two functions of the recursion call it, and its locals would enlarge both of their frames.
     #[inline(never)]
     fn one_answer<'a>(
         &self,
@@ -206,7 +206,7 @@ impl TypeEnv<'_, '_, '_, '_> {
         }
     }
 
-    /// What the form's table says, by the type of its operand.
+    /// The decision of the form's table by the type of its operand.
     fn decide_one<'a>(
         &self,
         prior: &Prior<'_, 'a>,

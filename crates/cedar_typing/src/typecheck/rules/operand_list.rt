@@ -1,4 +1,4 @@
-// Operands of any number, one after another: the elements of a set, the arguments of a call.
+// Operands of any number, typed one after another: the elements of a set, the arguments of a call.
 ghost use Rattle.std.specs.Prelude.{◌≡◌, ◌≤◌, ◌+◌, true, [], IfOk, map, option_map};
 ghost use Rattle.cedar_types.specs.Types.{ty_of};
 ghost use Rattle.cedar_types.specs.Expressions.View.{trees_of, written};
@@ -17,19 +17,19 @@ use crate::typecheck::single_env::SingleEnvTypechecker;
 use cedar_types::base::{ArgumentCheck, CedarType, Expr, ValidationError};
 use std::alloc::{AllocError, Global};
 
-/// What operands, one after another, resulted in.
+/// The result of typing operands one after another.
 #[derive(Drop)]
 pub(crate) struct OperandList {
-    /// The typed copies, of those before the first that is too deep.
+    /// The typed copies of the operands before the first that is too deep.
     pub typed: Vec<Expr<Option<CedarType>>>,
-    /// Whether all of these succeeded.
+    /// Whether all operands with a copy succeeded.
     pub succeeded: bool,
     /// Whether an operand is too deep.
     pub is_cut: bool,
 }
 
 impl OperandList {
-    /// No operand.
+    /// The result for no operand.
     fn none(alloc: Global) -> OperandList
         ensures { operands_of result ≡ all_typed true [] }
     {
@@ -40,8 +40,8 @@ impl OperandList {
         }
     }
 
-    /// One more operand, which is too deep where it has no part. After such a one no copy is kept:
-    /// the whole has none.
+    /// The result with one more operand, which is too deep if it has no part. After such an operand
+    /// no copy is kept, because the whole has none.
     #[inline(never)]
     fn with(self, operand: Option<Part<'_>>) -> Result<OperandList, AllocError>
         ensures { IfOk result (λ r. operands_of r
@@ -70,9 +70,10 @@ impl OperandList {
 }
 
 impl<C: ArgumentCheck> SingleEnvTypechecker<'_, '_, '_, '_, C> {
-    /// Types operands, each one deeper than the whole, that have to be of these types, those beyond
-    /// the last type of that one; without types they may be anything. Where typing goes on, those
-    /// after one that is too deep are typed too, for their errors.
+    /// Types operands, each one deeper than the whole. Each must be of the type at its place in
+    /// `types`, those beyond the last type of the last one; without types they may be anything. If
+    /// `goes_on`, the operands after one that is too deep are typed too, so that their errors
+    /// count.
     #[cycle(typing)]
     pub(crate) fn type_operands<'a>(
         &self,
@@ -108,7 +109,7 @@ impl<C: ArgumentCheck> SingleEnvTypechecker<'_, '_, '_, '_, C> {
     }
 }
 
-/// What the first operand has to be: of the first type, if there is one.
+/// The expected type of the first operand: the first type, if there is one.
 fn first_of(types: &[CedarType]) -> Option<Expected<'_>>
     ensures { option_map expected_types result ≡ first_wanted (map ty_of types.now) }
 {
@@ -118,7 +119,8 @@ fn first_of(types: &[CedarType]) -> Option<Expected<'_>>
     }
 }
 
-/// The types of those after the first: the last type stays.
+/// The types of the operands after the first. The last type stays, because operands beyond it must
+/// be of it.
 fn later_types(types: &[CedarType]) -> &[CedarType]
     ensures { map ty_of result.now ≡ later_types (map ty_of types.now) }
 {

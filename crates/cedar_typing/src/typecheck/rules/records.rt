@@ -1,4 +1,5 @@
-// Records: the values of the fields one after another, and what their types say of the whole.
+// The rule of records: the values of the fields are typed one after another, and their types make
+// the record's type.
 ghost use Rattle.std.specs.Prelude.{◌≡◌, ◌≤◌, ◌+◌, false, IfOk, option_map};
 ghost use Rattle.cedar_types.specs.Expressions.Tree.{record_of};
 ghost use Rattle.cedar_types.specs.Types.{ty_of};
@@ -27,19 +28,19 @@ use std::alloc::{AllocError, Global};
 use std::collections::BTreeMap;
 use std::rc::RcStr;
 
-/// What the values of fields, one after another, resulted in.
+/// The result of typing the values of fields one after another.
 #[derive(Drop)]
 pub(crate) struct FieldValues {
-    /// The fields with their typed values, of those before the first that is too deep.
+    /// The fields with their typed values, up to the first value that is too deep.
     typed: BTreeMap<RcStr, Expr<Option<CedarType>>>,
-    /// Whether all of these succeeded.
+    /// Whether all values with a typed copy succeeded.
     succeeded: bool,
     /// Whether a value is too deep.
     is_cut: bool,
 }
 
 impl<C: ArgumentCheck> SingleEnvTypechecker<'_, '_, '_, '_, C> {
-    /// A record, at `loc`.
+    /// Types a record, at `loc`.
     #[cycle(typing)]
     #[inline(never)]
     pub(crate) fn type_record<'a>(
@@ -63,8 +64,8 @@ impl<C: ArgumentCheck> SingleEnvTypechecker<'_, '_, '_, '_, C> {
         Ok(answer)
     }
 
-    /// Types the values of the fields of a record, each one deeper than the whole, in the order
-    /// of their keys. After one that is too deep none is typed.
+    /// Types the values of a record's fields, each one deeper than the whole, in the order of their
+    /// keys. No value after one that is too deep is typed.
     #[cycle(typing)]
     fn type_fields<'a>(
         &self,
@@ -104,7 +105,7 @@ impl<C: ArgumentCheck> SingleEnvTypechecker<'_, '_, '_, '_, C> {
 }
 
 impl TypeEnv<'_, '_, '_, '_> {
-    /// A record at `loc`, where the values of its fields are typed. It adds no error.
+    /// The answer for a record at `loc` whose values are typed. It adds no error.
     #[inline(never)]
     fn record_answer<'a>(
         &self,
@@ -124,7 +125,7 @@ impl TypeEnv<'_, '_, '_, '_> {
     }
 }
 
-/// A record none of whose values is too deep.
+/// The answer for a record of which no value is too deep.
 fn typed_record<'a>(
     alloc: Global,
     loc: Option<Loc>,
@@ -150,8 +151,8 @@ fn typed_record<'a>(
     }
 }
 
-/// The type of a record with these fields: closed, and each attribute required. There is none
-/// where a value has none.
+/// The type of a record with these fields: closed, and each attribute required. There is none if a
+/// value has no type.
 fn record_type(
     alloc: Global,
     fields: &BTreeMap<RcStr, Expr<Option<CedarType>>>,

@@ -1,4 +1,4 @@
-// Sets: what is said of the whole by the types of the elements.
+// The rule of sets: the types of the elements decide the type of the whole.
 ghost use Rattle.std.specs.Prelude.{◌≡◌, ◌≤◌, ◌+◌, true, [], IfOk, map, option_map};
 ghost use Rattle.cedar_types.specs.declared.base.errors.type_errors.LubContext.TheVariants as context;
 ghost use Rattle.cedar_types.specs.Capability.{caps};
@@ -34,7 +34,8 @@ use std::alloc::{AllocError, Global};
 use std::rc::Rc;
 
 impl<C: ArgumentCheck> SingleEnvTypechecker<'_, '_, '_, '_, C> {
-    /// A set, at `loc`.
+    /// Types a set, at `loc`. The elements after one that is too deep are typed too, so that their
+    /// errors count.
     #[cycle(typing)]
     #[inline(never)]
     pub(crate) fn type_set<'a>(
@@ -59,7 +60,7 @@ impl<C: ArgumentCheck> SingleEnvTypechecker<'_, '_, '_, '_, C> {
 }
 
 impl TypeEnv<'_, '_, '_, '_> {
-    /// A set at `loc`, where the elements are typed.
+    /// The answer for a set at `loc` whose elements are typed.
     #[inline(never)]
     pub(crate) fn set_answer<'a>(
         &self,
@@ -80,7 +81,7 @@ impl TypeEnv<'_, '_, '_, '_> {
         Ok(answer)
     }
 
-    /// A set none of whose elements is too deep.
+    /// The answer for a set of which no element is too deep.
     fn typed_set<'a>(
         &self,
         loc: Option<Loc>,
@@ -107,7 +108,7 @@ impl TypeEnv<'_, '_, '_, '_> {
         }
     }
 
-    /// What is said of a set by its elements: in Strict there has to be one.
+    /// The decision on a set by its elements. In Strict there must be an element.
     fn decide_set<'a>(
         &self,
         loc: Option<Loc>,
@@ -116,7 +117,7 @@ impl TypeEnv<'_, '_, '_, '_> {
         ensures { IfOk result (λ d. decision_of d
             ≡ set_decides (env_at self.now) loc (types_found (map typed_tree elements.now))) }
     {
-        // without an element nothing says of what it is a set, and Strict asks for one type
+        // an empty set does not tell the type of its members, and Strict asks for one type
         if elements.is_empty() & self.is_strict() {
             let mut errors = Vec::new(self.alloc);
             errors.push(ValidationError::empty_set_forbidden(loc, self.policy_id.clone()?))?;
@@ -127,8 +128,8 @@ impl TypeEnv<'_, '_, '_, '_> {
         Ok(decision)
     }
 
-    /// The errors beside an element that is too deep: those before it have to have a bound all the
-    /// same.
+    /// The errors of a set beside an element that is too deep: the elements before it must have a
+    /// bound all the same.
     fn errors_before_cut(
         &self,
         loc: Option<Loc>,
@@ -144,7 +145,8 @@ impl TypeEnv<'_, '_, '_, '_> {
         }
     }
 
-    /// A set of the bound of the types of its elements. Where one is missing, there is no other error.
+    /// The decision on a set by the types of its elements: a set of their bound, or the error that
+    /// they have none. If an element has no type, the set has none either, and adds no error.
     fn decide_by_types<'a>(
         &self,
         loc: Option<Loc>,
@@ -171,7 +173,7 @@ impl TypeEnv<'_, '_, '_, '_> {
         }
     }
 
-    /// The error of elements whose types have no bound.
+    /// The error of elements whose types have no bound. It names all types.
     fn without_bound(
         &self,
         loc: Option<Loc>,
@@ -200,7 +202,7 @@ fn set_node(
     node(alloc, loc, ty, ExprKind::Set(elements))
 }
 
-/// The types of the elements, if none is missing.
+/// The types of the elements, if each element has one.
 fn types_of<'t>(
     alloc: Global,
     elements: &'t [Expr<Option<CedarType>>],

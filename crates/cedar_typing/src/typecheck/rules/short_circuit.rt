@@ -1,4 +1,4 @@
-// `&&` and `||`.
+// The rules of `&&` and `||`.
 ghost use Rattle.std.specs.Prelude.{◌≡◌, ◌≤◌, Some, IfOk, option_map};
 ghost use Rattle.cedar_types.specs.Types.{ty_of};
 ghost use Rattle.cedar_types.specs.Expressions.View.{written};
@@ -33,18 +33,21 @@ pub(crate) enum Connective {
     Or,
 }
 
-/// Which of two sides says what the type of the whole is.
+/// The side that gives the whole its type.
 #[derive(Clone, Copy)]
 pub(crate) enum Side {
-    /// The right one, which ends the whole.
+    /// The right side, because it ends the whole.
     RightEnds,
+    /// The left side, because the right one changes nothing.
     LeftAlone,
+    /// The right side, because the left one changes nothing.
     RightAlone,
+    /// No side: the whole is Bool.
     Neither,
 }
 
 impl Connective {
-    /// Whether a side of this type ends the whole.
+    /// Whether a side of this type ends the whole: False ends `&&`, and True ends `||`.
     fn ends(self, ty: &CedarType) -> bool
         ensures { result ≡ (connective_of self).ends (ty_of ty.now) }
     {
@@ -54,7 +57,7 @@ impl Connective {
         }
     }
 
-    /// Whether a side of this type leaves it to the other side.
+    /// Whether a side of this type leaves the value to the other side: True does in `&&`, and False in `||`.
     fn changes_nothing(self, ty: &CedarType) -> bool
         ensures { result ≡ (connective_of self).changes_nothing (ty_of ty.now) }
     {
@@ -91,8 +94,9 @@ impl Connective {
         Side::Neither
     }
 
-    /// What is known on the right beside what is known before: `b` of `a && b` is evaluated only where `a` is true, and
-    /// `b` of `a || b` only where it is false.
+    /// The capabilities that are known on the right. `b` of `a && b` is evaluated only if `a` is true, so `b` may use
+    /// the capabilities of `a`; `b` of `a || b` only if `a` is false, so it may not. For example, `principal has x &&
+    /// principal.x` is fine, and with `||` it is an error.
     fn known_on_right<'x, 'a>(
         self,
         prior: &'x Prior<'x, 'a>,
@@ -107,18 +111,18 @@ impl Connective {
         }
     }
 
-    /// What a left side that ends the whole produces.
+    /// The capabilities that a whole produces if its left side ends it.
     fn ended_capabilities<'a>(self, alloc: Global, left: CapabilitySet<'a>) -> CapabilitySet<'a>
         ensures { caps result ≡ (connective_of self).ended_caps (caps left.entry) }
     {
         match self {
-            // `a && ..` is never true then, and nothing follows from it
+            // the whole is never true then, so nothing follows from it
             Connective::And => no_capabilities(alloc),
             Connective::Or => left,
         }
     }
 
-    /// What both sides produce.
+    /// The capabilities that a whole produces if its right side is typed too.
     fn capabilities<'a>(
         self,
         alloc: Global,
@@ -129,8 +133,8 @@ impl Connective {
         ensures { IfOk result (λ c. caps c
             ≡ (connective_of self).side_caps (side_seen side) (caps left.entry) (caps right.entry)) }
     {
-        // what a side of type True says holds even where it is not evaluated; without one, `||` is true
-        // because of either side, so only what both say holds
+        // a True side's capabilities hold even where the side is not evaluated; without a True side, either side may be
+        // the reason that `||` is true, so only the capabilities of both hold
         match (self, side) {
             (Connective::And, Side::RightEnds) => Ok(no_capabilities(alloc)),
             (Connective::And, Side::LeftAlone) => union_of(left, right),
@@ -162,7 +166,7 @@ impl Connective {
 }
 
 impl<C: ArgumentCheck> SingleEnvTypechecker<'_, '_, '_, '_, C> {
-    /// `&&` or `||` at `loc`.
+    /// Types `&&` or `||`, at `loc`.
     #[cycle(typing)]
     #[inline(never)]
     pub(crate) fn type_short_circuit<'a>(
@@ -200,7 +204,7 @@ impl<C: ArgumentCheck> SingleEnvTypechecker<'_, '_, '_, '_, C> {
 }
 
 impl TypeEnv<'_, '_, '_, '_> {
-    /// The left side, which ends the whole, at the place of the whole.
+    /// The answer for a whole that its left side ends: that side, at the place of the whole.
     #[inline(never)]
     fn ended_answer<'a>(
         &self,
@@ -218,7 +222,7 @@ impl TypeEnv<'_, '_, '_, '_> {
         with_capabilities(succeeded, typed, capabilities)
     }
 
-    /// `&&` or `||` at `loc` of two typed sides, the left of which does not end the whole.
+    /// The answer for `&&` or `||` at `loc`, from two typed sides of which the left does not end the whole.
     #[tactic(auto, using(crate::proofs::Views::Typed::annotation_is))]
     #[inline(never)]
     fn sides_answer<'a>(
@@ -257,7 +261,7 @@ impl TypeEnv<'_, '_, '_, '_> {
     }
 }
 
-/// The type of the whole by the types of both sides.
+/// The type of the whole, by the side that gives it.
 fn type_by_side(side: Side, left: &CedarType, right: &CedarType) -> Result<CedarType, AllocError>
     ensures { IfOk result (λ t.
         ty_of t

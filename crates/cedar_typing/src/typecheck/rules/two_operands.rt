@@ -1,4 +1,4 @@
-// Operators on two operands.
+// Operators with two operands.
 ghost use Rattle.std.specs.Prelude.{◌≡◌, ◌≤◌, [], ◌∷◌, Some, IfOk, option_map, if◌then◌else◌};
 ghost use Rattle.cedar_types.specs.declared.base.types.BoolType.TheVariants.{AnyBool};
 ghost use Rattle.cedar_types.specs.Types.{ty_of, TBool};
@@ -45,7 +45,7 @@ pub(crate) enum TwoOperands {
 }
 
 impl TwoOperands {
-    /// The form of an operator.
+    /// The form of this operator.
     pub(crate) fn of(op: BinaryOp) -> TwoOperands
         ensures { (env : _) → (m : _) → (prior : _) → (a : _) → (b : _)
             → form_of_two env m prior a b result ≡ binary_form env m prior a b op }
@@ -66,7 +66,8 @@ impl TwoOperands {
         }
     }
 
-    /// Whether the right operand is still typed after a left one that is too deep.
+    /// Whether the right operand is still typed after a left one that is too deep, because the
+    /// original types both operands before it looks at an answer.
     fn goes_on(self) -> bool
         ensures { (env : _) → (m : _) → (prior : _) → (a : _) → (b : _)
             → (form_of_two env m prior a b self).goes_on ≡ result }
@@ -83,7 +84,7 @@ impl TwoOperands {
         }
     }
 
-    /// What the left operand has to be, if anything.
+    /// The expected type of the left operand; `None` if it may be anything.
     fn expected_left(self) -> Option<Expected<'static>>
         ensures { (env : _) → (m : _) → (prior : _) → (a : _) → (b : _)
             → first_expectation (form_of_two env m prior a b self).expects
@@ -101,7 +102,7 @@ impl TwoOperands {
         }
     }
 
-    /// What the right operand has to be, if anything.
+    /// The expected type of the right operand; `None` if it may be anything.
     fn expected_right(self) -> Option<Expected<'static>>
         ensures { (env : _) → (m : _) → (prior : _) → (a : _) → (b : _)
             → first_expectation (later_expectations (form_of_two env m prior a b self).expects)
@@ -119,7 +120,7 @@ impl TwoOperands {
         }
     }
 
-    /// The operator.
+    /// The operator of the form.
     fn op(self) -> BinaryOp
         ensures { (env : _) → (m : _) → (prior : _) → (a : _) → (b : _)
             → (k : _) → (x : _) → (y : _)
@@ -137,7 +138,8 @@ impl TwoOperands {
         }
     }
 
-    /// The type of the whole, by whether both operands succeeded and the type that the table gives.
+    /// The type of the whole, from the table's type and from whether both operands succeeded: a
+    /// failed `in` is Bool.
     fn type_given(self, succeeded: bool, ty: CedarType) -> CedarType
         ensures { (env : _) → (m : _) → (prior : _) → (a : _) → (b : _)
             → ty_of result ≡ type_given (form_of_two env m prior a b self) succeeded (ty_of ty) }
@@ -156,7 +158,7 @@ impl TwoOperands {
 }
 
 impl<C: ArgumentCheck> SingleEnvTypechecker<'_, '_, '_, '_, C> {
-    /// A form with two operands, at `loc`.
+    /// Types a form with two operands, at `loc`.
     #[cycle(typing)]
     #[inline(never)]
     pub(crate) fn type_two_operands<'a>(
@@ -195,7 +197,7 @@ impl<C: ArgumentCheck> SingleEnvTypechecker<'_, '_, '_, '_, C> {
 }
 
 impl TypeEnv<'_, '_, '_, '_> {
-    /// A form with two operands, at `loc`, where the operands are typed or too deep.
+    /// The answer for a form with two operands, at `loc`, each of which is typed or too deep.
     fn two_answer<'a>(
         &self,
         prior: &Prior<'_, 'a>,
@@ -224,6 +226,7 @@ impl TypeEnv<'_, '_, '_, '_> {
         Ok(answer)
     }
 
+    /// The answer for a form with two typed operands, at `loc`.
     #[inline(never)]
     fn two_parts_answer<'a>(
         &self,
@@ -267,7 +270,7 @@ impl TypeEnv<'_, '_, '_, '_> {
     }
 }
 
-/// The type, or Bool where an operand failed.
+/// The table's type, or Bool if an operand failed.
 fn bool_unless(succeeded: bool, ty: CedarType) -> CedarType
     ensures { ty_of result ≡ if succeeded then ty_of ty else TBool AnyBool }
 {
@@ -277,7 +280,7 @@ fn bool_unless(succeeded: bool, ty: CedarType) -> CedarType
     any_bool()
 }
 
-/// An operator on two typed operands.
+/// The typed copy of an operator on two operands.
 fn binary_node(
     alloc: Global,
     loc: Option<Loc>,

@@ -1,4 +1,4 @@
-// `!`, negation, `isEmpty`, `like` and `is`.
+// The rules of `!` and of `is`; the other unary forms always have one type.
 ghost use Rattle.std.specs.Prelude.{◌≡◌, option_map};
 ghost use Rattle.cedar_types.specs.Names.{type_of};
 ghost use Rattle.cedar_types.specs.Types.{ty_of, lub_of};
@@ -11,7 +11,8 @@ use crate::typecheck::type_tests::{any_bool, is_false_type, is_true_type};
 use cedar_types::base::{BoolType, CedarType, EntityKind, EntityLUB, EntityType};
 use std::alloc::Global;
 
-/// What `!` has for a type by that of its operand: it produces no capabilities.
+/// The decision on `!` by the type of its operand. It produces no capabilities, because `!e` is
+/// true where `e` is false.
 pub(crate) fn decide_not<'a>(alloc: Global, found: &Option<CedarType>) -> Decision<'a>
     ensures { decision_of result ≡ not_decides (option_map ty_of found.now) }
 {
@@ -34,7 +35,9 @@ fn not_type_of(found: &CedarType) -> CedarType
     CedarType::Bool(BoolType::AnyBool)
 }
 
-/// The type of `is` by that of its operand. Of Never it fails, without an error.
+/// The decision on `is` by the type of its operand: False if the entity type is none of the
+/// operand's, True if it is the only one, otherwise Bool. An operand of type Never makes it fail,
+/// without an error.
 pub(crate) fn decide_is<'a>(
     alloc: Global,
     entity_type: &EntityType,
