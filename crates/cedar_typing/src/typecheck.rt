@@ -1,4 +1,4 @@
-//! Typing, and what it answers.
+//! Typing of conditions and expressions, its answers, and the laws that hold of them.
 pub mod answer;
 mod capabilities;
 pub mod composition;

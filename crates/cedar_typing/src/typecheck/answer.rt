@@ -10,7 +10,7 @@ use cedar_types::base::{CedarType, Expr};
 use cedar_types::types::capability::CapabilitySet;
 use std::alloc::{AllocError, Global};
 
-/// What typing found of an expression. A typed expression has at each node the type that was found, if one was. It is boxed,
+/// The answer of typing an expression. A typed expression has at each node the type that was found, if one was. It is boxed,
 /// so that an answer is small: typing hands it on from part to whole, and a part becomes the whole's without a move.
 #[derive(Debug, Drop)]
 pub enum TypecheckAnswer<'a> {
@@ -19,15 +19,16 @@ pub enum TypecheckAnswer<'a> {
         expr_type: Box<Expr<Option<CedarType>>>,
         expr_capability: CapabilitySet<'a>,
     },
-    /// The expression is refused. Its root may still have a type, which what is around it goes on with.
+    /// The expression has failed. Its root may still have a type, with which the expression around it goes on, so that one
+    /// run shows all errors.
     TypecheckFail {
         expr_recovery_type: Box<Expr<Option<CedarType>>>,
     },
-    /// The expression is nested too deep, and nothing is said of it.
+    /// A part that is visited is nested deeper than `MAX_TYPED_DEPTH`, and nothing is known of the expression.
     RecursionLimit,
 }
 
-/// What an answer hands on to what follows it: a typed part of what is being typed.
+/// A typed part of the expression that is being typed: its answer as it is handed on to the whole.
 #[derive(Drop)]
 pub(crate) struct Part<'a> {
     pub typed: Box<Expr<Option<CedarType>>>,
@@ -37,7 +38,7 @@ pub(crate) struct Part<'a> {
 }
 
 impl<'a> TypecheckAnswer<'a> {
-    /// A success without capabilities. It takes no memory.
+    /// A success with this typed expression, without capabilities. It takes no memory.
     pub fn success(alloc: Global, expr_type: Box<Expr<Option<CedarType>>>) -> TypecheckAnswer<'a>
         ensures { SucceedsWithNone expr_type result }
     {
@@ -47,7 +48,7 @@ impl<'a> TypecheckAnswer<'a> {
         }
     }
 
-    /// A success with these capabilities.
+    /// A success with this typed expression and these capabilities.
     pub fn success_with_capability(
         expr_type: Box<Expr<Option<CedarType>>>,
         expr_capability: CapabilitySet<'a>,
@@ -60,7 +61,7 @@ impl<'a> TypecheckAnswer<'a> {
         }
     }
 
-    /// A failure.
+    /// A failure with this typed expression, whose root may lack a type.
     pub fn fail(expr_type: Box<Expr<Option<CedarType>>>) -> TypecheckAnswer<'a>
         ensures { result ≡ TypecheckAnswer.TypecheckFail expr_type }
     {
@@ -69,7 +70,7 @@ impl<'a> TypecheckAnswer<'a> {
         }
     }
 
-    /// Whether the root of the expression has this type. On the limit there is none.
+    /// Whether the root of the typed expression has this type. The limit has no typed expression, so its answer is `false`.
     pub fn contains_type(&self, ty: &CedarType) -> bool
         ensures { IsTrue result ↔ (type_of_answer self.now ≡ Some (ty_of ty.now)) }
     {
@@ -82,7 +83,7 @@ impl<'a> TypecheckAnswer<'a> {
         }
     }
 
-    /// The typed expression. On the limit there is none.
+    /// The typed expression of a success or of a failure. The limit has none.
     pub fn into_typed_expr(self) -> Option<Box<Expr<Option<CedarType>>>>
         ensures { result ≡ typed_expr_of self.entry }
     {
@@ -104,7 +105,7 @@ impl<'a> TypecheckAnswer<'a> {
         }
     }
 
-    /// The answer as a failure with the same expression. The limit stays.
+    /// The answer as a failure with its typed expression. The limit stays.
     pub fn into_fail(self) -> TypecheckAnswer<'a>
         ensures { result ≡ failed self.entry }
     {
@@ -115,8 +116,8 @@ impl<'a> TypecheckAnswer<'a> {
         }
     }
 
-    /// The answer with the capabilities of a success replaced by what `f` makes of them. For no other answer is `f`
-    /// called.
+    /// The answer in which the capabilities of a success are replaced by those that `f` makes of them. On a failure and on
+    /// the limit `f` is not called. Where `f` answers an `AllocError`, so does this call.
     pub fn map_capability<F>(self, f: F) -> Result<TypecheckAnswer<'a>, AllocError>
     where
         F: FnOnce(CapabilitySet<'a>) -> Result<CapabilitySet<'a>, AllocError>,
@@ -136,8 +137,9 @@ impl<'a> TypecheckAnswer<'a> {
         }
     }
 
-    /// What `f` answers for a success's expression and capabilities; for a failure what it answers for its expression
-    /// and no capabilities, as a failure; the limit without a call of `f`.
+    /// The answer of `f` for the typed expression and the capabilities of a success. For a failure, `f` gets its typed
+    /// expression and no capabilities, and its answer is made a failure. The limit stays, and `f` is not called. Where `f`
+    /// answers an `AllocError`, so does this call.
     pub fn then_typecheck<F>(self, alloc: Global, f: F) -> Result<TypecheckAnswer<'a>, AllocError>
     where
         F: FnOnce(
@@ -183,7 +185,7 @@ impl<'a> TypecheckAnswer<'a> {
         }
     }
 
-    /// The answer as it is, or made a failure.
+    /// The answer as it is if `succeeded`, otherwise made a failure.
     pub(crate) fn fail_unless(self, succeeded: bool) -> TypecheckAnswer<'a>
         ensures { result ≡ failed_unless succeeded self.entry }
     {

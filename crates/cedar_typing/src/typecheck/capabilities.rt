@@ -1,4 +1,4 @@
-// Capabilities that typing hands on.
+// Sets of capabilities that typing hands on.
 ghost use Rattle.std.specs.Prelude.{◌≡◌, IfOk};
 ghost use Rattle.cedar_types.specs.Capability.{caps, cap_of};
 ghost use Rattle.cedar_typing.specs.Capabilities.{no_caps, single, union, intersection};
@@ -6,14 +6,14 @@ ghost use Rattle.cedar_typing.specs.Capabilities.{no_caps, single, union, inters
 use cedar_types::types::capability::{Capability, CapabilitySet};
 use std::alloc::{AllocError, Global};
 
-/// No capabilities. It takes no memory.
+/// The empty set of capabilities. It takes no memory.
 pub(crate) fn no_capabilities<'a>(alloc: Global) -> CapabilitySet<'a>
     ensures { caps result ≡ no_caps }
 {
     CapabilitySet::new(alloc)
 }
 
-/// This capability alone.
+/// The set of this capability alone.
 pub(crate) fn one_capability<'a>(
     alloc: Global,
     capability: Capability<'a>,
@@ -23,7 +23,7 @@ pub(crate) fn one_capability<'a>(
     CapabilitySet::singleton(alloc, capability)
 }
 
-/// The capabilities of both, which end in it.
+/// The union of two sets of capabilities, which it consumes.
 pub(crate) fn union_of<'a>(
     one: CapabilitySet<'a>,
     other: CapabilitySet<'a>,
@@ -33,7 +33,7 @@ pub(crate) fn union_of<'a>(
     one.join(other)
 }
 
-/// The capabilities that both have.
+/// The intersection of two sets of capabilities.
 pub(crate) fn intersection_of<'a>(
     alloc: Global,
     one: &CapabilitySet<'a>,

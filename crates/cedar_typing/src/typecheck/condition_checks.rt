@@ -27,12 +27,12 @@ use std::alloc::{AllocError, Global};
 /// The check of a policy in one environment, as `PolicyCheck` has it, with the typed condition also where the check fails.
 #[derive(Debug, Drop)]
 pub enum ConditionCheck {
-    /// A `PolicyCheck::Success`.
+    /// A `PolicyCheck::Success`, with the typed condition.
     Success(Expr<Option<CedarType>>),
-    /// A `PolicyCheck::Irrelevant`.
+    /// A `PolicyCheck::Irrelevant`, with its errors and the typed condition.
     Irrelevant(Vec<ValidationError>, Expr<Option<CedarType>>),
-    /// A `PolicyCheck::Fail`, and the condition with the types that were found all the same. A part that is refused may have
-    /// none. Where a part is nested too deep, there is no tree.
+    /// A `PolicyCheck::Fail`, with its errors and the condition with all types that were found. A part that failed may have
+    /// no type. If a part is nested too deep, there is no tree.
     Fail(Vec<ValidationError>, Option<Expr<Option<CedarType>>>),
 }
 
@@ -40,8 +40,8 @@ impl<'a, C: ArgumentCheck> Typechecker<'a, C> {
     /// The check of `typecheck_by_single_request_env`, with the typed condition also where it fails (clause `tree`): both
     /// calls answer by the same rules (clause `exact`), so all that is promised of a `PolicyCheck` holds of this one.
     ///
-    /// The tree is what `typecheck_expr` answers of the condition where nothing is known, but that a condition which is no
-    /// Boolean has no type at its root. Where memory is refused, the answer is an `AllocError`.
+    /// The tree is that of `typecheck_expr` for the condition without prior capabilities, except that a condition that is
+    /// not a Boolean has no type at its root. Where memory is refused, the answer is an `AllocError`.
     pub fn typecheck_condition(
         &self,
         alloc: Global,
@@ -63,7 +63,7 @@ impl<'a, C: ArgumentCheck> Typechecker<'a, C> {
 }
 
 impl ConditionCheck {
-    /// The typed condition. There is none where a part is nested too deep.
+    /// The typed condition, of a failed check too. There is none if a part is nested too deep.
     pub fn typed(&self) -> Option<&Expr<Option<CedarType>>>
         ensures { option_map (λ e. typed_tree e.now) result ≡ tree_seen self.now }
     {
@@ -75,7 +75,7 @@ impl ConditionCheck {
         }
     }
 
-    /// The check alone, without the tree of a failure.
+    /// The check as a `PolicyCheck`, without the tree of a failure.
     pub fn into_policy_check(self) -> PolicyCheck
         ensures { verdict_of result ≡ verdict_seen self }
     {
@@ -88,8 +88,8 @@ impl ConditionCheck {
 }
 
 impl<C: ArgumentCheck> SingleEnvTypechecker<'_, '_, '_, '_, C> {
-    /// The check of the scope's condition and the rest of the policy, which is typed where it stands: no copy of it is made,
-    /// and no part of it beyond the limit is visited.
+    /// The check of the scope's condition and the rest of the policy. The rest is typed where it stands: we make no copy of
+    /// it, and visit no part of it beyond the limit.
     pub(crate) fn check_condition(
         &self,
         loc: Option<Loc>,
@@ -134,7 +134,7 @@ impl<C: ArgumentCheck> SingleEnvTypechecker<'_, '_, '_, '_, C> {
     }
 }
 
-/// What the check of a condition comes to, by its typed copy and its errors. Without a copy a part was too deep.
+/// The check of a condition, from its typed copy and its errors. Without a copy, a part was too deep.
 fn check_of(part: Option<Part<'_>>, errors: Vec<ValidationError>) -> ConditionCheck
     ensures verdict { verdict_seen result
         ≡ part_verdict (option_map part_of part.entry) (map finding_of errors.items) }

@@ -1,4 +1,4 @@
-// The check of an expression where it stands.
+// The check of an expression where it stands, for example under the cursor of an editor.
 ghost use Rattle.std.specs.Prelude.{◌≡◌, IfOk, map, option_map};
 ghost use Rattle.cedar_types.specs.Capability.{caps};
 ghost use Rattle.cedar_types.specs.Errors.{finding_of};
@@ -17,28 +17,30 @@ use cedar_types::types::capability::CapabilitySet;
 use cedar_types::types::request_env::RequestEnv;
 use std::alloc::{AllocError, Global};
 
-/// What typing says of an expression where it stands.
+/// The check of an expression where it stands: the answer of typing, and the errors.
 #[derive(Debug, Drop)]
 pub struct ExpressionCheck<'a> {
-    /// Whether it is typed, with its typed copy, and what is known where it is true.
+    /// The answer: whether the expression is typed, its typed copy, and the capabilities that hold where it is true.
     pub answer: TypecheckAnswer<'a>,
-    /// An error stands here as often as it is found, in any order. A success has none, and a failure may have none.
+    /// The errors, each as often as it is found, in any order. A success has none, and a failure may have none.
     pub errors: Vec<ValidationError>,
 }
 
 impl<'a, C: ArgumentCheck> Typechecker<'a, C> {
-    /// Types an expression where it stands: in this environment, where these capabilities are known, as the whole of a
-    /// condition is typed. So an editor shows what a part has without a policy around it.
+    /// Types an expression where it stands: in this environment, with these capabilities known, and at depth 1, as a whole
+    /// condition is. So an editor can show the type of a part without a policy around it.
     ///
-    /// On the right side of `a && b`, and in the first branch of `if a`, is known what was known, and what a success of `a`
-    /// knows. The errors name the policy of this id. No part that lies deeper than `MAX_TYPED_DEPTH` is visited: then the
-    /// answer is `RecursionLimit`.
+    /// You must pass the capabilities that are known at the expression. On the right side of `a && b`, and in the first branch
+    /// of `if a`, these are the capabilities known at the whole, and those that a success of `a` produces. The errors name the
+    /// policy of this id. No part that lies deeper than `MAX_TYPED_DEPTH` is visited: if there is one, the answer is
+    /// `RecursionLimit`.
     ///
     /// In Strict and in Permissive (clauses `sound` and `sound_in_permissive`), on the premises of
     /// `typecheck_by_single_request_env`, and where the prior capabilities hold: evaluation of a success gives a value of the
     /// type that was found, or fails only for a missing entity, an overflow or an extension function; where it is true, the
-    /// capabilities of the success hold. A failure with a type at its root gives a value of that type, or fails. The typed copy
-    /// evaluates to the same. It is the law `laws::type_soundness`, with `typed_copies::copies_mean_the_same`.
+    /// capabilities of the success hold. Evaluation of a failure with a type at its root gives a value of that type, or fails.
+    /// The typed copy evaluates as the expression does. This is the law `laws::type_soundness`, with
+    /// `typed_copies::copies_mean_the_same`.
     ///
     /// Where memory is refused, the answer is an `AllocError`.
     pub fn typecheck_expr<'x>(
@@ -69,7 +71,7 @@ impl<'a, C: ArgumentCheck> Typechecker<'a, C> {
 }
 
 impl<'a> ExpressionCheck<'a> {
-    /// The typed copy, of a success and of a failure. Beyond the limit of depth there is none.
+    /// The typed copy, of a success and of a failure. There is none if a part is nested too deep.
     pub fn typed(&self) -> Option<&Expr<Option<CedarType>>>
         ensures { option_map (λ e. typed_tree e.now) result
             ≡ tree_of_answer (answer_of self.now.answer) }

@@ -1,4 +1,4 @@
-// Expressions, one arm for each form.
+// The recursion of typing: expressions, with one arm for each form.
 ghost use Rattle.std.specs.Prelude.{◌≡◌, IfOk, option_map};
 ghost use Rattle.cedar_types.specs.Expressions.View.{written};
 ghost use Rattle.cedar_typing.specs.Infer.{infer};
@@ -19,15 +19,16 @@ use crate::typecheck::single_env::SingleEnvTypechecker;
 use cedar_types::base::{ArgumentCheck, Expr, ExprKind, ValidationError};
 use std::alloc::AllocError;
 
-/// The greatest depth at which an expression is visited. A condition has depth 1, and each part one more than the whole.
+/// The greatest depth at which an expression is visited. A condition has depth 1, and each part one more than the whole. A
+/// deeper part gives the answer `RecursionLimit`.
 pub const MAX_TYPED_DEPTH: usize = 400;
 
 impl<C: ArgumentCheck> SingleEnvTypechecker<'_, '_, '_, '_, C> {
     /// Types an expression at this depth, with these prior capabilities, and adds its errors.
     ///
-    /// Each level of nesting takes a frame of this function and of one or two of the cycle. What each form does after its parts
-    /// is marked `inline(never)`, so that its locals are no part of those frames. Rattle's own compiler heeds no mark, but takes
-    /// in no long function that is called at two places. `scripts/stack.py` measures both builds.
+    /// Each level of nesting takes a frame of this function and of one or two others of the recursion. The work of each form
+    /// behind its parts is marked `inline(never)`, so that its locals are no part of those frames. Rattle's own compiler heeds
+    /// no mark, but it inlines no long function that is called at two places. `scripts/stack.py` measures both builds.
     #[cycle(typing)]
     pub(crate) fn typecheck<'a>(
         &self,
@@ -40,7 +41,7 @@ impl<C: ArgumentCheck> SingleEnvTypechecker<'_, '_, '_, '_, C> {
             infer (setting_at C.refusal self.now) (written e.now) (known_in prior.now) depth (findings errors.old.items)
             ≡ (answer_of r, findings errors.new.items)) }
     {
-        // a limit that is the same everywhere, in place of a stack that overflows somewhere
+        // one limit for all builds, because a stack would overflow at a depth that depends on the build
         if depth > MAX_TYPED_DEPTH {
             return Ok(TypecheckAnswer::RecursionLimit);
         }
@@ -106,7 +107,7 @@ impl<C: ArgumentCheck> SingleEnvTypechecker<'_, '_, '_, '_, C> {
         }
     }
 
-    /// A part that has to be of certain types.
+    /// Types a part that has an expected type.
     #[cycle(typing)]
     pub(crate) fn type_part<'a>(
         &self,

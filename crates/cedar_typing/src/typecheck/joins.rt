@@ -1,4 +1,4 @@
-// Types that have to have a bound.
+// Bounds that Strict requires of two types.
 ghost use Rattle.std.specs.Prelude.{◌≡◌, [], ◌∷◌, IfOk, option_map};
 ghost use Rattle.cedar_types.specs.Types.{ty_of};
 ghost use Rattle.cedar_types.specs.Types.Order.{in_order};
@@ -15,7 +15,8 @@ use cedar_types::base::{
 use std::alloc::AllocError;
 
 impl TypeEnv<'_, '_, '_, '_> {
-    /// An error at `loc` where Strict finds no bound of two types. Of a type that is missing there is none.
+    /// The error at `loc` if Strict finds no bound of two types. A missing type adds none, because its
+    /// expression has failed already.
     pub(crate) fn strict_errors(
         &self,
         loc: Option<Loc>,

@@ -1,4 +1,4 @@
-// What types operands may have.
+// Tests of the types that operands may have.
 ghost use Rattle.std.specs.Prelude.{◌≡◌};
 ghost use Rattle.cedar_types.specs.Types.{ty_of};
 ghost use Rattle.cedar_typing.specs.TypeTests.{accepts, bool_types, long_types, string_types, set_types, entity_types, ancestor_types, object_types};

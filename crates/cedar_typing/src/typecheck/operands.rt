@@ -1,4 +1,4 @@
-// Parts that have to be of certain types.
+// Parts that have an expected type.
 ghost use Rattle.std.specs.Prelude.{◌≡◌, Some, IfOk, map, option_map};
 ghost use Rattle.cedar_types.specs.Types.{ty_of};
 ghost use Rattle.cedar_types.specs.Types.Order.{in_order};
@@ -23,7 +23,8 @@ use std::alloc::{AllocError, Global};
 use std::collections::BTreeSet;
 use std::rc::Rc;
 
-/// What a part has to be.
+/// The expected type of a part. The part's type must be a subtype, in every mode by the subtypes of Permissive, because
+/// Strict has no subtypes by width: each access to a record with attributes would be an error.
 #[derive(Clone, Copy)]
 pub(crate) enum Expected<'t> {
     Bool,
@@ -35,7 +36,7 @@ pub(crate) enum Expected<'t> {
     Ancestor,
     /// A record or an entity.
     Object,
-    /// This very type.
+    /// This type.
     Exactly(&'t CedarType),
 }
 
@@ -83,7 +84,7 @@ impl Expected<'_> {
 }
 
 impl<'a> Part<'a> {
-    /// The part as it is after a failure: without capabilities.
+    /// The part after a failure: without capabilities, because nothing follows from a failed part.
     fn as_failed(self, alloc: Global) -> Part<'a>
         ensures { part_of result ≡ as_failed (part_of self.entry) }
     {
@@ -94,7 +95,8 @@ impl<'a> Part<'a> {
         }
     }
 
-    /// The same without the type at its root.
+    /// The part after a failure in which its type is not the expected one: without capabilities, and without a type at
+    /// its root, because rules such as that of `&&` go on with types that they expect.
     fn as_failed_untyped(self, alloc: Global) -> Part<'a>
         ensures { part_of result ≡ as_failed_untyped (part_of self.entry) }
     {
@@ -109,8 +111,8 @@ impl<'a> Part<'a> {
 }
 
 impl TypeEnv<'_, '_, '_, '_> {
-    /// The part that an answer hands on where it has to be of one of these types, and an error at `loc` where its type is
-    /// none of them. On the limit there is none.
+    /// The part that an answer hands on if it has an expected type, with an error at `loc` if its type is another one. On
+    /// the limit there is no part.
     pub(crate) fn expect<'a>(
         &self,
         expected: Expected<'_>,
@@ -129,7 +131,8 @@ impl TypeEnv<'_, '_, '_, '_> {
         Ok(Some(self.expect_part(expected, loc, part, errors)?))
     }
 
-    /// The same of an operand, which may be anything where nothing is expected.
+    /// The part that an operand's answer hands on, with an error at `loc` if its type is not the expected one. If no type
+    /// is expected, the operand may be anything.
     pub(crate) fn operand<'a>(
         &self,
         expected: Option<Expected<'_>>,

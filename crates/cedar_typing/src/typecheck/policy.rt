@@ -18,8 +18,8 @@ use cedar_types::base::{ArgumentCheck, Template, ValidationError, ValidationWarn
 use std::alloc::{AllocError, Global};
 use std::collections::{BTreeSet, HashSet};
 
-/// What the checks so far found. The errors stand in order, as whoever writes the policies can choose names for which all
-/// hashes are the same.
+/// The findings of the checks so far. The errors are kept in order and not hashed, because an author of policies can choose
+/// names that collide in all hashes.
 #[derive(Drop)]
 struct Tally {
     errors: BTreeSet<ValidationError>,
@@ -32,14 +32,14 @@ impl<'a, C: ArgumentCheck> Typechecker<'a, C> {
     /// irrelevant without errors.
     ///
     /// `type_errors` gains each error that some check found. `warnings` gains `ImpossiblePolicy`, at the template's place,
-    /// exactly where each check is irrelevant, so where there is no environment too. One typed condition is held at a time.
+    /// exactly if each check is irrelevant, so also if there is no environment. One typed condition is held at a time.
     ///
     /// In Strict and in Permissive a policy that passes does not go wrong (clauses `safe` and `safe_in_permissive`): evaluating
     /// it gives a boolean, or fails only for a missing entity, an overflow or an extension function. A policy that this call
     /// newly warns to be impossible is never true, whether or not it passes (clauses `never_true` and
-    /// `never_true_in_permissive`). What both rest on: docs/THEOREMS.md, "The premises".
+    /// `never_true_in_permissive`). The premises of both are in docs/THEOREMS.md, "The premises".
     ///
-    /// Where memory is refused, the answer is an `AllocError`, and both sets hold what they held.
+    /// Where memory is refused, the answer is an `AllocError`, and both sets stay as they were.
     pub fn typecheck_policy(
         &self,
         alloc: Global,
@@ -69,7 +69,7 @@ impl<'a, C: ArgumentCheck> Typechecker<'a, C> {
         ensures warnings_kept { OnErr result (warnings.new.keys ≡ warnings.old.keys) }
     {
         let tally = self.tally(alloc, t)?;
-        // with room for all errors nothing fails behind the first change, so both sets change or neither
+        // after this there is room for all errors, so no later step fails, and either both sets change or neither does
         type_errors.reserve(tally.errors.len())?;
         if tally.all_irrelevant {
             let warning = impossible_policy(t)?;
@@ -109,7 +109,7 @@ impl Tally {
                 Ok(())
             }
             PolicyCheck::Irrelevant(errors, _) => {
-                // the condition is False here; what is wrong on the way to that is an error all the same
+                // the condition is False here, but an error on the way to it counts all the same
                 self.all_pass &= errors.is_empty();
                 insert_all(&mut self.errors, errors)?;
                 Ok(())

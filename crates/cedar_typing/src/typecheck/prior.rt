@@ -1,4 +1,4 @@
-// What is known where an expression is typed.
+// Prior capabilities: those that are known where an expression is typed.
 ghost use Rattle.std.specs.Prelude.{◌≡◌};
 ghost use Rattle.cedar_types.specs.Capability.{caps, cap_of};
 ghost use Rattle.cedar_typing.specs.Capabilities.{union};
@@ -6,8 +6,8 @@ ghost use Rattle.cedar_typing.specs.Capabilities.Priors.{known_in};
 
 use cedar_types::types::capability::{Capability, CapabilitySet};
 
-/// What is known where an expression is typed: what was found last, and what was known before. It borrows both, so that what is
-/// known grows on the way down without a copy.
+/// The prior capabilities of an expression: those that were found last, and those that were known before. It borrows both, so
+/// that more becomes known on the way down without a copy.
 #[derive(Clone, Copy)]
 pub(crate) struct Prior<'x, 'a> {
     found: &'x CapabilitySet<'a>,
@@ -15,7 +15,7 @@ pub(crate) struct Prior<'x, 'a> {
 }
 
 impl<'x, 'a> Prior<'x, 'a> {
-    /// What was found, and nothing before.
+    /// The prior capabilities that are these alone.
     pub(crate) fn of(found: &'x CapabilitySet<'a>) -> Prior<'x, 'a>
         ensures { known_in result ≡ caps found.now }
     {
@@ -25,7 +25,7 @@ impl<'x, 'a> Prior<'x, 'a> {
         }
     }
 
-    /// What is known here, and what was found.
+    /// The prior capabilities here, and these.
     pub(crate) fn with(&'x self, found: &'x CapabilitySet<'a>) -> Prior<'x, 'a>
         ensures { known_in result ≡ union (known_in self.now) (caps found.now) }
     {
@@ -35,7 +35,7 @@ impl<'x, 'a> Prior<'x, 'a> {
         }
     }
 
-    /// Whether it is known.
+    /// Whether the capability is known.
     pub(crate) fn contains(&self, capability: &Capability<'a>) -> bool
         ensures { result ≡ known_in self.now (cap_of capability.now) }
     {

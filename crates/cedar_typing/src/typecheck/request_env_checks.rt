@@ -7,12 +7,12 @@ use cedar_types::types::linked_envs::LinkedRequestEnvs;
 use cedar_types::types::request_env::RequestEnv;
 use std::alloc::{AllocError, Global};
 
-/// The checks of a template in each of its environments, one at a time and in any order. It keeps none of them: it holds
-/// what the scope makes of the condition, and of one environment of the schema the ways that are left to link its slots.
-/// The links that it holds are at most twice as many as the declared entity types, and two.
+/// The checks of a template in each of its environments, one at a time and in any order. This iterator keeps none of them: it
+/// holds the condition that the scope makes, and for one environment of the schema the remaining ways to link its slots. It
+/// holds at most twice as many links as there are declared entity types, and two.
 ///
-/// An environment comes as often as the slots can be linked so. Where memory is refused, an item is an `AllocError`, and
-/// there is none after it.
+/// An environment comes as often as there are ways to link the slots so. Where memory is refused, an item is an `AllocError`,
+/// and there is none after it.
 #[derive(Drop)]
 pub struct RequestEnvChecks<'b, C = Box<dyn ArgumentCheck>> {
     alloc: Global,
@@ -32,8 +32,8 @@ impl<'a, C: ArgumentCheck> Typechecker<'a, C> {
     ghost use Rattle.cedar_typing.specs.Views.Checks.{schema_by, mode_by};
     ghost use Rattle.cedar_typing.specs.Views.EnvironmentChecks.{checks_left, checks_are_over, checker_of, template_in, condition_in};
 
-    /// The checks of this template in all of its environments: those of the schema, each with the template's slots linked
-    /// in all ways. Where memory is refused, the answer is an `AllocError`.
+    /// The checks of this template in all of its environments: those of the schema, each with the template's slots linked in
+    /// all ways. Where memory is refused, the answer is an `AllocError`.
     #[tactic(auto, unfolding(crate::specs::Views::EnvironmentChecks::checks_left, crate::specs::Views::EnvironmentChecks::checks_are_over, crate::specs::Views::EnvironmentChecks::checker_of, crate::specs::Views::EnvironmentChecks::template_in, crate::specs::Views::EnvironmentChecks::condition_in))]
     pub fn typecheck_by_request_env<'b>(
         &'b self,
@@ -103,8 +103,8 @@ impl<'b, C: ArgumentCheck> RequestEnvChecks<'b, C> {
     ghost use Rattle.cedar_typing.specs.Views.EnvironmentChecks.{checker_of, template_in, condition_in, checks_left, SameInput};
     ghost use Rattle.cedar_typing.specs.PolicyCheck.{PolicyChecks};
 
-    /// The next environment, without its check, for a caller who may know that without asking; `None` after the last. Where
-    /// memory is refused, the answer is an `AllocError`, and none comes after it.
+    /// The next environment, without its check, for a caller who may know the check without asking; `None` after the last.
+    /// Where memory is refused, the answer is an `AllocError`, and no environment comes after it.
     #[tactic(auto, unfolding(crate::specs::Views::EnvironmentChecks::checks_left, crate::specs::Views::EnvironmentChecks::checks_are_over, crate::specs::Views::EnvironmentChecks::checker_of, crate::specs::Views::EnvironmentChecks::template_in, crate::specs::Views::EnvironmentChecks::condition_in))]
     pub fn next_env(&mut self) -> Result<Option<RequestEnv<'b>>, AllocError>
         ensures next { IfOk result (λ o. MatchOption o
@@ -128,8 +128,8 @@ impl<'b, C: ArgumentCheck> RequestEnvChecks<'b, C> {
         }
     }
 
-    /// The check of the template in an environment, as `Typechecker::typecheck_by_single_request_env` has it. Where memory is
-    /// refused, the answer is an `AllocError`.
+    /// The check of the template in an environment, which is that of `Typechecker::typecheck_by_single_request_env`. Where
+    /// memory is refused, the answer is an `AllocError`.
     #[tactic(auto, unfolding(crate::specs::Views::EnvironmentChecks::checker_of, crate::specs::Views::EnvironmentChecks::template_in, crate::specs::Views::EnvironmentChecks::condition_in))]
     pub fn check(&self, env: &RequestEnv<'_>) -> Result<PolicyCheck, AllocError>
         ensures { IfOk result (λ r.

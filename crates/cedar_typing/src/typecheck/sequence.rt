@@ -1,4 +1,4 @@
-// Many answers, followed up at once.
+// Answers in sequence, followed up by one call.
 ghost use Rattle.std.specs.Prelude.{◌≡◌, IfOk};
 ghost use Rattle.std.specs.Iterator.{IsFinite, IsFiniteIterable};
 ghost use Rattle.cedar_typing.specs.Answer.{OnAllHanded, SequencesAll, answer_where};
@@ -10,9 +10,10 @@ use cedar_types::types::capability::CapabilitySet;
 use std::alloc::{AllocError, Global};
 
 impl<'a> TypecheckAnswer<'a> {
-    /// What `f` answers for the expressions and capabilities of all answers, in order, where a failure has no
-    /// capabilities: made a failure if an answer was one. After the limit no more are taken, and the answer is the
-    /// limit, though `f` is called still. The first refused memory among those taken is the answer, without a call.
+    /// The answer of `f` for the typed expressions and the capabilities of all answers, in order, where a failure
+    /// has no capabilities. It is made a failure if one of the answers is a failure. After the first limit no more
+    /// answers are taken, and the result is the limit, though `f` is still called. If memory is refused for one of
+    /// the answers that are taken, the result is the first such `AllocError`, and `f` is not called.
     pub fn sequence_all_then_typecheck<I, F>(
         alloc: Global,
         answers: I,
@@ -41,7 +42,7 @@ impl<'a> TypecheckAnswer<'a> {
         Ok(answer.adjusted(is_limit, succeeded))
     }
 
-    /// The answer after others: the limit after a limit, else a failure after a failure.
+    /// The answer, adjusted to those before it: the limit after a limit, else a failure after a failure.
     fn adjusted(self, is_limit: bool, succeeded: bool) -> TypecheckAnswer<'a>
         ensures { result ≡ answer_where is_limit succeeded self.entry }
     {
@@ -53,7 +54,7 @@ impl<'a> TypecheckAnswer<'a> {
     }
 }
 
-/// What was taken of some answers: all of them, or those before the first limit.
+/// The answers that were taken: all of them, or those before the first limit.
 #[derive(Drop)]
 struct Gathered<'a> {
     handed: Vec<(Box<Expr<Option<CedarType>>>, CapabilitySet<'a>)>,

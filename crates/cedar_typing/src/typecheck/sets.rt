@@ -1,4 +1,4 @@
-// Sets that gain members.
+// Sets to which members are added.
 ghost use Rattle.std.specs.Prelude.{◌≤◌, length, OnOk};
 ghost use Rattle.std.specs.HashSet.{spare};
 ghost use Rattle.std.specs.Ordering.{eq_by_cmp};
@@ -8,7 +8,7 @@ use std::alloc::AllocError;
 use std::collections::{BTreeSet, HashSet};
 use std::hash::Hash;
 
-/// Puts each of these into the set.
+/// Adds each of these to the set.
 pub(crate) fn insert_all<E: Ord + Drop>(
     set: &mut BTreeSet<E>,
     found: Vec<E>,
@@ -22,7 +22,7 @@ pub(crate) fn insert_all<E: Ord + Drop>(
     Ok(())
 }
 
-/// Puts each of these into a set that has room for them, so it takes no memory.
+/// Adds each of these to a set that has room for them, so that it takes no memory.
 pub(crate) fn put_all<E: Ord + Hash + Drop>(set: &mut HashSet<E>, found: BTreeSet<E>)
     requires { length found.keys ≤ spare set.old }
     ensures { IsUnion E.eq set.old.keys found.keys set.new.keys }

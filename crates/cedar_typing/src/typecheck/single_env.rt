@@ -18,7 +18,7 @@ pub(crate) struct SingleEnvTypechecker<'s, 'r, 'e, 'p, C> {
 }
 
 impl<'a, C: ArgumentCheck> Typechecker<'a, C> {
-    /// What types the expressions of the policy of this name in this environment.
+    /// The checker of the policy of this id in this environment.
     pub(crate) fn in_environment<'r, 'e, 'p>(
         &self,
         alloc: Global,

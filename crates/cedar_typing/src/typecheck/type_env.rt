@@ -1,4 +1,4 @@
-// What an expression is typed in, but for the extension functions.
+// The type environment: the setting of a judgment without the extension functions.
 ghost use Rattle.cedar_types.specs.Environments.RequestEnvs.{env_of};
 ghost use Rattle.cedar_types.specs.Schemas.Contents.{schema_of};
 ghost use Rattle.cedar_typing.specs.Setting.VariableTypes.{HasPrincipal, HasAction, HasResource, HasContext};
@@ -9,7 +9,8 @@ use cedar_types::types::request_env::RequestEnv;
 use std::alloc::Global;
 use std::collections::BTreeSet;
 
-/// What each form of expression is typed in: the tables of all forms but calls are on it.
+/// The type environment in which an expression is typed. The tables of all forms but calls are its
+/// methods, because only calls depend on the extension functions.
 #[derive(Drop)]
 pub(crate) struct TypeEnv<'s, 'r, 'e, 'p> {
     pub alloc: Global,

@@ -24,7 +24,8 @@ pub(crate) fn any_bool() -> CedarType
     CedarType::Bool(BoolType::AnyBool)
 }
 
-/// Whether the type is this one of truth values. No type is made for it: typing asks it at each level.
+/// Whether the type is this type of truth values. The test makes no type to compare with, because
+/// typing asks it at each level.
 fn is_bool_type(ty: &CedarType, truth: BoolType) -> bool
     ensures { result ≡ ty_eq (ty_of ty.now) (TBool truth) }
 {
@@ -76,7 +77,7 @@ pub(crate) fn is_record_type(ty: &CedarType) -> bool
     }
 }
 
-/// Whether the type False was found at the root.
+/// Whether the typed expression has the type False at its root.
 #[tactic(auto, using(crate::proofs::Views::Typed::annotation_is))]
 pub(crate) fn is_typed_false(typed: &Expr<Option<CedarType>>) -> bool
     ensures { result ≡ annotation_passes is_false (annotation (typed_tree typed.now)) }
@@ -87,7 +88,7 @@ pub(crate) fn is_typed_false(typed: &Expr<Option<CedarType>>) -> bool
     }
 }
 
-/// Whether the type True was found at the root.
+/// Whether the typed expression has the type True at its root.
 #[tactic(auto, using(crate::proofs::Views::Typed::annotation_is))]
 pub(crate) fn is_typed_true(typed: &Expr<Option<CedarType>>) -> bool
     ensures { result ≡ annotation_passes is_true (annotation (typed_tree typed.now)) }
@@ -98,7 +99,7 @@ pub(crate) fn is_typed_true(typed: &Expr<Option<CedarType>>) -> bool
     }
 }
 
-/// Whether a type is a record's or an entity's. Never is none.
+/// Whether a type is a record's or an entity's. Never is neither.
 pub(crate) fn is_object_type(ty: &CedarType) -> bool
     ensures { result ≡ is_object (ty_of ty.now) }
 {
@@ -109,7 +110,7 @@ pub(crate) fn is_object_type(ty: &CedarType) -> bool
     }
 }
 
-/// The entity types that a type names, if it names some.
+/// The entity types that a type names; `None` for any entity and for a type that is no entity's.
 pub(crate) fn named_types(ty: &CedarType) -> Option<&EntityLUB>
     ensures { option_map (λ s. lub_of s.now) result ≡ types_of_entity (Some (ty_of ty.now)) }
 {

@@ -15,24 +15,24 @@ use cedar_types::base::{
 use cedar_types::types::request_env::RequestEnv;
 use std::alloc::{AllocError, Global};
 
-/// What the check of a policy in one environment comes to. An error stands in a list as often as it is found, in any order.
+/// The check of a policy in one environment. A list of errors has each error as often as it is found, in any order.
 ///
-/// A policy is refused where it fails in some environment, or is irrelevant there with errors.
+/// A policy is refused if it fails in some environment, or is irrelevant there with errors.
 #[derive(Debug, Drop)]
 pub enum PolicyCheck {
-    /// The condition, typed, without an error. Its type is a Boolean other than False; in Partial it may be Never too.
+    /// The condition is typed, without an error. Its type is a Boolean other than False; in Partial it may be Never too.
     Success(Expr<Option<CedarType>>),
-    /// The condition, typed, is False: here the policy never applies. Without errors this is no fault, as of a policy
-    /// about another action.
+    /// The typed condition is False: here the policy never applies. Without errors this is no fault. For example, a policy
+    /// about another action is irrelevant here.
     Irrelevant(Vec<ValidationError>, Expr<Option<CedarType>>),
-    /// The condition is refused. There may be no error: an entity whose type the schema does not know, an action that it
-    /// does not declare and an unknown fail without one, and so does what is nested too deep. A host that prints errors
-    /// alone would show such a policy as clean. The passes over names and ids name the first two. In Strict and in
-    /// Permissive there is no other failure without an error (`composition::failures_have_errors`).
+    /// The condition has failed, perhaps without an error: an entity whose type the schema does not know, an action that it
+    /// does not declare, an unknown, and a part that is nested too deep fail without one. So you must not take a policy without
+    /// errors for a clean one. The passes over names and ids report the first two. In Strict and in Permissive there is no
+    /// other failure without an error (`composition::failures_have_errors`).
     Fail(Vec<ValidationError>),
 }
 
-/// Types policies by a schema and some extension functions, in a mode.
+/// A checker that types policies by a schema and some extension functions, in a mode.
 #[derive(Drop)]
 pub struct Typechecker<'a, C = Box<dyn ArgumentCheck>> {
     pub(crate) schema: &'a ValidatorSchema,
@@ -43,7 +43,7 @@ pub struct Typechecker<'a, C = Box<dyn ArgumentCheck>> {
 impl<'a, C: ArgumentCheck> Typechecker<'a, C> {
     ghost use Rattle.std.specs.Prelude.{◌≡◌};
 
-    /// Types by this schema and these functions, in this mode.
+    /// The checker by this schema and these extension functions, in this mode. It takes no memory.
     #[tactic(auto, unfolding(crate::specs::Views::Checks::schema_by, crate::specs::Views::Checks::extensions_by, crate::specs::Views::Checks::mode_by))]
     pub fn new(
         schema: &'a ValidatorSchema,
@@ -65,21 +65,22 @@ impl<'a, C: ArgumentCheck> Typechecker<'a, C> {
     /// (`PolicyCheck::Fail`).
     ///
     /// In Strict and in Permissive (clauses `sound` and `sound_in_permissive`), by a schema without external declarations, in
-    /// one of its own environments, whose slots are linked in any way: where a request and slots fit the environment, the
-    /// store conforms, the extension functions keep to their table and each slot of the condition is bound, a success promises
+    /// one of its own environments, whose slots are linked in any way: if a request and slots fit the environment, the store
+    /// conforms, the extension functions keep to their table and each slot of the condition is bound, then a success promises
     /// that evaluation gives a boolean or fails only for a missing entity, an overflow or an extension function, and an
     /// irrelevant condition is never true. Nothing is promised of another environment, nor in Partial.
     ///
-    /// There (clauses `same` and `same_in_permissive`) the typed condition of a success and of an irrelevant check evaluates to
-    /// the very same as the condition, value or failure, also where slots that are linked to no type are not bound. So a host
-    /// may go on with the typed condition, from which typing dropped what is never evaluated.
+    /// There (clauses `same` and `same_in_permissive`) the typed condition of a success and of an irrelevant check evaluates
+    /// exactly as the condition does, to its value or its failure, even if slots that are linked to no type are not bound. So a
+    /// host may go on with the typed condition, from which typing dropped the parts that are never evaluated.
     ///
-    /// That each type and action that the policy names is the schema's, also in parts that are not visited, and each id of an
-    /// enumerated type one of its ids, is left to the passes over names and ids.
+    /// This check does not look for types and actions that the policy names and the schema does not know, nor for unknown ids
+    /// of enumerated types, because some of them stand in parts that typing does not visit. You must run the passes over names
+    /// and ids too.
     ///
     /// The rest of the policy is typed where it stands: no copy of it is made, and no part of it that lies deeper than
-    /// `MAX_TYPED_DEPTH` is visited. The caller's own tree is dropped by the caller, and to drop a deep one takes a deep stack.
-    /// Where memory is refused, the answer is an `AllocError`.
+    /// `MAX_TYPED_DEPTH` is visited. The caller drops its own tree, and dropping a deep one takes a deep stack. Where memory is
+    /// refused, the answer is an `AllocError`.
     pub fn typecheck_by_single_request_env(
         &self,
         alloc: Global,
@@ -107,7 +108,7 @@ impl<'a, C: ArgumentCheck> Typechecker<'a, C> {
         Ok(check)
     }
 
-    /// The same where it is known what the scope makes of the condition.
+    /// The check of a template in this environment, for a caller who has the scope's condition already.
     pub(crate) fn check_with_scope(
         &self,
         alloc: Global,

@@ -1,4 +1,4 @@
-// Typed nodes, and answers from them.
+// Typed nodes, and the answers that are made of them.
 ghost use Rattle.std.specs.Prelude.{◌≡◌, IfOk, map, option_map};
 ghost use Rattle.cedar_types.specs.Capability.{caps};
 ghost use Rattle.cedar_types.specs.Names.{path_of};
@@ -46,7 +46,7 @@ pub(crate) fn without_capabilities<'a>(
     }
 }
 
-/// The same expression at another place.
+/// The typed expression, moved to another place.
 pub(crate) fn at_place(
     mut typed: Box<Expr<Option<CedarType>>>,
     loc: Option<Loc>,
@@ -75,7 +75,7 @@ pub(crate) fn node(
     Ok(Box::new(alloc, typed)?)
 }
 
-/// A call of this function on typed arguments.
+/// A typed call of this function, with typed arguments.
 pub(crate) fn call_node(
     alloc: Global,
     loc: Option<Loc>,

@@ -11,12 +11,12 @@ use cedar_types::base::{CedarType, EntityType, ValidatorSchema};
 use cedar_types::types::request_env::RequestEnv;
 use std::alloc::{AllocError, Global};
 
-/// The types of the variables in one environment. They are made once: what an occurrence of a variable has is a copy, which
-/// shares what they hold and takes no memory.
+/// The types of the variables in one environment. They are made once, because each occurrence of a variable then gets a copy
+/// that shares its content and takes no memory.
 #[derive(Drop)]
 pub(crate) struct VariableTypes {
     pub principal: CedarType,
-    /// An action has a type where the schema declares it.
+    /// The type of the environment's action; `None` if the schema does not declare the action.
     pub action: Option<CedarType>,
     pub resource: CedarType,
     pub context: CedarType,
@@ -43,8 +43,8 @@ impl VariableTypes {
     }
 }
 
-/// The type of the entities of this type, or of all entities where none is known. That of a type which the schema declares is
-/// the schema's, and takes no memory.
+/// The type of the entities of this entity type, or of any entity if none is known. If the schema declares the entity type,
+/// the type is the schema's, and takes no memory.
 pub(crate) fn type_of_entities(
     alloc: Global,
     schema: &ValidatorSchema,
