@@ -1,5 +1,5 @@
--- The rules of typing, form by form: of each expression its type, the capabilities that it produces
--- and its typed copy; where no rule gives it a type, how it fails; and where it is cut.
+-- The rules of typing, form by form. Each expression is derived, with a type, capabilities and a typed
+-- copy; or it fails, in the way that a rule says; or it is cut, because a part is too deep.
 use Rattle.std.specs.Prelude.{ℕ, ◌+◌, Bool, false, List, Some, None}
 use Rattle.cedar_types.specs.Expressions.Tree.{lit, var, slot, unknown, if_then_else, and, or, unary, binary, call, get_attr, has_attr}
 use Rattle.cedar_types.specs.Expressions.Tree.{ext_has_attr, like, is_type, set_of, record_of, Trees, no_trees, tree, Fields, no_fields}
@@ -40,7 +40,8 @@ pub mod Sets
 pub mod Records
 
 abbrev mutual
-  -- an expression at depth d, which is within the limit, where prior is known; a part stands one deeper
+  -- the rules of an expression at depth d, which is within the limit, with the prior capabilities; its
+  -- parts stand one deeper
   pub rules_within : Setting → Source → Caps → ℕ → Judgment
   rules_within s (lit m x) prior d = leaf_rules (type_of_literal s.env x) m (λ k. lit k x)
   rules_within s (var m x) prior d = leaf_rules (variable_type s.env x) m (λ k. var k x)
@@ -93,8 +94,8 @@ abbrev mutual
   rules_within s (record_of m fs) prior d =
       eager_rules (record_form s.env m (field_keys fs)) (rules_fields s fs prior (d + 1))
 
-  -- expressions one after another, each at depth d, as operands that have to be what is expected;
-  -- where they go on, those after one that is too deep are visited too
+  -- the rules of expressions one after another, each at depth d, as operands with expected types. If
+  -- goes_on, the operands after one that is too deep are visited too
   pub rules_all : Setting → Bool → List Expectation → Trees Written → Caps → ℕ → Judgments
   rules_all s goes_on qs no_trees prior d = no_operands
   rules_all s goes_on qs (tree e es) prior d =
@@ -102,25 +103,25 @@ abbrev mutual
       (visited d (rules_within s e prior d))
       (rules_all s goes_on (later_expectations qs) es prior d)
 
-  -- the values of fields, the same way; none is visited after one that is too deep
+  -- the rules of the values of fields, one after another. None is visited after one that is too deep
   pub rules_fields : Setting → Fields Written → Caps → ℕ → Judgments
   rules_fields s no_fields prior d = no_operands
   rules_fields s (field k e fs) prior d =
       one_more s.env false None (place_of e) (visited d (rules_within s e prior d))
       (rules_fields s fs prior d)
 
--- an expression at depth d, where prior is known
+-- the rules of an expression at depth d, with the prior capabilities
 abbrev pub rules : Setting → Source → Caps → ℕ → Judgment
 rules s e prior d = visited d (rules_within s e prior d)
 
--- e has this type and produces these capabilities, and this is its typed copy
+-- the judgment of typing: e has this type, produces these capabilities, and has this typed copy
 abbrev pub Derives : Setting → Source → Caps → ℕ → Derivation
 Derives s e prior d = (rules s e prior d).derives
 
--- e fails: its typed copy, and the errors
+-- e fails, with this typed copy and these errors
 abbrev pub Recovers : Setting → Source → Caps → ℕ → Recovery
 Recovers s e prior d = (rules s e prior d).recovers
 
--- a part of e that is visited is too deep: the errors
+-- e is cut, because a part that is visited is too deep, with these errors
 abbrev pub Cuts : Setting → Source → Caps → ℕ → Cut
 Cuts s e prior d = (rules s e prior d).cuts

@@ -1,4 +1,4 @@
--- Operators on two operands: the form of each.
+-- Operators on two operands, with the form of each.
 use Rattle.cedar_types.specs.declared.base.expressions.operators.BinaryOp.{BinaryOp}
 use Rattle.cedar_types.specs.Expressions.View.{Written}
 use Rattle.cedar_typing.specs.Capabilities.{Caps}
@@ -10,7 +10,7 @@ use Rattle.cedar_typing.specs.Rules.Tags.{has_tag_form, get_tag_form}
 use Rattle.cedar_typing.specs.TypeEnv.{TypeEnv}
 use Rattle.cedar_typing.specs.TypedExpr.{Source, place_of}
 
--- the form of an operator on a and b, where prior is known
+-- the form of an operator on a and b, with the prior capabilities
 abbrev pub binary_form : TypeEnv → Written → Caps → Source → Source → BinaryOp → Form
 binary_form env m prior a b BinaryOp.Eq = equality_form env m a b
 binary_form env m prior a b BinaryOp.Less =

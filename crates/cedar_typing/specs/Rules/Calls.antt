@@ -1,4 +1,4 @@
--- Calls of extension functions.
+-- The rule of calls of extension functions.
 use Rattle.std.specs.Prelude.{ℕ, Bool, true, false, not, ◌&&◌, nat_eq, nat_lt, length, List, [], ◌∷◌, ◌++◌, map, Option, Some, None}
 use Rattle.std.specs.Prelude.{is_some, if◌then◌else◌}
 use Rattle.std.specs.List.{list_all}
@@ -21,9 +21,9 @@ abbrev pub arguments : Trees Written → List Source
 arguments no_trees = []
 arguments (tree x xs) = x ∷ arguments xs
 
--- ---- what is wrong with a call, before its arguments are typed
+-- ---- the errors of a call itself, before its arguments are typed
 
--- a function takes as many arguments as it has argument types, and a variadic one takes more too
+-- a function takes as many arguments as it has argument types; a variadic function takes more too
 abbrev pub takes : ExtensionFunction → ℕ → Bool
 takes f n =
     if f.is_variadic then not (nat_lt n (length f.argument_types))
@@ -34,7 +34,7 @@ number_faults f xs =
     if takes f (length xs) then []
     else wrong_number_arguments (length f.argument_types) (length xs) ∷ []
 
--- the function's own check refuses the arguments
+-- the refusal by the function's own check, with its message
 abbrev pub refusal_faults : Option Text → List Fault
 refusal_faults None = []
 refusal_faults (Some message) = function_argument_validation message ∷ []
@@ -47,14 +47,15 @@ abbrev pub is_literal : Source → Bool
 is_literal (lit m x) = true
 is_literal e = false
 
--- in Strict a function with a check takes literals alone
+-- in Strict the arguments of a function with a check must be literals, because the check can read
+-- only those
 abbrev pub literal_faults : ValidationMode → Option Refusals → List Source → List Fault
 literal_faults mode check xs =
     if is_strict mode && is_some check && not (list_all is_literal xs)
     then non_lit_ext_constructor ∷ []
     else []
 
--- the errors of a call of f, or of a name without a function: each that applies
+-- the errors of a call of f, each that applies, or that of a name without a function
 abbrev pub call_errors : TypeEnv → Option Loc → Option ExtensionFunction → Path → List Source
     → List Finding
 call_errors env l None n xs = finding env l (undefined_function n) ∷ []
@@ -64,15 +65,16 @@ call_errors env l (Some f) n xs =
 
 -- ---- the arguments, and the call
 
--- each argument has to be of its type, those beyond the last type of that one; without types they may
--- be anything
+-- each argument must be of its type, and those beyond the last type of the last one. Without types
+-- the arguments may be anything
 abbrev pub expected_arguments : List Ty → List Source → List Expectation
 expected_arguments [] xs = []
 expected_arguments (t ∷ ts) [] = []
 expected_arguments (t ∷ []) (x ∷ xs) = Some (t ∷ []) ∷ expected_arguments (t ∷ []) xs
 expected_arguments (t ∷ u ∷ ts) (x ∷ xs) = Some (t ∷ []) ∷ expected_arguments (u ∷ ts) xs
 
--- the types that arguments have to be of: beside an error of the call they may be anything
+-- the types that the arguments must have. Beside an error of the call they may be anything, so that
+-- one mistake is one error
 abbrev pub types_wanted : Option ExtensionFunction → List Finding → List Ty
 types_wanted (Some f) [] = f.argument_types
 types_wanted f es = []
@@ -81,13 +83,13 @@ abbrev pub return_type : Option ExtensionFunction → Option Ty
 return_type None = None
 return_type (Some f) = Some f.return_type
 
--- the function's return type, which stays beside errors
+-- the function's return type, which the call keeps beside its errors
 abbrev pub call_decides : Option Ty → List Finding → Decision
 call_decides None es = refuses None es
 call_decides (Some t) es = gives_unless es t
 
--- a call with this return type, these types of arguments, and these errors of its own, which are kept
--- beside an argument that is too deep
+-- a call with this return type, these expected types and these errors of its own, which are kept
+-- beside an argument that is too deep, because they are found before the arguments are typed
 abbrev pub form_of_call : Written → Path → Option Ty → List Expectation → List Finding → Form
 form_of_call m n t qs es = record {
   at = m;
@@ -99,7 +101,7 @@ form_of_call m n t qs es = record {
   node = λ k xs. call k n (trees_of xs);
 }
 
--- the same by the function, if there is one
+-- the form of a call of f, or of a name without a function
 abbrev pub form_of_function : TypeEnv → Written → Path → Option ExtensionFunction → List Source
     → Form
 form_of_function env m n f xs =
@@ -107,6 +109,6 @@ form_of_function env m n f xs =
     (expected_arguments (types_wanted f (call_errors env m.place f n xs)) xs)
     (call_errors env m.place f n xs)
 
--- `n(a, b)`, where these functions are known
+-- `n(a, b)`, with the extension functions fs
 abbrev pub call_form : TypeEnv → List ExtensionFunction → Written → Path → List Source → Form
 call_form env fs m n xs = form_of_function env m n (function_named n fs) xs

@@ -1,4 +1,4 @@
--- Extended `has`: `e has x.y.z`.
+-- The rule of extended `has`: `e has x.y.z`.
 use Rattle.std.specs.Prelude.{Bool, true, false, ◌&&◌, List, [], ◌∷◌, Option, Some, None, if◌then◌else◌}
 use Rattle.cedar_types.specs.declared.base.location.Loc.{Loc}
 use Rattle.cedar_types.specs.declared.base.types.BoolType.TheVariants.{AnyBool, True, False}
@@ -17,7 +17,8 @@ use Rattle.cedar_typing.specs.TypeEnv.{TypeEnv, finding}
 use Rattle.cedar_typing.specs.TypeTests.{object_types, is_false, is_true}
 use Rattle.cedar_typing.specs.TypedExpr.{Source, place_of}
 
--- what the steps so far say: what they earned, and whether each of them is True
+-- the progress of a chain: the capabilities that its steps have earned so far, and whether each step is
+-- True
 pub record Progress : Type 0 where
   pub earned : Caps
   pub all_true : Bool
@@ -25,7 +26,7 @@ pub record Progress : Type 0 where
 abbrev pub no_steps : Progress
 no_steps = record { earned = no_caps; all_true = true }
 
--- a record or an entity; Never is none
+-- whether a type is a record's or an entity's. Never is neither, so a step on it is an error
 abbrev pub is_object : Ty → Bool
 is_object (TRecord xs o) = true
 is_object (TEntity ps) = true
@@ -34,12 +35,13 @@ is_object s = false
 
 -- ---- one step, `e has x`
 
--- its type, by that of e, and by what is known
+-- the type of a step, by the type of e, and by whether x is known to be there
 abbrev pub step_type : TypeEnv → Ty → Text → Bool → Option (Ty × Bool) → Ty
 step_type env s x known (Some a) = declared_has s a.1 known
 step_type env s x known None = undeclared_has env.schema s x
 
--- it earns that a declared attribute is there, where that is new
+-- a step earns that a declared attribute is there. A True step earns nothing, because that is known, or
+-- needs no guard
 abbrev pub step_earns : Ty → Cap → Option (Ty × Bool) → Caps
 step_earns u there (Some a) = if is_true u then no_caps else single there
 step_earns u there None = no_caps
@@ -47,11 +49,11 @@ step_earns u there None = no_caps
 abbrev pub with_step : Progress → Ty → Caps → Progress
 with_step p u c = record { earned = union p.earned c; all_true = p.all_true && is_true u }
 
--- a step that is False ends the chain, which is False then and earns nothing
+-- a False step ends the chain, which is False then, and earns nothing because it is never true
 abbrev pub go_on_unless_false : Ty → Progress → (Progress → Decision) → Decision
 go_on_unless_false u p next = if is_false u then gives (TBool False) no_caps else next p
 
--- a step of a type that is neither a record nor an entity is an error there
+-- a step on neither a record nor an entity ends the chain with an error
 abbrev pub step : TypeEnv → Option Loc → Cap → Bool → Ty → Text → Progress
     → (Progress → Decision) → Decision
 step env l there known s x p next =
@@ -66,20 +68,20 @@ step env l there known s x p next =
 
 -- ---- from step to step
 
--- at the end: True where each step is True, with all that was earned
+-- at the end the chain is True if each step is True, else Bool, with all that was earned
 abbrev pub end_of_chain : Progress → Decision
 end_of_chain p = gives (if p.all_true then TBool True else TBool AnyBool) p.earned
 
--- the access between two steps: where it is refused, the chain is, and is Bool
+-- the access between two steps. If it fails, the chain fails too, as Bool
 abbrev pub after_access : Decision → (Ty → Decision) → Decision
 after_access (gives t c) next = next t
 after_access (refuses t es) next = refuses (Some (TBool AnyBool)) es
 
--- `e.x`, which the chain makes up
+-- the access `e.x` that the chain makes up, which has no place
 abbrev pub made_up : Source → Text → Source
 made_up e x = get_attr (record { place = None; names = no_name }) e x
 
--- a step that is not the last, and the access after it: where both pass, the type of `e.x` is known
+-- a step that is not the last, and the access after it. If both pass, the type of `e.x` is known
 abbrev pub link : TypeEnv → Option Loc → Caps → Source → Ty → Text → Progress
     → (Ty → Progress → Decision) → Decision
 link env l prior e s x p next =
@@ -89,8 +91,8 @@ link env l prior e s x p next =
     (attribute_type env.schema s x))
     (λ t. next t q))
 
--- the steps from `e has x` on, where e has the type s: errors of x stand at l, those of later attributes
--- at l'. What is known is what was known before, and what this chain has earned
+-- the steps from `e has x` on, for an e of type s. Errors of x stand at l, those of later attributes at
+-- l'. Known are the prior capabilities, and those that earlier steps have earned
 abbrev pub chain : TypeEnv → Option Loc → Option Loc → Caps → List Text → Source → Ty → Text
     → Progress → Decision
 chain env l l' prior [] e s x p =

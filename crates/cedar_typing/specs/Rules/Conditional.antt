@@ -1,4 +1,4 @@
--- `if a then b else e`.
+-- The rule of `if a then b else e`.
 use Rattle.std.specs.Prelude.{◌≡◌, Bool, true, false, ◌&&◌, List, ◌++◌, Option, Some, is_some}
 use Rattle.cedar_types.specs.declared.base.location.Loc.{Loc}
 use Rattle.cedar_types.specs.declared.base.errors.type_errors.LubContext.TheVariants.{Conditional}
@@ -19,8 +19,9 @@ use Rattle.cedar_typing.specs.TypedExpr.{TypedTree, typed, typed_as, annotation}
 
 module _ (env : TypeEnv) (m : Written) (l : Option Loc)
     (A : Judgment) (B : Caps → Judgment) (E : Judgment) (prior : Caps) where
-  -- the test, the first branch after a test that produces c, and the other branch, which knows
-  -- nothing of the test, as it is evaluated where that is false
+  -- the test; the first branch after a test that produces c, which it may use, because it runs only if the
+  -- test is true; and the other branch, which may use nothing of the test, because it runs only if the
+  -- test is false
   abbrev pub Test : Bool → Caps → TypedTree → List Finding → Type 0
   Test = Operand env bool_types l A
 
@@ -39,26 +40,27 @@ module _ (env : TypeEnv) (m : Written) (l : Option Loc)
     if_false : {t : Ty} {c c' : Caps} {a e : TypedTree}
         → A.derives (TBool False) c a → E.derives t c' e
         → IfRule t c' (if_then_else (typed t m) a e e)
-    -- else both are typed, and the type is their bound; what is known holds after e, and after a and b
+    -- else both are typed, and the type is their bound. The whole produces only what e produces and a and
+    -- b produce too, because either branch may have run
     if_open : {s t u v : Ty} {c c' c'' : Caps} {a b e : TypedTree}
         → A.derives s c a → accepts bool_types s ≡ true → is_true s ≡ false → is_false s ≡ false
         → (B (union prior c)).derives t c' b → E.derives u c'' e → lub env.mode t u ≡ Some v
         → IfRule v (intersection c'' (union c c')) (if_then_else (typed v m) a b e)
 
   pub data IfRecovery : TypedTree → List Finding → Type 0 where
-    -- the test is True, and it or the branch that stands for both failed: the branch's type, if it has one
+    -- the test is True, and the test or b failed: the branch's type, if it has one
     if_true_recovered : {succeeded succeeded' : Bool} {c c' : Caps} {a b : TypedTree}
         {es es' : List Finding}
         → Test succeeded c a es → annotation_passes is_true (annotation a) ≡ true
         → Then c succeeded' c' b es' → (succeeded && succeeded') ≡ false
         → IfRecovery (if_then_else (typed_as (annotation b) m) a b b) (es ++ es')
-    -- the test is False, and the same
+    -- the test is False, and the test or e failed: the branch's type, if it has one
     if_false_recovered : {succeeded succeeded' : Bool} {c c' : Caps} {a e : TypedTree}
         {es es' : List Finding}
         → Test succeeded c a es → annotation_passes is_false (annotation a) ≡ true
         → Else succeeded' c' e es' → (succeeded && succeeded') ≡ false
         → IfRecovery (if_then_else (typed_as (annotation e) m) a e e) (es ++ es')
-    -- it is neither, and a part failed or the branches have no bound
+    -- the test is open, and a part failed or the branches have no bound
     if_open_recovered : {succeeded succeeded' succeeded'' : Bool} {c c' c'' : Caps}
         {a b e : TypedTree} {es es' es'' : List Finding}
         → Test succeeded c a es
@@ -81,7 +83,7 @@ module _ (env : TypeEnv) (m : Written) (l : Option Loc)
     if_false_cut : {succeeded : Bool} {c : Caps} {a : TypedTree} {es es' : List Finding}
         → Test succeeded c a es → annotation_passes is_false (annotation a) ≡ true
         → E.cuts es' → IfCut (es ++ es')
-    -- it is neither, and a branch is cut: both branches are visited, and the errors of both count
+    -- the test is open, and a branch is cut: both branches are visited, and the errors of both count
     if_then_cut : {succeeded : Bool} {c : Caps} {a : TypedTree} {es es' es'' : List Finding}
         → Test succeeded c a es
         → annotation_passes is_true (annotation a) ≡ false

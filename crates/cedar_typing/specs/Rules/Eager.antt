@@ -1,5 +1,5 @@
--- The rules of all forms whose operands are typed first: by what comes of the operands, and by the
--- form's table.
+-- The rules of all forms whose operands are typed first: they depend on the results of the operands,
+-- and on the form's table.
 use Rattle.std.specs.Prelude.{◌≡◌, Bool, true, false, ◌&&◌, List, [], ◌∷◌, ◌++◌, Option, Some, None}
 use Rattle.cedar_types.specs.declared.base.location.Loc.{Loc}
 use Rattle.cedar_types.specs.Types.{Ty}
@@ -10,13 +10,13 @@ use Rattle.cedar_typing.specs.Judgments.{Cut, Judgment, Giving, PartResult, Oper
 use Rattle.cedar_typing.specs.TypeEnv.{TypeEnv}
 use Rattle.cedar_typing.specs.TypedExpr.{TypedTree, typed, typed_as}
 
--- what the rules say of operands, one after another
+-- the rules of operands, one after another
 pub record Judgments : Type 1 where
-  -- each is derived: their typed copies
+  -- each operand is derived: their typed copies
   pub derive : List TypedTree → Type 0
-  -- none is cut: whether all succeeded, their typed copies, and their errors
+  -- no operand is cut: whether all succeeded, their typed copies, and their errors
   pub give : Bool → List TypedTree → List Finding → Type 0
-  -- one is cut: the typed copies of those before it, and the errors
+  -- an operand is cut: the typed copies of the operands before it, and the errors
   pub break : List TypedTree → List Finding → Type 0
 
 -- ---- no operand
@@ -35,7 +35,7 @@ no_operands = record { derive = NoneDerived; give = NoneGiven; break = NoBreak }
 
 -- ---- one more operand
 
--- an operand that has to be of certain types, or may be anything
+-- an operand with an expected type, or one that may be anything
 abbrev pub ExpectedOperand : TypeEnv → Expectation → Option Loc → Judgment → Giving
 ExpectedOperand env None l J = PartResult J
 ExpectedOperand env (Some ts) l J = Operand env ts l J
@@ -45,7 +45,7 @@ pub data AlsoDerived (q : Expectation) (J : Judgment) (Js : Judgments) :
   also_derived : {t : Ty} {c : Caps} {x : TypedTree} {xs : List TypedTree}
       → J.derives t c x → meets q t ≡ true → Js.derive xs → AlsoDerived q J Js (x ∷ xs)
 
--- by what the operand gives
+-- no operand is cut, given the result of the first
 pub data AlsoGiven (Gives : Giving) (Js : Judgments) :
     Bool → List TypedTree → List Finding → Type 0 where
   also_given : {succeeded later : Bool} {c : Caps} {x : TypedTree} {xs : List TypedTree}
@@ -53,7 +53,7 @@ pub data AlsoGiven (Gives : Giving) (Js : Judgments) :
       → Gives succeeded c x es → Js.give later xs es'
       → AlsoGiven Gives Js (later && succeeded) (x ∷ xs) (es ++ es')
 
--- the operands after one that is cut: they are visited or not, as the form says
+-- the operands after one that is cut: if the form goes on, they are visited, and their errors count
 pub data AfterCut (Js : Judgments) : Bool → List Finding → Type 0 where
   not_visited : AfterCut Js false []
   all_given : {succeeded : Bool} {xs : List TypedTree} {es : List Finding}
@@ -62,10 +62,10 @@ pub data AfterCut (Js : Judgments) : Bool → List Finding → Type 0 where
 
 pub data AlsoBroken (goes_on : Bool) (Gives : Giving) (C : Cut) (Js : Judgments) :
     List TypedTree → List Finding → Type 0 where
-  -- this one is cut
+  -- the first operand is cut
   broken_here : {es es' : List Finding}
       → C es → AfterCut Js goes_on es' → AlsoBroken goes_on Gives C Js [] (es ++ es')
-  -- a later one is
+  -- a later operand is cut
   broken_later : {succeeded : Bool} {c : Caps} {x : TypedTree} {xs : List TypedTree}
       {es es' : List Finding}
       → Gives succeeded c x es → Js.break xs es'
@@ -88,11 +88,12 @@ module _ (f : Form) (Js : Judgments) where
         → EagerRule t c (f.node (typed t f.at) xs)
 
   pub data EagerRecovery : TypedTree → List Finding → Type 0 where
-    -- an operand failed: by the type that the table gives all the same
+    -- an operand failed: the whole fails too, with the type that the table gives all the same
     operand_failed : {t : Ty} {c : Caps} {xs : List TypedTree} {es : List Finding}
         → Js.give false xs es → f.decides (types_found xs) ≡ gives t c
         → EagerRecovery (f.node (typed (f.type_if_failed t) f.at) xs) es
-    -- the table refuses: the type that stays, and its errors after those of the operands
+    -- the table refuses: the whole keeps this type, if any, and its errors come after those of the
+    -- operands
     table_refused : {succeeded : Bool} {t : Option Ty} {fs : List Finding} {xs : List TypedTree}
         {es : List Finding}
         → Js.give succeeded xs es → f.decides (types_found xs) ≡ refuses t fs
@@ -118,7 +119,7 @@ two_operand_rules env f l l' J J' =
     (one_more env f.goes_on (first_expectation f.expects) l J
     (one_more env f.goes_on (first_expectation (later_expectations f.expects)) l' J' no_operands))
 
--- a form with any number of operands, by the rules of these, which are visited or not after one that
--- is too deep, and have to be what is expected
+-- a form with any number of operands with expected types, from the rules of these, which are visited
+-- or not after one that is too deep
 abbrev pub operand_list_rules : Form → (Bool → List Expectation → Judgments) → Judgment
 operand_list_rules f operands = eager_rules f (operands f.goes_on f.expects)

@@ -1,4 +1,4 @@
--- `==`, `contains`, `containsAll` and `containsAny`.
+-- The rules of `==`, `contains`, `containsAll` and `containsAny`.
 use Rattle.std.specs.Prelude.{Bool, true, false, [], Option, Some, None, if◌then◌else◌}
 use Rattle.cedar_types.specs.declared.base.location.Loc.{Loc}
 use Rattle.cedar_types.specs.declared.base.expressions.operators.Var.{Var}
@@ -21,7 +21,8 @@ use Rattle.cedar_typing.specs.TypedExpr.{Source}
 
 -- ---- literals
 
--- the variable `action` counts as the action of a declared environment
+-- the variable `action` counts as the literal of a declared environment's action, because the
+-- environment has only that one
 abbrev pub action_literal : Env → Option Lit
 action_literal (Declared d ps rs) = Some (entity d.action)
 action_literal Undeclared = None
@@ -32,7 +33,7 @@ variable_literal r Var.Action = action_literal r
 variable_literal r Var.Resource = None
 variable_literal r Var.Context = None
 
--- the literal that an operand is, if it is one
+-- the literal that an operand stands for, if any
 abbrev pub literal_of : Env → Source → Option Lit
 literal_of r (lit m x) = Some x
 literal_of r (var m x) = variable_literal r x
@@ -40,7 +41,7 @@ literal_of r e = None
 
 -- ---- `==`
 
--- two literals are compared, whatever their types
+-- two literals are compared, whatever their types are: this needs no type
 abbrev pub compared_literals : Option Lit → Option Lit → Ty
 compared_literals (Some x) (Some y) = bool_ty (lit_eq x y)
 compared_literals x y = TBool AnyBool
@@ -49,16 +50,17 @@ abbrev pub are_apart : Option Ty → Option Ty → Bool
 are_apart (Some s) (Some t) = are_disjoint s t
 are_apart s t = false
 
--- False where the types are disjoint; else, of two literals, whether they are the same; else Bool
+-- False if the types are disjoint, because the values are never equal; else, for two literals,
+-- whether they are the same; else Bool
 abbrev pub equality_type : Option Lit → Option Lit → Option Ty → Option Ty → Ty
 equality_type x y s t = if are_apart s t then TBool False else compared_literals x y
 
--- where it is Bool, the types have to have a bound in Strict
+-- if the type is Bool, Strict asks for a bound of both types. A decided comparison needs none
 abbrev pub equality_decides : TypeEnv → Option Loc → Ty → Option Ty → Option Ty → Decision
 equality_decides env l u s t =
     if is_any_bool u then gives_unless (strict_errors env l Equality s t) u else gives u no_caps
 
--- `a == b`: both are typed in any case, also after one that is too deep
+-- `a == b`. Both operands are typed in any case, even b after an a that is too deep
 abbrev pub equality_form : TypeEnv → Written → Source → Source → Form
 equality_form env m a b = record {
   at = m;
@@ -76,20 +78,20 @@ equality_form env m a b = record {
 
 -- ---- sets and their members
 
--- the type of the members of a set, where it names one
+-- the type of a set's members, if the type names one
 abbrev pub member_type : Option Ty → Option Ty
 member_type (Some (TSet t)) = Some t
 member_type s = None
 
--- `a.contains(b)` of a set and of anything: Bool; in Strict the type of its members and that of b
--- have to have a bound
+-- `a.contains(b)` of a set and of anything: Bool. In Strict the type of a's members and that of b
+-- must have a bound
 abbrev pub contains_form : TypeEnv → Written → Form
 contains_form env m =
     on_two m (Some set_types) None
     (λ s t. gives_unless (strict_errors env m.place Contains (member_type s) t) (TBool AnyBool))
     (λ k a b. binary k BinaryOp.Contains a b)
 
--- `a.containsAll(b)`, `a.containsAny(b)` of two sets: Bool; in Strict they have to have a bound
+-- `a.containsAll(b)`, `a.containsAny(b)` of two sets: Bool. In Strict their types must have a bound
 abbrev pub contains_several_form : TypeEnv → Written → BinaryOp → Form
 contains_several_form env m o =
     on_two m (Some set_types) (Some set_types)

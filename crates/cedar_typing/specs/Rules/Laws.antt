@@ -1,4 +1,4 @@
--- What the rules of typing have in common, and the check of a condition.
+-- Laws that all rules of typing obey, and laws of the check of a condition.
 use Rattle.std.specs.Prelude.{◌≡◌, ℕ, ◌+◌, ◌≤◌, ◌<◌, Bool, true, false, List, ◌⊎◌, ◌↔◌}
 use Rattle.cedar_types.specs.declared.base.expressions.operators.BinaryOp.{BinaryOp}
 use Rattle.cedar_types.specs.declared.base.expressions.operators.UnaryOp.{UnaryOp}
@@ -18,7 +18,7 @@ use Rattle.cedar_typing.specs.Setting.{Setting}
 use Rattle.cedar_typing.specs.TypeTests.{bool_types, is_false, is_true, annotation_passes}
 use Rattle.cedar_typing.specs.TypedExpr.{Source, TypedTree, annotation, place_of}
 
--- an expression has one type at most, hands on one set of capabilities at most, and is typed in one way at most
+-- an expression has at most one type, one set of capabilities that it produces, and one typed copy
 abbrev pub TypingIsAFunction : Type 0
 TypingIsAFunction =
     (s : Setting) (e : Source) (prior : Caps) (d : ℕ)
@@ -26,7 +26,7 @@ TypingIsAFunction =
     → Derives s e prior d t c x → Derives s e prior d u c' y
     → (t ≡ u) × (c ≡ c') × (x ≡ y)
 
--- it is recovered in one way at most
+-- an expression is recovered in at most one way
 abbrev pub RecoveryIsAFunction : Type 0
 RecoveryIsAFunction =
     (s : Setting) (e : Source) (prior : Caps) (d : ℕ)
@@ -34,7 +34,7 @@ RecoveryIsAFunction =
     → Recovers s e prior d x es → Recovers s e prior d y fs
     → (x ≡ y) × (es ≡ fs)
 
--- it is cut with one list of errors at most
+-- an expression is cut with at most one list of errors
 abbrev pub CutIsAFunction : Type 0
 CutIsAFunction =
     (s : Setting) (e : Source) (prior : Caps) (d : ℕ) (es fs : List Finding)
@@ -50,7 +50,7 @@ IsRecovered s e prior d = (x : TypedTree) × (es : List Finding) × Recovers s e
 abbrev pub IsCut : Setting → Source → Caps → ℕ → Type 0
 IsCut s e prior d = (es : List Finding) × Cuts s e prior d es
 
--- nothing is derived and recovered, derived and cut, or recovered and cut
+-- no expression is derived and recovered, derived and cut, or recovered and cut
 abbrev pub OneOfThreeAtMost : Type 0
 OneOfThreeAtMost =
     (s : Setting) (e : Source) (prior : Caps) (d : ℕ)
@@ -58,29 +58,29 @@ OneOfThreeAtMost =
     × (IsDerived s e prior d × IsCut s e prior d → ⊥)
     × (IsRecovered s e prior d × IsCut s e prior d → ⊥))
 
--- what is not derived is recovered or cut
+-- an expression that is not derived is recovered or cut
 abbrev pub OneOfThreeAtLeast : Type 0
 OneOfThreeAtLeast =
     (s : Setting) (e : Source) (prior : Caps) (d : ℕ)
     → IsDerived s e prior d ⊎ (IsRecovered s e prior d ⊎ IsCut s e prior d)
 
--- a is typed where a Boolean is expected
+-- a is typed as a part that must be a Boolean
 abbrev pub IsTested : Setting → Source → Caps → ℕ → Bool → Caps → TypedTree → List Finding → Type 0
 IsTested s a prior d = Operand s.env bool_types (place_of a) (rules s a prior d)
 
--- what stands after a part is visited: where the part is not cut, or the form goes on in any case
+-- the part behind another is visited if the other is not cut, or if the form goes on in any case
 pub data IsPassed (goes_on : Bool) (J : Judgment) : Type 0 where
   in_any_case : goes_on ≡ true → IsPassed goes_on J
   not_cut : {succeeded : Bool} {c : Caps} {x : TypedTree} {es : List Finding}
       → PartResult J succeeded c x es → IsPassed goes_on J
 
 mutual
-  -- a part of e at depth k is visited, where e stands at depth d and has these prior capabilities
+  -- a part of e at depth k is visited, if e stands at depth d and has these prior capabilities
   pub data IsVisited (s : Setting) : Source → Caps → ℕ → ℕ → Type 0 where
     itself : {e : Source} {prior : Caps} {d : ℕ} → IsVisited s e prior d d
     left_of_and : {m : Written} {a b : Source} {prior : Caps} {d k : ℕ}
         → d ≤ max_nesting → IsVisited s a prior (d + 1) k → IsVisited s (and m a b) prior d k
-    -- the right side is visited where the left one is not False
+    -- the right side is visited if the left one is not False
     right_of_and : {m : Written} {a b : Source} {prior : Caps} {d k : ℕ}
         {succeeded : Bool} {c : Caps} {x : TypedTree} {es : List Finding}
         → d ≤ max_nesting → IsTested s a prior (d + 1) succeeded c x es
@@ -88,7 +88,7 @@ mutual
         → IsVisited s b (union prior c) (d + 1) k → IsVisited s (and m a b) prior d k
     left_of_or : {m : Written} {a b : Source} {prior : Caps} {d k : ℕ}
         → d ≤ max_nesting → IsVisited s a prior (d + 1) k → IsVisited s (or m a b) prior d k
-    -- the right side is visited where the left one is not True
+    -- the right side is visited if the left one is not True
     right_of_or : {m : Written} {a b : Source} {prior : Caps} {d k : ℕ}
         {succeeded : Bool} {c : Caps} {x : TypedTree} {es : List Finding}
         → d ≤ max_nesting → IsTested s a prior (d + 1) succeeded c x es
@@ -97,7 +97,7 @@ mutual
     test_of_if : {m : Written} {a b e : Source} {prior : Caps} {d k : ℕ}
         → d ≤ max_nesting → IsVisited s a prior (d + 1) k
         → IsVisited s (if_then_else m a b e) prior d k
-    -- the first branch is visited where the test is not False, the other one where it is not True
+    -- the first branch is visited if the test is not False, the other one if it is not True
     then_of_if : {m : Written} {a b e : Source} {prior : Caps} {d k : ℕ}
         {succeeded : Bool} {c : Caps} {x : TypedTree} {es : List Finding}
         → d ≤ max_nesting → IsTested s a prior (d + 1) succeeded c x es
@@ -111,7 +111,7 @@ mutual
     operand_of_unary : {m : Written} {o : UnaryOp} {a : Source} {prior : Caps} {d k : ℕ}
         → d ≤ max_nesting → IsVisited s a prior (d + 1) k
         → IsVisited s (unary m o a) prior d k
-    -- operands of an operator, from left to right
+    -- the operands of an operator are visited from left to right
     left_of_binary : {m : Written} {o : BinaryOp} {a b : Source} {prior : Caps} {d k : ℕ}
         → d ≤ max_nesting → IsVisited s a prior (d + 1) k
         → IsVisited s (binary m o a b) prior d k
@@ -143,7 +143,7 @@ mutual
         → d ≤ max_nesting → SomeFieldIsVisited s fs prior (d + 1) k
         → IsVisited s (record_of m fs) prior d k
 
-  -- the same of one of several expressions, each at depth d
+  -- a part of one of several expressions is visited, each of which stands at depth d
   pub data SomeIsVisited (s : Setting) : Bool → Trees Written → Caps → ℕ → ℕ → Type 0 where
     in_first : {goes_on : Bool} {e : Source} {ts : Trees Written} {prior : Caps} {d k : ℕ}
         → IsVisited s e prior d k → SomeIsVisited s goes_on (tree e ts) prior d k
@@ -151,7 +151,7 @@ mutual
         → IsPassed goes_on (rules s e prior d) → SomeIsVisited s goes_on ts prior d k
         → SomeIsVisited s goes_on (tree e ts) prior d k
 
-  -- and of the value of one of several fields
+  -- a part of the value of one of several fields is visited
   pub data SomeFieldIsVisited (s : Setting) : Fields Written → Caps → ℕ → ℕ → Type 0 where
     in_first_field : {x : Text} {e : Source} {fs : Fields Written} {prior : Caps} {d k : ℕ}
         → IsVisited s e prior d k → SomeFieldIsVisited s (field x e fs) prior d k
@@ -159,7 +159,7 @@ mutual
         → IsPassed false (rules s e prior d) → SomeFieldIsVisited s fs prior d k
         → SomeFieldIsVisited s (field x e fs) prior d k
 
--- an expression is cut exactly where a part that is looked at is too deep
+-- an expression is cut exactly if a part that is visited is too deep
 abbrev pub CutIsByDepth : Type 0
 CutIsByDepth =
     (s : Setting) (e : Source) (prior : Caps) (d : ℕ)
@@ -167,18 +167,18 @@ CutIsByDepth =
 
 -- ---- the check of a condition
 
--- it comes to one verdict at most, save for the order of errors
+-- the check of a condition has at most one verdict, save for the order of errors
 abbrev pub OneVerdictAtMost : Type 0
 OneVerdictAtMost =
     (s : Setting) (e : Source) (u v : Verdict)
     → PolicyChecks s e u → PolicyChecks s e v
     → SameVerdict u v
 
--- it comes to a verdict, whatever the condition
+-- the check of each condition has a verdict
 abbrev pub OneVerdictAtLeast : Type 0
 OneVerdictAtLeast = (s : Setting) (e : Source) → (v : Verdict) × PolicyChecks s e v
 
--- a verdict that it comes to, it comes to with the errors in any order
+-- the check of a condition has each verdict that differs from one of its verdicts only in the order of errors
 abbrev pub ErrorsInAnyOrder : Type 0
 ErrorsInAnyOrder =
     (s : Setting) (e : Source) (u v : Verdict)

@@ -1,4 +1,4 @@
--- Expressions without parts: literals, variables, slots and unknowns.
+-- The rules of expressions without parts: literals, variables, slots and unknowns.
 use Rattle.std.specs.Prelude.{◌≡◌, Bool, true, false, List, [], ◌∷◌, Option, Some, None, if◌then◌else◌}
 use Rattle.cedar_types.specs.declared.base.expressions.operators.Var.{Var}
 use Rattle.cedar_types.specs.declared.base.names.slots.SlotId.{SlotId}
@@ -19,14 +19,14 @@ use Rattle.cedar_typing.specs.TypedExpr.{TypedTree, Mark, typed, untyped}
 
 -- ---- the tables
 
--- the types of the variables: an action has one where the schema declares it
+-- the types of the variables. An action has a type if the schema declares it
 abbrev pub variable_type : TypeEnv → Var → Option Ty
 variable_type env Var.Principal = Some (principal_ty env.request_env)
 variable_type env Var.Action = action_ty env.schema env.request_env
 variable_type env Var.Resource = Some (resource_ty env.request_env)
 variable_type env Var.Context = Some (context_ty env.request_env)
 
--- any entity, or one of the linked type
+-- the type of a slot: entities of the linked type, else any entity
 abbrev pub linked_ty : Option Path → Ty
 linked_ty None = TAnyEntity
 linked_ty (Some p) = TEntity (p ∷ [])
@@ -40,7 +40,8 @@ abbrev pub bool_ty : Bool → Ty
 bool_ty true = TBool True
 bool_ty false = TBool False
 
--- an entity that the schema does not know has its type in Partial, and none else
+-- an entity that the schema does not know has its type in Partial, whose schema need not declare
+-- everything. Else it has none
 abbrev pub unknown_entity_type : ValidationMode → Uid → Option Ty
 unknown_entity_type m u = if is_partial m then Some (TEntity (u.entity_type ∷ [])) else None
 
@@ -48,7 +49,8 @@ abbrev pub known_entity_type : Option Ty → Option Ty → Option Ty
 known_entity_type None other = other
 known_entity_type (Some t) other = Some t
 
--- the types of literals: True or False, Long, String; an entity's own where the schema knows it
+-- the types of literals: True or False, Long, String; for an entity its own type, if the schema
+-- knows it
 abbrev pub type_of_literal : TypeEnv → Lit → Option Ty
 type_of_literal env (bool b) = Some (bool_ty b)
 type_of_literal env (long z) = Some TLong
@@ -58,12 +60,13 @@ type_of_literal env (entity u) =
 
 -- ---- the rules
 
--- the type that a table gives, if it gives one; it produces no capabilities
+-- the type that the table gives, if it gives one. The whole produces no capabilities
 pub data LeafRule (found : Option Ty) (m : Written) (node : Mark → TypedTree) :
     Ty → Caps → TypedTree → Type 0 where
   leaf : {t : Ty} → found ≡ Some t → LeafRule found m node t no_caps (node (typed t m))
 
--- where it gives none: no error, and no type
+-- if the table gives no type, the whole fails without an error, because the passes over names
+-- report it
 pub data LeafRecovery (found : Option Ty) (m : Written) (node : Mark → TypedTree) :
     TypedTree → List Finding → Type 0 where
   leaf_missing : found ≡ None → LeafRecovery found m node (node (untyped m)) []
@@ -75,7 +78,7 @@ leaf_rules found m node = record {
   cuts = NoCut;
 }
 
--- an unknown always fails: no error, no type and no place
+-- an unknown always fails, with no error, no type and no place
 pub data UnknownRecovery (n : Path) (m : Written) : TypedTree → List Finding → Type 0 where
   unknown_fails :
       UnknownRecovery n m (unknown (untyped (record { place = None; names = m.names })) n) []

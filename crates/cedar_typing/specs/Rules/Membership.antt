@@ -1,4 +1,4 @@
--- `in`.
+-- The rule of `in`.
 use Rattle.std.specs.Prelude.{Bool, true, ◌||◌, List, [], ◌∷◌, Option, Some, None, option_map, if◌then◌else◌}
 use Rattle.std.specs.List.{list_any, list_all}
 use Rattle.cedar_types.specs.declared.base.expressions.operators.BinaryOp.{BinaryOp}
@@ -23,7 +23,7 @@ abbrev pub literal_entity : Option Lit → Option Uid
 literal_entity (Some (entity u)) = Some u
 literal_entity x = None
 
--- the entity that an expression is, if it is a literal, or `action` in a declared environment
+-- the entity that an expression stands for, if it is a literal, or `action` in a declared environment
 abbrev pub entity_of : Env → Source → Option Uid
 entity_of r e = literal_entity (literal_of r e)
 
@@ -35,7 +35,7 @@ abbrev pub entities_of : Env → Trees Written → Option (List Uid)
 entities_of r no_trees = Some []
 entities_of r (tree e es) = with_entity (entity_of r e) (entities_of r es)
 
--- the one, or a set of only these
+-- the one entity that an expression stands for, or those of a set of only such
 abbrev pub ancestors_of : Env → Source → Option (List Uid)
 ancestors_of r (set_of m ts) = entities_of r ts
 ancestors_of r e = option_map (λ u. u ∷ []) (entity_of r e)
@@ -45,7 +45,7 @@ is_action u = is_action_path u.entity_type
 
 -- ---- an action in some entities
 
--- an action is one of them, or a descendant of one
+-- whether an action is one of these, or a descendant of one
 abbrev pub is_action_in : List DeclaredAction → Uid → List Uid → Bool
 is_action_in acts u vs =
     list_any (λ v. uid_eq u v || uid_is_among (descendants_of_action acts v) u) vs
@@ -54,8 +54,9 @@ abbrev pub only_actions : List Uid → List Uid
 only_actions [] = []
 only_actions (v ∷ vs) = if is_action v then v ∷ only_actions vs else only_actions vs
 
--- an action is only in actions. Of declared ones the schema decides; where one of them is not
--- declared, this is a failure without an error, but not in Partial
+-- an action can be in actions only. If all are declared, the schema decides. If one is not, the type is
+-- Bool: a success in Partial, else a failure without an error, because the passes over names report
+-- that action
 abbrev pub action_decides : TypeEnv → Uid → List Uid → Decision
 action_decides env u vs =
     if list_all (declares_action env.schema.actions) vs
@@ -70,18 +71,19 @@ abbrev pub types_of_entity : Option Ty → Option (List Path)
 types_of_entity (Some (TEntity ps)) = Some ps
 types_of_entity t = None
 
--- the types of an entity, or of the entities in a set
+-- the types of an entity, or those of the entities in a set, if they are known
 abbrev pub types_of_ancestors : Option Ty → Option (List Path)
 types_of_ancestors (Some (TEntity ps)) = Some ps
 types_of_ancestors (Some (TSet (TEntity ps))) = Some ps
 types_of_ancestors t = None
 
--- whether the schema allows it: where types are not known it may
+-- whether the schema allows an entity of the first types in one of the second. If some are not known,
+-- it may
 abbrev pub may_be_among : Schema → Option (List Path) → Option (List Path) → Bool
 may_be_among s (Some ps) (Some qs) = any_may_be_in s ps qs
 may_be_among s ps qs = true
 
--- False where the schema does not allow it, else Bool
+-- False if the schema does not allow it, else Bool
 abbrev pub entity_decides : TypeEnv → Option Ty → Option Ty → Decision
 entity_decides env s t =
     gives
@@ -97,8 +99,8 @@ in_decides env (Some u) (Some vs) s t =
     if is_action u then action_decides env u (only_actions vs) else entity_decides env s t
 in_decides env u vs s t = entity_decides env s t
 
--- `a in b` of an entity, and an entity or a set of entities: both are typed in any case, also after one
--- that is too deep; where an operand failed, Bool
+-- `a in b` of an entity, and an entity or a set of entities. Both operands are typed in any case, even
+-- b after an a that is too deep. If an operand failed, the type is Bool
 abbrev pub in_form : TypeEnv → Written → Source → Source → Form
 in_form env m a b = record {
   at = m;

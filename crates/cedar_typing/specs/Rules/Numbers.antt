@@ -1,4 +1,4 @@
--- `+`, `-`, `*`, `<` and `<=`.
+-- The rules of `+`, `-`, `*`, `<` and `<=`.
 use Rattle.std.specs.Prelude.{Bool, ◌&&◌, List, [], ◌∷◌, map, Option, Some, None, if◌then◌else◌}
 use Rattle.std.specs.List.{list_any}
 use Rattle.cedar_types.specs.declared.base.location.Loc.{Loc}
@@ -23,24 +23,24 @@ arithmetic_form m o =
 
 -- ---- `<` and `<=`
 
--- the types that are compared: Longs, and the overloaded extension types
+-- the comparable types: Long, and the overloaded extension types
 abbrev pub comparable_types : TypeEnv → List Ty
 comparable_types env = TLong ∷ map TExtension env.overloaded_types
 
 abbrev pub is_comparable : TypeEnv → Ty → Bool
 is_comparable env t = list_any (ty_eq t) (comparable_types env)
 
--- an error at l, where one of the types ts is expected
+-- an error at l that one of the types ts is expected
 abbrev pub expected_at : TypeEnv → Option Loc → List Ty → Ty → Finding
 expected_at env l ts t = finding env l (unexpected_type (in_order ts) t)
 
--- a type beside Never has to be comparable
+-- a type beside Never must be comparable
 abbrev pub beside_never : TypeEnv → Option Loc → Ty → List Finding
 beside_never env l t =
     if is_comparable env t then [] else expected_at env l (comparable_types env) t ∷ []
 
--- two types that are not one comparable type: the other side has to be a Long where one is, or else
--- to be of the type of the one that is comparable; where neither is, both sides are wrong
+-- two sides that are not of one comparable type. If one is a Long, the other must be one; else if
+-- one is comparable, the other must be of its type; else both sides are wrong
 abbrev pub incomparable : TypeEnv → Option Loc → Option Loc → Ty → Ty → List Finding
 incomparable env l l' s t =
     if ty_eq s TLong then expected_at env l' (TLong ∷ []) t ∷ []
@@ -50,7 +50,8 @@ incomparable env l l' s t =
     else expected_at env l (comparable_types env) s
     ∷ expected_at env l' (comparable_types env) t ∷ []
 
--- two Nevers fail without an error, and Bool stays; one comparable type passes
+-- two Nevers fail without an error, because nothing tells the type that is meant, and the type is
+-- still Bool. Two sides of one comparable type pass
 abbrev pub compares : TypeEnv → Option Loc → Option Loc → Ty → Ty → Decision
 compares env l l' s t =
     if is_never s && is_never t then refuses (Some (TBool AnyBool)) []
@@ -59,12 +60,13 @@ compares env l l' s t =
     else if is_comparable env s && ty_eq s t then gives (TBool AnyBool) no_caps
     else refuses (Some (TBool AnyBool)) (incomparable env l l' s t)
 
--- a type that is missing is no other error
+-- a side without a type adds no error, because it has failed already
 abbrev pub compare_decides : TypeEnv → Option Loc → Option Loc → Option Ty → Option Ty → Decision
 compare_decides env l l' (Some s) (Some t) = compares env l l' s t
 compare_decides env l l' s t = refuses (Some (TBool AnyBool)) []
 
--- `a < b`, `a <= b` of operands at l and l' that are of one comparable type: Bool
+-- `a < b`, `a <= b` of operands at l and l' that are of one comparable type: Bool. No type is
+-- expected beforehand, because the type of one side decides that of the other
 abbrev pub comparison_form : TypeEnv → Written → Option Loc → Option Loc → BinaryOp → Form
 comparison_form env m l l' o =
     on_two m None None (compare_decides env l l') (λ k a b. binary k o a b)

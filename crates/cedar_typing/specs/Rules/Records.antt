@@ -1,4 +1,4 @@
--- Records.
+-- The rule of records.
 use Rattle.std.specs.Prelude.{true, false, List, [], ◌∷◌, Option, Some, None, if◌then◌else◌}
 use Rattle.cedar_types.specs.declared.base.location.Loc.{Loc}
 use Rattle.cedar_types.specs.Names.{Text}
@@ -26,15 +26,15 @@ abbrev pub required_attrs : List Text → List Ty → Attrs
 required_attrs (k ∷ ks) (t ∷ ts) = attr k t true (required_attrs ks ts)
 required_attrs ks ts = no_attrs
 
--- keys ascend, as in every record of the program: of a tree in which they do not there is no rule,
--- which is an error at the whole; a type that is missing is no other error
+-- keys ascend, as in every record of the program. A tree in which they do not has no rule, which is
+-- an error at the whole. A value without a type adds no error, because it has failed already
 abbrev pub record_of_types : TypeEnv → Option Loc → List Text → Option (List Ty) → Decision
 record_of_types env l ks None = refuses None []
 record_of_types env l ks (Some ts) =
     if texts_ascending ks then gives (TRecord (required_attrs ks ts) false) no_caps
     else refuses None (finding env l internal_invariant_violation ∷ [])
 
--- `{x: a, y: b}` with these keys: a closed record, all of whose attributes are required
+-- `{x: a, y: b}` with these keys: a closed record that requires all its attributes
 abbrev pub record_form : TypeEnv → Written → List Text → Form
 record_form env m ks = record {
   at = m;

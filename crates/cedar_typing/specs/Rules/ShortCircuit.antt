@@ -1,4 +1,5 @@
--- `&&` and `||`: the left side may end the whole, and else says what is known on the right.
+-- The rules of `&&` and `||`: the left side may end the whole; else it decides what is known on the
+-- right.
 use Rattle.std.specs.Prelude.{◌≡◌, Bool, true, false, ◌&&◌, List, ◌++◌, Option, Some, if◌then◌else◌}
 use Rattle.cedar_types.specs.declared.base.location.Loc.{Loc}
 use Rattle.cedar_types.specs.declared.base.types.BoolType.TheVariants.{AnyBool}
@@ -12,26 +13,27 @@ use Rattle.cedar_typing.specs.TypeEnv.{TypeEnv}
 use Rattle.cedar_typing.specs.TypeTests.{accepts, bool_types, is_false, is_true, annotation_passes}
 use Rattle.cedar_typing.specs.TypedExpr.{TypedTree, Mark, typed, annotation, at_place}
 
--- which of two sides says what the type of the whole is
+-- the side that gives the whole its type
 pub data Side : Type 0 where
-  -- the right one, which ends the whole
+  -- the right side, because it ends the whole
   right_ends : Side
-  -- the left one, as the right one changes nothing
+  -- the left side, because the right one changes nothing
   left_alone : Side
-  -- the right one, as the left one changes nothing
+  -- the right side, because the left one changes nothing
   right_alone : Side
+  -- no side: the whole is Bool
   neither : Side
 
--- what is particular to `&&` and to `||`
+-- the particulars of `&&` and of `||`
 pub record Connective : Type 0 where
-  -- the types of a side that end the whole, and those that leave it to the other side
+  -- the types of a side that end the whole, and those that leave the value to the other side
   pub ends : Ty → Bool
   pub changes_nothing : Ty → Bool
-  -- what a left side that ends the whole produces
+  -- the capabilities of a whole that its left side ends
   pub ended_caps : Caps → Caps
-  -- what is known on the right: by what is known before, and by what the left side produces
+  -- the capabilities known on the right, from the prior ones and those that the left side produces
   pub right_prior : Caps → Caps → Caps
-  -- what both sides produce
+  -- the capabilities of a whole of which both sides are typed
   pub side_caps : Side → Caps → Caps → Caps
   pub node : Mark → TypedTree → TypedTree → TypedTree
 
@@ -54,23 +56,24 @@ type_of_side neither s t = TBool AnyBool
 abbrev pub sides_type : Connective → Ty → Ty → Ty
 sides_type f s t = type_of_side (side_of f s t) s t
 
--- what the whole produces, by the types of both sides
+-- the capabilities that the whole produces, by the types of both sides
 abbrev pub sides_caps : Connective → Ty → Ty → Caps → Caps → Caps
 sides_caps f s t = f.side_caps (side_of f s t)
 
--- the type where a side failed: that of the table where each side has a type, else Bool
+-- the type if a side failed: that of the table if each side has a type, else Bool
 abbrev pub sides_annotation : Connective → Option Ty → Option Ty → Ty
 sides_annotation f (Some s) (Some t) = sides_type f s t
 sides_annotation f s t = TBool AnyBool
 
--- a right False produces nothing; else the whole is true only where both sides are
+-- a whole with a right False is never true, so it produces nothing. Any other is true only if both
+-- sides are, so it produces all that they do
 abbrev pub and_caps : Side → Caps → Caps → Caps
 and_caps right_ends c c' = no_caps
 and_caps left_alone c c' = union c c'
 and_caps right_alone c c' = union c c'
 and_caps neither c c' = union c c'
 
--- `a && b`: b is evaluated only where a is true, so what a produces is known there
+-- `a && b`: b is evaluated only if a is true, so b may use the capabilities that a produces
 abbrev pub conjunction : Connective
 conjunction = record {
   ends = is_false;
@@ -81,14 +84,15 @@ conjunction = record {
   node = and;
 }
 
--- the side that says the type produces what it does alone; else only what both sides produce holds
+-- the side that gives the type produces its capabilities alone. If neither does, either side may be
+-- the reason that the whole is true, so only the capabilities of both hold
 abbrev pub or_caps : Side → Caps → Caps → Caps
 or_caps right_ends c c' = c'
 or_caps left_alone c c' = c
 or_caps right_alone c c' = c'
 or_caps neither c c' = intersection c c'
 
--- `a || b`: b is evaluated only where a is false, so what a produces is not known there
+-- `a || b`: b is evaluated only if a is false, so b may not use the capabilities that a produces
 abbrev pub disjunction : Connective
 disjunction = record {
   ends = is_true;
@@ -103,7 +107,7 @@ disjunction = record {
 
 module _ (env : TypeEnv) (f : Connective) (m : Written) (l l' : Option Loc)
     (A : Judgment) (B : Caps → Judgment) (prior : Caps) where
-  -- what the left side gives, and the right one after a left one that produces c
+  -- the result of the left side, and that of the right side after a left one that produces c
   abbrev pub Left : Bool → Caps → TypedTree → List Finding → Type 0
   Left = Operand env bool_types l A
 
@@ -111,8 +115,8 @@ module _ (env : TypeEnv) (f : Connective) (m : Written) (l l' : Option Loc)
   Right c = Operand env bool_types l' (B (f.right_prior prior c))
 
   pub data ShortCircuitRule : Ty → Caps → TypedTree → Type 0 where
-    -- the left side ends the whole, which is that side alone, at the place of the whole; the right one
-    -- is not visited
+    -- the left side ends the whole: the typed copy is that side alone, at the place of the whole, and
+    -- the right side is not visited, because it is never evaluated
     left_ends : {s : Ty} {c : Caps} {a : TypedTree}
         → A.derives s c a → accepts bool_types s ≡ true → f.ends s ≡ true
         → ShortCircuitRule s (f.ended_caps c) (at_place m.place a)
@@ -124,11 +128,11 @@ module _ (env : TypeEnv) (f : Connective) (m : Written) (l l' : Option Loc)
         (f.node (typed (sides_type f s t) m) a b)
 
   pub data ShortCircuitRecovery : TypedTree → List Finding → Type 0 where
-    -- the left side failed, and its type ends the whole all the same
+    -- the left side failed, but has a type that ends the whole all the same
     left_ends_failed : {c : Caps} {a : TypedTree} {es : List Finding}
         → Left false c a es → annotation_passes f.ends (annotation a) ≡ true
         → ShortCircuitRecovery (at_place m.place a) es
-    -- a side failed
+    -- a side failed, and the left one does not end the whole
     side_failed : {succeeded succeeded' : Bool} {c c' : Caps} {a b : TypedTree}
         {es es' : List Finding}
         → Left succeeded c a es → annotation_passes f.ends (annotation a) ≡ false

@@ -1,4 +1,4 @@
--- `hasTag` and `getTag`.
+-- The rules of `hasTag` and `getTag`.
 use Rattle.std.specs.Prelude.{Bool, List, [], ◌∷◌, Option, Some, None, if◌then◌else◌}
 use Rattle.cedar_types.specs.declared.base.location.Loc.{Loc}
 use Rattle.cedar_types.specs.declared.base.expressions.operators.BinaryOp.{BinaryOp}
@@ -18,25 +18,27 @@ use Rattle.cedar_typing.specs.TypeEnv.{TypeEnv, finding}
 use Rattle.cedar_typing.specs.TypeTests.{string_types, entity_types}
 use Rattle.cedar_typing.specs.TypedExpr.{Source, form_of}
 
--- that a has the tag whose name b gives
+-- the capability that a has the tag whose name is b
 abbrev pub tag_of : Source → Source → Cap
 tag_of a b = tag (form_of a) (form_of b)
 
 -- ---- `hasTag`
 
--- where no type declares tags, False; where the tag is known to be there, True; else Bool
+-- False if no type declares tags; True if the tag is known to be there; else Bool, because no
+-- schema requires a tag
 abbrev pub has_tag_type : List Ty → Bool → Ty
 has_tag_type [] known = TBool False
 has_tag_type (t ∷ ts) known = if known then TBool True else TBool AnyBool
 
--- the tag is there wherever the whole is true; of Never there is no rule, which is an error
+-- the whole produces that the tag is there. Never has no entity types to ask for tags, which is an
+-- error
 abbrev pub has_tag_table : TypeEnv → Option Loc → Cap → Bool → Option Ty → Decision
 has_tag_table env l there known None = refuses None []
 has_tag_table env l there known (Some s) =
     if is_never s then refuses None (finding env l internal_invariant_violation ∷ [])
     else gives (has_tag_type (tag_types env.schema s) known) (single there)
 
--- `a.hasTag(b)` of an entity and a text: a Boolean, and where it is true the tag is known
+-- `a.hasTag(b)` of an entity and a text: a Boolean, and if it is true, the tag is known to be there
 abbrev pub has_tag_form : TypeEnv → Written → Caps → Source → Source → Form
 has_tag_form env m prior a b =
     on_two m (Some entity_types) (Some string_types)
@@ -45,29 +47,29 @@ has_tag_form env m prior a b =
 
 -- ---- `getTag`
 
--- the entity types that errors name, or none of any entity
+-- the entity types that errors name; `None` for any entity
 abbrev pub types_named : Ty → Option (List Path)
 types_named (TEntity ps) = Some ps
 types_named s = None
 
--- the only entity type, if there is one alone
+-- the only entity type, if there is exactly one
 abbrev pub only_type : Option (List Path) → Option Path
 only_type None = None
 only_type (Some ps) = sole ps
 
--- the bound of the types that the tag may have: where there is none, an error at the whole
+-- the bound of the types that the tag may have. If they have none, that is an error at the whole
 abbrev pub tag_by_bound : TypeEnv → Option Loc → List Ty → Option Ty → Decision
 tag_by_bound env l ts (Some u) = gives u no_caps
 tag_by_bound env l ts None = refuses None (finding env l (incompatible_types ts GetTag) ∷ [])
 
--- of types that declare no tags, an error at the whole
+-- types that declare no tags are an error at the whole
 abbrev pub get_known_tag : TypeEnv → Option Loc → Ty → List Ty → Decision
 get_known_tag env l s [] =
     refuses None (finding env l (no_tags_allowed (only_type (types_named s))) ∷ [])
 get_known_tag env l s (t ∷ ts) = tag_by_bound env l (t ∷ ts) (list_lub env.mode (t ∷ ts))
 
--- a tag that is not known to be there is an error at the whole; of Never there is no rule, which is
--- one too
+-- a tag that is not known to be there is an error at the whole, because no schema requires a tag.
+-- So is Never
 abbrev pub get_tag_table : TypeEnv → Option Loc → Bool → Option Ty → Decision
 get_tag_table env l known None = refuses None []
 get_tag_table env l known (Some s) =

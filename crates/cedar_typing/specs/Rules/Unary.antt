@@ -1,4 +1,4 @@
--- `!`, negation, `isEmpty`, `like` and `is`.
+-- The rules of `!`, negation, `isEmpty`, `like` and `is`.
 use Rattle.std.specs.Prelude.{not, List, [], Option, Some, None, is_some, if◌then◌else◌}
 use Rattle.cedar_types.specs.declared.base.expressions.operators.UnaryOp.{UnaryOp}
 use Rattle.cedar_types.specs.declared.base.expressions.patterns.PatternElem.{PatternElem}
@@ -14,7 +14,7 @@ use Rattle.cedar_typing.specs.TypeTests.{bool_types, long_types, string_types, s
 
 -- ---- operators
 
--- True and False change places
+-- the opposite of True is False, and of False True
 abbrev pub not_type : Ty → Ty
 not_type s = if is_true s then TBool False else if is_false s then TBool True else TBool AnyBool
 
@@ -22,7 +22,7 @@ abbrev pub not_decides : Option Ty → Decision
 not_decides None = gives (TBool AnyBool) no_caps
 not_decides (Some s) = gives (not_type s) no_caps
 
--- `!a` of a Boolean: True and False change places, and any other Boolean is Bool
+-- `!a` of a Boolean: the opposite of True and of False, else Bool
 abbrev pub not_form : Written → Form
 not_form m = on_one m (Some bool_types) not_decides (λ k a. unary k UnaryOp.Not a)
 
@@ -49,18 +49,18 @@ abbrev pub like_form : Written → List PatternElem → Form
 like_form m p =
     on_one m (Some string_types) (λ s. gives (TBool AnyBool) no_caps) (λ k a. like k a p)
 
--- of some entity types: False where n is none of them, True where it is the only one, else Bool
+-- for some entity types: False if n is none of them, True if n is the only one, else Bool
 abbrev pub is_type_of : Path → List Path → Ty
 is_type_of n ps =
     if not (is_among ps n) then TBool False
     else if is_some (sole ps) then TBool True else TBool AnyBool
 
--- of Never it fails, without an error; of any entity: Bool
+-- Never fails without an error; any entity gives Bool
 abbrev pub is_decides : Path → Option Ty → Decision
 is_decides n (Some TNever) = refuses (Some (TBool AnyBool)) []
 is_decides n (Some (TEntity ps)) = gives (is_type_of n ps) no_caps
 is_decides n s = gives (TBool AnyBool) no_caps
 
--- `a is n` of an entity: whether it is of the type n
+-- `a is n` of an entity: whether its type is n
 abbrev pub is_form : Written → Path → Form
 is_form m n = on_one m (Some entity_types) (is_decides n) (λ k a. is_type k a n)
