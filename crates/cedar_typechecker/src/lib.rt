@@ -1,4 +1,5 @@
-//! What a policy set validator asks of a policy: its names, its scope, its types.
+//! The checks by which a validator accepts or refuses a policy: of its names, its scope, its types
+//! and its levels.
 #![tactic(auto)]
 
 pub mod level_validate;

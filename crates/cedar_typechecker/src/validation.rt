@@ -25,18 +25,19 @@ impl<C: ArgumentCheck> Validator<'_, C> {
     /// Validates a policy in a mode: its errors, in any order, and its warnings.
     ///
     /// The errors are, in Strict and in Permissive, each finding of the passes over the names of the template, as often as it is
-    /// found; and in each mode each error of its check in some environment, once. The warnings are that no action fits the scope, in
-    /// Strict and in Permissive, and that the policy is impossible: irrelevant in each environment. Each environment is typed at
-    /// most once, and one typed condition is held at a time.
+    /// found; and in each mode each error of its check in some environment, once. The warnings are, in Strict and in Permissive,
+    /// that no action fits the scope; and in each mode that the policy is impossible: irrelevant in each environment. Each
+    /// environment is typed at most once, and one typed condition is held at a time.
     ///
-    /// In Strict and in Permissive a policy without errors does not go wrong, nor does one of which each error is an id that its
-    /// enumerated type does not list, so that there are no more than `validate_enum_entity` finds (clauses `silent` and
-    /// `silent_in_permissive`): evaluating it gives a boolean, or fails only for a missing entity, an overflow or an extension
-    /// function. A policy that is warned to be impossible is never true, with errors or without (clauses `never_true` and
-    /// `never_true_in_permissive`). What all this rests on: docs/THEOREMS.md, "The premises".
+    /// In Strict and in Permissive a policy without errors does not go wrong (clauses `silent` and `silent_in_permissive`):
+    /// evaluating it gives a boolean, or fails only for a missing entity, an overflow or an extension function. The same is
+    /// promised if each error is an id that its enumerated type does not list, so that there are no more than
+    /// `validate_enum_entity` finds, because typing does not ask which ids a type lists. A policy that is warned to be impossible
+    /// is never true, with errors or without (clauses `never_true` and `never_true_in_permissive`). The premises of all this are in
+    /// docs/THEOREMS.md, "The premises".
     ///
-    /// Where a part is nested too deep the check fails, and there need be no error: `typecheck_policy` answers `true` of no
-    /// such policy. Where memory is refused, the answer is an `AllocError`.
+    /// If a part is nested too deep the check fails, perhaps without an error, so you must not take a policy without errors for one
+    /// that passes: `typecheck_policy` answers `true` of no such policy. Where memory is refused, the answer is an `AllocError`.
     pub fn validate_policy(
         &self,
         alloc: Global,
@@ -66,7 +67,7 @@ impl<C: ArgumentCheck> Validator<'_, C> {
         Ok((errors, warnings))
     }
 
-    /// The findings of the passes over the names, in the modes that make them.
+    /// The findings of the passes over the names, which run in Strict and in Permissive.
     pub(crate) fn name_errors(
         &self,
         alloc: Global,
@@ -93,7 +94,7 @@ impl<C: ArgumentCheck> Validator<'_, C> {
         Ok(found)
     }
 
-    /// The warning of the scope, in the modes that look at it, and that the policy is impossible.
+    /// The warnings: that no action fits the scope, in the modes that ask it, and that the policy is impossible.
     pub(crate) fn warnings(
         &self,
         alloc: Global,
@@ -118,7 +119,7 @@ impl<C: ArgumentCheck> Validator<'_, C> {
     }
 }
 
-/// Adds all that is left of a pass.
+/// Adds the errors that a pass still gives.
 fn collect(found: &mut Vec<ValidationError>, pass: LiteralErrors<'_>) -> Result<(), AllocError>
     ensures { OnOk result (
         findings found.new.items ≡ findings found.old.items ++ errors_left pass.entry) }

@@ -1,4 +1,4 @@
-// What the actions apply to that the scope of a policy admits.
+// The actions that the scope of a policy admits, and the types to which they apply.
 ghost use Rattle.std.specs.Prelude.{◌≡◌, map, IfOk};
 ghost use Rattle.cedar_types.specs.Schemas.Declarations.{application, declared_action};
 ghost use Rattle.cedar_types.specs.Names.{placed_uid, uid_of};
@@ -12,7 +12,8 @@ use cedar_types::base::{
 };
 use std::alloc::{AllocError, Global};
 
-/// What the admitted actions apply to, those that are defined.
+/// The applications of the admitted actions that are defined: the principal types and resource types to which
+/// each applies.
 pub(crate) fn admitted_applications<'b>(
     schema: &'b ValidatorSchema,
     alloc: Global,
@@ -27,7 +28,7 @@ pub(crate) fn admitted_applications<'b>(
     Ok(applications)
 }
 
-/// The declarations of the admitted actions.
+/// The declarations of the actions that the constraint admits.
 fn admitted_actions<'b>(
     schema: &'b ValidatorSchema,
     alloc: Global,
@@ -70,7 +71,7 @@ fn actions_within<'b>(
     }
 }
 
-/// The declarations of those of these actions that are declared.
+/// The declarations of these actions. Actions that are not declared are left out.
 fn declarations<'b>(
     schema: &'b ValidatorSchema,
     alloc: Global,
@@ -89,7 +90,7 @@ fn declarations<'b>(
     Ok(declared)
 }
 
-/// What these actions apply to, those that are defined.
+/// The applications of these actions. Actions that are not defined are left out.
 fn applications<'b>(
     alloc: Global,
     actions: &[&'b ValidatorActionId],

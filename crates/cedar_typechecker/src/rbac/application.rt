@@ -1,4 +1,4 @@
-// Whether the scope of a policy fits some action.
+// The test whether the scope of a policy fits some action.
 ghost use Rattle.std.specs.Prelude.{◌≡◌, map, IfOk};
 ghost use Rattle.std.specs.List.{list_any};
 ghost use Rattle.cedar_types.specs.Schemas.Declarations.{application};
@@ -22,12 +22,12 @@ use cedar_types::base::{
 use std::alloc::{AllocError, Global};
 
 impl<C: ArgumentCheck> Validator<'_, C> {
-    /// Whether the scope of the template fits an action: whether an admitted action that is defined has a principal type
-    /// and a resource type among those that the constraints admit. A slot admits each declared type.
+    /// Tests whether the scope of the template fits an action: whether an admitted action that is defined has a principal
+    /// type and a resource type among those that the constraints admit. A slot admits each declared type.
     ///
-    /// Else the answer is a warning at the policy's place. A flag of it says that `in` in place of `==` might help: the
-    /// constraint is `==` an entity, no admitted and defined action lists the entity's type, and one lists a type that is
-    /// declared as a descendant of it. Where memory is refused, the answer is an `AllocError`.
+    /// If no action fits, the answer is `Err` of a warning at the policy's place. A flag of the warning says that `in` in
+    /// place of `==` might help: the constraint is `==` an entity, no admitted and defined action lists the entity's type,
+    /// and one lists a type that is declared as a descendant of it. Where memory is refused, the answer is an `AllocError`.
     #[tactic(auto, unfolding(crate::specs::ValidatorViews::schema_in))]
     pub fn validate_template_action_application(
         &self,
@@ -42,8 +42,8 @@ impl<C: ArgumentCheck> Validator<'_, C> {
         application(&self.schema, alloc, t, principal, resource)
     }
 
-    /// The same of the scope of a linked policy, in which what a slot is bound to stands in the slot's place. A slot that is
-    /// not bound stays.
+    /// Tests whether the scope of a linked policy fits an action, as `validate_template_action_application` tests a
+    /// template's. The entity to which a slot is bound stands in the slot's place; a slot that is not bound stays.
     #[tactic(auto, unfolding(crate::specs::ValidatorViews::schema_in))]
     pub fn validate_linked_action_application(
         &self,
@@ -68,7 +68,7 @@ impl<C: ArgumentCheck> Validator<'_, C> {
     }
 }
 
-/// The same of a template with these constraints on the principal and on the resource.
+/// The test of a template with these constraints on the principal and on the resource.
 fn application(
     schema: &ValidatorSchema,
     alloc: Global,
@@ -95,7 +95,7 @@ fn application(
     Ok(Err(warning))
 }
 
-/// The warning on this template, with these flags.
+/// The warning that no action fits this template, with these flags.
 fn warning(
     t: &Template,
     would_in_fix_principal: bool,
@@ -116,7 +116,7 @@ fn warning(
     ))
 }
 
-/// Whether one of these actions has a principal type and a resource type among these.
+/// Whether one of these applications has a principal type among `principals` and a resource type among `resources`.
 fn has_fitting(
     applications: &[&ValidatorApplySpec],
     principals: &[&EntityType],

@@ -17,11 +17,12 @@ use cedar_types::base::{
 use std::alloc::{AllocError, Global};
 
 impl<C: ArgumentCheck> Validator<'_, C> {
-    /// The entity types that the constraint on the principal admits, each once, in any order.
+    /// The entity types that the constraint on the principal admits, each once, in any order:
     ///
-    /// None, or `==` or `in` the slot: each declared type. `== e`: the type of `e`, known or not. `in e`: that type and its
-    /// descendants. `is T` and `is T in` the slot: `T` if it is known. `is T in e`: `T` if it is the type of `e` or one of
-    /// its descendants.
+    /// without a constraint, and for `==` or `in` the slot, each declared type; for `== e` the type of `e`, known or not;
+    /// for `in e` the type of `e` and its descendants; for `is T`, and for `is T in` the slot, `T` if the schema knows it;
+    /// for `is T in e`, `T` if it is the type of `e` or one of its descendants. Where memory is refused, the answer is an
+    /// `AllocError`.
     #[tactic(auto, unfolding(crate::specs::ValidatorViews::schema_in))]
     pub fn get_principals_satisfying_constraint<'b>(
         &'b self,
@@ -35,7 +36,8 @@ impl<C: ArgumentCheck> Validator<'_, C> {
         admitted_types(&self.schema, alloc, &constraint.constraint)
     }
 
-    /// The entity types that the constraint on the resource admits, each once, in any order, by the same rules.
+    /// The entity types that the constraint on the resource admits, each once, in any order, by the rules of
+    /// `get_principals_satisfying_constraint`. Where memory is refused, the answer is an `AllocError`.
     #[tactic(auto, unfolding(crate::specs::ValidatorViews::schema_in))]
     pub fn get_resources_satisfying_constraint<'b>(
         &'b self,
@@ -50,7 +52,7 @@ impl<C: ArgumentCheck> Validator<'_, C> {
     }
 }
 
-/// The types that a constraint admits, each once.
+/// The entity types that a constraint admits, each once.
 pub(crate) fn admitted_types<'b>(
     schema: &'b ValidatorSchema,
     alloc: Global,
@@ -94,7 +96,7 @@ fn declared_types<'b>(
     Ok(names)
 }
 
-/// The type alone, if the test holds.
+/// The list of the type alone if the test holds, otherwise the empty list.
 fn only_if(
     alloc: Global,
     holds: bool,
@@ -111,7 +113,7 @@ fn only_if(
     Ok(types)
 }
 
-/// Whether the one type is the other or is declared as its descendant.
+/// Whether the type `below` is the type `above`, or is declared as its descendant.
 fn is_within(schema: &ValidatorSchema, above: &EntityType, below: &EntityType) -> bool
     ensures { result
         ≡ is_among (types_within (schema_of schema.now).types (type_of above.now)) (type_of below.now) }

@@ -1,4 +1,4 @@
-// Whether `in` in place of `==` might help where the scope of a policy fits no action.
+// The flags of the warning that no action fits: whether `in` in place of `==` might help.
 ghost use Rattle.std.specs.Prelude.{◌≡◌, map, option_map};
 ghost use Rattle.std.specs.List.{list_any};
 ghost use Rattle.cedar_types.specs.Schemas.Declarations.{application};
@@ -15,14 +15,15 @@ use cedar_types::base::{
 };
 use std::collections::BTreeSet;
 
-/// A variable of the scope that is of an entity type.
+/// A variable of the scope whose value is an entity with a type that the constraint limits.
 #[derive(Clone, Copy, Debug)]
 pub(crate) enum Side {
     Principal,
     Resource,
 }
 
-/// Whether the constraint is `==` an entity whose type no action lists, while one lists a descendant of it.
+/// Whether `in` might help: the constraint is `==` an entity whose type no application lists, and one lists
+/// a descendant of it.
 pub(crate) fn in_might_help(
     schema: &ValidatorSchema,
     side: Side,
@@ -41,7 +42,7 @@ pub(crate) fn in_might_help(
     }
 }
 
-/// The type of the entity that the variable has to equal.
+/// The type of the entity that the variable must equal; `None` for another constraint.
 fn equal_type(constraint: &PrincipalOrResourceConstraint) -> Option<&EntityType>
     ensures { option_map (λ t. type_of t.now) result ≡ equal_type (scope_of constraint.now) }
 {
@@ -51,7 +52,7 @@ fn equal_type(constraint: &PrincipalOrResourceConstraint) -> Option<&EntityType>
     }
 }
 
-/// Whether some action lists this type.
+/// Whether some application lists this type.
 fn list_type(side: Side, applications: &[&ValidatorApplySpec], named: &EntityType) -> bool
     ensures { result
         ≡ list_any (λ a. is_among (types_on side a) (type_of named.now))
@@ -62,7 +63,7 @@ fn list_type(side: Side, applications: &[&ValidatorApplySpec], named: &EntityTyp
         .any(|applies_to| has_type(types_on(side, applies_to), named))
 }
 
-/// Whether some action lists a type that is declared as a descendant of this one.
+/// Whether some application lists a type that is declared as a descendant of this one.
 fn list_below(
     schema: &ValidatorSchema,
     side: Side,
@@ -83,7 +84,7 @@ fn list_below(
     ))
 }
 
-/// The types of principals, or of resources, that an action applies to.
+/// The types of principals, or of resources, to which an action applies.
 fn types_on(side: Side, applies_to: &ValidatorApplySpec) -> &BTreeSet<EntityType>
     ensures { types_of result.now ≡ types_on side (application applies_to.now) }
 {

@@ -1,4 +1,4 @@
-// The scope of a linked policy.
+// The scope of a linked policy, with the bound entities in place of its slots.
 ghost use Rattle.std.specs.Prelude.{◌≡◌, IfOk, option_map};
 ghost use Rattle.cedar_types.specs.Names.{placed_uid};
 ghost use Rattle.cedar_types.specs.Environments.RequestEnvs.{bound_to};
@@ -10,7 +10,7 @@ use cedar_types::base::{
 };
 use std::alloc::AllocError;
 
-/// What a slot is bound to.
+/// The entity to which a slot is bound, if it is bound.
 pub(crate) fn bound_to(slots: &SlotEnv, slot: SlotId) -> Option<&EntityUID>
     ensures { option_map (λ u. placed_uid u.now) result
         ≡ option_map placed_uid (bound_to slot slots.now.entries) }
@@ -18,7 +18,7 @@ pub(crate) fn bound_to(slots: &SlotEnv, slot: SlotId) -> Option<&EntityUID>
     slots.get(&slot)
 }
 
-/// The constraint with this entity in place of its slot; without an entity the slot stays.
+/// The constraint with this entity in place of its slot. Without an entity the slot stays.
 pub(crate) fn bound_constraint(
     constraint: &PrincipalOrResourceConstraint,
     bound: Option<&EntityUID>,

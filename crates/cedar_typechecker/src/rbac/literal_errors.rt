@@ -19,19 +19,19 @@ use cedar_types::base::{
 };
 use std::alloc::{AllocError, Global};
 
-/// What is wrong with a name.
+/// A pass over names, by the fault that it finds.
 #[derive(Clone, Copy, Debug)]
 pub(crate) enum LiteralPass {
-    /// It is a type that the schema does not know.
+    /// The name is a type that the schema does not know.
     EntityTypes,
-    /// It is the id of an action that is not declared.
+    /// The name is the id of an action that is not declared.
     ActionIds,
-    /// It is an id that its enumerated type does not have.
+    /// The name is an id that its enumerated type does not have.
     EnumEntities,
 }
 
-/// The errors of a pass over the names in a template: one for each occurrence, in any order, at the place of the type name
-/// or id that it is about.
+/// The errors of a pass over the names in a template, as an iterator: one for each occurrence of a name, in any order, at the
+/// place of the type name or the id.
 ///
 /// Where memory is refused, an item is an `AllocError`, and there is none after it.
 #[derive(Drop)]
@@ -43,19 +43,19 @@ pub struct LiteralErrors<'a> {
     pub(crate) ended: bool,
 }
 
-/// The errors on ids that their enumerated types do not have.
+/// The errors of the pass over ids of enumerated types.
 pub type EnumEntityErrors<'a> = LiteralErrors<'a>;
 
-/// The errors on unknown entity types.
+/// The errors of the pass over entity types.
 pub type EntityTypeErrors<'a> = LiteralErrors<'a>;
 
-/// The errors on undeclared actions.
+/// The errors of the pass over action ids.
 pub type ActionIdErrors<'a> = LiteralErrors<'a>;
 
 #[tactic(auto, unfolding(crate::specs::Passes::errors_left, crate::specs::Passes::errors_are_over))]
 impl Validator<'_> {
-    /// An `InvalidEnumEntity` for each id of an enumerated type that is none of the type's ids, at the id. The call takes no
-    /// memory.
+    /// The pass that finds each id of an enumerated type that is none of the type's ids: an `InvalidEnumEntity` at the id.
+    /// The call takes no memory.
     pub fn validate_enum_entity<'a>(
         alloc: Global,
         schema: &'a ValidatorSchema,
@@ -68,8 +68,8 @@ impl Validator<'_> {
         literal_errors(alloc, schema, template, LiteralPass::EnumEntities)
     }
 
-    /// An `UnrecognizedEntityType` for each entity type that the schema does not know, of an id and of an `is`, at the type's
-    /// name. The call takes no memory.
+    /// The pass that finds each entity type that the schema does not know, of an id and of an `is`: an
+    /// `UnrecognizedEntityType` at the type's name. The call takes no memory.
     pub fn validate_entity_types<'a>(
         alloc: Global,
         schema: &'a ValidatorSchema,
@@ -82,7 +82,8 @@ impl Validator<'_> {
         literal_errors(alloc, schema, template, LiteralPass::EntityTypes)
     }
 
-    /// An `UnrecognizedActionId` for each id of an action's type that is not declared, at the id. The call takes no memory.
+    /// The pass that finds each id of an action type that is not declared: an `UnrecognizedActionId` at the id. The call
+    /// takes no memory.
     pub fn validate_action_ids<'a>(
         alloc: Global,
         schema: &'a ValidatorSchema,
@@ -159,7 +160,7 @@ impl LiteralErrors<'_> {
         Ok(None)
     }
 
-    /// The error on a name.
+    /// The error of this pass on a name, if it has one.
     fn error_at(&self, mention: Mention<'_>) -> Result<Option<ValidationError>, AllocError>
         ensures { IfOk result (λ o.
             option_map finding_of o
@@ -218,14 +219,14 @@ impl LiteralErrors<'_> {
     }
 }
 
-/// Whether the id is of an action's type and not declared.
+/// Whether the id is of an action type and not declared.
 fn is_unknown_action(schema: &ValidatorSchema, uid: &EntityUID) -> bool
     ensures { result ≡ is_unknown_action (schema_of schema.now) (uid_of uid.now) }
 {
     uid.entity_type.is_action() && !schema.is_known_action_id(uid)
 }
 
-/// Whether the id is none of those of its enumerated type.
+/// Whether the id is of an enumerated type and none of the type's ids.
 fn is_wrong_member(schema: &ValidatorSchema, uid: &EntityUID) -> bool
     ensures { result ≡ is_wrong_member (schema_of schema.now) (uid_of uid.now) }
 {

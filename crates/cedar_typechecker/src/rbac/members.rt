@@ -1,4 +1,4 @@
-// Members of sets of entity types, and of lists of ids.
+// Membership in sets of entity types, and in the descendants of a type.
 ghost use Rattle.std.specs.Prelude.{◌≡◌, map};
 ghost use Rattle.std.specs.List.{list_any};
 ghost use Rattle.cedar_types.specs.Names.{type_of, path_eq};
@@ -9,21 +9,21 @@ ghost use Rattle.cedar_types.specs.Types.{types_of};
 use cedar_types::base::{EntityType, ValidatorSchema};
 use std::collections::BTreeSet;
 
-/// Whether two entity types have one name.
+/// Whether two entity types have the same name.
 pub(crate) fn is_same_type(left: &EntityType, right: &EntityType) -> bool
     ensures { result ≡ path_eq (type_of left.now) (type_of right.now) }
 {
     left == right
 }
 
-/// Whether a set of types has this one.
+/// Whether a set of types has this type.
 pub(crate) fn has_type(types: &BTreeSet<EntityType>, name: &EntityType) -> bool
     ensures { result ≡ is_among (types_of types.now) (type_of name.now) }
 {
     types.contains(name)
 }
 
-/// Whether some of these types is in the set.
+/// Whether a set of types has one of these types.
 pub(crate) fn has_any_type(types: &BTreeSet<EntityType>, names: &[&EntityType]) -> bool
     ensures { result
         ≡ list_any (is_among (types_of types.now)) (map (λ t. type_of t.now) names.now) }
@@ -31,7 +31,7 @@ pub(crate) fn has_any_type(types: &BTreeSet<EntityType>, names: &[&EntityType]) 
     names.iter().any(|name| has_type(types, name))
 }
 
-/// Whether the one type is declared as a descendant of the other.
+/// Whether the type `below` is declared as a descendant of the type `above`.
 pub(crate) fn is_declared_below(
     schema: &ValidatorSchema,
     above: &EntityType,
@@ -47,7 +47,7 @@ pub(crate) fn is_declared_below(
     }
 }
 
-/// Whether some type of the set is declared as a descendant of this one.
+/// Whether a type of the set is declared as a descendant of the type `above`.
 pub(crate) fn has_declared_below(
     schema: &ValidatorSchema,
     above: &EntityType,

@@ -1,4 +1,4 @@
-// What the slots of a policy are bound to, of an entity type that the schema does not know.
+// The pass over the slots of a policy: entities of unknown types to which slots are bound.
 ghost use Rattle.std.specs.Prelude.{◌≡◌, false, [], ◌∷◌, None, IfOk, IsPermutation, MatchOption};
 ghost use Rattle.std.specs.BTreeMap.{values};
 ghost use Rattle.cedar_types.specs.Errors.{finding_of, unrecognized_entity_type};
@@ -15,7 +15,8 @@ use cedar_types::base::{
 use std::alloc::{AllocError, Global};
 use std::collections::btree_map::Values;
 
-/// An error for each slot that is bound to an entity of an unknown type, in any order and without a place.
+/// The errors of the pass over slots, as an iterator: one for each slot that is bound to an entity of an unknown type, in
+/// any order. They have no place, because bindings have no text.
 ///
 /// Where memory is refused, an item is an `AllocError`, and there is none after it.
 #[derive(Drop)]
@@ -27,8 +28,8 @@ pub struct SlotTypeErrors<'b> {
 }
 
 impl<C: ArgumentCheck> Validator<'_, C> {
-    /// An `UnrecognizedEntityType` for each slot that is bound to an entity whose type the schema does not know, without a
-    /// place. The call takes no memory.
+    /// The pass that finds each slot that is bound to an entity whose type the schema does not know: an
+    /// `UnrecognizedEntityType` without a place. The call takes no memory.
     #[tactic(auto, unfolding(crate::specs::ValidatorViews::schema_in, crate::specs::SlotTypes::slot_errors_left, crate::specs::SlotTypes::slot_errors_are_over))]
     pub fn validate_entity_types_in_slots<'b>(
         &'b self,

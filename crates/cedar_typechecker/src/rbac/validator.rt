@@ -1,10 +1,10 @@
-// What validates policies.
+// The validator of policies, with its schema and its extension functions.
 ghost use Rattle.std.specs.Prelude.{◌≡◌};
 ghost use Rattle.cedar_typechecker.specs.ValidatorViews.{schema_in, extensions_in};
 
 use cedar_types::base::{ArgumentCheck, ExtensionSchemas, ValidatorSchema};
 
-/// Validates policies by a schema, which it owns, and some extension functions.
+/// A validator of policies by a schema, which it owns, and some extension functions.
 #[derive(Drop)]
 pub struct Validator<'a, C = Box<dyn ArgumentCheck>> {
     pub(crate) schema: ValidatorSchema,
@@ -13,7 +13,7 @@ pub struct Validator<'a, C = Box<dyn ArgumentCheck>> {
 
 #[tactic(auto, unfolding(crate::specs::ValidatorViews::schema_in, crate::specs::ValidatorViews::extensions_in))]
 impl<'a, C: ArgumentCheck> Validator<'a, C> {
-    /// Validates by this schema and these functions. It takes no memory.
+    /// The validator by this schema and these extension functions. It takes no memory.
     pub fn new(schema: ValidatorSchema, extensions: &'a ExtensionSchemas<C>) -> Validator<'a, C>
         ensures schema { schema_in result ≡ schema }
         ensures extensions { extensions_in result ≡ extensions.entry }
@@ -21,14 +21,14 @@ impl<'a, C: ArgumentCheck> Validator<'a, C> {
         Validator { schema, extensions }
     }
 
-    /// The schema. It takes no memory.
+    /// The schema by which the validator checks. It takes no memory.
     pub fn schema(&self) -> &ValidatorSchema
         ensures { result.now ≡ schema_in self.now }
     {
         &self.schema
     }
 
-    /// The extension functions. It takes no memory.
+    /// The extension functions by which the validator checks. It takes no memory.
     pub fn extensions(&self) -> &'a ExtensionSchemas<C>
         ensures { result ≡ extensions_in self.now }
     {
