@@ -1,4 +1,4 @@
-//! How many entities a policy dereferences, one after another (RFC 76).
+//! Levels (RFC 76): the number of entities that a policy dereferences, one after another.
 mod answers;
 mod bases;
 mod costs;

@@ -1,4 +1,4 @@
-// What the validation of a policy with levels answers.
+// The answer of the validation of a policy with levels.
 ghost use Rattle.std.specs.Iterator.{YieldsFirstBy, item_count};
 ghost use Rattle.cedar_types.specs.Errors.{finding_of, warning_of};
 ghost use Rattle.cedar_typechecker.specs.Levels.Answers.{level_errors_left, level_warnings_left};
@@ -6,7 +6,8 @@ ghost use Rattle.cedar_typechecker.specs.Levels.Answers.{level_errors_left, leve
 use cedar_types::base::{ValidationError, ValidationWarning};
 use std::vec::IntoIter;
 
-/// The errors of a policy, in any order. They are collected, so walking over them takes no memory.
+/// The errors of a policy, in any order, as an iterator. They are collected before, so walking over
+/// them takes no memory.
 #[derive(Drop)]
 pub struct LevelErrors {
     pub(crate) errors: IntoIter<ValidationError>,
@@ -25,7 +26,8 @@ impl Iterator for LevelErrors {
     }
 }
 
-/// The warnings on a policy. They are collected, so walking over them takes no memory.
+/// The warnings on a policy, as an iterator. They are collected before, so walking over them takes
+/// no memory.
 #[derive(Drop)]
 pub struct LevelWarnings {
     pub(crate) warnings: IntoIter<ValidationWarning>,

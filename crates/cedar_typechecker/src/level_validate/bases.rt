@@ -1,4 +1,4 @@
-// What is dereferenced, by the type that was found.
+// The bases of accesses, by their types.
 ghost use Rattle.std.specs.Prelude.{◌≡◌};
 ghost use Rattle.cedar_types.specs.Types.{ty_of};
 ghost use Rattle.cedar_typing.specs.TypedExpr.{typed_tree, annotation};
@@ -8,14 +8,14 @@ ghost use Rattle.cedar_typechecker.specs.Levels.Views.{base_seen};
 
 use cedar_types::base::{BoolType, CedarType, EntityKind, Expr};
 
-/// What the base of an access is.
+/// The kind of an access's base, by the type that was found.
 #[derive(Clone, Copy, Debug)]
 pub(crate) enum Base {
-    /// An entity of some types.
+    /// An entity whose types are known.
     Entity,
     /// A record.
     Record,
-    /// Anything else, also any entity.
+    /// Anything else. Any entity is among it, because its attributes are not known.
     Other,
 }
 
@@ -70,7 +70,7 @@ fn is_constant_type(ty: &CedarType) -> bool
     }
 }
 
-/// Whether the type True or False was found of a test: then its two branches are one tree.
+/// Whether a test has the type True or False. Then both branches of its `if` are one shared tree.
 #[tactic(auto, using(crate::proofs::Levels::TypedViews::annotation_is))]
 pub(crate) fn is_constant(test: &Expr<Option<CedarType>>) -> bool
     ensures { result ≡ is_constant (annotation (typed_tree test.now)) }

@@ -1,4 +1,4 @@
-// What a chain of attributes costs, as extended `has` tests it.
+// The cost of a chain of attributes, as extended `has` tests it.
 ghost use Rattle.std.specs.Prelude.{◌≡◌, ◌∷◌, IfOk, map, option_map, take};
 ghost use Rattle.cedar_types.specs.Names.{text_of};
 ghost use Rattle.cedar_types.specs.Schemas.Contents.{schema_of};
@@ -12,10 +12,11 @@ use cedar_types::base::{CedarType, ValidatorSchema};
 use std::alloc::{AllocError, Global};
 use std::rc::RcStr;
 
-/// How many entities are dereferenced by the test that a value of this type has a chain of attributes: 0 for no attributes;
-/// else one for a root that is an entity, of some types or of any, and one for each attribute but the last that is an entity
-/// of some types. The chain ends before the first attribute that is not declared. Where memory is refused, the answer is an
-/// `AllocError`.
+/// The number of entities that are dereferenced by the test that a value of this type has a chain of attributes. It is 0 for
+/// no attributes. Otherwise a root that is an entity, of some types or of any, counts one, and so does each attribute but
+/// the last that is an entity of some types. For example, `has owner.team.name` from a photo, with entities `owner` and
+/// `team`, costs 3. The chain ends before the first attribute that is not declared. Where memory is refused, the answer is
+/// an `AllocError`.
 pub fn attr_chain_cost_from_root(
     alloc: Global,
     schema: &ValidatorSchema,
@@ -31,7 +32,7 @@ pub fn attr_chain_cost_from_root(
     }
 }
 
-/// The same of a chain that has a first attribute.
+/// The cost of a chain with a first attribute.
 pub(crate) fn chain_cost(
     alloc: Global,
     schema: &ValidatorSchema,
@@ -87,7 +88,8 @@ fn entity_cost(base: Base) -> u64
     }
 }
 
-/// The attributes after the first that lead to the first entity, where one comes before the last attribute of the chain.
+/// The attributes after the first that lead to the first entity; `None` if none before the last attribute of the chain is an
+/// entity.
 pub(crate) fn keys_to_entity<'c>(
     alloc: Global,
     schema: &ValidatorSchema,
@@ -106,7 +108,7 @@ pub(crate) fn keys_to_entity<'c>(
     }
 }
 
-/// So many of these keys, or all of them.
+/// The first `count` of these keys, or all if there are fewer.
 #[tactic(auto, using(crate::proofs::Levels::Keys::keys_taken, crate::proofs::Levels::Keys::all_taken))]
 fn first_keys(keys: &[RcStr], count: usize) -> &[RcStr]
     ensures { map text_of result.now ≡ take count (map text_of keys.now) }
@@ -118,7 +120,8 @@ fn first_keys(keys: &[RcStr], count: usize) -> &[RcStr]
     }
 }
 
-/// How many attributes after the first lead to the first entity.
+/// The number of attributes after the first that lead to the first entity; `None` if there is none before the last
+/// attribute.
 fn first_entity(
     alloc: Global,
     schema: &ValidatorSchema,

@@ -1,4 +1,4 @@
-// What typed conditions demand of levels, whatever the maximum is.
+// Demands of typed conditions on levels, which do not depend on the maximum.
 ghost use Rattle.std.specs.Prelude.{◌≡◌, IfOk, OnOk};
 ghost use Rattle.cedar_typechecker.specs.Levels.Demands.{Need, demands};
 ghost use Rattle.cedar_typechecker.specs.Levels.Views.{need_of, demands_of};
@@ -7,28 +7,28 @@ use crate::level_validate::walk::LevelWalk;
 use cedar_types::base::Loc;
 use std::alloc::AllocError;
 
-/// What a node needs.
+/// The need of a node.
 #[derive(Clone, Copy, PartialEq, Eq, PartialOrd, Ord)]
 pub(crate) enum Need {
-    /// This level, or a greater one.
+    /// The node needs this level, or a greater one.
     Level(u64),
-    /// That no literal or slot is dereferenced: no level is enough.
+    /// The node needs that no literal or slot is dereferenced: no level is enough.
     NoLiteral,
-    /// A rule for the node, as it has none: no level is enough.
+    /// The node needs a rule, because it has none: no level is enough.
     Rule,
 }
 
-/// What a node needs, and where it stands.
+/// The need of a node, and the node's place.
 #[derive(Clone, Copy, PartialEq, Eq, PartialOrd, Ord)]
 pub(crate) struct Demand {
     pub loc: Option<Loc>,
     pub need: Need,
-    /// At a smaller maximum the error of a node above stands for it.
+    /// At a maximum below this, the error of a node above stands for the demand, and the demand is no error.
     pub hidden_below: u64,
 }
 
 impl LevelWalk<'_> {
-    /// Adds what is needed at `loc`.
+    /// Adds the demand of this need at `loc`.
     pub(crate) fn demand(
         &self,
         loc: Option<Loc>,
@@ -47,8 +47,9 @@ impl LevelWalk<'_> {
         Ok(())
     }
 
-    /// A target for which no level is enough, by what it needs: no literal, where it is the same in each request as an entity
-    /// literal or a slot is, or a rule, where no typed condition that passes has it.
+    /// Adds the demand of a target for which no level is enough, and answers the target's level, 0. It needs no literal if it
+    /// is one entity in all requests, as an entity literal or a slot is; it needs a rule if no typed condition that passes
+    /// has it.
     pub(crate) fn refused_target(
         &self,
         loc: Option<Loc>,

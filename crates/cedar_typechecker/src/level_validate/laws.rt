@@ -5,18 +5,19 @@ ghost use Rattle.cedar_typechecker.specs.Levels.Refinement.{StrictLevelsAreKept}
 ghost use Rattle.cedar_typechecker.specs.Levels.Required.{WithinWhereReached, SilentWhereReached, RequiredLevelIsOne};
 ghost use Rattle.cedar_typechecker.specs.Levels.Rows.{LevelRows};
 
-/// The list of an expression's chains has those that the rules give, and its level is the greatest.
+/// The list of an expression's access chains has exactly the chains that the rules give, and its level is the greatest of
+/// theirs.
 pub fn access_chains()
     ensures listed { ChainsAreListed }
     ensures greatest { LevelIsGreatest }
 {}
 
-/// What has no level error at a maximum has none at any larger one.
+/// An expression without a level error at a maximum has none at any larger maximum.
 pub fn larger_levels()
     ensures { LargerLevelsAreWithin }
 {}
 
-/// A policy has no level error at its required level and above it, where it has one, and nowhere else; there alone its
+/// A policy that has a required level has no level error at that level and above it, and has one below; exactly there its
 /// validation with levels finds none. A policy requires one level, or none.
 pub fn required_levels()
     ensures within { WithinWhereReached }
@@ -24,7 +25,7 @@ pub fn required_levels()
     ensures one { RequiredLevelIsOne }
 {}
 
-/// Where a policy passes in Strict, its levels are those of Permissive.
+/// If a policy passes in Strict, its levels are those of Permissive.
 pub fn strict_levels_are_kept()
     ensures { StrictLevelsAreKept }
 {}
@@ -35,16 +36,16 @@ pub fn walk_finds_errors()
     ensures silent { SilentWalkIsWithin }
 {}
 
-/// An `if` whose test has the type True or False has one branch twice where typing made it, so it is walked once. What the walk
-/// of the program demands then tells each level error at a maximum, and nothing else; and a maximum meets it all exactly where
-/// there is none.
+/// An `if` whose test has the type True or False has one branch twice if typing made it, so it is walked once. Then the demands
+/// of the program's walk tell each level error at a maximum, and nothing else; and a maximum meets all demands exactly if there
+/// is no level error.
 pub fn one_branch_is_enough()
     ensures shared { TypedBranchesAreShared }
     ensures errors { DemandsTellErrors }
     ensures met { DemandsAreMet }
 {}
 
-/// The errors of some expressions: the worked rows, and what is easily got wrong.
+/// The level errors of some expressions: worked rows, and details that are easily got wrong.
 pub fn examples_of_levels()
     ensures rows { LevelRows }
     ensures details { LevelDetails }

@@ -18,22 +18,25 @@ use std::alloc::{AllocError, Global};
 use std::collections::BTreeSet;
 
 impl<C: ArgumentCheck> Validator<'_, C> {
-    /// Validates a policy in a mode, and says where it dereferences more than `max_deref_level` entities, one after another
-    /// (RFC 76).
+    /// Validates a policy in a mode, and reports each place at which it dereferences more than `max_deref_level` entities,
+    /// one after another (RFC 76).
     ///
     /// The errors are, in Strict and in Permissive, each finding of the passes over the names of the template; in each mode
     /// each error of its check in some environment, once; and each level error of an environment whose check does not fail,
-    /// once. The warnings are that no action fits the scope, in Strict and in Permissive, and that the policy is impossible:
-    /// irrelevant in each environment. Each environment is typed once, and one typed condition is held at a time.
+    /// once. The warnings are, in Strict and in Permissive, that no action fits the scope; and in each mode that the policy
+    /// is impossible: irrelevant in each environment. Each environment is typed once, and one typed condition is held at a
+    /// time.
     ///
     /// In Strict and in Permissive no error means that the policy passes and needs no more of a store than `max_deref_level`
     /// steps reach (clauses `silent` and `silent_in_permissive`): evaluating it gives a boolean, or fails only for a missing
-    /// entity, an overflow or an extension function; and it gives the very same in each part of the store that has at least
-    /// the slice of `max_deref_level` steps. A policy that is warned to be impossible is never true, with errors or without
-    /// (clauses `never_true` and `never_true_in_permissive`). What all this rests on: docs/THEOREMS.md, "The premises".
+    /// entity, an overflow or an extension function; and over each part of the store that has at least the slice of
+    /// `max_deref_level` steps, it evaluates exactly as over the whole. A policy that is warned to be impossible is never
+    /// true, with errors or without (clauses `never_true` and `never_true_in_permissive`). The premises of all this are in
+    /// docs/THEOREMS.md, "The premises".
     ///
-    /// Where a part is nested too deep the check fails, and there need be no error: `typecheck_policy` answers `true` of no
-    /// such policy. Where memory is refused, the answer is an `AllocError`.
+    /// If a part is nested too deep the check fails, perhaps without an error, so you must not take a policy without errors
+    /// for one that passes: `typecheck_policy` answers `true` of no such policy. Where memory is refused, the answer is an
+    /// `AllocError`.
     pub fn validate_policy_with_level(
         &self,
         alloc: Global,
@@ -71,7 +74,7 @@ impl<C: ArgumentCheck> Validator<'_, C> {
     }
 }
 
-/// Adds the errors of the checks and the level errors at a maximum, each once.
+/// Adds the errors of the checks, and the level errors at a maximum, each once.
 fn append_found(
     found: &mut Vec<ValidationError>,
     alloc: Global,
@@ -87,7 +90,7 @@ fn append_found(
     Ok(())
 }
 
-/// Adds each member of a set, once.
+/// Adds each error of a set, once.
 fn append(
     found: &mut Vec<ValidationError>,
     set: BTreeSet<ValidationError>,

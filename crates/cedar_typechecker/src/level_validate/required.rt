@@ -1,4 +1,4 @@
-// The least level that is enough for a policy.
+// The required level of a policy: the least that is enough.
 ghost use Rattle.std.specs.Prelude.{◌≡◌, option_map, IfOk};
 ghost use Rattle.cedar_types.specs.Templates.{template_of};
 ghost use Rattle.cedar_typechecker.specs.Levels.Required.{IsRequiredLevel};
@@ -9,13 +9,14 @@ use cedar_types::base::{ArgumentCheck, EntityDerefLevel, Template, ValidationMod
 use std::alloc::{AllocError, Global};
 
 impl<C: ArgumentCheck> Validator<'_, C> {
-    /// The least level from 0 to 4294967295 at which a policy has no level error, in a mode: how many entities must be loaded one
-    /// after another. `None` where no level is enough: it dereferences an entity literal or a slot, or more.
+    /// The least level from 0 to 4294967295 at which a policy has no level error, in a mode: the number of entities that must be
+    /// loaded one after another. `None` if no level is enough, for example because the policy dereferences an entity literal or a
+    /// slot.
     ///
-    /// So at n or above `validate_policy_with_level` finds no level error, and below it does (`laws::required_levels`). Environments
-    /// that fail are not looked at: a policy that fails in each requires 0. Whoever asks more of a policy than this surveys it
-    /// once (`survey`), and has all of the survey. Where memory is refused, the answer is an `AllocError`, and nothing has
-    /// changed.
+    /// So `validate_policy_with_level` finds no level error at n or above, and finds one below (`laws::required_levels`).
+    /// Environments whose check fails are left out, because they have no typed condition: a policy that fails in each requires 0.
+    /// If you ask more of a policy than this, survey it once (`survey`) and take all from the survey. Where memory is refused, the
+    /// answer is an `AllocError`, and nothing has changed.
     pub fn required_level(
         &self,
         alloc: Global,

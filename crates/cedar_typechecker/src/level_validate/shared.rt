@@ -6,13 +6,14 @@ ghost use Rattle.cedar_typechecker.specs.Levels.Shared.{BranchesAreShared, const
 use crate::level_validate::bases::is_constant;
 use cedar_types::base::{CedarType, Expr, ExprKind};
 
-/// The one branch of an `if` whose test has the type True or False; `None` of any other expression.
+/// The one branch of an `if` whose test has the type True or False; `None` for any other expression.
 ///
-/// Typing puts the branch that such a test leaves in the place of both, and shares it. Whoever walks a typed condition does well
-/// to walk it once: 64 nested ones stand for 2^64 copies. Of what typing made both branches are this one (clause `both`; the
-/// law `laws::one_branch_is_enough` says of which trees that is so). It takes no memory.
+/// Typing puts the branch that such a test leaves in the place of both, and shares it. You should walk it once when you walk a
+/// typed condition, because 64 nested ones stand for 2^64 copies. In a tree that typing made, both branches are this one (clause
+/// `both`; the law `laws::one_branch_is_enough` tells which trees these are). It takes no memory.
 ///
-/// It is for compilers and other callers. The level walks ask the test itself: they have it apart already, and go down into it.
+/// This call is for compilers and other callers. The level walks do without it: they have the test apart already, and go down
+/// into it.
 pub fn only_branch(e: &Expr<Option<CedarType>>) -> Option<&Expr<Option<CedarType>>>
     ensures branch { option_map (λ b. typed_tree b.now) result
         ≡ option_map (λ p. p.0) (constant_branches (typed_tree e.now)) }

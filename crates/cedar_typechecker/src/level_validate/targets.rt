@@ -1,4 +1,4 @@
-// The walk over a typed condition: its targets, whose values are entities that are dereferenced.
+// The walk over the targets of a typed condition, whose values are entities that are dereferenced.
 ghost use Rattle.std.specs.Prelude.{◌≡◌, [], ◌∷◌, max, option_map, IfOk, OnOk, if◌then◌else◌};
 ghost use Rattle.cedar_types.specs.Names.{text_of, uid_of, text_eq, uid_eq};
 ghost use Rattle.cedar_types.specs.Expressions.View.{lit_of};
@@ -18,7 +18,7 @@ use std::collections::BTreeMap;
 use std::rc::RcStr;
 
 impl LevelWalk<'_> {
-    /// The level of a target along a path, where its demands and those below it are added.
+    /// The level of a target along a path. The demands of the target and of the parts below it are added.
     #[cycle(levels)]
     pub(crate) fn target_level(
         &self,
@@ -34,10 +34,10 @@ impl LevelWalk<'_> {
             ≡ demands_of found.new.items) }
     {
         match &e.kind {
-            // a request has the ids of its entities
+            // a request has the ids of its entities, so nothing is dereferenced to get them
             ExprKind::Var(_) => Ok(0),
             ExprKind::Lit(literal) => self.literal_target(e.loc, literal, found),
-            // a slice begins at the request, and what is bound to a slot need not be in that
+            // a slice begins at the request, and the entity to which a slot is bound need not be in the request
             ExprKind::Slot(_) => self.refused_target(e.loc, Need::NoLiteral, found),
             ExprKind::If {
                 test_expr,
@@ -46,7 +46,7 @@ impl LevelWalk<'_> {
             } => {
                 self.check(test_expr, found)?;
                 let first = self.target_level(then_expr, path, found)?;
-                // where the test decides, both branches are one tree
+                // a constant test leaves one shared tree for both branches
                 if is_constant(test_expr) {
                     return Ok(first);
                 }
@@ -74,7 +74,7 @@ impl LevelWalk<'_> {
         }
     }
 
-    /// `b.x`: an entity b is dereferenced once more, of a record b the path is longer by x.
+    /// The level of `b.x` as a target: an entity b is dereferenced once more; for a record b the path is longer by x.
     #[cycle(levels)]
     fn access_target(
         &self,
@@ -103,14 +103,14 @@ impl LevelWalk<'_> {
                 let level = self.target_level(base, path, found)?;
                 Ok(level.saturating_add(1))
             }
-            // a record is part of its entity's entry, so nothing further is reached
+            // a record is part of the entry of its entity, so no further entity is reached
             Base::Record => self.target_level(base, longer(attr, &path), found),
             Base::Other => self.refused_target(loc, Need::Rule, found),
         }
     }
 
-    /// A record literal: the value at the first key of the path is followed, and the others are checked, since they are
-    /// evaluated too.
+    /// The level of a record literal as a target: the value at the first key of the path is followed, and the others
+    /// are checked, because they are evaluated too.
     #[cycle(levels)]
     fn record_target(
         &self,
@@ -169,7 +169,8 @@ impl LevelWalk<'_> {
         Ok(level.unwrap_or(0))
     }
 
-    /// A literal as a target: the environment's own action, or a demand that nothing meets.
+    /// The level of a literal as a target: the environment's own action is a good leaf, and any other literal adds a
+    /// demand that no level meets.
     fn literal_target(
         &self,
         loc: Option<Loc>,
@@ -197,7 +198,7 @@ impl LevelWalk<'_> {
         }
     }
 
-    /// Whether this is the environment's own action.
+    /// Whether the entity is the environment's own action.
     fn is_own_action(&self, uid: &EntityUID) -> bool
         ensures { (if result then good_leaf else literal_leaf)
             ≡ entity_leaf (option_map (λ u. uid_of u.now) self.now.action) (uid_of uid.now) }
@@ -210,7 +211,7 @@ impl LevelWalk<'_> {
     }
 }
 
-/// Whether the operator's value is an entity that its dereference gives.
+/// Whether the operator dereferences its left operand to give an entity, as `getTag` does.
 fn is_get_tag(op: BinaryOp) -> bool
     ensures { result ≡ is_get_tag op }
 {

@@ -1,4 +1,4 @@
-// The walk over a typed condition: its checked parts.
+// The walk over the checked parts of a typed condition.
 ghost use Rattle.std.specs.Prelude.{◌≡◌, [], ◌∷◌, map, max, IfOk, OnOk, if◌then◌else◌};
 ghost use Rattle.cedar_types.specs.Schemas.Contents.{schema_of};
 ghost use Rattle.cedar_types.specs.Types.{ty_of};
@@ -22,14 +22,14 @@ use std::alloc::{AllocError, Global};
 use std::collections::BTreeMap;
 use std::rc::RcStr;
 
-/// What demands are found by in one environment.
+/// The walk that finds the demands of a typed condition in one environment.
 #[derive(Drop)]
 pub(crate) struct LevelWalk<'a> {
     pub alloc: Global,
     pub schema: &'a ValidatorSchema,
     /// The environment's action, if it is known.
     pub action: Option<&'a EntityUID>,
-    /// At a smaller maximum the error of a node above stands for all that is found.
+    /// At a maximum below this, the error of a node above stands for all demands that the walk finds.
     pub hidden_below: u64,
 }
 
@@ -58,7 +58,8 @@ impl LevelWalk<'_> {
             } => {
                 self.check(test_expr, found)?;
                 self.check(then_expr, found)?;
-                // where the test decides, both branches are one tree, and 64 nested ones would be walked 2^64 times
+                // a constant test leaves one shared tree for both branches, and 64 nested ones would be walked 2^64
+                // times
                 if is_constant(test_expr) {
                     return Ok(());
                 }
@@ -122,7 +123,7 @@ impl LevelWalk<'_> {
         Ok(())
     }
 
-    /// The first operand of an operator, which some of them dereference.
+    /// Adds the demands at the first operand of an operator, which `in`, `hasTag` and `getTag` dereference.
     #[cycle(levels)]
     fn check_first(
         &self,
@@ -147,7 +148,7 @@ impl LevelWalk<'_> {
         self.check(left, found)
     }
 
-    /// An access of an attribute, whose own demand is at `loc`.
+    /// Adds the demands of an access of an attribute, its own at `loc`.
     #[cycle(levels)]
     fn check_access(
         &self,
@@ -173,7 +174,7 @@ impl LevelWalk<'_> {
         }
     }
 
-    /// Extended `has`, whose own demands are at `loc`.
+    /// Adds the demands of extended `has`, its own at `loc`.
     #[tactic(auto, using(crate::proofs::Levels::TypedViews::annotation_is))]
     #[cycle(levels)]
     fn check_chain(
@@ -236,7 +237,7 @@ impl LevelWalk<'_> {
         below.check_reach(loc, base, longer(&chain.first, &later), cost, found)
     }
 
-    /// An entity that is dereferenced at this cost, with the demand of its level at `loc`.
+    /// Adds the demands of an entity that is dereferenced at this cost, with that of its level at `loc`.
     #[cycle(levels)]
     fn check_reach(
         &self,
@@ -258,7 +259,7 @@ impl LevelWalk<'_> {
         self.demand(loc, Need::Level(level.saturating_add(cost)), found)
     }
 
-    /// The walk below an error that stands for all that is found, where the maximum is less than this.
+    /// The walk below an error that stands for all demands there at a maximum below `cost`.
     fn hidden_until(&self, cost: u64) -> LevelWalk<'_>
         ensures surroundings { surroundings_of result ≡ surroundings_of self.now }
         ensures hidden { result.hidden_below ≡ max self.now.hidden_below cost }
