@@ -1,4 +1,4 @@
--- The three answers of typing an expression, and what following up on them comes to.
+-- The three answers of typing an expression, and the results of following up on them.
 use Rattle.std.specs.Prelude.{◌≡◌, Bool, true, false, cond, Option, Some, None, is_some, option_map, Result, Ok, Err, List, [], ◌∷◌}
 use Rattle.std.specs.Prelude.{MatchOption, ⊤, Box}
 use Rattle.std.specs.Iterator.{YieldsThen}
@@ -13,19 +13,19 @@ use Rattle.cedar_types.specs.declared.types.capability.CapabilitySet.{Capability
 use Rattle.cedar_typing.specs.declared.typecheck.answer.TypecheckAnswer.{TypecheckAnswer}
 use Rattle.cedar_typing.specs.declared.typecheck.answer.TypecheckAnswer.TheVariants.{TypecheckSuccess, TypecheckFail, RecursionLimit}
 
--- an expression whose nodes have the types that were found
+-- a typed expression, whose nodes have the types that were found
 abbrev pub TypedExpr : Type 0
 TypedExpr = Box (Expr (Option CedarType)) Global
 
--- an answer, or that memory was refused
+-- an answer, or an error because memory was refused
 abbrev pub Answered : Type 0
 Answered = Result TypecheckAnswer AllocError
 
--- the type of the root, if one was found
+-- the type at the root of a typed expression, if one was found
 abbrev pub type_at : TypedExpr → Option Ty
 type_at e = option_map ty_of e.value.annotation
 
--- the answer is a success with this expression and no capabilities
+-- an answer that is a success with this expression and no capabilities
 abbrev pub SucceedsWithNone : TypedExpr → TypecheckAnswer → Type 0
 SucceedsWithNone e (TypecheckSuccess f c) = (f ≡ e) × HasNone (caps c)
 SucceedsWithNone e (TypecheckFail f) = ⊥
@@ -36,42 +36,42 @@ is_success (TypecheckSuccess e c) = true
 is_success (TypecheckFail e) = false
 is_success RecursionLimit = false
 
--- the expression of an answer: the limit has none
+-- the typed expression of an answer. The limit has none
 abbrev pub typed_expr_of : TypecheckAnswer → Option TypedExpr
 typed_expr_of (TypecheckSuccess e c) = Some e
 typed_expr_of (TypecheckFail e) = Some e
 typed_expr_of RecursionLimit = None
 
--- the type at the root of the answer's expression
+-- the type at the root of an answer's typed expression
 abbrev pub type_of_answer : TypecheckAnswer → Option Ty
 type_of_answer (TypecheckSuccess e c) = type_at e
 type_of_answer (TypecheckFail e) = type_at e
 type_of_answer RecursionLimit = None
 
--- a success becomes a failure with the same expression, the others stay
+-- the answer as a failure: a success keeps its expression, and the other answers stay
 abbrev pub failed : TypecheckAnswer → TypecheckAnswer
 failed (TypecheckSuccess e c) = TypecheckFail e
 failed (TypecheckFail e) = TypecheckFail e
 failed RecursionLimit = RecursionLimit
 
--- an answer as it is, or made a failure
+-- the answer as it is, or made a failure
 abbrev pub failed_unless : Bool → TypecheckAnswer → TypecheckAnswer
 failed_unless succeeded a = cond succeeded a (failed a)
 
--- an answer is adjusted, and refused memory stays
+-- the answer, adjusted by f; an error stays
 abbrev pub ok_map : {T U : Type 0} → (T → U) → Result T AllocError → Result U AllocError
 ok_map f (Ok x) = Ok (f x)
 ok_map f (Err e) = Err e
 
 -- ---- one answer is followed up
 
--- P holds of the set of a success
+-- P holds of the capabilities of a success; it asks nothing of other answers
 abbrev pub OnSuccess : TypecheckAnswer → (CapabilitySet → Type 0) → Type 0
 OnSuccess (TypecheckSuccess e c) P = P c
 OnSuccess (TypecheckFail e) P = ⊤
 OnSuccess RecursionLimit P = ⊤
 
--- the closure was called on the set of a success, and on nothing else: `gives` says what its call gives
+-- the closure was called on the capabilities of a success, and on nothing else. `gives` relates its input to its result
 abbrev pub MapsCapability : TypecheckAnswer
     → (CapabilitySet → Result CapabilitySet AllocError → Type 0) → Answered → Type 0
 MapsCapability (TypecheckSuccess e c) gives r =
@@ -79,14 +79,14 @@ MapsCapability (TypecheckSuccess e c) gives r =
 MapsCapability (TypecheckFail e) gives r = r ≡ Ok (TypecheckFail e)
 MapsCapability RecursionLimit gives r = r ≡ Ok RecursionLimit
 
--- P holds of what an answer hands on: of a success its expression and set, of a failure its expression and any set that
--- has nothing
+-- P holds of the parts that an answer hands on: of a success its expression and its capabilities, of a failure its
+-- expression and any empty set of capabilities
 abbrev pub OnHanded : TypecheckAnswer → (TypedExpr → CapabilitySet → Type 0) → Type 0
 OnHanded (TypecheckSuccess e c) P = P e c
 OnHanded (TypecheckFail e) P = (c : CapabilitySet) → HasNone (caps c) → P e c
 OnHanded RecursionLimit P = ⊤
 
--- the closure was called with a failure's expression and a set that has nothing, and its answer is made a failure
+-- the closure was called with a failure's expression and an empty set of capabilities, and its answer is made a failure
 pub record FollowsFailure (e : TypedExpr) (gives : TypedExpr → CapabilitySet → Answered → Type 0)
     (r : Answered) : Type 0 where
   pub set : CapabilitySet
@@ -95,8 +95,8 @@ pub record FollowsFailure (e : TypedExpr) (gives : TypedExpr → CapabilitySet �
   pub called : gives e set answered
   pub adjusts : r ≡ ok_map failed answered
 
--- the closure was called with what the answer hands on, and its answer is made a failure after a failure; the limit stays,
--- without a call
+-- the closure was called with the parts that the answer hands on, and after a failure its answer is made a failure. The
+-- limit stays, without a call
 abbrev pub ThenTypechecks : TypecheckAnswer → (TypedExpr → CapabilitySet → Answered → Type 0)
     → Answered → Type 0
 ThenTypechecks (TypecheckSuccess e c) gives r = gives e c r
@@ -113,7 +113,8 @@ AllHandOn (Ok (TypecheckFail e) ∷ xs) = AllHandOn xs
 AllHandOn (Ok RecursionLimit ∷ xs) = ⊥
 AllHandOn (Err e ∷ xs) = ⊥
 
--- what the items hand on, in order: a success its expression and set, a failure its expression and a set that has nothing
+-- the parts that the items hand on, in order: for a success its expression and its capabilities, for a failure its
+-- expression and an empty set
 abbrev pub AreHanded : List Answered → List (TypedExpr × CapabilitySet) → Type 0
 AreHanded [] [] = ⊤
 AreHanded (Ok (TypecheckSuccess e c) ∷ xs) (h ∷ hs) = (h ≡ (e, c)) × AreHanded xs hs
@@ -126,7 +127,7 @@ none_failed [] = true
 none_failed (Ok (TypecheckFail e) ∷ xs) = false
 none_failed (_ ∷ xs) = none_failed xs
 
--- what is taken from s: the items up to its end, or up to the first limit, which hands nothing on
+-- the items that are taken from s: those up to its end, or up to the first limit, which hands nothing on
 pub record Taken {S : Type 0} (steps : S → Option Answered → S → Type 0) (s : S) : Type 0 where
   pub before : List Answered
   pub last : Option Answered
@@ -135,18 +136,18 @@ pub record Taken {S : Type 0} (steps : S → Option Answered → S → Type 0) (
   pub hand_on : AllHandOn before
   pub ends : MatchOption last ⊤ (λ x. x ≡ Ok RecursionLimit)
 
--- the closure may be called with whatever the items that can be taken hand on
+-- P holds of all parts that items from s can hand on, so the closure may be called with them
 abbrev pub OnAllHanded : {S : Type 0} → (S → Option Answered → S → Type 0) → S
     → (Vec (TypedExpr × CapabilitySet) Global → Type 0) → Type 0
 OnAllHanded steps s P =
     (taken : Taken steps s) → (v : Vec (TypedExpr × CapabilitySet) Global)
     → AreHanded taken.before v.items → P v
 
--- the answer after a limit is the limit, else the closure's, made a failure if an item was one
+-- the answer after all items: the limit if one was a limit, else the closure's, made a failure if an item was one
 abbrev pub answer_where : Bool → Bool → TypecheckAnswer → TypecheckAnswer
 answer_where is_limit succeeded a = cond is_limit RecursionLimit (failed_unless succeeded a)
 
--- the closure was called once, with what the taken items hand on, and a is its answer, adjusted
+-- the closure was called once, with the parts that the taken items hand on, and a is its answer, adjusted
 pub record SequencesAll {S : Type 0} (steps : S → Option Answered → S → Type 0) (s : S)
     (gives : Vec (TypedExpr × CapabilitySet) Global → Answered → Type 0)
     (a : TypecheckAnswer) : Type 0 where

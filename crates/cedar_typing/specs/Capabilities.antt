@@ -1,4 +1,4 @@
--- Sets of capabilities, as the test of what is known.
+-- Sets of capabilities, as tests of the capabilities that are known.
 use Rattle.std.specs.Prelude.{Bool, false, ◌&&◌, ◌||◌}
 use Rattle.cedar_types.specs.Capability.{Cap, cap_eq}
 pub mod Priors

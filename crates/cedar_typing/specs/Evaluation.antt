@@ -1,4 +1,4 @@
--- What an expression evaluates to, defined independently of typing.
+-- Evaluation of expressions, defined independently of typing.
 pub mod Equality
 pub mod World
 pub mod Outcomes

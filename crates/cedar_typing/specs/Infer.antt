@@ -33,13 +33,13 @@ pub mod ShortCircuit
 pub mod Conditional
 pub mod Eager
 
--- the test of the limit
+-- the test of the limit, before an expression is visited
 abbrev pub unless_too_deep : ℕ → List Finding → AnswerAndErrors → AnswerAndErrors
 unless_too_deep d es o = if nat_lt max_nesting d then (limit, es) else o
 
 abbrev mutual
-  -- an expression at depth d, which is within the limit, where prior is known, after the errors es; a
-  -- part stands one deeper
+  -- inference of an expression at depth d, which is within the limit, with the prior capabilities,
+  -- after the errors es; its parts stand one deeper
   pub infer_within : Setting → Source → Caps → ℕ → List Finding → AnswerAndErrors
   infer_within s (lit m x) prior d es = (infer_leaf (type_of_literal s.env x) m (λ k. lit k x), es)
   infer_within s (var m x) prior d es = (infer_leaf (variable_type s.env x) m (λ k. var k x), es)
@@ -93,7 +93,7 @@ abbrev mutual
   infer_within s (record_of m fs) prior d es =
       infer_eager (record_form s.env m (field_keys fs)) (infer_fields s fs prior (d + 1)) es
 
-  -- expressions one after another, each at depth d, that have to be what is expected
+  -- inference of expressions one after another, each at depth d, with these expectations
   pub infer_all : Setting → Bool → List Expectation → Trees Written → Caps → ℕ → List Finding
       → OperandsAndErrors
   infer_all s goes_on qs no_trees prior d es = infer_none es
@@ -102,7 +102,7 @@ abbrev mutual
       (λ es'. unless_too_deep d es' (infer_within s e prior d es'))
       (infer_all s goes_on (later_expectations qs) ts prior d) es
 
-  -- the values of fields
+  -- inference of the values of fields, one after another
   pub infer_fields : Setting → Fields Written → Caps → ℕ → List Finding → OperandsAndErrors
   infer_fields s no_fields prior d es = infer_none es
   infer_fields s (field k e fs) prior d es =
@@ -110,6 +110,6 @@ abbrev mutual
       (λ es'. unless_too_deep d es' (infer_within s e prior d es'))
       (infer_fields s fs prior d) es
 
--- an expression at depth d, where prior is known, after the errors es
+-- inference of an expression at depth d, with the prior capabilities, after the errors es
 abbrev pub infer : Setting → Source → Caps → ℕ → List Finding → AnswerAndErrors
 infer s e prior d es = unless_too_deep d es (infer_within s e prior d es)

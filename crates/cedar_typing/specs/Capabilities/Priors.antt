@@ -1,16 +1,16 @@
--- What is known where an expression is typed, as the program keeps it: the last set, and a chain of those before.
+-- Prior capabilities as the program keeps them: the set that was found last, and a chain of those before.
 use Rattle.std.specs.Prelude.{Option, None, Some, option_map}
 use Rattle.cedar_types.specs.Capability.{caps}
 use Rattle.cedar_typing.specs.Capabilities.{Caps, no_caps, union}
 use Rattle.cedar_typing.specs.declared.typecheck.prior.Prior.{Prior, fold-Prior}
 use Rattle.cedar_typing.specs.declared.typecheck.prior.Prior.TheOpen.{Prior-F}
 
--- what was known before, if there was anything
+-- the capabilities that were known before, if there were any
 abbrev pub known_before : Option Caps → Caps
 known_before None = no_caps
 known_before (Some before) = before
 
--- what was known before, and what was found last
+-- the capabilities that were known before, and those that were found last
 abbrev pub with_found : Prior-F Caps → Caps
 with_found p = union (known_before (option_map (λ b. b.now) p.before)) (caps p.found.now)
 

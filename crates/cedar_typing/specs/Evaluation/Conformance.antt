@@ -1,4 +1,4 @@
--- Requests and interpretations that conform, and what it is that a capability holds.
+-- Requests and interpretations that conform, and capabilities that hold.
 use Rattle.std.specs.Prelude.{◌≡◌, Bool, not, ◌||◌, List, [], ◌∷◌, ◌⊎◌, Option, Some, None, is_some, IsTrue}
 use Rattle.std.specs.List.{list_any}
 use Rattle.cedar_types.specs.declared.base.names.slots.SlotId.{SlotId}
@@ -26,8 +26,8 @@ IsOneOf x (y ∷ ys) = (x ≡ y) ⊎ IsOneOf x ys
 
 -- ---- requests
 
--- the request is about entities of the environment's types, its action is the environment's, and its context has the
--- environment's type
+-- the request fits the environment: its principal and its resource are of the environment's types, its action is the
+-- environment's, and its context has the environment's type
 pub record FitsRequest (d : DeclaredEnv) (r : Request) : Type 0 where
   pub principal : r.principal.entity_type ≡ d.principal
   pub action : r.action ≡ d.action
@@ -40,7 +40,7 @@ FitsSlot None u = Unit {0}
 FitsSlot (Some p) None = ⊥
 FitsSlot (Some p) (Some u) = u.entity_type ≡ p
 
--- the environment fits a request and its slots; that of undeclared actions fits none
+-- the environment fits a request and its slots. The environment of undeclared actions fits none
 abbrev pub Fits : Env → Request → Slots → Type 0
 Fits (Declared d ps rs) r slots =
     FitsRequest d r × FitsSlot ps (slots SlotId.Principal) × FitsSlot rs (slots SlotId.Resource)
@@ -98,8 +98,8 @@ has_external s =
     list_any (λ (t : DeclaredType). is_external_kind t.kind) s.types
     || list_any (λ (a : DeclaredAction). not (is_some a.applies_to)) s.actions
 
--- whatever the arguments, a value that a function of the table gives is of its return type; and the same types are compared
--- by `<` and `<=`
+-- the interpretation keeps the table: whatever the arguments, a function of the table gives only values of its return type,
+-- and `<` and `<=` compare the same extension types
 pub record KeepsTable (t : ExtensionTable) (i : Interpretation) : Type 0 where
   pub returns : (n : Path) (f : ExtensionFunction) → function_named n t.functions ≡ Some f
       → (vs : Values) (v : Value) → call_value i.calls n vs ≡ Some v → HasType f.return_type v
@@ -112,12 +112,12 @@ abbrev pub SaysTrue : Test → Type 0
 SaysTrue (Says b) = IsTrue b
 SaysTrue (Stops f) = ⊥
 
--- what it evaluates to, if it is a value, is a record with the attribute, or an entity of the store with it
+-- if the outcome is a value, it is a record with the attribute, or an entity of the store with it
 abbrev pub HasAttribute : Store → Text → Outcome → Type 0
 HasAttribute store x (Gives v) = SaysTrue (has_test store x v)
 HasAttribute store x (Fails f) = Unit {0}
 
--- of a text: what the other evaluates to, if it is a value, is an entity of the store with that tag
+-- if the outcome is a value, it is an entity of the store with the tag of this text
 abbrev pub HasTagOf : Store → Outcome → Value → Type 0
 HasTagOf store (Gives v) (VString x) = SaysTrue (has_tag store v (VString x))
 HasTagOf store o v = Unit {0}
@@ -126,11 +126,12 @@ abbrev pub HasTag : Store → Outcome → Outcome → Type 0
 HasTag store o (Gives v) = HasTagOf store o v
 HasTag store o (Fails f) = Unit {0}
 
--- a capability holds
+-- a capability holds in a world. For example, `e has x` holds if e evaluates to a record with x or to an entity of the
+-- store with x, or if it fails
 abbrev pub Holds : World → Cap → Type 0
 Holds world (attribute e x) = HasAttribute world.store x (eval world e)
 Holds world (tag e x) = HasTag world.store (eval world e) (eval world x)
 
--- each of them holds
+-- all these capabilities hold
 abbrev pub AllHold : World → Caps → Type 0
 AllHold world c = (q : Cap) → IsTrue (c q) → Holds world q

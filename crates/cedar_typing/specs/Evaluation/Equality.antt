@@ -7,17 +7,17 @@ use Rattle.cedar_types.specs.Names.Comparisons.{bool_eq}
 use Rattle.cedar_types.specs.Values.{Value, VBool, VLong, VString, VEntity, VSet, VRecord, VExtension, Values, no_values, more_values}
 use Rattle.cedar_types.specs.Values.{Entries, no_entries, more_entries, entry_at, entry_keys}
 
--- each member passes
+-- each member passes the test
 abbrev pub all_values : (Value → Bool) → Values → Bool
 all_values p no_values = true
 all_values p (more_values v vs) = p v && all_values p vs
 
--- some member passes
+-- some member passes the test
 abbrev pub any_value : (Value → Bool) → Values → Bool
 any_value p no_values = false
 any_value p (more_values v vs) = p v || any_value p vs
 
--- ---- what it is to be equal to a given value, as a test
+-- ---- tests of being equal to a given value
 
 abbrev pub is_bool : Bool → Value → Bool
 is_bool a (VBool b) = bool_eq a b
@@ -44,7 +44,7 @@ abbrev pub passes_any : List (Value → Bool) → Value → Bool
 passes_any [] v = false
 passes_any (p ∷ ps) v = p v || passes_any ps v
 
--- a set, where each test is passed by a member, and each member passes a test
+-- a value is a set, each test is passed by one of its members, and each of its members passes a test
 abbrev pub is_set_of : List (Value → Bool) → Value → Bool
 is_set_of ps (VSet vs) = list_all (λ p. any_value p vs) ps && all_values (passes_any ps) vs
 is_set_of ps v = false
@@ -54,7 +54,7 @@ abbrev pub test_at : Text → List (Text × (Value → Bool)) → Option (Value 
 test_at k [] = None
 test_at k (t ∷ ts) = if text_eq k t.0 then Some t.1 else test_at k ts
 
--- at a key are a test and a value that passes it, or neither
+-- at a key there is a test and a value that passes it, or neither
 abbrev pub agree : Option (Value → Bool) → Option Value → Bool
 agree None None = true
 agree None (Some v) = false
@@ -64,15 +64,16 @@ agree (Some p) (Some v) = p v
 abbrev pub agree_at : List (Text × (Value → Bool)) → Entries → Text → Bool
 agree_at ts es k = agree (test_at k ts) (entry_at k es)
 
--- a record with the keys of the tests and no other, each with a value that passes the key's test
+-- a value is a record with the keys of the tests and no other, each with a value that passes the key's test
 abbrev pub is_record_of : List (Text × (Value → Bool)) → Value → Bool
 is_record_of ts (VRecord es) =
     list_all (agree_at ts es) (map (λ t. t.0) ts) && list_all (agree_at ts es) (entry_keys es)
 is_record_of ts v = false
 
 abbrev mutual
-  -- two values are equal where they are of one kind, and: the same truth value, number, text, entity or text of an extension
-  -- type; sets each of whose members equals one of the other; records with the same keys and equal values at each
+  -- two values are equal if they are of one kind, and have the same truth value, number, text, entity or text of an
+  -- extension type; or are sets each of whose members equals one of the other; or records with the same keys and equal
+  -- values at each
   pub same_value : Value → Value → Bool
   same_value (VBool a) = is_bool a
   same_value (VLong a) = is_long a
@@ -97,13 +98,13 @@ same_values no_values (more_values w ws) = false
 same_values (more_values v vs) no_values = false
 same_values (more_values v vs) (more_values w ws) = same_value v w && same_values vs ws
 
--- ---- what holds of it, for all values, also of records in which a key comes twice
+-- ---- equality is an equivalence on all values, even on records in which a key comes twice
 pub record EqualityIsAnEquivalence : Type 0 where
   -- each value equals itself
   pub reflexive : (v : Value) → same_value v v ≡ true
-  -- where one value equals another, the other equals the one
+  -- if one value equals another, the other equals the first
   pub symmetric : (v w : Value) → same_value v w ≡ true → same_value w v ≡ true
-  -- what equals an equal of a value equals the value
+  -- if two values equal one after another, the first equals the last
   pub transitive : (u v w : Value) → same_value u v ≡ true → same_value v w ≡ true
       → same_value u w ≡ true
 

@@ -1,4 +1,4 @@
--- Evaluation of expressions. It knows nothing of types, of typing, and of how deep an expression is nested.
+-- Evaluation of expressions. It knows nothing of types, of typing, and of an expression's depth.
 use Rattle.std.specs.Prelude.{Bool, true, false, ◌&&◌, ◌||◌, List, [], ◌∷◌, Option, Some, None, is_some, ℤ, pos, neg_ℤ, ◌+ℤ◌, ◌-ℤ◌, ◌*ℤ◌}
 use Rattle.std.specs.Prelude.{int_lt, int_le, ◌^◌, nat_eq, encode_utf8, if◌then◌else◌}
 use Rattle.std.specs.List.{list_any}
@@ -36,7 +36,7 @@ variable_value r Var.Action = VEntity r.action
 variable_value r Var.Resource = VEntity r.resource
 variable_value r Var.Context = VRecord r.context
 
--- a slot: the bound entity
+-- the value of a slot: the entity to which it is bound
 abbrev pub bound_outcome : Option Uid → Outcome
 bound_outcome None = Fails UnlinkedSlot
 bound_outcome (Some u) = Gives (VEntity u)
@@ -56,12 +56,12 @@ abbrev pub negation : Value → Outcome
 negation (VLong n) = in_range (neg_ℤ n)
 negation v = Fails TypeFailure
 
--- an operator on two longs
+-- an operator on two longs. On other values it fails
 abbrev pub on_longs : (ℤ → ℤ → Outcome) → Value → Value → Outcome
 on_longs f (VLong m) (VLong n) = f m n
 on_longs f v w = Fails TypeFailure
 
--- `<` or `<=`: of two longs by the test, of two values of one overloaded type by the pairs
+-- `<` or `<=`: on two longs the test, on two values of one overloaded type the interpretation's pairs
 abbrev pub compared : List Path → (ℤ → ℤ → Bool) → List (Value × Value) → Value → Value → Outcome
 compared types test pairs (VLong m) (VLong n) = Gives (VBool (test m n))
 compared types test pairs (VExtension n s) (VExtension m t) =
@@ -77,7 +77,7 @@ is_empty (VSet no_values) = Gives (VBool true)
 is_empty (VSet (more_values v vs)) = Gives (VBool false)
 is_empty v = Fails TypeFailure
 
--- the set has the member
+-- whether the set has the member
 abbrev pub has_member : Values → Value → Bool
 has_member vs w = any_value (same_value w) vs
 
@@ -85,7 +85,7 @@ abbrev pub contains : Value → Value → Outcome
 contains (VSet vs) w = Gives (VBool (has_member vs w))
 contains v w = Fails TypeFailure
 
--- all members of the right set, or some of them
+-- `containsAll` and `containsAny`: whether all members of the right set, or some of them, are in the left one
 abbrev pub contains_all : Value → Value → Outcome
 contains_all (VSet vs) (VSet ws) = Gives (VBool (all_values (has_member vs) ws))
 contains_all v w = Fails TypeFailure
@@ -100,11 +100,11 @@ abbrev pub has_ancestor : Option Entity → Uid → Bool
 has_ancestor None v = false
 has_ancestor (Some e) v = uid_is_among e.ancestors v
 
--- u is v, or has v among its ancestors in the store
+-- whether u is v, or has v among its ancestors in the store
 abbrev pub is_in : Store → Uid → Uid → Bool
 is_in store u v = uid_eq u v || has_ancestor (entity_at store u) v
 
--- the same of a value that is an entity
+-- whether u is in a value that is an entity
 abbrev pub is_in_entity : Store → Uid → Value → Bool
 is_in_entity store u (VEntity v) = is_in store u v
 is_in_entity store u w = false
@@ -113,7 +113,7 @@ abbrev pub is_some_entity : Value → Bool
 is_some_entity (VEntity u) = true
 is_some_entity v = false
 
--- u in an entity, or in some member of a set of entities
+-- `in`: whether u is in an entity, or in some member of a set of entities
 abbrev pub entity_in : Store → Uid → Value → Outcome
 entity_in store u (VEntity v) = Gives (VBool (is_in store u v))
 entity_in store u (VSet vs) =
@@ -130,7 +130,7 @@ abbrev pub entity_has : Option Entity → Text → Bool
 entity_has None x = false
 entity_has (Some e) x = is_some (entry_at x e.attributes)
 
--- `has`: of a record, or of an entity
+-- `has` on a record, or on an entity. It is false of an entity that is not in the store
 abbrev pub has_test : Store → Text → Value → Test
 has_test store x (VRecord es) = Says (is_some (entry_at x es))
 has_test store x (VEntity u) = Says (entity_has (entity_at store u) x)
@@ -144,13 +144,13 @@ abbrev pub entity_get : Option Entity → Text → Outcome
 entity_get None x = Fails MissingEntity
 entity_get (Some e) x = attribute_value (entry_at x e.attributes)
 
--- `.`: of a record, or of an entity, which has to be in the store
+-- `.` on a record, or on an entity, which must be in the store
 abbrev pub get : Store → Text → Value → Outcome
 get store x (VRecord es) = attribute_value (entry_at x es)
 get store x (VEntity u) = entity_get (entity_at store u) x
 get store x v = Fails TypeFailure
 
--- extended `has`: the first attribute that is not there gives false; `has` goes on with the value of each but the last
+-- extended `has`: it is false at the first attribute that is not there; each value but the last is tested further
 abbrev pub path_test : Store → Text → List Text → Value → Test
 path_test store x [] = has_test store x
 path_test store x (y ∷ ys) =
@@ -176,14 +176,14 @@ abbrev pub get_tag : Store → Value → Value → Outcome
 get_tag store (VEntity u) (VString x) = entity_tag (entity_at store u) x
 get_tag store v w = Fails TypeFailure
 
--- `is`
+-- `is`: whether an entity is of the type
 abbrev pub is_of : Path → Value → Outcome
 is_of p (VEntity u) = Gives (VBool (path_eq u.entity_type p))
 is_of p v = Fails TypeFailure
 
 -- ---- patterns
 
--- what is left of a text after a prefix, if it begins with it
+-- the rest of a text after a prefix, if it begins with it
 abbrev pub after_prefix : Text → Text → Option Text
 after_prefix [] t = Some t
 after_prefix (x ∷ xs) [] = None
@@ -193,13 +193,13 @@ abbrev pub on_rest : (Text → Bool) → Option Text → Bool
 on_rest p None = false
 on_rest p (Some t) = p t
 
--- the text, or what is left of it after some of its first bytes, passes
+-- whether the text, or some rest of it, passes
 abbrev pub some_rest : (Text → Bool) → Text → Bool
 some_rest p [] = p []
 some_rest p (x ∷ xs) = p (x ∷ xs) || some_rest p xs
 
--- the whole text matches: a character stands for itself, a wildcard for any run of characters, also none. Texts are in UTF-8,
--- in which no character begins within another, so bytes are compared
+-- whether the whole text matches. A character stands for itself, a wildcard for any run of characters, even none. Bytes are
+-- compared, because no character of UTF-8 begins within another
 abbrev pub matches : List PatternElem → Text → Bool
 matches [] [] = true
 matches [] (x ∷ xs) = false
@@ -212,7 +212,7 @@ like_outcome p v = Fails TypeFailure
 
 -- ---- operators and calls
 
--- an operator on one outcome: `!` of a boolean, negation of a long, `isEmpty` of a set
+-- an operator on one outcome: `!` on a boolean, negation of a long, `isEmpty` of a set
 abbrev pub unary_outcome : UnaryOp → Outcome → Outcome
 unary_outcome UnaryOp.Not o = of_test (not_test (test_of o))
 unary_outcome UnaryOp.Neg o = on_value o negation
@@ -242,24 +242,24 @@ called (Some v) = Gives v
 module _ {D : Type 0} (world : World) where
   abbrev mutual
     pub eval : Tree D → Outcome
-    -- a literal is its value, a variable what the request has, a slot what it is bound to; an unknown has no value
+    -- a literal is its value, a variable is the request's, a slot is the entity to which it is bound; an unknown has no value
     eval (lit m x) = Gives (literal_value x)
     eval (var m x) = Gives (variable_value world.request x)
     eval (slot m s) = bound_outcome (world.slots s)
     eval (unknown m n) = Fails UnknownValue
-    -- the test says which branch is taken
+    -- the test decides which branch is taken
     eval (if_then_else m a b c) = choose (test_of (eval a)) (eval b) (eval c)
-    -- the right side is looked at where the left one does not decide
+    -- the right side counts only if the left one does not decide
     eval (and m a b) = of_test (and_test (test_of (eval a)) (test_of (eval b)))
     eval (or m a b) = of_test (or_test (test_of (eval a)) (test_of (eval b)))
     -- an operator is applied to the values of its operands, from left to right
     eval (unary m o a) = unary_outcome o (eval a)
     eval (binary m o a b) =
         on_value (eval a) (λ x. on_value (eval b) (binary_outcome world.store world.functions o x))
-    -- a call gives what the function gives for the values of the arguments
+    -- a call gives the result of its function for the values of the arguments
     eval (call m f ts) =
         on_values (eval_all ts) (λ vs. called (call_value world.functions.calls f vs))
-    -- attributes are read of the value of the base, or tested
+    -- attributes are read from the value of the base, or tested
     eval (get_attr m a x) = on_value (eval a) (get world.store x)
     eval (has_attr m a x) = of_test (then_test (eval a) (has_test world.store x))
     eval (ext_has_attr m a x xs) = of_test (then_test (eval a) (path_test world.store x xs))

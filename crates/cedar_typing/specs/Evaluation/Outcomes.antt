@@ -1,12 +1,12 @@
--- How the outcomes of parts are put together.
+-- Outcomes of parts, and their combination to the outcome of the whole.
 use Rattle.std.specs.Prelude.{Bool, true, false, not}
 use Rattle.cedar_types.specs.Names.{Text}
 use Rattle.cedar_types.specs.Values.{Value, VBool, VRecord, Values, more_values, Entries, more_entries}
 use Rattle.cedar_typing.specs.Evaluation.World.{Failure, TypeFailure, Outcome, Gives, Fails}
 
--- ---- outcomes that have to be booleans
+-- ---- outcomes that must be booleans
 
--- a boolean, or why there is none
+-- a boolean, or the failure in its place
 pub data Test : Type 0 where
   Says : Bool → Test
   Stops : Failure → Test
@@ -23,13 +23,13 @@ abbrev pub of_test : Test → Outcome
 of_test (Says b) = Gives (VBool b)
 of_test (Stops f) = Fails f
 
--- `&&`: the right side counts where the left one is true
+-- `&&`: the right side counts if the left one is true
 abbrev pub and_test : Test → Test → Test
 and_test (Says true) t = t
 and_test (Says false) t = Says false
 and_test (Stops f) t = Stops f
 
--- `||`: the right side counts where the left one is false
+-- `||`: the right side counts if the left one is false
 abbrev pub or_test : Test → Test → Test
 or_test (Says true) t = Says true
 or_test (Says false) t = t
@@ -47,7 +47,7 @@ choose (Stops f) a b = Fails f
 
 -- ---- going on with values
 
--- a failure stays
+-- the next outcome, from a value. A failure stays
 abbrev pub on_value : Outcome → (Value → Outcome) → Outcome
 on_value (Gives v) next = next v
 on_value (Fails f) next = Fails f

@@ -1,5 +1,5 @@
--- What an expression is evaluated in: a request, what the slots are bound to, a store, and the extension functions; and what
--- evaluation comes to.
+-- Worlds in which expressions are evaluated: a request, the bindings of its slots, a store, and the extension functions; and
+-- the outcomes of evaluation.
 use Rattle.std.specs.Prelude.{Bool, ◌&&◌, List, [], ◌∷◌, Option, Some, None, if◌then◌else◌}
 use Rattle.std.specs.List.{list_any}
 use Rattle.cedar_types.specs.declared.base.names.slots.SlotId.{SlotId}
@@ -8,14 +8,14 @@ use Rattle.cedar_types.specs.Values.{Value, Values, Entries}
 use Rattle.cedar_types.specs.Values.Stores.{Store}
 use Rattle.cedar_typing.specs.Evaluation.Equality.{same_value, same_values}
 
--- who asks to do what with what, and the context
+-- a request: the principal, its action on a resource, and the context
 pub record Request : Type 0 where
   pub principal : Uid
   pub action : Uid
   pub resource : Uid
   pub context : Entries
 
--- what each slot is bound to, if it is bound
+-- the entity to which each slot is bound, if it is bound
 abbrev pub Slots : Type 0
 Slots = SlotId → Option Uid
 
@@ -25,8 +25,8 @@ pub record Call : Type 0 where
   pub arguments : Values
   pub value : Value
 
--- the extension functions as finite data: their calls that give a value, of several equal ones the first; the types that `<`
--- and `<=` compare; and of which pairs of values of such a type each of them is true
+-- the extension functions as finite data: their calls that give a value, of which the first with equal arguments counts; the
+-- types that `<` and `<=` compare; and the pairs of values of such a type for which each of them is true
 pub record Interpretation : Type 0 where
   pub calls : List Call
   pub overloaded_types : List Path
@@ -39,7 +39,7 @@ pub record World : Type 0 where
   pub store : Store
   pub functions : Interpretation
 
--- why there is no value
+-- the reason why an expression has no value
 pub data Failure : Type 0 where
   -- a value of the wrong kind
   TypeFailure : Failure
@@ -57,12 +57,12 @@ pub data Failure : Type 0 where
   -- an unknown
   UnknownValue : Failure
 
--- a value, or why there is none
+-- the outcome of evaluation: a value, or the reason why there is none
 pub data Outcome : Type 0 where
   Gives : Value → Outcome
   Fails : Failure → Outcome
 
--- what the first call of a function with equal arguments gives; a function is known by its calls alone
+-- the value of the first call of a function with equal arguments. A function is known by its calls alone
 abbrev pub call_value : List Call → Path → Values → Option Value
 call_value [] f vs = None
 call_value (c ∷ cs) f vs =

@@ -11,13 +11,13 @@ use Rattle.cedar_typing.specs.TypeEnv.{TypeEnv}
 use Rattle.cedar_typing.specs.TypeTests.{is_false, is_true, annotation_passes}
 use Rattle.cedar_typing.specs.TypedExpr.{typed_as, annotation}
 
--- the test is True or False: of the test, and of the branch that stands for both
+-- the answer if the test is True or False, from the test and the branch that stands for both
 abbrev pub infer_constant_test : Written → Part → Part → Caps → Answer
 infer_constant_test m a b c =
     answer_if (a.succeeded && b.succeeded)
     (if_then_else (typed_as (annotation b.tree) m) a.tree b.tree b.tree) c
 
--- it is neither: of the test, and of both branches
+-- the answer if the test is open, from the test and both branches
 abbrev pub infer_open_test : TypeEnv → Written → Part → Part → Part → List Finding → AnswerAndErrors
 infer_open_test env m a b e es = (
   answer_if
@@ -29,19 +29,19 @@ infer_open_test env m a b e es = (
   es ++ join_errors env m.place Conditional (annotation b.tree) (annotation e.tree),
 )
 
--- the same, where a branch may be cut
+-- the answer if the test is open, and a branch may be cut
 abbrev pub infer_open_parts : TypeEnv → Written → Part → Option Part → Option Part → List Finding
     → AnswerAndErrors
 infer_open_parts env m a (Some b) (Some e) es = infer_open_test env m a b e es
 infer_open_parts env m a b e es = (limit, es)
 
--- both branches are typed, one after the other
+-- the answer if the test is open and both branches are typed, one after the other
 abbrev pub infer_open_branches : TypeEnv → Written → Part → AnswerAndErrors
     → (List Finding → AnswerAndErrors) → AnswerAndErrors
 infer_open_branches env m a b otherwise =
     infer_open_parts env m a (part_from b.0) (part_from (otherwise b.1).0) (otherwise b.1).1
 
--- a typed test, and branches that are still to be typed
+-- the answer for a typed test, and branches that are still to be typed
 abbrev pub infer_branches : TypeEnv → Written → Caps → Part → List Finding
     → (Caps → List Finding → AnswerAndErrors) → (List Finding → AnswerAndErrors)
     → AnswerAndErrors
