@@ -8,11 +8,11 @@ use Rattle.cedar_typing.specs.Infer.Parts.{failure, limit, Part, AnswerAndErrors
 use Rattle.cedar_typing.specs.TypeEnv.{TypeEnv}
 use Rattle.cedar_typing.specs.TypedExpr.{TypedTree, typed, typed_as}
 
--- what operands result in
+-- the result of operands
 pub data Operands : Type 0 where
   -- whether all succeeded, and their typed copies
   all_typed : Bool → List TypedTree → Operands
-  -- one is too deep: the typed copies of those before it
+  -- an operand is too deep: the typed copies of those before it
   cut_after : List TypedTree → Operands
 
 abbrev pub OperandsAndErrors : Type 0
@@ -24,7 +24,7 @@ OperandsAndErrors = Operands × List Finding
 abbrev pub infer_none : List Finding → OperandsAndErrors
 infer_none es = (all_typed true [], es)
 
--- an operand that has to be of certain types, or may be anything
+-- the part of an operand with an expectation, which may be anything
 abbrev pub expect_operand : TypeEnv → Expectation → Option Loc → AnswerAndErrors → PartAndErrors
 expect_operand env None l o = any_part o
 expect_operand env (Some ts) l o = expect env ts l o
@@ -33,7 +33,7 @@ abbrev pub with_operand : Part → Operands → Operands
 with_operand p (all_typed later xs) = all_typed (later && p.succeeded) (p.tree ∷ xs)
 with_operand p (cut_after xs) = cut_after (p.tree ∷ xs)
 
--- a typed operand, and those after it
+-- the result of an operand that is typed or too deep, and of those after it
 abbrev pub infer_rest : Bool → Option Part → List Finding → (List Finding → OperandsAndErrors)
     → OperandsAndErrors
 infer_rest goes_on (Some p) es rest = (with_operand p (rest es).0, (rest es).1)
@@ -49,18 +49,18 @@ infer_one_more env goes_on q l first rest es =
 
 -- ---- the whole
 
--- the type of the whole, by whether all operands succeeded and the type that the table gives
+-- the type of the whole, from the table's type and from whether all operands succeeded
 abbrev pub type_given : Form → Bool → Ty → Ty
 type_given f true t = t
 type_given f false t = f.type_if_failed t
 
--- by what the table decides
+-- the answer for the whole, by the table's decision
 abbrev pub infer_decided : Form → Bool → List TypedTree → List Finding → Decision → AnswerAndErrors
 infer_decided f succeeded xs es (gives t c) =
     (answer_if succeeded (f.node (typed (type_given f succeeded t) f.at) xs) c, es)
 infer_decided f succeeded xs es (refuses t fs) = (failure (f.node (typed_as t f.at) xs), es ++ fs)
 
--- by what the operands result in
+-- the answer for the whole, by the result of its operands
 abbrev pub infer_form : Form → Operands → List Finding → AnswerAndErrors
 infer_form f (all_typed succeeded xs) es =
     infer_decided f succeeded xs es (f.decides (types_found xs))
@@ -69,7 +69,7 @@ infer_form f (cut_after xs) es = (limit, es ++ f.at_limit (types_found xs))
 abbrev pub infer_eager : Form → (List Finding → OperandsAndErrors) → List Finding → AnswerAndErrors
 infer_eager f operands es = infer_form f (operands es).0 (operands es).1
 
--- by what its one operand results in
+-- the answer for the whole, by the result of its one operand
 abbrev pub infer_of_one : Form → Option Part → List Finding → AnswerAndErrors
 infer_of_one f p = infer_eager f (λ es. infer_rest f.goes_on p es infer_none)
 

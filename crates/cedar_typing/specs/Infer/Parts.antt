@@ -1,4 +1,4 @@
--- Answers and parts as plain data, and how inference goes on with a part.
+-- Answers and parts as plain data, and the ways in which inference goes on with a part.
 use Rattle.std.specs.Prelude.{Bool, true, false, List, [], ◌∷◌, ◌++◌, Option, Some, None, if◌then◌else◌}
 use Rattle.cedar_types.specs.declared.base.location.Loc.{Loc}
 use Rattle.cedar_types.specs.Types.{Ty}
@@ -14,7 +14,7 @@ pub data Answer : Type 0 where
   failure : TypedTree → Answer
   limit : Answer
 
--- a part that is no limit
+-- the answer for a part, if it is not the limit
 pub record Part : Type 0 where
   pub tree : TypedTree
   pub capabilities : Caps
@@ -34,13 +34,14 @@ abbrev pub answer_if : Bool → TypedTree → Caps → Answer
 answer_if true e c = success e c
 answer_if false e c = failure e
 
--- what an answer gives the whole: a failure no capabilities, the limit nothing
+-- the part that an answer hands on to the whole: a failure hands on no capabilities, the limit
+-- nothing
 abbrev pub part_from : Answer → Option Part
 part_from (success e c) = Some (part_with true c e)
 part_from (failure e) = Some (part_with false no_caps e)
 part_from limit = None
 
--- ---- what a part has to be
+-- ---- expected types of parts
 
 abbrev pub as_failed : Part → Part
 as_failed p = part_with false no_caps p.tree
@@ -48,7 +49,7 @@ as_failed p = part_with false no_caps p.tree
 abbrev pub as_failed_untyped : Part → Part
 as_failed_untyped p = part_with false no_caps (without_type p.tree)
 
--- a part at l that has to be of one of the types ts, by the type at its root
+-- the part at l that must be of one of the types ts, by the type at its root
 abbrev pub expect_type : TypeEnv → List Ty → Option Loc → Part → List Finding → Option Ty
     → PartAndErrors
 expect_type env ts l p es None = (Some (as_failed p), es)
@@ -63,17 +64,17 @@ expect_part env ts l (Some p) es = expect_type env ts l p es (annotation p.tree)
 abbrev pub expect : TypeEnv → List Ty → Option Loc → AnswerAndErrors → PartAndErrors
 expect env ts l o = expect_part env ts l (part_from o.0) o.1
 
--- a part that may be anything
+-- the part that may be anything
 abbrev pub any_part : AnswerAndErrors → PartAndErrors
 any_part o = (part_from o.0, o.1)
 
--- ---- going on
+-- ---- going on with a part
 
 abbrev pub after_part : Option Part → List Finding → (Part → List Finding → AnswerAndErrors)
     → AnswerAndErrors
 after_part None es f = (limit, es)
 after_part (Some p) es f = f p es
 
--- goes on with a part, or answers the limit
+-- the answer that goes on with a part, or the limit
 abbrev pub after : PartAndErrors → (Part → List Finding → AnswerAndErrors) → AnswerAndErrors
 after r f = after_part r.0 r.1 f

@@ -12,14 +12,14 @@ use Rattle.cedar_typing.specs.TypeEnv.{TypeEnv}
 use Rattle.cedar_typing.specs.TypeTests.{bool_types, annotation_passes}
 use Rattle.cedar_typing.specs.TypedExpr.{typed, annotation, at_place}
 
--- two typed sides, by the types at their roots
+-- the answer for two typed sides, by the types at their roots
 abbrev pub infer_sides : Connective → Written → Part → Part → Option Ty → Option Ty → Answer
 infer_sides f m a b (Some s) (Some t) =
     answer_if (a.succeeded && b.succeeded) (f.node (typed (sides_type f s t) m) a.tree b.tree)
     (sides_caps f s t a.capabilities b.capabilities)
 infer_sides f m a b s t = failure (f.node (typed (TBool AnyBool) m) a.tree b.tree)
 
--- a typed left side, and a right one at l that is still to be typed
+-- the answer for a typed left side, and a right one at l that is still to be typed
 abbrev pub infer_right : TypeEnv → Connective → Written → Option Loc → Caps → Part → List Finding
     → (Caps → List Finding → AnswerAndErrors) → AnswerAndErrors
 infer_right env f m l prior a es right =
