@@ -1,4 +1,4 @@
--- Computed examples: what the rules and evaluation say of small expressions, all in one world.
+-- Computed examples of small expressions, by the rules and by evaluation, all in one world.
 pub mod World
 pub mod Greeting
 pub mod Expressions

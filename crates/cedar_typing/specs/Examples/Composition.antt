@@ -1,5 +1,5 @@
--- Templates in the sample schema: which environments each is checked in; and that the theorems on a template in its
--- environments need that its slots stand in the scope alone.
+-- Templates in the sample schema, with the environments in which each is checked; and an example that the theorems on a
+-- template in its environments need: its slots stand in the scope alone.
 use Rattle.std.specs.Prelude.{◌≡◌, false, [], ◌∷◌, Option, Some, None, codes}
 use Rattle.cedar_types.specs.declared.base.names.slots.SlotId.{SlotId}
 use Rattle.cedar_types.specs.declared.base.types.ValidationMode.TheVariants.{Strict, Partial}
@@ -47,7 +47,7 @@ a_user_type = record { name = user; place = None }
 abbrev pub the_entity : Uid → PlacedUid
 the_entity u = record { uid = u; place = None; type_place = None }
 
--- `?principal is Robot`, and the same of `?resource`
+-- `?principal is Robot`, and `?resource is Robot`
 abbrev pub slot_is_robot : SlotId → Shape
 slot_is_robot x = is_type tt (slot tt x) robot
 
@@ -60,14 +60,14 @@ some_slot_is_robot = or tt (slot_is_robot SlotId.Principal) (slot_is_robot SlotI
 abbrev pub greets_env : DeclaredEnv
 greets_env = users_greet a_context
 
--- and the types that the slots are linked to
+-- users greet users, with the types to which the slots are linked
 abbrev pub greets : Option Path → Option Path → Env
 greets = Declared greets_env
 
 abbrev pub idle_schema : Schema
 idle_schema = record sample_schema { actions = [] }
 
--- actions greet users
+-- a schema in which actions greet users
 abbrev pub acting_schema : Schema
 acting_schema = record sample_schema {
   actions = requested greet (greet.entity_type ∷ []) (user ∷ []) a_context ∷ [];
@@ -77,36 +77,36 @@ abbrev pub acting_env : DeclaredEnv
 acting_env = record greets_env { principal = greet.entity_type }
 
 pub record EnvironmentsAre : Type 0 where
-  -- no slot: no link
+  -- without slots there is no link
   pub no_slot : checked_envs sample_schema Strict (template any any None) ≡ greets None None ∷ []
-  -- `principal == ?principal`: the variable's own type
+  -- `principal == ?principal` has one link: the variable's own type
   pub equal_to : checked_envs sample_schema Strict (template (equal to_slot) any None)
       ≡ greets (Some user) None ∷ []
-  -- `principal in ?principal`: the types above it, of which User is one, and User itself
+  -- `principal in ?principal` has the types above it as links, of which User is one, and User itself
   pub within_it : checked_envs sample_schema Strict (template (within to_slot) any None)
       ≡ greets (Some user) None ∷ greets (Some user) None ∷ []
-  -- `resource is User in ?resource`: the same
+  -- `resource is User in ?resource` has these links too
   pub typed_within_it : checked_envs sample_schema Strict
       (template any (typed_within a_user_type to_slot) None)
       ≡ greets None (Some user) ∷ greets None (Some user) ∷ []
-  -- no constraint, or `is User`, and the slot in the rest: each declared type
+  -- without a constraint, or with `is User`, and with the slot in the rest, each declared type is a link
   pub anywhere : checked_envs sample_schema Strict
       (template any any (Some (slot_is_robot SlotId.Principal)))
       ≡ greets (Some user) None ∷ greets (Some robot) None ∷ []
   pub anywhere_typed : checked_envs sample_schema Strict
       (template (typed a_user_type) any (Some (slot_is_robot SlotId.Principal)))
       ≡ greets (Some user) None ∷ greets (Some robot) None ∷ []
-  -- both slots: in all ways
+  -- both slots are linked in all ways
   pub both : checked_envs sample_schema Strict (template any any (Some some_slot_is_robot))
       ≡ greets (Some user) (Some user) ∷ greets (Some user) (Some robot)
       ∷ greets (Some robot) (Some user) ∷ greets (Some robot) (Some robot) ∷ []
-  -- in Partial the undeclared actions too, once, whatever the slots
+  -- Partial has the undeclared actions too, once, whatever the slots
   pub undeclared : checked_envs sample_schema Partial (template (within to_slot) any None)
       ≡ greets (Some user) None ∷ greets (Some user) None ∷ Undeclared ∷ []
   -- a schema without actions has no environment
   pub idle : checked_envs idle_schema Strict (template (equal to_slot) any None) ≡ []
 
--- ---- what the theorems need
+-- ---- the premises of the theorems
 
 -- `permit(principal == User::"alice", action, resource == User::"bob") when { ?principal is Robot || ?resource is Robot }`
 abbrev pub robots_template : PlainTemplate
@@ -122,8 +122,8 @@ robot_slots SlotId.Resource = Some (record { entity_type = robot; eid = codes "r
 abbrev pub robot_greeting : World
 robot_greeting = record greeting { slots = robot_slots }
 
--- a slot in the rest may be bound to what the scope's variable never is: then a condition that is warned to be impossible is
--- true
+-- a slot in the rest may be bound to an entity that the scope's variable never is: then a condition that is warned to be
+-- impossible is true
 pub record SlotsInTheRestAreNot : Type 0 where
   pub faultless : IsFaultless (sample Strict)
   pub environments : checked_envs sample_schema Strict robots_template
@@ -134,7 +134,7 @@ pub record SlotsInTheRestAreNot : Type 0 where
   pub functions : KeepsTable (table (sample Strict)) robot_greeting.functions
   pub is_true : IsTrueOutcome (eval robot_greeting (condition_of robots_template))
 
--- where an action is the principal and its slot stands in the rest, the own environment is not checked
+-- if an action is the principal and its slot stands in the rest, the request's own environment is not checked
 pub record OwnEnvMayBeMissing : Type 0 where
   pub faultless : has_fault acting_schema ≡ false
   pub declared : IsOneOf acting_env (environments_of acting_schema.actions)

@@ -1,7 +1,7 @@
--- What conformity leaves open. In this world an entity has an ancestor that is not stored, an
+-- Cases that conformity leaves open. In this world an entity has an ancestor that is not stored, an
 -- entity of an enumerated type is none of its members, an action is the principal, and a slot is
--- bound to an entity of a type that the schema does not know. Still all premises of the promises
--- on a policy hold.
+-- bound to an entity of a type that the schema does not know. Still all premises of the promises on
+-- a policy hold.
 use Rattle.std.specs.Prelude.{◌≡◌, true, false, [], ◌∷◌, Some, None, codes}
 use Rattle.cedar_types.specs.declared.base.expressions.operators.UnaryOp.{UnaryOp}
 use Rattle.cedar_types.specs.declared.base.expressions.operators.Var.{Var}
@@ -36,21 +36,21 @@ folder = named (codes "Folder")
 abbrev pub status : Path
 status = named (codes "Status")
 
--- `Document::"report"` and `Folder::"attic"`, of which the second is not stored
+-- `Document::"report"`, which is stored, and `Folder::"attic"`, which is not
 abbrev pub report : Uid
 report = record { entity_type = document; eid = codes "report" }
 
 abbrev pub attic : Uid
 attic = record { entity_type = folder; eid = codes "attic" }
 
--- `Status::"draft"`, the one member of its type, and `Status::"lost"`, which is none
+-- `Status::"draft"`, the one member of its type, and `Status::"lost"`, which is no member
 abbrev pub draft : Uid
 draft = record { entity_type = status; eid = codes "draft" }
 
 abbrev pub lost : Uid
 lost = record { entity_type = status; eid = codes "lost" }
 
--- `Action::"review"`, and `Action::"edit"`, of which it is a descendant
+-- `Action::"review"`, and `Action::"edit"`, above it
 abbrev pub review : Uid
 review = an_action_named (codes "review")
 
@@ -90,13 +90,13 @@ review_schema = record {
   actions = declared_review ∷ declared_edit ∷ [];
 }
 
--- with the sample functions, in a mode
+-- the basis of this schema and the sample functions, in a mode
 abbrev pub review_basis : ValidationMode → Basis
 review_basis m = record (sample_basis m) { schema = review_schema }
 
 -- ---- the world
 
--- the report is in the attic, and its status is the one that is no member
+-- the report is in the attic, and its status is `Status::"lost"`, which is no member
 abbrev pub stored_report : Entity
 stored_report = record {
   attributes = more_entries (codes "status") (VEntity lost) no_entries;
@@ -137,7 +137,7 @@ is_reviewed =
     (and tt (is_in resource (the attic))
     (unary tt UnaryOp.Not (equal (dot resource (codes "status")) (the draft))))
 
--- `permit(principal, action, resource) when { .. }` with that
+-- `permit(principal, action, resource) when { .. }` with this condition
 abbrev pub reviewed_policy : PlainTemplate
 reviewed_policy = policy_when is_reviewed
 
@@ -168,7 +168,7 @@ pub record ConformityAllowsIn (m : ValidationMode) : Type 0 where
   pub named : IsNamedBySchema review_schema reviewed_policy
   pub well_formed : IsWellFormed reviewed_policy reviewing.slots
   pub evaluates : eval reviewing (condition_of reviewed_policy) ≡ Gives (VBool true)
-  -- one with the slot that passes and is false
+  -- a policy with the slot that passes and is false
   pub linked_passes : Passes (review_basis m) linked_policy
   pub linked_named : IsNamedBySchema review_schema linked_policy
   pub linked_well_formed : IsWellFormed linked_policy reviewing.slots

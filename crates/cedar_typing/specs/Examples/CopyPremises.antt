@@ -1,6 +1,6 @@
--- What is asked of the schema and of the table is needed, of typed copies too: where one premise does
--- not hold, and all others do, the typed condition of a check evaluates to something else than
--- the condition.
+-- Each premise on the schema and on the table is needed for typed copies too: if one premise does not
+-- hold, and all others do, the typed condition of a check evaluates to another outcome than the
+-- condition.
 use Rattle.std.specs.Prelude.{◌≡◌, true, false, [], ◌∷◌, Some, None, codes}
 use Rattle.cedar_types.specs.declared.base.expressions.extensions.ExtensionTableError.TheVariants.{BadReturnType}
 use Rattle.cedar_types.specs.declared.base.expressions.operators.Var.{Var}
@@ -29,19 +29,20 @@ use Rattle.cedar_typing.specs.Soundness.{IsWorldOf}
 use Rattle.cedar_typing.specs.TypedCopies.{VerdictMeansTheSame}
 use Rattle.cedar_typing.specs.TypedExpr.{Source}
 
--- the check of e has a typed condition that evaluates to something else in the world
+-- the check of e has a typed condition that evaluates to another outcome in the world
 abbrev pub MeansAnother : Setting → World → Source → Type 0
 MeansAnother s world e =
     (v : Verdict) × PolicyChecks s e v × (VerdictMeansTheSame world e v → ⊥)
 
--- users greet users in such a context, and no slot is linked
+-- users greet users in this context, and no slot is linked
 abbrev pub greeting_by : Basis → Ty → Setting
 greeting_by b t = setting_on b (codes "policy0") (Declared (users_greet t) None None)
 
 abbrev pub and_false : Shape → Source
 and_false e = numbered (and tt e false_lit)
 
--- in a mode and in a world that fits such a context, `e && false` means another
+-- in a mode and in a world that fits this context, the typed copy of `e && false` evaluates to
+-- another outcome
 pub record DiffersIn (m : ValidationMode) (b : Basis) (t : Ty) (world : World) (e : Shape) :
     Type 0 where
   pub mode : b.mode ≡ m
@@ -51,7 +52,7 @@ pub record DiffersIn (m : ValidationMode) (b : Basis) (t : Ty) (world : World) (
 
 -- ---- external types
 
--- `Guest::"g".hasTag("role") && false`, of an external type: the left side, which is true, stands for
+-- `Guest::"g".hasTag("role") && false`, of an external type. The left side, which is true, stands for
 -- the whole
 pub record ClosedSchemaIsNeededIn (m : ValidationMode) : Type 0 where
   pub faultless : has_fault (guest_basis m).schema ≡ false
@@ -61,7 +62,7 @@ pub record ClosedSchemaIsNeededIn (m : ValidationMode) : Type 0 where
 
 -- ---- a fault of the schema
 
--- `Action::"meet"`, once without descendants, and once more with greet
+-- `Action::"meet"`, declared once without descendants, and once more with greet
 abbrev pub meet_twice : Schema
 meet_twice = record {
   types = declared_user ∷ [];
@@ -99,7 +100,8 @@ pub record FormIsNeededForCopies : Type 0 where
 
 -- ---- a fault of the table, in Permissive
 
--- a function that is said to give a record with two attributes of one name, and gives nothing
+-- a function of which the table says that it gives a record with two attributes of one name, and
+-- which gives nothing
 abbrev pub twice : Path
 twice = named (codes "twice")
 
@@ -116,7 +118,8 @@ without_calls = record meeting {
   functions = record { calls = []; overloaded_types = []; less = []; less_or_equal = [] };
 }
 
--- `(if resource has vip then twice() else {a: 1, b: 2}) has b && false`, and bob has no mark
+-- `(if resource has vip then twice() else {a: 1, b: 2}) has b && false`, in a world in which bob has
+-- no mark
 abbrev pub made_has_b : Shape
 made_has_b =
     has
@@ -131,7 +134,7 @@ pub record FaultlessTableIsNeeded : Type 0 where
   pub faulty : table_fault faulty_table_basis.table.functions ≡ Some BadReturnType
   pub differs : DiffersIn Permissive faulty_table_basis a_context without_calls made_has_b
 
--- ---- all of them
+-- ---- all of these premises
 
 pub record CopyPremisesAreNeededIn (m : ValidationMode) : Type 0 where
   pub closed : ClosedSchemaIsNeededIn m

@@ -1,5 +1,4 @@
--- What evaluation comes to for small expressions: examples of each form and of each kind of
--- failure.
+-- Computed outcomes of small expressions: examples of each form and of each kind of failure.
 pub mod Leaves
 pub mod Operators
 pub mod Entities
@@ -16,18 +15,18 @@ use Rattle.cedar_typing.specs.Examples.Greeting.{greeting}
 abbrev pub Yields : Shape → Value → Type 0
 Yields e v = eval greeting e ≡ Gives v
 
--- it is true, it is false
+-- e evaluates to true, or to false
 abbrev pub YieldsTrue : Shape → Type 0
 YieldsTrue e = Yields e (VBool true)
 
 abbrev pub YieldsFalse : Shape → Type 0
 YieldsFalse e = Yields e (VBool false)
 
--- each of these evaluates to what stands beside it
+-- each of these expressions has the outcome beside it
 abbrev pub AllComeTo : List (Shape × Outcome) → Type 0
 AllComeTo xs =
     map (λ (x : Shape × Outcome). eval greeting x.0) xs ≡ map (λ (x : Shape × Outcome). x.1) xs
 
--- it has no value, for that failure
+-- e has no value, for this failure
 abbrev pub FailsAs : Shape → Failure → Type 0
 FailsAs e f = eval greeting e ≡ Fails f

@@ -1,5 +1,5 @@
--- Short names for the expressions of the examples. An expression is written as its form alone;
--- where it is typed, its nodes stand at the places 1, 2 and so on, in the order in which they are
+-- Short names for the expressions of the examples. An expression is written as its form alone; when
+-- it is typed, its nodes stand at the places 1, 2 and so on, in the order in which they are
 -- written.
 use Rattle.std.specs.Prelude.{ℕ, ◌+◌, ℤ, pos, neg_ℤ, Bool, true, false, List, [], ◌∷◌, Some, codes}
 use Rattle.cedar_types.specs.declared.base.expressions.operators.Var.{Var}
@@ -83,7 +83,7 @@ get_vip = dot principal (codes "vip")
 abbrev pub get_boss : Shape
 get_boss = dot principal (codes "boss")
 
--- `principal.rank`, which no user has
+-- `principal.rank`, an attribute that no user has
 abbrev pub get_rank : Shape
 get_rank = dot principal (codes "rank")
 
@@ -91,7 +91,7 @@ get_rank = dot principal (codes "rank")
 abbrev pub has_friend : Shape
 has_friend = has context (codes "friend")
 
--- `if context has friend then false else true`, which is False, and says that there is a friend
+-- `if context has friend then false else true`, which is False, and produces that there is a friend
 abbrev pub false_with_friend : Shape
 false_with_friend = if_then_else tt has_friend false_lit true_lit
 
@@ -206,7 +206,7 @@ abbrev pub node : ℕ → Written
 node n = record { place = Some (record { start = n; end = n }); names = no_name }
 
 abbrev mutual
-  -- how many nodes there are
+  -- the number of nodes of an expression
   pub size : Shape → ℕ
   size (lit m x) = 1
   size (var m x) = 1

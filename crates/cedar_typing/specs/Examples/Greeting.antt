@@ -1,4 +1,4 @@
--- What the expressions of the computed examples are evaluated in.
+-- The world in which the expressions of the computed examples are evaluated.
 use Rattle.std.specs.Prelude.{ℤ, pos, true, List, [], ◌∷◌, Some, None, codes}
 use Rattle.cedar_types.specs.declared.base.names.slots.SlotId.{SlotId}
 use Rattle.cedar_types.specs.Names.{Text, Path, Uid}
@@ -26,7 +26,7 @@ two_values v w = more_values v (one_value w)
 abbrev pub a_decimal : Text → Value
 a_decimal t = VExtension decimal t
 
--- ---- what expressions are evaluated in
+-- ---- the parts of the world
 
 -- alice is in bob, is 30, has bob as her boss, lives in Bern, and has the mark and the tag `role`
 abbrev pub stored_alice : Entity
@@ -49,7 +49,7 @@ stored_bob = record {
   tags = no_entries;
 }
 
--- of an action nothing is stored but its ancestors
+-- an action has nothing in the store but its ancestors
 abbrev pub stored_action : List Uid → Entity
 stored_action us = record { attributes = no_entries; ancestors = us; tags = no_entries }
 
@@ -67,16 +67,16 @@ abbrev pub sample_slots : Slots
 sample_slots SlotId.Principal = None
 sample_slots SlotId.Resource = Some bob
 
--- a call of a function, and what it gives
+-- a call of a function, and its value
 abbrev pub giving : Path → Values → Value → Call
 giving f vs v = record { function = f; arguments = vs; value = v }
 
--- a call of `decimal` with one argument, and the decimal of the text t
+-- a call of `decimal` with one argument, whose value is the decimal of the text t
 abbrev pub decimal_call : Value → Text → Call
 decimal_call v t = giving decimal (one_value v) (a_decimal t)
 
--- `decimal` knows two texts, one of them twice, and one set of numbers; each other function knows one
--- call; of 1.0 and 2.0 it is known how they compare
+-- `decimal` knows two texts, one of them twice, and one set of numbers. Each other function knows one
+-- call. The order of 1.0 and 2.0 is known
 abbrev pub sample_functions : Interpretation
 sample_functions = record {
   calls =
@@ -97,7 +97,7 @@ sample_functions = record {
       ∷ [];
 }
 
--- who asks to do what with what, in which context
+-- a request: a principal, an action, a resource and a context
 abbrev pub asks : Uid → Uid → Uid → Entries → Request
 asks p a r c = record { principal = p; action = a; resource = r; context = c }
 

@@ -1,4 +1,4 @@
--- What leaves and tests come to.
+-- Computed outcomes of expressions without parts, of sets and records, and of tests.
 use Rattle.std.specs.Prelude.{pos, Bool, true, false, not, List, [], ◌∷◌, codes}
 use Rattle.cedar_types.specs.declared.base.expressions.operators.Var.{Var}
 use Rattle.cedar_types.specs.declared.base.expressions.operators.UnaryOp.{UnaryOp}
@@ -31,9 +31,9 @@ pub record LeafExamples : Type 0 where
   pub context : Yields context
       (VRecord (more_entries (codes "address") (VExtension ip_address (codes "::1"))
       (more_entries (codes "friend") (VEntity gone) no_entries)))
-  -- `?resource`, which is bound
+  -- `?resource`, which is bound to bob
   pub slot_bound : Yields (slot tt SlotId.Resource) (VEntity bob)
-  -- `?principal`, which is not
+  -- `?principal`, which is not bound
   pub slot_unlinked : FailsAs (slot tt SlotId.Principal) UnlinkedSlot
   -- `unknown(x)`
   pub unknown_fails : FailsAs (unknown tt (named (codes "x"))) UnknownValue
@@ -52,7 +52,7 @@ pub record LeafExamples : Type 0 where
   pub record_of_two : Yields (record2 (codes "a") one (codes "b") (text (codes "x")))
       (VRecord (more_entries (codes "a") (number (pos 1))
       (more_entries (codes "b") (words (codes "x")) no_entries)))
-  -- `{a: User::"gone".age, b: 1 + true}`: by key, the first failure is the outcome
+  -- `{a: User::"gone".age, b: 1 + true}`: the first failure by key is the outcome
   pub record_first_failure : FailsAs (record2 (codes "a") missing (codes "b") mistyped)
       MissingEntity
   -- `{a: 1 + true, b: User::"gone".age}`
@@ -60,7 +60,8 @@ pub record LeafExamples : Type 0 where
   -- `{a: 1, b: 1 + true}`
   pub record_later_failure : FailsAs (record2 (codes "a") one (codes "b") mistyped) TypeFailure
 
--- `&&`, which False ends, and `||`, which True ends: b is what ends it
+-- the outcomes of `&&`, which false ends, and of `||`, which true ends: b is the value that ends
+-- the whole
 abbrev pub ended_by : (Shape → Shape → Shape) → Bool → List (Shape × Outcome)
 ended_by join b =
     -- `true && true`, `false || false`
@@ -73,7 +74,7 @@ ended_by join b =
     ∷ (join (lit_of (not b)) one, Fails TypeFailure)
     -- `true && User::"gone".age`, `false || User::"gone".age`
     ∷ (join (lit_of (not b)) missing, Fails MissingEntity)
-    -- `1 && User::"gone".age`, `1 || User::"gone".age`: the left side is looked at first
+    -- `1 && User::"gone".age`, `1 || User::"gone".age`: the left side is evaluated first
     ∷ (join one missing, Fails TypeFailure)
     -- `User::"gone".age && false`, `User::"gone".age || true`
     ∷ (join missing (lit_of b), Fails MissingEntity)
@@ -86,7 +87,7 @@ pub record TestExamples : Type 0 where
   pub if_false : Yields (if_then_else tt false_lit missing two) (number (pos 2))
   -- `if true then User::"gone".age else 2`
   pub if_taken_fails : FailsAs (if_then_else tt true_lit missing two) MissingEntity
-  -- `if 1 then User::"gone".age else User::"gone".age`: the test is looked at first
+  -- `if 1 then User::"gone".age else User::"gone".age`: the test is evaluated first
   pub if_not_bool : FailsAs (if_then_else tt one missing missing) TypeFailure
   -- `if User::"gone".age then 1 else 2`
   pub if_test_fails : FailsAs (if_then_else tt missing one two) MissingEntity

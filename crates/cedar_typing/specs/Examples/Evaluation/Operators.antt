@@ -1,4 +1,4 @@
--- What operators on numbers, on any values and on sets come to.
+-- Computed outcomes of operators on numbers, on any values and on sets.
 use Rattle.std.specs.Prelude.{pos, neg_ℤ, [], codes}
 use Rattle.cedar_types.specs.declared.base.expressions.operators.UnaryOp.{UnaryOp}
 use Rattle.cedar_types.specs.declared.base.expressions.operators.BinaryOp.{BinaryOp}
@@ -16,13 +16,13 @@ pub record NumberExamples : Type 0 where
   pub negated : Yields (unary tt UnaryOp.Neg one) (number (neg_ℤ (pos 1)))
   -- `-(9223372036854775807)`
   pub negated_greatest : Yields (unary tt UnaryOp.Neg (num greatest)) (number (neg_ℤ greatest))
-  -- `-(-9223372036854775808)`: one too great
+  -- `-(-9223372036854775808)`: the result is one too great
   pub negated_least : FailsAs (unary tt UnaryOp.Neg (num least)) Overflow
   -- `-("a")`
   pub negated_text : FailsAs (unary tt UnaryOp.Neg (text (codes "a"))) TypeFailure
   -- `1 + 2`
   pub added : Yields (binary tt BinaryOp.Add one two) (number (pos 3))
-  -- `9223372036854775806 + 1`: the greatest is a value
+  -- `9223372036854775806 + 1`: the greatest number is a value
   pub added_greatest : Yields (binary tt BinaryOp.Add (num (pos 9223372036854775806)) one)
       (number greatest)
   -- `9223372036854775807 + 1`
@@ -34,7 +34,7 @@ pub record NumberExamples : Type 0 where
   pub added_left_text : FailsAs (binary tt BinaryOp.Add (text (codes "a")) one) TypeFailure
   -- `1 - 3`
   pub subtracted : Yields (binary tt BinaryOp.Sub one three) (number (neg_ℤ (pos 2)))
-  -- `-9223372036854775807 - 1`: the least is a value
+  -- `-9223372036854775807 - 1`: the least number is a value
   pub subtracted_least : Yields (binary tt BinaryOp.Sub (num (neg_ℤ greatest)) one) (number least)
   -- `-9223372036854775808 - 1`
   pub subtracted_overflow : FailsAs (binary tt BinaryOp.Sub (num least) one) Overflow
@@ -44,7 +44,7 @@ pub record NumberExamples : Type 0 where
   -- `-2 * 3`
   pub multiplied : Yields (binary tt BinaryOp.Mul (num (neg_ℤ (pos 2))) three)
       (number (neg_ℤ (pos 6)))
-  -- `4611686018427387904 * -2`: the least is a value
+  -- `4611686018427387904 * -2`: the least number is a value
   pub multiplied_least : Yields
       (binary tt BinaryOp.Mul (num (pos 4611686018427387904)) (num (neg_ℤ (pos 2)))) (number least)
   -- `4611686018427387904 * 2`
@@ -74,14 +74,15 @@ pub record NumberExamples : Type 0 where
   pub at_most_decimal : YieldsTrue (binary tt BinaryOp.LessEq decimal_one decimal_one)
   -- `decimal("2.0") <= decimal("1.0")`
   pub at_most_decimal_back : YieldsFalse (binary tt BinaryOp.LessEq decimal_two decimal_one)
-  -- `duration(decimal("1.0"), 1) <= duration(decimal("1.0"), 1)`: a type that is compared, of which
-  -- no pair is listed
+  -- `duration(decimal("1.0"), 1) <= duration(decimal("1.0"), 1)`: durations are compared, and no
+  -- pair of them is listed
   pub at_most_duration : YieldsFalse (binary tt BinaryOp.LessEq a_duration a_duration)
-  -- `context.address < context.address`: a type that is not compared
+  -- `context.address < context.address`: addresses are not compared
   pub less_address : FailsAs
       (binary tt BinaryOp.Less (dot context (codes "address")) (dot context (codes "address")))
       TypeFailure
   -- `decimal("1.0") <= context.address`, `decimal("1.0") < duration(decimal("1.0"), 1)`: two types
+  -- are not compared with one another
   pub at_most_two_types : FailsAs
       (binary tt BinaryOp.LessEq decimal_one (dot context (codes "address"))) TypeFailure
   pub less_two_types : FailsAs (binary tt BinaryOp.Less decimal_one a_duration) TypeFailure
@@ -106,15 +107,15 @@ pub record EqualityExamples : Type 0 where
   -- `principal == User::"alice"`, `principal == User::"bob"`
   pub entity_equal : YieldsTrue (binary tt BinaryOp.Eq principal (the alice))
   pub entity_other : YieldsFalse (binary tt BinaryOp.Eq principal (the bob))
-  -- `User::"bob" == Group::"bob"`: another type
+  -- `User::"bob" == Group::"bob"`: the types differ
   pub entity_other_type : YieldsFalse
       (binary tt BinaryOp.Eq (the bob) (the (record { entity_type = group; eid = codes "bob" })))
-  -- `[1, 2] == [2, 1, 1]`: another order, and a repeat
+  -- `[1, 2] == [2, 1, 1]`: neither order nor repeats count
   pub set_equal : YieldsTrue (binary tt BinaryOp.Eq (set2 one two) (set3 two one one))
   -- `[1] == [1, 2]`, `[1, 2] == [1]`
   pub set_fewer : YieldsFalse (binary tt BinaryOp.Eq (set1 one) (set2 one two))
   pub set_more : YieldsFalse (binary tt BinaryOp.Eq (set2 one two) (set1 one))
-  -- `[[1, 2], [3]] == [[3, 3], [2, 1]]`: members are compared so too
+  -- `[[1, 2], [3]] == [[3, 3], [2, 1]]`: members are compared as sets too
   pub set_of_sets : YieldsTrue
       (binary tt BinaryOp.Eq (set2 (set2 one two) (set1 three))
       (set2 (set2 three three) (set2 two one)))
@@ -122,7 +123,7 @@ pub record EqualityExamples : Type 0 where
   pub record_equal : YieldsTrue
       (binary tt BinaryOp.Eq (record2 (codes "a") one (codes "b") (set2 one two))
       (record2 (codes "a") one (codes "b") (set2 two one)))
-  -- `{a: 1, b: 2} == {b: 2, a: 1}`: by key, in whatever order
+  -- `{a: 1, b: 2} == {b: 2, a: 1}`: the order of keys does not count
   pub record_order : YieldsTrue
       (binary tt BinaryOp.Eq (record2 (codes "a") one (codes "b") two)
       (record2 (codes "b") two (codes "a") one))
@@ -143,9 +144,10 @@ pub record EqualityExamples : Type 0 where
   pub extension_other_type : YieldsFalse
       (binary tt BinaryOp.Eq decimal_one (dot context (codes "address")))
   pub extension_and_text : YieldsFalse (binary tt BinaryOp.Eq decimal_one (text (codes "1.0")))
-  -- `decimal("2.0") == duration(decimal("1.0"), 1)`: two types, and one text, which is `2.0`
+  -- `decimal("2.0") == duration(decimal("1.0"), 1)`: the types differ, though both have the text
+  -- `2.0`
   pub extension_same_text : YieldsFalse (binary tt BinaryOp.Eq decimal_two a_duration)
-  -- `1 == "1"`, `[] == {}`, `[1] == 1`: kinds that differ are no failure
+  -- `1 == "1"`, `[] == {}`, `[1] == 1`: values of different kinds are unequal, which is no failure
   pub other_kind : YieldsFalse (binary tt BinaryOp.Eq one (text (codes "1")))
   pub set_and_record : YieldsFalse (binary tt BinaryOp.Eq set0 (record_of tt no_fields))
   pub set_and_member : YieldsFalse (binary tt BinaryOp.Eq (set1 one) one)
@@ -165,9 +167,9 @@ pub record SetExamples : Type 0 where
   -- `[1, 2].contains(2)`, `[1, 2].contains(3)`
   pub contains : YieldsTrue (binary tt BinaryOp.Contains (set2 one two) two)
   pub contains_not : YieldsFalse (binary tt BinaryOp.Contains (set2 one two) three)
-  -- `[[1, 2]].contains([2, 1])`: a set as a member
+  -- `[[1, 2]].contains([2, 1])`: a set may be a member
   pub contains_set : YieldsTrue (binary tt BinaryOp.Contains (set1 (set2 one two)) (set2 two one))
-  -- `[1, 2].contains([1])`: a set is no member of itself
+  -- `[1, 2].contains([1])`: a part of a set is no member of it
   pub contains_part : YieldsFalse (binary tt BinaryOp.Contains (set2 one two) (set1 one))
   -- `1.contains(1)`
   pub contains_of_long : FailsAs (binary tt BinaryOp.Contains one one) TypeFailure
