@@ -1,7 +1,7 @@
--- What the premises leave open, of requests, of stores and of scopes. In one world alice visits
--- herself; her request comes with sets; no slot is bound; and the store has two entries of her, of
--- which the second fits nothing. In another the resource is an action, and nothing is stored of the
--- principal. Still all premises of the promises on a policy hold.
+-- Cases that the premises leave open, of requests, of stores and of scopes. In one world alice
+-- visits herself; her request comes with sets; no slot is bound; and the store has two entries for
+-- her, of which the second fits nothing. In another the resource is an action, and the principal is
+-- not stored. Still all premises of the promises on a policy hold.
 use Rattle.std.specs.Prelude.{◌≡◌, true, false, List, [], ◌∷◌, Some, None, codes}
 use Rattle.cedar_types.specs.declared.base.names.slots.SlotId.{SlotId}
 use Rattle.cedar_types.specs.declared.base.types.BoolType.TheVariants.{AnyBool}
@@ -26,7 +26,7 @@ use Rattle.cedar_typing.specs.Examples.PolicySoundness.{sample_basis, Passes}
 use Rattle.cedar_typing.specs.Examples.World.{user, alice, bob, gone, an_action_named, a_user, standard_type, requested, with_action}
 use Rattle.cedar_typing.specs.Soundness.Policies.{Basis, IsClosedIn, IsNamedBySchema, IsWellFormed, IsConforming}
 
--- every premise of what is promised of a policy that passes, in a mode
+-- every premise of the promises on a policy that passes, in a mode
 pub record AllHoldIn (m : ValidationMode) (b : Basis) (t : PlainTemplate) (world : World) : Type 0 where
   pub faultless : has_fault b.schema ≡ false
   pub formed : has_formed_types b.schema ≡ true
@@ -67,13 +67,13 @@ declared_visit = requested visit (user ∷ []) (user ∷ visit.entity_type ∷ [
 abbrev pub visit_schema : Schema
 visit_schema = with_action (declared_visitor ∷ declared_team ∷ []) declared_visit
 
--- with the sample functions, in a mode
+-- the basis of this schema and the sample functions, in a mode
 abbrev pub visit_basis : ValidationMode → Basis
 visit_basis m = record (sample_basis m) { schema = visit_schema }
 
 -- ---- the worlds
 
--- an active user, who is in these
+-- an active user, in these entities
 abbrev pub active_in : List Uid → Entity
 active_in us = record {
   attributes = more_entries (codes "active") (VBool true) no_entries;
@@ -85,7 +85,7 @@ active_in us = record {
 abbrev pub stored_alice : Entity
 stored_alice = active_in (staff ∷ [])
 
--- what no user may have
+-- attributes that no user may have
 abbrev pub unread : Entity
 unread = record {
   attributes = more_entries (codes "active") (words (codes "yes")) no_entries;
@@ -136,27 +136,27 @@ is_new =
     (dot principal (codes "active")))
 
 -- `permit(principal, action == Action::"visit", resource is User in Team::"staff") when { .. }` with
--- that
+-- this condition
 abbrev pub users_visit : PlainTemplate
 users_visit =
     record (template any (typed_within a_user_type (to_entity (the_entity staff))) (Some is_new)) {
       action = equal_action (the_entity visit);
     }
 
--- `permit(principal, action, resource == Action::"visit") when { .. }` with that
+-- `permit(principal, action, resource == Action::"visit") when { .. }` with this condition
 abbrev pub action_is_visited : PlainTemplate
 action_is_visited = template any (equal (to_entity (the_entity visit))) (Some is_new)
 
 -- ---- all premises hold together
 
 pub record PremisesLeaveOpenIn (m : ValidationMode) : Type 0 where
-  -- where the principal is the resource, no slot is bound, and of two entries the first counts
+  -- the principal is the resource, no slot is bound, and of two entries the first counts
   pub herself : AllHoldIn m (visit_basis m) users_visit visiting
   pub same : visiting.request.principal ≡ visiting.request.resource
   pub unbound : (x : SlotId) → visiting.slots x ≡ None
   pub first : entity_at visiting.store alice ≡ Some stored_alice
   pub evaluates : eval visiting (condition_of users_visit) ≡ Gives (VBool true)
-  -- where the resource is an action, and nothing is stored of the principal
+  -- the resource is an action, and the principal is not stored
   pub an_action : AllHoldIn m (visit_basis m) action_is_visited visiting_an_action
   pub acted_on : is_action_path visiting_an_action.request.resource.entity_type ≡ true
   pub not_stored : entity_at visiting_an_action.store visiting_an_action.request.principal ≡ None

@@ -1,5 +1,5 @@
--- Each premise of the promises on a policy is needed, in Strict and in Permissive: policies that
--- pass and go wrong, or that are warned to be impossible and are true. Of each, all premises hold
+-- Each premise of the promises on a policy is needed, in Strict and in Permissive: policies that pass
+-- and go wrong, or that are warned to be impossible and are true. In each example all premises hold
 -- but the one that is named, and the promise is broken.
 use Rattle.std.specs.Prelude.{◌≡◌, pos, true, false, [], ◌∷◌, Some, None, codes}
 use Rattle.cedar_types.specs.declared.base.expressions.operators.Var.{Var}
@@ -31,17 +31,17 @@ use Rattle.cedar_typing.specs.Silence.{HasNoUnknowns}
 use Rattle.cedar_typing.specs.Soundness.PolicyCheck.{IsBooleanOrAllowed}
 use Rattle.cedar_typing.specs.Soundness.{IsTrueOutcome}
 
--- what is asked of the checker and of the world, in a mode
+-- the premises on the checker and on the world, in a mode
 pub record IsAsAskedIn (m : ValidationMode) (world : World) : Type 0 where
   pub basis : IsClosedIn m (sample_basis m)
   pub conforming : IsConforming (sample_basis m) world
 
--- the outcome of the policy's condition is what a policy that passes never has
+-- the condition's outcome is one that no policy that passes may have
 abbrev pub BreaksPromise : World → PlainTemplate → Type 0
 BreaksPromise world t = IsBooleanOrAllowed (eval world (condition_of t)) → ⊥
 
--- a policy that passes in a mode, as it is said, and goes wrong in a world by this failure; of it, of
--- the mode and of the schema all holds
+-- a policy that passes in a mode, and goes wrong in a world by this failure, though all else that is
+-- asked of it, of the mode and of the schema holds
 pub record GoesWrongIn (m : ValidationMode) (Passing : Basis → PlainTemplate → Type 0)
     (t : PlainTemplate) (world : World) (f : Failure) : Type 0 where
   pub basis : IsClosedIn m (sample_basis m)
@@ -54,7 +54,7 @@ pub record GoesWrongIn (m : ValidationMode) (Passing : Basis → PlainTemplate �
 -- ---- names and unknowns
 
 -- `(Group::"a" < 1) && false` and `(Action::"wave" < 1) && false`, of a type and of an action that
--- the schema does not have: what has no type is no error of its own, and the whole is False
+-- the schema does not have. A part without a type adds no error, and the whole is False
 abbrev pub of_unknown_type : PlainTemplate
 of_unknown_type =
     policy_when
@@ -106,11 +106,12 @@ pub record SlotsInTheRestGoWrongIn (m : ValidationMode) : Type 0 where
   pub bound : SlotsBound robot_greeting.slots (condition_of slot_in_rest)
   pub wrong : eval robot_greeting (condition_of slot_in_rest) ≡ Fails TypeFailure
   pub broken : BreaksPromise robot_greeting slot_in_rest
-  -- and with `?principal is Robot || ?resource is Robot` it is true, warned as it is
+  -- with `?principal is Robot || ?resource is Robot` the policy is true, though it is warned to be
+  -- impossible
   pub warned : PassesWarned (sample_basis m) robots_template
   pub is_true : IsTrueOutcome (eval robot_greeting (condition_of robots_template))
 
--- `permit(principal == ?principal, action, resource)`, and the slot is not bound
+-- `permit(principal == ?principal, action, resource)`, with a slot that is not bound
 abbrev pub equal_to_slot : PlainTemplate
 equal_to_slot = template (equal to_slot) any None
 
@@ -125,7 +126,7 @@ pub record UnboundSlotsGoWrongIn (m : ValidationMode) : Type 0 where
 
 -- ---- requests, stores and functions
 
--- `principal is Robot && 1 + true`, and a robot greets
+-- `principal is Robot && 1 + true`, in a world in which a robot greets
 abbrev pub robots_only : PlainTemplate
 robots_only = policy_when (and tt (is_type tt principal robot) mistyped)
 
@@ -141,7 +142,7 @@ pub record RequestsMustConformIn (m : ValidationMode) : Type 0 where
   pub store : ConformingStore sample_schema a_robot_greets.store
   pub functions : KeepsTable (sample_basis m).table a_robot_greets.functions
 
--- `principal.age < 1`, and alice's age is a text
+-- `principal.age < 1`, in a world in which alice's age is a text
 abbrev pub young : PlainTemplate
 young = policy_when (less (dot principal (codes "age")) one)
 
@@ -161,7 +162,7 @@ pub record StoresMustConformIn (m : ValidationMode) : Type 0 where
   pub request : ConformingRequest sample_schema age_in_words.request
   pub functions : KeepsTable (sample_basis m).table age_in_words.functions
 
--- `decimal("1.0") < decimal("2.0")`, where the first of the two is a number
+-- `decimal("1.0") < decimal("2.0")`, with an interpretation in which the first value is a number
 abbrev pub decimals_in_order : PlainTemplate
 decimals_in_order = policy_when (less decimal_one decimal_two)
 
@@ -179,7 +180,7 @@ pub record FunctionsMustKeepTheTableIn (m : ValidationMode) : Type 0 where
 
 -- ---- external types
 
--- users greet users, and of guests nothing is known
+-- users greet users, and guests are external, so nothing is known of them
 abbrev pub guest : Path
 guest = named (codes "Guest")
 
@@ -209,7 +210,7 @@ guest_greeting = record meeting {
       ∷ [];
 }
 
--- `Guest::"g".hasTag("role")`, which is False, and the same with `&& 1 + true`
+-- `Guest::"g".hasTag("role")`, which is False, and that expression with `&& 1 + true`
 abbrev pub guest_has_role : Shape
 guest_has_role = has_tag (the a_guest) (text (codes "role"))
 
@@ -226,13 +227,13 @@ pub record ExternalTypesGoWrongIn (m : ValidationMode) : Type 0 where
   pub well_formed : IsWellFormed guest_goes_wrong guest_greeting.slots
   pub wrong : eval guest_greeting (condition_of guest_goes_wrong) ≡ Fails TypeFailure
   pub broken : BreaksPromise guest_greeting guest_goes_wrong
-  -- and the first alone is true, warned as it is
+  -- the first alone is true, though it is warned to be impossible
   pub warned : PassesWarned (guest_basis m) (policy_when guest_has_role)
   pub is_true : IsTrueOutcome (eval guest_greeting (condition_of (policy_when guest_has_role)))
 
 -- ---- the mode
 
--- `(if resource has vip then {a: 1} else {b: true}).a < 2`, and bob has no mark
+-- `(if resource has vip then {a: 1} else {b: true}).a < 2`, in a world in which bob has no mark
 abbrev pub attribute_of_one : PlainTemplate
 attribute_of_one =
     policy_when
@@ -247,7 +248,7 @@ pub record PartialGoesWrong : Type 0 where
   pub goes_wrong : GoesWrongIn Partial Passes attribute_of_one meeting AbsentAttribute
   pub conforming : IsConforming (sample_basis Partial) meeting
 
--- ---- all of them
+-- ---- all of these premises
 
 pub record PremisesAreNeededIn (m : ValidationMode) : Type 0 where
   pub names : NamesMustBeKnownIn m

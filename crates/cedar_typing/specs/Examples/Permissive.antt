@@ -1,6 +1,6 @@
 -- Permissive, which unites sets of entity types and joins records by width: a schema, a policy and a
--- world for which every premise holds; a bound of records that is none; and that names in the types of
--- the schema have to ascend.
+-- world for which every premise holds; a join of records that would be wrong; and an example that names
+-- in the types of the schema must ascend.
 use Rattle.std.specs.Prelude.{◌≡◌, ◌&&◌, pos, true, false, Bool, [], ◌∷◌, Option, Some, None, codes}
 use Rattle.cedar_types.specs.declared.base.expressions.operators.Var.{Var}
 use Rattle.cedar_types.specs.declared.base.types.BoolType.TheVariants.{AnyBool}
@@ -85,7 +85,7 @@ led_by_bob b ts = record {
   tags = ts;
 }
 
--- alice is an admin, has bob as her lead, and the tag `role`; bob is none, and his own lead
+-- alice is an admin, has bob as her lead, and the tag `role`; bob is no admin, and his own lead
 abbrev pub member_alice : Entity
 member_alice = led_by_bob true (more_entries (codes "role") (words (codes "owner")) no_entries)
 
@@ -95,7 +95,7 @@ member_bob = led_by_bob false no_entries
 abbrev pub team_store : Store
 team_store = (alice, member_alice) ∷ (bob, member_bob) ∷ (join, stored_action []) ∷ []
 
--- alice joins the staff, of which nothing is stored
+-- alice joins the staff, which is not stored
 abbrev pub joining : World
 joining = record meeting {
   request = asks alice join staff no_entries;
@@ -108,7 +108,7 @@ joining = record meeting {
 abbrev pub if_admin : Shape → Shape → Shape
 if_admin a b = if_then_else tt (dot principal (codes "admin")) a b
 
--- `if principal.admin then principal else resource`, of a user or a team
+-- `if principal.admin then principal else resource`, whose value is a user or a team
 abbrev pub either : Shape
 either = if_admin principal (var tt Var.Resource)
 
@@ -131,12 +131,13 @@ owns =
 abbrev pub owners : PlainTemplate
 owners = policy_when (and tt same_lead (and tt joined_record owns))
 
--- its check, in a mode
+-- the check of this policy, in a mode
 abbrev pub joins_check : ValidationMode → Verdict
 joins_check m =
     policy_check (setting_on (team_basis m) owners.id joins) (condition_of owners)
 
--- all hold, of type soundness and of both promises, and evaluation gives true; Strict refuses the policy
+-- all premises hold, of type soundness and of both promises, and evaluation gives true. Strict refuses
+-- the policy
 pub record PermissivePremisesAreMet : Type 0 where
   pub faultless : has_fault team_schema ≡ false
   pub formed : has_formed_types team_schema ≡ true
@@ -153,7 +154,8 @@ pub record PermissivePremisesAreMet : Type 0 where
 
 -- ---- a wrong bound
 
--- an attribute of the left side, which is kept and required where the right side lacks it
+-- a wrong bound of records: it keeps an attribute of the left side as required, even if the right side
+-- lacks it
 abbrev pub with_left : Text → Ty → Option (Ty × Bool) → (Ty → Option Ty) → Bool → Attrs → Attrs
 with_left k s None bound r zs = attr k s true zs
 with_left k s (Some a) bound r zs = with_bound k (bound a.0) (r && a.1) zs
@@ -169,14 +171,14 @@ wrong_bound xs ys = wide_lub xs false ys false (wrong_attrs Permissive xs ys)
 abbrev pub with_a : Attrs
 with_a = attr (codes "a") TLong true no_attrs
 
--- the empty record is of the right type, and not of that bound
+-- the empty record is of the right type, and not of the wrong bound
 pub record WrongBoundIsRefuted : Type 0 where
   pub has : HasType (TRecord no_attrs false) (VRecord no_entries)
   pub lacks : HasType (wrong_bound with_a no_attrs) (VRecord no_entries) → ⊥
 
--- ---- that names ascend is needed
+-- ---- names must ascend
 
--- two attributes of one name, which no schema of the program has, and two of different names
+-- two attributes of one name, as in no schema of the program, and two of different names
 abbrev pub twice_a : Attrs
 twice_a = attr (codes "a") TLong true with_a
 
@@ -214,7 +216,7 @@ twice_greeting = record meeting {
 }
 
 -- `(if resource has vip then context.twice else context.both) has b`: the bound of both records is
--- closed, since their numbers of attributes agree, and has no `b`
+-- closed, because they have equally many attributes, and it has no `b`
 abbrev pub either_has_b : Shape
 either_has_b =
     has
@@ -222,11 +224,11 @@ either_has_b =
     (dot context (codes "both")))
     (codes "b")
 
--- that, and `1 + true`
+-- `1 + true` behind that expression
 abbrev pub has_b_goes_wrong : PlainTemplate
 has_b_goes_wrong = policy_when (and tt either_has_b mistyped)
 
--- all premises hold but that one, and the policy goes wrong
+-- all premises hold but that names ascend, and the policy goes wrong
 pub record FormIsNeeded : Type 0 where
   pub faultless : has_fault twice_schema ≡ false
   pub unformed : has_formed_types twice_schema ≡ false

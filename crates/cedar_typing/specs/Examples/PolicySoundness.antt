@@ -19,11 +19,11 @@ use Rattle.cedar_typing.specs.Setting.{table}
 abbrev pub sample_basis : ValidationMode → Basis
 sample_basis m = record { schema = sample_schema; mode = m; table = table (sample m) }
 
--- the check of the policy says that it passes, and adds nothing
+-- the check of the policy passes, and adds nothing
 abbrev pub Passes : Basis → PlainTemplate → Type 0
 Passes b t = CheckedOn b t true [] [] [] []
 
--- it says that it passes, and warns that it is impossible
+-- the check of the policy passes, and warns that the policy is impossible
 abbrev pub PassesWarned : Basis → PlainTemplate → Type 0
 PassesWarned b t = CheckedOn b t true [] [] [] (impossible t ∷ [])
 
@@ -39,7 +39,7 @@ meeting_template =
       action = within_actions (the_entity meet ∷ []);
     }
 
--- the slots are bound to bob, in whom alice is
+-- the slots are bound to bob, above alice
 abbrev pub meeting_slots : Slots
 meeting_slots x = Some bob
 

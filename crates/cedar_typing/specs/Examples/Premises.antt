@@ -1,4 +1,4 @@
--- A policy and a world for which every premise of type soundness holds, and data of which one does
+-- A policy and a world for which every premise of type soundness holds, and data for which one does
 -- not.
 use Rattle.std.specs.Prelude.{◌≡◌, pos, true, false, List, [], ◌∷◌, Some, None, codes}
 use Rattle.cedar_types.specs.declared.base.expressions.operators.UnaryOp.{UnaryOp}
@@ -38,7 +38,7 @@ guarded =
     if_then_else tt (has (slot tt SlotId.Resource) (codes "age"))
     (or tt (and tt has_vip (and tt get_vip in_order)) (unary tt UnaryOp.Not has_vip)) false_lit
 
--- `permit(principal, action, resource) when { .. }` with that
+-- `permit(principal, action, resource) when { .. }` with this condition
 abbrev pub guarded_policy : PlainTemplate
 guarded_policy = template any any (Some guarded)
 
@@ -49,7 +49,7 @@ guarded_condition = condition_of guarded_policy
 abbrev pub friends_age : Source
 friends_age = numbered (dot (dot context (codes "friend")) (codes "age"))
 
--- the extension functions where `decimal("1.0")` is 1, and where these types are compared
+-- the extension functions with a `decimal("1.0")` that is 1, and with these types compared
 abbrev pub giving_a_number : Interpretation
 giving_a_number = record sample_functions {
   calls = giving decimal (one_value (words (codes "1.0"))) (number (pos 1)) ∷ [];
@@ -69,14 +69,14 @@ pub record PremisesAreMet : Type 0 where
   pub request : ConformingRequest sample_schema greeting.request
   pub world : IsWorldOf (sample Strict) greeting
   pub bound : SlotsBound greeting.slots guarded_condition
-  -- a prior capability that holds: alice has the mark
+  -- a prior capability holds: alice has the mark
   pub held : AllHold greeting marked_principal
   pub checks : (x : TypedTree) × PolicyChecks (sample Strict) guarded_condition (succeeds x)
   pub evaluates : eval greeting guarded_condition ≡ Gives (VBool true)
-  -- and an allowed failure: the friend is not in the store
+  -- an allowed failure: the friend is not in the store
   pub fails : eval greeting friends_age ≡ Fails MissingEntity
 
--- these premises fail of other data
+-- the premises fail for other data
 pub record PremisesCanFail : Type 0 where
   -- bob has no mark
   pub held : Holds greeting (attribute (var tt Var.Resource) (codes "vip")) → ⊥
@@ -84,10 +84,10 @@ pub record PremisesCanFail : Type 0 where
   pub slots : FitsSlot (Some greet.entity_type) (sample_slots SlotId.Resource) → ⊥
   -- the principal's slot is not bound
   pub bound : SlotsBound greeting.slots (slot (node 1) SlotId.Principal) → ⊥
-  -- `decimal` may come once
+  -- `decimal` may stand once in the table
   pub functions : table_fault (decimal_function ∷ decimal_function ∷ []) ≡ None → ⊥
   -- a number is no decimal
   pub returns : KeepsSampleTable giving_a_number → ⊥
-  -- addresses are not to be compared, and durations are
+  -- addresses must not be compared, and durations must be
   pub compares_more : KeepsSampleTable (comparing (decimal ∷ duration ∷ ip_address ∷ [])) → ⊥
   pub compares_fewer : KeepsSampleTable (comparing (decimal ∷ [])) → ⊥

@@ -1,5 +1,5 @@
--- Which outcomes keep the promises of a check, and which break them; and policies of which the
--- promises are false.
+-- Outcomes that keep the promises of a check, and outcomes that break them; and policies for which
+-- the promises are false.
 use Rattle.std.specs.Prelude.{pos, true, false, List, [], ◌∷◌, Some, None, codes}
 use Rattle.cedar_types.specs.declared.base.types.ValidationMode.{ValidationMode}
 use Rattle.cedar_types.specs.declared.base.types.ValidationMode.TheVariants.{Strict, Permissive}
@@ -20,31 +20,31 @@ use Rattle.cedar_typing.specs.Soundness.{HasFound, IsTrueOutcome}
 use Rattle.cedar_typing.specs.TypedExpr.{Source, TypedTree}
 
 pub record PromiseExamples : Type 0 where
-  -- a boolean or an allowed failure: both booleans, and three failures
+  -- both booleans and three failures are allowed
   pub true_value : IsBooleanOrAllowed (Gives (VBool true))
   pub false_value : IsBooleanOrAllowed (Gives (VBool false))
   pub missing_entity : IsBooleanOrAllowed (Fails MissingEntity)
   pub overflow : IsBooleanOrAllowed (Fails Overflow)
   pub extension_failure : IsBooleanOrAllowed (Fails ExtensionFailure)
-  -- no value of another kind
+  -- a value of another kind is not allowed
   pub number : IsBooleanOrAllowed (Gives (VLong (pos 1))) → ⊥
   pub text : IsBooleanOrAllowed (Gives (VString (codes "true"))) → ⊥
   pub entity : IsBooleanOrAllowed (Gives (VEntity alice)) → ⊥
   pub set : IsBooleanOrAllowed (Gives (VSet no_values)) → ⊥
   pub record_value : IsBooleanOrAllowed (Gives (VRecord no_entries)) → ⊥
   pub extension_value : IsBooleanOrAllowed (Gives (VExtension decimal (codes "1.0"))) → ⊥
-  -- and none of the five other failures
+  -- the five other failures are not allowed
   pub type_failure : IsBooleanOrAllowed (Fails TypeFailure) → ⊥
   pub absent_attribute : IsBooleanOrAllowed (Fails AbsentAttribute) → ⊥
   pub absent_tag : IsBooleanOrAllowed (Fails AbsentTag) → ⊥
   pub unlinked_slot : IsBooleanOrAllowed (Fails UnlinkedSlot) → ⊥
   pub unknown_value : IsBooleanOrAllowed (Fails UnknownValue) → ⊥
-  -- a success promises that, whatever its typed expression
+  -- a success promises an allowed outcome, whatever its typed expression
   pub success : (x : TypedTree) → Promises (succeeds x) (Gives (VBool true))
   pub success_number : (x : TypedTree) → Promises (succeeds x) (Gives (VLong (pos 1))) → ⊥
   pub success_type_failure : (x : TypedTree) → Promises (succeeds x) (Fails TypeFailure) → ⊥
-  -- what is never true is false or fails in any way, whatever its errors: it is not true, and no
-  -- value of another kind
+  -- a condition that is never true is false or fails in any way, whatever its errors: it is not
+  -- true, and has no value of another kind
   pub irrelevant_false : (es : List Finding) (x : TypedTree)
       → Promises (irrelevant es x) (Gives (VBool false))
   pub irrelevant_failure : (es : List Finding) (x : TypedTree) (f : Failure)
@@ -53,20 +53,21 @@ pub record PromiseExamples : Type 0 where
       → Promises (irrelevant es x) (Gives (VBool true)) → ⊥
   pub irrelevant_number : (es : List Finding) (x : TypedTree)
       → Promises (irrelevant es x) (Gives (VLong (pos 1))) → ⊥
-  -- where a type is found, a value has it; of a failure nothing is said, nor where no type is found
+  -- if a type was found, a value has it. A failure needs no type, and without a type nothing is
+  -- asked
   pub found : HasFound (Some TLong) (Gives (VLong (pos 1)))
   pub found_boolean : HasFound (Some TLong) (Gives (VBool true)) → ⊥
   pub found_failure : (f : Failure) → HasFound (Some TLong) (Fails f)
   pub not_found : (v : Value) → HasFound None (Gives v)
-  -- true is the boolean true alone
+  -- only the boolean true is true
   pub is_true : IsTrueOutcome (Gives (VBool true))
   pub false_is_true : IsTrueOutcome (Gives (VBool false)) → ⊥
   pub number_is_true : IsTrueOutcome (Gives (VLong (pos 1))) → ⊥
   pub failure_is_true : (f : Failure) → IsTrueOutcome (Fails f) → ⊥
 
--- ---- what is promised of a condition and of a policy
+-- ---- promises of a condition and of a policy
 
--- `1 + true`; the policy with that as its rest, and the one with `true`
+-- `1 + true`; the policy with it as its rest, and the policy with `true` as its rest
 abbrev pub wrong_condition : Source
 wrong_condition = numbered mistyped
 
@@ -77,17 +78,18 @@ abbrev pub true_policy : PlainTemplate
 true_policy = policy_when true_lit
 
 pub record PromisesCanBreakIn (m : ValidationMode) : Type 0 where
-  -- of a condition that goes wrong, the promise of a success is false; where it is refused, nothing
-  -- is promised
+  -- for a condition that goes wrong, the promise of a success is false. If the condition has
+  -- failed, nothing is promised
   pub condition : (x : TypedTree)
       → IsSoundPolicyCheckIn m (sample m) wrong_condition (succeeds x) → ⊥
   pub condition_refused : (es : List Finding)
       → IsSoundPolicyCheckIn m (sample m) wrong_condition (fails es)
-  -- the same of a policy
+  -- for a policy that goes wrong, the promise of passing is false. If it does not pass, nothing is
+  -- promised
   pub policy : PolicyIsSafeIn m (sample_basis m) wrong_policy true → ⊥
   pub policy_refused : PolicyIsSafeIn m (sample_basis m) wrong_policy false
-  -- of a policy that is true, the promise of a new warning is false; where the warning is not
-  -- there, or was there before, nothing is promised
+  -- for a policy that is true, the promise of a new warning is false. If the warning is not there,
+  -- or was there before, nothing is promised
   pub warned : ImpossibleIsNeverTrueIn m (sample_basis m) true_policy []
       (impossible true_policy ∷ []) → ⊥
   pub not_warned : ImpossibleIsNeverTrueIn m (sample_basis m) true_policy [] []

@@ -1,4 +1,4 @@
--- Where Strict is kept in Permissive and where not: types in which a name comes twice, which no type of the program has, and what
+-- Types in which a name comes twice, as in no type of the program: for them the answers of Strict are not kept in Permissive.
 -- Permissive says beyond.
 use Rattle.std.specs.Prelude.{◌≡◌, true, false, Some, codes}
 use Rattle.cedar_types.specs.declared.base.types.BoolType.{BoolType}
@@ -19,7 +19,7 @@ use Rattle.cedar_typing.specs.Setting.{Setting}
 abbrev pub twice : BoolType → Ty
 twice k = TRecord (attr (codes "a") TLong true (attr (codes "a") (TBool k) true no_attrs)) false
 
--- what Permissive keeps of two such records: an open one
+-- the bound of two such records in Permissive: an open record
 abbrev pub one_a : Ty
 one_a = TRecord (attr (codes "a") TLong true no_attrs) true
 
@@ -38,7 +38,7 @@ pub record FormIsNeededInStrict : Type 0 where
   -- the bound in Strict is not that in Permissive
   pub strict_bound : lub Strict (twice True) (twice False) ≡ Some (twice AnyBool)
   pub permissive_bound : lub Permissive (twice True) (twice False) ≡ Some one_a
-  -- and so a set has another type
+  -- so a set has another type in Permissive
   pub strict_set : IsTypedIn (with_twice Strict) both_records (TSet (twice AnyBool))
   pub permissive_set : IsTypedIn (with_twice Permissive) both_records (TSet one_a)
   -- so the laws are false there

@@ -1,6 +1,5 @@
--- What the rules of typing say of some small expressions, form by form: one for each rule, and one
--- for each way to fail. Beside them stand short names for how expressions are typed, and for the
--- errors.
+-- Computed examples of the rules of typing, form by form: one for each rule, and one for each way
+-- to fail. Beside them stand short names for typed expressions and for errors.
 pub mod Leaves
 pub mod ShortCircuit
 pub mod Unary
@@ -34,27 +33,27 @@ use Rattle.cedar_typing.specs.Setting.{Setting}
 use Rattle.cedar_typing.specs.TypeEnv.{finding}
 use Rattle.cedar_typing.specs.TypedExpr.{TypedTree, Mark, typed, untyped, annotation}
 
--- ---- what an example says
+-- ---- the statements of examples
 
--- where p is known, e has that type, hands on c, and is typed as x
+-- with the prior capabilities p, e has the type t, produces c, and has the typed copy x
 pub record TypesAsIn (s : Setting) (p : Caps) (e : Shape) (t : Ty) (c : Caps) (x : TypedTree) :
     Type 0 where
   pub has : Derives s (numbered e) p 1 t c x
 
--- the same in Strict, where nothing is known
+-- in Strict, without prior capabilities, e has the type t, produces c, and has the typed copy x
 abbrev pub TypesAs : Shape → Ty → Caps → TypedTree → Type 0
 TypesAs = TypesAsIn (sample Strict) no_caps
 
--- e has no type by the rules, and is typed as x all the same, with these errors
+-- e fails by the rules, with the typed copy x and these errors
 pub record FailsWithIn (s : Setting) (e : Shape) (x : TypedTree) (es : List Finding) :
     Type 0 where
   pub recovers : Recovers s (numbered e) no_caps 1 x es
 
--- the same in Strict
+-- in Strict e fails with the typed copy x and these errors
 abbrev pub FailsWith : Shape → TypedTree → List Finding → Type 0
 FailsWith = FailsWithIn (sample Strict)
 
--- an expression that fails, how it is typed, and its errors
+-- an expression that fails, its typed copy, and its errors
 abbrev pub Failing : Type 0
 Failing = Shape × (TypedTree × List Finding)
 
@@ -62,11 +61,11 @@ abbrev pub EachFails : List Failing → Type 0
 EachFails [] = Unit {0}
 EachFails (x ∷ xs) = FailsWith x.0 x.1.0 x.1.1 × EachFails xs
 
--- each of these does
+-- each of these fails so
 pub record AllFail (xs : List Failing) : Type 0 where
   pub each : EachFails xs
 
--- e has that type, and hands on nothing
+-- e has the type t, and produces no capabilities
 pub record IsTypedIn (s : Setting) (e : Shape) (t : Ty) : Type 0 where
   pub copy : TypedTree
   pub has : Derives s (numbered e) no_caps 1 t no_caps copy
@@ -74,7 +73,7 @@ pub record IsTypedIn (s : Setting) (e : Shape) (t : Ty) : Type 0 where
 abbrev pub IsTyped : Shape → Ty → Type 0
 IsTyped = IsTypedIn (sample Strict)
 
--- where p is known, e fails with these errors, and this type stays, if one does
+-- with the prior capabilities p, e fails with these errors, and keeps this type, if any
 pub record IsRefusedKnowingIn (s : Setting) (p : Caps) (e : Shape) (t : Option Ty)
     (es : List Finding) : Type 0 where
   pub copy : TypedTree
@@ -84,22 +83,22 @@ pub record IsRefusedKnowingIn (s : Setting) (p : Caps) (e : Shape) (t : Option T
 abbrev pub IsRefusedKnowing : Caps → Shape → Option Ty → List Finding → Type 0
 IsRefusedKnowing = IsRefusedKnowingIn (sample Strict)
 
--- the same where nothing is known
+-- without prior capabilities, e fails with these errors, and keeps this type, if any
 abbrev pub IsRefusedIn : Setting → Shape → Option Ty → List Finding → Type 0
 IsRefusedIn s = IsRefusedKnowingIn s no_caps
 
 abbrev pub IsRefused : Shape → Option Ty → List Finding → Type 0
 IsRefused = IsRefusedIn (sample Strict)
 
--- at the depth d a part of e is too deep, and these errors were found
+-- at the depth d a part of e is too deep, and these errors were found before
 pub record CutsAt (d : ℕ) (e : Shape) (es : List Finding) : Type 0 where
   pub cuts : Cuts (sample Strict) (numbered e) no_caps d es
 
--- the check of the condition e
+-- the check of the condition e has this verdict
 pub record ChecksAs (e : Shape) (v : Verdict) : Type 0 where
   pub checks : PolicyChecks (sample Strict) (numbered e) v
 
--- e is a Boolean that hands on neither that the principal has the mark nor that it has an age
+-- e is a Boolean that produces neither that the principal has the mark nor that it has an age
 pub record HandsOnNeither (e : Shape) : Type 0 where
   pub caps : Caps
   pub typed : TypedTree
@@ -107,9 +106,9 @@ pub record HandsOnNeither (e : Shape) : Type 0 where
   pub no_mark : caps (attribute principal (codes "vip")) ≡ false
   pub no_age : caps (attribute principal (codes "age")) ≡ false
 
--- ---- what is handed on
+-- ---- capabilities
 
--- that the principal has the mark, or an age; that there is a friend
+-- the capabilities that the principal has the mark, or an age; and that there is a friend
 abbrev pub marked_principal : Caps
 marked_principal = single (attribute principal (codes "vip"))
 
@@ -141,7 +140,7 @@ no_type_at n = untyped (node n)
 
 -- ---- typed expressions, by the places of their nodes
 
--- `true`, `false`, `1`, and `1` where it lost its type
+-- `true`, `false`, `1`, and a `1` that lost its type
 abbrev pub typed_true : ℕ → TypedTree
 typed_true n = lit (true_at n) (bool true)
 
@@ -194,14 +193,14 @@ bool_type = TBool AnyBool
 abbrev pub error_at : ℕ → Fault → Finding
 error_at n f = finding (sample_env Strict) (node n).place f
 
--- a Boolean is wanted, and any record or any entity, and a long is there
+-- a Boolean, or any record or any entity, is expected, and a Long is there
 abbrev pub not_a_bool : ℕ → Finding
 not_a_bool n = error_at n (unexpected_type (TBool AnyBool ∷ []) TLong)
 
 abbrev pub not_an_object : ℕ → Finding
 not_an_object n = error_at n (unexpected_type (TRecord no_attrs true ∷ TAnyEntity ∷ []) TLong)
 
--- a Long is wanted, and a type t is there
+-- a Long is expected, and a type t is there
 abbrev pub not_a_long : ℕ → Ty → Finding
 not_a_long n t = error_at n (unexpected_type (TLong ∷ []) t)
 
@@ -215,6 +214,6 @@ unguarded_vip n = unguarded n (codes "vip")
 abbrev pub unguarded_boss : ℕ → Finding
 unguarded_boss n = unguarded n (codes "boss")
 
--- an access to `rank`, which no user has
+-- an access to `rank`, an attribute that no user has
 abbrev pub unknown_rank : ℕ → Finding
 unknown_rank n = error_at n (unsafe_attribute_access a_user (codes "rank") false)

@@ -1,4 +1,4 @@
--- Typing of `has` and `.`.
+-- Computed examples of the rules of `has` and `.`.
 use Rattle.std.specs.Prelude.{ℕ, List, [], ◌∷◌, codes}
 use Rattle.cedar_types.specs.declared.base.expressions.operators.Var.{Var}
 use Rattle.cedar_types.specs.declared.base.types.BoolType.TheVariants.{AnyBool, True, False}
@@ -16,7 +16,7 @@ use Rattle.cedar_typing.specs.Examples.Rules.{not_an_object, unguarded_vip, ungu
 use Rattle.cedar_typing.specs.Examples.World.{sample, hidden}
 use Rattle.cedar_typing.specs.TypedExpr.{TypedTree, Mark, typed}
 
--- a node that is of any entity, at the place n
+-- a node of the type any entity, at the place n
 abbrev pub any_entity_at : ℕ → Mark
 any_entity_at n = typed TAnyEntity (node n)
 
@@ -24,11 +24,12 @@ any_entity_at n = typed TAnyEntity (node n)
 abbrev pub hidden_principal : ℕ → TypedTree
 hidden_principal n = var (any_entity_at n) Var.Principal
 
--- `if 1 then principal else principal`, which is of any entity there, though the test is refused
+-- `if 1 then principal else principal`, which is of any entity in the environment of undeclared
+-- actions, though the test has failed
 abbrev pub refused_principal : Shape
 refused_principal = if_then_else tt one principal principal
 
--- `a has vip` and `a.vip` where the base fails without a type, and where the whole is marked so
+-- `a has vip` and `a.vip` on a base that has failed without a type, with the mark of the whole
 abbrev pub base_failures : (Shape → Text → Shape) → (Mark → TypedTree → Text → TypedTree)
     → (ℕ → Mark) → List Failing
 base_failures ask copy marked =
@@ -37,7 +38,7 @@ base_failures ask copy marked =
       ask one (codes "vip"),
       (copy (marked 1) (refused_one 2) (codes "vip"), not_an_object 2 ∷ []),
     )
-    -- `principal.rank has vip`, `principal.rank.vip`: a base without a type is no other error
+    -- `principal.rank has vip`, `principal.rank.vip`: a base without a type adds no error
     ∷ (
       ask get_rank (codes "vip"),
       (copy (marked 1) (untyped_get_rank 2 3) (codes "vip"), unknown_rank 2 ∷ []),
@@ -45,44 +46,43 @@ base_failures ask copy marked =
     ∷ []
 
 pub record HasTyping : Type 0 where
-  -- `principal has age`: Bool of an entity; `context has friend`: True of a record; both hand on
-  -- what they say
+  -- `principal has age`: Bool, because the base is an entity; `context has friend`: True, because
+  -- it is a record. Both produce that the attribute is there
   pub has_required : TypesAs has_age (TBool AnyBool) aged_principal (typed_has_age 1 2)
   pub has_of_record : TypesAs has_friend (TBool True) with_friend (typed_has_friend 1 2)
-  -- `principal has vip`: Bool, and True where it is known
+  -- `principal has vip`: Bool, and True if it is known
   pub has_optional : TypesAs has_vip (TBool AnyBool) marked_principal (typed_has_vip 1 2)
   pub has_known : TypesAsIn (sample Strict) marked_principal has_vip (TBool True) marked_principal
       (has_attr (true_at 1) (typed_principal 2) (codes "vip"))
-  -- `principal has rank`: False; of any entity, Bool; neither hands on anything
+  -- `principal has rank`: False, and Bool of any entity. Neither produces a capability
   pub has_undeclared : TypesAs (has principal (codes "rank")) (TBool False) no_caps
       (has_attr (false_at 1) (typed_principal 2) (codes "rank"))
   pub has_hidden : TypesAsIn hidden no_caps (has principal (codes "rank")) (TBool AnyBool) no_caps
       (has_attr (bool_at 1) (hidden_principal 2) (codes "rank"))
-  -- where the base fails without a type, the whole is Bool
+  -- if the base fails without a type, the whole is Bool
   pub has_fails : AllFail (base_failures has has_attr bool_at)
-  -- `principal.boss has vip`, `principal.boss has rank`: of a failed base that has a type, the type
-  -- of the rule, and no other error
+  -- `principal.boss has vip`, `principal.boss has rank`: on a failed base with a type, the type of
+  -- the rule, and no further error
   pub has_failed : FailsWith (has get_boss (codes "vip"))
       (has_attr (bool_at 1) (typed_get_boss 2 3) (codes "vip")) (unguarded_boss 2 ∷ [])
   pub has_failed_false : FailsWith (has get_boss (codes "rank"))
       (has_attr (false_at 1) (typed_get_boss 2 3) (codes "rank")) (unguarded_boss 2 ∷ [])
 
 pub record GetTyping : Type 0 where
-  -- `principal.age`; `principal.vip` where it is known
+  -- `principal.age`, which is required; `principal.vip`, which is known to be there
   pub get_required : TypesAs (dot principal (codes "age")) TLong no_caps
       (get_attr (long_at 1) (typed_principal 2) (codes "age"))
   pub get_known : TypesAsIn (sample Strict) marked_principal get_vip (TBool AnyBool) no_caps
       (typed_get_vip 1 2)
-  -- `principal.vip` where it is not known: an error at the whole, and its type
+  -- `principal.vip`, which is not known to be there: an error at the whole, which keeps its type
   pub get_unguarded : FailsWith get_vip (typed_get_vip 1 2) (unguarded_vip 1 ∷ [])
-  -- `principal.rank`: an error at the whole, and no type; of any entity in Partial, Never
+  -- `principal.rank`: an error at the whole, and no type. In Partial it is Never of any entity
   pub get_undeclared : FailsWith get_rank (untyped_get_rank 1 2) (unknown_rank 1 ∷ [])
   pub get_hidden : TypesAsIn hidden no_caps get_rank TNever no_caps
       (get_attr (typed TNever (node 1)) (hidden_principal 2) (codes "rank"))
-  -- where the base fails without a type, neither has the whole a type
+  -- if the base fails without a type, the whole has no type
   pub get_fails : AllFail (base_failures dot get_attr no_type_at)
-  -- `principal.boss.age`: of a failed base that has a type, the type of the rule, and no other
-  -- error
+  -- `principal.boss.age`: on a failed base with a type, the type of the rule, and no further error
   pub get_failed : FailsWith (dot get_boss (codes "age"))
       (get_attr (long_at 1) (typed_get_boss 2 3) (codes "age")) (unguarded_boss 2 ∷ [])
   -- `principal.boss.vip`, `principal.boss.rank`: the errors of the base and of the whole
@@ -92,8 +92,8 @@ pub record GetTyping : Type 0 where
   pub get_failed_undeclared : FailsWith (dot get_boss (codes "rank"))
       (get_attr (no_type_at 1) (typed_get_boss 2 3) (codes "rank"))
       (unguarded_boss 2 ∷ unknown_rank 1 ∷ [])
-  -- `(if 1 then principal else principal).rank` in Partial: the failed base is of any entity, and
-  -- the whole is Never, without another error
+  -- `(if 1 then principal else principal).rank` in Partial: the failed base is of any entity, so
+  -- the whole is Never, without a further error
   pub get_failed_hidden : FailsWithIn hidden (dot refused_principal (codes "rank"))
       (get_attr (typed TNever (node 1))
       (if_then_else (any_entity_at 2) (refused_one 3) (hidden_principal 4) (hidden_principal 5))
