@@ -1,4 +1,5 @@
--- A copy from which a part was dropped, and worlds in which a copy means something else: each lacks one premise of the laws.
+-- A copy from which a part was dropped, and worlds in which a copy has another outcome, because one premise of the laws
+-- fails.
 use Rattle.std.specs.Prelude.{◌≡◌, true, ◌∷◌, codes}
 use Rattle.cedar_types.specs.declared.base.expressions.operators.Var.{Var}
 use Rattle.cedar_types.specs.declared.base.types.BoolType.TheVariants.{True, False}
@@ -19,21 +20,21 @@ use Rattle.cedar_typing.specs.Examples.World.{user, robot, alice, sample_schema,
 use Rattle.cedar_typing.specs.Rules.{Derives}
 use Rattle.cedar_typing.specs.TypedExpr.{TypedTree}
 
--- e has that type where p is known, and x is its typed copy
+-- with the prior capabilities p, e has the type t and produces c, and x is its typed copy
 abbrev pub IsTypedAs : Caps → Shape → Ty → Caps → TypedTree → Type 0
 IsTypedAs p e t c x = Derives (sample Strict) (numbered e) p 1 t c x
 
--- in the world the copy evaluates to something else
+-- in the world the copy has another outcome
 abbrev pub Differs : World → Shape → TypedTree → Type 0
 Differs world e x = eval world x ≡ eval world (numbered e) → ⊥
 
--- `context has friend || 1`: the left side stands for the whole, and means the same
+-- `context has friend || 1`: the left side stands for the whole, and has its outcome
 pub record CopiesMayBeShorter : Type 0 where
   pub typed : IsTypedAs no_caps (or tt has_friend one) (TBool True) with_friend (typed_has_friend 1 3)
   pub copy : eval greeting (typed_has_friend 1 3) ≡ Gives (VBool true)
   pub whole : eval greeting (numbered (or tt has_friend one)) ≡ Gives (VBool true)
 
--- `resource has vip || true`, where it is said to be known that the resource has the mark, which is not so
+-- `resource has vip || true`, with the prior capability that the resource has the mark, which is false
 abbrev pub marked_resource : Caps
 marked_resource = single (attribute (var tt Var.Resource) (codes "vip"))
 
@@ -48,7 +49,7 @@ pub record WhatIsKnownMustHold : Type 0 where
   pub typed : IsTypedAs marked_resource marked_or_true (TBool True) marked_resource marked_alone
   pub differs : Differs greeting marked_or_true marked_alone
 
--- `principal has rank && false`, where the store has an attribute of alice that the schema does not declare
+-- `principal has rank && false`, in a store with an attribute of alice that the schema does not declare
 abbrev pub ranked : World
 ranked = record greeting {
   store =
@@ -67,7 +68,7 @@ pub record StoreMustConform : Type 0 where
   pub typed : IsTypedAs no_caps ranked_and_false (TBool False) no_caps ranked_alone
   pub differs : Differs ranked ranked_and_false ranked_alone
 
--- `principal is User || true`, where the principal is a robot
+-- `principal is User || true`, in a world in which the principal is a robot
 abbrev pub robots : World
 robots = record greeting { request = record greeting.request { principal = record { entity_type = robot; eid = codes "r2" } } }
 

@@ -1,4 +1,4 @@
--- Typing of `if`.
+-- Computed examples of the rule of `if`.
 use Rattle.std.specs.Prelude.{[], ◌∷◌, codes}
 use Rattle.cedar_types.specs.declared.base.errors.type_errors.LubContext.TheVariants.{Conditional}
 use Rattle.cedar_types.specs.declared.base.types.BoolType.TheVariants.{AnyBool}
@@ -20,7 +20,7 @@ typed_text = lit (typed TString (node 5)) (string (codes "a"))
 
 pub record ConditionalTyping : Type 0 where
   -- `if context has friend then principal has vip else principal.vip`: the first branch stands for
-  -- both, and the test and it hand on what they say
+  -- both, and the whole produces the capabilities of the test and of that branch
   pub if_true : TypesAs (if_then_else tt has_friend has_vip get_vip) (TBool AnyBool)
       (union with_friend marked_principal)
       (if_then_else (bool_at 1) (typed_has_friend 2 3) (typed_has_vip 4 5) (typed_has_vip 4 5))
@@ -28,40 +28,42 @@ pub record ConditionalTyping : Type 0 where
   pub if_false : TypesAs (if_then_else tt false_lit get_vip has_vip) (TBool AnyBool)
       marked_principal
       (if_then_else (bool_at 1) (typed_false 2) (typed_has_vip 5 6) (typed_has_vip 5 6))
-  -- `if (if context has friend then false else true) then 1 else principal has vip`: what a False
-  -- test says is not handed on
+  -- `if (if context has friend then false else true) then 1 else principal has vip`: the whole does
+  -- not produce the capabilities of a False test
   pub if_false_drops : TypesAs (if_then_else tt false_with_friend one has_vip) (TBool AnyBool)
       marked_principal
       (if_then_else (bool_at 1) (typed_false_with_friend 2 3 4 5) (typed_has_vip 8 9)
       (typed_has_vip 8 9))
-  -- `if principal has vip then principal.vip else false`: the first branch knows what the test
-  -- says, and Bool is the bound
+  -- `if principal has vip then principal.vip else false`: the first branch may use the capabilities
+  -- of the test, and Bool is the bound
   pub if_open : TypesAs (if_then_else tt has_vip get_vip false_lit) (TBool AnyBool)
       (intersection no_caps (union marked_principal no_caps))
       (if_then_else (bool_at 1) (typed_has_vip 2 3) (typed_get_vip 4 5) (typed_false 6))
-  -- `if principal has vip then principal has age else principal has age || principal has vip`: what
-  -- the test and one branch alone say is not handed on
+  -- `if principal has vip then principal has age else principal has age || principal has vip`:
+  -- capabilities of the test and one branch alone are not produced
   pub if_neither : HandsOnNeither (if_then_else tt has_vip has_age (or tt has_age has_vip))
-  -- `if principal has vip then true else principal has vip`: what holds after either branch is
-  -- handed on
+  -- `if principal has vip then true else principal has vip`: capabilities that hold after either
+  -- branch are produced
   pub if_known : TypesAs (if_then_else tt has_vip true_lit has_vip) (TBool AnyBool)
       (intersection marked_principal (union marked_principal no_caps))
       (if_then_else (bool_at 1) (typed_has_vip 2 3) (typed_true 4) (typed_has_vip 5 6))
-  -- `if principal has vip then 1 else "a"`: no bound, which is an error at the whole, and no type
+  -- `if principal has vip then 1 else "a"`: the branches have no bound, which is an error at the
+  -- whole, and no type
   pub if_unbound : FailsWith (if_then_else tt has_vip one (text (codes "a")))
       (if_then_else (no_type_at 1) (typed_has_vip 2 3) (typed_one 4) typed_text)
       (error_at 1 (incompatible_types (TLong ∷ TString ∷ []) Conditional) ∷ [])
-  -- `if principal has vip then principal.rank else 1`: a branch without a type is no other error,
-  -- and the whole has no type
+  -- `if principal has vip then principal.rank else 1`: a branch without a type adds no error, and
+  -- the whole has no type
   pub if_missing : FailsWith (if_then_else tt has_vip get_rank one)
       (if_then_else (no_type_at 1) (typed_has_vip 2 3) (untyped_get_rank 4 5) (typed_one 6))
       (unknown_rank 4 ∷ [])
-  -- `if principal.rank then true else false`: nor is a test without a type, and both branches count
+  -- `if principal.rank then true else false`: a test without a type adds no error, and both
+  -- branches count
   pub if_test_missing : FailsWith (if_then_else tt get_rank true_lit false_lit)
       (if_then_else (bool_at 1) (untyped_get_rank 2 3) (typed_true 4) (typed_false 5))
       (unknown_rank 2 ∷ [])
-  -- `if principal has vip then true else principal.vip`: a failed branch that has a type keeps the
-  -- bound
+  -- `if principal has vip then true else principal.vip`: the whole keeps the bound with a failed
+  -- branch that has a type
   pub if_failed_branch : FailsWith (if_then_else tt has_vip true_lit get_vip)
       (if_then_else (bool_at 1) (typed_has_vip 2 3) (typed_true 4) (typed_get_vip 5 6))
       (unguarded_vip 5 ∷ [])

@@ -1,4 +1,4 @@
--- Typing of `==`, `contains`, `containsAll` and `containsAny`.
+-- Computed examples of the rules of `==`, `contains`, `containsAll` and `containsAny`.
 use Rattle.std.specs.Prelude.{[], ◌∷◌, Some, codes}
 use Rattle.cedar_types.specs.declared.base.expressions.operators.Var.{Var}
 use Rattle.cedar_types.specs.declared.base.errors.type_errors.LubContext.TheVariants.{Equality, Contains, ContainsAnyAll}
@@ -30,8 +30,8 @@ pub record EqualityTyping : Type 0 where
   pub same_literals : IsTyped (equal one one) (TBool True)
   pub other_literals : IsTyped (equal one two) (TBool False)
   pub mixed_literals : IsTyped (equal one a_text) (TBool False)
-  -- `action` counts as the environment's action, also one that the schema does not declare, which
-  -- fails
+  -- `action` counts as the environment's action, even if the schema does not declare it; then
+  -- `action` fails
   pub action_is : IsTyped (equal action (the greet)) (TBool True)
   pub action_is_itself : IsTyped (equal action action) (TBool True)
   pub undeclared_action : IsRefusedIn unknown_action (equal action (the wave))
@@ -39,11 +39,11 @@ pub record EqualityTyping : Type 0 where
   -- `principal == action`, of disjoint types: False; `principal == context.friend`: Bool
   pub disjoint : IsTyped (equal principal action) (TBool False)
   pub of_one_type : IsTyped (equal principal friend) bool_type
-  -- `principal.age == "a"`: no bound, an error in Strict alone; Bool stays
+  -- `principal.age == "a"`: no bound, an error in Strict alone. The type is still Bool
   pub unbound : IsRefused (equal age a_text) (Some bool_type)
       (error_at 1 (incompatible_types (TLong ∷ TString ∷ []) Equality) ∷ [])
   pub unbound_permissive : IsTypedIn (sample Permissive) (equal age a_text) bool_type
-  -- `principal.rank == "a"`: a side without a type is no other error
+  -- `principal.rank == "a"`: a side without a type adds no error
   pub side_missing : IsRefused (equal get_rank a_text) (Some bool_type) (unknown_rank 2 ∷ [])
 
 pub record MemberTyping : Type 0 where
@@ -55,7 +55,8 @@ pub record MemberTyping : Type 0 where
   -- `(1).contains("a")`: an error at the left side alone
   pub no_set : IsRefused (contains one a_text) (Some bool_type)
       (error_at 2 (unexpected_type (TAnySet ∷ []) TLong) ∷ [])
-  -- `[1].containsAll([2])`, `[1].containsAny([2])`; `[1].containsAny(["a"])`: no bound
+  -- `[1].containsAll([2])`, `[1].containsAny([2])`; `[1].containsAny(["a"])`: no bound, an error in
+  -- Strict
   pub has_members : IsTyped (contains_all (set1 one) (set1 two)) bool_type
   pub has_some_members : IsTyped (contains_any (set1 one) (set1 two)) bool_type
   pub no_members : IsRefused (contains_any (set1 one) (set1 a_text)) (Some bool_type)

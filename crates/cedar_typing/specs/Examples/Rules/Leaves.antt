@@ -1,4 +1,4 @@
--- Typing of literals, variables, slots and unknowns.
+-- Computed examples of the rules of literals, variables, slots and unknowns.
 use Rattle.std.specs.Prelude.{[], ◌∷◌, None, codes}
 use Rattle.cedar_types.specs.declared.base.expressions.operators.Var.{Var}
 use Rattle.cedar_types.specs.declared.base.names.slots.SlotId.{SlotId}
@@ -39,10 +39,10 @@ pub record LeafTyping : Type 0 where
       (var (typed an_action (node 1)) Var.Action)
   pub variable_hidden : TypesAsIn hidden no_caps principal TAnyEntity no_caps
       (var (typed TAnyEntity (node 1)) Var.Principal)
-  -- `action`, where the schema does not declare it: it fails, without an error
+  -- `action`, which the schema does not declare: it fails, without an error
   pub variable_missing : FailsWithIn unknown_action (var tt Var.Action)
       (var (no_type_at 1) Var.Action) []
-  -- `?resource`, which is linked, and `?principal`, which is not
+  -- `?resource`, which is linked to users, and `?principal`, which is not linked
   pub slot_linked : TypesAs (slot tt SlotId.Resource) a_user no_caps
       (slot (user_at 1) SlotId.Resource)
   pub slot_free : TypesAs (slot tt SlotId.Principal) TAnyEntity no_caps

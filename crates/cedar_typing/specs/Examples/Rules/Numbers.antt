@@ -1,4 +1,4 @@
--- Typing of negation, `isEmpty`, `like`, `is`, `+`, `-`, `*`, `<` and `<=`.
+-- Computed examples of the rules of negation, `isEmpty`, `like`, `is`, `+`, `-`, `*`, `<` and `<=`.
 use Rattle.std.specs.Prelude.{ℕ, List, [], ◌∷◌, Some, codes}
 use Rattle.cedar_types.specs.declared.base.expressions.operators.BinaryOp.{BinaryOp}
 use Rattle.cedar_types.specs.declared.base.expressions.operators.UnaryOp.{UnaryOp}
@@ -32,26 +32,26 @@ address_type = TExtension ip_address
 abbrev pub nope : Shape
 nope = dot principal (codes "nope")
 
--- the same setting, which lists the extension types that are compared the other way round
+-- the sample setting with the compared extension types listed the other way round
 abbrev pub listed_back : Setting
 listed_back = record (sample Strict) {
   env = record (sample_env Strict) { overloaded_types = duration ∷ decimal ∷ [] };
 }
 
--- the types that are compared: Long, and then those of the extensions
+-- the comparable types: Long, and then the extension types
 abbrev pub compared_types : List Ty
 compared_types = TLong ∷ decimal_type ∷ duration_type ∷ []
 
--- one of them is wanted, and a type t is there
+-- one of the comparable types is expected, and a type t is there
 abbrev pub not_compared : ℕ → Ty → Finding
 not_compared n t = error_at n (unexpected_type compared_types t)
 
--- a decimal is wanted, and a type t is there
+-- a decimal is expected, and a type t is there
 abbrev pub not_a_decimal : ℕ → Ty → Finding
 not_a_decimal n t = error_at n (unexpected_type (decimal_type ∷ []) t)
 
 pub record OperatorTyping : Type 0 where
-  -- the negation of `1`; of `true`: the type stays; of `principal.rank`: no other error
+  -- the negation of `1`; of `true`: the type is still Long; of `principal.rank`: no further error
   pub negation : IsTyped (unary tt UnaryOp.Neg one) TLong
   pub negation_refused : IsRefused (unary tt UnaryOp.Neg true_lit) (Some TLong)
       (not_a_long 2 (TBool True) ∷ [])
@@ -68,12 +68,12 @@ pub record OperatorTyping : Type 0 where
   -- `principal is User`: True; `principal is Group`: False
   pub is_it : IsTyped (is principal user) (TBool True)
   pub is_another : IsTyped (is principal group) (TBool False)
-  -- of two types in Permissive: Bool of one of them, False of a third
+  -- an operand of two types in Permissive: Bool for one of them, False for a third
   pub is_one_of_two : IsTypedIn (sample Permissive) (is user_or_action user) bool_type
   pub is_none_of_two : IsTypedIn (sample Permissive) (is user_or_action group) (TBool False)
   -- `?principal is User`, which may be any entity: Bool
   pub is_of_any : IsTyped (is (slot tt SlotId.Principal) user) bool_type
-  -- `principal.nope is User` of Never, in Partial: it fails, without an error
+  -- `principal.nope is User`, on Never, in Partial: it fails, without an error
   pub is_of_never : IsRefusedIn hidden (is nope user) (Some bool_type) []
   -- `1 is User`; `principal.rank is User`
   pub is_refused : IsRefused (is one user) (Some bool_type)
@@ -81,7 +81,7 @@ pub record OperatorTyping : Type 0 where
   pub is_missing : IsRefused (is get_rank user) (Some bool_type) (unknown_rank 2 ∷ [])
 
 pub record NumberTyping : Type 0 where
-  -- `1 + 2`; `true + "a"`: an error at each, and the type stays
+  -- `1 + 2`; `true + "a"`: an error at each side, and the type is still Long
   pub sum : IsTyped (plus one two) TLong
   pub sum_refused : IsRefused (plus true_lit (text (codes "a"))) (Some TLong)
       (not_a_long 2 (TBool True) ∷ not_a_long 3 TString ∷ [])
@@ -102,28 +102,28 @@ pub record NumberTyping : Type 0 where
   -- `decimal("1.0") < decimal("2.0")`, `decimal("1.0") <= decimal("2.0")`
   pub decimals : IsTyped (less decimal_one decimal_two) bool_type
   pub decimals_at_most : IsTyped (at_most decimal_one decimal_two) bool_type
-  -- one side is a decimal: an error at the other, also of another extension type that is compared
+  -- one side is a decimal: an error at the other, even if that is of another comparable type
   pub left_is_decimal : IsRefused (less decimal_one (text (codes "a"))) (Some bool_type)
       (not_a_decimal 4 TString ∷ [])
   pub right_is_decimal : IsRefused (less address decimal_one) (Some bool_type)
       (not_a_decimal 2 address_type ∷ [])
   pub decimal_and_duration : IsRefused (less decimal_one a_duration) (Some bool_type)
       (not_a_decimal 4 duration_type ∷ [])
-  -- neither is of a type that is compared: an error at each, also of one extension type
+  -- neither side is of a comparable type: an error at each, even if both are of one extension type
   pub neither_compared : IsRefused (less true_lit (text (codes "a"))) (Some bool_type)
       (not_compared 2 (TBool True) ∷ not_compared 3 TString ∷ [])
   pub addresses : IsRefused (less address address) (Some bool_type)
       (not_compared 2 address_type ∷ not_compared 4 address_type ∷ [])
-  -- the types that are expected ascend, however they are listed
+  -- the expected types ascend, however they are listed
   pub in_order : IsRefusedIn listed_back (less address address) (Some bool_type)
       (not_compared 2 address_type ∷ not_compared 4 address_type ∷ [])
-  -- `decimal("") < decimal("1.0")`: a side that failed with a type
+  -- `decimal("") < decimal("1.0")`: a side that failed, but has a type
   pub decimal_failed : IsRefused (less (to_decimal (text [])) decimal_one) (Some bool_type)
       (error_at 2 (function_argument_validation (codes "empty")) ∷ [])
-  -- `principal.rank < "a"`: a side without a type is no other error
+  -- `principal.rank < "a"`: a side without a type adds no error
   pub side_missing : IsRefused (less get_rank (text (codes "a"))) (Some bool_type)
       (unknown_rank 2 ∷ [])
-  -- in Partial, beside Never: a type that is compared passes, another one is an error there; two
+  -- beside Never, in Partial: a comparable type passes, another one is an error there, and two
   -- Nevers fail without one
   pub never_and_long : IsTypedIn hidden (less nope one) bool_type
   pub long_and_never : IsTypedIn hidden (less one nope) bool_type

@@ -1,4 +1,4 @@
--- Typing of `!`.
+-- Computed examples of the rule of `!`.
 use Rattle.std.specs.Prelude.{[], ◌∷◌}
 use Rattle.cedar_types.specs.declared.base.expressions.operators.UnaryOp.{UnaryOp}
 use Rattle.cedar_types.specs.declared.base.types.BoolType.TheVariants.{AnyBool, True, False}
@@ -10,8 +10,7 @@ use Rattle.cedar_typing.specs.Examples.Rules.{TypesAs, FailsWith, bool_at, true_
 use Rattle.cedar_typing.specs.Examples.Rules.{typed_has_vip, typed_get_vip, untyped_get_rank, not_a_bool, unguarded_vip, unknown_rank}
 
 pub record UnaryTyping : Type 0 where
-  -- `!true`, `!false`: True and False change places; `!(principal has vip)`: Bool; nothing is
-  -- handed on
+  -- `!true`, `!false`: False, and True; `!(principal has vip)`: Bool. No capability is produced
   pub not_true : TypesAs (unary tt UnaryOp.Not true_lit) (TBool False) no_caps
       (unary (false_at 1) UnaryOp.Not (typed_true 2))
   pub not_false : TypesAs (unary tt UnaryOp.Not false_lit) (TBool True) no_caps
@@ -25,6 +24,6 @@ pub record UnaryTyping : Type 0 where
   pub not_failed : FailsWith (unary tt UnaryOp.Not (and tt get_vip false_lit))
       (unary (true_at 1) UnaryOp.Not (and (false_at 2) (typed_get_vip 3 4) (typed_false 5)))
       (unguarded_vip 3 ∷ [])
-  -- `!(principal.rank)`: an operand without a type is no other error, and the whole is Bool
+  -- `!(principal.rank)`: an operand without a type adds no error, and the whole is Bool
   pub not_missing : FailsWith (unary tt UnaryOp.Not get_rank)
       (unary (bool_at 1) UnaryOp.Not (untyped_get_rank 2 3)) (unknown_rank 2 ∷ [])
