@@ -1,4 +1,4 @@
--- Which values have which types.
+-- Values and the types that they have.
 use Rattle.std.specs.Prelude.{pos, true, false, [], ◌∷◌, codes}
 use Rattle.cedar_types.specs.declared.base.types.BoolType.TheVariants.{AnyBool, True, False}
 use Rattle.cedar_types.specs.Names.{Text}
@@ -8,7 +8,7 @@ use Rattle.cedar_types.specs.Values.{Value, VBool, VEntity, VSet, VRecord, VExte
 use Rattle.cedar_typing.specs.Examples.Greeting.{number, words, one_value, two_values, a_decimal}
 use Rattle.cedar_typing.specs.Examples.World.{user, group, robot, decimal, duration, alice}
 
--- the value has the type, and it has not
+-- the value has the type, or has it not
 abbrev pub Has : Ty → Value → Type 0
 Has t v = HasType t v
 
@@ -124,7 +124,7 @@ pub record EntitiesOfType : Type 0 where
   pub second_type : Has (TEntity (user ∷ robot ∷ [])) a_robot
   pub other_type : HasNot (TEntity (user ∷ robot ∷ [])) a_group
   pub two_types_text : HasNot (TEntity (user ∷ robot ∷ [])) (words (codes "alice"))
-  -- of no type: none
+  -- an entity type without names has no value
   pub no_type : HasNot (TEntity []) (VEntity alice)
   -- any entity
   pub any_entity : Has TAnyEntity a_group

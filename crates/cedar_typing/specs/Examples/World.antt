@@ -1,4 +1,5 @@
--- What the expressions of the computed examples are typed in: a schema and extension functions.
+-- The setting in which the expressions of the computed examples are typed: a schema and extension
+-- functions.
 use Rattle.std.specs.Prelude.{true, false, Bool, List, [], ◌∷◌, Option, Some, None, codes}
 use Rattle.cedar_types.specs.declared.base.types.BoolType.TheVariants.{AnyBool}
 use Rattle.cedar_types.specs.declared.base.types.ValidationMode.{ValidationMode}
@@ -45,7 +46,7 @@ ip_address = named (codes "ipaddr")
 abbrev pub social_decimal : Path
 social_decimal = record { path = codes "Social" ∷ []; basename = codes "decimal" }
 
--- two further functions: a test of two decimals, and the sum of some numbers
+-- two further functions: a test on two decimals, and the sum of some numbers
 abbrev pub less_than : Path
 less_than = named (codes "lessThan")
 
@@ -76,8 +77,7 @@ greet = an_action_named (codes "greet")
 abbrev pub wave : Uid
 wave = an_action_named (codes "wave")
 
--- `Action::"meet"`, of which greet is a descendant, and `Social::Action::"act"`, of another
--- namespace, of which both are
+-- `Action::"meet"`, above greet, and `Social::Action::"act"`, of another namespace, above both
 abbrev pub meet : Uid
 meet = an_action_named (codes "meet")
 
@@ -120,11 +120,11 @@ standard_type n ns xs t = record { name = n; descendants = ns; kind = StandardKi
 abbrev pub declared_user : DeclaredType
 declared_user = standard_type user (user ∷ []) user_attributes (Some TString)
 
--- robots have tags that are numbers, and nothing else
+-- robots have tags that are numbers, and no attributes
 abbrev pub declared_robot : DeclaredType
 declared_robot = standard_type robot [] no_attrs (Some TLong)
 
--- an action that these do with those in such a context, and that stands for no other
+-- an action of these principals on those resources in this context, which has no descendants
 abbrev pub requested : Uid → List Path → List Path → Ty → DeclaredAction
 requested u ps rs t = record {
   name = u;
@@ -140,7 +140,7 @@ declared_greet = requested greet (user ∷ []) (user ∷ []) a_context
 abbrev pub no_context : Ty
 no_context = TRecord no_attrs false
 
--- an action that stands for others, and is not requested itself
+-- an action with descendants, which is not requested itself
 abbrev pub declared_group : Uid → List Uid → DeclaredAction
 declared_group u us = record {
   name = u;
@@ -175,7 +175,7 @@ abbrev pub refuses_empty : List Source → Option Text
 refuses_empty (lit m (string []) ∷ es) = Some (codes "empty")
 refuses_empty es = None
 
--- a function of arguments of these types to one of that type, variadic or not, without a check
+-- a function from arguments of these types to this type, variadic or not, without a check
 abbrev pub unchecked : Path → List Ty → Bool → Ty → ExtensionFunction
 unchecked f ts variadic t = record {
   name = f;
@@ -185,7 +185,7 @@ unchecked f ts variadic t = record {
   check = None;
 }
 
--- `decimal` of a text, with that check
+-- `decimal` of a text, with the check that refuses an empty text
 abbrev pub decimal_function : ExtensionFunction
 decimal_function = record (unchecked decimal (TString ∷ []) false decimal_type) {
   check = Some refuses_empty;
@@ -207,9 +207,9 @@ abbrev pub extension_functions : List ExtensionFunction
 extension_functions =
     decimal_function ∷ less_than_function ∷ sum_function ∷ duration_function ∷ []
 
--- ---- what expressions are typed in
+-- ---- settings
 
--- users greet users in such a context
+-- users greet users in this context
 abbrev pub users_greet : Ty → DeclaredEnv
 users_greet t = record { principal = user; action = greet; resource = user; context = t }
 
@@ -224,11 +224,11 @@ sample_env m = record {
   policy = codes "policy0";
 }
 
--- the same with the extension functions
+-- the type environment with the extension functions
 abbrev pub sample : ValidationMode → Setting
 sample m = record { env = sample_env m; functions = extension_functions }
 
--- the same, of an action that the schema does not declare
+-- the setting of an action that the schema does not declare
 abbrev pub unknown_action : Setting
 unknown_action = record (sample Strict) {
   env = record (sample_env Strict) {
@@ -236,7 +236,7 @@ unknown_action = record (sample Strict) {
   };
 }
 
--- the same, where a request comes with another context, and no slot is linked
+-- the setting with another context, and without links of slots
 abbrev pub in_context : ValidationMode → Ty → Setting
 in_context m t = record (sample m) {
   env = record (sample_env m) { request_env = Declared (users_greet t) None None };
