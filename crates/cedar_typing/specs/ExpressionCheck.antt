@@ -1,4 +1,4 @@
--- The check of an expression where it stands, and what it promises of evaluation.
+-- The check of an expression where it stands, and its promises about evaluation.
 use Rattle.std.specs.Prelude.{List, [], Option, Some, None, IsPermutation}
 use Rattle.cedar_types.specs.declared.base.types.ValidationMode.{ValidationMode}
 use Rattle.cedar_types.specs.Types.{Ty}
@@ -14,21 +14,21 @@ use Rattle.cedar_typing.specs.Soundness.{HasFound, IsSafe, IsTrueOutcome, IsReli
 use Rattle.cedar_typing.specs.TypedCopies.{EvaluatesAs}
 use Rattle.cedar_typing.specs.TypedExpr.{Source, TypedTree, annotation}
 
--- what the check comes to, at depth 1 and where prior is known; the errors count as often as they are found, and their order
--- does not
+-- the check of an expression, at depth 1 and with the prior capabilities. Each error counts as often as it is found; the
+-- order of errors does not count
 pub data ExpressionChecks (s : Setting) (e : Source) (prior : Caps) :
     Answer → List Finding → Type 0 where
-  -- it has a type
+  -- the expression has a type
   expression_typed : (t : Ty) {c : Caps} {x : TypedTree}
       → Derives s e prior 1 t c x → ExpressionChecks s e prior (success x c) []
-  -- it is refused, and typed all the same
+  -- the expression has failed, but is typed all the same
   expression_refused : {x : TypedTree} {es es' : List Finding}
       → Recovers s e prior 1 x es → IsPermutation es es' → ExpressionChecks s e prior (failure x) es'
   -- a part is too deep
   expression_cut : {es es' : List Finding}
       → Cuts s e prior 1 es → IsPermutation es es' → ExpressionChecks s e prior limit es'
 
--- the typed copy of an answer: the limit has none
+-- the typed copy of an answer. The limit has none
 abbrev pub tree_of_answer : Answer → Option TypedTree
 tree_of_answer (success x c) = Some x
 tree_of_answer (failure x) = Some x
@@ -36,17 +36,17 @@ tree_of_answer limit = None
 
 -- ---- promises
 
--- of a success with this typed copy and these capabilities
+-- the promises of a success with this typed copy and these capabilities
 pub record SuccessPromises (world : World) (e : Source) (x : TypedTree) (c : Caps) : Type 0 where
   -- evaluation gives a value of the type, or fails in an allowed way
   pub typed : HasFound (annotation x) (eval world e)
   pub safe : IsSafe (eval world e)
-  -- where it is true, the capabilities hold
+  -- where the expression is true, the capabilities hold
   pub known : IsTrueOutcome (eval world e) → AllHold world c
-  -- the copy evaluates to the same
+  -- the copy evaluates as the expression does
   pub same : EvaluatesAs world x e
 
--- of a failure with this typed copy: a value has the type that was found all the same
+-- the promises of a failure with this typed copy: a value has the type that was found all the same
 pub record FailurePromises (world : World) (e : Source) (x : TypedTree) : Type 0 where
   pub typed : HasFound (annotation x) (eval world e)
   pub same : EvaluatesAs world x e
@@ -56,8 +56,8 @@ AnswerPromises world e (success x c) = SuccessPromises world e x c
 AnswerPromises world e (failure x) = FailurePromises world e x
 AnswerPromises world e limit = Unit {0}
 
--- the promise is kept in each world of a setting that is reliable in the mode, in which the slots of the expression are bound
--- and the prior capabilities hold
+-- the promise is kept in each world of a setting that is reliable in the mode, if the slots of the expression are bound and
+-- the prior capabilities hold
 abbrev pub IsSoundAnswerIn : ValidationMode → Setting → Source → Caps → Answer → Type 0
 IsSoundAnswerIn m s e prior a =
     IsReliableIn m s

@@ -1,5 +1,5 @@
--- What the rules say of an expression: that it has a type, that it fails and how it is typed all the
--- same, or that it is cut, as a part of it is nested too deep.
+-- The judgments of typing: an expression is derived, with a type; or it fails, and is typed all the
+-- same; or it is cut, because a part of it is nested too deep.
 use Rattle.std.specs.Prelude.{◌≡◌, ℕ, ◌≤◌, ◌<◌, Bool, true, false, List, [], ◌∷◌, ◌++◌, Option, Some, None}
 use Rattle.cedar_types.specs.declared.base.location.Loc.{Loc}
 use Rattle.cedar_types.specs.Types.{Ty}
@@ -10,7 +10,7 @@ use Rattle.cedar_typing.specs.TypeEnv.{TypeEnv, finding}
 use Rattle.cedar_typing.specs.TypeTests.{accepts}
 use Rattle.cedar_typing.specs.TypedExpr.{TypedTree, annotation, without_type}
 
--- a typed expression: its type, the capabilities that it produces, and its typed copy
+-- a derived expression: its type, the capabilities that it produces, and its typed copy
 abbrev pub Derivation : Type 1
 Derivation = Ty → Caps → TypedTree → Type 0
 
@@ -19,7 +19,7 @@ Derivation = Ty → Caps → TypedTree → Type 0
 abbrev pub Recovery : Type 1
 Recovery = TypedTree → List Finding → Type 0
 
--- an expression with a part that is too deep: the errors found in it
+-- a cut expression, with a part that is too deep: the errors found in it
 abbrev pub Cut : Type 1
 Cut = List Finding → Type 0
 
@@ -52,7 +52,7 @@ pub data CutAt (d : ℕ) (C : Cut) : List Finding → Type 0 where
   too_deep : max_nesting < d → CutAt d C []
   by_part : {es : List Finding} → d ≤ max_nesting → C es → CutAt d C es
 
--- only within the limit an expression is visited
+-- an expression is visited only within the limit
 abbrev pub visited : ℕ → Judgment → Judgment
 visited d J = record {
   derives = λ t c e. (d ≤ max_nesting) × J.derives t c e;
@@ -62,34 +62,36 @@ visited d J = record {
 
 -- ---- parts
 
--- what a part gives the whole: whether it succeeded, its capabilities, its typed copy, its errors
+-- the results of a part that the whole uses: whether it succeeded, its capabilities, its typed copy,
+-- its errors
 abbrev pub Giving : Type 1
 Giving = Bool → Caps → TypedTree → List Finding → Type 0
 
--- a part that is no limit; a failed one gives no capabilities
+-- the results of a part that is not cut. A failed part gives no capabilities
 pub data PartResult (J : Judgment) : Bool → Caps → TypedTree → List Finding → Type 0 where
   derived : {t : Ty} {c : Caps} {e : TypedTree} → J.derives t c e → PartResult J true c e []
   recovered : {e : TypedTree} {es : List Finding}
       → J.recovers e es → PartResult J false no_caps e es
 
--- a part at l that has to be of one of the types ts
+-- a part at l that must be of one of the types ts
 pub data Operand (env : TypeEnv) (ts : List Ty) (l : Option Loc) (J : Judgment) :
     Bool → Caps → TypedTree → List Finding → Type 0 where
-  -- its type is one of them
+  -- the part's type is accepted
   accepted : {succeeded : Bool} {c : Caps} {e : TypedTree} {es : List Finding} (t : Ty)
       → PartResult J succeeded c e es → annotation e ≡ Some t → accepts ts t ≡ true
       → Operand env ts l J succeeded c e es
-  -- it is not, which is an error there, and the type is lost
+  -- the part's type is another one, which is an error there, and the part loses its type, so that no
+  -- rule goes on with it
   refused : {succeeded : Bool} {c : Caps} {e : TypedTree} {es : List Finding} (t : Ty)
       → PartResult J succeeded c e es → annotation e ≡ Some t → accepts ts t ≡ false
       → Operand env ts l J false no_caps (without_type e)
       (es ++ finding env l (unexpected_type (in_order ts) t) ∷ [])
-  -- no type was found, which is no other error
+  -- the part has no type, which adds no error, because the part has failed already
   missing : {succeeded : Bool} {c : Caps} {e : TypedTree} {es : List Finding}
       → PartResult J succeeded c e es → annotation e ≡ None
       → Operand env ts l J false no_caps e es
 
--- a part that is visited whatever comes of another: its errors, whether it is cut or not
+-- the errors of a part that is visited whatever another part results in, whether it is cut or not
 pub data PartOrCut (J : Judgment) : List Finding → Type 0 where
   the_part : {succeeded : Bool} {c : Caps} {e : TypedTree} {es : List Finding}
       → PartResult J succeeded c e es → PartOrCut J es

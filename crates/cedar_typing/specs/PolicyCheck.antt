@@ -14,40 +14,41 @@ use Rattle.cedar_typing.specs.TypedExpr.{Source, TypedTree, annotation, place_of
 pub mod Outcome
 pub mod Trees
 
--- what a check comes to: a success with the typed condition; a condition that is never true, with its errors; or errors alone
+-- the verdict of a check: a success with the typed condition; a condition that is never true, with its errors; or errors
+-- alone
 pub data Verdict : Type 0 where
   succeeds : TypedTree → Verdict
   irrelevant : List Finding → TypedTree → Verdict
   fails : List Finding → Verdict
 
--- a refused condition as it is gone on with: a condition has to be a Boolean
+-- a failed condition with the results that the check uses: a condition must be a Boolean
 abbrev pub RefusedCondition : Setting → Source → TypedTree → List Finding → Type 0
 RefusedCondition s e e' es =
     (c : Caps) × Operand s.env bool_types (place_of e) (rules s e no_caps 1) false c e' es
 
--- the check of a condition, at depth 1 and without prior capabilities; the errors count as often as they are found, and their
--- order does not
+-- the check of a condition, at depth 1 and without prior capabilities. Each error counts as often as it is found; the order
+-- of errors does not count
 pub data PolicyChecks (s : Setting) (e : Source) : Verdict → Type 0 where
-  -- it has a Boolean type other than False
+  -- the condition has a Boolean type other than False
   check_true : (t : Ty) (c : Caps) {e' : TypedTree}
       → Derives s e no_caps 1 t c e' → accepts bool_types t ≡ true → is_false t ≡ false
       → PolicyChecks s e (succeeds e')
-  -- it has the type False
+  -- the condition has the type False
   check_false : (c : Caps) {e' : TypedTree}
       → Derives s e no_caps 1 (TBool False) c e' → PolicyChecks s e (irrelevant [] e')
-  -- it is refused, and False all the same
+  -- the condition has failed, and is False all the same
   check_refused_false : {e' : TypedTree} {es es' : List Finding}
       → RefusedCondition s e e' es → annotation_passes is_false (annotation e') ≡ true
       → IsPermutation es es' → PolicyChecks s e (irrelevant es' e')
-  -- it is refused, with another type or with none
+  -- the condition has failed, with another type or with none
   check_refused : {e' : TypedTree} {es es' : List Finding}
       → RefusedCondition s e e' es → annotation_passes is_false (annotation e') ≡ false
       → IsPermutation es es' → PolicyChecks s e (fails es')
-  -- a part is too deep
+  -- a part of the condition is too deep
   check_cut : {es es' : List Finding}
       → Cuts s e no_caps 1 es → IsPermutation es es' → PolicyChecks s e (fails es')
 
--- the same verdict: of the same kind and with the same typed condition, its errors in any order
+-- two verdicts are the same: of one kind, with the same typed condition, and with the same errors in any order
 pub data SameVerdict : Verdict → Verdict → Type 0 where
   same_success : {e' : TypedTree} → SameVerdict (succeeds e') (succeeds e')
   same_irrelevant : {e' : TypedTree} {es es' : List Finding}

@@ -1,4 +1,4 @@
--- Environments whose action the scope does not admit: one of them says it for all that the scope's first tests do not tell
+-- Environments whose action the scope does not admit. One of them stands for all that the scope's first tests do not tell
 -- apart.
 use Rattle.std.specs.Prelude.{◌≡◌, ◌↔◌, ◌⊎◌, Bool, true, false, ◌&&◌, List, [], ◌∷◌, map}
 use Rattle.std.specs.List.{list_all}
@@ -20,22 +20,22 @@ use Rattle.cedar_typing.specs.TypedExpr.{Source, TypedTree, Mark}
 
 -- ---- the first tests
 
--- the scope's tests of the principal and of the action: the condition's very first part
+-- the scope's tests of the principal and of the action: the first part of the condition
 abbrev pub first_tests : PlainTemplate → Source
 first_tests t =
     and (made t.place)
     (scope_at t.place Var.Principal SlotId.Principal t.principal)
     (action_scope_at t.place t.action)
 
--- where they alone are irrelevant without an error, so is the whole condition, with the same typed copy: nothing else of it
--- is visited
+-- if the first tests alone are irrelevant without an error, so is the whole condition, with the same typed copy, because
+-- nothing else of it is visited
 abbrev pub FirstTestsDecide : Type 0
 FirstTestsDecide =
     (s : Setting) (t : PlainTemplate) (x : TypedTree)
     → PolicyChecks s (first_tests t) (irrelevant [] x)
     → (v : Verdict) → PolicyChecks s (condition_of t) v ↔ (v ≡ irrelevant [] x)
 
--- where the scope admits neither action, they have the same checks
+-- the first tests have the same checks in two environments of one principal if the scope admits neither action
 abbrev pub FirstTestsAreAlike : Type 0
 FirstTestsAreAlike =
     (s : Setting) (t : PlainTemplate) (e e' : Env)
@@ -50,18 +50,19 @@ are_named_alike acts (u ∷ us) =
     is_action u
     && list_all (λ v. declares_action acts v && path_eq v.entity_type u.entity_type) (u ∷ us)
 
--- so the schema alone decides which actions the scope admits, without an error
+-- the scope names actions so that the schema alone decides which it admits, without an error
 abbrev pub names_alike : List DeclaredAction → ActionScope → Bool
 names_alike acts any_action = true
 names_alike acts (equal_action u) = true
 names_alike acts (within_actions us) = are_named_alike acts (map (λ u. u.uid) us)
 
--- an environment of an action that is of an action's type, as all declared ones are
+-- an environment of an action whose type is an action type, as that of each declared action is
 abbrev pub IsOfAction : Env → Type 0
 IsOfAction (Declared d p r) = is_action d.action ≡ true
 IsOfAction Undeclared = ⊥
 
--- where the whole condition is irrelevant without an error, and the scope does not admit the action, they are so alone
+-- if the whole condition is irrelevant without an error, and the scope does not admit the action, then the first tests are
+-- so alone
 abbrev pub FirstTestsAreQuiet : Type 0
 FirstTestsAreQuiet =
     (s : Setting) (t : PlainTemplate) (e : Env) → IsOfAction e → IsLeftOut s.env.schema t e
@@ -69,9 +70,9 @@ FirstTestsAreQuiet =
     → (x : TypedTree) → PolicyChecks (in_env s e) (condition_of t) (irrelevant [] x)
     → PolicyChecks (in_env s e) (first_tests t) (irrelevant [] x)
 
--- ---- their typed copies
+-- ---- the typed copies of the first tests
 
--- a literal, a slot, or a set of such
+-- a list of literals and slots
 abbrev pub are_leaves : Trees Mark → Bool
 are_leaves no_trees = true
 are_leaves (tree (lit m k) ts) = are_leaves ts
@@ -87,7 +88,8 @@ abbrev pub is_variable : TypedTree → Bool
 is_variable (var m k) = true
 is_variable e = false
 
--- `true`, `v is T`, `v == x` and `v in x` of a variable v, and such tests joined by `&&`: nothing is accessed but variables
+-- `true`, `v is T`, `v == x` and `v in x` for a variable v, and such tests joined by `&&`: they access nothing but
+-- variables
 abbrev pub tests_variables : TypedTree → Bool
 tests_variables (lit m k) = true
 tests_variables (is_type m a n) = is_variable a
@@ -103,8 +105,8 @@ FirstTestsTestVariables =
 
 -- ---- environments that stand for others
 
--- an environment of a declared action that the scope does not admit has one verdict, and one of `some` has the very same:
--- irrelevant without an error, where nothing was typed but tests of variables
+-- the environment is one of a declared action that the scope does not admit. It has one verdict, and an environment of
+-- `some` has that verdict too: irrelevant without an error, after only tests of variables were typed
 pub record IsStoodFor (Checks : Env → Verdict → Type 0) (s : Schema) (t : PlainTemplate)
     (some : List Env) (e : Env) : Type 0 where
   pub other : Env
@@ -117,7 +119,7 @@ pub record IsStoodFor (Checks : Env → Verdict → Type 0) (s : Schema) (t : Pl
   pub other_verdict : (v : Verdict) → Checks other v ↔ (v ≡ irrelevant [] copy)
   pub tests : tests_variables copy ≡ true
 
--- `some` are of all environments, and stand for the others
+-- the environments of `some` are among all environments, and stand for the others
 pub record Represents (Checks : Env → Verdict → Type 0) (s : Schema) (t : PlainTemplate)
     (all some : List Env) : Type 0 where
   pub of_all : (e : Env) → IsOneOf e some → IsOneOf e all

@@ -1,4 +1,4 @@
--- What an expression is typed in.
+-- Type environments, in which expressions are typed.
 use Rattle.std.specs.Prelude.{List, Option}
 use Rattle.cedar_types.specs.declared.base.location.Loc.{Loc}
 use Rattle.cedar_types.specs.declared.base.types.ValidationMode.{ValidationMode}
@@ -7,8 +7,8 @@ use Rattle.cedar_types.specs.Schemas.{Schema}
 use Rattle.cedar_types.specs.Environments.RequestEnvs.{Env}
 use Rattle.cedar_types.specs.Errors.{Fault, Finding}
 
--- the schema, the mode, the request environment, the extension types that `<` and `<=` compare, and
--- the policy that errors name
+-- a type environment: the schema, the mode, the request environment, the extension types that `<`
+-- and `<=` compare, and the policy that errors name
 pub record TypeEnv : Type 0 where
   pub schema : Schema
   pub mode : ValidationMode
@@ -16,6 +16,6 @@ pub record TypeEnv : Type 0 where
   pub overloaded_types : List Path
   pub policy : Text
 
--- an error of that policy at a place
+-- an error of the environment's policy at a place
 abbrev pub finding : TypeEnv → Option Loc → Fault → Finding
 finding env l f = record { place = l; policy = env.policy; fault = f }

@@ -1,4 +1,5 @@
--- Tests of types: what an operand may have to be, and what the rules ask of the type of a part.
+-- Tests of types: the expected types of operands, and the tests that the rules make of the type of
+-- a part.
 use Rattle.std.specs.Prelude.{Bool, true, false, List, [], ◌∷◌, Option, Some, None}
 use Rattle.std.specs.List.{list_any}
 use Rattle.cedar_types.specs.declared.base.types.BoolType.TheVariants.{AnyBool, True, False}
@@ -7,9 +8,11 @@ use Rattle.cedar_types.specs.Types.{Ty, TBool, TLong, TString, TSet, TAnySet, TR
 use Rattle.cedar_types.specs.Types.Bounds.{is_subtype}
 pub mod Joins
 
--- ---- what an operand may have to be
+-- ---- expected types of operands
 
--- an operand is accepted whose type is, in Permissive, a subtype of one of those that are expected
+-- a type is accepted if it is a subtype of an expected one, in every mode by the subtypes of
+-- Permissive, because those of Strict are too narrow: an access needs any record, and finds one
+-- with attributes
 abbrev pub accepts : List Ty → Ty → Bool
 accepts ts t = list_any (is_subtype Permissive t) ts
 
@@ -48,7 +51,7 @@ abbrev pub is_true : Ty → Bool
 is_true (TBool True) = true
 is_true t = false
 
--- neither True nor False
+-- whether the type is Bool, neither True nor False
 abbrev pub is_any_bool : Ty → Bool
 is_any_bool (TBool AnyBool) = true
 is_any_bool t = false
@@ -57,7 +60,7 @@ abbrev pub is_record : Ty → Bool
 is_record (TRecord xs o) = true
 is_record t = false
 
--- whether a type was found that passes
+-- whether a type was found, and passes the test
 abbrev pub annotation_passes : (Ty → Bool) → Option Ty → Bool
 annotation_passes test None = false
 annotation_passes test (Some t) = test t

@@ -1,4 +1,4 @@
--- What the check of a policy in all of its environments comes to.
+-- The outcome of the check of a policy in all of its environments.
 use Rattle.std.specs.Prelude.{◌≡◌, ◌↔◌, Bool, true, false, cond, List, [], ◌∷◌, ◌++◌, IsPermutation}
 use Rattle.std.specs.List.{flat_map, list_all}
 use Rattle.cedar_types.specs.Errors.{Finding, Warning, impossible_policy}
@@ -7,13 +7,13 @@ use Rattle.cedar_types.specs.Templates.{PlainTemplate}
 use Rattle.cedar_typing.specs.Evaluation.Conformance.{IsOneOf}
 use Rattle.cedar_typing.specs.PolicyCheck.{Verdict, succeeds, irrelevant, fails}
 
--- ---- of one environment
+-- ---- one environment
 
 abbrev pub is_silent : List Finding → Bool
 is_silent [] = true
 is_silent (f ∷ fs) = false
 
--- a success passes, and an irrelevant condition without errors
+-- a success passes, and so does an irrelevant condition without errors
 abbrev pub passes : Verdict → Bool
 passes (succeeds e) = true
 passes (irrelevant es e) = is_silent es
@@ -29,20 +29,20 @@ errors_in (succeeds e) = []
 errors_in (irrelevant es e) = es
 errors_in (fails es) = es
 
--- ---- of all environments
+-- ---- all environments
 
--- a verdict of each environment, by what is said of an environment and a verdict
+-- a verdict for each environment, by a relation between an environment and a verdict
 abbrev pub VerdictsOf : (Env → Verdict → Type 0) → List Env → List Verdict → Type 0
 VerdictsOf Checks [] [] = Unit {0}
 VerdictsOf Checks [] (v ∷ vs) = ⊥
 VerdictsOf Checks (e ∷ es) [] = ⊥
 VerdictsOf Checks (e ∷ es) (v ∷ vs) = Checks e v × VerdictsOf Checks es vs
 
--- the policy passes where each environment does
+-- the policy passes if each environment passes
 abbrev pub all_pass : List Verdict → Bool
 all_pass = list_all passes
 
--- it is impossible where it is irrelevant in each, so where there is none too
+-- the policy is impossible if it is irrelevant in each environment, so also if there is none
 abbrev pub all_irrelevant : List Verdict → Bool
 all_irrelevant = list_all is_irrelevant
 
@@ -53,16 +53,16 @@ all_errors = flat_map errors_in
 abbrev pub impossible : PlainTemplate → Warning
 impossible t = record { place = t.place; policy = t.id; slip = impossible_policy }
 
--- it is given where the policy is impossible
+-- the warning is given if the policy is impossible
 abbrev pub warnings_of : PlainTemplate → List Verdict → List Warning
 warnings_of t vs = cond (all_irrelevant vs) (impossible t ∷ []) []
 
--- the members of the new set are those of the old one and these
+-- the members of the new set are those of the old one and of the list
 abbrev pub Adds : {A : Type 0} → List A → List A → List A → Type 0
 Adds {A} old these new = (x : A) → IsOneOf x new ↔ IsOneOf x (old ++ these)
 
--- what the check of a policy comes to: `Checks` says which verdicts an environment has, and both sets are given before and
--- after
+-- the outcome of the check of a policy. `Checks` relates an environment to its verdicts, and both sets are given before
+-- and after
 pub record PolicyOutcome (Checks : Env → Verdict → Type 0) (envs : List Env)
     (t : PlainTemplate) (answer : Bool)
     (errors errors' : List Finding) (warnings warnings' : List Warning) : Type 0 where
@@ -71,8 +71,8 @@ pub record PolicyOutcome (Checks : Env → Verdict → Type 0) (envs : List Env)
   pub verdicts : List Verdict
   pub in_some_order : IsPermutation listed envs
   pub checked : VerdictsOf Checks listed verdicts
-  -- it is answered whether the policy passes
+  -- the answer tells whether the policy passes
   pub answered : answer ≡ all_pass verdicts
-  -- all errors are added, and the warning where it is due
+  -- all errors are added, and so is the warning if the policy is impossible
   pub errors_added : Adds errors (all_errors verdicts) errors'
   pub warnings_added : Adds warnings (warnings_of t verdicts) warnings'

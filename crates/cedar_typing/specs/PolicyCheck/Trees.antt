@@ -1,4 +1,4 @@
--- The typed condition of a check, also of one that fails.
+-- The typed condition of a check, even of one that fails.
 use Rattle.std.specs.Prelude.{◌≡◌, true, List, [], Option, Some, None, option_map}
 use Rattle.cedar_types.specs.Types.{Ty}
 use Rattle.cedar_types.specs.Errors.{Finding}
@@ -11,18 +11,18 @@ use Rattle.cedar_typing.specs.Setting.{Setting}
 use Rattle.cedar_typing.specs.TypeTests.{accepts, bool_types}
 use Rattle.cedar_typing.specs.TypedExpr.{Source, TypedTree, place_of}
 
--- the typed copy of a condition, by the rules that `PolicyChecks` has of its verdict
+-- the typed copy of a condition, by the same rules as its verdict in `PolicyChecks`
 pub data HasTypedCondition (s : Setting) (e : Source) : Option TypedTree → Type 0 where
-  -- it has a Boolean type
+  -- the condition has a Boolean type
   typed_condition : (t : Ty) (c : Caps) {x : TypedTree}
       → Derives s e no_caps 1 t c x → accepts bool_types t ≡ true → HasTypedCondition s e (Some x)
-  -- it is refused, and typed all the same
+  -- the condition has failed, but is typed all the same
   refused_condition : {x : TypedTree} {es : List Finding}
       → RefusedCondition s e x es → HasTypedCondition s e (Some x)
-  -- a part is too deep
+  -- a part of the condition is too deep
   cut_condition : (es : List Finding) → Cuts s e no_caps 1 es → HasTypedCondition s e None
 
--- ---- as a function
+-- ---- the typed condition as a function
 
 abbrev pub part_tree : Part → TypedTree
 part_tree p = p.tree

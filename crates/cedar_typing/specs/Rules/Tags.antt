@@ -69,7 +69,7 @@ get_known_tag env l s [] =
 get_known_tag env l s (t ∷ ts) = tag_by_bound env l (t ∷ ts) (list_lub env.mode (t ∷ ts))
 
 -- a tag that is not known to be there is an error at the whole, because no schema requires a tag.
--- So is Never
+-- So is Never, for which there is no rule
 abbrev pub get_tag_table : TypeEnv → Option Loc → Bool → Option Ty → Decision
 get_tag_table env l known None = refuses None []
 get_tag_table env l known (Some s) =

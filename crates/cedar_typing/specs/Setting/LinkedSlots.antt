@@ -2,7 +2,7 @@
 use Rattle.std.specs.Prelude.{Some}
 use Rattle.cedar_types.specs.Environments.RequestEnvs.{Env, Declared}
 
--- both slots are linked to types
+-- both slots of the environment are linked to types
 abbrev pub LinksBothSlots : Env → Type 0
 LinksBothSlots (Declared d (Some p) (Some r)) = Unit {0}
 LinksBothSlots e = ⊥
