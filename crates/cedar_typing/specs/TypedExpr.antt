@@ -1,4 +1,4 @@
--- Typed expressions as trees: at each node the type that was found, and where the node was written.
+-- Typed expressions as trees: each node has the type that was found, and its place in the text.
 use Rattle.std.specs.Prelude.{Option, Some, None}
 use Rattle.cedar_types.specs.declared.base.location.Loc.{Loc}
 use Rattle.cedar_types.specs.declared.base.expressions.Expr.{Expr}
@@ -14,7 +14,7 @@ pub record Mark : Type 0 where
   pub ty : Option Ty
   pub at : Written
 
--- an expression as it was written, and one that is typed
+-- an expression as it was written, and a typed expression
 abbrev pub Source : Type 0
 Source = Tree Written
 
@@ -27,7 +27,7 @@ typed t m = record { ty = Some t; at = m }
 abbrev pub untyped : Written → Mark
 untyped m = record { ty = None; at = m }
 
--- a node that has another's type, if that has one
+-- a node with the type of another node, if that has one
 abbrev pub typed_as : Option Ty → Written → Mark
 typed_as t m = record { ty = t; at = m }
 
@@ -76,24 +76,24 @@ with_mark d (is_type m a n) = is_type d a n
 with_mark d (set_of m ts) = set_of d ts
 with_mark d (record_of m fs) = record_of d fs
 
--- where an expression stands
+-- the place of an expression
 abbrev pub place_of : Source → Option Loc
 place_of e = (mark_of e).place
 
--- the type at the root, if one was found
+-- the type at the root of a typed expression, if one was found
 abbrev pub annotation : TypedTree → Option Ty
 annotation e = (mark_of e).ty
 
--- the same without the type at its root
+-- the typed expression without the type at its root
 abbrev pub without_type : TypedTree → TypedTree
 without_type e = with_mark (untyped (mark_of e).at) e
 
--- the same at another place
+-- the typed expression at another place
 abbrev pub at_place : Option Loc → TypedTree → TypedTree
 at_place l e =
     with_mark
     (record { ty = annotation e; at = record { place = l; names = (mark_of e).at.names } }) e
 
--- an expression's form alone
+-- the form of an expression, without places and types
 abbrev pub form_of : Source → Shape
 form_of = map_tree (λ _. tt)

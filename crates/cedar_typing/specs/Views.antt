@@ -1,5 +1,5 @@
--- The words of private contracts: what the program's values stand for in inference, and what answers
--- give inside the crate, in types that callers do not see.
+-- The words of private contracts: the views of the program's values as inference has them, and the
+-- relations between answers inside the crate, in types that callers do not see.
 use Rattle.std.specs.Prelude.{◌≡◌, true, false, ◌&&◌, Option, Some, None, is_some, option_map, List, [], ◌∷◌, ◌++◌, map, if◌then◌else◌}
 use Rattle.std.specs.declared.alloc.Global.{Global}
 use Rattle.std.specs.declared.rc.RcStr.{RcStr}
@@ -61,7 +61,7 @@ pub mod EnvironmentChecks
 pub mod ExpressionChecks
 pub mod ConditionChecks
 
--- what is typed in
+-- the type environment of the checker
 abbrev pub env_at : CheckerEnv → TypeEnv
 env_at c = record {
   schema = schema_of c.schema.now;
@@ -71,7 +71,7 @@ env_at c = record {
   policy = text_of c.policy_id.now.text;
 }
 
--- a node at a place, in which no name stands
+-- a node at a place, without names in it
 abbrev pub at : Option Loc → Written
 at l = record { place = l; names = no_name }
 
@@ -88,7 +88,7 @@ expected_types Expected.Ancestor = ancestor_types
 expected_types Expected.Object = object_types
 expected_types (Expected.Exactly t) = ty_of t.now ∷ []
 
--- what the first operand has to be, where all have to be of some types, and the types of the others: the
+-- the expectation of the first operand, if all have expected types, and the types of the others: the
 -- last type stays
 abbrev pub first_wanted : List Ty → Expectation
 first_wanted [] = None
@@ -99,13 +99,13 @@ later_types [] = []
 later_types (t ∷ []) = t ∷ []
 later_types (t ∷ u ∷ ts) = u ∷ ts
 
--- an answer
+-- the view of an answer
 abbrev pub answer_of : TypecheckAnswer → Answer
 answer_of (TypecheckSuccess e c) = success (typed_tree e.value) (caps c)
 answer_of (TypecheckFail e) = failure (typed_tree e.value)
 answer_of RecursionLimit = limit
 
--- a part
+-- the view of a part
 abbrev pub part_of : TypedPart → Part
 part_of p = part_with p.succeeded (caps p.capabilities) (typed_tree p.typed.value)
 
@@ -132,7 +132,7 @@ abbrev pub decision_of : TableDecision → Decision
 decision_of (Gives t c) = gives (ty_of t) (caps c)
 decision_of (Refuses t fs) = refuses (option_map ty_of t) (findings fs.items)
 
--- one operand: the form, and its node as it was written at a place
+-- the form with one operand, and its node as it was written at a place
 abbrev pub form_of_one : TypeEnv → Written → Caps → Source → OneOperand → Form
 form_of_one env m prior e (Unary o) = unary_form m o
 form_of_one env m prior e (Has x) = has_form env m prior e (text_of x.now)
@@ -149,7 +149,7 @@ mark_of_one l (Like p) = at l
 mark_of_one l (Is n) = record { place = l; names = of_type n.now.loc }
 mark_of_one l (Chain c) = at l
 
--- two operands
+-- the form with two operands
 abbrev pub form_of_two : TypeEnv → Written → Caps → Source → Source → TwoOperands → Form
 form_of_two env m prior a b Equality = equality_form env m a b
 form_of_two env m prior a b (Comparison o) = comparison_form env m (place_of a) (place_of b) o
@@ -160,19 +160,19 @@ form_of_two env m prior a b (ContainsSeveral o) = contains_several_form env m o
 form_of_two env m prior a b HasTag = has_tag_form env m prior a b
 form_of_two env m prior a b GetTag = get_tag_form env m prior a b
 
--- two operands that are typed, or too deep
+-- the result of two operands, each of which is typed or too deep
 abbrev pub two_parts : Option Part → Option Part → Operands
 two_parts None q = cut_after []
 two_parts (Some p) None = cut_after (p.tree ∷ [])
 two_parts (Some p) (Some q) = all_typed (q.succeeded && p.succeeded) (p.tree ∷ q.tree ∷ [])
 
--- operands of any number, one after another
+-- the result of operands of any number
 abbrev pub operands_of : OperandList → Operands
 operands_of e =
     if e.is_cut then cut_after (map typed_tree e.typed.items)
     else all_typed e.succeeded (map typed_tree e.typed.items)
 
--- one more operand after others: where it has no part, it is too deep
+-- the result with one more operand, which is too deep if it has no part
 abbrev pub with_element : Operands → Option Part → Operands
 with_element (all_typed succeeded xs) (Some p) =
     all_typed (p.succeeded && succeeded) (xs ++ p.tree ∷ [])
@@ -187,22 +187,22 @@ keys_in es = map (λ e. text_of e.0) es
 abbrev pub trees_in : List (RcStr Global × Expr (Option CedarType)) → List TypedTree
 trees_in es = map (λ e. typed_tree e.1) es
 
--- the values of fields, one after another
+-- the result of the values of fields
 abbrev pub field_operands : FieldValues → Operands
 field_operands f =
     if f.is_cut then cut_after (trees_in f.typed.entries)
     else all_typed f.succeeded (trees_in f.typed.entries)
 
--- a type, or a failure without an error
+-- the decision for a type, or for a failure without an error
 abbrev pub decision_without_errors : Option Ty → Decision
 decision_without_errors (Some t) = gives t no_caps
 decision_without_errors None = refuses None []
 
--- what the steps of a chain say so far
+-- the progress of a chain
 abbrev pub progress_of : TableProgress → Progress
 progress_of p = record { earned = caps_so_far p.earned; all_true = p.all_true }
 
--- what a chain comes to by a step, or by a step and an access, where it goes on as `next` says
+-- the decision on a chain by a step, or by a step and an access, if it goes on as `next` does
 abbrev pub by_step : Step → (Progress → Decision) → Decision
 by_step (step.Ends d) next = decision_of d
 by_step (step.GoesOn p k) next = next (progress_of p)
@@ -211,14 +211,15 @@ abbrev pub by_link : Link → (Ty → Progress → Decision) → Decision
 by_link (link.Ends d) next = decision_of d
 by_link (link.GoesOn t p) next = next (ty_of t) (progress_of p)
 
--- where it goes on, it says whether the attribute is known now, from before or by steps of this chain
+-- if the chain goes on, the step tells whether the attribute is known now, from before or from steps of
+-- this chain
 abbrev pub KnowsAfter : Caps → Cap → Step → Type 0
 KnowsAfter prior there (step.Ends d) = Unit {0}
 KnowsAfter prior there (step.GoesOn p k) = k ≡ union prior (caps_so_far p.earned) there
 
--- ---- what answers give
+-- ---- parts of answers
 
--- an answer gives its expression: a failure no capabilities, the limit nothing
+-- an answer hands on its expression as a part: a failure no capabilities, the limit nothing
 abbrev pub BecomesPart : TypecheckAnswer → Option TypedPart → Type 0
 BecomesPart (TypecheckSuccess e c) p =
     p ≡ Some (record { typed = e; capabilities = c; succeeded = true })
@@ -227,7 +228,8 @@ BecomesPart (TypecheckFail e) p =
     × (p ≡ Some (record { typed = e; capabilities = c; succeeded = false }))
 BecomesPart RecursionLimit p = p ≡ None
 
--- what was gathered is what the taken items give, whether a limit came, and whether none had failed
+-- the gathered parts are those of the taken items, with whether a limit came, and whether none had
+-- failed
 pub record Gathers {S : Type 0} (steps : S → Option Answered → S → Type 0) (s : S) (g : Gathered) :
     Type 0 where
   pub taken : Taken steps s

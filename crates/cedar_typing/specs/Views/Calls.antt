@@ -1,4 +1,4 @@
--- What is known of a call of the program before its arguments are typed.
+-- Views of a call of the program before its arguments are typed.
 use Rattle.std.specs.Prelude.{◌≡◌, List, map, Option, option_map}
 use Rattle.cedar_types.specs.declared.base.location.Loc.{Loc}
 use Rattle.cedar_types.specs.Errors.{Fault, Finding}
@@ -14,11 +14,11 @@ use Rattle.cedar_typing.specs.TypedExpr.{Source}
 use Rattle.cedar_typing.specs.Views.{findings}
 use Rattle.cedar_typing.specs.declared.typecheck.rules.calls.Call.{Call}
 
--- faults at a place
+-- faults as errors at a place
 abbrev pub added_at : TypeEnv → Option Loc → List Fault → List Finding
 added_at env l fs = map (finding env l) fs
 
--- a call of this name with these arguments: what it answers, what it wants and what is wrong with it
+-- a call of this name with these arguments: its return type, its expected types and its errors
 pub record IsCallOf (s : Setting) (l : Option Loc) (n : Path) (xs : List Source)
     (c : Call) : Type 0 where
   pub returns : option_map (λ t. ty_of t.now) c.return_type
@@ -28,7 +28,7 @@ pub record IsCallOf (s : Setting) (l : Option Loc) (n : Path) (xs : List Source)
       (call_errors s.env l (function_named n s.functions) n xs)
   pub errors : findings c.errors.items ≡ call_errors s.env l (function_named n s.functions) n xs
 
--- its form, where this is expected of its arguments
+-- the form of a call with these expectations
 abbrev pub shape_of : Written → Path → List Expectation → Call → Form
 shape_of m n qs c =
     form_of_call m n (option_map (λ t. ty_of t.now) c.return_type) qs (findings c.errors.items)

@@ -1,4 +1,4 @@
--- What the checker of the program and its answers stand for.
+-- Views of the program's checker and of its answers.
 use Rattle.std.specs.Prelude.{map}
 use Rattle.std.specs.Borrow.{Bor}
 use Rattle.cedar_types.specs.declared.base.expressions.extensions.ExtensionSchemas.{ExtensionSchemas}
@@ -26,7 +26,7 @@ verdict_of (Irrelevant es e) = irrelevant (map finding_of es.items) (typed_tree 
 verdict_of (Fail es) = fails (map finding_of es.items)
 
 module _ {C : Type 0} where
-  -- what a checker types by: the schema, the extension functions and the mode
+  -- the parts of a checker: the schema, the extension functions and the mode
   unfoldable pub schema_by : Typechecker C → Bor ValidatorSchema
   schema_by c = c.schema
 
@@ -36,7 +36,8 @@ module _ {C : Type 0} where
   unfoldable pub mode_by : Typechecker C → ValidationMode
   mode_by c = c.mode
 
-  -- what a template is typed in; `meaning` says what each check of arguments means
+  -- the setting in which a template is typed. `meaning` gives the meaning of each check of
+  -- arguments
   abbrev pub setting_within : (C → Refusals) → Typechecker C → Template → Env → Setting
   setting_within meaning c t env = record {
     env = record {
@@ -52,7 +53,7 @@ module _ {C : Type 0} where
   abbrev pub setting_for : (C → Refusals) → Typechecker C → Template → RequestEnv → Setting
   setting_for meaning c t env = setting_within meaning c t (env_of env)
 
-  -- what it stands on, whatever the template and the environment
+  -- the basis of a checker, whatever the template and the environment
   abbrev pub basis_of : (C → Refusals) → Typechecker C → Basis
   basis_of meaning c = record {
     schema = schema_of (schema_by c).now;

@@ -1,4 +1,4 @@
--- What the check of a condition stands for: its verdict, and its typed condition, also of one that fails.
+-- Views of the check of a condition: its verdict, and its typed condition, even if it fails.
 use Rattle.std.specs.Prelude.{Option, Some, option_map, map}
 use Rattle.cedar_types.specs.Errors.{finding_of}
 use Rattle.cedar_typing.specs.declared.typecheck.condition_checks.ConditionCheck.{ConditionCheck}

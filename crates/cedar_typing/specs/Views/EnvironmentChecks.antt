@@ -1,4 +1,4 @@
--- What the iterator over the checks of a template gives.
+-- Views of the iterator over the checks of a template.
 use Rattle.std.specs.Prelude.{◌≡◌, Bool, List, [], cond, Option, Some, None, option_map, Result, Ok, Err}
 use Rattle.cedar_types.specs.declared.base.templates.Template.{Template}
 use Rattle.cedar_types.specs.declared.types.request_env.RequestEnv.{RequestEnv}
@@ -23,7 +23,7 @@ module _ {C : Type 0} where
   unfoldable pub template_in : RequestEnvChecks C → Template
   template_in s = s.template.now
 
-  -- the condition that is typed: what was made of the scope, and the template's rest
+  -- the condition that is typed: the scope's part, and the template's rest
   unfoldable pub condition_in : RequestEnvChecks C → Tree Written
   condition_in s =
       with_rest s.template.now.loc (written s.scope)
@@ -33,7 +33,7 @@ module _ {C : Type 0} where
   unfoldable pub checks_left : RequestEnvChecks C → List Env
   checks_left s = cond s.ended [] (linked_left s.linked)
 
-  -- whether nothing will come again
+  -- whether the iterator has ended for good
   unfoldable pub checks_are_over : RequestEnvChecks C → Bool
   checks_are_over s = s.ended
 

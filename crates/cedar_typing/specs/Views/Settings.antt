@@ -1,4 +1,4 @@
--- What the checker stands for in inference, and inference by the forms of the program.
+-- Settings of the program's checkers, and inference by the forms of the program.
 use Rattle.std.specs.Prelude.{ℕ, ◌+◌, List}
 use Rattle.cedar_types.specs.Errors.{Finding}
 use Rattle.cedar_types.specs.Extensions.Functions.{Refusals}
@@ -18,7 +18,7 @@ use Rattle.cedar_typing.specs.declared.typecheck.rules.one_operand.OneOperand.{O
 use Rattle.cedar_typing.specs.declared.typecheck.rules.two_operands.TwoOperands.{TwoOperands}
 use Rattle.cedar_typing.specs.declared.typecheck.single_env.SingleEnvTypechecker.{SingleEnvTypechecker}
 
--- what is typed in; `meaning` says what each check of arguments means
+-- the setting of a checker. `meaning` gives the meaning of each check of arguments
 abbrev pub setting_at : {C : Type 0} → (C → Refusals) → SingleEnvTypechecker C → Setting
 setting_at meaning c =
     record { env = env_at c.env; functions = functions_of meaning c.extensions.now }
