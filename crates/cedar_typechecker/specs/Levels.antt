@@ -1,4 +1,5 @@
--- Levels: how many entities a policy accesses, one after another, from what the request names.
+-- Levels: the number of entities that a policy accesses, one after another, from those that the
+-- request names.
 pub mod Setting
 pub mod Chains
 pub mod Costs

@@ -1,5 +1,6 @@
--- Access chains of a typed expression: from the entity that it gives back, through each entity
--- that is accessed on the way, to where that begins. Its level is the most that a chain accesses.
+-- Access chains of a typed expression: from the entity that it gives back, through each entity that
+-- is accessed on the way, to the leaf at which the chain begins. The expression's level is the
+-- greatest number of accesses in a chain.
 use Rattle.std.specs.Prelude.{◌≡◌, ℕ, ◌+◌, max, Bool, true, false, List, [], ◌∷◌, ◌++◌, map, Option, Some, None, if◌then◌else◌}
 use Rattle.cedar_types.specs.declared.base.expressions.operators.BinaryOp.{BinaryOp}
 use Rattle.cedar_types.specs.Names.{Text, Uid, uid_eq, text_eq}
@@ -8,10 +9,10 @@ use Rattle.cedar_types.specs.Expressions.Tree.{has_attr, ext_has_attr, like, is_
 use Rattle.cedar_types.specs.Types.{Ty, TRecord, TEntity}
 use Rattle.cedar_typing.specs.TypedExpr.{TypedTree, Mark, annotation}
 
--- ---- what is accessed
+-- ---- bases of accesses
 
--- what the base of an access is, by the type that was found: an entity of some types, or a
--- record; an entity of any type is neither
+-- the base of an access, by the type that was found: an entity whose types are known, or a record.
+-- An entity of any type is neither, because its attributes are not known
 pub data Base : Type 0 where
   an_entity a_record neither : Base
 
@@ -28,19 +29,19 @@ abbrev pub is_get_tag : BinaryOp → Bool
 is_get_tag BinaryOp.GetTag = true
 is_get_tag o = false
 
--- the value that a record literal has at a key
+-- the value of a record literal at a key
 abbrev pub field_at : Text → Fields Mark → Option TypedTree
 field_at p no_fields = None
 field_at p (field k t fs) = if text_eq p k then Some t else field_at p fs
 
--- ---- where a chain ends
+-- ---- leaves, at which chains end
 
 pub data Leaf : Type 0 where
   -- a variable, or the literal of the environment's action
   good_leaf : Leaf
-  -- another entity literal, or a slot
+  -- another entity literal, or a slot, because its entity need not be in a slice
   literal_leaf : Leaf
-  -- anything else
+  -- any other expression
   bad_leaf : Leaf
 
 abbrev pub entity_leaf : Option Uid → Uid → Leaf
@@ -51,12 +52,12 @@ abbrev pub leaf_of_literal : Option Uid → Lit → Leaf
 leaf_of_literal a (entity u) = entity_leaf a u
 leaf_of_literal a x = bad_leaf
 
--- `b.x` is no leaf where b is an entity or a record
+-- `b.x` is no leaf if b is an entity or a record
 abbrev pub leaf_of_access : Base → Option Leaf
 leaf_of_access neither = Some bad_leaf
 leaf_of_access b = None
 
--- a record literal is no leaf where it has the first key of the path
+-- a record literal is no leaf if it has the first key of the path
 abbrev pub leaf_of_field : Option TypedTree → Option Leaf
 leaf_of_field None = Some bad_leaf
 leaf_of_field (Some t) = None
@@ -65,8 +66,8 @@ abbrev pub leaf_of_record : List Text → Fields Mark → Option Leaf
 leaf_of_record [] fs = Some bad_leaf
 leaf_of_record (p ∷ path) fs = leaf_of_field (field_at p fs)
 
--- the leaf that an expression is itself along a path, by the environment's action; none where
--- its chains go on
+-- the leaf that an expression is along a path, by the environment's action; `None` if its chains go
+-- on
 abbrev pub leaf_of : Option Uid → TypedTree → List Text → Option Leaf
 leaf_of a (lit m x) path = Some (leaf_of_literal a x)
 leaf_of a (var m x) path = Some good_leaf
@@ -79,17 +80,18 @@ leaf_of a x path = Some bad_leaf
 
 -- ---- chains
 
--- an expression has a chain of so many accesses that ends at such a leaf, along a path of
--- attributes that are selected of its value
+-- an expression has a chain with this number of accesses that ends at this leaf, along a path of
+-- attributes that are selected from its value
 pub data HasChain (a : Option Uid) : TypedTree → List Text → ℕ → Leaf → Type 0 where
   -- a leaf is its own chain, without an access
   ends : {x : TypedTree} {path : List Text} {l : Leaf}
       → leaf_of a x path ≡ Some l → HasChain a x path 0 l
-  -- `b.x` of an entity has the chains of b along the path, each with one access more
+  -- `b.x` on an entity has the chains of b along the path, each with one access more
   of_entity : {m : Mark} {b : TypedTree} {x : Text} {path : List Text} {k : ℕ} {l : Leaf}
       → base_of (annotation b) ≡ an_entity
       → HasChain a b path k l → HasChain a (get_attr m b x) path (k + 1) l
-  -- `b.x` of a record has the chains of b along x and then the path
+  -- `b.x` on a record has the chains of b along x and then the path, because the record is part of
+  -- its entity's entry
   of_record : {m : Mark} {b : TypedTree} {x : Text} {path : List Text} {k : ℕ} {l : Leaf}
       → base_of (annotation b) ≡ a_record
       → HasChain a b (x ∷ path) k l → HasChain a (get_attr m b x) path k l
@@ -108,7 +110,7 @@ pub data HasChain (a : Option Uid) : TypedTree → List Text → ℕ → Leaf �
 
 -- ---- all chains of an expression
 
--- how many entities are accessed, and where it ends
+-- a chain: the number of entities that it accesses, and its leaf
 pub record Chain : Type 0 where
   pub accesses : ℕ
   pub leaf : Leaf
@@ -153,7 +155,7 @@ abbrev mutual
   chains a (set_of m ts) path = ends_at bad_leaf
   chains a (record_of m fs) path = along_keys path (field_chains a fs)
 
-  -- those of the value at a key
+  -- the chains of a record literal's value at a key
   pub field_chains : Option Uid → Fields Mark → Text → List Text → List Chain
   field_chains a no_fields p path = ends_at bad_leaf
   field_chains a (field k t fs) p path =

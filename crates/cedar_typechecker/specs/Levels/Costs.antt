@@ -1,4 +1,5 @@
--- How many entities a chain of attributes accesses, as extended `has` tests it.
+-- The cost of a chain of attributes: the number of entities that extended `has` accesses to test
+-- it.
 use Rattle.std.specs.Prelude.{ℕ, ◌+◌, Bool, List, [], ◌∷◌, Option, Some, None, option_map}
 use Rattle.cedar_types.specs.Types.Lookups.{attribute_type}
 use Rattle.cedar_types.specs.Names.{Text}
@@ -8,7 +9,7 @@ use Rattle.cedar_typechecker.specs.Levels.Chains.{Base, an_entity, base_of_type}
 
 -- ---- costs
 
--- the root counts where it is an entity, of some types or of any
+-- the root counts if it is an entity, of some types or of any
 abbrev pub root_cost : Ty → ℕ
 root_cost (TEntity ps) = 1
 root_cost TAnyEntity = 1
@@ -22,19 +23,19 @@ abbrev pub on_attribute : {A : Type 0} → A → Option (Ty × Bool) → (Ty →
 on_attribute otherwise None f = otherwise
 on_attribute otherwise (Some a) f = f a.0
 
--- an attribute counts where it is an entity of some types and not the last of the chain, which
--- ends before the first that is not declared
+-- an attribute counts if it is an entity of some types and not the last of the chain, which ends
+-- before the first attribute that is not declared
 abbrev pub steps_cost : Schema → Ty → Text → List Text → ℕ
 steps_cost s t x [] = 0
 steps_cost s t x (y ∷ ys) =
     on_attribute 0 (attribute_type s t x)
     (λ u. entity_cost (base_of_type u) + steps_cost s u y ys)
 
--- the cost of a first attribute and the others, of a value of this type
+-- the cost of a first attribute and the others, from a value of this type
 abbrev pub chain_cost : Schema → Ty → Text → List Text → ℕ
 chain_cost s t x xs = root_cost t + steps_cost s t x xs
 
--- the same of any attributes: none cost nothing
+-- the cost of any attributes. None cost nothing
 abbrev pub attributes_cost : Schema → Ty → List Text → ℕ
 attributes_cost s t [] = 0
 attributes_cost s t (x ∷ xs) = chain_cost s t x xs
@@ -52,7 +53,7 @@ keys_to_entity s t x (y ∷ ys) =
     on_attribute None (attribute_type s t x)
     (λ u. keys_on (base_of_type u) x (keys_to_entity s u y ys))
 
--- ---- by the type that was found of a base
+-- ---- costs by the type that was found of a base
 
 abbrev pub cost_of : Schema → Option Ty → Text → List Text → ℕ
 cost_of s None x xs = 0

@@ -1,5 +1,5 @@
--- What a typed expression demands of levels, whatever the maximum is: demand after demand, as the program finds them. The
--- level errors at a maximum and the least level that is enough are both read off these.
+-- Demands of a typed expression on levels, which do not depend on the maximum: one after another, as the program finds them.
+-- The level errors at a maximum and the required level are both read from them.
 use Rattle.std.specs.Prelude.{ℕ, ◌+◌, ◌-◌, ◌^◌, ◌≤◌, min, max, nat_lt, Bool, true, false, List, [], ◌∷◌, ◌++◌, map}
 use Rattle.std.specs.Prelude.{Option, Some, None, if◌then◌else◌}
 use Rattle.std.specs.List.{flat_map}
@@ -27,18 +27,18 @@ use Rattle.cedar_typechecker.specs.Levels.Shared.{is_constant}
 pub data Need : Type 0 where
   -- this level, or a greater one
   this_level : ℕ → Need
-  -- that no literal or slot is dereferenced: no level is enough
+  -- no dereference of a literal or a slot: no level is enough
   no_literal : Need
-  -- a rule for the node: no level is enough
+  -- a rule for the node, which has none: no level is enough
   a_rule : Need
 
 pub record Demand : Type 0 where
   pub place : Option Loc
   pub need : Need
-  -- at a smaller maximum the error of an expression above stands for it
+  -- at a maximum below this, the error of an expression above stands for the demand
   pub hidden_below : ℕ
 
--- what is wrong at the maximum n
+-- the faults at the maximum n if the need is not met
 abbrev pub unless_met : ℕ → Need → List Fault
 unless_met n (this_level k) = unless_within n k
 unless_met n no_literal = literal_dereference_target ∷ []
@@ -47,7 +47,7 @@ unless_met n a_rule = internal_invariant_violation ∷ []
 abbrev pub found_for : Text → Demand → Fault → Finding
 found_for p d f = record { place = d.place; policy = p; fault = f }
 
--- what a policy p is told of a demand at the maximum n, and of all
+-- the errors of a policy p at the maximum n, from a demand; and those from all demands
 abbrev pub told_of : Text → ℕ → Demand → List Finding
 told_of p n d =
     if nat_lt n d.hidden_below then [] else map (found_for p d) (unless_met n d.need)
@@ -55,13 +55,13 @@ told_of p n d =
 abbrev pub told : Text → ℕ → List Demand → List Finding
 told p n = flat_map (told_of p n)
 
--- n is enough for a need
+-- n meets a need
 abbrev pub Meets : ℕ → Need → Type 0
 Meets n (this_level k) = k ≤ n
 Meets n no_literal = ⊥
 Meets n a_rule = ⊥
 
--- and for all demands
+-- n meets all demands
 abbrev pub MeetsAll : ℕ → List Demand → Type 0
 MeetsAll n ds = (d : Demand) → IsOneOf d ds → Meets n d.need
 
@@ -93,14 +93,14 @@ abbrev pub on_keys : {A : Type 0} → Option (List Text) → A → (List Text �
 on_keys None otherwise f = otherwise
 on_keys (Some path) otherwise f = f path
 
--- by whether the key that is followed was met
+-- by cases of whether the key that is followed was met
 abbrev pub unless_found : {A : Type 0} → Option ℕ → (ℕ → A) → A → A
 unless_found (Some k) f otherwise = f k
 unless_found None f otherwise = otherwise
 
 -- ---- the attributes of extended `has`, one after another
 
--- how many attributes after the first lead to the first entity, with the i before
+-- the number of attributes after the first that lead to the first entity, with the i before
 abbrev pub entity_after : Schema → ℕ → Ty → Text → List Text → Option ℕ
 entity_after s i t x [] = None
 entity_after s i t x (y ∷ ys) =
@@ -143,17 +143,17 @@ abbrev mutual
 
 -- ---- the walk
 
--- by what demands are found
+-- the surroundings in which demands are found
 pub record Surroundings : Type 0 where
-  -- the action of the environment, where that is of a declared one
+  -- the action of the environment, if that is one of a declared action
   pub action : Option Uid
   pub schema : Schema
 
--- of a setting, without its maximum and its policy
+-- the surroundings of a setting, without its maximum and its policy
 abbrev pub around : LevelSetting → Surroundings
 around s = record { action = s.action; schema = s.schema }
 
--- one demand more, at a place
+-- the demands with one more, at a place
 abbrev pub demands : Option Loc → Need → ℕ → List Demand → List Demand
 demands l need h ds = ds ++ record { place = l; need = need; hidden_below = h } ∷ []
 
@@ -162,8 +162,9 @@ at_leaf l good_leaf h ds = ds
 at_leaf l literal_leaf h ds = demands l no_literal h ds
 at_leaf l bad_leaf h ds = demands l a_rule h ds
 
--- extended `has`, by its base, its cost and the keys to its first entity: the cost is demanded, and the level of the base with
--- the cost. At a maximum below the cost the error of the cost stands for all that is below.
+-- the demands of extended `has`, by its base, its cost and the keys to its first entity. On an entity or a record it demands
+-- the cost, and the level of its target, if it has one, with the cost. At a maximum below the cost, the error of the cost
+-- stands for all demands below. Any other base is only checked
 abbrev pub add_chain_demands : Option Loc → Base → ℕ → Option (List Text) → (List Text → ℕ)
     → (List Text → ℕ → List Demand → List Demand) → (ℕ → List Demand → List Demand)
     → ℕ → List Demand → List Demand
@@ -178,7 +179,7 @@ add_chain_demands l neither c keys level_along on_target on_base h ds = on_base 
 
 module _ (s : Surroundings) where
   abbrev mutual
-    -- of a checked expression, hidden below h
+    -- the demands of a checked expression, hidden below h
     pub add_demands : TypedTree → ℕ → List Demand → List Demand
     add_demands (lit m x) h ds = ds
     add_demands (var m x) h ds = ds
@@ -226,7 +227,7 @@ module _ (s : Surroundings) where
     add_field_demands no_fields h ds = ds
     add_field_demands (field k t es) h ds = add_field_demands es h (add_demands t h ds)
 
-    -- of a target, along a path
+    -- the demands of a target, along a path
     pub add_target_demands : TypedTree → List Text → ℕ → List Demand → List Demand
     add_target_demands (lit m x) path h ds = at_leaf m.at.place (leaf_of_literal s.action x) h ds
     add_target_demands (var m x) path h ds = ds
@@ -256,14 +257,14 @@ module _ (s : Surroundings) where
         (λ p rest. if has_key p es then add_demands_along es p rest h ds
         else demands m.at.place a_rule h ds)
 
-    -- of the value at a key as a target, and of those at the others
+    -- the demands of a record literal's value at a key as a target, and those of the values at other keys
     pub add_demands_along : Fields Mark → Text → List Text → ℕ → List Demand → List Demand
     add_demands_along no_fields p path h ds = ds
     add_demands_along (field k t es) p path h ds =
         if text_eq p k then add_field_demands es h (add_target_demands t path h ds)
         else add_demands_along es p path h (add_demands t h ds)
 
-  -- of extended `has`
+  -- the demands of extended `has`
   abbrev pub add_demands_of_chain : Option Loc → TypedTree → Text → List Text
       → ℕ → List Demand → List Demand
   add_demands_of_chain l b x xs h ds =

@@ -1,4 +1,4 @@
--- Which parts of a typed expression are checked, and which are targets: those whose value is an
+-- The parts of a typed expression that are checked, and its targets: the parts whose value is an
 -- entity that is accessed.
 use Rattle.std.specs.Prelude.{ℕ, nat_le, Bool, true, false, List, [], ◌∷◌, Option, Some, None, if◌then◌else◌}
 use Rattle.cedar_types.specs.declared.base.expressions.operators.BinaryOp.{BinaryOp}
@@ -11,7 +11,8 @@ use Rattle.cedar_typechecker.specs.Levels.Chains.{Base, an_entity, a_record, nei
 use Rattle.cedar_typechecker.specs.Levels.Costs.{cost_of, keys_of}
 use Rattle.cedar_typechecker.specs.Levels.Setting.{LevelSetting}
 
--- an expression whose value is accessed, along a path of attributes that are selected of it first
+-- a target: an expression whose value is accessed, along a path of attributes that are selected
+-- from it first
 pub record Target : Type 0 where
   pub tree : TypedTree
   pub path : List Text
@@ -21,8 +22,8 @@ along x path = record { tree = x; path = path }
 
 -- ---- below a checked expression
 
--- `has` and `.`: of an entity the base is a target, of a record it is checked, and of anything
--- else nothing is looked at
+-- `has` and `.`: an entity base is a target, a record base is checked, and below any other base
+-- nothing is visited
 abbrev pub checked_of_base : Base → TypedTree → List TypedTree
 checked_of_base a_record b = b ∷ []
 checked_of_base k b = []
@@ -31,16 +32,17 @@ abbrev pub targets_of_base : Base → TypedTree → List Target
 targets_of_base an_entity b = along b [] ∷ []
 targets_of_base k b = []
 
--- `in`, `hasTag` and `getTag` access their first operand, and the second is checked
+-- `in`, `hasTag` and `getTag` access their first operand, because its entry has its ancestors and
+-- tags. The second operand is checked
 abbrev pub accesses_first : BinaryOp → Bool
 accesses_first BinaryOp.In = true
 accesses_first BinaryOp.HasTag = true
 accesses_first BinaryOp.GetTag = true
 accesses_first o = false
 
--- extended `has`: nothing is looked at where its cost is above the maximum n; else a record base
--- is checked, and the base is a target along the keys to the first entity, where one is met: an
--- entity base at once
+-- extended `has` on an entity or a record: nothing below is visited if its cost is above the
+-- maximum n. Else a record base is checked, and is a target along the keys to the first entity, if
+-- there is one; an entity base is a target itself. Any other base is checked
 abbrev pub checked_of_chain : ℕ → Base → ℕ → TypedTree → List TypedTree
 checked_of_chain n an_entity c b = []
 checked_of_chain n a_record c b = if nat_le c n then b ∷ [] else []
@@ -56,7 +58,7 @@ targets_of_chain n a_record c b keys = if nat_le c n then target_at_keys b keys 
 targets_of_chain n neither c b keys = []
 
 module _ (s : LevelSetting) where
-  -- the parts of a checked expression that are checked: of other forms, all
+  -- the parts of a checked expression that are checked too: in all other forms, all parts
   abbrev pub checked_parts : TypedTree → List TypedTree
   checked_parts (get_attr m b x) = checked_of_base (base_of (annotation b)) b
   checked_parts (has_attr m b x) = checked_of_base (base_of (annotation b)) b
@@ -65,7 +67,7 @@ module _ (s : LevelSetting) where
   checked_parts (binary m o b c) = if accesses_first o then c ∷ [] else b ∷ c ∷ []
   checked_parts x = parts x
 
-  -- those that are its targets: of other forms, none
+  -- the targets of a checked expression: in all other forms, none
   abbrev pub targets : TypedTree → List Target
   targets (get_attr m b x) = targets_of_base (base_of (annotation b)) b
   targets (has_attr m b x) = targets_of_base (base_of (annotation b)) b
@@ -83,7 +85,7 @@ fields_beside p no_fields = []
 fields_beside p (field k t fs) =
     if text_eq p k then field_values fs else t ∷ fields_beside p fs
 
--- if it has the key at all
+-- the values beside a key, if the record literal has the key at all
 abbrev pub checked_beside : Text → Fields Mark → Option TypedTree → List TypedTree
 checked_beside p fs None = []
 checked_beside p fs (Some t) = fields_beside p fs
@@ -105,15 +107,15 @@ next_of_access an_entity b x path = along b path ∷ []
 next_of_access a_record b x path = along b (x ∷ path) ∷ []
 next_of_access neither b x path = []
 
--- what is checked below a target: the test of an `if`, the second operand of `getTag`, and the
--- values of a record literal at the keys off the path
+-- the parts of a target that are checked: the test of an `if`, the second operand of `getTag`, and
+-- the values of a record literal at the keys off the path, because they are evaluated too
 abbrev pub checked_below : TypedTree → List Text → List TypedTree
 checked_below (if_then_else m b c d) path = b ∷ []
 checked_below (binary m o b c) path = if is_get_tag o then c ∷ [] else []
 checked_below (record_of m fs) path = checked_of_record path fs
 checked_below x path = []
 
--- the targets that a target goes back to, as its chains do: both branches of an `if`, the first
+-- the targets to which a target goes back, as its chains do: both branches of an `if`, the first
 -- operand of `getTag`, the base of `.`, and the value of a record literal at the first key
 abbrev pub next_targets : TypedTree → List Text → List Target
 next_targets (if_then_else m b c d) path = along c path ∷ along d path ∷ []
@@ -122,25 +124,26 @@ next_targets (get_attr m b x) path = next_of_access (base_of (annotation b)) b x
 next_targets (record_of m fs) path = targets_of_record path fs
 next_targets x path = []
 
--- ---- all that is checked, and all targets
+-- ---- all checked parts, and all targets
 
 mutual
-  -- in an expression that is checked as a whole, the smallest two sets that are closed so
+  -- the checked parts and the targets of an expression that is checked as a whole: the smallest two
+  -- sets that are closed under the rules above
   pub data IsChecked (s : LevelSetting) (root : TypedTree) : TypedTree → Type 0 where
     -- the whole is checked
     the_root : IsChecked s root root
-    -- of what is checked, some parts are
+    -- parts of a checked expression are checked
     part_of_checked : {x y : TypedTree}
         → IsChecked s root x → IsOneOf y (checked_parts s x) → IsChecked s root y
-    -- and some parts of a target
+    -- parts of a target are checked
     part_of_target : {x y : TypedTree} {path : List Text}
         → IsTarget s root x path → IsOneOf y (checked_below x path) → IsChecked s root y
 
   pub data IsTarget (s : LevelSetting) (root : TypedTree) : TypedTree → List Text → Type 0 where
-    -- a checked access has its targets
+    -- a checked expression has targets
     target_of_checked : {x y : TypedTree} {path : List Text}
         → IsChecked s root x → IsOneOf (along y path) (targets s x) → IsTarget s root y path
-    -- and a target goes back to others
+    -- a target goes back to other targets
     next_target : {x y : TypedTree} {path path' : List Text}
         → IsTarget s root x path → IsOneOf (along y path') (next_targets x path)
         → IsTarget s root y path'

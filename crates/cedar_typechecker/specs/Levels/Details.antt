@@ -1,4 +1,4 @@
--- What is easily got wrong of levels, as the rules compute it.
+-- Computed details of levels that are easily got wrong.
 use Rattle.std.specs.Prelude.{◌≡◌, true, false, [], ◌∷◌, Some, None, codes}
 use Rattle.cedar_types.specs.declared.base.names.slots.SlotId.{SlotId}
 use Rattle.cedar_types.specs.declared.base.types.ValidationMode.TheVariants.{Strict}
@@ -24,11 +24,11 @@ abbrev pub only_view : Fields Mark
 only_view = field (codes "foo") (lit bare (entity view)) no_fields
 
 pub record LevelDetails : Type 0 where
-  -- `if true then principal.bool else false` holds its first branch twice, with the same errors
+  -- `if true then principal.bool else false` has its first branch twice, with the same errors
   pub constant_test :
       strictly 0 (if_then_else tt true_lit (bool_of principal) false_lit)
       ≡ exceeds 0 1 ∷ exceeds 0 1 ∷ []
-  -- of `if false then principal.user.bool else true` the first branch is dropped
+  -- `if false then principal.user.bool else true` drops its first branch
   pub dropped_branch :
       strictly 0 (if_then_else tt false_lit (bool_of (user_of principal)) true_lit) ≡ []
   -- the test of an `if` that is a target is checked:
@@ -36,20 +36,21 @@ pub record LevelDetails : Type 0 where
   pub test_of_target :
       strictly 1 (bool_of (if_then_else tt (bool_of (user_of principal)) principal principal))
       ≡ exceeds 1 2 ∷ []
-  -- the second operand of `in`: `principal in resource.user.user`
+  -- the second operand of `in` is checked: `principal in resource.user.user`
   pub second_of_in : strictly 1 (is_in principal (user_of (user_of resource))) ≡ exceeds 1 2 ∷ []
-  -- of `hasTag`: `principal.hasTag(resource.user.other)`
+  -- the second operand of `hasTag` is checked: `principal.hasTag(resource.user.other)`
   pub second_of_has_tag :
       strictly 1 (has_tag principal (other_of (user_of resource))) ≡ exceeds 1 2 ∷ []
-  -- of `getTag` too, where it is a target: `principal.hasTag(t) && principal.getTag(t).bool`, for
-  -- that t, where the access of the tag needs level 2 as well
+  -- the second operand of `getTag` is checked, even if the whole is a target: `principal.hasTag(t)
+  -- && principal.getTag(t).bool`, for `resource.user.other` as t. The access of the tag needs level
+  -- 2 as well
   pub second_of_get_tag :
       strictly 1
       (and tt (has_tag principal (other_of (user_of resource)))
       (bool_of (get_tag principal (other_of (user_of resource)))))
       ≡ exceeds 1 2 ∷ exceeds 1 2 ∷ exceeds 1 2 ∷ []
-  -- extended `has` that costs too much has that one error, whatever its base:
-  -- `principal.user.user has nested.user.bool`; else its level and its cost are added
+  -- extended `has` that costs too much has only that error, whatever its base: `principal.user.user
+  -- has nested.user.bool`. Else its cost is added to the level of its base
   pub chain_alone : strictly 1 (has_three (user_of (user_of principal))) ≡ exceeds 1 2 ∷ []
   pub chain_and_base : strictly 2 (has_three (user_of (user_of principal))) ≡ exceeds 2 4 ∷ []
   pub chain_within : strictly 4 (has_three (user_of (user_of principal))) ≡ []
@@ -62,8 +63,8 @@ pub record LevelDetails : Type 0 where
   pub other_base :
       strictly 0 (and tt (has2 (bool_of principal) (codes "foo") (codes "bar")) false_lit)
       ≡ exceeds 0 1 ∷ []
-  -- the cost: a root of any entity counts, one that is no entity does not, an entity of several
-  -- types counts, and the last attribute and what follows an unknown one do not
+  -- costs: a root of any entity counts, a root that is no entity does not, an entity of several
+  -- types counts, and neither the last attribute nor those behind an unknown one do
   pub costs :
       attributes_cost photos TAnyEntity (codes "user" ∷ codes "user" ∷ codes "user" ∷ [])
       ∷ attributes_cost photos TAnyEntity []
@@ -72,15 +73,15 @@ pub record LevelDetails : Type 0 where
       ∷ attributes_cost photos a_user (codes "nope" ∷ codes "user" ∷ codes "user" ∷ [])
       ∷ []
       ≡ 1 ∷ 0 ∷ 0 ∷ 2 ∷ 1 ∷ []
-  -- the first entity: that before the last attribute, and none behind an unknown one
+  -- the first entity must come before the last attribute, and is not behind an unknown one
   pub keys :
       keys_to_entity photos a_user (codes "nested") (codes "user" ∷ codes "bool" ∷ [])
       ∷ keys_to_entity photos (TRecord one_user false) (codes "user") []
       ∷ keys_to_entity photos a_user (codes "nope") (codes "user" ∷ codes "bool" ∷ [])
       ∷ []
       ≡ Some (codes "nested" ∷ codes "user" ∷ []) ∷ None ∷ None ∷ []
-  -- the literal of the environment's action is a good leaf, that of another action and a slot are
-  -- literal leaves, and a record literal is a bad one where the path ends or has another key
+  -- the literal of the environment's action is a good leaf. That of another action, and a slot, are
+  -- literal leaves. A record literal is a bad leaf if the path ends or has another key
   pub leaves :
       leaf_of (Some view) (lit bare (entity view)) []
       ∷ leaf_of (Some view) (lit bare (entity edit)) []
@@ -92,8 +93,8 @@ pub record LevelDetails : Type 0 where
       ∷ Some bad_leaf ∷ []
   pub missing_key :
       leaf_of (Some view) (record_of bare only_view) (codes "bar" ∷ []) ≡ Some bad_leaf
-  -- where the slot is not linked its type is any entity: the check passes, and no error is found,
-  -- though an entity is accessed
+  -- an unlinked slot has the type any entity: the check passes, and no error is found, though an
+  -- entity is accessed
   pub unlinked_passes : passes (verdict_linked Strict None has_in_slot) ≡ true
   pub unlinked_0 : faults_in 0 (verdict_linked Strict None has_in_slot) ≡ []
   pub linked_0 : faults_in 0 (verdict_linked Strict (Some user) has_in_slot) ≡ exceeds 0 1 ∷ []

@@ -13,15 +13,15 @@ use Rattle.cedar_typechecker.specs.Levels.Setting.{LevelSetting}
 
 -- ---- levels that are too great
 
--- a level as it is reported: at most the greatest number of 32 bits
+-- a level as an error reports it: at most the greatest number of 32 bits
 abbrev pub reported : ℕ → ℕ
 reported k = min k 4294967295
 
--- n is the maximum, and k is required
+-- the fault that k is required, and n is the maximum
 abbrev pub exceeds : ℕ → ℕ → Fault
 exceeds n k = maximum_level_exceeded n (reported k)
 
--- an access of a target of level k requires one more
+-- an access of a target of level k requires level k + 1
 abbrev pub unless_below : ℕ → ℕ → List Fault
 unless_below n k = if nat_lt k n then [] else exceeds n (k + 1) ∷ []
 
@@ -31,7 +31,7 @@ unless_within n k = if nat_le k n then [] else exceeds n k ∷ []
 -- ---- at a checked expression
 
 module _ (s : LevelSetting) where
-  -- `has` and `.`: the base may be an entity or a record, and nothing else
+  -- `has` and `.`: the base must be an entity or a record
   abbrev pub faults_of_base : Base → TypedTree → List Fault
   faults_of_base an_entity b = unless_below s.maximum (level s.action b [])
   faults_of_base a_record b = []
@@ -42,7 +42,7 @@ module _ (s : LevelSetting) where
   level_at_keys b None c = []
   level_at_keys b (Some path) c = unless_within s.maximum (level s.action b path + c)
 
-  -- extended `has`: its cost alone where that is above the maximum
+  -- extended `has`: if its cost is above the maximum, that is its only fault
   abbrev pub faults_of_chain : Base → ℕ → TypedTree → Option (List Text) → List Fault
   faults_of_chain an_entity c b keys =
       if nat_le c s.maximum then unless_within s.maximum (level s.action b [] + c)
@@ -51,7 +51,7 @@ module _ (s : LevelSetting) where
       if nat_le c s.maximum then level_at_keys b keys c else exceeds s.maximum c ∷ []
   faults_of_chain neither c b keys = []
 
-  -- what is wrong with a checked expression itself: with other forms, nothing
+  -- the faults of a checked expression itself. Other forms have none
   abbrev pub faults : TypedTree → List Fault
   faults (get_attr m b x) = faults_of_base (base_of (annotation b)) b
   faults (has_attr m b x) = faults_of_base (base_of (annotation b)) b
@@ -64,33 +64,33 @@ module _ (s : LevelSetting) where
 
 -- ---- at a target
 
--- what is wrong with a leaf
+-- the faults of a leaf
 abbrev pub faults_at_leaf : Leaf → List Fault
 faults_at_leaf good_leaf = []
 faults_at_leaf literal_leaf = literal_dereference_target ∷ []
 faults_at_leaf bad_leaf = internal_invariant_violation ∷ []
 
--- with a target, if it is a leaf
+-- the faults of a target itself, if it is a leaf
 abbrev pub faults_at_end : Option Leaf → List Fault
 faults_at_end None = []
 faults_at_end (Some l) = faults_at_leaf l
 
 -- ---- the set
 
--- at the place of a node
+-- a fault at the place of a node
 abbrev pub level_finding : LevelSetting → Mark → Fault → Finding
 level_finding s m f = record { place = m.at.place; policy = s.policy; fault = f }
 
 pub data IsLevelError (s : LevelSetting) (root : TypedTree) : Finding → Type 0 where
-  -- what is wrong with a checked expression, at its node
+  -- a fault of a checked expression, at its node
   at_checked : {x : TypedTree} {f : Fault}
       → IsChecked s root x → IsOneOf f (faults s x)
       → IsLevelError s root (level_finding s (mark_of x) f)
-  -- what is wrong with a target that is a leaf, at its node
+  -- a fault of a target that is a leaf, at its node
   at_target : {x : TypedTree} {path : List Text} {f : Fault}
       → IsTarget s root x path → IsOneOf f (faults_at_end (leaf_of s.action x path))
       → IsLevelError s root (level_finding s (mark_of x) f)
 
--- an expression is within the level where it has no level error
+-- an expression is within the level if it has no level error
 abbrev pub IsWithinLevel : LevelSetting → TypedTree → Type 0
 IsWithinLevel s root = (e : Finding) → IsLevelError s root e → ⊥

@@ -1,4 +1,4 @@
--- What the computed examples of levels are about: a schema of users and photos, and expressions.
+-- The schema of users and photos, and the expressions, of the computed examples of levels.
 use Rattle.std.specs.Prelude.{ℕ, Bool, true, false, List, [], ◌∷◌, map, Option, Some, None, codes}
 use Rattle.cedar_types.specs.declared.base.expressions.operators.Var.{Var}
 use Rattle.cedar_types.specs.declared.base.names.slots.SlotId.{SlotId}
@@ -82,7 +82,7 @@ photo_basis m = record {
   table = record { functions = []; overloaded_types = [] };
 }
 
--- what levels are checked by in its one environment
+-- the setting of levels in the schema's one environment
 abbrev pub photo_levels : ℕ → LevelSetting
 photo_levels n = record {
   action = Some view;
@@ -101,7 +101,7 @@ errors_in n (fails es) = []
 abbrev pub faults_in : ℕ → Verdict → List Fault
 faults_in n v = map (λ e. e.fault) (errors_in n v)
 
--- what its check comes to, with the principal's slot linked to a type or to none
+-- the verdict of a template's check, with the principal's slot linked to a type or to none
 abbrev pub verdict_linked : ValidationMode → Option Path → PlainTemplate → Verdict
 verdict_linked m p t =
     policy_check
@@ -127,7 +127,7 @@ faults_at m n e = faults_in n (verdict_linked m None (when e))
 abbrev pub strictly : ℕ → Shape → List Fault
 strictly = faults_at Strict
 
--- its errors, whose nodes are numbered from 1 in the order in which they are written
+-- the errors of a condition, whose nodes are numbered from 1 in the order in which they are written
 abbrev pub errors_at : ℕ → Shape → List Finding
 errors_at n e = errors_in n (verdict_linked Strict None (when e))
 

@@ -26,7 +26,7 @@ LevelIsGreatest =
     → ((l : Leaf) × HasChain a x path (level a x path) l)
     × ((k : ℕ) (l : Leaf) → HasChain a x path k l → k ≤ level a x path)
 
--- where there is no level error at a maximum, there is none at any larger one
+-- if there is no level error at a maximum, there is none at any larger one
 abbrev pub LargerLevelsAreWithin : Type 0
 LargerLevelsAreWithin =
     (s : LevelSetting) (n : ℕ) (root : TypedTree)
@@ -38,7 +38,7 @@ WalkFindsErrors =
     (s : LevelSetting) (root : TypedTree) (e : Finding)
     → IsLevelError s root e ↔ IsOneOf e (checked_errors s root)
 
--- so an expression is within the level exactly where the walk finds nothing
+-- so an expression is within the level exactly if the walk finds nothing
 abbrev pub SilentWalkIsWithin : Type 0
 SilentWalkIsWithin =
     (s : LevelSetting) (root : TypedTree)
@@ -46,7 +46,8 @@ SilentWalkIsWithin =
 
 -- ---- one branch twice
 
--- what the check of a condition typed, if it did not fail
+-- in the condition that a check typed, if it did not fail, both branches of a constant `if` are one
+-- tree
 abbrev pub VerdictIsShared : Verdict → Type 0
 VerdictIsShared (succeeds x) = BranchesAreShared x
 VerdictIsShared (irrelevant es x) = BranchesAreShared x
@@ -57,7 +58,7 @@ abbrev pub TypedBranchesAreShared : Type 0
 TypedBranchesAreShared =
     (s : Setting) (e : Source) (v : Verdict) → PolicyChecks s e v → VerdictIsShared v
 
--- what is told at a maximum of the demands of an expression is each level error, and nothing else
+-- the demands of an expression give, at a maximum, each level error, and nothing else
 abbrev pub DemandsTellErrors : Type 0
 DemandsTellErrors =
     (s : LevelSetting) (root : TypedTree) (e : Finding)
@@ -65,7 +66,7 @@ DemandsTellErrors =
     → IsOneOf e (told s.policy s.maximum (add_demands (around s) root 0 []))
     ↔ IsLevelError s root e
 
--- and the maximum meets all demands, also those that are hidden, exactly where there is no level error
+-- the maximum meets all demands, even those that are hidden, exactly if there is no level error
 abbrev pub DemandsAreMet : Type 0
 DemandsAreMet =
     (s : LevelSetting) (root : TypedTree)

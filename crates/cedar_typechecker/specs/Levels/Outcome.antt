@@ -1,4 +1,4 @@
--- What the validation of a policy comes to, without levels and with them.
+-- The outcome of the validation of a policy, without levels and with them.
 use Rattle.std.specs.Prelude.{◌≡◌, ◌↔◌, ℕ, cond, List, [], ◌∷◌, ◌++◌, ◌⊎◌, IsPermutation}
 use Rattle.cedar_types.specs.declared.base.types.ValidationMode.{ValidationMode}
 use Rattle.cedar_types.specs.declared.base.types.ValidationMode.TheVariants.{Strict, Permissive, Partial}
@@ -16,13 +16,13 @@ use Rattle.cedar_typechecker.specs.Applications.{has_fitting_action, application
 use Rattle.cedar_typechecker.specs.Levels.Errors.{IsLevelError}
 use Rattle.cedar_typechecker.specs.Levels.Setting.{LevelSetting, action_of}
 
--- ---- of one environment
+-- ---- one environment
 
 -- a verdict of a policy in an environment
 abbrev pub ChecksOn : Basis → PlainTemplate → Env → Verdict → Type 0
 ChecksOn b t env = PolicyChecks (setting_on b t.id env) (condition_of t)
 
--- what levels are checked by in an environment, at the maximum n
+-- the setting of levels in an environment, at the maximum n
 abbrev pub levels_on : Basis → PlainTemplate → ℕ → Env → LevelSetting
 levels_on b t n env = record {
   action = action_of env;
@@ -31,13 +31,13 @@ levels_on b t n env = record {
   policy = t.id;
 }
 
--- a level error of what a check typed: a failed one typed no condition
+-- a level error of the condition that a check typed. A failed check typed no condition
 abbrev pub IsErrorOfVerdict : LevelSetting → Verdict → Finding → Type 0
 IsErrorOfVerdict s (succeeds x) e = IsLevelError s x e
 IsErrorOfVerdict s (irrelevant es x) e = IsLevelError s x e
 IsErrorOfVerdict s (fails es) e = ⊥
 
--- ---- of all environments
+-- ---- all environments
 
 -- a level error of some environment, with its verdict
 abbrev pub IsErrorInSome : (Env → LevelSetting) → List Env → List Verdict → Finding → Type 0
@@ -46,20 +46,20 @@ IsErrorInSome levels (env ∷ envs) [] e = ⊥
 IsErrorInSome levels (env ∷ envs) (v ∷ vs) e =
     IsErrorOfVerdict (levels env) v e ⊎ IsErrorInSome levels envs vs e
 
--- the findings of the passes over names, in the modes that make them
+-- the findings of the passes over names, which run in Strict and in Permissive
 abbrev pub name_findings : ValidationMode → Schema → PlainTemplate → List Finding
 name_findings Strict s t = wrong_members s t ++ (unknown_types s t ++ unknown_actions s t)
 name_findings Permissive s t = wrong_members s t ++ (unknown_types s t ++ unknown_actions s t)
 name_findings Partial s t = []
 
--- the warning that no action fits the scope, in the same modes
+-- the warning that no action fits the scope, in the modes in which the passes run
 abbrev pub application_warnings : ValidationMode → Schema → PlainTemplate → List Warning
 application_warnings Strict s t = cond (has_fitting_action s t) [] (application_warning s t ∷ [])
 application_warnings Permissive s t =
     cond (has_fitting_action s t) [] (application_warning s t ∷ [])
 application_warnings Partial s t = []
 
--- no member stands twice
+-- no member is in the list twice
 abbrev pub AreApart : {A : Type 0} → List A → Type 0
 AreApart [] = Unit {0}
 AreApart (x ∷ xs) = (IsOneOf x xs → ⊥) × AreApart xs
@@ -78,7 +78,7 @@ pub record ValidationOutcome (b : Basis) (t : PlainTemplate)
   -- the errors of the checks, each once
   pub types : (e : Finding) → IsOneOf e type_errors ↔ IsOneOf e (all_errors verdicts)
   pub types_once : AreApart type_errors
-  -- the warnings are that of the scope, and that the policy is impossible
+  -- the warnings: that no action fits the scope, and that the policy is impossible
   pub warned : warnings ≡ application_warnings b.mode b.schema t ++ warnings_of t verdicts
 
 -- the errors and the warnings of a policy, at the maximum n
@@ -101,5 +101,5 @@ pub record LevelOutcome (b : Basis) (t : PlainTemplate) (n : ℕ)
   pub levels : (e : Finding)
       → IsOneOf e level_errors ↔ IsErrorInSome (levels_on b t n) listed verdicts e
   pub levels_once : AreApart level_errors
-  -- the warnings are that of the scope, and that the policy is impossible
+  -- the warnings: that no action fits the scope, and that the policy is impossible
   pub warned : warnings ≡ application_warnings b.mode b.schema t ++ warnings_of t verdicts

@@ -1,4 +1,4 @@
--- The keys that a path of the program stands for.
+-- Views of the program's paths: their keys.
 use Rattle.std.specs.Prelude.{List, [], ◌∷◌, Option, Some, None, map}
 use Rattle.cedar_types.specs.Names.{text_of, Text}
 use Rattle.cedar_typechecker.specs.declared.level_validate.paths.Path.{Path, fold-Path}
@@ -11,7 +11,7 @@ path_step (Path-F.Then k r) = text_of k.now ∷ r.now
 abbrev pub keys_along : Path → List Text
 keys_along = fold-Path (List Text) path_step
 
--- the first key, and the others, if there is one
+-- the first key and the others, if there is a key
 abbrev pub split_keys : List Text → Option (Text × List Text)
 split_keys [] = None
 split_keys (k ∷ ks) = Some (k, ks)
