@@ -1,4 +1,4 @@
--- Levels where a policy passes in Strict: they are those of Permissive.
+-- Levels of a policy that passes in Strict: they are those of Permissive.
 use Rattle.std.specs.Prelude.{◌≡◌, ◌↔◌, ℕ, true, List, Option, None}
 use Rattle.cedar_types.specs.declared.base.types.ValidationMode.TheVariants.{Strict, Permissive}
 use Rattle.cedar_types.specs.Errors.{Finding, Warning}
@@ -11,8 +11,8 @@ use Rattle.cedar_typechecker.specs.Levels.Outcome.{LevelOutcome}
 use Rattle.cedar_typechecker.specs.Levels.Required.{IsRequiredLevel}
 use Rattle.cedar_typechecker.specs.Slices.Policies.{PolicyIsWithinLevel}
 
--- what levels ask of a policy is the same in both modes: whether it has a level error at n, the level that it requires, and what
--- its validation with levels results in
+-- levels do not depend on the mode: whether the policy has a level error at n, the level that it requires, and the outcome of
+-- its validation with levels
 pub record HasSameLevels (b : Basis) (t : PlainTemplate) : Type 0 where
   pub within : (n : ℕ)
       → PolicyIsWithinLevel (basis_in_mode Strict b) t n ↔ PolicyIsWithinLevel (basis_in_mode Permissive b) t n
@@ -22,7 +22,7 @@ pub record HasSameLevels (b : Basis) (t : PlainTemplate) : Type 0 where
       → LevelOutcome (basis_in_mode Strict b) t n errors warnings
       ↔ LevelOutcome (basis_in_mode Permissive b) t n errors warnings
 
--- where it passes in Strict
+-- a policy that passes in Strict has the levels of Permissive
 abbrev pub StrictLevelsAreKept : Type 0
 StrictLevelsAreKept =
     (b : Basis) (t : PlainTemplate)

@@ -10,9 +10,9 @@ use Rattle.cedar_typechecker.specs.Slices.Policies.{PolicyIsWithinLevel}
 
 -- the level that a policy requires
 abbrev pub IsRequiredLevel : Basis → PlainTemplate → Option ℕ → Type 0
--- there is none where the policy has a level error at each number of 32 bits
+-- there is no required level if the policy has a level error at each number of 32 bits
 IsRequiredLevel b t None = (n : ℕ) → n ≤ 4294967295 → PolicyIsWithinLevel b t n → ⊥
--- else it is the least number at which the policy has none
+-- else the required level is the least number at which the policy has no level error
 IsRequiredLevel b t (Some n) =
     (n ≤ 4294967295) × PolicyIsWithinLevel b t n
     × ((m : ℕ) → m < n → PolicyIsWithinLevel b t m → ⊥)
@@ -24,14 +24,14 @@ abbrev pub Reaches : Option ℕ → ℕ → Type 0
 Reaches None n = ⊥
 Reaches (Some m) n = m ≤ n
 
--- the policy has no level error at n exactly where n reaches the required level
+-- the policy has no level error at n exactly if n reaches the required level
 abbrev pub WithinWhereReached : Type 0
 WithinWhereReached =
     (b : Basis) (t : PlainTemplate) (required : Option ℕ) (n : ℕ)
     → IsRequiredLevel b t required → n ≤ 4294967295
     → PolicyIsWithinLevel b t n ↔ Reaches required n
 
--- and there alone its validation with levels finds none
+-- exactly there its validation with levels finds no level error
 abbrev pub SilentWhereReached : Type 0
 SilentWhereReached =
     (b : Basis) (t : PlainTemplate) (required : Option ℕ) (n : ℕ)

@@ -1,4 +1,4 @@
--- The worked rows of levels, as the rules compute them: what is wrong, with repeats.
+-- The worked rows of levels, as the rules compute them: the faults, with repeats.
 use Rattle.std.specs.Prelude.{◌≡◌, false, [], ◌∷◌, Some, codes}
 use Rattle.cedar_types.specs.declared.base.expressions.operators.BinaryOp.{BinaryOp}
 use Rattle.cedar_types.specs.declared.base.expressions.operators.Var.{Var}
@@ -84,7 +84,7 @@ pub record LevelRows : Type 0 where
       ≡ exceeds 2 3 ∷ []
   pub union_3 :
       faults_at Permissive 3 (bool_of (user_of (chosen (user_of principal) resource))) ≡ []
-  -- and `(if principal.bool then principal else resource) has user.bool`
+  -- 55 too, in Permissive: `(if principal.bool then principal else resource) has user.bool`
   pub union_chain_1 :
       faults_at Permissive 1 (has2 (chosen principal resource) (codes "user") (codes "bool"))
       ≡ exceeds 1 2 ∷ []

@@ -1,4 +1,4 @@
--- Typed expressions in which both branches of an `if` are one tree where the test's type is True or
+-- Typed expressions in which both branches of an `if` are one tree if the test's type is True or
 -- False, as typing makes them.
 use Rattle.std.specs.Prelude.{◌≡◌, Bool, true, false, Option, Some, None, if◌then◌else◌}
 use Rattle.cedar_types.specs.declared.base.types.BoolType.TheVariants.{AnyBool, True, False}
@@ -8,7 +8,7 @@ use Rattle.cedar_types.specs.Expressions.Tree.{field}
 use Rattle.cedar_types.specs.Types.{Ty, TBool}
 use Rattle.cedar_typing.specs.TypedExpr.{TypedTree, Mark, annotation}
 
--- a test of the type True or False: what it decides is known
+-- the type of a test is True or False, so its result is known
 abbrev pub is_constant_type : Ty → Bool
 is_constant_type (TBool AnyBool) = false
 is_constant_type (TBool True) = true

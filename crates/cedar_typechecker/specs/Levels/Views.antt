@@ -1,4 +1,4 @@
--- What the values of the level pass stand for.
+-- Views of the values of the level pass.
 use Rattle.std.specs.Prelude.{List, [], ◌∷◌, Option, Some, None, map, option_map}
 use Rattle.std.specs.declared.alloc.Global.{Global}
 use Rattle.std.specs.declared.rc.RcStr.{RcStr}
@@ -46,7 +46,7 @@ abbrev pub findings_if_any : Option ValidationError → List Finding
 findings_if_any None = []
 findings_if_any (Some e) = finding_of e ∷ []
 
--- the fields of a record literal that is typed
+-- the fields of a typed record literal
 abbrev pub typed_fields : List (RcStr Global × Expr (Option CedarType)) → Fields Mark
 typed_fields es = fields_of (map (λ e. (e.0, typed_tree e.1)) es)
 

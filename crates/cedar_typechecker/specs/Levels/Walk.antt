@@ -1,4 +1,4 @@
--- The level errors of a typed expression as a walk down it finds them.
+-- The walk down a typed expression, which finds its level errors.
 use Rattle.std.specs.Prelude.{ℕ, nat_le, List, [], ◌∷◌, ◌++◌, map, Option, Some, None, if◌then◌else◌}
 use Rattle.cedar_types.specs.Errors.{Fault, Finding}
 use Rattle.cedar_types.specs.Names.{Text, text_eq}
@@ -15,7 +15,7 @@ use Rattle.cedar_typechecker.specs.Levels.Setting.{LevelSetting}
 abbrev pub found_at : LevelSetting → Mark → List Fault → List Finding
 found_at s m fs = map (level_finding s m) fs
 
--- below an access: those of its base, as a target or as a checked expression
+-- the errors below an access: those of its base, as a target or as a checked expression
 abbrev pub of_base : Base → List Finding → List Finding → List Finding
 of_base an_entity of_target of_checked = of_target
 of_base a_record of_target of_checked = of_checked
@@ -33,7 +33,7 @@ abbrev pub of_path : List Text → (Text → List Text → List Finding) → Lis
 of_path [] of_fields = []
 of_path (p ∷ path) of_fields = of_fields p path
 
--- below extended `has` of cost c, at the maximum n
+-- the errors below extended `has` of cost c, at the maximum n
 abbrev pub of_chain : ℕ → Base → ℕ → Option (List Text) → (List Text → List Finding)
     → List Finding → List Finding
 of_chain n an_entity c keys of_target of_checked = if nat_le c n then of_target [] else []
@@ -42,12 +42,12 @@ of_chain n a_record c keys of_target of_checked =
 of_chain n neither c keys of_target of_checked = of_checked
 
 module _ (s : LevelSetting) where
-  -- those at a leaf that is a target
+  -- the errors of a target that is a leaf
   abbrev pub leaf_errors : TypedTree → Mark → List Text → List Finding
   leaf_errors x m path = found_at s m (faults_at_end (leaf_of s.action x path))
 
   abbrev mutual
-    -- those at a checked expression and below it
+    -- the errors at a checked expression and below it
     pub checked_errors : TypedTree → List Finding
     checked_errors (lit m x) = []
     checked_errors (var m x) = []
@@ -86,7 +86,7 @@ module _ (s : LevelSetting) where
     field_errors no_fields = []
     field_errors (field k t fs) = checked_errors t ++ field_errors fs
 
-    -- those at a target along a path and below it
+    -- the errors at a target along a path and below it
     pub target_errors : TypedTree → List Text → List Finding
     target_errors (lit m x) path = leaf_errors (lit m x) m path
     target_errors (var m x) path = []
@@ -113,7 +113,7 @@ module _ (s : LevelSetting) where
         leaf_errors (record_of m fs) m path
         ++ of_path path (λ p q. of_value (field_at p fs) (errors_along fs p q))
 
-    -- in a record literal: at the key that is followed, and at the others
+    -- the errors in a record literal: at the key that is followed, and at the others
     pub errors_along : Fields Mark → Text → List Text → List Finding
     errors_along no_fields p path = []
     errors_along (field k t fs) p path =
