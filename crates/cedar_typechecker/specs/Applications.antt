@@ -1,4 +1,4 @@
--- Whether the scope of a policy fits an action, and whether `in` in place of `==` might help.
+-- The test whether the scope of a policy fits an action, and whether `in` in place of `==` might help.
 use Rattle.std.specs.Prelude.{◌≡◌, Bool, true, false, not, ◌&&◌, List, Option, Some, None, option_map, Result, Ok, Err}
 use Rattle.std.specs.List.{list_any}
 use Rattle.cedar_types.specs.declared.base.errors.validation_warnings.ValidationWarning.{ValidationWarning}
@@ -15,11 +15,11 @@ use Rattle.cedar_typechecker.specs.Scopes.{admitted_types, admitted_applications
 
 -- ---- a fitting action
 
--- an action that applies to this has a principal type and a resource type among these
+-- an action fits if it applies to one of these principal types and to one of these resource types
 abbrev pub fits : List Path → List Path → Application → Bool
 fits ps rs a = list_any (is_among a.principals) ps && list_any (is_among a.resources) rs
 
--- some admitted, defined action has a principal type and a resource type that the constraints admit
+-- whether an admitted, defined action has a principal type and a resource type that the constraints admit
 abbrev pub has_fitting_action : Schema → PlainTemplate → Bool
 has_fitting_action s t =
     list_any (fits (admitted_types s t.principal) (admitted_types s t.resource))
@@ -27,12 +27,12 @@ has_fitting_action s t =
 
 -- ---- `in` in place of `==`
 
--- the types of principals, or of resources, that an action applies to
+-- the types of principals, or of resources, to which an action applies
 abbrev pub types_on : Side → Application → List Path
 types_on Principal a = a.principals
 types_on Resource a = a.resources
 
--- the type of the entity that a constraint asks the variable to equal
+-- the type of the entity that the variable must equal, if the constraint is `==` an entity
 abbrev pub equal_type : Scope → Option Path
 equal_type (equal (to_entity u)) = Some u.uid.entity_type
 equal_type (equal to_slot) = None
@@ -41,7 +41,7 @@ equal_type (within r) = None
 equal_type (typed t) = None
 equal_type (typed_within t r) = None
 
--- no action lists the type itself, and one lists a type that is declared as its descendant
+-- no action lists the type itself, and one lists a type that is declared as a descendant of it
 abbrev pub lists_only_below : Schema → Side → List Application → Path → Bool
 lists_only_below s side apps p =
     not (list_any (λ a. is_among (types_on side a) p) apps)
@@ -51,13 +51,14 @@ abbrev pub might_help : Schema → Side → List Application → Option Path →
 might_help s side apps None = false
 might_help s side apps (Some p) = lists_only_below s side apps p
 
--- the constraint is `==` an entity, no admitted, defined action lists its type, and one lists a descendant of it
+-- whether `in` might help: the constraint is `==` an entity, no admitted, defined action lists its type, and one
+-- lists a descendant of it
 abbrev pub in_might_help : Schema → Side → List Application → Scope → Bool
 in_might_help s side apps c = might_help s side apps (equal_type c)
 
 -- ---- the warning
 
--- at the policy's place, with a flag for the principal and one for the resource
+-- the warning that no action fits, at the policy's place, with a flag for the principal and one for the resource
 abbrev pub application_warning : Schema → PlainTemplate → Warning
 application_warning s t =
     let apps = admitted_applications s t.action in
@@ -69,7 +70,7 @@ application_warning s t =
           (in_might_help s Resource apps t.resource);
     }
 
--- nothing is answered where an action fits, and the warning where none does
+-- the answer is Ok if an action fits, and the warning if none does
 abbrev pub AnswersApplication : Schema → PlainTemplate → Result (Unit {0}) ValidationWarning
     → Type 0
 AnswersApplication s t (Ok u) = has_fitting_action s t ≡ true
@@ -78,7 +79,7 @@ AnswersApplication s t (Err w) =
 
 -- ---- the scope of a linked policy
 
--- a slot that is bound is the entity that it is bound to
+-- the entity to which a slot is bound stands in the slot's place
 abbrev pub bound_reference : Option PlacedUid → Reference → Reference
 bound_reference o (to_entity u) = to_entity u
 bound_reference (Some u) to_slot = to_entity u
@@ -91,7 +92,7 @@ bound_scope o (within r) = within (bound_reference o r)
 bound_scope o (typed t) = typed t
 bound_scope o (typed_within t r) = typed_within t (bound_reference o r)
 
--- the template with the slots of its scope bound, those that these bindings bind
+-- the template with the slots of its scope bound, as far as these bindings bind them
 abbrev pub with_bound_scope : List (SlotId × EntityUID) → PlainTemplate → PlainTemplate
 with_bound_scope es t = record t {
   principal = bound_scope (option_map placed_uid (bound_to SlotId.Principal es)) t.principal;

@@ -1,4 +1,5 @@
--- What the scope of a policy admits: entity types for the principal and for the resource, and actions.
+-- The entity types that the scope of a policy admits for the principal and for the resource, and the
+-- actions that it admits.
 use Rattle.std.specs.Prelude.{Bool, true, false, cond, List, [], ◌∷◌, map}
 use Rattle.std.specs.List.{list_all, flat_map}
 use Rattle.std.specs.Option.{option_to_list}
@@ -35,7 +36,7 @@ admitted_types s (typed_within t (to_entity u)) =
 
 -- ---- actions
 
--- the declarations of those of these actions that are declared
+-- the declarations of these actions. Actions that are not declared are left out
 abbrev pub declarations : List DeclaredAction → List Uid → List DeclaredAction
 declarations acts us = flat_map (λ u. option_to_list (action_named acts u)) us
 
@@ -50,10 +51,10 @@ admitted_actions acts (within_actions us) =
     let ids = map (λ u. u.uid) us in
     cond (list_all (declares_action acts) ids) (declarations acts (actions_within acts ids)) []
 
--- what some actions apply to, those that are defined
+-- the applications of some actions. Actions that are not defined are left out
 abbrev pub applications : List DeclaredAction → List Application
 applications acts = flat_map (λ a. option_to_list a.applies_to) acts
 
--- what the admitted actions apply to, those that are defined
+-- the applications of the admitted actions that are defined
 abbrev pub admitted_applications : Schema → ActionScope → List Application
 admitted_applications s c = applications (admitted_actions s.actions c)

@@ -1,4 +1,4 @@
--- What a validator holds.
+-- Views of a validator.
 use Rattle.std.specs.Borrow.{Bor}
 use Rattle.cedar_types.specs.declared.base.expressions.extensions.ExtensionSchemas.{ExtensionSchemas}
 use Rattle.cedar_types.specs.declared.base.schema.ValidatorSchema.{ValidatorSchema}
@@ -10,14 +10,14 @@ use Rattle.cedar_typing.specs.Soundness.Policies.{Basis}
 use Rattle.cedar_typechecker.specs.declared.rbac.validator.Validator.{Validator}
 
 module _ {C : Type 0} where
-  -- the schema and the extension functions that it validates by
+  -- the schema and the extension functions by which it validates
   unfoldable pub schema_in : Validator C → ValidatorSchema
   schema_in v = v.schema
 
   unfoldable pub extensions_in : Validator C → Bor (ExtensionSchemas C)
   extensions_in v = v.extensions
 
--- what a validator checks by, in a mode
+-- the basis of a validator, in a mode
 abbrev pub basis_in : {C : Type 0} → (C → Refusals) → Validator C → ValidationMode → Basis
 basis_in meaning v m = record {
   schema = schema_of (schema_in v);
