@@ -1,4 +1,4 @@
--- What is admitted, by lists with the same members.
+-- The entity types and actions that a scope admits, from lists with the same members.
 use Rattle.std.proofs.Common.{◌≡◌, refl, sym, ap, ◌∙◌, Bool, false, not, ◌&&◌, List, [], ◌∷◌, map, Option, Some, None}
 use Rattle.std.specs.List.{list_any}
 use Rattle.std.specs.Option.{option_to_list}
@@ -21,7 +21,7 @@ use Rattle.cedar_typechecker.proofs.Lists.{pass_alike, any_of_all, distinct_from
 
 -- ---- entity types
 
--- the declared types in any order, each once
+-- the declared types, in any order, each once
 pub declared_types : (s : Schema) → has_fault s ≡ false → (listed : List Path)
     → IsPermutation (map (λ t. t.name) s.types) listed → ListsTypes (map (λ t. t.name) s.types) listed
 declared_types s faults listed order =
@@ -58,7 +58,7 @@ same_applications xs ys h p =
 
 -- ---- the application
 
--- an action fits, by the types and applications that were listed
+-- whether an action fits, from the types and the applications that were listed
 pub fits_listed : (s : Schema) (t : PlainTemplate) (ps rs : List Path) (apps : List Application)
     → ListsTypes (admitted_types s t.principal) ps → ListsTypes (admitted_types s t.resource) rs
     → SameMembers apps (admitted_applications s t.action) → list_any (fits ps rs) apps ≡ has_fitting_action s t
@@ -68,7 +68,7 @@ fits_listed s t ps rs apps principals resources same =
     && same_types (is_among a.resources) (admitted_types s t.resource) rs resources i)
     ∙ same (fits (admitted_types s t.principal) (admitted_types s t.resource))
 
--- so it is by lists that hold what was listed
+-- whether an action fits, from lists that hold those that were listed
 pub fits_held : (s : Schema) (t : PlainTemplate) (ps ps' rs rs' : List Path) (apps apps' : List Application)
     → ps ≡ ps' → rs ≡ rs' → apps ≡ apps' → ListsTypes (admitted_types s t.principal) ps'
     → ListsTypes (admitted_types s t.resource) rs'
@@ -77,7 +77,7 @@ pub fits_held : (s : Schema) (t : PlainTemplate) (ps ps' rs rs' : List Path) (ap
 fits_held s t ps ps' rs rs' apps apps' p r a principals resources same =
     (λ i. list_any (fits (p i) (r i)) (a i)) ∙ fits_listed s t ps' rs' apps' principals resources same
 
--- a flag, by the applications that were listed
+-- a flag, from the applications that were listed
 pub flag_listed : (s : Schema) (side : Side) (c : Scope) (apps wanted : List Application) → SameMembers apps wanted
     → in_might_help s side apps c ≡ in_might_help s side wanted c
 flag_listed s side c apps wanted same = along (equal_type c)

@@ -4,7 +4,7 @@ use Rattle.std.proofs.lemmas.Bool.{ltb-true, leb-true, le-leb, lt-ltb}
 use Rattle.cedar_typechecker.specs.Levels.Errors.{reported}
 use Rattle.cedar_typechecker.specs.Levels.Demands.{capped, raised}
 
--- two tests of which each is true where the other is
+-- two tests are equal if each is true whenever the other is
 both_ways : (a b : Bool) → (a ≡ true → b ≡ true) → (b ≡ true → a ≡ true) → a ≡ b
 both_ways true b f g = sym (f refl)
 both_ways false true f g = g refl

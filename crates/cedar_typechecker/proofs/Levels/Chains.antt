@@ -1,4 +1,4 @@
--- The list of chains is that of the rules, and the level is the greatest.
+-- The list of an expression's chains is that of the rules, and its level is the greatest of theirs.
 use Rattle.std.proofs.Common.{◌≡◌, ℕ, ◌+◌, ◌≤◌, Bool, true, false, nat_le, List, [], ◌∷◌, map, Option, Some, None, if◌then◌else◌, ◌⊎◌, inl}
 use Rattle.std.proofs.Common.{inr, refl, sym, ap, subst, arith}
 use Rattle.std.proofs.lemmas.Bool.{leb-true, leb-false}
@@ -23,7 +23,7 @@ chain k l = record { accesses = k; leaf = l }
 
 -- ---- each chain is listed
 
--- a leaf
+-- a leaf has one chain
 only : (l k : Leaf) → Some l ≡ Some k → IsOneOf (chain 0 k) (ends_at l)
 only l k e = inl (ap (λ z. chain 0 z) (sym (some_is e)))
 
@@ -102,7 +102,7 @@ listed a (of_else {c = c} {d = d} {path = path} {k = k} {l = l} h) =
 listed a (of_field {fs = fs} {t = t} {p = p} {path = path} {k = k} {l = l} e h) =
     field_listed a fs p path t (chain k l) e (listed a h)
 
--- ---- and nothing else is
+-- ---- nothing else is listed
 
 more_back : (c : Chain) (cs : List Chain)
     → IsOneOf c (map one_more cs) → (d : Chain) × IsOneOf d cs × (c ≡ one_more d)
@@ -138,7 +138,7 @@ module _ (a : Option Uid) where
       subst (λ z. Has (binary m BinaryOp.GetTag b d) path z) (sym r.2) (of_tag (f r.0 r.1))
   operator_chain m o b d path c f i = leaf_chain (binary m o b d) path bad_leaf refl c i
 
-  -- a chain of the value at a key; where there is none, the end
+  -- a chain of the value at a key, or the end if there is no such key
   abbrev FieldHas : Fields Mark → Text → List Text → Chain → Type 0
   FieldHas fs p path c =
       ((t : TypedTree) × (field_at p fs ≡ Some t) × Has t path c)

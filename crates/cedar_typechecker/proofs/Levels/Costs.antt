@@ -9,7 +9,7 @@ use Rattle.cedar_typechecker.specs.Levels.Chains.{Base, an_entity, a_record, nei
 use Rattle.cedar_typechecker.specs.Levels.Costs.{on_attribute, keys_on, keys_to_entity}
 use Rattle.cedar_typechecker.specs.Levels.Demands.{by_base, entity_after}
 
--- i attributes come before x; then what is found, and the keys
+-- i attributes come before x; then the number that was found, and the keys
 abbrev KeysAre : ℕ → Text → List Text → Option ℕ → Option (List Text) → Type 0
 KeysAre i x xs None keys = keys ≡ None
 KeysAre i x xs (Some j) keys = (i ≤ j) × (keys ≡ Some (x ∷ take (j - i) xs))
@@ -72,7 +72,7 @@ module _ (s : Schema) where
   keys_are t x xs =
       from_start x xs (entity_after s 0 t x xs) (keys_to_entity s t x xs) (counted 0 t x xs)
 
-  -- the same of what was counted
+  -- the keys, from the number that was counted
   pub keys_counted : (t : Ty) (x : Text) (xs : List Text) (found o : Option ℕ)
       → found ≡ entity_after s 0 t x xs → found ≡ o
       → option_map (λ i. x ∷ take i xs) o ≡ keys_to_entity s t x xs

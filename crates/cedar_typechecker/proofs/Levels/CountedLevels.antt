@@ -1,4 +1,4 @@
--- A level as the program counts it is the level, up to the greatest number that it counts to.
+-- The level that the program counts is the level, up to the greatest number to which it counts.
 use Rattle.std.proofs.Common.{◌≡◌, ℕ, ◌+◌, max, Bool, true, false, List, [], ◌∷◌, ◌++◌, map, Option, if◌then◌else◌, refl, sym, ap, ◌∙◌}
 use Rattle.std.proofs.Common.{arith}
 use Rattle.cedar_types.specs.declared.base.expressions.operators.BinaryOp.{BinaryOp}

@@ -1,5 +1,5 @@
--- What is told of the demands at a node and for its parts, at a maximum n, are the errors of the walk there. Where nothing is
--- told, n meets all demands, also those that it hides.
+-- The demands at a node and of its parts give, at a maximum n, exactly the errors of the walk there. If they give none, n
+-- meets all demands, even those that it hides.
 use Rattle.std.proofs.Common.{◌≡◌, ℕ, ◌+◌, ◌≤◌, ◌<◌, max, Bool, true, false, nat_lt, nat_le, List, [], ◌∷◌, ◌++◌, map, Option, Some, None}
 use Rattle.std.proofs.Common.{suc, is_some, ◌⊎◌, inl, inr, if◌then◌else◌, refl, sym, ap, subst, ◌∙◌, arith}
 use Rattle.std.proofs.lemmas.Bool.{ltb-true, ltb-false, leb-true, leb-false, lt-ltb}
@@ -59,7 +59,7 @@ not_less n h i j = omega arith
 above_first : (h c n : ℕ) → n < max h c → h ≤ n → c ≤ n → ⊥
 above_first h c n i j k = omega arith
 
--- hidden below both or below one of two
+-- n is below the greater of two bounds if it is below one
 hidden_more : (h c n : ℕ) → nat_lt n h ≡ true → nat_lt n (max h c) ≡ true
 hidden_more h c n e = let above = ltb-true n h e in lt-ltb n (max h c) (omega arith)
 
@@ -74,7 +74,7 @@ shown_by_both h c n e f = go (nat_lt n (max h c)) refl
     go true q =
         absurd (above_first h c n (ltb-true n (max h c) q) (ltb-false n h e) (leb-true c n f))
 
--- ---- where all demands are met, nothing is told
+-- ---- if all demands are met, they give no error
 
 met_is_silent : (n : ℕ) (need : Need) → Meets n need → unless_met n need ≡ []
 met_is_silent n (this_level k) h = go (nat_le k n) refl
@@ -105,18 +105,18 @@ module _ (s : LevelSetting) (bounded : s.maximum ≤ 4294967295) where
   abbrev said : List Demand → List Finding
   said = told s.policy n
 
-  -- what is not hidden below h
+  -- the errors that are not hidden below h
   abbrev gated : ℕ → List Finding → List Finding
   gated h es = if nat_lt n h then [] else es
 
-  -- where nothing is told, n is at least h; and n meets all
+  -- if the demands give no error, n is at least h; and n meets all
   abbrev pub IsOpen : ℕ → List Demand → Type 0
   IsOpen h ds = said ds ≡ [] → h ≤ n
 
   abbrev pub IsMet : List Demand → Type 0
   IsMet ds = said ds ≡ [] → MeetsAll n ds
 
-  -- from ds to ds' the errors es are told, but for those that are hidden
+  -- from ds to ds' the demands give the errors es, but for those that are hidden
   pub record Tells (h : ℕ) (es : List Finding) (ds ds' : List Demand) : Type 0 where
     pub adds : Adds (said ds) (gated h es) (said ds')
     pub met : IsOpen h ds → IsMet ds → IsMet ds'
@@ -138,7 +138,7 @@ module _ (s : LevelSetting) (bounded : s.maximum ≤ 4294967295) where
       go true = refl
       go false = refl
 
-  -- nothing was told before where nothing is told after
+  -- the demands before gave no error if those after give none
   silent_before : (es : List Finding) (ds ds' : List Demand) → Adds (said ds) es (said ds')
       → said ds' ≡ [] → said ds ≡ []
   silent_before es ds ds' a e =
@@ -159,7 +159,7 @@ module _ (s : LevelSetting) (bounded : s.maximum ≤ 4294967295) where
     met = λ o m. l.met (λ e. o (silent_before (gated h xs) ds mid k.adds e)) (k.met o m);
   }
 
-  -- the same, of other lists with the same members
+  -- the errors may be replaced by other lists with the same members
   tells_alike : (h : ℕ) (xs ys : List Finding) (ds new : List Demand)
       → ((x : Finding) → IsOneOf x xs → IsOneOf x ys)
       → ((x : Finding) → IsOneOf x ys → IsOneOf x xs) → Tells h xs ds new → Tells h ys ds new
@@ -173,7 +173,7 @@ module _ (s : LevelSetting) (bounded : s.maximum ≤ 4294967295) where
       go true a = a
       go false a = adds_alike (said ds) xs ys (said new) f g a
 
-  -- the second before the first
+  -- the errors of the second step may stand before those of the first
   pub tells_before : (h : ℕ) (ds : List Demand) (xs : List Finding) (mid : List Demand)
       (ys : List Finding) (new : List Demand) → Tells h xs ds mid → Tells h ys mid new
       → Tells h (ys ++ xs) ds new
@@ -211,7 +211,7 @@ module _ (s : LevelSetting) (bounded : s.maximum ≤ 4294967295) where
   nothing_at m [] e = refl
   nothing_at m (f ∷ fs) e = not_nil _ (found_at s m fs) (f ∷ fs ≡ []) e
 
-  -- one more demand
+  -- one more demand, which is met if no error is given
   met_more : (m : Mark) (need : Need) (h : ℕ) (ds : List Demand)
       → IsOpen h ds → IsMet ds → IsMet (demands m.at.place need h ds)
   met_more m need h ds o i e = go
@@ -255,7 +255,7 @@ module _ (s : LevelSetting) (bounded : s.maximum ≤ 4294967295) where
       → Tells h (found_at s m (internal_invariant_violation ∷ [])) ds (demands m.at.place a_rule h ds)
   rule_tells m h ds = demand_tells m a_rule (internal_invariant_violation ∷ []) h ds refl
 
-  -- and nothing below it
+  -- a demand for a rule, and no error below it
   pub rule_tells_end : (m : Mark) (h : ℕ) (ds : List Demand)
       → Tells h (found_at s m (internal_invariant_violation ∷ []) ++ []) ds
       (demands m.at.place a_rule h ds)
@@ -283,7 +283,7 @@ module _ (s : LevelSetting) (bounded : s.maximum ≤ 4294967295) where
   next_is : (j : ℕ) → j + 1 ≡ suc j
   next_is j = omega arith
 
-  -- one more is within exactly where this is below
+  -- one more than a level is within the maximum exactly if the level is below it
   below_same : (j : ℕ) → unless_within n (j + 1) ≡ unless_below n j
   below_same j = λ i. if nat_le (next_is j i) n then [] else exceeds n (j + 1) ∷ []
 
@@ -292,7 +292,7 @@ module _ (s : LevelSetting) (bounded : s.maximum ≤ 4294967295) where
   level_tells m k j h ds e =
       demand_tells m (this_level k) (unless_within n j) h ds (within_same k j e)
 
-  -- ---- of an expression whose parts tell what they have
+  -- ---- an expression whose parts give their errors
 
   abbrev Checks : TypedTree → Type 0
   Checks x =
@@ -347,7 +347,7 @@ module _ (s : LevelSetting) (bounded : s.maximum ≤ 4294967295) where
       (tells_both h ds1 (target_errors s c path) ds2 (target_errors s e path) ds3 (j path h ds1)
       (k path h ds2))
 
-  -- an access of a target at this cost: what the target tells, and then its own error
+  -- an access of a target at this cost gives the errors of the target, and then its own
   reach_tells : (m : Mark) (b : TypedTree) (path : List Text) (c : ℕ) (h : ℕ) (ds : List Demand)
       → Targets b → Counts b
       → Tells h (found_at s m (unless_within n (level s.action b path + c)) ++ target_errors s b path)
@@ -409,7 +409,7 @@ module _ (s : LevelSetting) (bounded : s.maximum ≤ 4294967295) where
 
   -- ---- extended `has`
 
-  -- what is below a cost is told where the cost is within the maximum, else the error of the cost alone
+  -- the errors below a cost are given if the cost is within the maximum, else that of the cost alone
   cost_tells : (m : Mark) (c : ℕ) (es : List Finding) (h : ℕ) (ds new : List Demand)
       → Tells (max h c) es (demands m.at.place (this_level c) h ds) new
       → Tells h (if nat_le c n then es else found_at s m (exceeds n c ∷ [])) ds new

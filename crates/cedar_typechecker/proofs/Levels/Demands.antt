@@ -1,4 +1,4 @@
--- What is told of the demands of an expression at a maximum are the errors of the walk.
+-- The demands of an expression at a maximum give exactly the errors of the walk.
 use Rattle.std.proofs.Common.{◌≡◌, ◌↔◌, ℕ, ◌≤◌, nat_lt, Bool, true, false, List, [], ◌∷◌, if◌then◌else◌, refl, subst, arith}
 use Rattle.std.proofs.lemmas.Bool.{ltb-true}
 use Rattle.cedar_types.specs.Errors.{Finding}
@@ -123,7 +123,7 @@ module _ (s : LevelSetting) (bounded : s.maximum ≤ 4294967295) where
 at_least_none : (n : ℕ) → 0 ≤ n
 at_least_none n = omega arith
 
--- nothing is hidden below 0
+-- below 0 nothing is hidden
 none_hidden : (n : ℕ) (es : List Finding) → (if nat_lt n 0 then [] else es) ≡ es
 none_hidden n es = go (nat_lt n 0) refl
   where
@@ -139,14 +139,14 @@ module _ (s : LevelSetting) (bounded : s.maximum ≤ 4294967295) (root : TypedTr
   all_told : Tells s bounded 0 (checked_errors s root) [] found
   all_told = checked_tells s bounded root shared 0 []
 
-  -- what is told are the errors of the walk
+  -- the errors that the demands give are those of the walk
   told_are_errors : (e : Finding)
       → IsOneOf e (told s.policy s.maximum found) ↔ IsOneOf e (checked_errors s root)
   told_are_errors e =
       let P : List Finding → Type 0 = λ es. IsOneOf e (told s.policy s.maximum found) ↔ IsOneOf e es in
       subst P (none_hidden s.maximum (checked_errors s root)) (all_told.adds e)
 
-  -- where the walk finds nothing, nothing is told
+  -- if the walk finds nothing, the demands give no error
   silent_where_walk_is : checked_errors s root ≡ [] → told s.policy s.maximum found ≡ []
   silent_where_walk_is q =
       nil_by_members (told s.policy s.maximum found) (checked_errors s root)

@@ -44,7 +44,7 @@ module _ {A : Type 0} where
   pub adds_none : (old : List A) → Adds old [] old
   adds_none old x = (in_left x old [], without_end x old)
 
-  -- the same, of other lists with the same members
+  -- the gained members may be replaced by another list with the same members
   pub adds_alike : (old xs ys new : List A) → ((x : A) → IsOneOf x xs → IsOneOf x ys)
       → ((x : A) → IsOneOf x ys → IsOneOf x xs) → Adds old xs new → Adds old ys new
   adds_alike old xs ys new f g h x =
@@ -58,7 +58,7 @@ module _ {A : Type 0} where
       from (inl k) = in_left x old xs k
       from (inr k) = in_right x old xs (g x k)
 
-  -- one after the other
+  -- two gains, one after the other
   pub adds_both : (old xs mid ys new : List A) → Adds old xs mid → Adds mid ys new
       → Adds old (xs ++ ys) new
   adds_both old xs mid ys new h k x =

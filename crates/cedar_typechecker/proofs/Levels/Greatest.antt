@@ -1,4 +1,4 @@
--- Each expression has a chain along each path, and the greatest of several.
+-- Each expression has a chain along each path, and several chains have a greatest.
 use Rattle.std.proofs.Common.{◌≡◌, ◌+◌, max, Bool, true, false, List, [], ◌∷◌, ◌++◌, map, Option, if◌then◌else◌, arith}
 use Rattle.cedar_types.specs.declared.base.expressions.operators.BinaryOp.{BinaryOp}
 use Rattle.cedar_types.specs.Names.{Text, Uid, text_eq}

@@ -1,4 +1,4 @@
--- What is checked below a node, and what is a target there, has its errors among those of the node.
+-- The checked parts and the targets below a node have their errors among those of the node.
 use Rattle.std.proofs.Common.{◌≡◌, ℕ, Bool, true, false, nat_le, List, [], ◌∷◌, ◌++◌, Option, Some, None, if◌then◌else◌, inl, inr, refl}
 use Rattle.std.proofs.Common.{sym, subst}
 use Rattle.cedar_types.specs.Errors.{Fault, Finding}
@@ -38,7 +38,7 @@ pub then_in : {A : Type 0} (b : Bool) (x : A) (xs ys : List A) → b ≡ true �
 then_in true x xs ys e h = h
 then_in false x xs ys e h = cc
 
--- an error at a node, found there
+-- an error at a node comes from a fault that was found there
 pub found_back : (s : LevelSetting) (m : Mark) (fs : List Fault) (e : Finding)
     → IsOneOf e (found_at s m fs) → (f : Fault) × IsOneOf f fs × (e ≡ level_finding s m f)
 found_back s m [] e h = absurd h
@@ -66,7 +66,7 @@ module _ (s : LevelSetting) where
       → Within (Targeted x) es
   there x y es h e = subst (λ z. Within (Targeted z) es) (sym e) h
 
-  -- ---- what is checked below what is checked
+  -- ---- checked parts of a checked expression
 
   all_parts : (ts : Trees Mark) (y : TypedTree) → IsOneOf y (listed ts)
       → Within (Checked y) (all_errors s ts)
@@ -156,7 +156,7 @@ module _ (s : LevelSetting) where
   parts_in (set_of m ts) y i = all_parts ts y i
   parts_in (record_of m fs) y i = field_parts fs y i
 
-  -- ---- targets of what is checked
+  -- ---- targets of a checked expression
 
   base_targets : (b : Base) (x : TypedTree) (z : Target) (es : List Finding)
       → IsOneOf z (targets_of_base b x) → Within (Targeted z) (of_base b (target_errors s x []) es)

@@ -1,4 +1,4 @@
--- What is checked below a target, and what is a target there, has its errors among those of the target.
+-- The checked parts and the targets below a target have their errors among those of the target.
 use Rattle.std.proofs.Common.{◌≡◌, Bool, true, false, List, [], ◌∷◌, ◌++◌, Option, Some, None, if◌then◌else◌, inl, inr, refl, subst}
 use Rattle.cedar_types.specs.Errors.{Finding}
 use Rattle.cedar_types.specs.Names.{Text, text_eq}
