@@ -1,4 +1,4 @@
--- So many keys of a list.
+-- The first keys of a list.
 use Rattle.std.proofs.Common.{◌≡◌, refl, ap, ℕ, zero, suc, ◌≤◌, List, [], ◌∷◌, map, take, length, arith}
 
 pub keys_taken : {A B : Type 0} (f : A → B) (n : ℕ) (xs : List A)

@@ -1,4 +1,4 @@
--- What the public call puts together.
+-- The outcome that the public call puts together.
 use Rattle.std.proofs.Common.{◌≡◌, ◌↔◌, true, false, true≢false, List, [], ◌∷◌, ◌++◌, map, inl, inr, option_map, refl, sym, ap, subst, ◌∙◌, append_assoc}
 use Rattle.std.specs.List.{AllByRecursion}
 use Rattle.std.specs.List.Sorted.{IsStrictlySortedBy}
@@ -39,7 +39,7 @@ use Rattle.cedar_typechecker.specs.ValidatorViews.{schema_in, extensions_in, bas
 
 -- ---- the passes over names
 
--- what three passes found, one after another
+-- the findings of three passes, one after another
 pub three_found : (f0 f1 f2 f3 a b c a' b' c' : List Finding)
     → f0 ≡ [] → f1 ≡ f0 ++ a → f2 ≡ f1 ++ b → f3 ≡ f2 ++ c
     → IsPermutation a a' → IsPermutation b b' → IsPermutation c c'
@@ -52,7 +52,7 @@ three_found f0 f1 f2 f3 a b c a' b' c' e0 e1 e2 e3 p q r =
     (IsPermutation-append a a' (b ++ c) (b' ++ c') p (IsPermutation-append b b' c c' q r))
 
 module _ (s : Schema) (t : PlainTemplate) where
-  -- in Strict and in Permissive they are made
+  -- in Strict and in Permissive the passes run
   pub names_found : (m : ValidationMode) → mode_test.ghosts.eq m Partial ≡ false
       → (fs : List Finding)
       → IsPermutation fs (wrong_members s t ++ (unknown_types s t ++ unknown_actions s t))
@@ -61,7 +61,7 @@ module _ (s : Schema) (t : PlainTemplate) where
   names_found Permissive h fs p = p
   names_found Partial h fs p = absurd (true≢false h)
 
-  -- in Partial they are not
+  -- in Partial the passes do not run
   pub no_names : (m : ValidationMode) → mode_test.ghosts.eq m Partial ≡ true
       → [] ≡ name_findings m s t
   no_names Strict h = absurd (true≢false (sym h))
@@ -70,7 +70,7 @@ module _ (s : Schema) (t : PlainTemplate) where
 
 -- ---- all errors
 
--- what is added, after what the passes found
+-- the errors that are added after the findings of the passes
 pub all_given : (found new names added : List Finding) → new ≡ found ++ added
     → IsPermutation found names → IsPermutation new (names ++ added)
 all_given found new names added e p =
@@ -82,7 +82,7 @@ both_ways h k = (λ a. k.0 (h.0 a), λ c. h.1 (k.1 c))
 
 -- ---- one environment after another
 
--- the environments that a checker of this schema, in this mode, begins with
+-- the environments with which a checker of this schema, in this mode, begins
 pub all_left : {C : Type 0} (c : Typechecker C) (s : ValidatorSchema) (m : ValidationMode)
     (t : Template) (left begun : List Env) → left ≡ begun → (schema_by c).now ≡ s → mode_by c ≡ m
     → IsPermutation begun (checked_envs (schema_of (schema_by c).now) (mode_by c) (template_of t))
@@ -116,7 +116,7 @@ unfolding IsStrictlySortedBy
 apart [] h = tt
 apart (x ∷ xs) h = (not_again x xs h.0, apart xs h.1)
 
--- ---- what the validator's checker checks by
+-- ---- the basis of the validator's checker
 
 module _ {C : Type 0} (meaning : C → Refusals) where
   pub checks_on : (v : Validator C) (m : ValidationMode) (c : Typechecker C) (t : Template)

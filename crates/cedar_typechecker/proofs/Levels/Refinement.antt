@@ -1,4 +1,4 @@
--- Levels where a policy passes in Strict are those of Permissive.
+-- Levels of a policy that passes in Strict are those of Permissive.
 use Rattle.std.proofs.Common.{◌≡◌, ◌↔◌, ◌++◌, ℕ, List, Option, Some, None}
 use Rattle.std.specs.Prelude.{IsPermutation}
 use Rattle.cedar_types.specs.declared.base.types.ValidationMode.TheVariants.{Strict, Permissive}
@@ -17,14 +17,14 @@ use Rattle.cedar_typechecker.specs.Levels.Refinement.{HasSameLevels, StrictLevel
 use Rattle.cedar_typechecker.specs.Levels.Required.{IsRequiredLevel}
 use Rattle.cedar_typechecker.specs.Slices.Policies.{PolicyIsWithinLevel}
 
--- the required level, where a policy is within the same levels
+-- the required level of a policy that is within the same levels by two bases
 required_moved : (b c : Basis) (t : PlainTemplate)
     → ((n : ℕ) → PolicyIsWithinLevel b t n ↔ PolicyIsWithinLevel c t n)
     → (r : Option ℕ) → IsRequiredLevel b t r → IsRequiredLevel c t r
 required_moved b c t w None h = λ n le k. h n le ((w n).1 k)
 required_moved b c t w (Some n) h = (h.0, (w n).0 h.1, λ m less k. h.2 m less ((w m).1 k))
 
--- an outcome by one basis is one by another, by which the verdicts and the findings are the same
+-- an outcome by one basis is an outcome by another with the same verdicts and findings
 outcome_moved : (b c : Basis) (t : PlainTemplate) (n : ℕ) (errors : List Finding)
     (warnings : List Warning) (o : LevelOutcome b t n errors warnings)
     → ((e : Env) → IsOneOf e (checked_envs b.schema b.mode t) → (v : Verdict)

@@ -1,4 +1,4 @@
--- The required level of a policy: what the program counts is it, and what follows of it.
+-- The required level of a policy: the program counts it, and laws follow from it.
 use Rattle.std.proofs.Common.{◌≡◌, ◌↔◌, ℕ, ◌≤◌, ◌<◌, max, Bool, true, false, nat_le, List, [], ◌∷◌, inl, inr, Option, Some, None}
 use Rattle.std.proofs.Common.{if◌then◌else◌, refl, sym, ap, subst, arith}
 use Rattle.std.specs.Prelude.{IsPermutation}
@@ -88,15 +88,15 @@ reached_more x ds r n later =
       λ i. later.1 (own.1 (i.0, i.1 x (inl refl)), λ d m. i.1 d (inr m)),
     )
 
--- a level reaches it where it reached what was before and meets all
+-- a level reaches the raised one if it reached the former one and meets all demands
 pub all_reached : (ds : List Demand) (r : Option ℕ) (n : ℕ)
     → Reaches (raise_all ds r) n ↔ (Reaches r n × MeetsAll n ds)
 all_reached [] r n = (λ i. (i, λ d m. absurd m), λ i. i.0)
 all_reached (x ∷ ds) r n = reached_more x ds r n (all_reached ds (raise x.need r) n)
 
--- ---- of one verdict
+-- ---- one verdict
 
--- a level is enough for the demands of a verdict exactly where the verdict has no level error at it
+-- a level is enough for the demands of a verdict exactly if the verdict has no level error at it
 verdict_met : (s : LevelSetting) → s.maximum ≤ 4294967295 → (v : Verdict) → VerdictIsShared v
     → ((d : Demand) → IsDemandOfVerdict (record { action = s.action; schema = s.schema }) v d
     → Meets s.maximum d.need)
@@ -120,7 +120,7 @@ module _ (b : Basis) (t : PlainTemplate) where
       same_errors (levels_on b t n env) u v e
       (verdict_at_most (setting_on b t.id env) (condition_of t) u v h k)
 
-  -- ---- of all environments
+  -- ---- all environments
 
   -- none of these environments has a level error at n
   abbrev pub AreWithinLevel : List Env → ℕ → Type 0
@@ -128,7 +128,7 @@ module _ (b : Basis) (t : PlainTemplate) where
       (env : Env) → IsOneOf env envs
       → (v : Verdict) → ChecksOn b t env v → VerdictIsWithin (levels_on b t n env) v
 
-  -- each verdict of an environment that has this one
+  -- each verdict of an environment that has this verdict is within the level
   of_this : (n : ℕ) (env : Env) (v : Verdict) → ChecksOn b t env v
       → VerdictIsWithin (levels_on b t n env) v → (env' : Env) → env' ≡ env → (v' : Verdict)
       → ChecksOn b t env' v' → VerdictIsWithin (levels_on b t n env') v'
@@ -159,7 +159,7 @@ module _ (b : Basis) (t : PlainTemplate) where
       from i d (inl m) = own.1 (i env (inl refl) v c) d m
       from i d (inr m) = others.1 (λ env' j. i env' (inr j)) d m
 
-  -- a level is enough for all demands exactly there
+  -- a level is enough for all demands exactly if no environment has a level error at it
   pub all_met : (n : ℕ) → n ≤ 4294967295 → (envs : List Env) (vs : List Verdict)
       → VerdictsOf (ChecksOn b t) envs vs
       → ((v : Verdict) (env : Env) → ChecksOn b t env v → VerdictIsShared v)
@@ -169,7 +169,7 @@ module _ (b : Basis) (t : PlainTemplate) where
   all_met n le (env ∷ envs) (v ∷ vs) h k =
       met_more n le env envs v vs h.0 (k v env h.0) (all_met n le envs vs h.1 k)
 
-  -- r is enough for a policy exactly where it is for all environments in some order
+  -- n is enough for a policy exactly if it is enough for all environments in some order
   within_listed : (listed : List Env) → IsPermutation listed (checked_envs b.schema b.mode t)
       → (n : ℕ) → PolicyIsWithinLevel b t n ↔ AreWithinLevel listed n
   within_listed listed p n = (
@@ -177,7 +177,8 @@ module _ (b : Basis) (t : PlainTemplate) where
     λ i env m. i env (moved _ listed (IsPermutation-sym listed _ p) env m),
   )
 
-  -- what reaches r is enough for the policy: then r is the required level, where it is a number of 32 bits
+  -- if the levels that are enough for the policy are those that reach r, then r is the required level, if
+  -- it is a number of 32 bits
   pub required_is : (r : Option ℕ)
       → ((n : ℕ) → n ≤ 4294967295 → PolicyIsWithinLevel b t n ↔ Reaches r n)
       → IsRequiredLevel b t (of_32_bits r)
@@ -214,7 +215,7 @@ module _ (b : Basis) (t : PlainTemplate) where
             λ i. w.1 (m.0 (λ d j. (r.0 i).1 d ((same d).1 j))),
           )
 
-  -- ---- what follows
+  -- ---- laws that follow
 
   larger_within : (k n : ℕ) → k ≤ n → (env : Env) (v : Verdict)
       → VerdictIsWithin (levels_on b t k env) v → VerdictIsWithin (levels_on b t n env) v
@@ -234,7 +235,7 @@ module _ (b : Basis) (t : PlainTemplate) where
       go i true e = leb-true k n e
       go i false e = absurd (h.2 n (leb-false k n e) i)
 
-  -- ---- with the outcome of the validation with levels
+  -- ---- laws with the outcome of the validation with levels
 
   -- an error of an environment's verdict is one of some environment
   in_some : (n : ℕ) (envs : List Env) (vs : List Verdict) → VerdictsOf (ChecksOn b t) envs vs
@@ -256,7 +257,7 @@ module _ (b : Basis) (t : PlainTemplate) where
   none_in_some n (x ∷ envs) (v ∷ vs) h k e (inr i) =
       none_in_some n envs vs h.1 (λ env m. k env (inr m)) e i
 
-  -- where no environment of a list has one, in some order, the policy has none
+  -- if no environment of a list, in some order, has a level error, the policy has none
   pub within_if_none_listed : (n : ℕ) (envs : List Env) (vs : List Verdict)
       → IsPermutation envs (checked_envs b.schema b.mode t) → VerdictsOf (ChecksOn b t) envs vs
       → ((e : Finding) → IsErrorInSome (levels_on b t n) envs vs e → ⊥) → PolicyIsWithinLevel b t n

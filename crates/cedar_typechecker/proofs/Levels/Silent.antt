@@ -1,4 +1,4 @@
--- Where the dereference rules find nothing, by recursion on the typed expression.
+-- Expressions in which the dereference rules find nothing, by recursion on the typed expression.
 use Rattle.std.proofs.Common.{ℕ, zero, suc, Bool, true, false, List, [], ◌∷◌, Option, Some, None}
 use Rattle.cedar_types.specs.Names.{Text, Uid, text_eq, uid_eq}
 use Rattle.cedar_types.specs.Expressions.Tree.{Lit, entity, lit, var, slot, unknown, if_then_else, and, or, unary, binary, call, get_attr}
@@ -33,7 +33,7 @@ abbrev pub OnKeys : List Text → (Text → List Text → Type 0) → Type 0
 OnKeys [] P = ⊥
 OnKeys (p ∷ path) P = P p path
 
--- within a cost c of n, some level k is left that is targeted
+-- within a cost c of n, some level k is left, and the target is within it
 abbrev pub Leaves : ℕ → ℕ → (ℕ → Type 0) → Type 0
 Leaves n c P = (k : ℕ) × (k + c ≤ n) × P k
 
@@ -41,7 +41,7 @@ abbrev pub OnKeysOf : Option (List Text) → (List Text → Type 0) → Type 0
 OnKeysOf None P = Unit {0}
 OnKeysOf (Some path) P = P path
 
--- extended `has` of a base
+-- extended `has`, by its base
 abbrev pub ByChain : Base → ℕ → ℕ → Option (List Text) → Type 0 → (List Text → ℕ → Type 0) → Type 0
 ByChain an_entity n c path A P = Leaves n c (P [])
 ByChain a_record n c path A P = (c ≤ n) × A × OnKeysOf path (λ xs. Leaves n c (P xs))
@@ -49,7 +49,7 @@ ByChain neither n c path A P = A
 
 module _ (s : LevelSetting) where
   abbrev mutual
-    -- nothing is found in a checked expression
+    -- the rules find nothing in a checked expression
     pub Silent : TypedTree → Type 0
     Silent (lit m x) = Unit {0}
     Silent (var m x) = Unit {0}
@@ -82,7 +82,7 @@ module _ (s : LevelSetting) where
     FieldsSilent no_fields = Unit {0}
     FieldsSilent (field k t fs) = Silent t × FieldsSilent fs
 
-    -- nor in a target along a path, whose chains access at most k entities
+    -- the rules find nothing in a target along a path, and its chains access at most k entities
     pub Targeted : TypedTree → List Text → ℕ → Type 0
     Targeted (lit m x) path k = IsOwnAction s.action x
     Targeted (var m x) path k = Unit {0}

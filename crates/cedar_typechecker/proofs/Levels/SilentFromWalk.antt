@@ -1,4 +1,4 @@
--- Where the walk finds nothing, nothing is found by recursion.
+-- If the walk finds nothing, the rules find nothing by recursion.
 use Rattle.std.proofs.Common.{◌≡◌, ℕ, zero, suc, ◌+◌, ◌≤◌, ◌<◌, Bool, true, false, nat_lt, nat_le, List, [], ◌∷◌, ◌++◌, Option, Some, None}
 use Rattle.std.proofs.Common.{if◌then◌else◌, refl, subst, arith}
 use Rattle.std.proofs.lemmas.Bool.{ltb-true, leb-true}

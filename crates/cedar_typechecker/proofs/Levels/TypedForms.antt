@@ -1,4 +1,4 @@
--- What a form whose operands are typed first makes of operands in which constant tests have one branch twice has it too.
+-- A form whose operands are typed first keeps the property that constant tests have one branch twice.
 use Rattle.std.proofs.Common.{Bool, true, false, List, [], ◌∷◌, Option, Some, None}
 use Rattle.cedar_types.specs.declared.base.expressions.operators.BinaryOp.{BinaryOp}
 use Rattle.cedar_types.specs.declared.base.expressions.operators.UnaryOp.{UnaryOp}
@@ -46,7 +46,7 @@ values_shared [] (x ∷ xs) h = tt
 values_shared (k ∷ ks) [] h = tt
 values_shared (k ∷ ks) (x ∷ xs) h = (h.0, values_shared ks xs h.1)
 
--- what a form makes of shared operands is shared
+-- the form keeps shared branches: of shared operands it makes a shared whole
 abbrev pub KeepsShared : Form → Type 0
 KeepsShared f = (k : Mark) (xs : List TypedTree) → ListShared xs → BranchesAreShared (f.node k xs)
 

@@ -1,4 +1,5 @@
--- What is made of parts in which constant tests have one branch twice has it too.
+-- A whole that is made of parts in which constant tests have one branch twice has this property
+-- too.
 use Rattle.std.proofs.Common.{◌≡◌, Bool, true, false, ◌&&◌, List, [], ◌∷◌, ◌++◌, Option, Some, None, is_some, if◌then◌else◌, true≢false}
 use Rattle.std.proofs.Common.{refl, sym, ◌∙◌}
 use Rattle.cedar_types.specs.declared.base.location.Loc.{Loc}

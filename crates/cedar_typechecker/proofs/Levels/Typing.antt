@@ -1,4 +1,4 @@
--- What typing makes of an `if` whose test has the type True or False has one branch twice.
+-- Typing makes one branch twice of an `if` whose test has the type True or False.
 use Rattle.std.proofs.Common.{ℕ, ◌+◌, Bool, true, false, nat_lt, List, [], Option, Some, None, if◌then◌else◌}
 use Rattle.cedar_types.specs.Errors.{Finding}
 use Rattle.cedar_types.specs.Expressions.Tree.{lit, var, slot, unknown, if_then_else, and, or, unary, binary, call, get_attr, has_attr}

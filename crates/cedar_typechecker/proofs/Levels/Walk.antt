@@ -46,7 +46,7 @@ module _ (s : LevelSetting) where
     is_found e (at_target {x = x} {path = path} {f = v} t i) =
         of_target t (level_finding s (mark_of x) v) (leaf_in s x path v i)
 
-    -- ---- and nothing else
+    -- ---- nothing else is found
 
     abbrev IsError : Finding → Type 0
     IsError e = IsLevelError s root e

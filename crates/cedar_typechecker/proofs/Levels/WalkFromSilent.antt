@@ -1,4 +1,4 @@
--- Where nothing is found by recursion, the walk finds nothing, and levels are bounded.
+-- If the rules find nothing by recursion, the walk finds nothing, and levels are bounded.
 use Rattle.std.proofs.Common.{◌≡◌, ℕ, zero, suc, ◌+◌, ◌≤◌, Bool, true, false, nat_lt, nat_le, List, [], ◌∷◌, ◌++◌, Option, Some, None}
 use Rattle.std.proofs.Common.{if◌then◌else◌, refl, ap, arith}
 use Rattle.std.proofs.lemmas.Bool.{le-leb, lt-ltb}
@@ -62,7 +62,7 @@ module _ (s : LevelSetting) where
       → found_at s m fs ++ es ≡ []
   both_here m fs es h k = nil_both (found_at s m fs) es (ap (found_at s m) h) k
 
-  -- what is shown of a target
+  -- the statement on a target
   abbrev IsBounded : TypedTree → List Text → ℕ → Type 0
   IsBounded x path k = (level s.action x path ≤ k) × (target_errors s x path ≡ [])
 
@@ -158,7 +158,7 @@ module _ (s : LevelSetting) where
     tag_bounded BinaryOp.ContainsAny y path k q h = absurd h
     tag_bounded BinaryOp.HasTag y path k q h = absurd h
 
-  -- what is shown of the fields of a record literal that is a target: the key is there too
+  -- the statement on the fields of a record literal that is a target: the key is there too
   abbrev AreBounded : Fields Mark → Text → List Text → ℕ → Type 0
   AreBounded fs p path k =
       (greatest (field_chains s.action fs p path) ≤ k)
