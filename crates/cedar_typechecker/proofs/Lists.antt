@@ -12,7 +12,7 @@ use Rattle.cedar_types.proofs.Schema.Places.{any_mapped}
 -- ---- the same members
 
 module _ {X : Type 0} (same : X → X → Bool) (decides : (x y : X) → Decides (same x y) (x ≡ y)) (p : X → Bool) where
-  -- a list that has x passes where x does
+  -- a list that has x passes a test if x does
   passed_by : (x : X) (ys : List X) → list_any (same x) ys ≡ true → p x ≡ true → list_any p ys ≡ true
   passed_by x [] h k = cc
   passed_by x (y ∷ ys) h k = along (same x y) refl (λ m. passed_by x ys m k) h
@@ -22,7 +22,7 @@ module _ {X : Type 0} (same : X → X → Bool) (decides : (x y : X) → Decides
       along true e later h = ap (λ r. r || list_any p ys) (ap p (sym ((decides x y).0 (sym e))) ∙ k)
       along false e later h = ap (λ r. p y || r) (later h) ∙ or-true (p y)
 
-  -- a list that has all members of another passes where that does
+  -- a list that has all members of another passes a test if that does
   covered : (xs ys : List X) → ((x : X) → list_any (same x) xs ≡ true → list_any (same x) ys ≡ true)
       → list_any p xs ≡ true → list_any p ys ≡ true
   covered [] ys h k = cc
@@ -42,7 +42,7 @@ module _ {X : Type 0} (same : X → X → Bool) (decides : (x y : X) → Decides
       (covered xs ys (λ x k. sym (h x) ∙ k), covered ys xs (λ x k. h x ∙ k))
       (λ k. k, λ k. k)
 
--- a test of what each member gives
+-- a test of the members to which each member is mapped
 pub any_of_all : {X Y : Type 0} (p : Y → Bool) (f : X → List Y) (xs : List X)
     → list_any p (flat_map f xs) ≡ list_any (λ x. list_any p (f x)) xs
 any_of_all p f [] = refl

@@ -1,4 +1,4 @@
--- What a pass finds at each mention are the findings that it is to give.
+-- The findings of a pass at each mention are those that it must give.
 use Rattle.std.proofs.Common.{◌≡◌, refl, ap, subst, ◌∙◌, Bool, true, false, cond, List, [], ◌∷◌, map, filter, Option, Some, None}
 use Rattle.std.specs.List.{filter_map, cons_option}
 use Rattle.std.specs.Prelude.{IsPermutation}
@@ -16,7 +16,7 @@ use Rattle.cedar_typechecker.specs.Passes.{own_finding, of_uid, type_finding, ac
 
 -- ---- lists
 
--- what is found of those that a test keeps
+-- the findings at the members that a test keeps
 kept : {X Y : Type 0} (test : X → Bool) (f : X → Y) (xs : List X)
     → filter_map (λ x. cond (test x) (Some (f x)) None) xs ≡ map f (filter test xs)
 kept test f [] = refl
@@ -28,7 +28,7 @@ kept {X} {Y} test f (x ∷ xs) = along (test x) (kept test f xs)
     along true h = ap (λ ys. f x ∷ ys) h
     along false h = h
 
--- of each type that is mentioned, and of each id
+-- the findings at each type that is mentioned, and at each id
 of_types : (h : PlacedType → Option Finding) (ms : List Mention) → filter_map (λ m. h (mentioned_type m)) ms
     ≡ filter_map h (map mentioned_type ms)
 of_types h [] = refl
@@ -63,7 +63,7 @@ finds_members s t =
 same_order : (found wanted left : List Finding) → left ≡ found → found ≡ wanted → IsPermutation left wanted
 same_order found wanted left h k = subst (λ xs. IsPermutation left xs) (h ∙ k) (IsPermutation-refl left)
 
--- what is left of a pass at its beginning, in any order
+-- the findings of a pass at its beginning, in any order
 pub types_left : (s : Schema) (t : PlainTemplate) (left : List Finding)
     → left ≡ filter_map (own_finding EntityTypes s t.id) (template_mentions t)
     → IsPermutation left (unknown_types s t)

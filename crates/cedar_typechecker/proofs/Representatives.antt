@@ -1,4 +1,4 @@
--- First tests that stand for others, and what they demand.
+-- First tests that stand for others, and their demands.
 pub mod Sets
 pub mod Ties
 pub mod Demands

@@ -1,5 +1,5 @@
--- Neither the schema nor the table of a validator has a fault, so what its calls come to keeps the
--- promises.
+-- Neither the schema nor the table of a validator has a fault, so the outcomes of its calls keep
+-- the promises.
 use Rattle.std.proofs.Common.{◌≡◌, ℕ, true, false, List, None}
 use Rattle.cedar_types.specs.declared.base.types.ValidationMode.{ValidationMode}
 use Rattle.cedar_types.specs.declared.base.types.ValidationMode.TheVariants.{Strict, Permissive}

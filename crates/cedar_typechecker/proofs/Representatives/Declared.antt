@@ -1,4 +1,4 @@
--- All environments of a template are of declared actions, but that of undeclared ones.
+-- All environments of a template are of declared actions, except that of undeclared ones.
 use Rattle.std.proofs.Common.{◌≡◌, Bool, true, false, List, [], ◌∷◌, ◌++◌, map, Option, inl, inr, refl, sym, subst}
 use Rattle.cedar_types.specs.declared.base.names.slots.SlotId.{SlotId}
 use Rattle.cedar_types.specs.declared.base.types.ValidationMode.{ValidationMode}

@@ -1,4 +1,4 @@
--- What tests of variables demand does not depend on the action.
+-- The demands of tests of variables do not depend on the action.
 use Rattle.std.proofs.Common.{◌≡◌, ℕ, true, ◌&&◌, List, [], refl, sym, ap, ◌∙◌}
 use Rattle.cedar_types.specs.declared.base.expressions.operators.BinaryOp.{BinaryOp}
 use Rattle.cedar_types.specs.Expressions.Tree.{lit, var, slot, and, binary}
@@ -8,7 +8,7 @@ use Rattle.cedar_typing.specs.Representatives.{are_leaves, is_reference, is_vari
 use Rattle.cedar_typing.specs.TypedExpr.{TypedTree, Mark}
 use Rattle.cedar_typechecker.specs.Levels.Demands.{Demand, this_level, raised, demands, counted_level, Surroundings, add_demands, add_all_demands, add_target_demands}
 
--- a variable demands nothing, and nor does what it is compared with
+-- a variable demands nothing, and neither does the expression with which it is compared
 variable_demands : (s : Surroundings) (a : TypedTree) → is_variable a ≡ true → (h : ℕ) (ds : List Demand) → add_demands s a h ds ≡ ds
 variable_demands s (var m k) e h ds = refl
 variable_demands s a e h ds = cc

@@ -1,4 +1,4 @@
--- One environment more: what is known of others says it, or its check does.
+-- One more environment: its verdict follows from representatives, or from its check.
 use Rattle.std.proofs.Common.{◌≡◌, ◌↔◌, Bool, true, false, if◌then◌else◌, List, [], ◌∷◌, map, Option, Some, None, option_map, ◌⊎◌, inl, inr, refl, sym, ◌∙◌, ap, subst}
 use Rattle.cedar_types.specs.declared.base.schema.ValidatorSchema.{ValidatorSchema}
 use Rattle.cedar_types.specs.Environments.Representatives.{IsLeftOut, SamePrincipal}
@@ -46,7 +46,7 @@ same_tests (Declared d p r) (Declared d' p' r') k h h' s t i j =
 same_tests (Declared d p r) Undeclared k h h' s t i j = absurd j
 same_tests Undeclared e' k h h' s t i j = absurd i
 
--- one whose action is not among those that the scope admits is left out
+-- an environment whose action is not among those that the scope admits is left out
 left_out : (s : Schema) (t : PlainTemplate) (o : Option (List Uid)) (e : Env) (k : Tests) → AdmitsIfDecided s.actions t.action o
     → IsOfDeclared s e → left_out_tests o e ≡ Some k → IsLeftOut s t e
 left_out s t None e k a d h = absurd (none_is h)
@@ -80,7 +80,7 @@ module _ {C : Type 0} (meaning : C → Refusals) (c : RequestEnvChecks C) where
   module _ (of_template : condition_in c ≡ condition_of t) (env : Env) (declared : IsOfDeclared schema env)
       (old : Survey) (envs : List Env) (vs : List Verdict) (surveys : Surveys schema old envs vs)
       (known : Representatives) (is_known : IsKnown meaning c old known) where
-    -- what is known says it
+    -- a representative decides the environment
     pub says : (k : Tests) → left_out_tests (admitted_in known) env ≡ Some k → IsOneOf k (map tests_of known.quiet.keys)
         → SurveysOneMore meaning c schema old known env envs vs
     says k by i =
@@ -171,7 +171,7 @@ module _ {C : Type 0} (meaning : C → Refusals) (c : RequestEnvChecks C) where
           go true h (inl q) = subst (λ z. IsRepresented s t (demands_of new.demands.keys) z) (sym q) (quiet es x k (no_finding es h) e by)
           go true h (inr j) = absurd j
 
-      -- its check says it
+      -- the environment's check decides it
       pub checks : (o : Option Tests) → o ≡ left_out_tests (admitted_in known) env → (known' : Representatives) → known'.admitted ≡ known.admitted
           → Adds (map tests_of known.quiet.keys) (noted v o) (map tests_of known'.quiet.keys)
           → SurveysOneMore meaning c schema new known' env envs vs
@@ -191,7 +191,7 @@ module _ {C : Type 0} (meaning : C → Refusals) (c : RequestEnvChecks C) where
           each None by k (inr i) = absurd i
           each (Some k') by k (inr i) = by_verdict v refl k' k (sym by) i
 
--- the same by the schema that the checks are by
+-- the statement by the schema of the checks
 module _ {C : Type 0} (meaning : C → Refusals) (c : RequestEnvChecks C) (x : ValidatorSchema) (by : AreChecksBy meaning c x)
     (env : Env) (envs : List Env) (vs : List Verdict) (old : Survey) (known : Representatives) (is_known : IsKnown meaning c old known)
     (o : Option Tests) (out : o ≡ left_out_tests (admitted_in known) env) where
@@ -219,7 +219,7 @@ module _ {C : Type 0} (meaning : C → Refusals) (c : RequestEnvChecks C) (x : V
       subst P by.0
       (λ declared surveys surveys'. checks meaning c by.1 env declared old envs vs surveys known is_known v checked new surveys' o out known' same adds)
 
--- what is known beside other checks with the same input
+-- representatives stay right beside other checks with the same input
 pub known_beside : {C : Type 0} (meaning : C → Refusals) (c c' : RequestEnvChecks C) (survey : Survey) (known : Representatives)
     → checker_of c' ≡ checker_of c → template_in c' ≡ template_in c → IsKnown meaning c survey known → IsKnown meaning c' survey known
 known_beside {C} meaning c c' survey known h k is =
@@ -230,7 +230,7 @@ known_beside {C} meaning c c' survey known h k is =
       represented = subst (λ y. R (checker_of c') y) (sym k) (subst (λ x. R x (template_in c)) (sym h) is.represented);
     }
 
--- nothing is known at first
+-- at first there are no representatives
 pub nothing_known : {C : Type 0} (meaning : C → Refusals) (c : RequestEnvChecks C) (survey : Survey) (known : Representatives)
     (x : ValidatorSchema) (p : Template) → (schema_by (checker_of c)).now ≡ x → template_in c ≡ p → known.quiet.keys ≡ []
     → AdmitsIfDecided (schema_of x).actions (template_of p).action (admitted_in known) → IsKnown meaning c survey known

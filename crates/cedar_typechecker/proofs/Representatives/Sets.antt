@@ -1,4 +1,4 @@
--- What is asked of a set, by what its keys say; and ids that are among others.
+-- Questions to a set, answered by its keys; and ids that are among others.
 use Rattle.std.proofs.Common.{◌≡◌, Bool, true, false, true≢false, ◌||◌, List, [], ◌∷◌, ◌++◌, map, inl, inr, refl, sym, ◌∙◌, ap}
 use Rattle.std.specs.Bool.{Decides}
 use Rattle.std.specs.List.{list_any, flat_map}
@@ -19,7 +19,7 @@ module _ {K X : Type 0} (test : K → Bool) (view : K → X) (x : X) (decides : 
   any_from (k ∷ ks) (inl e) = or_left (test k) (list_any test ks) ((decides k).1 e)
   any_from (k ∷ ks) (inr h) = or_right (test k) (list_any test ks) (any_from ks h)
 
--- those listed and below
+-- a test passes at some member of two joined lists if it passes in one of them
 any_joined : (p : Uid → Bool) (xs ys : List Uid) → list_any p (xs ++ ys) ≡ (list_any p xs || list_any p ys)
 any_joined p [] ys = refl
 any_joined p (x ∷ xs) ys = ap (λ b. p x || b) (any_joined p xs ys) ∙ grouped (p x) (list_any p xs) (list_any p ys)

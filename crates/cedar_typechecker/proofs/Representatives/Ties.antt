@@ -1,4 +1,4 @@
--- Ties in the derived order of first tests are equality of what they say.
+-- Ties in the derived order of first tests are equality of their data.
 use Rattle.std.proofs.Common.{◌≡◌, Bool, true, true≢false, ◌&&◌, Option, Some, None, option_map, refl, sym, ap, ◌∙◌}
 use Rattle.std.specs.Bool.{Decides}
 use Rattle.std.specs.Option.{option_eq}

@@ -5,7 +5,7 @@ use Rattle.cedar_types.specs.Types.{ty_of}
 use Rattle.cedar_typechecker.specs.Levels.Demands.{entity_after}
 use Rattle.cedar_typechecker.proofs.level_validate.costs.first_entity.Given as goal
 
--- what is found of the attributes that are left, after those before
+-- the result for the attributes that are left, after those before
 abbrev pub invariant-loop-count : goal.invariant-loop-count
 invariant-loop-count l =
     entity_after (schema_of l.schema) l.count (ty_of l.reached) (text_of l.attr)

@@ -7,7 +7,7 @@ use Rattle.cedar_typechecker.specs.Levels.Paths.{keys_along}
 use Rattle.cedar_typechecker.specs.Levels.Views.{surroundings_of, demands_of, typed_fields}
 use Rattle.cedar_typechecker.proofs.level_validate.walk.LevelWalk.+levels.Given as goal
 
--- what those that are left add to what was found so far is what all add
+-- the demands so far, and those of the elements that are left, are those of all
 abbrev pub invariant-check_all-loop-e : goal.invariant-check_all-loop-e
 invariant-check_all-loop-e l =
     add_all_demands (surroundings_of l.self) (trees_of (map typed_tree (drop l.e-index l.e-items)))
