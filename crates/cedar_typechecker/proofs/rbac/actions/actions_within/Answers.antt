@@ -9,7 +9,7 @@ use Rattle.cedar_typechecker.specs.Scopes.{declarations}
 use Rattle.cedar_typechecker.proofs.Answers.{ids_of, same_declarations}
 use Rattle.cedar_typechecker.proofs.rbac.actions.actions_within.Goals as goal
 
--- those that are admitted, by the ids and by whether all are declared
+-- the admitted actions, from the ids and from whether all are declared
 abbrev admitted : List DeclaredAction → Bool → List Uid → List DeclaredAction
 admitted acts b ids = cond b (declarations acts (actions_within acts ids)) []
 

@@ -3,7 +3,7 @@ use Rattle.cedar_types.specs.Schemas.Declarations.{application, declared_action}
 use Rattle.cedar_typechecker.specs.Scopes.{applications}
 use Rattle.cedar_typechecker.proofs.rbac.actions.applications.Given as goal
 
--- what is there, and what the actions that are left apply to
+-- the applications so far, and those of the actions that are left
 abbrev pub invariant-loop-action : goal.invariant-loop-action
 invariant-loop-action l =
     map (λ a. application a.now) l.defined.items ++ applications (map (λ a. declared_action a.now) (drop l.action-index l.actions))

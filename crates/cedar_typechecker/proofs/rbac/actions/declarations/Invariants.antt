@@ -5,7 +5,7 @@ use Rattle.cedar_types.specs.Schemas.Contents.{schema_of}
 use Rattle.cedar_typechecker.specs.Scopes.{declarations}
 use Rattle.cedar_typechecker.proofs.rbac.actions.declarations.Given as goal
 
--- what is there, and the declarations of those that are left
+-- the declarations so far, and those of the actions that are left
 abbrev pub invariant-loop-uid : goal.invariant-loop-uid
 invariant-loop-uid l =
     map (λ a. declared_action a.now) l.declared.items

@@ -6,7 +6,7 @@ use Rattle.cedar_typechecker.proofs.rbac.literal_errors.LiteralErrors.next_error
 abbrev pub decreases-loop-mention : goal.decreases-loop-mention
 decreases-loop-mention l = cond (mentions_are_over l.self.mentions) 0 (length (mentions_left l.self.mentions) + 1)
 
--- what was passed over was no error
+-- the mentions that were passed over have no error
 abbrev pub invariant-loop-mention : goal.invariant-loop-mention
 invariant-loop-mention l =
     (errors_to_come l.self ≡ errors_to_come l.initial.self)
