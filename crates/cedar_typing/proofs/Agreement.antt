@@ -1,4 +1,4 @@
--- Inference answers what the rules say, and nothing else.
+-- Inference answers exactly as the rules do.
 pub mod Parts
 pub mod Leaves
 pub mod Eager

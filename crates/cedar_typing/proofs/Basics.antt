@@ -28,12 +28,12 @@ pub or_right : (a b : Bool) → b ≡ true → (a || b) ≡ true
 or_right true b h = refl
 or_right false b h = h
 
--- what follows from either follows
+-- a statement that follows from either of two facts follows from their disjunction
 pub or_cases : (a b : Bool) (P : Type 0) → (a ≡ true → P) → (b ≡ true → P) → (a || b) ≡ true → P
 or_cases true b P f g h = f refl
 or_cases false b P f g h = g h
 
--- what is not so in either way is not so in each
+-- if a disjunction is false, each side is false
 pub neither_left : (a b : Bool) → (a || b) ≡ false → a ≡ false
 neither_left = none_left
 

@@ -40,11 +40,11 @@ module _ (env : TypeEnv) (m : Written) (l : Option Loc) (A : Judgment) (B : Caps
   abbrev whole : List Finding → AnswerAndErrors
   whole es = after (expect env bool_types l (jt es)) (λ p es'. infer_branches env m prior p es' jb je)
 
-  -- the typed whole where x stands for both branches
+  -- the typed whole in which x stands for both branches
   abbrev constant : TypedTree → TypedTree → TypedTree
   constant a x = if_then_else (typed_as (annotation x) m) a x x
 
-  -- the test is True, and it and the branch are good
+  -- the test is True, and the test and its branch succeed
   true_well : (c c' : Caps) (a b : TypedTree) (es es' : List Finding) → Operand env bool_types l A true c a es
       → annotation_passes is_true (annotation a) ≡ true → Branch c true c' b es'
       → Answered (success (constant a b) (union c c')) (es ++ es')
@@ -66,7 +66,7 @@ module _ (env : TypeEnv) (m : Written) (l : Option Loc) (A : Judgment) (B : Caps
   true_joined false succeeded' c c' a b es es' o n p = a_recovered (if_true_recovered o n p refl)
   true_joined true false c c' a b es es' o n p = a_recovered (if_true_recovered o n p refl)
 
-  -- the test is False, and the same
+  -- the test is False, and the test and its branch succeed
   false_well : (c c' : Caps) (a e : TypedTree) (es es' : List Finding) → Operand env bool_types l A true c a es
       → annotation_passes is_false (annotation a) ≡ true → PartResult E true c' e es'
       → Answered (success (constant a e) c') (es ++ es')
@@ -88,7 +88,7 @@ module _ (env : TypeEnv) (m : Written) (l : Option Loc) (A : Judgment) (B : Caps
   false_joined false succeeded' c c' a e es es' o n p = a_recovered (if_false_recovered o n p refl)
   false_joined true false c c' a e es es' o n p = a_recovered (if_false_recovered o n p refl)
 
-  -- by what the test says
+  -- by cases of the test's type
   by_test : (succeeded : Bool) (c : Caps) (a : TypedTree) (es added : List Finding) (x y : Bool)
       → annotation_passes is_true (annotation a) ≡ x → annotation_passes is_false (annotation a) ≡ y
       → Operand env bool_types l A succeeded c a added
@@ -122,7 +122,7 @@ module _ (env : TypeEnv) (m : Written) (l : Option Loc) (A : Judgment) (B : Caps
   if_marks t c e (if_false _ _) = refl
   if_marks t c e (if_open _ _ _ _ _ _ _) = refl
 
-  -- ---- whatever the rules say is answered
+  -- ---- each result of the rules is answered
   module _ (succeeded : Bool) (c : Caps) (a : TypedTree) (added : List Finding)
       (o : Operand env bool_types l A succeeded c a added) (es : List Finding) where
     test_typed : whole es ≡ infer_branches env m prior (part_with succeeded c a) (es ++ added) jb je

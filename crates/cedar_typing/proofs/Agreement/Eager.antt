@@ -21,7 +21,7 @@ use Rattle.cedar_typing.proofs.Agreement.Parts.{Answers, a_derived, a_recovered,
 use Rattle.cedar_typing.proofs.Agreement.Parts.{PartFound, part_found, operand_found, any_only, operand_only, cut_only, derived_operand}
 use Rattle.cedar_typing.proofs.Agreement.Parts.{good_operand, good_part_of}
 
--- ---- an operand that has to be of certain types, or may be anything
+-- ---- an operand with expected types, or one that may be anything
 
 operand_is_found : (env : TypeEnv) (q : Expectation) (l : Option Loc) (J : Judgment) (o : AnswerAndErrors) (es : List Finding)
     → Found J o es → PartFound (ExpectedOperand env q l J) J.cuts (expect_operand env q l o) es
@@ -35,7 +35,7 @@ operand_is_only env None l J j base g added p es = any_only J j base g added p e
 operand_is_only env (Some ts) l J j base g added (is_given p) es = operand_only env ts l J j base _ _ _ added p es
 operand_is_only env (Some ts) l J j base g added (is_cut h) es = cut_only env ts l J j base added h es
 
--- one that succeeded is derived, without errors
+-- an operand that succeeded is derived, without errors
 record GoodOperand (q : Expectation) (J : Judgment) (c : Caps) (e : TypedTree) (es : List Finding) : Type 0 where
   ty : Ty
   derived : J.derives ty c e
@@ -58,24 +58,24 @@ derived_is_good env (Some ts) l J j base t c e d h = derived_operand env ts l J 
 
 -- ---- operands, one after another
 
--- what operands result in, by the rules
+-- the result of operands, by the rules
 pub data OperandsAnswer (Js : Judgments) : Operands → List Finding → Type 0 where
   are_given : {succeeded : Bool} {xs : List TypedTree} {es : List Finding} → Js.give succeeded xs es
       → OperandsAnswer Js (all_typed succeeded xs) es
   one_is_cut : {xs : List TypedTree} {es : List Finding} → Js.break xs es → OperandsAnswer Js (cut_after xs) es
 
--- from the errors es on, what they result in and the errors that are added
+-- from the errors es on, the result of the operands and the errors that are added
 pub record OperandsFound (Js : Judgments) (o : OperandsAndErrors) (es : List Finding) : Type 0 where
   pub results : Operands
   pub added : List Finding
   pub is : o ≡ (results, es ++ added)
   pub rules : OperandsAnswer Js results added
 
--- j answers what the rules say of operands, and whatever they say j answers
+-- j answers for operands exactly as the rules do
 pub record AllAgree (j : List Finding → OperandsAndErrors) (Js : Judgments) : Type 0 where
   pub found : (es : List Finding) → OperandsFound Js (j es) es
   pub only : (es : List Finding) (r : Operands) (added : List Finding) → OperandsAnswer Js r added → j es ≡ (r, es ++ added)
-  -- all succeed exactly where each is derived, without errors
+  -- all operands succeed exactly if each is derived, without errors
   pub good : (b : Bool) (xs : List TypedTree) (es : List Finding) → Js.give b xs es → b ≡ true → Js.derive xs × (es ≡ [])
   pub derived : (xs : List TypedTree) → Js.derive xs → Js.give true xs []
 
@@ -119,7 +119,7 @@ module _ (env : TypeEnv) (goes_on : Bool) (q : Expectation) (l : Option Loc) (J 
   abbrev whole : List Finding → OperandsAndErrors
   whole = infer_one_more env goes_on q l j rest
 
-  -- what is left after one that is cut
+  -- the result of the operands after one that is cut
   record LeftFound (go : Bool) (es : List Finding) : Type 0 where
     added : List Finding
     is : infer_rest go None es rest ≡ (cut_after [], es ++ added)

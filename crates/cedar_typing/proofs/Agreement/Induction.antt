@@ -1,4 +1,4 @@
--- Inference is exactly what the rules say.
+-- Inference answers exactly as the rules do, for all expressions.
 use Rattle.std.proofs.Common.{◌≡◌, ℕ, ◌+◌, ◌≤◌, ◌<◌, Bool, true, false, nat_lt, List, [], ◌++◌, Some, None, refl, sym, subst, ◌∙◌, ap}
 use Rattle.std.proofs.Common.{arith, append-nil}
 use Rattle.std.specs.Prelude.{if◌then◌else◌}
@@ -49,7 +49,8 @@ is_past d h = grind (arith, common_steps)
 pub below_limit : (d : ℕ) (es : List Finding) (o : AnswerAndErrors) → d ≤ max_nesting → unless_too_deep d es o ≡ o
 below_limit d es o h = rw (is_within d h) refl
 
--- what is so of an expression of a known form, where the limit is not passed, is so of that expression
+-- a statement on inference of a known form within the limit holds of inference of an expression of
+-- that form
 pub infer_as : (P : AnswerAndErrors → Type 0) (s : Setting) (prior : Caps) (d : ℕ)
     (es : List Finding) {e tree : Source} → d ≤ max_nesting → e ≡ tree → P (infer_within s tree prior d es)
     → P (infer s e prior d es)
@@ -152,7 +153,7 @@ mutual
   agrees_within s (record_of m fs) prior d =
       form_agrees (record_form s.env m (field_keys fs)) (λ k xs. refl) _ _ (agrees_fields s fs prior (d + 1))
 
-  -- expressions one after another
+  -- expressions one after another are inferred by their rules
   pub agrees_all : (s : Setting) (goes_on : Bool) (qs : List Expectation) (ts : Trees Written) (prior : Caps)
       (d : ℕ) → AllAgree (infer_all s goes_on qs ts prior d) (rules_all s goes_on qs ts prior d)
   agrees_all s goes_on qs no_trees prior d = none_agrees
@@ -161,7 +162,7 @@ mutual
       (within_agrees d _ _ (agrees_within s e prior d))
       _ _ (agrees_all s goes_on (later_expectations qs) ts prior d)
 
-  -- the values of fields
+  -- the values of fields are inferred by their rules
   pub agrees_fields : (s : Setting) (fs : Fields Written) (prior : Caps) (d : ℕ)
       → AllAgree (infer_fields s fs prior d) (rules_fields s fs prior d)
   agrees_fields s no_fields prior d = none_agrees

@@ -12,7 +12,7 @@ use Rattle.cedar_typing.specs.Rules.Leaves.{leaf, leaf_missing, leaf_rules, unkn
 use Rattle.cedar_typing.specs.TypedExpr.{TypedTree, Mark, mark_of}
 use Rattle.cedar_typing.proofs.Agreement.Parts.{Answers, a_derived, a_recovered, a_cut, Found, Marks, Agrees}
 
--- what adds no error
+-- an answer that adds no error
 silent : (J : Judgment) (a : Answer) (es : List Finding) → Answers J a [] → Found J (a, es) es
 silent J a es r = record { answer = a; added = []; is = ap (λ l. (a, l)) (sym (append-nil es)); rules = r }
 

@@ -15,7 +15,7 @@ use Rattle.cedar_typing.specs.TypedExpr.{Source, TypedTree, Mark, mark_of}
 abbrev pub IsMarked : Form → Type 0
 IsMarked f = (k : Mark) (xs : List TypedTree) → mark_of (f.node k xs) ≡ k
 
--- it is the operator's, on the operands
+-- the node of an operator's form is that operator on the operands
 pub unary_node : (m : Written) (o : UnaryOp) (k : Mark) (xs : List TypedTree) → (unary_form m o).node k xs ≡ unary k o (first_tree xs)
 unary_node m UnaryOp.Not k xs = refl
 unary_node m o k xs = refl

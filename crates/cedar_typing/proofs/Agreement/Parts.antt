@@ -1,4 +1,4 @@
--- Inference answers what the rules say, and nothing else: for a part, and where inference goes on with it.
+-- Inference answers exactly as the rules do, for a part and for the whole that goes on with it.
 use Rattle.std.proofs.Common.{◌≡◌, Bool, true, false, List, [], ◌∷◌, ◌++◌, Option, Some, None, refl, sym, ◌∙◌, ap, subst, append_assoc}
 use Rattle.std.specs.Prelude.{if◌then◌else◌}
 use Rattle.cedar_types.specs.declared.base.location.Loc.{Loc}
@@ -14,43 +14,43 @@ use Rattle.cedar_typing.specs.TypeEnv.{TypeEnv, finding}
 use Rattle.cedar_typing.specs.TypeTests.{accepts, annotation_passes}
 use Rattle.cedar_typing.specs.TypedExpr.{TypedTree, annotation}
 
--- an answer and its errors, by the rules
+-- the answer and its errors, by the rules
 pub data Answers (J : Judgment) : Answer → List Finding → Type 0 where
   a_derived : {t : Ty} {c : Caps} {e : TypedTree} → J.derives t c e → Answers J (success e c) []
   a_recovered : {e : TypedTree} {es : List Finding} → J.recovers e es → Answers J (failure e) es
   a_cut : {es : List Finding} → J.cuts es → Answers J limit es
 
--- from the errors es on, the answer and the errors that are added
+-- from the errors es on, the answer of the rules and the errors that are added
 pub record Found (J : Judgment) (o : AnswerAndErrors) (es : List Finding) : Type 0 where
   pub answer : Answer
   pub added : List Finding
   pub is : o ≡ (answer, es ++ added)
   pub rules : Answers J answer added
 
--- each derivation has its type at the root
+-- each derivation has its type at the root of its copy
 abbrev pub Marks : Derivation → Type 0
 Marks D = (t : Ty) (c : Caps) (e : TypedTree) → D t c e → annotation e ≡ Some t
 
--- j answers what the rules say, and whatever they say j answers
+-- j answers exactly as the rules do
 pub record Agrees (j : List Finding → AnswerAndErrors) (J : Judgment) : Type 0 where
   pub found : (es : List Finding) → Found J (j es) es
   pub only : (es : List Finding) (a : Answer) (added : List Finding) → Answers J a added → j es ≡ (a, es ++ added)
   pub marks : Marks J.derives
 
--- what a part comes to: it is is_given on, or it is cut
+-- the result of a part: it is handed on, or it is cut
 pub data PartAnswer (H : Giving) (C : Cut) : Option Part → List Finding → Type 0 where
   is_given : {succeeded : Bool} {c : Caps} {e : TypedTree} {es : List Finding} → H succeeded c e es
       → PartAnswer H C (Some (part_with succeeded c e)) es
   is_cut : {es : List Finding} → C es → PartAnswer H C None es
 
--- from the errors es on, what it comes to and the errors that are added
+-- from the errors es on, the result of a part and the errors that are added
 pub record PartFound (H : Giving) (C : Cut) (o : PartAndErrors) (es : List Finding) : Type 0 where
   pub operand : Option Part
   pub added : List Finding
   pub is : o ≡ (operand, es ++ added)
   pub rules : PartAnswer H C operand added
 
--- the same of a part of which a type is required
+-- the result of a part with an expected type
 abbrev pub OperandAnswer : TypeEnv → List Ty → Option Loc → Judgment → Option Part → List Finding → Type 0
 OperandAnswer env ts l J = PartAnswer (Operand env ts l J) J.cuts
 
@@ -92,7 +92,7 @@ module _ (env : TypeEnv) (ts : List Ty) (l : Option Loc) (J : Judgment) where
       let P : AnswerAndErrors → Type 0 = λ o. OperandFound env ts l J (expect env ts l o) es in
       subst P (sym f.is) (by_answer es f.added f.answer f.rules)
 
-  -- a good operand is derived, without errors
+  -- an operand that succeeded is derived, without errors
   pub record Good (c : Caps) (e : TypedTree) (es : List Finding) : Type 0 where
     pub ty : Ty
     pub derived : J.derives ty c e
@@ -111,13 +111,13 @@ module _ (env : TypeEnv) (ts : List Ty) (l : Option Loc) (J : Judgment) where
   good_operand c e es m (accepted t p n h) = good_part c e es t m n h p
 
 module _ (J : Judgment) where
-  -- an answer reached from the errors es0, where before were added to es already
+  -- an answer from the errors es0 is one from the errors es, if the errors between them were added before
   pub later : (o : AnswerAndErrors) (es0 es before : List Finding) → es0 ≡ es ++ before → (a : Answer)
       (added : List Finding) → o ≡ (a, es0 ++ added) → Answers J a (before ++ added) → Found J o es
   later o es0 es before b a added e r =
       record { answer = a; added = before ++ added; is = e ∙ rw (b, append_assoc) refl; rules = r }
 
-  -- where typing goes on with a part
+  -- typing goes on with a part
   after_answer : (H : Giving) (C0 : Cut) (es0 es before : List Finding) (k : Part → List Finding → AnswerAndErrors) → es0 ≡ es ++ before
       → ((added : List Finding) → C0 added → J.cuts (before ++ added))
       → ((succeeded : Bool) (c : Caps) (e : TypedTree) (added : List Finding) → H succeeded c e added
@@ -135,7 +135,7 @@ module _ (J : Judgment) where
       let P : PartAndErrors → Type 0 = λ o. Found J (after o k) es in
       subst P (sym f.is) (after_answer H C0 es0 es before k b cut on f.operand f.added f.rules)
 
-  -- where it goes on with an operand
+  -- typing goes on with an operand
   pub after_operand : (env : TypeEnv) (ts : List Ty) (l : Option Loc) (J0 : Judgment) (es0 es before : List Finding)
       (k : Part → List Finding → AnswerAndErrors) → es0 ≡ es ++ before
       → ((added : List Finding) → J0.cuts added → J.cuts (before ++ added))
@@ -144,7 +144,7 @@ module _ (J : Judgment) where
       → (o : PartAndErrors) → OperandFound env ts l J0 o es0 → Found J (after o k) es
   after_operand env ts l J0 es0 es before k b cut on o f = after_part (Operand env ts l J0) J0.cuts es0 es before k b cut on o f
 
--- ---- whatever the rules say is answered
+-- ---- each result of the rules is answered
 
 module _ (env : TypeEnv) (ts : List Ty) (l : Option Loc) (J : Judgment) (j : List Finding → AnswerAndErrors) (base : Agrees j J) where
   part_only : (succeeded : Bool) (c : Caps) (e : TypedTree) (added : List Finding)
@@ -167,11 +167,11 @@ module _ (env : TypeEnv) (ts : List Ty) (l : Option Loc) (J : Judgment) (j : Lis
   pub derived_operand : (t : Ty) (c : Caps) (e : TypedTree) → J.derives t c e → accepts ts t ≡ true → Operand env ts l J true c e []
   derived_operand t c e s h = accepted t (derived s) (base.marks t c e s) h
 
--- the type at a root passes or not as its annotation says
+-- a test of the type at a root has the result of the test of its annotation
 pub says_at : (test : Ty → Bool) (x : Option Ty) (t : Ty) (b : Bool) → x ≡ Some t → annotation_passes test x ≡ b → test t ≡ b
 says_at test x t b e h = sym (ap (annotation_passes test) e) ∙ h
 
--- ---- parts of which nothing is required
+-- ---- parts that may be anything
 
 module _ (J : Judgment) where
   part_answer : (a : Answer) (es : List Finding) → Answers J a es → PartAnswer (PartResult J) J.cuts (part_from a) es
@@ -197,14 +197,14 @@ module _ (J : Judgment) where
   visited_answer es (the_part p) = (_, is_given p)
   visited_answer es (the_cut h) = (None, is_cut h)
 
-  -- whatever the rules say of it is answered
+  -- each result of the rules for the part is answered
   pub any_only : (j : List Finding → AnswerAndErrors) → Agrees j J → (g : Option Part) (added : List Finding)
       → PartAnswer (PartResult J) J.cuts g added → (es : List Finding) → any_part (j es) ≡ (g, es ++ added)
   any_only j base g added (is_given (derived h)) es = ap any_part (base.only es _ _ (a_derived h))
   any_only j base g added (is_given (recovered h)) es = ap any_part (base.only es _ _ (a_recovered h))
   any_only j base g added (is_cut h) es = ap any_part (base.only es _ _ (a_cut h))
 
-  -- a good part is derived, without errors
+  -- a part that succeeded is derived, without errors
   pub record GoodPart (c : Caps) (e : TypedTree) (es : List Finding) : Type 0 where
     pub ty : Ty
     pub derived : J.derives ty c e

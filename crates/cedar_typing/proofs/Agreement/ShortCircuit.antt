@@ -51,7 +51,7 @@ module _ (env : TypeEnv) (f : Connective) (node_mark : (k : Mark) (a b : TypedTr
   abbrev ends_at : TypedTree → Bool
   ends_at a = annotation_passes f.ends (annotation a)
 
-  -- what is left of it after a left side that does not end the whole
+  -- inference of the right side, after a left side that does not end the whole
   abbrev on_right : Bool → Caps → TypedTree → List Finding → AnswerAndErrors
   on_right succeeded c a es =
       after (expect env bool_types l' (jr (known c) es))
@@ -116,7 +116,7 @@ module _ (env : TypeEnv) (f : Connective) (node_mark : (k : Mark) (a b : TypedTr
   whole_marks t c e (left_ends {a = a} h _ _) = annotation-at_place m.place a ∙ left.marks _ _ _ h
   whole_marks t c e (both_sides {a = a} {b = b} _ _ _ _ _) = ap (λ (k : Mark). k.ty) (node_mark _ a b)
 
-  -- ---- whatever the rules say is answered
+  -- ---- each result of the rules is answered
 
   left_typed : (succeeded : Bool) (c : Caps) (a : TypedTree) (added : List Finding) → Left succeeded c a added
       → (es : List Finding) → whole es ≡ infer_right env f m l' prior (part_with succeeded c a) (es ++ added) jr

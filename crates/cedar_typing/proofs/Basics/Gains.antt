@@ -1,4 +1,4 @@
--- Sets that gain members: by the equality of their keys, and by what the keys say.
+-- Sets that gain members, by the equality of their keys and by the views of these.
 use Rattle.std.proofs.Common.{◌≡◌, Bool, true, false, ◌||◌, cond, true≢false, List, [], ◌∷◌, ◌++◌, map, ◌⊎◌, inl, inr, refl, sym, subst}
 use Rattle.std.proofs.Common.{◌∙◌}
 use Rattle.std.specs.Bool.{Decides}
@@ -39,7 +39,7 @@ module _ {K X : Type 0} (eq : K → K → Bool) (view : K → X) (decides : (a b
   in_member q (k ∷ ks) (inl e) = or_left (eq q k) (is_member eq ks q) ((decides q k).1 e)
   in_member q (k ∷ ks) (inr h) = or_right (eq q k) (is_member eq ks q) (in_member q ks h)
 
-  -- what a key of the list says
+  -- a member of the viewed list is the view of a key
   source : (x : X) (ks : List K) → IsOneOf x (map view ks) → (q : K) × (x ≡ view q)
   source x [] h = absurd h
   source x (k ∷ ks) (inl e) = (k, e)
@@ -71,11 +71,11 @@ module _ {K X : Type 0} (eq : K → K → Bool) (view : K → X) (decides : (a b
             let s = source x these k in
             in_of x s.0 new s.1 (u s.0 ∙ or_right (is_member eq old s.0) (is_member eq these s.0) (member_of x s.0 these s.1 k))
 
-    -- a union by keys is one by what they say
+    -- a union of keys is a union of their views
     pub union_adds : Adds (map view old) (map view these) (map view new)
     union_adds x = (gained x, kept x)
 
-  -- a key that is put in
+  -- a key that is added
   pub put_adds : (k : K) (old new : List K)
       → ((q : K) → is_member eq new q ≡ cond (eq k q) true (is_member eq old q)) → IsUnion eq old (k ∷ []) new
   put_adds k old new h q = h q ∙ one (eq k q) (eq q k) (is_member eq old q) (either_order k q)

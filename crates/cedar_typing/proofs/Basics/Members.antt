@@ -1,4 +1,4 @@
--- What is one of a list: of lists put together, and by tests of all or of some.
+-- Members of lists: of lists put together, and tests of all members or of some.
 use Rattle.std.proofs.Common.{◌≡◌, inl, inr, Bool, true, false, cond, List, [], ◌∷◌, ◌++◌, map, Option, Some, refl, sym, ap, subst}
 use Rattle.std.proofs.lemmas.List.Elements.{All-from_recursion, recursion_from_All}
 use Rattle.std.proofs.lemmas.List.Sorted.{All-permutation, IsPermutation-sym}
@@ -10,11 +10,11 @@ use Rattle.cedar_types.specs.Schemas.{is_among}
 use Rattle.cedar_typing.specs.Evaluation.Conformance.{IsOneOf}
 use Rattle.cedar_typing.proofs.Basics.{some_is, neither_left, neither_right, or_cases}
 
--- it holds of each
+-- P holds of each member
 abbrev pub AreAll : {A : Type 0} → (A → Type 0) → List A → Type 0
 AreAll {A} P xs = (x : A) → IsOneOf x xs → P x
 
--- ---- what holds of each
+-- ---- statements on each member
 
 module _ {A : Type 0} where
   module _ (P : A → Type 0) where
@@ -30,7 +30,7 @@ module _ {A : Type 0} where
     pub each_one : (xs : List A) → All P xs → AreAll P xs
     each_one xs h = one_of_all xs (recursion_from_All P xs h)
 
-    -- it holds of each in another order
+    -- P holds of each member of the list in another order
     pub reordered : (xs ys : List A) → IsPermutation xs ys → AreAll P xs → AreAll P ys
     reordered xs ys p f =
         each_one ys (All-permutation P xs ys p (All-from_recursion P xs (by_recursion xs f)))
@@ -56,20 +56,20 @@ module _ {A : Type 0} where
   all_joined P (y ∷ xs) ys f g x (inl e) = f x (inl e)
   all_joined P (y ∷ xs) ys f g x (inr h) = all_joined P xs ys (λ z k. f z (inr k)) g x h
 
-  -- one of a list, under a function
+  -- the image of a member is a member of the images
   pub in_mapped : {B : Type 0} (f : B → A) (b : B) (bs : List B) → IsOneOf b bs → IsOneOf (f b) (map f bs)
   in_mapped f b [] h = absurd h
   in_mapped f b (c ∷ bs) (inl e) = inl (ap f e)
   in_mapped f b (c ∷ bs) (inr h) = inr (in_mapped f b bs h)
 
-  -- it holds of each under a function
+  -- P holds of each image
   pub all_mapped : {B : Type 0} (P : A → Type 0) (f : B → A) (bs : List B) → ((b : B) → IsOneOf b bs → P (f b)) → AreAll P (map f bs)
   all_mapped P f [] h x k = absurd k
   all_mapped P f (b ∷ bs) h x (inl e) = subst P (sym e) (h b (inl refl))
   all_mapped P f (b ∷ bs) h x (inr k) = all_mapped P f bs (λ c i. h c (inr i)) x k
 
   module _ {B : Type 0} (f : B → List A) where
-    -- one of the list that belongs to one
+    -- a member of the list of one element is a member of all lists joined
     pub in_flat : (x : A) (b : B) (bs : List B) → IsOneOf b bs → IsOneOf x (f b) → IsOneOf x (flat_map f bs)
     in_flat x b [] h k = absurd h
     in_flat x b (c ∷ bs) (inl e) k = in_left x (f c) (flat_map f bs) (subst (λ z. IsOneOf x (f z)) e k)
@@ -82,7 +82,7 @@ module _ {A : Type 0} where
 -- ---- tests
 
 module _ {A : Type 0} (p : A → Bool) where
-  -- what is found is there
+  -- a member that is found is in the list
   pub found_in : (xs : List A) (x : A) → find p xs ≡ Some x → IsOneOf x xs
   found_in [] x e = cc
   found_in (y ∷ ys) x e = first (p y) (find p ys) (found_in ys x) e
@@ -101,7 +101,7 @@ module _ {A : Type 0} (p : A → Bool) where
   none_passes (y ∷ ys) h x (inl e) = subst (λ z. p z ≡ false) (sym e) (neither_left (p y) (list_any p ys) h)
   none_passes (y ∷ ys) h x (inr k) = none_passes ys (neither_right (p y) (list_any p ys) h) x k
 
--- a name among names is one of them
+-- a name that passes the test of being among names is a member of them
 pub name_in : (p : Path) (ps : List Path) → is_among ps p ≡ true → IsOneOf p ps
 name_in p [] h = cc
 name_in p (q ∷ ps) h =
