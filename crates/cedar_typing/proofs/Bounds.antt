@@ -1,4 +1,4 @@
--- Values have the bounds of their types.
+-- A value of a type has each bound of that type.
 pub mod Values
 pub mod Strict
 pub mod Kept

@@ -1,4 +1,4 @@
--- An expression is cut exactly where a part that is visited is too deep.
+-- An expression is cut exactly if a part that is visited is too deep.
 use Rattle.std.proofs.Common.{◌≡◌, ℕ, ◌+◌, ◌≤◌, ◌<◌, Bool, true, false, List, [], Option, None, refl}
 use Rattle.cedar_types.specs.Expressions.Tree.{lit, var, slot, unknown, if_then_else, and, or, unary, binary, call, get_attr, has_attr}
 use Rattle.cedar_types.specs.Expressions.Tree.{ext_has_attr, like, is_type, set_of, record_of, Trees, no_trees, tree, Fields, no_fields}
@@ -38,7 +38,7 @@ pub mod Operands
 abbrev Deep : Setting → Source → Caps → ℕ → Type 0
 Deep s e prior d = (k : ℕ) × (max_nesting < k) × IsVisited s e prior d k
 
--- what is cut is past the limit itself, or by a part
+-- an expression that is cut is past the limit itself, or is cut by a part
 below : (s : Setting) (e : Source) (prior : Caps) (d : ℕ) {C : Cut}
     → (d ≤ max_nesting → (es : List Finding) → C es → Deep s e prior d) → (es : List Finding)
     → CutAt d C es → Deep s e prior d
@@ -125,7 +125,7 @@ mutual
       (λ gs k. let r = below s e prior d (deep_part s e prior d) gs k in (r.0, r.1, in_first_field r.2))
       (λ p b. let r = deep_fields s fs prior d b.0 b.1 b.2 in (r.0, r.1, in_later_field p r.2)) xs es b
 
--- what an expression comes to as a part, whether it is cut or not
+-- the result of an expression as a part, whether it is cut or not
 comes_to : (s : Setting) (e : Source) (prior : Caps) (d : ℕ)
     → PartFound (PartResult (rules s e prior d)) (Cuts s e prior d) (any_part (infer s e prior d [])) []
 comes_to s e prior d = part_found (rules s e prior d) (infer s e prior d []) [] ((agrees s e prior d).found [])
@@ -143,7 +143,7 @@ module _ (s : Setting) (m : Written) (a b e : Source) (prior : Caps) (d : ℕ) (
       let r = comes_to s e prior (d + 1) in
       (_, by_part n (if_then_cut o q f k.1 (part_visited _ r.operand r.added r.rules)))
 
-  -- the other one is cut where both are visited, whatever comes of the first
+  -- the other branch of an `if` is cut if both are visited, whatever the result of the first
   else_cut_beside : (succeeded : Bool) (c : Caps) (x : TypedTree) (es es' es'' : List Finding) (g : Option Part)
       → Test succeeded c x es → annotation_passes is_true (annotation x) ≡ false
       → annotation_passes is_false (annotation x) ≡ false

@@ -1,4 +1,4 @@
--- The examples, computed.
+-- The examples compute to the results that are stated.
 pub mod World
 pub mod Rules
 pub mod Evaluation

@@ -1,4 +1,4 @@
--- What several entity types declare holds of an attribute of which one of them declares it.
+-- The joint declaration of several entity types holds of an attribute that one of them declares.
 use Rattle.std.proofs.Common.{◌≡◌, Bool, true, false, ◌&&◌, List, [], ◌∷◌, Option, Some, None, option_map, is_some, fold}
 use Rattle.std.proofs.Common.{if◌then◌else◌, refl, sym, subst}
 use Rattle.std.specs.List.{list_any}
@@ -16,7 +16,7 @@ use Rattle.cedar_typing.proofs.Bounds.Values.{Under, attr_under, from_apart, apa
 
 -- ---- entries
 
--- what is at a key is as it is declared, if it is declared
+-- the value at a key is as declared, if the key is declared
 abbrev pub AttrAt : Option (Ty × Bool) → Option Value → Type 0
 AttrAt None o = Unit {0}
 AttrAt (Some a) o = HasAttr a.1 (HasType a.0) o
@@ -34,7 +34,7 @@ some_if : {A : Type 0} (b : Bool) (a : A) (o : Option A) → (b ≡ false → is
 some_if true a o h = refl
 some_if false a o h = h refl
 
--- a name among the names of attributes is found
+-- a name that is among the names of attributes is found
 pub named_found : (k : Text) (xs : Attrs) → list_any (text_eq k) (attr_names xs) ≡ true → is_some (find_attr k xs) ≡ true
 named_found k no_attrs h = h
 named_found k (attr l t r xs) h =
@@ -42,7 +42,7 @@ named_found k (attr l t r xs) h =
     (λ e. some_if (text_eq k l) (t, r) (find_attr k xs) (λ f. cc))
     (λ e. some_if (text_eq k l) (t, r) (find_attr k xs) (λ f. named_found k xs e)) h
 
--- a key that is there is one of the names
+-- a key with a value is one of the names
 pub key_named : (k : Text) (ks : List Text) (es : Entries) → KeysAmong ks es → is_some (entry_at k es) ≡ true
     → list_any (text_eq k) ks ≡ true
 key_named k ks no_entries h e = cc
@@ -64,12 +64,12 @@ Formed (Some a) = is_well_formed a.0 ≡ true
 abbrev pub AttributesFormed : Schema → Type 0
 AttributesFormed s = (x : Text) (p : Path) (a : Ty × Bool) → declared_attribute s.types x p ≡ Some a → is_well_formed a.0 ≡ true
 
--- two entity types or more
+-- whether a type names two entity types or more
 abbrev pub is_choice : Ty → Bool
 is_choice (TEntity (p ∷ q ∷ ps)) = true
 is_choice t = false
 
--- what several entity types declare can be joined
+-- the declarations of several entity types can be joined
 abbrev pub Joins : Schema → Ty → Type 0
 Joins s b = is_choice b ≡ true → AttributesFormed s
 
@@ -134,7 +134,7 @@ module _ (s : Schema) (x : Text) where
       (joined_right f (declared_of q) o k g (subst (λ r. AttrAt (declared_of r) o) (path_same.to p q e) h)))
       (λ e. folded_right w qs (joined_attribute f (declared_of q)) p o (joined_formed f (declared_of q) k g) e h) m
 
-  -- what one of the types declares is what they all declare, if they do
+  -- the declaration of one of the types implies the joint declaration of all, if there is one
   pub types_at : (ps : List Path) (p : Path) (o : Option Value) → Joins s (TEntity ps) → is_among ps p ≡ true
       → AttrAt (declared_of p) o → AttrAt (types_attribute s.types x ps) o
   types_at [] p o j m h = cc

@@ -1,4 +1,5 @@
--- Lists of types: put in order they have the same types, and what the bound of all keeps.
+-- Lists of types: in order they have the same types, and the bound of all keeps each property that
+-- the bound of two keeps.
 use Rattle.std.proofs.Common.{◌≡◌, inl, inr, Bool, true, false, List, [], ◌∷◌, Option, Some, None, refl, sym, ap, subst}
 use Rattle.std.specs.declared.cmp.Ordering.{Ordering}
 use Rattle.std.specs.declared.cmp.Ordering.TheVariants.{Less, Equal, Greater}
@@ -95,9 +96,9 @@ mutual
       let others = attrs_same xs ys (then_ties (ordering_then (text_cmp k l) parts) (attrs_cmp xs ys) h) in
       λ i. attr (name i) (type i) (mark i) (others i)
 
--- ---- what is put in order is there, and nothing else
+-- ---- the ordered list has the members of the list, and no others
 
--- the lists that may come of a type put before, at or after the first one
+-- the lists that may result when a type is put before, at or after the first one
 module _ (P : List Ty → Type 0) where
   either_way : (o : Ordering) (xs ys zs : List Ty) → P xs → (o ≡ Equal → P ys) → P zs → P (match_ordering o xs ys zs)
   either_way Less xs ys zs f g h = f
@@ -129,7 +130,7 @@ each_in us [] s h = absurd h
 each_in us (t ∷ ts) s (inl e) = stays_in (insert_ty us t) ts s (subst (λ z. IsOneOf z (insert_ty us t)) (sym e) (put_in us t))
 each_in us (t ∷ ts) s (inr h) = each_in (insert_ty us t) ts s h
 
--- a type of the list is one of those in order
+-- a type of the list is in the ordered list
 pub in_order_has : (ts : List Ty) (s : Ty) → IsOneOf s ts → IsOneOf s (in_order ts)
 in_order_has ts s h = each_in [] ts s h
 
@@ -148,19 +149,19 @@ module _ (P : Ty → Type 0) where
   each_all us [] f g = f
   each_all us (t ∷ ts) f g = each_all (insert_ty us t) ts (put_all us t (g t (inl refl)) f) (λ s h. g s (inr h))
 
-  -- what holds of each of a list holds of each of those in order
+  -- a statement on each type of a list holds of each type of the ordered list
   pub in_order_all : (ts : List Ty) → AreAll P ts → AreAll P (in_order ts)
   in_order_all ts f = each_all [] ts (λ s h. absurd h) f
 
--- ---- their bound
+-- ---- the bound of a list
 
--- a bound that was gone on with
+-- the bound of the first types, with which the fold goes on
 went_on : (bound : Option Ty) (u : Ty) (P : Type 0) (next : Ty → Option Ty) → ((z : Ty) → bound ≡ Some z → next z ≡ Some u → P)
     → go_on bound next ≡ Some u → P
 went_on None u P next f e = cc
 went_on (Some z) u P next f e = f z refl e
 
--- what the bound of two keeps, that of several keeps
+-- a property that the bound of two types keeps is kept by that of several
 module _ (m : ValidationMode) (P : Ty → Type 0) (kept : (s t u : Ty) → lub m s t ≡ Some u → P s → P t → P u) where
   folded_keeps : (t u : Ty) (ts : List Ty) → fold_lub m t ts ≡ Some u → P t → AreAll P ts → P u
   folded_keeps t u [] e p f = subst P (some_is e) p
@@ -193,7 +194,7 @@ module _ (strictly : Bool) (m : ValidationMode) (strict : is_strict m ≡ strict
       went_on (lub m t r) u (HasType u v) (λ z. fold_lub m z ts)
       (λ z b g. other_under z u s ts g (bound_kept t r z b n (f r (inl refl))) (λ x j. f x (inr j)) i h) e
 
-  -- a value of one of the types has their bound, where they are kept to
+  -- a value of one of the types has their bound, if they are kept
   pub bound_has : (ts : List Ty) (u s : Ty) → list_lub m ts ≡ Some u → AreAll Kept ts → IsOneOf s ts → HasType s v → HasType u v
   bound_has [] u s e f i h = absurd i
   bound_has (t ∷ ts) u s e f (inl q) h = first_under t u ts e (subst (λ z. HasType z v) q h)

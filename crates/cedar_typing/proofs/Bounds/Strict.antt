@@ -1,4 +1,5 @@
--- In Strict a value of the right of two types has their bound, whether or not they are well-formed.
+-- In Strict a value of the right of two types has their bound, whether or not the types are
+-- well-formed.
 use Rattle.std.proofs.Common.{◌≡◌, Bool, true, false, ◌&&◌, List, Option, Some, if◌then◌else◌, refl, sym, ap, subst, ◌∙◌}
 use Rattle.cedar_types.specs.declared.base.types.ValidationMode.{ValidationMode}
 use Rattle.cedar_types.specs.declared.base.types.ValidationMode.TheVariants.{Strict}

@@ -20,7 +20,7 @@ use Rattle.cedar_types.proofs.Names.Unions.{has_union}
 use Rattle.cedar_types.proofs.Bounds.Symmetric.{symmetric}
 use Rattle.cedar_typing.proofs.Basics.{or_left}
 
--- of the type, if there is one
+-- the value has the type, if there is one
 abbrev pub Under : Option Ty → Value → Type 0
 Under None v = Unit {0}
 Under (Some t) v = HasType t v
@@ -61,12 +61,12 @@ in_union_left ps qs v h =
 
 -- ---- records
 
--- the entries have the attributes, if there are such
+-- the entries have the attributes, if there are any
 abbrev pub UnderAttrs : Option Attrs → Entries → Type 0
 UnderAttrs None es = Unit {0}
 UnderAttrs (Some xs) es = HasAttrs xs es
 
--- the names of the attributes, if there are such
+-- the names are those of the attributes, if there are any
 abbrev pub NamesAre : Option Attrs → List Text → Type 0
 NamesAre None ks = Unit {0}
 NamesAre (Some xs) ks = attr_names xs ≡ ks
@@ -106,7 +106,7 @@ closed_under false true zs ks es h n c = tt
 closed_under false false None ks es h n c = tt
 closed_under false false (Some zs) ks es h n c = (h, subst (λ ls. IsClosedBy false ls es) (sym n) (c refl refl))
 
--- a record in the other modes: it has no other keys where no attribute was dropped
+-- a record in the other modes has no other keys, if no attribute was dropped
 wide_closed : (o p b c : Bool) (ks ls : List Text) (es : Entries) → (b ≡ true → ls ≡ ks) → IsClosedBy o ks es
     → IsClosedBy (o || p || not (b && c)) ls es
 wide_closed true p b c ks ls es h g = tt
@@ -178,7 +178,7 @@ record_left m xs ys o p n es h g c =
           (attr_names (common_attrs m xs ys)) es (λ e. as_failed m xs ys (eqb-true _ _ e)) c,
     )
 
--- the attributes of both have the names of each of the two
+-- the joined attributes have the names of each of the two sides
 pub both_names : (m : ValidationMode) (xs ys : Attrs)
     → NamesAre (both_attrs m xs ys) (attr_names xs) × NamesAre (both_attrs m xs ys) (attr_names ys)
 both_names m no_attrs no_attrs = (refl, refl)
@@ -257,7 +257,8 @@ lub_left m s t u e v h = subst (λ o. Under o v) e (from_apart m s t v h (apart_
 
 -- ---- the right side
 
--- of well-formed types: without repeated names the order of the sides does not count
+-- a value of the right side has the bound of well-formed types: without repeated names the order of
+-- the sides does not count
 pub lub_right : (m : ValidationMode) (s t u : Ty) → is_well_formed s ≡ true → is_well_formed t ≡ true
     → lub m s t ≡ Some u → (v : Value) → HasType t v → HasType u v
 lub_right m s t u w x e v h = lub_left m t s u (sym (symmetric m s w t x) ∙ e) v h

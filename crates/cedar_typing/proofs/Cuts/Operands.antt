@@ -1,4 +1,4 @@
--- Operands, one after another, are cut where one that is visited is.
+-- Operands, one after another, are cut if one that is visited is cut.
 use Rattle.std.proofs.Common.{◌≡◌, Bool, true, false, List, [], Option, Some, None, refl, sym, subst}
 use Rattle.cedar_types.specs.declared.base.location.Loc.{Loc}
 use Rattle.cedar_types.specs.Types.{Ty}
@@ -17,7 +17,7 @@ use Rattle.cedar_typing.specs.TypeTests.{accepts}
 use Rattle.cedar_typing.proofs.Agreement.Eager.{OperandsAnswer, are_given, one_is_cut as one_breaks, AllAgree, none_agrees}
 use Rattle.cedar_typing.proofs.Agreement.Parts.{Agrees, PartAnswer, is_given, is_cut, part_found}
 
--- an operand that is no limit, whatever it has to be
+-- an operand that is not cut, whatever its expectation
 record Passes (env : TypeEnv) (q : Expectation) (l : Option Loc) (J : Judgment) : Type 0 where
   succeeded : Bool
   capabilities : Caps
@@ -40,7 +40,7 @@ module _ (env : TypeEnv) (l : Option Loc) (J : Judgment) where
   passes None s c x es p = record { succeeded = s; capabilities = c; copy = x; errors = es; given = p }
   passes (Some ts) s c x es p = by_annotation ts s c x es (annotation x) p refl
 
-  -- and the other way round
+  -- an operand that has a result is passed
   passed_part : (q : Expectation) (b : Bool) (s : Bool) (c : Caps) (x : TypedTree) (es : List Finding)
       → ExpectedOperand env q l J s c x es → IsPassed b J
   passed_part None b s c x es p = not_cut p
@@ -56,7 +56,7 @@ module _ (env : TypeEnv) (goes_on : Bool) (q : Expectation) (l : Option Loc) (J 
   abbrev More : Judgments
   More = one_more env goes_on q l J Js
 
-  -- P holds where it follows from this one's cut, and from a later one's
+  -- P holds if it follows from the cut of this operand, and from that of a later one
   pub one_is_cut : (P : Type 0) → ((es : List Finding) → J.cuts es → P) → (IsPassed goes_on J → IsBroken Js → P)
       → (xs : List TypedTree) (es : List Finding) → More.break xs es → P
   one_is_cut P here later xs es (broken_here {es = fs} h k) = here fs h
@@ -68,7 +68,7 @@ module _ (env : TypeEnv) (goes_on : Bool) (q : Expectation) (l : Option Loc) (J 
     left_by r added (are_given h) = all_given h
     left_by r added (one_breaks b) = also_cut b
 
-    -- what stands after one that is cut
+    -- the result of the operands after one that is cut
     after_cut : (b : Bool) → (es : List Finding) × AfterCut Js b es
     after_cut false = ([], not_visited)
     after_cut true = let r = others.found [] in (r.added, left_by r.results r.added r.rules)

@@ -1,4 +1,4 @@
--- The environments of the example templates, and what the theorems on them need.
+-- The environments of the example templates, and the premises of the theorems on them.
 use Rattle.std.proofs.Common.{◌≡◌, inl, inr, Bool, false, true≢false, Some, None, refl, sym, ◌∙◌, ap, subst}
 use Rattle.cedar_types.specs.Names.{is_action_path}
 use Rattle.cedar_types.specs.declared.base.types.ValidationMode.TheVariants.{Strict}
@@ -61,7 +61,7 @@ slots_in_the_rest = record {
   is_true = refl;
 }
 
--- ---- the own environment
+-- ---- the request's own environment
 
 -- the principal's slot is linked to a type that actions have
 abbrev linked_to_action : Env → Bool

@@ -1,4 +1,5 @@
--- A world that conforms although much is open in it: all premises hold, and the policies' outcomes are computed.
+-- A world that conforms although much is open in it: all premises hold, and the outcomes of the policies are
+-- computed.
 use Rattle.std.proofs.Common.{◌≡◌, inl, Bool, true, false, ◌&&◌, ◌||◌, [], ◌∷◌, refl, sym, ◌∙◌}
 use Rattle.cedar_types.specs.declared.base.names.slots.SlotId.{SlotId}
 use Rattle.cedar_types.specs.declared.base.types.ValidationMode.{ValidationMode}

@@ -1,5 +1,5 @@
--- The worlds in which one premise does not hold, computed. What is the same in Strict and in Permissive
--- is proved once, of what the checks find, which is computed in each mode.
+-- The worlds in which one premise does not hold, computed. Parts that do not depend on the mode are
+-- proved once, from the results of the checks, which are computed in each mode.
 use Rattle.std.proofs.Common.{◌≡◌, inl, Bool, true, false, ◌&&◌, ◌||◌, [], ◌∷◌, None, refl, sym, ◌∙◌}
 use Rattle.cedar_types.specs.declared.base.types.ValidationMode.{ValidationMode}
 use Rattle.cedar_types.specs.declared.base.types.ValidationMode.TheVariants.{Strict, Permissive}
@@ -29,7 +29,8 @@ use Rattle.cedar_typing.proofs.Examples.World.{AllEntities, none_among, Fitting,
 use Rattle.cedar_typing.proofs.Examples.World.{HasDeclaredAncestors, greets}
 use Rattle.cedar_typing.proofs.Policies.Check.{checked}
 
--- what the check as a function comes to is a verdict of it, which means another
+-- the verdict of the check as a function is one of the check, and its typed condition has another
+-- outcome
 abbrev Refutes : Basis → Ty → World → Shape → Type 0
 Refutes b t world e = VerdictMeansTheSame world (and_false e) (policy_check (greeting_by b t) (and_false e)) → ⊥
 
@@ -123,7 +124,7 @@ table_needed = record {
   differs = differing refl (inl refl) greets meeting_conforms.store nothing_given (λ h. apart _ _ h refl not_true);
 }
 
--- ---- all of them
+-- ---- all of these premises
 
 pub copy_premises_needed : CopyPremisesAreNeeded
 copy_premises_needed = record {
