@@ -1,4 +1,4 @@
--- The examples of evaluation, computed.
+-- The examples of evaluation compute to the outcomes that are stated.
 use Rattle.std.proofs.Common.{refl}
 use Rattle.cedar_typing.specs.Examples.Evaluation.Ancestors.{AncestorExamples}
 use Rattle.cedar_typing.specs.Examples.Evaluation.Calls.{PatternExamples, CallExamples, OrderExamples}

@@ -1,4 +1,5 @@
--- Worlds that conform although much is open in them: all premises hold, and the policies' outcomes are computed.
+-- Worlds that conform although much is open in them: all premises hold, and the outcomes of the policies are
+-- computed.
 use Rattle.std.proofs.Common.{◌≡◌, inl, inr, Bool, true, false, if◌then◌else◌, [], ◌∷◌, Option, Some, refl, sym, ◌∙◌}
 use Rattle.cedar_types.specs.declared.base.types.ValidationMode.{ValidationMode}
 use Rattle.cedar_types.specs.declared.base.types.ValidationMode.TheVariants.{Strict, Permissive}
@@ -90,7 +91,7 @@ without_slots : (t : PlainTemplate) → HasNoUnknowns (condition_of t) → Slots
 without_slots t u a b = record { no_unknowns = u; slots_in_scope = a; bound = b }
 
 module _ (m : ValidationMode) where
-  -- of a policy and a request
+  -- all premises hold for a policy and a request
   all_hold : (t : PlainTemplate) (r : Request) → Passes (visit_basis m) t → IsNamedBySchema visit_schema t
       → IsWellFormed t visiting.slots → ConformingRequest visit_schema r
       → AllHoldIn m (visit_basis m) t (record visiting { request = r })

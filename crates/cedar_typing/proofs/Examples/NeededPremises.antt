@@ -1,5 +1,5 @@
--- The policies that go wrong, or are true, where one premise does not hold, computed. What is the same in Strict and in Permissive is
--- proved once, of the checks' outcomes, which are computed in each mode.
+-- The policies that go wrong, or are true, because one premise does not hold, computed. Parts that do not depend on the mode are
+-- proved once, from the outcomes of the checks, which are computed in each mode.
 use Rattle.std.proofs.Common.{◌≡◌, inl, false, List, [], ◌∷◌, refl, sym}
 use Rattle.cedar_types.specs.declared.base.names.slots.SlotId.{SlotId}
 use Rattle.cedar_types.specs.declared.base.types.ValidationMode.{ValidationMode}
@@ -31,7 +31,7 @@ use Rattle.cedar_typing.proofs.Examples.World.{left_out, conforms, greets}
 closed : (m : ValidationMode) → IsClosedIn m (sample_basis m)
 closed m = record { mode = refl; closed = refl }
 
--- conformity does not ask for the mode, nor for the slots
+-- conformity depends neither on the mode nor on the slots
 conforming : (m : ValidationMode) (slots : Slots) → IsConforming (sample_basis m) (record meeting { slots = slots })
 conforming m slots =
     record { request = meeting_conforms.request; store = meeting_conforms.store; functions = meeting_conforms.functions }
@@ -130,7 +130,7 @@ module _ (m : ValidationMode) where
 abbrev guest_schema : Schema
 guest_schema = (guest_basis Strict).schema
 
--- the guest, of whom nothing is asked, and greet, which has no ancestors
+-- the guest, of whom conformity asks nothing, and greet, which has no ancestors
 pub guests_conform : ConformingStore guest_schema guest_greeting.store
 guests_conform =
     conforms guest_schema greet (λ v. refl) guest_greeting.store
@@ -154,7 +154,7 @@ external m p q = record {
 
 -- ---- in each mode
 
--- the policies that pass, those that are warned to be impossible, and those of these that speak of guests
+-- the policies that pass, those that are warned to be impossible, and those of these that are about guests
 abbrev plain : List PlainTemplate
 plain = equal_to_slot ∷ young ∷ decimals_in_order ∷ []
 

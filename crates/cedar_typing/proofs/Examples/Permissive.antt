@@ -1,5 +1,5 @@
--- In Permissive all premises hold together, a bound of records that keeps an attribute of one side alone as required is none, and that
--- names ascend is needed.
+-- In Permissive all premises hold together; a bound of records that keeps an attribute of one side alone as required is wrong; and
+-- the premise that names ascend is needed.
 use Rattle.std.proofs.Common.{◌≡◌, inl, true, false, refl, sym}
 use Rattle.cedar_types.specs.Names.{uid_eq}
 use Rattle.cedar_types.specs.Values.{VRecord, HasType}

@@ -1,4 +1,5 @@
--- What the checks of the example policies come to, and that the premises of safety hold together.
+-- The outcomes of the checks of the example policies, and a proof that the premises of safety hold
+-- together.
 use Rattle.std.proofs.Common.{◌≡◌, inl, Bool, true, List, [], ◌∷◌, map, refl, sym, ap, subst}
 use Rattle.std.proofs.lemmas.List.Sorted.{IsPermutation-refl}
 use Rattle.cedar_types.specs.declared.base.names.slots.SlotId.{SlotId}
@@ -19,7 +20,7 @@ use Rattle.cedar_typing.proofs.Composition.Slots.{slots_bound}
 use Rattle.cedar_typing.proofs.Examples.World.{greets, greeting_conforms}
 use Rattle.cedar_typing.proofs.Policies.Check.{checked}
 
--- to nothing is added what there is then
+-- the members that are added to the empty list are those of the new list
 all_new : {A : Type 0} (these new : List A) → these ≡ new → Adds [] these new
 all_new {A} these new e = subst (λ xs. Adds [] these xs) e (λ x. (λ h. h, λ h. h))
 
@@ -45,7 +46,7 @@ module _ (b : Basis) (t : PlainTemplate) where
     warnings_added = all_new _ _ w;
   }
 
-  -- whether it passes, its errors and its warnings
+  -- the outcome of the policy's check: whether it passes, its errors and its warnings
   abbrev pub comes_to : Bool × (List Finding × List Warning)
   comes_to =
       let vs : List Verdict = map verdict_in (checked_envs b.schema b.mode t) in
@@ -56,7 +57,7 @@ module _ (b : Basis) (t : PlainTemplate) where
       passing ws (ap (λ (x : Bool × (List Finding × List Warning)). x.0) h)
       (ap (λ (x : Bool × (List Finding × List Warning)). x.1.0) h) (ap (λ (x : Bool × (List Finding × List Warning)). x.1.1) h)
 
--- the same of several policies, with these warnings of each
+-- several policies pass, each with its warnings
 module _ (b : Basis) (warnings : PlainTemplate → List Warning) where
   abbrev pub AllPass : List PlainTemplate → Type 0
   AllPass [] = Unit {0}
@@ -69,7 +70,7 @@ module _ (b : Basis) (warnings : PlainTemplate → List Warning) where
 pub both_bound : (x : SlotId) → IsBound (meeting_slots x)
 both_bound x = tt
 
--- where each slot is bound, no more is asked of a policy's slots than where they stand
+-- if each slot is bound, a policy is well-formed if its slots stand in the scope alone
 pub formed : (t : PlainTemplate) → HasNoUnknowns (condition_of t) → SlotsInScopeAlone t → IsWellFormed t meeting_slots
 formed t u a =
     record { no_unknowns = u; slots_in_scope = a; bound = slots_bound meeting_slots both_bound (condition_of t) }

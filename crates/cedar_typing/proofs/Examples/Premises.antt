@@ -1,4 +1,4 @@
--- The premises of type soundness hold for the world of the examples, and some fail of other data.
+-- The premises of type soundness hold for the world of the examples, and some fail for other data.
 use Rattle.std.proofs.Common.{◌≡◌, inl, true, false, refl, sym, ◌∙◌, ap}
 use Rattle.std.specs.Prelude.{pos, codes}
 use Rattle.cedar_types.specs.declared.base.types.ValidationMode.TheVariants.{Strict}

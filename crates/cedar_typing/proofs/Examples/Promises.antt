@@ -1,4 +1,5 @@
--- Which outcomes keep the promises, computed; and that the promises on conditions and policies that go wrong are false.
+-- The outcomes that keep the promises, computed; and proofs that the promises on conditions and policies that go wrong
+-- are false.
 use Rattle.std.proofs.Common.{◌≡◌, inl, true, false, refl}
 use Rattle.cedar_types.specs.declared.base.types.ValidationMode.{ValidationMode}
 use Rattle.cedar_types.specs.declared.base.types.ValidationMode.TheVariants.{Strict, Permissive}

@@ -1,4 +1,5 @@
--- Where Strict is kept in Permissive and where not, computed.
+-- The types for which the answers of Strict are kept in Permissive, and those for which they are
+-- not, computed.
 use Rattle.std.proofs.Common.{Bool, false, true≢false, Option, Some, None, refl, sym, ap}
 use Rattle.cedar_types.specs.declared.base.types.BoolType.TheVariants.{AnyBool, True, False}
 use Rattle.cedar_types.specs.declared.base.types.ValidationMode.TheVariants.{Strict, Permissive}

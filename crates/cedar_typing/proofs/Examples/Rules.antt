@@ -1,4 +1,4 @@
--- The examples of the rules of typing, computed.
+-- The examples of the rules of typing compute to the results that are stated.
 pub mod Entities
 pub mod Calls
 pub mod Nesting
@@ -64,7 +64,7 @@ module _ (s : Setting) (e : Source) (p : Caps) (d : ℕ) where
   pub cuts : (es : List Finding) → infer s e p d [] ≡ (limit, es) → Cuts s e p d es
   cuts es h = of_limit es (by_judge limit es h)
 
--- the type that a typed expression has, beside what typing comes to
+-- the type that a typed expression has, beside the result of typing
 abbrev Outcome : Type 0
 Outcome = Option Ty × AnswerAndErrors
 
@@ -76,7 +76,7 @@ types_as {s} {p} {e} {t} {c} {x} h =
 pub fails_with : {s : Setting} {e : Shape} {x : TypedTree} {es : List Finding} → infer s (numbered e) no_caps 1 [] ≡ (failure x, es) → FailsWithIn s e x es
 fails_with {s} {e} {x} {es} h = record { recovers = recovers s (numbered e) no_caps 1 x es h }
 
--- the same of several expressions
+-- the result of typing an expression that fails
 abbrev typing_of : Failing → AnswerAndErrors
 typing_of x = infer (sample Strict) (numbered x.0) no_caps 1 []
 
@@ -93,7 +93,7 @@ all_fail {xs} h = record { each = each_fails xs h }
 pub cuts_at : {d : ℕ} {e : Shape} {es : List Finding} → infer (sample Strict) (numbered e) no_caps d [] ≡ (limit, es) → CutsAt d e es
 cuts_at {d} {e} {es} h = record { cuts = cuts (sample Strict) (numbered e) no_caps d es h }
 
--- how an expression is typed, whatever comes of it
+-- the typed copy of an expression, whatever its answer
 abbrev copy_of : Answer → TypedTree
 copy_of (success x c) = x
 copy_of (failure x) = x
@@ -123,7 +123,7 @@ is_refused {s} {p} {e} {t} {es} h = record {
 pub checks_as : {e : Shape} {v : Verdict} → policy_check (sample Strict) (numbered e) ≡ v → ChecksAs e v
 checks_as {e} {v} h = record { checks = subst (PolicyChecks (sample Strict) (numbered e)) h (checked (sample Strict) (numbered e)) }
 
--- what a success hands on, and how it is typed
+-- the capabilities that a success produces, and its typed copy
 abbrev handed : Answer → Caps
 handed (success x c) = c
 handed (failure x) = no_caps
@@ -132,7 +132,7 @@ handed limit = no_caps
 abbrev answer : Shape → Answer
 answer e = (infer (sample Strict) (numbered e) no_caps 1 []).0
 
--- whether the mark and the age of the principal are handed on
+-- whether it is produced that the principal has the mark, and that it has an age
 abbrev Told : Type 0
 Told = Bool × Bool
 

@@ -1,4 +1,4 @@
--- The examples, computed.
+-- The examples of typed copies compute to the results that are stated.
 use Rattle.std.proofs.Common.{◌≡◌, true, false, true≢false, refl, sym, ◌∙◌, ap, subst}
 use Rattle.std.specs.Prelude.{codes}
 use Rattle.cedar_types.specs.declared.base.expressions.operators.Var.{Var}
@@ -23,7 +23,7 @@ use Rattle.cedar_typing.specs.Examples.TypedCopies.{user_alone, RequestMustFit, 
 pub not_true : false ≡ true → ⊥
 not_true h = true≢false (sym h)
 
--- an outcome that is true is none that is not
+-- an outcome that is true is not one that is not true
 pub apart : (o o' : Outcome) → o ≡ o' → IsTrueOutcome o → (IsTrueOutcome o' → ⊥) → ⊥
 apart o o' e h f = f (subst IsTrueOutcome e h)
 

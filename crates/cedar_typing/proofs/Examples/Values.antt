@@ -1,4 +1,4 @@
--- Which values have which types, computed.
+-- The values have the types that are stated, by computation.
 use Rattle.std.proofs.Common.{◌≡◌, true, false, refl, ◌∙◌, ap}
 use Rattle.cedar_types.specs.Lemmas.Comparisons.{path_same}
 use Rattle.cedar_types.specs.Names.{path_eq}

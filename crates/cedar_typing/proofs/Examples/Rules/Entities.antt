@@ -1,4 +1,4 @@
--- The examples of what is asked of entities: attributes, ancestors and tags.
+-- The examples of expressions about entities: attributes, ancestors and tags.
 use Rattle.std.proofs.Common.{refl}
 use Rattle.cedar_typing.specs.Examples.Rules.Attributes.{HasTyping, GetTyping}
 use Rattle.cedar_typing.specs.Examples.Rules.Chains.{ChainTyping}
