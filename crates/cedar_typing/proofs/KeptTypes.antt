@@ -1,6 +1,6 @@
--- What typing keeps to: in Strict no type that is found names several entity types, in Permissive names ascend in each, and in both
--- none is Never; and in each mode none says any entity, where both slots are linked. What the induction over all expressions asks
--- of such a property is said once (Keeping), and each of the three meets it (Modes).
+-- Kept types: properties that each type has that typing finds. In Strict no type names several entity types, in Permissive names
+-- ascend in each, and in both none is Never; and in each mode none is any entity, if both slots are linked. The demands of the
+-- induction over all expressions on such a property stand once (Keeping), and each of the three properties meets them (Modes).
 pub mod Types
 pub mod Keeping
 pub mod Bounds

@@ -20,7 +20,7 @@ use Rattle.cedar_typing.proofs.Basics.{some_is, none_is}
 
 -- ---- the store
 
--- what holds of each entry holds of what is found
+-- a statement on each entry of a store holds of the entity that is found
 module _ (P : Uid → Entity → Type 0) where
   abbrev pub AllEntities : Store → Type 0
   AllEntities [] = Unit {0}
@@ -35,14 +35,14 @@ module _ (P : Uid → Entity → Type 0) where
   all_found [] h u e n = absurd (none_is n)
   all_found (x ∷ xs) h u e n = at_first (uid_eq u x.0) u x.0 x.1 e (entity_at xs u) refl h.0 (all_found xs h.1 u e) n
 
--- what an entity is to be, by the declaration of its type
+-- an entity fits the declaration of its type
 abbrev pub Fitting : Schema → Uid → Entity → Type 0
 Fitting s u e = FitsDeclaration s u (type_named s.types u.entity_type) e
 
 abbrev pub IsStored : Store → Uid → Type 0
 IsStored es u = (e : Entity) × (entity_at es u ≡ Some e)
 
--- a store conforms where all entities fit and all actions are stored
+-- a store conforms if all entities fit and all actions are stored
 pub all_fit : (s : Schema) (es : Store) → AllEntities (Fitting s) es
     → ((u : Uid) → declares_action s.actions u ≡ true → IsStored es u) → ConformingStore s es
 all_fit s es fitting there =
@@ -54,7 +54,7 @@ stored_as es u v q h = subst (IsStored es) (sym (uid_same.to u v q)) h
 pub none_among : {P : Type 0} → false ≡ true → P
 none_among h = absurd (true≢false (sym h))
 
--- the one member of a list
+-- a list with one member passes exactly if the member does
 pub only_one : (b : Bool) → (b || false) ≡ true → b ≡ true
 only_one true n = refl
 only_one false n = n
@@ -63,11 +63,11 @@ only_one false n = n
 abbrev pub MayBeIn : Schema → Path → Uid → Type 0
 MayBeIn s p v = IsTrue (declares_type s.types v.entity_type && is_among (descendants_of s.types v.entity_type) p)
 
--- where u is the one ancestor
+-- the ancestor v is the one ancestor u
 pub in_one : (s : Schema) (p : Path) (u v : Uid) → MayBeIn s p u → (uid_eq v u || false) ≡ true → MayBeIn s p v
 in_one s p u v h q = subst (MayBeIn s p) (sym (uid_same.to v u (only_one (uid_eq v u) q))) h
 
--- an action of which u is no descendant, and one of which it is
+-- a declared action of which u is no descendant, and one of which it is
 pub left_out : (a rest : Bool) → ((a && false) || rest) ≡ rest
 left_out true rest = refl
 left_out false rest = refl
@@ -131,7 +131,7 @@ actions_are_stored u = go (uid_eq u greet) (uid_eq u meet) (uid_eq u act) refl r
 pub store_conforms : ConformingStore sample_schema sample_store
 store_conforms = all_fit sample_schema sample_store fitting (λ u h. actions_are_stored u h)
 
--- a store of a schema with one action, which has no ancestors
+-- a store conforms to a schema with one action, which has no ancestors
 module _ (s : Schema) (u : Uid) (one : (v : Uid) → declares_action s.actions v ≡ (uid_eq v u || false)) (store : Store) where
   pub conforms : AllEntities (Fitting s) store → IsStored store u → ConformingStore s store
   conforms fitting there =
@@ -139,7 +139,7 @@ module _ (s : Schema) (u : Uid) (one : (v : Uid) → declares_action s.actions v
 
 -- ---- the extension functions
 
--- what holds of each call holds of what is found
+-- a statement on each call holds of the value that is found
 module _ (P : Path → Value → Type 0) where
   abbrev AllCalls : List Call → Type 0
   AllCalls [] = Unit {0}

@@ -1,4 +1,4 @@
--- What a schema without faults declares is kept to, where its types are formed in Permissive: attributes.
+-- The attributes that a schema without faults declares have kept types, if these are formed in Permissive.
 use Rattle.std.proofs.Common.{◌≡◌, Bool, true, false, not, ◌&&◌, List, [], ◌∷◌, Option, Some, None, option_map, fold, refl, subst}
 use Rattle.std.specs.List.{list_all}
 use Rattle.cedar_types.specs.declared.base.types.ValidationMode.TheVariants.{Permissive}
@@ -21,14 +21,14 @@ use Rattle.cedar_typing.proofs.KeptTypes.Bounds.{kept_lub}
 use Rattle.cedar_typing.proofs.KeptTypes.Keeping.{HasKept}
 use Rattle.cedar_typing.proofs.KeptTypes.Types.{Keeping, one_type, ascending, no_any_entity, IsKept, field_kept, definite_kept}
 
--- what several entity types declare is joined in Permissive; where no type names several, there is nothing to join
+-- several entity types are joined in Permissive only; if no type names several, there is nothing to join
 no_choice : (k : Keeping) (p q : Path) (ps : List Path) → IsKept k (TEntity (p ∷ q ∷ ps)) → k ≡ one_type → is_strict Permissive ≡ true
 no_choice one_type p q ps n e = n.0
 no_choice ascending p q ps n e = cc
 no_choice no_any_entity p q ps n e = cc
 
 module _ (k : Keeping) where
-  -- the type that was found is kept to
+  -- the type that was found is kept
   abbrev pub FoundKept : Option (Ty × Bool) → Type 0
   FoundKept None = Unit {0}
   FoundKept (Some a) = IsKept k a.0
@@ -58,7 +58,7 @@ module _ (k : Keeping) where
   kind_kept ExternalKind x d w = tt
 
   module _ (s : Schema) (f : has_fault s ≡ false) (w : k ≡ ascending → has_formed_types s ≡ true) where
-    -- the kind of each declared type says enough, and in Permissive it is formed
+    -- the kind of each declared type is not vague, and in Permissive it is formed
     pub kind_says_enough : (d : DeclaredType) → IsOneOf d s.types → (kind_is_definite d.kind ≡ true)
         × (k ≡ ascending → kind_is_formed d.kind ≡ true)
     kind_says_enough d i =

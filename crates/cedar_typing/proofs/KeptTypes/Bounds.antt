@@ -1,4 +1,4 @@
--- The bound of two types that typing keeps to is kept to.
+-- The bound of two kept types is kept.
 use Rattle.std.proofs.Common.{◌≡◌, Bool, true, false, ◌&&◌, ◌||◌, List, Option, Some, None, option_map, if◌then◌else◌, refl}
 use Rattle.cedar_types.specs.declared.base.types.ValidationMode.{ValidationMode}
 use Rattle.cedar_types.specs.Names.{Text, Path, text_eq}
@@ -15,7 +15,8 @@ use Rattle.cedar_typing.proofs.KeptTypes.Keeping.{HasKept, either_kept}
 use Rattle.cedar_typing.proofs.KeptTypes.Types.{Keeping, one_type, ascending, no_any_entity, Allowed, allowed, is_single, is_made_of}
 use Rattle.cedar_typing.proofs.KeptTypes.Types.{are_made_of, all_made, IsKept}
 
--- ---- what may stand in both may stand in their bound: in Strict, or where a type may name several entity types
+-- ---- parts that may stand in both types may stand in their bound: in Strict, or if a type may name several
+-- entity types
 
 module _ (a : Allowed) where
   abbrev IsMade : Ty → Type 0
@@ -66,7 +67,7 @@ module _ (a : Allowed) where
   bound_made k None r zs h n = n
   bound_made k (Some u) r zs h n = and_both (is_made_of a u) (are_made_of a zs) h n
 
-  -- an attribute of both sides, if the other has it
+  -- an attribute of both sides, if the other side has it
   one_made : (k : Text) (ys : Attrs) (o : Option (Ty × Bool)) → find_attr k ys ≡ o → are_made_of a ys ≡ true
       → (bound : Ty → Option Ty) (r : Bool) (zs : Attrs)
       → ((t : Ty) → IsMade t → HasMade (bound t)) → are_made_of a zs ≡ true → are_made_of a (with_common k o bound r zs) ≡ true
@@ -131,7 +132,7 @@ module _ (a : Allowed) where
     made_lub : (s t : Ty) → IsMade s → IsMade t → HasMade (lub m s t)
     made_lub s t n q = made_by s t n (made_apart s t n q)
 
--- ---- the bound of types that are kept to, which in Strict name no choice
+-- ---- the bound of kept types, which in Strict name no choice
 
 choice_or_strict : (k : Keeping) (m : ValidationMode) → (k ≡ one_type → is_strict m ≡ true) → ((allowed k).choice || is_strict m) ≡ true
 choice_or_strict one_type m f = f refl

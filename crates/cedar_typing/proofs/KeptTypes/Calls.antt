@@ -1,4 +1,5 @@
--- The types of calls are kept to, as no function of a table without faults returns an entity or a record.
+-- The types of calls are kept, because no function of a table without faults returns an entity or a
+-- record.
 use Rattle.std.proofs.Common.{◌≡◌, Bool, true, false, true≢false, not, List, [], ◌∷◌, Option, Some, None, if◌then◌else◌, refl, sym, subst}
 use Rattle.std.specs.List.{list_any}
 use Rattle.cedar_types.specs.declared.base.expressions.extensions.ExtensionTableError.{ExtensionTableError}
@@ -16,7 +17,7 @@ use Rattle.cedar_typing.proofs.Basics.{some_is, neither_left, neither_right}
 use Rattle.cedar_typing.proofs.KeptTypes.Eager.{decided_type, KeptForm}
 use Rattle.cedar_typing.proofs.KeptTypes.Keeping.{HasKept, IsKeeping}
 
--- ---- what a function of a table without faults returns
+-- ---- return types of a table without faults
 
 not_bad : (f : ExtensionFunction) → has_bad_return f ≡ false → may_be_returned f.return_type ≡ true
 not_bad f h = settle (may_be_returned f.return_type) h
@@ -50,7 +51,7 @@ function_returns n fs f e h = named_returns n fs f (no_fault (list_any has_bad_r
 
 -- ---- calls
 
--- the return type stays, whatever is decided
+-- a call keeps its return type, whatever its errors
 pub call_type : (t : Option Ty) (es : List Finding) → decided_type (call_decides t es) ≡ t
 call_type None es = refl
 call_type (Some t) [] = refl
@@ -79,7 +80,7 @@ module _ (Kept : Ty → Type 0) (env : TypeEnv) (keeps : IsKeeping Kept env) whe
     function_kept faults n None e = tt
     function_kept faults n (Some f) e = returned_kept f.return_type (function_returns n fs f e faults)
 
-    -- what the functions of a table without faults return
+    -- the functions of a table without faults return kept types
     pub returns_kept : table_fault fs ≡ None → (n : Path) → HasKept Kept (return_type (function_named n fs))
     returns_kept faults n = function_kept faults n (function_named n fs) refl
 

@@ -1,4 +1,4 @@
--- Each type that extended `has` gives or lets stay is a Boolean.
+-- Each type of extended `has`, of a success or of a failure, is a Boolean.
 use Rattle.std.proofs.Common.{◌≡◌, Bool, true, false, List, [], ◌∷◌, Option, Some, None, if◌then◌else◌, refl, sym, subst}
 use Rattle.cedar_types.specs.declared.base.location.Loc.{Loc}
 use Rattle.cedar_types.specs.declared.base.types.BoolType.{BoolType}
@@ -47,7 +47,7 @@ module _ (env : TypeEnv) where
       bool_if (is_object s) _ _ (bool_if (is_false (step_type env s x known (attribute_type env.schema s x)))
       _ _ (False, refl) (h _)) (AnyBool, refl)
 
-  -- what comes after a step that is not the last: the access, and the steps after it
+  -- the rest of a chain after a step that is not the last: the access, and the steps after it
   abbrev pub after_step : Option Loc → Caps → Source → Ty → Text → (Ty → Progress → Decision) → Progress → Decision
   after_step l prior e s x next p =
       after_access (get_decides env l x (union prior p.earned (attribute_of e x)) s (attribute_type env.schema s x)) (λ t. next t p)

@@ -1,4 +1,5 @@
--- What a schema without faults declares is kept to, where its types are formed in Permissive: tags and contexts.
+-- The tags and contexts that a schema without faults declares have kept types, if these are formed in
+-- Permissive.
 use Rattle.std.proofs.Common.{◌≡◌, inl, inr, true, false, not, List, [], ◌∷◌, map, Option, Some, None, refl, sym, subst}
 use Rattle.std.specs.List.{list_all}
 use Rattle.cedar_types.specs.Lemmas.Comparisons.{and_right}
@@ -48,7 +49,7 @@ module _ (k : Keeping) where
       all_flat (principal_environments u a.context a.resources) ContextIsKept a.principals
       (λ p j. all_mapped ContextIsKept _ a.resources (λ r. kept)) d i
 
-  -- ---- of all that is declared
+  -- ---- all declarations
 
   module _ (s : Schema) (f : has_fault s ≡ false) (w : k ≡ ascending → has_formed_types s ≡ true) where
     types_kept : AreAll (λ (d : DeclaredType). AreAll (IsKept k) (kind_tags d.kind)) s.types

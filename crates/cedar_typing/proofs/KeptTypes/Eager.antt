@@ -1,4 +1,4 @@
--- Each type that is found is kept to: forms whose operands are all typed first.
+-- Forms whose operands are all typed first find kept types.
 use Rattle.std.proofs.Common.{◌≡◌, Bool, false, List, Option, Some, None, sym, ap, subst}
 use Rattle.cedar_types.specs.declared.base.location.Loc.{Loc}
 use Rattle.cedar_types.specs.Types.{Ty}
@@ -15,7 +15,7 @@ use Rattle.cedar_typing.proofs.Agreement.Parts.{Marks}
 use Rattle.cedar_typing.proofs.KeptTypes.Keeping.{HasKept, AllKept}
 use Rattle.cedar_typing.proofs.KeptTypes.Rules.{KeepsTypes, part_kept, operand_kept}
 
--- the type that a table gives or lets stay
+-- the type of a table's decision, of a success or of a failure
 abbrev pub decided_type : Decision → Option Ty
 decided_type (gives t c) = Some t
 decided_type (refuses t fs) = t
@@ -61,11 +61,11 @@ module _ (Kept : Ty → Type 0) where
 
   -- ---- a form
 
-  -- a table gives types that are kept to where those of its operands are
+  -- a table gives kept types if its operands have kept types
   abbrev pub KeptForm : Form → Type 0
   KeptForm f = (ts : List (Option Ty)) → AllKept Kept ts → HasKept Kept (decided_type (f.decides ts))
 
-  -- the same of the type where an operand failed
+  -- the type of the whole is kept if an operand failed
   abbrev pub KeptIfFailed : Form → Type 0
   KeptIfFailed f = (t : Ty) → Kept t → Kept (f.type_if_failed t)
 
@@ -95,12 +95,12 @@ module _ (Kept : Ty → Type 0) where
       pub form_kept : Marks Whole.derives → KeepsTypes Kept Whole
       form_kept h = record { derivations = form_derived; recoveries = form_recovered; marks = h }
 
-    -- a form with one operand
+    -- a form with one operand finds kept types
     pub one_operand_kept : (env : TypeEnv) (l : Option Loc) (J : Judgment) → KeepsTypes Kept J
         → Marks (one_operand_rules env f l J).derives → KeepsTypes Kept (one_operand_rules env f l J)
     one_operand_kept env l J s h = form_kept _ (more_kept env f.goes_on (first_expectation f.expects) l J s no_operands none_kept) h
 
-    -- a form with two operands
+    -- a form with two operands finds kept types
     pub two_operands_kept : (env : TypeEnv) (l l' : Option Loc) (J J' : Judgment) → KeepsTypes Kept J
         → KeepsTypes Kept J' → Marks (two_operand_rules env f l l' J J').derives
         → KeepsTypes Kept (two_operand_rules env f l l' J J')

@@ -1,4 +1,4 @@
--- Each type that `==`, `contains`, `containsAll` or `containsAny` has is kept to, as it is a Bool.
+-- Each type of `==`, `contains`, `containsAll` and `containsAny` is kept, because it is a Bool.
 use Rattle.std.proofs.Common.{◌≡◌, Bool, true, false, List, [], ◌∷◌, Option, Some, None, if◌then◌else◌, refl, sym, subst}
 use Rattle.cedar_types.specs.declared.base.location.Loc.{Loc}
 use Rattle.cedar_types.specs.declared.base.expressions.operators.BinaryOp.{BinaryOp}
@@ -20,7 +20,7 @@ use Rattle.cedar_typing.specs.TypedExpr.{Source}
 use Rattle.cedar_typing.proofs.KeptTypes.Eager.{decided_type, KeptForm}
 use Rattle.cedar_typing.proofs.KeptTypes.Keeping.{HasKept, IsKeeping, truth_value_kept}
 
--- ---- the type stays, whether or not there are errors
+-- ---- the type does not depend on errors
 
 pub given_type : (fs : List Finding) (u : Ty) → decided_type (gives_unless fs u) ≡ Some u
 given_type [] u = refl

@@ -1,4 +1,4 @@
--- Each type that is found is kept to: all expressions.
+-- Each type that typing finds is kept, for all expressions.
 use Rattle.std.proofs.Common.{◌≡◌, ℕ, ◌+◌, Bool, true, false, List, [], ◌∷◌, Option, Some, None, ◌&&◌, ◌||◌, if◌then◌else◌, refl, sym}
 use Rattle.std.proofs.Common.{subst}
 use Rattle.cedar_types.specs.declared.base.expressions.operators.Var.{Var}
@@ -74,7 +74,7 @@ module _ (Kept : Ty → Type 0) (env : TypeEnv) (keeps : IsKeeping Kept env) whe
       known_kept (literal_type env.schema u) (unknown_entity_type env.mode u) (entity_kept u)
       (unknown_type_kept env.mode u)
 
-  -- the same, of an environment
+  -- the type environment with this request environment
   abbrev in_environment : Env → TypeEnv
   in_environment r =
       record {
@@ -224,7 +224,7 @@ module _ (Kept : Ty → Type 0) (s : Setting) (keeps : IsKeeping Kept s.env)
         form_kept Kept (record_form s.env m (field_keys fs)) (λ k xs. refl) (record_kept Kept s.env keeps m (field_keys fs))
         (λ t h. h) _ (fields_kept_by fs prior (d + 1)) (marks_of (record_of m fs) prior d)
 
-    -- expressions one after another
+    -- expressions one after another have kept types
     pub all_kept_by : (goes_on : Bool) (qs : List Expectation) (ts : Trees Written) (prior : Caps) (d : ℕ)
         → KeepsAll Kept (rules_all s goes_on qs ts prior d)
     all_kept_by goes_on qs no_trees prior d = none_kept Kept
@@ -233,7 +233,7 @@ module _ (Kept : Ty → Type 0) (s : Setting) (keeps : IsKeeping Kept s.env)
         _ (within_kept Kept d _ (kept_by e prior d))
         _ (all_kept_by goes_on (later_expectations qs) ts prior d)
 
-    -- the values of fields
+    -- the values of fields have kept types
     pub fields_kept_by : (fs : Fields Written) (prior : Caps) (d : ℕ) → KeepsAll Kept (rules_fields s fs prior d)
     fields_kept_by no_fields prior d = none_kept Kept
     fields_kept_by (field k e fs) prior d =
@@ -242,7 +242,7 @@ module _ (Kept : Ty → Type 0) (s : Setting) (keeps : IsKeeping Kept s.env)
   pub types_kept_by : (e : Source) (prior : Caps) (d : ℕ) → KeepsTypes Kept (rules s e prior d)
   types_kept_by e prior d = within_kept Kept d _ (kept_by e prior d)
 
--- by a table without faults, in an environment of the schema
+-- each type is kept, with a table without faults, in an environment of the schema
 module _ (Kept : Ty → Type 0) (s : Setting) (keeps : IsKeeping Kept s.env) (table_faults : table_fault s.functions ≡ None)
     (environment : IsEnvironmentOf s.env.schema s.env.request_env) where
   variables : (x : Var) → HasKept Kept (variable_type s.env x)

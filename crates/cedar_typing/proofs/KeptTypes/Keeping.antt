@@ -1,4 +1,4 @@
--- What is asked of a property of types so that each type that typing finds has it.
+-- The demands on a property of types that make each type that typing finds have it.
 use Rattle.std.proofs.Common.{◌≡◌, Bool, true, false, List, [], ◌∷◌, Option, Some, None, if◌then◌else◌}
 use Rattle.cedar_types.specs.declared.base.names.slots.SlotId.{SlotId}
 use Rattle.cedar_types.specs.declared.base.types.BoolType.{BoolType}
@@ -16,7 +16,7 @@ use Rattle.cedar_typing.specs.TypeEnv.{TypeEnv}
 use Rattle.cedar_typing.proofs.Basics.Members.{AreAll}
 
 module _ (Kept : Ty → Type 0) where
-  -- the type has it, if one was found
+  -- the type has the property, if one was found
   abbrev pub HasKept : Option Ty → Type 0
   HasKept None = Unit {0}
   HasKept (Some t) = Kept t
@@ -25,7 +25,7 @@ module _ (Kept : Ty → Type 0) where
   AreKept [] = Unit {0}
   AreKept (t ∷ ts) = Kept t × AreKept ts
 
-  -- each type that was found has it
+  -- each type that was found has the property
   abbrev pub AllKept : List (Option Ty) → Type 0
   AllKept [] = Unit {0}
   AllKept (t ∷ ts) = HasKept t × AllKept ts
@@ -45,13 +45,13 @@ pub record IsKeeping (Kept : Ty → Type 0) (env : TypeEnv) : Type 0 where
   pub extensions : (n : Path) → Kept (TExtension n)
   pub entities : (p : Path) → Kept (TEntity (p ∷ []))
   pub sets : (t : Ty) → Kept t → Kept (TSet t)
-  -- `[]`, which is refused in Strict
+  -- `[]`, which is an error in Strict
   pub empty_sets : is_strict env.mode ≡ false → Kept (TSet TNever)
   pub records : (ks : List Text) (ts : List Ty) → texts_ascending ks ≡ true → AreKept Kept ts → Kept (TRecord (required_attrs ks ts) false)
   pub bounds : (s t : Ty) → Kept s → Kept t → HasKept Kept (lub env.mode s t)
   pub attributes : (b : Ty) (x : Text) (t : Ty) (r : Bool) → Kept b
       → ◌≡◌ {A = Option (Ty × Bool)} (attribute_type env.schema b x) (Some (t, r)) → Kept t
-  -- an attribute that a schema in part may have left out
+  -- an attribute that a Partial schema may have left out
   pub hidden : is_partial env.mode ≡ true → Kept TNever
   pub tags : (b : Ty) → AreAll Kept (tag_types env.schema b)
   pub contexts : AreAll (λ (d : DeclaredEnv). Kept d.context) (environments_of env.schema.actions)

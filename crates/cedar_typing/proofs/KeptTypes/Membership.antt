@@ -1,4 +1,4 @@
--- Each type that `in` has is kept to, as it is a Bool.
+-- Each type of `in` is kept, because it is a Bool.
 use Rattle.std.proofs.Common.{Bool, true, false, List, [], Option, Some, if◌then◌else◌}
 use Rattle.std.specs.List.{list_all}
 use Rattle.cedar_types.specs.declared.base.types.BoolType.TheVariants.{AnyBool, False}
