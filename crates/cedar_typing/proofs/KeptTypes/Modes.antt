@@ -1,4 +1,4 @@
--- Where typing keeps to what: in Strict, in Permissive, and where both slots are linked.
+-- The property that typing keeps in Strict, in Permissive, and if both slots are linked.
 use Rattle.std.proofs.Common.{◌≡◌, ℕ, Bool, true, false, true≢false, ◌||◌, Some, None, refl, sym, ◌∙◌}
 use Rattle.cedar_types.specs.declared.base.names.slots.SlotId.{SlotId}
 use Rattle.cedar_types.specs.declared.base.types.ValidationMode.{ValidationMode}
@@ -27,13 +27,13 @@ use Rattle.cedar_typing.proofs.KeptTypes.Rules.{KeepsTypes}
 use Rattle.cedar_typing.proofs.KeptTypes.Types.{Keeping, one_type, ascending, no_any_entity, allowed, is_made_of, IsKept, keeping, KeptIn}
 use Rattle.cedar_typing.proofs.KeptTypes.Types.{one_kept}
 
--- where typing keeps to it, by a schema without faults
+-- the cases in which typing keeps the property, with a schema without faults
 abbrev pub Applies : Keeping → TypeEnv → Type 0
 Applies one_type env = is_strict env.mode ≡ true
 Applies ascending env = (is_partial env.mode ≡ false) × (has_formed_types env.schema ≡ true)
 Applies no_any_entity env = LinksBothSlots env.request_env
 
--- ---- what is used of the mode and of the environment
+-- ---- facts about the mode and the environment
 
 module _ (env : TypeEnv) where
   strict_of : (k : Keeping) → Applies k env → k ≡ one_type → is_strict env.mode ≡ true
@@ -84,7 +84,7 @@ slot_kept k (Declared d None None) f SlotId.Principal = any_kept k f
 slot_kept k (Declared d None None) f SlotId.Resource = any_kept k f
 slot_kept k Undeclared f x = any_kept k f
 
--- ---- all of it
+-- ---- each type is kept
 
 pub keeps : (k : Keeping) (env : TypeEnv) → has_fault env.schema ≡ false → Applies k env → IsKeeping (IsKept k) env
 keeps k env f w = record {
@@ -104,7 +104,7 @@ keeps k env f w = record {
   slots = slot_kept k env.request_env (linked_of env k w);
 }
 
--- in Strict, and in Permissive where the types of the schema are formed
+-- each type is kept in Strict, and in Permissive if the types of the schema are formed
 in_mode : (strictly : Bool) (env : TypeEnv) → is_strict env.mode ≡ strictly → is_partial env.mode ≡ false
     → (strictly || has_formed_types env.schema) ≡ true
     → Applies (keeping strictly) env
@@ -116,7 +116,7 @@ pub keeps_in_mode : (strictly : Bool) (env : TypeEnv) → is_strict env.mode ≡
     → IsKeeping (KeptIn strictly) env
 keeps_in_mode strictly env strict total faults formed = keeps (keeping strictly) env faults (in_mode strictly env strict total formed)
 
--- no type that is found says any entity, where both slots are linked
+-- no type that typing finds is any entity, if both slots are linked
 pub no_any_entity_types : (s : Setting) → has_fault s.env.schema ≡ false → table_fault s.functions ≡ None
     → IsEnvironmentOf s.env.schema s.env.request_env
     → LinksBothSlots s.env.request_env → (e : Source) (prior : Caps) (d : ℕ) → KeepsTypes (IsKept no_any_entity) (rules s e prior d)

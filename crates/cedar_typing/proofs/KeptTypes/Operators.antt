@@ -1,4 +1,4 @@
--- The types of operators, of `like` and of `is` are kept to.
+-- The types of operators, of `like` and of `is` are kept.
 use Rattle.std.proofs.Common.{◌≡◌, Bool, true, false, ◌&&◌, not, List, [], ◌∷◌, Option, Some, None, if◌then◌else◌, refl, sym, subst}
 use Rattle.std.specs.Prelude.{is_some}
 use Rattle.cedar_types.specs.declared.base.location.Loc.{Loc}
@@ -26,7 +26,7 @@ use Rattle.cedar_typing.proofs.KeptTypes.Membership.{in_kept, in_failed_kept}
 use Rattle.cedar_typing.proofs.KeptTypes.Keeping.{HasKept, IsKeeping, pick}
 use Rattle.cedar_typing.proofs.KeptTypes.Tags.{has_tag_kept, get_tag_kept}
 
--- ---- `<` and `<=`: Bool stays, whatever is decided
+-- ---- `<` and `<=`: the type is Bool, whatever is decided
 
 unless_is : (es : List Finding) → decided_type (gives_unless es (TBool AnyBool)) ≡ Some (TBool AnyBool)
 unless_is [] = refl

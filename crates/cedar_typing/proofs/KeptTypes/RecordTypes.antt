@@ -1,4 +1,4 @@
--- The type of a record is kept to where those of its fields are.
+-- The type of a record is kept if those of its fields are.
 use Rattle.std.proofs.Common.{◌≡◌, true, false, List, [], ◌∷◌, refl}
 use Rattle.std.specs.List.{list_all}
 use Rattle.std.specs.Ordering.{is_lt}
@@ -20,7 +20,7 @@ above_kept k (l ∷ ls) (t ∷ ts) h =
     and_both below (list_all (λ j. is_lt (text_cmp k j)) (attr_names (required_attrs ls ts)))
     (and_left below others h) (above_kept k ls ts (and_right below others h))
 
--- the names of attributes ascend where the keys do
+-- the names of attributes ascend if the keys do
 pub names_ascend : (ks : List Text) (ts : List Ty) → texts_ascending ks ≡ true → texts_ascending (attr_names (required_attrs ks ts)) ≡ true
 names_ascend [] ts h = refl
 names_ascend (k ∷ ks) [] h = refl

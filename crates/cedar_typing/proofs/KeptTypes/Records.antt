@@ -1,4 +1,4 @@
--- The type of a record is kept to where those of its fields are.
+-- The rule of records finds kept types, if its fields have kept types.
 use Rattle.std.proofs.Common.{◌≡◌, Bool, true, false, List, [], ◌∷◌, Option, Some, None, if◌then◌else◌, refl}
 use Rattle.cedar_types.specs.Names.Ascending.{texts_ascending}
 use Rattle.cedar_types.specs.Names.{Text}

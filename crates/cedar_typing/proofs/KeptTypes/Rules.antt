@@ -1,4 +1,4 @@
--- Each type that is found is kept to: parts, `&&`, `||` and `if`.
+-- Parts, `&&`, `||` and `if` find kept types.
 use Rattle.std.proofs.Common.{◌≡◌, Bool, List, Option, Some, None, sym, ap, subst}
 use Rattle.cedar_types.specs.declared.base.location.Loc.{Loc}
 use Rattle.cedar_types.specs.declared.base.types.BoolType.TheVariants.{AnyBool}
@@ -20,7 +20,7 @@ use Rattle.cedar_typing.proofs.Agreement.Parts.{Marks}
 use Rattle.cedar_typing.proofs.Views.Marks.{annotation-at_place, annotation-without_type}
 use Rattle.cedar_typing.proofs.KeptTypes.Keeping.{HasKept, IsKeeping}
 
--- each type that is derived or recovered is kept to
+-- each type that is derived or recovered is kept
 pub record KeepsTypes (Kept : Ty → Type 0) (J : Judgment) : Type 0 where
   pub derivations : (t : Ty) (c : Caps) (x : TypedTree) → J.derives t c x → Kept t
   pub recoveries : (x : TypedTree) (es : List Finding) → J.recovers x es → HasKept Kept (annotation x)

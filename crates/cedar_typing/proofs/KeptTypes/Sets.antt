@@ -1,4 +1,4 @@
--- The type of a set is kept to where those of its elements are.
+-- The type of a set is kept if those of its elements are.
 use Rattle.std.proofs.Common.{◌≡◌, Bool, true, false, List, [], ◌∷◌, Option, Some, None, if◌then◌else◌, refl, subst}
 use Rattle.cedar_types.specs.Types.{Ty}
 use Rattle.cedar_types.specs.Expressions.View.{Written}
@@ -25,7 +25,7 @@ module _ (Kept : Ty → Type 0) where
   found_kept [] us h e = subst (AreKept Kept) (some_is e) tt
   found_kept (t ∷ ts) us h e = next_kept t (all_types ts) us h.0 (λ vs. found_kept ts vs h.1) e
 
--- the types of some operands are some
+-- the list of types of some operands is not empty
 some_types : (t : Option Ty) (found : Option (List Ty)) → with_type t found ≡ Some [] → ⊥
 some_types None None e = cc
 some_types None (Some ts) e = cc

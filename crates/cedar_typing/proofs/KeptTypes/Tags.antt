@@ -1,4 +1,4 @@
--- The types of `hasTag` and `getTag` are kept to where those of tags are.
+-- The types of `hasTag` and `getTag` are kept if those of tags are.
 use Rattle.std.proofs.Common.{◌≡◌, Bool, true, false, List, [], ◌∷◌, Option, Some, None, if◌then◌else◌, refl, subst}
 use Rattle.cedar_types.specs.declared.base.types.BoolType.TheVariants.{AnyBool, True, False}
 use Rattle.cedar_types.specs.Types.{Ty, TNever, TBool}

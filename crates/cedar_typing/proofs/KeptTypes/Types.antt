@@ -1,4 +1,4 @@
--- What typing keeps to: which types an expression can have, in Strict, in Permissive, and in each mode where both slots are linked.
+-- Kept types: the types that an expression can have in Strict, in Permissive, and in each mode if both slots are linked.
 use Rattle.std.proofs.Common.{◌≡◌, ℕ, suc, Bool, true, false, true≢false, arith, ◌&&◌, ◌||◌, List, [], ◌∷◌, Some, refl, sym, ◌∙◌, nat_lt}
 use Rattle.std.specs.Prelude.{length}
 use Rattle.std.proofs.lemmas.Grind.{common_steps}
@@ -19,10 +19,11 @@ pub data Keeping : Type 0 where
   -- in Permissive, which unites sets of entity types and joins records by width: names ascend in each type, and none is Never,
   -- which occurs as the type of a set's elements alone
   ascending : Keeping
-  -- in each mode, where both slots are linked: any entity stands nowhere in a type
+  -- in each mode, if both slots are linked: any entity stands nowhere in a type
   no_any_entity : Keeping
 
--- what may stand in a type: Never, several entity types in one, any entity, and in a set whatever its elements are
+-- the parts that may stand in a type: Never, several entity types in one, any entity; and in a set any of them, whatever its
+-- elements are
 pub record Allowed : Type 0 where
   pub never : Bool
   pub choice : Bool
@@ -34,14 +35,14 @@ allowed one_type = record { never = false; choice = false; any_entity = true; an
 allowed ascending = record { never = false; choice = true; any_entity = true; any_element = true }
 allowed no_any_entity = record { never = true; choice = true; any_entity = false; any_element = false }
 
--- no choice
+-- whether entity types are no choice, because there is at most one
 abbrev pub is_single : List Path → Bool
 is_single [] = true
 is_single (p ∷ []) = true
 is_single (p ∷ q ∷ ps) = false
 
 abbrev mutual
-  -- nothing stands in it that is not allowed
+  -- only allowed parts stand in the type
   pub is_made_of : Allowed → Ty → Bool
   is_made_of a TNever = a.never
   is_made_of a (TBool k) = true
@@ -58,11 +59,11 @@ abbrev mutual
   are_made_of a no_attrs = true
   are_made_of a (attr k t r xs) = is_made_of a t && are_made_of a xs
 
--- the type is kept to: nothing else stands in it, and in Permissive it is well-formed
+-- the type is kept: only allowed parts stand in it, and in Permissive it is well-formed
 abbrev pub IsKept : Keeping → Ty → Type 0
 IsKept k t = (is_made_of (allowed k) t ≡ true) × (k ≡ ascending → is_well_formed t ≡ true)
 
--- what typing keeps to in Strict, and in Permissive
+-- the property that typing keeps in Strict, and in Permissive
 abbrev pub keeping : Bool → Keeping
 keeping true = one_type
 keeping false = ascending
@@ -70,7 +71,7 @@ keeping false = ascending
 abbrev pub KeptIn : Bool → Ty → Type 0
 KeptIn strictly = IsKept (keeping strictly)
 
--- what Strict asks in Strict, and Permissive in Permissive
+-- the property of Strict belongs to Strict, and that of Permissive to Permissive
 pub strict_if : (strictly : Bool) (m : ValidationMode) → is_strict m ≡ strictly → keeping strictly ≡ one_type → is_strict m ≡ true
 strict_if true m h e = h
 strict_if false m h e = cc
@@ -111,7 +112,7 @@ field_kept k x xs o t r n e =
     let formed = λ (a : k ≡ ascending). and_right (texts_ascending (attr_names xs)) (are_well_formed xs) (n.1 a) in
     found_type (IsKept k) x xs (all_kept k xs n.0 formed) (t, r) e
 
--- ---- types that say enough
+-- ---- types that are not vague
 
 past_one : (n : ℕ) → nat_lt 1 (suc (suc n)) ≡ true
 past_one n = grind (arith, common_steps)
@@ -141,6 +142,6 @@ module _ (a : Allowed) where
         and_both (is_made_of a t) (are_made_of a xs) (definite_made t (neither_left (is_vague t) (are_vague xs) h))
         (definite_attrs xs (neither_right (is_vague t) (are_vague xs) h))
 
--- a type that says enough is kept to, where it is well-formed in Permissive
+-- a type that is not vague is kept, if it is well-formed in Permissive
 pub definite_kept : (k : Keeping) (t : Ty) → is_vague t ≡ false → (k ≡ ascending → is_well_formed t ≡ true) → IsKept k t
 definite_kept k t v w = (definite_made (allowed k) t v, w)

@@ -16,7 +16,7 @@ use Rattle.cedar_typing.specs.Views.Checks.{setting_within}
 use Rattle.cedar_typing.specs.Views.EnvironmentChecks.{checker_of, template_in, condition_in, ChecksIn, GivesChecks}
 use Rattle.cedar_typing.specs.PolicyCheck.{Verdict, PolicyChecks}
 
--- the first that was left is done
+-- the first environment that was left is done
 pub one_more_done : (done left left' all : List Env) (e : Env) → left ≡ e ∷ left' → IsPermutation (done ++ left) all
     → IsPermutation (e ∷ (done ++ left')) all
 one_more_done done left left' all e is p =
@@ -24,7 +24,7 @@ one_more_done done left left' all e is p =
     IsPermutation-trans _ (done ++ e ∷ left') _ (IsPermutation-sym _ _ (IsPermutation-middle done e left')) there
 
 module _ {C : Type 0} (meaning : C → Refusals) where
-  -- what an item says
+  -- the verdict of an item
   pub of_item : {E : Type 0} (s t : RequestEnvChecks C) (r : Result (RequestEnv × PolicyCheck) E)
       (p : RequestEnv × PolicyCheck) → r ≡ Ok p → GivesChecks {E = E} meaning s (Some r) t
       → GivesChecks {E = E} meaning s (Some (Ok p)) t
@@ -32,7 +32,7 @@ module _ {C : Type 0} (meaning : C → Refusals) where
       let M : Result (RequestEnv × PolicyCheck) E → Type 0 = λ x. GivesChecks {E = E} meaning s (Some x) t in
       subst M e h
 
-  -- the same by the checker and the template that the checks are of
+  -- the verdict by the checker and the template of the checks
   pub of_input : (s : RequestEnvChecks C) (c : Typechecker C) (t : Template) → checker_of s ≡ c → template_in s ≡ t
       → condition_in s ≡ condition_of (template_of t) → (e : Env) (v : Verdict)
       → PolicyChecks (setting_within meaning (checker_of s) (template_in s) e) (condition_in s) v

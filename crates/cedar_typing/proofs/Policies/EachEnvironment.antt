@@ -1,4 +1,4 @@
--- What holds of each verdict of a policy's check holds in each of its environments.
+-- A statement on each verdict of a policy's check holds in each of its environments.
 use Rattle.std.proofs.Common.{◌≡◌, Bool, true, List, [], ◌∷◌}
 use Rattle.std.specs.Prelude.{IsPermutation}
 use Rattle.std.specs.List.{list_all, AllByRecursion}

@@ -28,7 +28,7 @@ module _ (s : Setting) (e : Source) (prior : Caps) where
   by_rules a es (a_recovered h) = expression_refused h (IsPermutation-refl es)
   by_rules a es (a_cut h) = expression_cut h (IsPermutation-refl es)
 
-  -- what inference answers is what the check comes to
+  -- the answer of inference is that of the check
   pub expression_checked : (o : AnswerAndErrors) → infer s e prior 1 [] ≡ o → ExpressionChecks s e prior o.0 o.1
   expression_checked o is =
       let f = (agrees s e prior 1).found [] in

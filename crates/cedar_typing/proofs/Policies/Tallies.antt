@@ -1,4 +1,4 @@
--- What the checks of a policy have found, one verdict after another.
+-- The findings of a policy's checks, one verdict after another.
 use Rattle.std.proofs.Common.{◌≡◌, ◌↔◌, ℕ, Bool, true, false, ◌&&◌, cond, ne_eqb, List, [], ◌∷◌, ◌++◌, map, length, ◌⊎◌, inl, inr, refl}
 use Rattle.std.proofs.Common.{sym, ap, subst, ◌∙◌, arith}
 use Rattle.std.specs.Bool.{Decides, ◌==◌}
@@ -18,7 +18,7 @@ use Rattle.cedar_typing.specs.PolicyCheck.Outcome.{Adds, is_silent, errors_in, a
 use Rattle.cedar_typing.proofs.Basics.Gains.{in_either, adds_nothing}
 use Rattle.cedar_typing.proofs.Basics.Members.{in_left, in_right}
 
--- ---- equality of errors and of warnings, and ties in the order of errors, are equality of what they say
+-- ---- equality of errors and of warnings, and ties in the order of errors, are equality of their views
 
 pub error_decides : (x y : ValidationError) → Decides (error_impl.ghosts.eq x y) (finding_of x ≡ finding_of y)
 error_decides x y =
@@ -41,7 +41,7 @@ warning_decides x y =
 
 -- ---- one more verdict
 
--- the same members
+-- two lists have the same members
 abbrev pub SameMembers : {A : Type 0} → List A → List A → Type 0
 SameMembers {A} xs ys = (x : A) → IsOneOf x xs ↔ IsOneOf x ys
 
@@ -74,9 +74,9 @@ in_other_order a b c d h k = (λ i. h i && k i) ∙ swapped c d
     swapped false true = refl
     swapped false false = refl
 
--- ---- what is added in the end
+-- ---- the findings that are added in the end
 
--- other members that are the same
+-- the added members may be replaced by a list with the same members
 pub adds_same : {A : Type 0} (old these those new : List A) → Adds old these new → SameMembers these those → Adds old those new
 adds_same old these those new a h x = (λ k. to (in_either x old these ((a x).0 k)), λ k. (a x).1 (from (in_either x old those k)))
   where
