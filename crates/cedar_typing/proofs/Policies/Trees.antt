@@ -15,7 +15,7 @@ use Rattle.cedar_typing.proofs.Agreement.Induction.{agrees}
 use Rattle.cedar_typing.proofs.Agreement.Parts.{is_given, is_cut, OperandAnswer, operand_found, good_operand}
 
 module _ (s : Setting) (e : Source) where
-  -- what holds of every operand that the rules answer with holds of the one that is inferred
+  -- a statement on every operand that the rules allow holds of the one that is inferred
   pub of_inferred : (P : PartAndErrors → Type 0)
       → ((g : Option Part) (es : List Finding) → OperandAnswer s.env bool_types (place_of e) (rules s e no_caps 1) g es → P (g, es))
       → P (expect s.env bool_types (place_of e) (infer s e no_caps 1 []))

@@ -1,4 +1,4 @@
--- The check of a condition comes to one verdict, save for the order of errors: that of the check as a function.
+-- The check of a condition has one verdict, save for the order of errors: that of the check as a function.
 use Rattle.std.proofs.Common.{◌≡◌, Bool, true, false, List, [], ◌∷◌, length, Some, refl, sym, ◌∙◌, ap, subst, arith}
 use Rattle.std.proofs.lemmas.Grind.{common_steps}
 use Rattle.std.specs.Prelude.{IsPermutation}
@@ -34,7 +34,7 @@ same_on u v x same_success same_success = same_success
 same_on u v x (same_irrelevant p) (same_irrelevant q) = same_irrelevant (IsPermutation-trans _ _ _ p q)
 same_on u v x (same_failure p) (same_failure q) = same_failure (IsPermutation-trans _ _ _ p q)
 
--- ---- whatever the rules of the check say is that of the function
+-- ---- each verdict of the rules is that of the function
 
 module _ (s : Setting) (e : Source) where
   abbrev Condition : Bool → Caps → TypedTree → List Finding → Type 0
@@ -74,7 +74,7 @@ verdict_at_least s e = (policy_check s e, checked s e)
 
 -- ---- errors in any order
 
--- no errors have one order
+-- the empty list of errors has one order
 pub none : (es : List Finding) → IsPermutation [] es → es ≡ []
 none [] p = refl
 none (x ∷ es) p = let e : length (x ∷ es) ≡ 0 = length_permutation [] (x ∷ es) p in grind (arith, common_steps)
