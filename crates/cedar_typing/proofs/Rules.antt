@@ -1,4 +1,4 @@
--- The rules form by form, as the program follows them, and what holds of them all.
+-- The rules form by form, as the program follows them, and laws of all of them.
 pub mod Sequence
 pub mod Operands
 pub mod OneOperand

@@ -59,7 +59,7 @@ pub only_one : (b : Bool) → (b || false) ≡ true → b ≡ true
 only_one true n = refl
 only_one false n = n
 
--- entities of the type p may be in what the type of v declares
+-- entities of the type p may be in v, by the declaration of the type of v
 abbrev pub MayBeIn : Schema → Path → Uid → Type 0
 MayBeIn s p v = IsTrue (declares_type s.types v.entity_type && is_among (descendants_of s.types v.entity_type) p)
 

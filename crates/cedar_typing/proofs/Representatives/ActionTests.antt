@@ -1,5 +1,5 @@
--- Where the scope does not admit the action, and the schema alone decides that, its test of the action is False, and adds no
--- error.
+-- If the scope does not admit the action, and the schema alone decides that, then the scope's test of the action is False,
+-- and adds no error.
 use Rattle.std.proofs.Common.{◌≡◌, Bool, true, false, ◌&&◌, if◌then◌else◌, List, [], ◌∷◌, map, Option, Some, None, refl, sym, ◌∙◌, ap, subst}
 use Rattle.std.specs.List.{list_all}
 use Rattle.cedar_types.specs.declared.base.expressions.operators.BinaryOp.{BinaryOp}
@@ -40,9 +40,9 @@ use Rattle.cedar_typing.specs.TypedExpr.{Source, TypedTree, Mark, typed, typed_a
 use Rattle.cedar_typing.proofs.Representatives.SameTests.{none_of_actions}
 use Rattle.cedar_typing.proofs.Representatives.Booleans.{bool_accepted}
 
--- ---- what has the type False
+-- ---- answers of the type False
 
--- an answer whose type is False, after these errors alone
+-- the answer has the type False, and these errors alone
 pub record IsFalse (r : AnswerAndErrors) (es : List Finding) : Type 0 where
   pub succeeded : Bool
   pub tree : TypedTree
@@ -167,7 +167,7 @@ module _ (s : Setting) (d : DeclaredEnv) (ps rs : Option Path) (l : Option Loc) 
       one_more true h k = λ i. h i && k i
       one_more false h k = k
 
-  -- an action of an action's type is typed by that alone
+  -- a literal of a declared action has its own type, which is an action type
   literal_typed : (p : Path) (u : PlacedUid) → is_action_path p ≡ true → declares_action acts u.uid ≡ true → u.uid.entity_type ≡ p
       → type_of_literal here.env (entity u.uid) ≡ Some (TEntity (p ∷ []))
   literal_typed p u k h e =
@@ -200,7 +200,7 @@ module _ (s : Setting) (d : DeclaredEnv) (ps rs : Option Path) (l : Option Loc) 
         types = λ i. Some (TEntity (p ∷ [])) ∷ others.types i;
       }
 
-  -- their bound is their type
+  -- the bound of literals of one type is that type
   bound_is : (t : Ty) (us : List PlacedUid) → fold_lub s.env.mode t (map (λ u. t) us) ≡ Some t
   bound_is t [] = refl
   bound_is t (u ∷ us) = ap (λ o. go_on o (λ v. fold_lub s.env.mode v (map (λ w. t) us))) (lub_same s.env.mode t) ∙ bound_is t us

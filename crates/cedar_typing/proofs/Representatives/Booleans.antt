@@ -28,7 +28,7 @@ IsBoolAnswer (success x c) = IsBool (annotation x)
 IsBoolAnswer (failure x) = IsBool (annotation x)
 IsBoolAnswer limit = ⊥
 
--- a part with one
+-- a part with a Boolean type
 pub record IsBoolPart (r : PartAndErrors) : Type 0 where
   pub part : Part
   pub errors : List Finding
@@ -69,7 +69,7 @@ answer_bool false x c h = h
 
 -- ---- operands
 
--- nothing is too deep
+-- the answer is not the limit
 abbrev pub IsThere : Answer → Type 0
 IsThere (success x c) = Unit {0}
 IsThere (failure x) = Unit {0}

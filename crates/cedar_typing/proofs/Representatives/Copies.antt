@@ -38,7 +38,7 @@ use Rattle.cedar_typing.specs.TypeTests.{accepts, bool_types, is_false, annotati
 use Rattle.cedar_typing.specs.TypedExpr.{Source, TypedTree, Mark, with_mark, annotation, at_place, place_of}
 use Rattle.cedar_typing.proofs.Representatives.Decide.{ends}
 
--- ---- what holds of a copy, whatever its mark
+-- ---- properties of a copy, whatever its mark
 
 abbrev AnswerIs : (TypedTree → Type 0) → Answer → Type 0
 AnswerIs P (success x c) = P x
@@ -286,7 +286,7 @@ module _ (s : Setting) (l : Option Loc) where
       whole IsReference (set_of (made l) (listed us)) prior k
       (λ es. of_each IsReference f IsLiteral _ _ (elements us f.goes_on f.expects prior (k + 1) es) (λ q xs h. leaves xs h))
 
-  -- a variable that is compared by a form
+  -- the test that compares a variable in a form
   compared : (o : BinaryOp) (v : Var) (b : Source) (prior : Caps) (k : ℕ)
       → ((q : Mark) (x y : TypedTree) → IsVariable x → IsReference y → TestsVariables ((binary_form s.env (made l) prior (var (made l) v) b o).node q (x ∷ y ∷ [])))
       → ((es : List Finding) → AnswerIs IsReference (infer s b prior (k + 1) es).0)

@@ -1,4 +1,5 @@
--- Where the scope's first tests alone are irrelevant, the condition is too: nothing else of it is visited.
+-- If the scope's first tests alone are irrelevant, so is the condition, because nothing else of it is
+-- visited.
 use Rattle.std.proofs.Common.{◌≡◌, ℕ, Bool, true, false, List, [], ◌∷◌, ◌++◌, Option, Some, None, refl, sym, ◌∙◌, ap, subst}
 use Rattle.std.specs.Prelude.{if◌then◌else◌}
 use Rattle.cedar_types.specs.declared.base.location.Loc.{Loc}
@@ -35,12 +36,12 @@ own_mark : (x : TypedTree) → with_mark (mark_of x) x ≡ x
 own_mark (lit m k) = refl
 own_mark x = refl
 
--- what stands there already stays as it is
+-- an expression that stands at the place already stays as it is
 stays : (l : Option Loc) (x : TypedTree) → tree_place x ≡ l → at_place l x ≡ x
 stays l x h =
     (λ i. with_mark (record { ty = annotation x; at = record { place = sym h i; names = (mark_of x).at.names } }) x) ∙ own_mark x
 
--- an answer, or a part, whose copy stands at a place
+-- the copy of an answer, or of a part, stands at a place
 abbrev pub AnswerAt : Option Loc → Answer → Type 0
 AnswerAt l (success x c) = tree_place x ≡ l
 AnswerAt l (failure x) = tree_place x ≡ l
@@ -106,7 +107,7 @@ module _ (env : TypeEnv) where
   gone_on_at l None es f h = tt
   gone_on_at l (Some p) es f h = h p es
 
--- the typed copy of the first tests stands where the template does
+-- the typed copy of the first tests stands at the template's place
 first_tests_at : (s : Setting) (t : PlainTemplate) → AnswerAt t.place (infer s (first_tests t) no_caps 1 []).0
 first_tests_at s t =
     let a = expect s.env bool_types (place_of (scope_at t.place Var.Principal SlotId.Principal t.principal))
@@ -115,7 +116,7 @@ first_tests_at s t =
     (λ p es. right_at s.env (made t.place) (place_of (action_scope_at t.place t.action)) no_caps p es
     (λ known es'. infer s (action_scope_at t.place t.action) known 2 es'))
 
--- ---- what the whole comes to
+-- ---- the result of the whole
 
 -- an irrelevant part, as the check sees it
 pub record EndsWith (r : PartAndErrors) (es : List Finding) (x : TypedTree) : Type 0 where
@@ -150,7 +151,7 @@ module _ (env : TypeEnv) where
       → infer_right env conjunction m l prior p es right ≡ (answer_if p.succeeded (at_place m.place p.tree) no_caps, es)
   right_ends m l prior p es right h = rw h refl
 
-  -- and what is False is taken as a condition
+  -- a False expression is accepted as a condition
   kept : (l : Option Loc) (b : Bool) (x : TypedTree) (es : List Finding) → annotation_passes is_false (annotation x) ≡ true
       → expect env bool_types l (answer_if b x no_caps, es) ≡ (Some (part_with b no_caps x), es)
   kept l b x es h = by_answer b
@@ -163,7 +164,7 @@ module _ (env : TypeEnv) where
       by_answer true = by_type (part_with true no_caps x) (annotation x) h
       by_answer false = by_type (part_with false no_caps x) (annotation x) h
 
-  -- of a part that is False at the place of the whole, the whole is that part
+  -- if a part is False and stands at the place of the whole, the whole is that part
   ended : (m : Written) (l k : Option Loc) (prior : Caps) (r : PartAndErrors) (es : List Finding) (x : TypedTree)
       (right : Caps → List Finding → AnswerAndErrors) → tree_place x ≡ m.place → EndsWith r es x
       → EndsWith (expect env bool_types k (after r (λ p es'. infer_right env conjunction m l prior p es' right))) es x
@@ -182,7 +183,7 @@ module _ (env : TypeEnv) where
         is_typed_false = h.is_typed_false;
       }
 
--- a verdict of such a part
+-- the verdict of an irrelevant part
 says : (r : PartAndErrors) (es : List Finding) (x : TypedTree) → EndsWith r es x → out_verdict r ≡ irrelevant es x
 says r es x h =
     let mark : annotation_passes is_false (annotation h.part.tree) ≡ true =

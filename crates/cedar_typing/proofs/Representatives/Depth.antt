@@ -1,4 +1,5 @@
--- The scope's first tests are so flat that it does not matter how deep they stand in the condition.
+-- The scope's first tests are so flat that their answer does not depend on their depth in the
+-- condition.
 use Rattle.std.proofs.Common.{◌≡◌, ℕ, Bool, List, [], ◌∷◌, map, Option, refl}
 use Rattle.cedar_types.specs.declared.base.expressions.operators.BinaryOp.{BinaryOp}
 use Rattle.cedar_types.specs.declared.base.expressions.operators.Var.{Var}
@@ -28,7 +29,7 @@ module _ (s : Setting) (l : Option Loc) where
   abbrev principal_test : Scope → Source
   principal_test c = scope_at l Var.Principal SlotId.Principal c
 
-  -- each test at depth 3 and at depth 4 is as at depth 2
+  -- each test at depth 3 and at depth 4 has the answer that it has at depth 2
   principal_deeper : (c : Scope) (prior : Caps)
       → (infer s (principal_test c) prior 3 ≡ infer s (principal_test c) prior 2)
       × (infer s (principal_test c) prior 4 ≡ infer s (principal_test c) prior 2)
@@ -56,7 +57,7 @@ module _ (s : Setting) (l : Option Loc) where
   abbrev variable : Source
   variable = var (made l) Var.Action
 
-  -- `action in` some actions, which are inferred so
+  -- inference of `action in` some actions
   abbrev among : List PlacedUid → Caps → (Bool → List Expectation → List Finding → OperandsAndErrors) → List Finding → AnswerAndErrors
   among us prior listed =
       infer_two_operands s.env
@@ -80,7 +81,8 @@ module _ (s : Setting) (t : PlainTemplate) where
   abbrev action_place : Option Loc
   action_place = place_of (action_scope_at t.place t.action)
 
-  -- beside a scope, where there is no rest, and below it where there is one
+  -- the first tests have their answer of depth 1 at depth 2 too, where they stand without a rest, and at depth 3, where they
+  -- stand beside one
   pub in_scope : infer s (first_tests t) no_caps 2 ≡ infer s (first_tests t) no_caps 1
   in_scope =
       λ i es. after (expect s.env bool_types principal_place ((principal_deeper s t.place t.principal no_caps).0 i es))

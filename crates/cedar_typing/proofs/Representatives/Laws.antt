@@ -13,7 +13,7 @@ use Rattle.cedar_typing.proofs.Representatives.Decide.{first_tests_decide}
 use Rattle.cedar_typing.proofs.Representatives.LeftOut.{first_tests_quiet}
 use Rattle.cedar_typing.proofs.Representatives.SameTests.{first_tests_same}
 
--- a verdict without errors is the only one
+-- a verdict without errors is the only one of its condition
 silent : (v : Verdict) (x : TypedTree) → SameVerdict (irrelevant [] x) v → v ≡ irrelevant [] x
 silent v x (same_irrelevant {es' = es} p) = ap (λ l. irrelevant l x) (none es p)
 
@@ -34,7 +34,7 @@ decide s t x h v =
     by_function s e x (first_tests_decide s t [] x (is_function s (first_tests t) x h)) in
     (only_verdict s e x whole v, λ q. subst (PolicyChecks s e) (sym q) whole)
 
--- the same function, the same verdicts
+-- two settings in which the check as a function agrees have the same verdicts
 carried : (s s' : Setting) (e : Source) → policy_check s e ≡ policy_check s' e → (v : Verdict) → PolicyChecks s e v → PolicyChecks s' e v
 carried s s' e q v h =
     any_order s' e (policy_check s' e) v (checked s' e)

@@ -1,5 +1,5 @@
--- Where the scope does not admit the action, and the schema alone decides that, its first tests are irrelevant, and add no error
--- to those of the principal's test.
+-- If the scope does not admit the action, and the schema alone decides that, then the first tests are irrelevant, and add no
+-- error to those of the principal's test.
 use Rattle.std.proofs.Common.{◌≡◌, true, false, ◌&&◌, List, [], Option, Some, refl, sym, ◌∙◌, ap}
 use Rattle.cedar_types.specs.declared.base.expressions.operators.Var.{Var}
 use Rattle.cedar_types.specs.declared.base.location.Loc.{Loc}
@@ -32,7 +32,7 @@ use Rattle.cedar_typing.proofs.Representatives.Booleans.{bool_part}
 use Rattle.cedar_typing.proofs.Representatives.PrincipalTests.{goes_on, both_sides, principal_bool}
 use Rattle.cedar_typing.proofs.Representatives.ActionTests.{IsFalse, false_part, false_verdict, action_false}
 
--- a side that is not False, beside one that is
+-- a left side that is not False, beside a right side that is
 not_false_beside : (env : TypeEnv) (m : Written) (l : Option Loc) (prior : Caps) (p : Part) (es : List Finding)
     (right : Caps → List Finding → AnswerAndErrors) (j : BoolType) → annotation p.tree ≡ Some (TBool j) → annotation_passes is_false (annotation p.tree) ≡ false
     → ((known : Caps) → IsFalse (right known es) es) → IsFalse (infer_right env conjunction m l prior p es right) es
@@ -84,7 +84,7 @@ first_tests_irrelevant s t (Declared d ps rs) k h n =
     let part = false_part here.env l _ p.errors both in
     (p.errors, part.part.tree, ap (λ z. out_verdict (expect here.env bool_types l z)) tests ∙ false_verdict _ p.errors part)
 
--- so they are silent where the whole is
+-- the first tests are silent if the whole condition is
 pub first_tests_quiet : (s : Setting) (t : PlainTemplate) (e : Env) → IsOfAction e → IsLeftOut s.env.schema t e
     → names_alike s.env.schema.actions t.action ≡ true → (x : TypedTree)
     → policy_check (in_env s e) (condition_of t) ≡ irrelevant [] x → policy_check (in_env s e) (first_tests t) ≡ irrelevant [] x

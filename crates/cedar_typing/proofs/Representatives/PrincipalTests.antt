@@ -129,13 +129,13 @@ sides_bool True False = (False, refl)
 sides_bool True True = (True, refl)
 
 module _ (env : TypeEnv) (m : Written) (l : Option Loc) (prior : Caps) (p : Part) (es : List Finding) (right : Caps → List Finding → AnswerAndErrors) where
-  -- a left side that is not False leaves it to the right one
+  -- a left side that is not False leaves the value to the right one
   pub goes_on : annotation_passes is_false (annotation p.tree) ≡ false
       → infer_right env conjunction m l prior p es right
       ≡ after (expect env bool_types l (right (union prior p.capabilities) es)) (λ b es'. (infer_sides conjunction m p b (annotation p.tree) (annotation b.tree), es'))
   goes_on h = rw h refl
 
-  -- the whole, by the types of both sides
+  -- the whole has a Boolean type, by the types of both sides
   pub both_sides : (q : Part) (j k : BoolType) → annotation p.tree ≡ Some (TBool j) → annotation q.tree ≡ Some (TBool k)
       → infer_sides conjunction m p q (annotation p.tree) (annotation q.tree)
       ≡ infer_sides conjunction m p q (Some (TBool j)) (Some (TBool k))

@@ -1,4 +1,4 @@
--- Where the scope admits neither of two actions, its first tests are typed in the same way in both environments.
+-- If the scope admits neither of two actions, its first tests are typed in the same way in both environments.
 use Rattle.std.proofs.Common.{◌≡◌, ℕ, ◌+◌, Bool, true, false, ◌||◌, if◌then◌else◌, List, [], ◌∷◌, map, Option, Some, None, refl, sym, ◌∙◌, ap}
 use Rattle.std.specs.List.{list_any, list_all}
 use Rattle.cedar_types.specs.declared.base.expressions.operators.BinaryOp.{BinaryOp}
@@ -40,9 +40,9 @@ use Rattle.cedar_typing.proofs.Basics.{neither_left, neither_right}
 use Rattle.cedar_typing.proofs.Composition.SameForms.{one, other, expect_same, more_same, one_same, two_same, right_same, set_form_same}
 use Rattle.cedar_typing.proofs.Composition.SameForms.{in_same, equal_decided, equal_same}
 
--- ---- what names no action
+-- ---- entities that name neither action
 
--- what passes for none of some entities passes for none of those that are actions
+-- a test that fails for all of some entities fails for all actions among them
 one_less : (p : Uid → Bool) (v : Uid) (vs : List Uid) (b : Bool) → p v ≡ false → list_any p vs ≡ false
     → list_any p (if b then v ∷ vs else vs) ≡ false
 one_less p v vs true h k = λ i. h i || k i
@@ -65,7 +65,7 @@ module _ (s : Setting) (here elsewhere : Env) (l : Option Loc) where
 
   module _ (typed_same : principal_ty here ≡ principal_ty elsewhere)
       (linked_same : slot_ty here SlotId.Principal ≡ slot_ty elsewhere SlotId.Principal) where
-    -- the variable, and what it is compared with, at any depth
+    -- the variable, and the expression with which it is compared, have the same answers at any depth
     variable : (prior : Caps) (k : ℕ) → infer_within s1 (var (made l) Var.Principal) prior k ≡ infer_within s2 (var (made l) Var.Principal) prior k
     variable prior k = λ i es. (infer_leaf (Some (typed_same i)) (made l) (λ q. var q Var.Principal), es)
 
@@ -84,7 +84,7 @@ module _ (s : Setting) (here elsewhere : Env) (l : Option Loc) where
     ancestors (to_entity u) = refl
     ancestors to_slot = refl
 
-    -- a test of the two whose forms are the same
+    -- a test in two environments with the same form has the same answer
     same_test : (op : BinaryOp) (r : Reference) (prior : Caps) (k : ℕ)
         → binary_form s1.env (made l) prior (var (made l) Var.Principal) (named r) op
         ≡ binary_form s2.env (made l) prior (var (made l) Var.Principal) (named r) op
@@ -147,7 +147,7 @@ module _ (s : Setting) (d d' : DeclaredEnv) (p r p' r' : Option Path) (l : Optio
   action_variable : (prior : Caps) (k : ℕ) → infer_within t1 (var (made l) Var.Action) prior k ≡ infer_within t2 (var (made l) Var.Action) prior k
   action_variable prior k = λ i es. (infer_leaf (typed_same i) (made l) (λ q. var q Var.Action), es)
 
-  -- `action == u`, where it is neither action
+  -- `action == u`, for a u that is neither action
   compared : (u : PlacedUid) → uid_eq d.action u.uid ≡ false → uid_eq d'.action u.uid ≡ false
       → equality_form t1.env (made l) (var (made l) Var.Action) (uid_at l u) ≡ equality_form t2.env (made l) (var (made l) Var.Action) (uid_at l u)
   compared u h h' = λ i. record {
@@ -168,7 +168,7 @@ module _ (s : Setting) (d d' : DeclaredEnv) (p r p' r' : Option Path) (l : Optio
       λ i. two_same s here elsewhere (compared u h h' i) l l
       (λ es. unless_too_deep (k + 1) es (action_variable prior (k + 1) i es)) (λ es. infer t1 (uid_at l u) prior (k + 1) es) i
 
-  -- `action in [..]`, where neither action is in any of these
+  -- `action in [..]`, for actions that are in none of these
 
   abbrev listed : List PlacedUid → Trees Written
   listed us = trees_of (map (uid_at l) us)
@@ -243,9 +243,9 @@ module _ (s : Setting) (d d' : DeclaredEnv) (p r p' r' : Option Path) (l : Optio
   action (equal_action u) h h' prior k = is_equal_action u h h' prior k
   action (within_actions us) h h' prior k = is_in_actions us h h' prior k
 
--- ---- both
+-- ---- both tests
 
--- declared actions of one type have one type
+-- declared actions of one entity type have the same type
 declared_typed : (s : Schema) (u v : Uid) → declares_action s.actions u ≡ true → declares_action s.actions v ≡ true
     → u.entity_type ≡ v.entity_type → literal_type s u ≡ literal_type s v
 declared_typed s u v h k e =

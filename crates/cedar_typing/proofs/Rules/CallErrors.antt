@@ -22,11 +22,11 @@ three_added env l xs ys zs es fs gs hs none one two three =
     ∙ ap (λ w. w ++ added_at env l zs) (sym (map-append (finding env l) xs ys))
     ∙ sym (map-append (finding env l) (xs ++ ys) zs)
 
--- the fault of a number of arguments, by whether it is taken
+-- the fault of a number of arguments, by whether the function takes it
 abbrev by_number : Bool → ℕ → ℕ → List Fault
 by_number b m n = if b then [] else wrong_number_arguments m n ∷ []
 
--- where the function takes so many, no error is added, and else one
+-- if the function takes this number, no error is added, else one
 pub number_added : {C : Type 0} (env : TypeEnv) (l : Option Loc) (meaning : C → Refusals)
     (f : ExtensionFunctionType C) (xs : List Source) (n : ℕ) (b : Bool)
     → length xs ≡ n → b ≡ takes (function_of meaning f) n
