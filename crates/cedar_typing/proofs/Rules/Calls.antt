@@ -1,4 +1,4 @@
--- A call and a set of the program as trees, and how a call is inferred.
+-- Calls and sets of the program as trees, and inference of a call.
 use Rattle.std.proofs.Common.{◌≡◌, ℕ, ◌+◌, false, List, [], ◌∷◌, map, refl, sym, ap, ◌∙◌, rules, Vec, Global}
 use Rattle.cedar_types.specs.declared.base.expressions.Expr.{Expr}
 use Rattle.cedar_types.specs.declared.base.expressions.ExprKind.{the_lemmas}
@@ -20,7 +20,7 @@ use Rattle.cedar_typing.specs.TypedExpr.{Source}
 use Rattle.cedar_typing.specs.Views.{at}
 use Rattle.cedar_typing.specs.declared.typecheck.rules.calls.Call.{Call}
 
--- ---- as a tree
+-- ---- calls and sets as trees
 
 written_by_kind : (e : Expr (Unit {0})) → written e ≡ kind_written e.loc e.kind
 written_by_kind e = search (rules, the_lemmas)
@@ -43,13 +43,13 @@ pub written_set : (e : Expr (Unit {0})) (xs : Vec (Expr (Unit {0})) Global) → 
     → written e ≡ set_of (at e.loc) (trees_of (map written xs.items))
 written_set e xs h = written_by_kind e ∙ ap (kind_written e.loc) h ∙ kind_set xs e
 
--- ---- inferred
+-- ---- inference of a call
 
 arguments_are : (xs : List Source) → arguments (trees_of xs) ≡ xs
 arguments_are [] = refl
 arguments_are (x ∷ xs) = ap (λ ys. x ∷ ys) (arguments_are xs)
 
--- a call of which all is known before its arguments are typed, by what these result in
+-- a call that is known up to its arguments, by the result of these
 pub call_inferred : (s : Setting) (m : Written) (n : Path) (xs : List Source) (prior : Caps) (d : ℕ)
     (es es' : List Finding) (c : Call) (o : Operands)
     → IsCallOf s m.place n xs c

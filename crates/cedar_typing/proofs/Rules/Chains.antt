@@ -1,4 +1,4 @@
--- What a step of a chain earns, in the program and by the rule.
+-- The capabilities that a step of a chain earns, in the program and by the rule.
 use Rattle.std.proofs.Common.{◌≡◌, Bool, true, false, true≢false, ◌&&◌, ◌||◌, not, Option, Some, None, option_map, if◌then◌else◌, refl, sym}
 use Rattle.std.proofs.Common.{◌∙◌, ap, subst}
 use Rattle.std.specs.Prelude.{is_some}
@@ -29,7 +29,7 @@ by_type : (f : Caps) (c : Cap) (b : Bool) → (true && not b) ≡ false → f �
 by_type f c true n = nothing_added f
 by_type f c false n = absurd (true≢false n)
 
--- the test of the program
+-- the attribute is declared if the test of the program passes
 pub is_there : (b t : Bool) → (b && not t) ≡ true → b ≡ true
 is_there true t h = refl
 is_there false t h = h
@@ -39,13 +39,13 @@ is_new true false h = refl
 is_new true true h = absurd (true≢false (sym h))
 is_new false t h = absurd (true≢false (sym h))
 
--- of a declared attribute, where the step is not True
+-- a step on a declared attribute that is not True earns the attribute
 pub earned : (f h : Caps) (u : Ty) (c : Cap) (a : Option (Ty × Bool)) → is_some a ≡ true → is_true u ≡ false
     → AddsJust c f h → h ≡ union f (step_earns u c a)
 earned f h u c (Some a) s n k = subst (λ b. h ≡ union f (if b then no_caps else single c)) (sym n) (just_added f h c k)
 earned f h u c None s n k = absurd (true≢false (sym s))
 
--- else nothing
+-- any other step earns nothing
 pub not_earned : (f : Caps) (u : Ty) (c : Cap) (a : Option (Ty × Bool)) → (is_some a && not (is_true u)) ≡ false
     → f ≡ union f (step_earns u c a)
 not_earned f u c (Some a) n = by_type f c (is_true u) n
@@ -55,7 +55,7 @@ pub with_step_is : (p : Progress) (f : Caps) (b : Bool) (u : Ty) (c : Caps) → 
     → ◌≡◌ {A = Progress} (record { earned = f; all_true = p.all_true && b }) (with_step p u c)
 with_step_is p f b u c e t = λ i. record { earned = e i; all_true = p.all_true && t i }
 
--- after it the attribute is known where it was, or where the step earns it
+-- after a step its attribute is known if it was known before, or if the step earns it
 pub earns_itself : (u : Ty) (c : Cap) (a : Option (Ty × Bool)) (d : Bool) → is_some a ≡ d → (d && not (is_true u)) ≡ step_earns u c a c
 earns_itself u c (Some x) d e = ap (λ b. b && not (is_true u)) (sym e) ∙ by_test (is_true u)
   where
@@ -74,7 +74,7 @@ known_after prior earned after new there q k k' same known now e =
     now ∙ ap (λ b. b || new q) known ∙ or_along (prior q) (earned q) (new q)
     ∙ (λ i. prior (same i) || sym e i (same i))
 
--- ---- a step that the chain goes on after
+-- ---- a step after which the chain goes on
 
 module _ (env : TypeEnv) (l : Option Loc) (s : Ty) (x : Text) where
   abbrev declared : Option (Ty × Bool)
@@ -106,7 +106,7 @@ module _ (env : TypeEnv) (l : Option Loc) (s : Ty) (x : Text) where
       → step env l there known s x p next ≡ gives (TBool False) no_caps
   stops there known p next o f = rw (o, f) refl
 
-  -- and one that is False ends it
+  -- a False step ends the chain
   pub ends : (prior : Caps) (p : Progress) (next : Progress → Decision) (there q : Cap) (known : Bool) (t : Ty)
       → q ≡ there → known ≡ union prior p.earned q → t ≡ step_type env s x known declared
       → is_object s ≡ true → is_false t ≡ true → gives (TBool False) no_caps ≡ step env l there (union prior p.earned there) s x p next

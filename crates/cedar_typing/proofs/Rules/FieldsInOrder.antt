@@ -1,4 +1,4 @@
--- The values of fields, one after another: what those to come make of those so far.
+-- The values of fields, one after another: the result of those so far and of those to come.
 use Rattle.std.proofs.Common.{◌≡◌, refl, sym, ap, ◌∙◌, ℕ, ◌&&◌, Bool, true, false, List, [], ◌∷◌, ◌++◌, Some, append_assoc}
 use Rattle.std.specs.Prelude.{if◌then◌else◌}
 use Rattle.cedar_types.specs.Errors.{Finding}
@@ -16,7 +16,7 @@ use Rattle.cedar_typing.specs.TypedExpr.{Source, TypedTree}
 use Rattle.cedar_typing.specs.Views.{field_operands, keys_in, trees_in}
 use Rattle.cedar_typing.specs.declared.typecheck.rules.records.FieldValues.{FieldValues}
 
--- operands after others, of which it is known whether all succeeded
+-- the result of operands after others, of which it is known whether all succeeded
 abbrev pub after_others : Bool → List TypedTree → Operands → Operands
 after_others succeeded xs (all_typed later ys) = all_typed (later && succeeded) (xs ++ ys)
 after_others succeeded xs (cut_after ys) = cut_after (xs ++ ys)
@@ -45,7 +45,7 @@ after_one s xs p (all_typed later ys) = λ i. all_typed (and_assoc later p.succe
 after_one s xs p (cut_after ys) = ap cut_after (sym (append_assoc xs (p.tree ∷ []) ys))
 
 module _ (setting : Setting) (prior : Caps) (d : ℕ) where
-  -- a field whose value is typed
+  -- inference of fields goes on after a field whose value is typed
   pub goes_on : (k : Text) (e : Source) (fs : Fields Written) (s : Bool) (xs : List TypedTree)
       (es es' : List Finding) (a : Answer) (p : Part)
       → infer setting e prior d es ≡ (a, es') → part_from a ≡ Some p
@@ -57,7 +57,7 @@ module _ (setting : Setting) (prior : Caps) (d : ℕ) where
       ∙ ap (λ q. finish s xs (infer_rest false q es' rest)) g
       ∙ ap (λ z. (z, (rest es').1)) (after_one s xs p (rest es').0)
 
--- of a record that is cut the keys do not count
+-- the keys of a record that is cut do not count
 by_keys : (env : TypeEnv) (m : Written) (ks ls : List Text) (s : Bool) (xs : List TypedTree) (es : List Finding)
     (b : Bool) → (b ≡ false → ls ≡ ks)
     → infer_form (record_form env m ks) (if b then cut_after xs else all_typed s xs) es

@@ -1,4 +1,4 @@
--- The laws of the rules, from what inference answers.
+-- The laws of the rules, from the answers of inference.
 use Rattle.std.proofs.Common.{◌≡◌, ◌⊎◌, inl, inr, ℕ, List, [], sym, ◌∙◌, ap}
 use Rattle.cedar_types.specs.Types.{Ty}
 use Rattle.cedar_types.specs.Errors.{Finding}
@@ -27,7 +27,7 @@ module _ (s : Setting) (e : Source) (prior : Caps) (d : ℕ) where
   abbrev Rules : Answer → List Finding → Type 0
   Rules = Answers (rules s e prior d)
 
-  -- the rules give one answer at most
+  -- the rules give at most one answer
   one_answer : (a b : Answer) (es fs : List Finding) → Rules a es → Rules b fs → ◌≡◌ {A = AnswerAndErrors} (a, es) (b, fs)
   one_answer a b es fs h k = sym ((agrees s e prior d).only [] a es h) ∙ (agrees s e prior d).only [] b fs k
 

@@ -1,4 +1,4 @@
--- Entities that stand as they are: those that are found so far, and those that are left.
+-- Entities that stand as they are: those found so far, and those that are left.
 use Rattle.std.proofs.Common.{◌≡◌, List, [], ◌∷◌, ◌++◌, map, Option, Some, None, option_map, refl, sym, ◌∙◌, ap, append_assoc}
 use Rattle.cedar_types.specs.declared.base.names.entities.EntityUID.{EntityUID}
 use Rattle.cedar_types.specs.declared.base.expressions.Expr.{Expr}
@@ -22,7 +22,7 @@ joined us u (Some vs) = ap Some (append_assoc us (u ∷ []) vs)
 
 module _ (r : Env) (us : List Uid) (x : Source') (xs : List Source') (o : Option EntityUID)
     (found : option_map uid_of o ≡ entity_of r (written x)) where
-  -- one more
+  -- one more entity is found
   pub one_entity : (u : EntityUID) → o ≡ Some u → after (us ++ uid_of u ∷ []) (entities_in r xs) ≡ after us (entities_in r (x ∷ xs))
   one_entity u h =
       joined us (uid_of u) (entities_in r xs)

@@ -1,4 +1,4 @@
--- The types that are compared, in the program.
+-- The comparable types in the program.
 use Rattle.std.proofs.Common.{◌≡◌, Bool, true, false, ◌||◌, List, [], ◌∷◌, map, Option, Some, None, is_eq, refl, sym, ap, ◌∙◌}
 use Rattle.std.specs.List.{list_any}
 use Rattle.std.specs.declared.cmp.Ordering.{Ordering}
@@ -15,7 +15,7 @@ pub overloaded : (R : Name → Ordering) (p : Path) → ((k : Name) → R k ≡ 
 overloaded R p h [] = refl
 overloaded R p h (k ∷ ks) = λ i. (ap is_eq (h k) ∙ sym (path_ties p (path_of k))) i || overloaded R p h ks i
 
--- an extension type is among some by its name
+-- an extension type is among some exactly if its name is
 among_extensions : (p : Path) (ps : List Path) → list_any (path_eq p) ps ≡ list_any (ty_eq (TExtension p)) (map TExtension ps)
 among_extensions p [] = refl
 among_extensions p (q ∷ ps) = ap (λ b. path_eq p q || b) (among_extensions p ps)
@@ -28,7 +28,7 @@ none_among : (t : Ty) → ((p : Path) → ty_eq t (TExtension p) ≡ false) → 
 none_among t h [] = refl
 none_among t h (p ∷ ps) = λ i. h p i || none_among t h ps i
 
--- by the name of the type, if it is an extension type, or by whether it is Long
+-- whether a type is comparable, by its name if it is an extension type, else by whether it is Long
 abbrev by_name : List Path → Ty → Option Path → Bool
 by_name ps t (Some p) = list_any (path_eq p) ps
 by_name ps t None = ty_eq t TLong

@@ -1,4 +1,4 @@
--- One operand in the program: typing it and then the whole is inference.
+-- Forms with one operand in the program: typing the operand and then the whole is inference.
 use Rattle.std.proofs.Common.{◌≡◌, List, Option, Some, ◌∙◌, ap}
 use Rattle.cedar_types.specs.declared.base.location.Loc.{Loc}
 use Rattle.cedar_types.specs.Types.{Ty}

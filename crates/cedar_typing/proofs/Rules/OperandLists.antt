@@ -1,4 +1,4 @@
--- Operands one after another: those that are typed so far, and those that are left.
+-- Operands one after another: those typed so far, and those that are left.
 use Rattle.std.proofs.Common.{◌≡◌, ℕ, not, true≢false, Bool, true, false, ◌&&◌, List, [], ◌∷◌, ◌++◌, map, Option, Some, None, is_some}
 use Rattle.std.proofs.Common.{option_map, refl, sym, ◌∙◌, ap, append_assoc, append-nil}
 use Rattle.std.proofs.lemmas.Bool.{false≢true}
@@ -41,11 +41,11 @@ none_before : (r : Operands) → prepended true [] r ≡ r
 none_before (all_typed later ys) = ap (λ b. all_typed b ys) (and_true later)
 none_before (cut_after ys) = refl
 
--- at first none is typed
+-- at first no operand is typed
 pub resumed_first : (o : OperandsAndErrors) → resumed (all_typed true []) o ≡ o
 resumed_first o = ap (λ r. (r, o.1)) (none_before o.0)
 
--- at the end none is left
+-- at the end no operand is left
 pub resumed_last : (r : Operands) (es : List Finding) → ◌≡◌ {A = OperandsAndErrors} (resumed r (all_typed true [], es)) (r, es)
 resumed_last (all_typed succeeded xs) es = ap (λ ys. (all_typed succeeded ys, es)) (append-nil xs)
 resumed_last (cut_after xs) es = refl
@@ -56,7 +56,7 @@ one_typed succeeded xs p (all_typed later ys) =
     λ i. all_typed (and_joins later p.succeeded succeeded i) (append_assoc xs (p.tree ∷ []) ys i)
 one_typed succeeded xs p (cut_after ys) = ap cut_after (append_assoc xs (p.tree ∷ []) ys)
 
--- one more, where typing goes on
+-- one more operand, if typing goes on
 resumed_next : (b : Bool) (r : Operands) (g : Option Part) (es : List Finding)
     (rest : List Finding → OperandsAndErrors) → (not (is_some g) && not b) ≡ false
     → resumed (with_element r g) (rest es) ≡ resumed r (infer_rest b g es rest)
@@ -66,7 +66,7 @@ resumed_next b (cut_after xs) (Some p) es rest on = refl
 resumed_next true (cut_after xs) None es rest on = refl
 resumed_next false r None es rest on = absurd (true≢false on)
 
--- and where it ends
+-- the last operand, if typing ends
 resumed_end : (b : Bool) (r : Operands) (g : Option Part) (es : List Finding)
     (rest : List Finding → OperandsAndErrors) → (not (is_some g) && not b) ≡ true
     → ◌≡◌ {A = OperandsAndErrors} (with_element r g, es) (resumed r (infer_rest b g es rest))
@@ -75,7 +75,7 @@ resumed_end true r None es rest off = absurd (false≢true off)
 resumed_end false (all_typed succeeded xs) None es rest off = ap (λ ys. (cut_after ys, es)) (sym (append-nil xs))
 resumed_end false (cut_after xs) None es rest off = refl
 
--- ---- what is expected of the first operand, and of those after it
+-- ---- the expectation of the first operand, and those of the operands after it
 
 first_is : (ts : List Ty) (a : Source) (bs : List Source) → first_expectation (expected_arguments ts (a ∷ bs)) ≡ first_wanted ts
 first_is [] a bs = refl
@@ -97,18 +97,18 @@ abbrev pub all_inferred : Setting → Bool → List Ty → Caps → ℕ → List
 all_inferred s b ts prior d xs es =
     infer_all s b (expected_arguments ts (map written xs)) (trees_of (map written xs)) prior d es
 
--- what an operand is found to be, by what the program infers of it and expects of it
+-- the part of an operand, from its inference and its expectation
 pub operand_found : (env : TypeEnv) (x : Untyped) {q q' : Expectation} {o o' : AnswerAndErrors} {found : PartAndErrors}
     → q' ≡ q → o ≡ o' → expect_operand env q' x.loc o' ≡ found → expect_operand env q (place_of (written x)) o ≡ found
 operand_found env x wanted inferred expected = (λ i. expect_operand env (sym wanted i) (place_is x i) (inferred i)) ∙ expected
 
--- by what is expected, and how the others are inferred
+-- the result of the first operand and of the others, from its expectation and their inference
 abbrev by_first : Setting → Bool → Untyped → Caps → ℕ → List Finding → Expectation → (List Finding → OperandsAndErrors) → OperandsAndErrors
 by_first s b x prior d es q rest =
     infer_rest b (expect_operand s.env q (place_of (written x)) (infer s (written x) prior d es)).0
     (expect_operand s.env q (place_of (written x)) (infer s (written x) prior d es)).1 rest
 
--- all of them, by the first
+-- the result of all operands, from that of the first
 by_the_first : (s : Setting) (b : Bool) (ts : List Ty) (prior : Caps) (d : ℕ) (x : Untyped) (xs : List Untyped)
     (es es' : List Finding) (g : Option Part)
     → ◌≡◌ {A = PartAndErrors} (expect_operand s.env (first_wanted ts) (place_of (written x)) (infer s (written x) prior d es)) (g, es')

@@ -26,7 +26,7 @@ record_is a o =
     ap ty_of (sym (rolls-Record a o))
     ∙ fold-roll-CedarType Ty (Ty × Bool) Attrs ty_step attribute_step attributes_step (layer.Record a o)
 
--- also one of the program
+-- a record of the program is accepted too
 pub record_is_object : (t : CedarType) (a : Attributes) (o : OpenTag) → t ≡ Record a o → true ≡ accepts object_types (ty_of t)
 record_is_object t a o h =
     sym (ap (λ t. accepts object_types (ty_of t)) h ∙ ap (accepts object_types) (record_is a o)

@@ -1,4 +1,4 @@
--- The fields of a record: their keys ascend, and what their typed values make of the whole.
+-- The fields of a record: their keys ascend, and their typed values make the whole.
 use Rattle.std.proofs.Common.{◌≡◌, refl, sym, ap, ◌∙◌, ◌&&◌, true, false, List, [], ◌∷◌, ◌++◌, map, Option, Some, None, option_map, Global}
 use Rattle.std.proofs.Common.{subst}
 use Rattle.std.specs.Prelude.{if◌then◌else◌}
@@ -45,7 +45,7 @@ keys_ascend {A} (e ∷ es) h = (at_head es (sorted_head key_cmp e.0 (keys_of es)
     at_head [] h = tt
     at_head (f ∷ fs) h = (h.0, at_head fs h.1)
 
--- the same as a test
+-- ascending keys pass the test of ascending
 pub is_ascending : (ks : List Text) → Ascends ks → texts_ascending ks ≡ true
 is_ascending [] h = refl
 is_ascending (k ∷ ks) h = λ i. above ks h.0 i && is_ascending ks h.1 i
@@ -58,7 +58,7 @@ pub keys_append : {A : Type 0} (es fs : List (RcStr Global × A)) → keys_in (e
 keys_append [] fs = refl
 keys_append (e ∷ es) fs = ap (λ ks. text_of e.0 ∷ ks) (keys_append es fs)
 
--- a key that is above those before it goes last
+-- a key above those before it goes last
 pub goes_last : {A : Type 0} (es : List (RcStr Global × A)) (k : RcStr Global) (v : A)
     → AllByRecursion (λ l. text_cmp l (text_of k) ≡ Less) (keys_in es)
     → insert_entry key_cmp es k v ≡ es ++ (k, v) ∷ []
@@ -107,7 +107,7 @@ abbrev with_attr : Text → Option Ty → Option Attrs → Option Attrs
 with_attr k (Some t) (Some xs) = Some (attr k t true xs)
 with_attr k t xs = None
 
--- the attributes that typed fields make, where none lacks a type
+-- the attributes that typed fields make, if none lacks a type
 abbrev pub attrs_typed : List TypedField → Option Attrs
 attrs_typed [] = Some no_attrs
 attrs_typed (e ∷ es) = with_attr (text_of e.0) (annotation (typed_tree e.1)) (attrs_typed es)

@@ -1,5 +1,5 @@
--- What tables ask of the mode and of the request's environment: most of them nothing, and three whether the mode is Partial. So
--- in two type environments that differ in these alone they say the same.
+-- The dependence of tables on the mode and on the request environment: most depend on neither, and three on whether the mode is
+-- Partial. So they give the same results in two type environments that differ in nothing else.
 use Rattle.std.proofs.Common.{◌≡◌, Bool, ◌&&◌, if◌then◌else◌, List, [], ◌∷◌, Option, Some, None, refl}
 use Rattle.std.specs.List.{list_all}
 use Rattle.cedar_types.specs.declared.base.location.Loc.{Loc}
@@ -36,7 +36,7 @@ module _ (env : TypeEnv) (m m' : ValidationMode) (r r' : Env) where
   abbrev pub other : TypeEnv
   other = record env { mode = m'; request_env = r' }
 
-  -- ---- what asks for neither
+  -- ---- tables that depend on neither
 
   has_decided : (x : Text) (there : Cap) (known : Bool) (t : Ty) (a : Option (Ty × Bool))
       → has_decides one x there known t a ≡ has_decides other x there known t a
@@ -75,7 +75,7 @@ module _ (env : TypeEnv) (m m' : ValidationMode) (r r' : Env) where
   tag_bounded l ts None = refl
   tag_bounded l ts (Some u) = refl
 
-  -- where it says the same of a tag that is known to be there
+  -- the table of `getTag` gives the same result if it does so for a tag that is known to be there
   pub get_tagged : (l : Option Loc) → ((t : Ty) (ts : List Ty) → get_known_tag one l t ts ≡ get_known_tag other l t ts)
       → (known : Bool) (t : Option Ty) → get_tag_table one l known t ≡ get_tag_table other l known t
   get_tagged l same known None = refl
@@ -93,7 +93,7 @@ module _ (env : TypeEnv) (m m' : ValidationMode) (r r' : Env) where
   record_typed l ks None = refl
   record_typed l ks (Some ts) = refl
 
-  -- ---- what asks whether the mode is Partial
+  -- ---- tables that depend on whether the mode is Partial
 
   module _ (same : is_partial m ≡ is_partial m') where
     pub get_decided : (l : Option Loc) (x : Text) (known : Bool) (t : Ty) (a : Option (Ty × Bool))

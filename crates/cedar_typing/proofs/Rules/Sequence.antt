@@ -12,7 +12,7 @@ use Rattle.cedar_typing.specs.declared.typecheck.answer.Part.{Part}
 use Rattle.cedar_typing.specs.declared.typecheck.answer.TypecheckAnswer.{TypecheckAnswer}
 use Rattle.cedar_typing.specs.declared.typecheck.answer.TypecheckAnswer.TheVariants.{TypecheckSuccess, TypecheckFail, RecursionLimit}
 
--- what one more answer hands on
+-- the part that one more answer hands on
 pub record OneMore (a : TypecheckAnswer) (p : Part) : Type 0 where
   pub hands_on : AllHandOn (Ok a ∷ [])
   pub handed : AreHanded (Ok a ∷ []) ((p.typed, p.capabilities) ∷ [])
