@@ -1,4 +1,4 @@
--- What the tests of types say.
+-- Tests of types, and the facts that follow from them.
 use Rattle.std.proofs.Common.{◌≡◌, true, false, Option, Some, None, refl, ap}
 use Rattle.cedar_types.specs.declared.base.types.BoolType.TheVariants.{True, False}
 use Rattle.cedar_types.specs.Types.{Ty, TBool}

@@ -1,4 +1,4 @@
--- What the program's values are as plain data.
+-- Views of the program's values as plain data.
 pub mod Marks
 pub mod Parts
 pub mod Typed

@@ -1,4 +1,4 @@
--- Two operands in the program: the steps of typing them are those of inference.
+-- Forms with two operands in the program: the steps of typing the operands are those of inference.
 use Rattle.std.proofs.Common.{◌≡◌, Bool, true, false, ◌&&◌, not, List, [], ◌∷◌, ◌++◌, Option, Some, None, option_map, refl, sym, ◌∙◌, ap}
 use Rattle.std.proofs.Common.{subst, append-nil}
 use Rattle.std.specs.Prelude.{is_some}
@@ -19,7 +19,7 @@ use Rattle.cedar_typing.specs.declared.typecheck.rules.two_operands.TwoOperands.
 use Rattle.cedar_typing.specs.declared.typecheck.rules.two_operands.TwoOperands.TheVariants.{Equality, Comparison, Arithmetic, Membership}
 use Rattle.cedar_typing.specs.declared.typecheck.rules.two_operands.TwoOperands.TheVariants.{Contains, ContainsSeveral, HasTag, GetTag}
 
--- ---- what all of these forms have in common
+-- ---- facts about all of these forms
 
 pub form_at : (env : TypeEnv) (m : Written) (prior : Caps) (a b : Source) (form : TwoOperands) → (form_of_two env m prior a b form).at ≡ m
 form_at env m prior a b Equality = refl
@@ -50,7 +50,7 @@ is_limit env m prior a b form ts es =
 
 -- ---- the operands, from left to right
 
--- the right one alone
+-- the result of the right operand alone
 abbrev right_part : Option Part → Operands
 right_part None = cut_after []
 right_part (Some q) = all_typed q.succeeded (q.tree ∷ [])
@@ -60,7 +60,7 @@ right_is goes_on (Some q) es = refl
 right_is true None es = refl
 right_is false None es = refl
 
--- after a left one that is too deep a form has to go on
+-- if the left operand is too deep, the form must go on
 abbrev IsTypedOn : Bool → Option Part → Type 0
 IsTypedOn goes_on (Some p) = Unit {0}
 IsTypedOn true None = Unit {0}
@@ -73,7 +73,8 @@ both_are goes_on (Some p) None es es' later n h = ap (λ (o : OperandsAndErrors)
 both_are true None q es es' later n h = ap (λ (o : OperandsAndErrors). (cut_after [], o.1)) h
 both_are false None q es es' later n h = absurd n
 
--- the test of the program: b is whether the left one is too deep, and g whether the form goes on
+-- the test of the program: b tells whether the left operand is too deep, and g whether the form
+-- goes on
 pub typed_on : (b g goes_on : Bool) (o : Option TypedPart) → is_some o ≡ not b → goes_on ≡ g → (b && not g) ≡ false
     → IsTypedOn goes_on (option_map part_of o)
 typed_on b g goes_on (Some p) e h k = tt
@@ -94,7 +95,7 @@ module _ (env : TypeEnv) (f : Form) (l l' : Option Loc) (left right : List Findi
   abbrev later : List Finding → OperandsAndErrors
   later = infer_one_more env f.goes_on (first_expectation (later_expectations f.expects)) l' right infer_none
 
-  -- both are typed, or too deep
+  -- both operands are typed, or too deep
   pub two_typed : (p p' : Option Part) (es es' es'' : List Finding) → IsTypedOn f.goes_on p
       → expect_operand env q l (left es) ≡ (p, es') → expect_operand env q' l' (right es') ≡ (p', es'')
       → infer_two_operands env f l l' left right es ≡ infer_form f (two_parts p p') es''
@@ -108,7 +109,7 @@ module _ (env : TypeEnv) (f : Form) (l l' : Option Loc) (left right : List Findi
       ((ap (λ z. expect_operand env z l (left es)) first ∙ h) i).1 later)
       ∙ both_are f.goes_on p p' es' es'' later n right_typed)
 
-  -- the left one is too deep, and nothing is typed after it
+  -- the left operand is too deep, and the right one is not typed
   pub two_stopped : (p : Option Part) (es es' : List Finding) → (f.goes_on ≡ false) × (p ≡ None)
       → expect_operand env q l (left es) ≡ (p, es')
       → infer_two_operands env f l l' left right es ≡ (limit, es' ++ f.at_limit [])

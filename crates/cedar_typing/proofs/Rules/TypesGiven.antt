@@ -1,4 +1,4 @@
--- The type of the whole is the one that the table gives, where the form keeps it beside a failed operand.
+-- The type of the whole is that of the table, if the form keeps it beside a failed operand.
 use Rattle.std.proofs.Common.{◌≡◌, Bool, true, false, List, refl, ap}
 use Rattle.cedar_types.specs.declared.base.expressions.operators.UnaryOp.{UnaryOp}
 use Rattle.cedar_types.specs.Types.{Ty}
@@ -25,7 +25,7 @@ pub given_is : (f : Form) → Keeps f → (succeeded : Bool) (xs : List TypedTre
     → ◌≡◌ {A = AnswerAndErrors} (infer_decided f succeeded xs es (gives t c)) (answer_if succeeded (f.node (typed t f.at) xs) c, es)
 given_is f k succeeded xs es t c = ap (λ u. (answer_if succeeded (f.node (typed u f.at) xs) c, es)) (type_is f k succeeded t)
 
--- each form with one operand does
+-- each form with one operand keeps the table's type
 pub one_keeps : (env : TypeEnv) (m : Written) (prior : Caps) (e : Source) (form : OneOperand) → Keeps (form_of_one env m prior e form)
 one_keeps env m prior e (Unary UnaryOp.Not) t = refl
 one_keeps env m prior e (Unary UnaryOp.Neg) t = refl

@@ -14,7 +14,7 @@ use Rattle.cedar_typing.specs.Setting.VariableTypes.{same_if_any}
 pub kept : {s t : Ty} → s ≡ t → ty_eq s t ≡ true
 kept {s = s} e = subst (λ t. ty_eq s t ≡ true) e (ty_itself s)
 
--- the type of the principal that is known, or of all entities
+-- the type of the principal if it is known, else any entity
 pub kept_principal : {t : Ty} (e : RequestEnv) → t ≡ linked_ty (option_map (λ p. type_of p.now) (principal_in e))
     → ty_eq t (principal_ty (env_of e)) ≡ true
 kept_principal (DeclaredAction p a r c ps rs) same = kept same

@@ -1,4 +1,4 @@
--- What `in` gives for two values, by their types.
+-- Outcomes of `in` for two values, by their types.
 use Rattle.std.proofs.Common.{◌≡◌, Bool, true, false, true≢false, ◌&&◌, ◌||◌, List, Option, Some, None, if◌then◌else◌, refl, sym, subst}
 use Rattle.std.specs.Prelude.{IsTrue}
 use Rattle.cedar_types.specs.declared.base.types.BoolType.TheVariants.{AnyBool, False}
@@ -16,7 +16,7 @@ use Rattle.cedar_typing.specs.TypeTests.{accepts, entity_types, ancestor_types}
 use Rattle.cedar_typing.proofs.Soundness.Kinds.{entity_value}
 use Rattle.cedar_typing.proofs.Values.Membership.{in_denied}
 
--- ---- a Bool, if it is a value
+-- ---- the outcome is a Bool, if it is a value
 
 if_bool : (b c : Bool) → HasFound (Some (TBool AnyBool)) (if b then Gives (VBool c) else Fails TypeFailure)
 if_bool true c = tt
@@ -27,9 +27,9 @@ in_bool store (VEntity u) (VEntity v) = tt
 in_bool store (VEntity u) (VSet vs) = if_bool (all_values is_some_entity vs) (any_value (is_in_entity store u) vs)
 in_bool store v w = tt
 
--- ---- a value, of values of the expected types
+-- ---- the outcome is a value, for values of the expected types
 
--- the members of a set that is expected are entities
+-- the members of a set of the expected type are entities
 member_type : (t : Ty) → accepts ancestor_types (TSet t) ≡ true → accepts entity_types t ≡ true
 member_type TNever a = refl
 member_type (TEntity ps) a = refl
@@ -69,9 +69,9 @@ module _ (store : Store) where
       → IsSafe (value_in store v w)
   in_safe s t v w a b h k = of_entity_safe t v w (entity_value s v a h) b k
 
--- ---- False, where the schema denies it of the types
+-- ---- the outcome is False, if the schema denies it of the types
 
--- an entity of one of the types, if they are known
+-- the entity is of one of the types, if they are known
 abbrev IsOfTypes : Option (List Path) → Value → Type 0
 IsOfTypes None v = Unit {0}
 IsOfTypes (Some ps) v = OnEntity (λ u. IsTrue (is_among ps u.entity_type)) v
@@ -80,7 +80,7 @@ IsOfTypes (Some ps) v = OnEntity (λ u. IsTrue (is_among ps u.entity_type)) v
 abbrev NoneAmong : Store → Uid → List Path → Type 0
 NoneAmong store u qs = (v : Uid) → is_among qs v.entity_type ≡ true → is_in store u v ≡ false
 
--- of types, if they are known: what is in none of them is not in the value
+-- an entity that is in no entity of the types is not in the value, if the types are known
 abbrev AreOfTypes : Option (List Path) → Value → Type 0
 AreOfTypes None w = Unit {0}
 AreOfTypes (Some qs) w = (store : Store) (u : Uid) → NoneAmong store u qs → HasFound (Some (TBool False)) (entity_in store u w)

@@ -22,7 +22,7 @@ use Rattle.cedar_typing.specs.TypeTests.{accepts, object_types, is_record}
 use Rattle.cedar_typing.proofs.Basics.{or_cases, or_left, or_right}
 use Rattle.cedar_typing.proofs.Bounds.Attributes.{AttrAt, found_at, named_found, key_named, Joins, types_at}
 
--- ---- what may be an object
+-- ---- values that may be objects
 
 abbrev IsObject : Value → Type 0
 IsObject (VBool b) = ⊥
@@ -48,7 +48,7 @@ object_of TAnyEntity (VEntity u) a h = tt
 object_of TAnyEntity v a h = absurd h
 object_of (TExtension n) v a h = cc
 
--- a value, and a required attribute is there
+-- the outcome is a value of the attribute's type, and a required attribute is there
 abbrev pub GetFits : Option (Ty × Bool) → Outcome → Type 0
 GetFits None o = Unit {0}
 GetFits (Some a) o = OnValue (HasType a.0) o × (a.1 ≡ true → IsSafe o)
@@ -82,7 +82,7 @@ module _ (s : Schema) (x : Text) where
       let f : is_some (entry_at x es) ≡ false = ap (λ fs. is_some (entry_at x fs)) e in
       cc
 
-  -- what an entity has, its type may have
+  -- an attribute that an entity has is one that its type may have
   kind_may : (k : TypeKind) (b c : Bool) (p : Path) (e : Entity) → FitsKind s.types p k e
       → is_some (entry_at x e.attributes) ≡ true
       → is_external (Some (record { name = p; descendants = []; kind = k })) ≡ c
@@ -116,7 +116,8 @@ module _ (s : Schema) (x : Text) where
         (types_at s x ps u.entity_type (entry_at x y.attributes) j m
         (declaration_at (type_named s.types u.entity_type) u y (conforms.entities u y e)))
 
-    -- the attribute has its type, and a required one is there; an entity may be missing
+    -- the attribute has its type, and a required attribute is there, though the entity may be
+    -- missing
     pub got : (b : Ty) (v : Value) → Joins s b → HasType b v → GetFits (attribute_type s b x) (get store x v)
     got TNever v j h = tt
     got (TBool k) v j h = tt
@@ -135,7 +136,7 @@ module _ (s : Schema) (x : Text) where
         → OnValue (HasType t) (get store x v)
     get_typed b t r v j h e = (subst (λ f. GetFits f (get store x v)) e (got b v j h)).0
 
-    -- an attribute that is there is got
+    -- an attribute that is there has a value
     value_safe : (o : Option Value) → is_some o ≡ true → IsSafe (attribute_value o)
     value_safe None h = cc
     value_safe (Some v) h = tt
@@ -169,7 +170,7 @@ module _ (s : Schema) (x : Text) where
     required_has (TRecord xs o) t v i h e = absurd h
     required_has b t v i h e = cc
 
-    -- `has` says something of a record or an entity
+    -- `has` on a record or an entity is true or false
     object_says : (v : Value) → IsObject v → (c : Bool) × (has_test store x v ≡ Says c)
     object_says (VRecord es) h = (is_some (entry_at x es), refl)
     object_says (VEntity u) h = (entity_has (entity_at store u) x, refl)
@@ -191,7 +192,7 @@ module _ (s : Schema) (x : Text) where
     object_not_wrong (VEntity u) h e = entity_not_wrong (entity_at store u) e
     object_not_wrong v h e = absurd h
 
-    -- `.` of a record or an entity fails for no wrong kind
+    -- `.` on a record or an entity does not fail for a wrong kind
     pub get_not_wrong : (b : Ty) (v : Value) → accepts object_types b ≡ true → HasType b v → get store x v ≡ Fails TypeFailure → ⊥
     get_not_wrong b v a h e = object_not_wrong v (object_of b v a h) e
 
@@ -208,7 +209,7 @@ module _ (s : Schema) (x : Text) where
     record_may xs true es h e = or_right (is_some (find_attr x xs)) true refl
     record_may xs false es h e = or_left (is_some (find_attr x xs)) false (named_found x xs (key_named x (attr_names xs) es h.1 e))
 
-    -- what a value has, its type may have
+    -- an attribute that a value has is one that its type may have
     pub has_may : (b : Ty) (v : Value) → HasType b v → SaysTrue (has_test store x v) → may_have s b x ≡ true
     has_may (TRecord xs o) (VRecord es) h e = record_may xs o es h e
     has_may (TEntity ps) (VEntity u) h e = entity_may ps u (entity_at store u) refl h e

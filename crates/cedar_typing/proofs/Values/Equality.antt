@@ -1,4 +1,4 @@
--- What it is for two sets and for two records to be equal.
+-- Equality of two sets and of two records.
 use Rattle.std.proofs.Common.{◌≡◌, refl, sym, ap, ◌∙◌, subst, ◌⊎◌, inl, inr, Bool, true, false, ◌&&◌, ◌||◌, List, [], ◌∷◌, map, Option}
 use Rattle.std.proofs.Common.{Some, None, true≢false}
 use Rattle.std.specs.Prelude.{if◌then◌else◌}
@@ -28,7 +28,7 @@ member_has P no_values h v m = absurd m
 member_has P (more_values w vs) h v (inl e) = subst P (sym e) h.0
 member_has P (more_values w vs) h v (inr m) = member_has P vs h.1 v m
 
--- a member that passes
+-- a member that passes the test
 pub record Passing (p : Value → Bool) (ws : Values) : Type 0 where
   pub it : Value
   pub among : Member it ws
@@ -96,7 +96,7 @@ sets_from vs ws s =
 
 -- ---- records
 
--- what `agree` says of the values at a key
+-- the result of `agree` for the values at a key
 abbrev pub agree_values : Option Value → Option Value → Bool
 agree_values None None = true
 agree_values None (Some w) = false
@@ -125,7 +125,7 @@ tests_keys : (es : Entries) → map (λ t. t.0) (entries_tests es) ≡ entry_key
 tests_keys no_entries = refl
 tests_keys (more_entries k v es) = ap (λ ks. k ∷ ks) (tests_keys es)
 
--- what all keys pass, a key passes at which there is a value
+-- a test that all keys pass is passed by a key at which there is a value
 at_key_if : (P : Text → Bool) (k l : Text) (v : Value) (o : Option Value) (b : Bool) → text_eq k l ≡ b → P l ≡ true
     → (o ≡ None) ⊎ (P k ≡ true) → ((if b then Some v else o) ≡ None) ⊎ (P k ≡ true)
 at_key_if P k l v o true e h r = inr (subst (λ x. P x ≡ true) (sym (text_same.to k l e)) h)
@@ -141,7 +141,7 @@ all_pass : (P : Text → Bool) (ks : List Text) → ((k : Text) → P k ≡ true
 all_pass P [] f = refl
 all_pass P (k ∷ ks) f = and_both (P k) (list_all P ks) (f k) (all_pass P ks f)
 
--- at each key, equal values or none
+-- at each key both records have equal values, or no value
 pub record SameRecords (es fs : Entries) : Type 0 where
   pub at_each : (k : Text) → agree_values (entry_at k es) (entry_at k fs) ≡ true
 
@@ -166,7 +166,7 @@ records_from es fs s =
     let f : (k : Text) → P k ≡ true = λ k. agree_is k es (entry_at k fs) ∙ s.at_each k in
     and_both (list_all P (map (λ t. t.0) (entries_tests es))) (list_all P (entry_keys fs)) (all_pass P _ f) (all_pass P _ f)
 
--- the value at a key, if there is one, has what all values have
+-- the value at a key, if there is one, has each property of all values
 abbrev pub OnSome : (Value → Type 0) → Option Value → Type 0
 OnSome P None = Unit {0}
 OnSome P (Some v) = P v

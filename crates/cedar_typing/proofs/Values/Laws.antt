@@ -8,9 +8,9 @@ use Rattle.cedar_typing.specs.Evaluation.Equality.{same_value}
 use Rattle.cedar_typing.specs.Evaluation.Equality.{EqualityIsAnEquivalence, EqualityHasNoOrder}
 use Rattle.cedar_typing.proofs.Values.Equality.{member_has, sets_to, sets_from, agree_values, records_to, records_from, OnSome, entry_has}
 
--- ---- what holds of leaves, of sets of values that have it, and of records of such, holds of all values
+-- ---- a property of leaves, of sets of values that have it, and of records of such values, is one of all values
 
--- neither a set nor a record
+-- a leaf is neither a set nor a record
 abbrev IsLeaf : Value → Type 0
 IsLeaf (VSet vs) = ⊥
 IsLeaf (VRecord es) = ⊥
@@ -70,7 +70,7 @@ leaf_itself (VExtension n t) l = and_both (path_eq n n) (text_eq t t) (path_same
 itself : (v : Value) → Reflexive v
 itself = every Reflexive leaf_itself set_itself record_itself
 
--- ---- what equals a leaf is that leaf
+-- ---- a value that equals a leaf is that leaf
 
 leaf_is : (v : Value) → IsLeaf v → (w : Value) → same_value v w ≡ true → v ≡ w
 leaf_is (VBool a) l (VBool b) h = ap VBool (bool_same.to a b h)
@@ -84,7 +84,8 @@ leaf_is (VSet vs) l w h = absurd l
 leaf_is (VRecord es) l w h = absurd l
 leaf_is v l w h = absurd (true≢false (sym h))
 
--- what holds of each set that equals a set, or of each record that equals a record, holds of each value that does
+-- a property of each set that equals a set, or of each record that equals a record, is one of each value that
+-- equals it
 as_set : (vs : Values) (P : Value → Type 0) → ((ws : Values) → same_value (VSet vs) (VSet ws) ≡ true → P (VSet ws))
     → (w : Value) → same_value (VSet vs) w ≡ true → P w
 as_set vs P f (VSet ws) h = f ws h
@@ -100,7 +101,7 @@ as_record es P f w h = absurd (true≢false (sym h))
 abbrev Symmetric : Value → Type 0
 Symmetric v = (w : Value) → same_value v w ≡ true → same_value w v ≡ true
 
--- where equality is being the same
+-- values whose equality is identity
 by_being : (v : Value) → ((w : Value) → same_value v w ≡ true → v ≡ w) → Symmetric v
 by_being v f w h = subst (λ x. same_value x v ≡ true) (f w h) (itself v)
 

@@ -1,4 +1,4 @@
--- What is in what, in a store that conforms to a schema without faults.
+-- Membership of entities, in a store that conforms to a schema without faults.
 use Rattle.std.proofs.Common.{◌≡◌, Bool, true, false, ◌&&◌, ◌||◌, List, [], ◌∷◌, Option, Some, None, if◌then◌else◌, refl, sym, ◌∙◌, ap}
 use Rattle.std.proofs.Common.{subst}
 use Rattle.std.specs.List.{list_any, list_all}
@@ -30,7 +30,7 @@ unnamed (t ∷ ts) p n a = go (path_eq p t.name) refl (unnamed ts p (neither_rig
         cc
     go false e k = k
 
--- where no other action has the name of a, none of them is an ancestor of that name
+-- if no other action has the name of a, none of them has an ancestor by that name
 named_once : (a : DeclaredAction) (acts : List DeclaredAction) (u v : Uid) → v ≡ a.name → list_any (λ b. uid_eq a.name b.name) acts ≡ false
     → declares_ancestor acts u v ≡ false
 named_once a acts u v e n = go (declares_ancestor acts u v) refl
@@ -44,7 +44,7 @@ named_once a acts u v e n = go (declares_ancestor acts u v) refl
         let one : list_any (λ b. uid_eq a.name b.name) acts ≡ true = b.within.passes (λ b. uid_eq a.name b.name) same in
         cc
 
--- where no action is declared twice, the descendants of an action are those of each of its name
+-- if no action is declared twice, the descendants of an action are those by its name
 descends : (acts : List DeclaredAction) (u v : Uid) → repeats_action acts ≡ false
     → uid_is_among (descendants_of_action acts v) u ≡ declares_ancestor acts u v
 descends [] u v n = refl
@@ -66,7 +66,7 @@ first : (a b c d e : Bool) → a ≡ true → (a || b || c || d || e) ≡ true
 first a b c d e h = ap (λ a. a || b || c || d || e) h
 
 module _ (s : Schema) (faults : has_fault s ≡ false) where
-  -- what has a declared ancestor is declared
+  -- an entity with a declared ancestor is declared
   descendant_declared : (u v : Uid) → declares_ancestor s.actions u v ≡ true → declares_action s.actions u ≡ true
   descendant_declared u v k =
       let a = found (λ a. uid_eq v a.name && uid_is_among a.descendants u) s.actions k in
@@ -86,7 +86,7 @@ module _ (s : Schema) (faults : has_fault s ≡ false) where
       (each (λ a. is_action_path a.name.entity_type) s.actions a.element (faultless s faults).actions a.within)
 
   module _ (store : Store) (conforms : ConformingStore s store) where
-    -- what is not in the store has no declared ancestor
+    -- an entity that is not in the store has no declared ancestor
     absent : (u v : Uid) → entity_at store u ≡ None → declares_ancestor s.actions u v ≡ false
     absent u v n = go (declares_ancestor s.actions u v) refl
       where
@@ -107,7 +107,7 @@ module _ (s : Schema) (faults : has_fault s ≡ false) where
             let fits : FitsDeclaration s u None e = subst (λ d. FitsDeclaration s u d e) none (conforms.entities u e k) in
             fits.1.ancestors v
 
-    -- an action is in another that it is, or of which it is a declared descendant
+    -- an action is in another if it is that action, or a declared descendant of it
     in_action : (u v : Uid) → is_action u ≡ true → is_in store u v ≡ (uid_eq u v || uid_is_among (descendants_of_action s.actions v) u)
     in_action u v a = ap (λ b. uid_eq u v || b) (stored u v a ∙ sym (descends s.actions u v (faultless s faults).actions_apart))
 
@@ -125,7 +125,8 @@ module _ (s : Schema) (faults : has_fault s ≡ false) where
             (λ e. other (subst (λ w. is_action w ≡ true) (uid_same.to u v e) a))
             (λ e. other (ancestor_acts u v (sym (stored u v a) ∙ e))) k
 
-    -- so an action is in some entities where the declarations say so of the actions among them
+    -- so an action is in some entities exactly if the declarations have it among the actions of
+    -- these
     pub in_actions : (u : Uid) → is_action u ≡ true → (vs : List Uid)
         → list_any (is_in store u) vs ≡ is_action_in s.actions u (only_actions vs)
     in_actions u a [] = refl
@@ -144,7 +145,7 @@ module _ (s : Schema) (faults : has_fault s ≡ false) where
     allowed u v None e h = cc
     allowed u v (Some x) e h = memberships_allowed s faults store conforms u v (x, e, h)
 
-    -- what an entity is in, its type may be in
+    -- if an entity is in another, its type may be in the other's type
     in_allowed : (u v : Uid) → is_in store u v ≡ true → may_be_in s u.entity_type v.entity_type ≡ true
     in_allowed u v h =
         let l = u.entity_type in
@@ -156,7 +157,7 @@ module _ (s : Schema) (faults : has_fault s ≡ false) where
         (subst (λ (w : Uid). path_eq l w.entity_type ≡ true) (uid_same.to u v e) (path_same.itself l)))
         (allowed u v (entity_at store u) refl) h
 
-    -- no entity is in one where the schema denies it of their types
+    -- no entity is in another if the schema denies it of their types
     pub in_denied : (ps qs : List Path) → any_may_be_in s ps qs ≡ false → (u v : Uid)
         → is_among ps u.entity_type ≡ true → is_among qs v.entity_type ≡ true → is_in store u v ≡ false
     in_denied ps qs n u v h k = go (is_in store u v) refl

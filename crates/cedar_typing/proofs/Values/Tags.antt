@@ -18,11 +18,11 @@ use Rattle.cedar_typing.proofs.Bounds.Lists.{in_order_has}
 use Rattle.cedar_typing.proofs.Basics.Members.{in_flat, found_in, none_passes, name_in}
 use Rattle.cedar_typing.proofs.Values.Equality.{OnSome, entry_has}
 
--- it has one of the types
+-- the value has one of the types
 abbrev pub HasOneOf : List Ty → Value → Type 0
 HasOneOf ts v = (t : Ty) × IsOneOf t ts × HasType t v
 
--- ---- what is declared
+-- ---- declared tags
 
 none_external : (s : Schema) → has_external s ≡ false → (p : Path) → is_external (type_named s.types p) ≡ false
 none_external s closed p = by (type_named s.types p) refl
@@ -52,7 +52,7 @@ module _ (s : Schema) (x : Text) (v : Value) where
   declared_tag None u e n h f = absurd (none_there e.tags h.1.tags f)
   declared_tag (Some d) u e n h f = kind_tag d.kind u.entity_type e n h f
 
--- ---- what a type may have
+-- ---- tags that a type may have
 
 module _ (s : Schema) (t : Ty) where
   named_tag : (p : Path) (o : Option DeclaredType) → type_named s.types p ≡ o → IsOneOf t (declared_tags o)
@@ -63,7 +63,7 @@ module _ (s : Schema) (t : Ty) where
       (in_flat (λ (d : DeclaredType). kind_tags d.kind) t d s.types
       (found_in (λ d. path_eq p d.name) s.types d e) h)
 
-  -- what the type of an entity declares, a type of that entity may have
+  -- a tag type that the type of an entity declares is one that a type of that entity may have
   tag_in : (b : Ty) (u : Uid) → HasType b (VEntity u) → IsOneOf t (declared_tags (type_named s.types u.entity_type))
       → IsOneOf t (tag_types s b)
   tag_in (TEntity ps) u h k =
@@ -72,7 +72,7 @@ module _ (s : Schema) (t : Ty) where
   tag_in TAnyEntity u h k = named_tag u.entity_type (type_named s.types u.entity_type) refl k
   tag_in b u h k = absurd h
 
--- ---- what is stored
+-- ---- stored tags
 
 module _ (s : Schema) (closed : has_external s ≡ false) (store : Store) (conforms : ConformingStore s store) (b : Ty) where
   stored_tag : (u : Uid) (e : Entity) (x : Text) (v : Value) → HasType b (VEntity u) → entity_at store u ≡ Some e
@@ -83,7 +83,7 @@ module _ (s : Schema) (closed : has_external s ≡ false) (store : Store) (confo
       let d = declared_tag s x v declaration u e (none_external s closed u.entity_type) (conforms.entities u e q) f in
       (d.0, tag_in s d.0 b u h d.1, d.2)
 
-  -- a tag that is got has one of the types
+  -- a tag that is read has one of the types
   pub tag_got : (v w : Value) → HasType b v → OnValue (HasOneOf (tag_types s b)) (get_tag store v w)
   tag_got (VEntity u) (VString x) h = of_entity (entity_at store u) refl
     where
@@ -98,7 +98,7 @@ module _ (s : Schema) (closed : has_external s ≡ false) (store : Store) (confo
   tag_got (VEntity u) w h = tt
   tag_got v w h = tt
 
-  -- where there is no type that a tag may have, there is no tag
+  -- if there is no type that a tag may have, there is no tag
   pub no_tag : tag_types s b ≡ [] → (v w : Value) → HasType b v → OnValue (HasType (TBool False)) (of_test (has_tag store v w))
   no_tag none (VEntity u) (VString x) h = of_entity (entity_at store u) refl
     where

@@ -24,7 +24,7 @@ mark_of-with_mark d (is_type m a n) = refl
 mark_of-with_mark d (set_of m ts) = refl
 mark_of-with_mark d (record_of m fs) = refl
 
--- the type at the root stays where only the place changes
+-- the type at the root stays if only the place changes
 pub annotation-at_place : (l : Option Loc) (e : TypedTree) → annotation (at_place l e) ≡ annotation e
 annotation-at_place l e = ap (λ (k : Mark). k.ty) (mark_of-with_mark _ e)
 
