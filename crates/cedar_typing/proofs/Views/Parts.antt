@@ -1,4 +1,4 @@
--- What an answer hands on, as plain data, and the answers of literals.
+-- The part that an answer hands on, as plain data, and the answers of literals.
 use Rattle.std.proofs.Common.{◌≡◌, refl, ap, sym, ◌∙◌, Bool, List, [], ◌∷◌, ◌++◌, Option, Some, None, option_map}
 use Rattle.std.specs.Prelude.{is_some}
 use Rattle.cedar_types.specs.declared.base.location.Loc.{Loc}
@@ -21,7 +21,7 @@ use Rattle.cedar_typing.specs.TypedExpr.{typed_tree}
 use Rattle.cedar_typing.specs.Views.{answer_of, part_of, findings, at}
 use Rattle.cedar_typing.proofs.Views.Typed.{by_layer, annotation_is}
 
--- an operand by the part that is handed on
+-- the result of an operand, from the part that is handed on
 pub part_is_expected : (env : TypeEnv) (ts : List Ty) (l : Option Loc) (a : TypecheckAnswer) (o : Option part.Part)
     (p : part.Part) (es : List Finding) → option_map part_of o ≡ part_from (answer_of a) → o ≡ Some p
     → expect_part env ts l (part_from (answer_of a)) es ≡ expect_type env ts l (part_of p) es (option_map ty_of p.typed.value.annotation)

@@ -3,7 +3,7 @@ use Rattle.std.specs.HashSet.{spare}
 use Rattle.std.specs.Set.{IsUnion}
 use Rattle.cedar_typing.proofs.typecheck.sets.put_all.Given as goal
 
--- there is room for what is left
+-- the set has room for the members that are left
 abbrev pub invariant-loop-x : goal.invariant-loop-x
 invariant-loop-x g l =
     (length l.fn.found.keys ≤ spare l.set + length l.yielded)

@@ -7,7 +7,7 @@ use Rattle.cedar_typing.specs.declared.typecheck.answer.TypecheckAnswer.{Typeche
 use Rattle.cedar_typing.specs.declared.typecheck.answer.TypecheckAnswer.TheVariants.{TypecheckFail}
 use Rattle.cedar_typing.proofs.typecheck.answer.TypecheckAnswer.then_typecheck.Goals as goal
 
--- a failure is followed by an answer that is made a failure
+-- the answer that follows a failure is made a failure
 follows : (e : TypedExpr) (gives : TypedExpr → CapabilitySet → Answered → Type 0) (a : TypecheckAnswer) (r answered : Answered)
     (set : CapabilitySet) → a ≡ TypecheckFail e → HasNone (caps set) → gives e set answered → r ≡ ok_map failed answered
     → ThenTypechecks a gives r

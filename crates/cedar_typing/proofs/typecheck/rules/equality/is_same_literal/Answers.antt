@@ -6,7 +6,7 @@ use Rattle.cedar_types.specs.Expressions.TreeEq.{lit_eq}
 use Rattle.cedar_types.specs.Expressions.View.{lit_of}
 use Rattle.cedar_typing.proofs.typecheck.rules.equality.is_same_literal.Goals as goal
 
--- the derived `==` of literals is that of plain ones
+-- the derived `==` of literals is the equality of their views
 same : (x y : Literal) → derived.ghosts.eq x y ≡ lit_eq (lit_of x) (lit_of y)
 same (Literal.Bool a) (Literal.Bool b) = refl
 same (Literal.Long a) (Literal.Long b) = refl

@@ -39,7 +39,7 @@ decreases-type_call g l = 5 * (401 - l.depth) + 2
 abbrev pub decreases-type_set : goal.decreases-type_set
 decreases-type_set g l = 5 * (401 - l.depth) + 2
 
--- the operands so far, before what those that are left result in, are what all result in
+-- the result of the operands so far, and of those that are left, is that of all
 abbrev pub invariant-type_operands-loop-operand : goal.invariant-type_operands-loop-operand
 invariant-type_operands-loop-operand g l =
     let s = setting_at g.C.ArgumentCheck.refusal l.self in
@@ -55,7 +55,7 @@ decreases-type_record g l = 5 * (401 - l.depth) + 2
 abbrev pub decreases-type_fields : goal.decreases-type_fields
 decreases-type_fields g l = 5 * (401 - l.depth) + 1
 
--- what the fields to come make of those so far is what all make
+-- the result of the fields so far, and of those to come, is that of all
 abbrev pub invariant-type_fields-loop-key : goal.invariant-type_fields-loop-key
 invariant-type_fields-loop-key g l =
     let s = setting_at g.C.ArgumentCheck.refusal l.self in

@@ -16,7 +16,7 @@ use Rattle.cedar_typing.specs.Views.Settings.{setting_at}
 use Rattle.cedar_typing.specs.Views.{findings, at}
 use Rattle.cedar_typing.proofs.typecheck.single_env.SingleEnvTypechecker.check_condition.Goals as goal
 
--- what is made of the part that is inferred of a condition with a rest
+-- the output for the part that is inferred from a condition with a rest
 seen : {A : Type 0} (out : PartAndErrors → A) (s : Setting) (l : Option Loc) (a b : Source) (known : Caps) (es : List Finding)
     (o : AnswerAndErrors) (p : PartAndErrors) (rest : Option Source) (x : A) → x ≡ out p → known ≡ no_caps → es ≡ []
     → infer s (and (at l) a b) known 1 es ≡ o → expect s.env bool_types l o ≡ p → rest ≡ Some b

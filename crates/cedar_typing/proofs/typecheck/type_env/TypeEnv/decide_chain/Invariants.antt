@@ -7,7 +7,7 @@ use Rattle.cedar_typing.specs.Rules.Chains.{chain, chain_table}
 use Rattle.cedar_typing.specs.Views.{env_at, progress_of}
 use Rattle.cedar_typing.proofs.typecheck.type_env.TypeEnv.decide_chain.Given as goal
 
--- the steps that are left come to what all of them come to
+-- the decision from the steps that are left is that from all steps
 abbrev pub invariant-loop-next : goal.invariant-loop-next
 invariant-loop-next l =
     chain (env_at l.self) l.place l.loc (known_in l.prior) (steps_left l.at)

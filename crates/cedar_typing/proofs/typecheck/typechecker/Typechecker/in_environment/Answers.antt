@@ -7,7 +7,7 @@ use Rattle.cedar_typing.specs.Views.ExpressionChecks.{setting_by}
 use Rattle.cedar_typing.specs.Setting.{Setting}
 use Rattle.cedar_typing.proofs.typecheck.typechecker.Typechecker.in_environment.Goals as goal
 
--- the same where these types are compared
+-- the setting with these comparable extension types
 abbrev comparing : Setting → List Path → Setting
 comparing s ps = record s { env = record (s.env) { overloaded_types = ps } }
 

@@ -11,7 +11,7 @@ use Rattle.cedar_typing.specs.PolicyCheck.Outcome.{VerdictsOf}
 use Rattle.cedar_typing.specs.Views.Policies.{IsTally}
 use Rattle.cedar_typing.proofs.typecheck.typechecker.Typechecker.tally.Given as goal
 
--- the tally is that of some environments, and with those that are left they are all
+-- the tally has the verdicts of some environments, which are all with those that are left
 abbrev pub invariant-loop-item : goal.invariant-loop-item
 invariant-loop-item g l =
     let all : List Env = checked_envs (schema_of (schema_by l.fn.self).now) (mode_by l.fn.self) (template_of l.fn.t) in

@@ -9,7 +9,7 @@ use Rattle.cedar_typing.proofs.Policies.Check.{checked}
 use Rattle.cedar_typing.proofs.Policies.Trees.{has_typed_condition}
 use Rattle.cedar_typing.proofs.typecheck.typechecker.Typechecker.typecheck_condition.Goals as goal
 
--- what is so of every condition of a setting is so of the template's, of which the check is given the parts
+-- a statement on every condition of a setting holds of the template's, of which the check gets the parts
 of_parts : {A : Type 0} (P : Setting → Source → A → Type 0) (of : Setting → Source → A) → ((s : Setting) (e : Source) → P s e (of s e))
     → (s s' : Setting) (t : PlainTemplate) (scope : Source) (seen : A) → seen ≡ of s' (with_rest t.place scope t.rest) → s' ≡ s
     → scope ≡ scope_condition t → P s (condition_of t) seen
