@@ -40,8 +40,8 @@ module _ (env : TypeEnv) (m : Written) (l : Option Loc)
     if_false : {t : Ty} {c c' : Caps} {a e : TypedTree}
         → A.derives (TBool False) c a → E.derives t c' e
         → IfRule t c' (if_then_else (typed t m) a e e)
-    -- else both are typed, and the type is their bound. The whole produces only what e produces and a and
-    -- b produce too, because either branch may have run
+    -- else both are typed, and the type is their bound. The whole produces only the capabilities of e
+    -- that a and b together produce too, because either branch may have run
     if_open : {s t u v : Ty} {c c' c'' : Caps} {a b e : TypedTree}
         → A.derives s c a → accepts bool_types s ≡ true → is_true s ≡ false → is_false s ≡ false
         → (B (union prior c)).derives t c' b → E.derives u c'' e → lub env.mode t u ≡ Some v
