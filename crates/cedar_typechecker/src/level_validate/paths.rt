@@ -9,9 +9,9 @@ use std::rc::RcStr;
 /// no memory.
 #[derive(Clone, Copy)]
 pub(crate) enum Path<'p> {
-    /// These keys.
+    /// A list of keys.
     Keys(&'p [RcStr]),
-    /// This key, and then those of the other path.
+    /// A key, and then those of another path.
     Then(&'p RcStr, &'p Path<'p>),
 }
 

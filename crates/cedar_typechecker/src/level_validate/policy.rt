@@ -27,12 +27,12 @@ impl<C: ArgumentCheck> Validator<'_, C> {
     /// is impossible: irrelevant in each environment. Each environment is typed once, and one typed condition is held at a
     /// time.
     ///
-    /// In Strict and in Permissive no error means that the policy passes and needs no more of a store than `max_deref_level`
-    /// steps reach (clauses `silent` and `silent_in_permissive`): evaluating it gives a boolean, or fails only for a missing
-    /// entity, an overflow or an extension function; and over each part of the store that has at least the slice of
-    /// `max_deref_level` steps, it evaluates exactly as over the whole. A policy that is warned to be impossible is never
-    /// true, with errors or without (clauses `never_true` and `never_true_in_permissive`). The premises of all this are in
-    /// docs/THEOREMS.md, "The premises".
+    /// In Strict and in Permissive, if no part is nested too deep, no error means that the policy passes and needs no more
+    /// of a store than `max_deref_level` steps reach (clauses `silent` and `silent_in_permissive`): evaluating it gives a
+    /// boolean, or fails only for a missing entity, an overflow or an extension function; and over each part of the store
+    /// that has at least the slice of `max_deref_level` steps, it evaluates exactly as over the whole. A policy that is
+    /// warned to be impossible is never true, with errors or without (clauses `never_true` and `never_true_in_permissive`).
+    /// The premises of all this are in docs/THEOREMS.md, "The premises".
     ///
     /// If a part is nested too deep the check fails, perhaps without an error, so you must not take a policy without errors
     /// for one that passes: `typecheck_policy` answers `true` of no such policy. Where memory is refused, the answer is an

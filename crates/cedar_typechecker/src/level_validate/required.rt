@@ -13,10 +13,10 @@ impl<C: ArgumentCheck> Validator<'_, C> {
     /// loaded one after another. `None` if no level is enough, for example because the policy dereferences an entity literal or a
     /// slot.
     ///
-    /// So `validate_policy_with_level` finds no level error at n or above, and finds one below (`laws::required_levels`).
-    /// Environments whose check fails are left out, because they have no typed condition: a policy that fails in each requires 0.
-    /// If you ask more of a policy than this, survey it once (`survey`) and take all from the survey. Where memory is refused, the
-    /// answer is an `AllocError`, and nothing has changed.
+    /// If the answer is n, `validate_policy_with_level` finds no level error at n or above, and finds one below
+    /// (`laws::required_levels`). Environments whose check fails are left out, because they have no typed condition: a policy that
+    /// fails in each requires 0. If you ask more of a policy than this, survey it once (`survey`) and take all from the survey.
+    /// Where memory is refused, the answer is an `AllocError`, and nothing has changed.
     pub fn required_level(
         &self,
         alloc: Global,

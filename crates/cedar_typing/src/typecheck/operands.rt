@@ -36,7 +36,7 @@ pub(crate) enum Expected<'t> {
     Ancestor,
     /// A record or an entity.
     Object,
-    /// This type.
+    /// This one type, for example that of an argument.
     Exactly(&'t CedarType),
 }
 

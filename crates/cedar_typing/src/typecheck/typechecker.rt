@@ -70,9 +70,9 @@ impl<'a, C: ArgumentCheck> Typechecker<'a, C> {
     /// that evaluation gives a boolean or fails only for a missing entity, an overflow or an extension function, and an
     /// irrelevant condition is never true. Nothing is promised of another environment, nor in Partial.
     ///
-    /// There (clauses `same` and `same_in_permissive`) the typed condition of a success and of an irrelevant check evaluates
-    /// exactly as the condition does, to its value or its failure, even if slots that are linked to no type are not bound. So a
-    /// host may go on with the typed condition, from which typing dropped the parts that are never evaluated.
+    /// On these premises, and even if slots that are linked to no type are not bound (clauses `same` and `same_in_permissive`),
+    /// the typed condition of a success and of an irrelevant check evaluates exactly as the condition does, to its value or its
+    /// failure. So a host may go on with the typed condition, from which typing dropped the parts that are never evaluated.
     ///
     /// This check does not look for types and actions that the policy names and the schema does not know, nor for unknown ids
     /// of enumerated types, because some of them stand in parts that typing does not visit. You must run the passes over names

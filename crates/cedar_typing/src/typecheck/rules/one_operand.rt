@@ -173,7 +173,8 @@ impl<C: ArgumentCheck> SingleEnvTypechecker<'_, '_, '_, '_, C> {
 impl TypeEnv<'_, '_, '_, '_> {
     /// The answer for a form with one operand, at `loc`, from the typed operand.
     ///
-    /// It is never inlined, because two functions of the recursion call it, and its locals would enlarge both of their frames.
+    /// This function is never inlined, because two functions of the recursion call it, and its locals would enlarge both of their
+    /// frames.
     #[inline(never)]
     fn one_answer<'a>(
         &self,
