@@ -47,6 +47,7 @@ pub(crate) fn chain_cost(
     let mut cost = root_cost(root);
     let mut reached = root.clone()?;
     let mut attr = first;
+    // the last attribute is only tested to be there, so its own entry does not count
     for next in rest {
         let found = CedarType::lookup_attribute_type(alloc, schema, &reached, attr)?;
         let Some(found) = found else {
@@ -63,6 +64,7 @@ fn root_cost(ty: &CedarType) -> u64
     ensures { result ≡ root_cost (ty_of ty.now) }
 {
     match ty {
+        // the attributes of an entity, of any type too, are in its entry
         CedarType::Entity(_) => 1,
         CedarType::Record {
             attributes: _attributes,

@@ -54,12 +54,14 @@ impl LevelWalk<'_> {
                 Ok(first.max(second))
             }
             ExprKind::GetAttr(base, attr) => self.access_target(e.loc, base, attr, path, found),
+            // `getTag` dereferences its left operand, and the name of the tag is evaluated too
             ExprKind::BinaryApp(op, left, right) if is_get_tag(*op) => {
                 let level = self.target_level(left, path, found)?;
                 self.check(right, found)?;
                 Ok(level.saturating_add(1))
             }
             ExprKind::Record(fields) => self.record_target(e.loc, fields, path, found),
+            // no other form of a typed condition has an entity as its value, so it is an internal error here
             ExprKind::Unknown(_)
             | ExprKind::And(_, _)
             | ExprKind::Or(_, _)

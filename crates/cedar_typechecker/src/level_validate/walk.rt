@@ -168,6 +168,7 @@ impl LevelWalk<'_> {
             ≡ demands_of found.new.items) }
     {
         match base_of(base) {
+            // both `.` and `has` look up the entry of the entity
             Base::Entity => self.check_reach(loc, base, Path::Keys(&[]), 1, found),
             Base::Record => self.check(base, found),
             Base::Other => self.demand(loc, Need::Rule, found),
@@ -218,12 +219,14 @@ impl LevelWalk<'_> {
             ≡ demands_of found.new.items) }
     {
         let kind = base_of_type(ty);
+        // a chain of several attributes on any other value is an error of typing, so only the base is walked
         if let Base::Other = kind {
             return self.check(base, found);
         }
         let rest = chain.rest.as_slice();
         let cost = chain_cost(self.alloc, self.schema, ty, &chain.first, rest)?;
         self.demand(loc, Need::Level(cost), found)?;
+        // at a maximum below the cost, the error of the cost stands for all that is found below
         let below = self.hidden_until(cost);
         if let Base::Entity = kind {
             return below.check_reach(loc, base, Path::Keys(&[]), cost, found);

@@ -89,6 +89,7 @@ fn application(
     if has_fitting(applications, principals.as_slice(), resources.as_slice()) {
         return Ok(Ok(()));
     }
+    // the flags are asked only here, because a scope that fits needs no hint
     let would_in_fix_principal = in_might_help(schema, Side::Principal, applications, principal);
     let would_in_fix_resource = in_might_help(schema, Side::Resource, applications, resource);
     let warning = warning(t, would_in_fix_principal, would_in_fix_resource)?;

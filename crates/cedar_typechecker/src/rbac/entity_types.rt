@@ -63,9 +63,11 @@ pub(crate) fn admitted_types<'b>(
         (map (λ t. type_of t.now) v.items)) }
 {
     match constraint {
+        // a slot may be bound to an entity of any type, so it admits as much as no constraint
         PrincipalOrResourceConstraint::Any => declared_types(schema, alloc),
         PrincipalOrResourceConstraint::Eq(EntityReference::Slot) => declared_types(schema, alloc),
         PrincipalOrResourceConstraint::In(EntityReference::Slot) => declared_types(schema, alloc),
+        // the type need not be known, because the passes over names report an unknown one
         PrincipalOrResourceConstraint::Eq(EntityReference::EUID(uid)) => {
             only_if(alloc, true, &uid.entity_type)
         }

@@ -36,6 +36,7 @@ pub(crate) fn in_might_help(
 {
     match equal_type(constraint) {
         Some(named) => {
+            // if an application lists the type itself, `==` is not the reason that none fits
             !list_type(side, applications, named) && list_below(schema, side, applications, named)
         }
         None => false,

@@ -171,6 +171,7 @@ impl LiteralErrors<'_> {
             (LiteralPass::EntityTypes, _) => self.type_error(mention.entity_type()),
             (LiteralPass::ActionIds, Some(uid)) => self.action_error(uid),
             (LiteralPass::EnumEntities, Some(uid)) => self.member_error(uid),
+            // a type that an `is` tests for comes without an id
             (_, None) => Ok(None),
         }
     }
@@ -241,6 +242,7 @@ fn excludes(kind: &ValidatorEntityTypeKind, uid: &EntityUID) -> bool
 {
     match kind {
         ValidatorEntityTypeKind::Enum(ids) => !ids.contains(&uid.eid),
+        // the schema does not list the ids of other types
         ValidatorEntityTypeKind::Standard(_) => false,
         ValidatorEntityTypeKind::External => false,
     }

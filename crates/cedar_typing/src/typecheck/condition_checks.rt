@@ -114,6 +114,7 @@ impl<C: ArgumentCheck> SingleEnvTypechecker<'_, '_, '_, '_, C> {
                 Ok(check_of(part, errors))
             }
             Some(rest) => {
+                // the condition is `scope && rest`, so the rest is not typed where the scope is False
                 let operands = Operands {
                     left: scope,
                     right: rest,
@@ -143,6 +144,7 @@ fn check_of(part: Option<Part<'_>>, errors: Vec<ValidationError>) -> ConditionCh
     let Some(part) = part else {
         return ConditionCheck::Fail(errors, None);
     };
+    // False is asked first, because a condition that has failed, but is False, never applies here
     if is_typed_false(&part.typed) {
         return ConditionCheck::Irrelevant(errors, Box::into_inner(part.typed));
     }

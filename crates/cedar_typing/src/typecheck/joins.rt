@@ -42,6 +42,7 @@ impl TypeEnv<'_, '_, '_, '_> {
         Ok(errors)
     }
 
+    /// The error of two types that have no bound in the mode.
     fn bound_errors(
         &self,
         loc: Option<Loc>,

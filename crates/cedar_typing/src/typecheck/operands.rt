@@ -166,6 +166,7 @@ impl TypeEnv<'_, '_, '_, '_> {
             ≡ (Some (part_of p), findings errors.new.items)) }
     {
         match &part.typed.annotation {
+            // a part without a type has failed already, so it has its error, or none on purpose
             None => Ok(part.as_failed(self.alloc)),
             Some(found) => {
                 if expected.accepts(self.alloc, found)? {

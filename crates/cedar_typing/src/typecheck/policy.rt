@@ -89,6 +89,7 @@ impl<'a, C: ArgumentCheck> Typechecker<'a, C> {
             all_pass: true,
             all_irrelevant: true,
         };
+        // each check is dropped before the next environment is typed, so that one typed condition is held at a time
         for item in self.typecheck_by_request_env(alloc, t)? {
             let (env, check) = item?;
             drop(env);
@@ -99,6 +100,7 @@ impl<'a, C: ArgumentCheck> Typechecker<'a, C> {
 }
 
 impl Tally {
+    /// Takes in the check of one more environment. A policy passes if each check is a success, or irrelevant without errors.
     fn take_in(&mut self, check: PolicyCheck) -> Result<(), AllocError>
         ensures { OnOk result ((vs : List Verdict) →
             IsTally self.old vs → IsTally self.new (verdict_of check ∷ vs)) }
@@ -116,6 +118,7 @@ impl Tally {
             }
             PolicyCheck::Fail(errors) => {
                 self.all_pass = false;
+                // a condition that has failed may be true, so the policy is not impossible
                 self.all_irrelevant = false;
                 insert_all(&mut self.errors, errors)?;
                 Ok(())

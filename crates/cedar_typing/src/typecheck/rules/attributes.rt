@@ -45,6 +45,7 @@ impl TypeEnv<'_, '_, '_, '_> {
             (known_in prior.now (attribute_of (written (expr_in base.old)) (text_of attr.now))) (option_map ty_of found.now)) }
         ensures kept { expr_in base.new ≡ expr_in base.old }
     {
+        // a base without a type has failed already, and the test is still a Boolean
         let Some(owner) = found else {
             return Ok(Decision::Gives(any_bool(), no_capabilities(self.alloc)));
         };
@@ -107,6 +108,7 @@ impl TypeEnv<'_, '_, '_, '_> {
             (known_in prior.now (attribute_of (written (expr_in base.old)) (text_of attr.now))) (option_map ty_of found.now)) }
         ensures kept { expr_in base.new ≡ expr_in base.old }
     {
+        // a base without a type has failed already, and does not tell the type of its attribute
         let Some(owner) = found else {
             return Ok(Decision::Refuses(None, Vec::new(self.alloc)));
         };
