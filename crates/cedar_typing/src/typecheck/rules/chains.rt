@@ -129,6 +129,7 @@ impl TypeEnv<'_, '_, '_, '_> {
             ≡ chain_table (env_at self.now) loc (known_in prior.now) (written base.now)
             (chain_of attrs.now).0 (chain_of attrs.now).1 (option_map ty_of found.now)) }
     {
+        // a base without a type has failed already, and the test is still a Boolean
         let Some(found) = found else {
             return Ok(Decision::Refuses(Some(any_bool()), Vec::new(self.alloc)));
         };
@@ -217,6 +218,7 @@ impl TypeEnv<'_, '_, '_, '_> {
     {
         match self.decide_access(place, attr, ty, is_known)? {
             Decision::Gives(ty, _capabilities) => Ok(Link::GoesOn(ty, progress)),
+            // the chain is a test, so it is a Boolean even if an access fails
             Decision::Refuses(_ty, errors) => {
                 Ok(Link::Ends(Decision::Refuses(Some(any_bool()), errors)))
             }

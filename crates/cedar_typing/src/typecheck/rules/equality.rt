@@ -115,6 +115,7 @@ fn compared_literals(one: &Option<Literal>, other: &Option<Literal>) -> CedarTyp
     }
 }
 
+/// Whether both sides have types, and these are disjoint.
 fn are_apart(left: Option<&CedarType>, right: Option<&CedarType>) -> bool
     ensures { result
         ≡ are_apart (option_map (λ t. ty_of t.now) left.entry)

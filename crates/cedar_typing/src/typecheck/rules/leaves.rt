@@ -61,6 +61,7 @@ impl TypeEnv<'_, '_, '_, '_> {
         Ok(answer)
     }
 
+    /// The type of a variable, if it has one.
     #[tactic(auto, using(crate::proofs::TypeTests::VariableTypes::is_kept, crate::proofs::TypeTests::VariableTypes::is_kept_if_any))]
     fn type_of_variable(&self, variable: Var) -> Result<Option<CedarType>, AllocError>
         ensures { IfOk result (λ o. option_map ty_of o ≡ variable_type (env_at self.now) variable) }
@@ -121,6 +122,7 @@ impl TypeEnv<'_, '_, '_, '_> {
         Ok(TypecheckAnswer::fail(typed))
     }
 
+    /// The type of a literal, if it has one.
     fn declared_type_of(&self, literal: &Literal) -> Result<Option<CedarType>, AllocError>
         ensures { IfOk result (λ o.
             option_map ty_of o
@@ -134,6 +136,7 @@ impl TypeEnv<'_, '_, '_, '_> {
         }
     }
 
+    /// The type of an entity literal. An action has one only if that very action is declared.
     fn entity_literal_type(&self, uid: &EntityUID) -> Result<Option<CedarType>, AllocError>
         ensures { IfOk result (λ o.
             option_map ty_of o
@@ -142,14 +145,18 @@ impl TypeEnv<'_, '_, '_, '_> {
         if let Some(known) = CedarType::euid_literal(self.alloc, uid, self.schema)? {
             return Ok(Some(known));
         }
+        // a Partial schema need not declare every type, so an unknown one is no mistake
         if self.mode == ValidationMode::Partial {
             let named = CedarType::entity_reference(self.alloc, &uid.entity_type, self.schema)?;
             return Ok(Some(named));
         }
+        // there is no error here, because the passes over names report the type or the action, once
+        // for all environments
         Ok(None)
     }
 }
 
+/// The type of a Boolean literal: True or False.
 pub(crate) fn bool_type(b: bool) -> CedarType
     ensures { ty_of result ≡ bool_ty b }
 {

@@ -17,7 +17,8 @@ use std::alloc::AllocError;
 use std::rc::Rc;
 
 impl TypeEnv<'_, '_, '_, '_> {
-    /// The decision on a comparison of operands at these places, by their types.
+    /// The decision on a comparison of operands at these places, by their types. No type is
+    /// expected beforehand, because the type of one side decides that of the other.
     pub(crate) fn decide_comparison<'a>(
         &self,
         left_loc: Option<Loc>,
@@ -29,6 +30,7 @@ impl TypeEnv<'_, '_, '_, '_> {
             ≡ compare_decides (env_at self.now) left_loc right_loc (option_map ty_of left.now)
             (option_map ty_of right.now)) }
     {
+        // a side without a type has failed already, so it adds no error
         let Some(left) = left else {
             return Ok(Decision::Refuses(Some(any_bool()), Vec::new(self.alloc)));
         };
@@ -53,6 +55,7 @@ impl TypeEnv<'_, '_, '_, '_> {
         if is_never_type(left) & is_never_type(right) {
             return Ok(Decision::Refuses(Some(any_bool()), Vec::new(self.alloc)));
         }
+        // Never is a subtype of every type, so it passes beside a comparable one
         if is_never_type(left) {
             let errors = self.beside_never(right_loc, right)?;
             return Ok(gives_unless(self.alloc, errors, any_bool()));

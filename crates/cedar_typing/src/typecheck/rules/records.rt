@@ -164,6 +164,7 @@ fn record_type(
 {
     let mut attrs = BTreeMap::new(alloc);
     for (key, value) in fields.iter() {
+        // a value without a type has failed already, so the record adds no error
         let Some(ty) = &value.annotation else {
             return Ok(None);
         };

@@ -53,6 +53,7 @@ impl<C: ArgumentCheck> SingleEnvTypechecker<'_, '_, '_, '_, C> {
             (known_in prior.now) depth (findings errors.old.items)
             ≡ (answer_of r, findings errors.new.items)) }
     {
+        // the original types all elements before it looks at any answer
         let typed = self.type_operands(prior, depth, true, &[], elements, errors)?;
         let answer = self.env.set_answer(loc, typed, errors)?;
         Ok(answer)
@@ -156,6 +157,7 @@ impl TypeEnv<'_, '_, '_, '_> {
             ≡ set_of_types (env_at self.now) loc
             (option_map (λ v. map (λ t. ty_of t.now) v.items) types.entry)) }
     {
+        // an element without a type has failed already, so the set adds no error
         let Some(types) = types else {
             return Ok(Decision::Refuses(None, Vec::new(self.alloc)));
         };

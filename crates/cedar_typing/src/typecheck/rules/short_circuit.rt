@@ -252,6 +252,7 @@ impl TypeEnv<'_, '_, '_, '_> {
                 let typed = node(self.alloc, loc, Some(ty), kind)?;
                 Ok(with_capabilities(succeeded, typed, produced))
             }
+            // a side without a type has failed already, and the whole is still a Boolean
             _ => {
                 let kind = connective.kind(left.typed, right.typed);
                 let typed = node(self.alloc, loc, Some(any_bool()), kind)?;

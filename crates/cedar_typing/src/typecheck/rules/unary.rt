@@ -37,7 +37,7 @@ fn not_type_of(found: &CedarType) -> CedarType
 
 /// The decision on `is` by the type of its operand: False if the entity type is none of the
 /// operand's, True if it is the only one, otherwise Bool. An operand of type Never makes it fail,
-/// without an error.
+/// without an error, because the original takes it for an operand that has its error already.
 pub(crate) fn decide_is<'a>(
     alloc: Global,
     entity_type: &EntityType,
