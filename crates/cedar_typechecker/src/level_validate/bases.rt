@@ -19,6 +19,7 @@ pub(crate) enum Base {
     Other,
 }
 
+/// The kind of a base of this type.
 pub(crate) fn base_of_type(ty: &CedarType) -> Base
     ensures { base_seen result ≡ base_of_type (ty_of ty.now) }
 {
@@ -39,6 +40,7 @@ pub(crate) fn base_of_type(ty: &CedarType) -> Base
     }
 }
 
+/// The kind of an expression as a base. Without a type it is neither an entity nor a record.
 #[tactic(auto, using(crate::proofs::Levels::TypedViews::annotation_is))]
 pub(crate) fn base_of(e: &Expr<Option<CedarType>>) -> Base
     ensures { base_seen result ≡ base_of (annotation (typed_tree e.now)) }
@@ -49,6 +51,7 @@ pub(crate) fn base_of(e: &Expr<Option<CedarType>>) -> Base
     }
 }
 
+/// Whether the type is True or False.
 fn is_constant_type(ty: &CedarType) -> bool
     ensures { result ≡ is_constant_type (ty_of ty.now) }
 {

@@ -17,8 +17,9 @@ pub fn larger_levels()
     ensures { LargerLevelsAreWithin }
 {}
 
-/// A policy that has a required level has no level error at that level and above it, and has one below; exactly there its
-/// validation with levels finds none. A policy requires one level, or none.
+/// A policy with a required level has no level error at that level and above, and has one at each level below; a policy without
+/// one has level errors at every level. Its validation with levels finds no level error at exactly the levels at which it has
+/// none. A policy requires one level, or none.
 pub fn required_levels()
     ensures within { WithinWhereReached }
     ensures silent { SilentWhereReached }

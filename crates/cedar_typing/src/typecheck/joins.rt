@@ -59,6 +59,7 @@ impl TypeEnv<'_, '_, '_, '_> {
         let bound = CedarType::least_upper_bound(self.alloc, one, other, self.mode)?;
         match bound {
             Some(ty) => {
+                // only the existence of the bound counts, not the bound
                 drop(ty);
                 Ok(errors)
             }
@@ -69,6 +70,7 @@ impl TypeEnv<'_, '_, '_, '_> {
         }
     }
 
+    /// The error that two types have no bound. It names them in ascending order, and their context.
     pub(crate) fn incompatible(
         &self,
         loc: Option<Loc>,
@@ -89,6 +91,7 @@ impl TypeEnv<'_, '_, '_, '_> {
         Ok(ValidationError::incompatible_types(loc, policy_id, types, context))
     }
 
+    /// Whether the mode is Strict, in which types that meet must agree.
     pub(crate) fn is_strict(&self) -> bool
         ensures { result ≡ is_strict (env_at self.now).mode }
     {

@@ -178,6 +178,8 @@ impl TypeEnv<'_, '_, '_, '_> {
         }
     }
 
+    /// The error at `loc` that a part has this type, and not an expected one. It names the expected types in ascending
+    /// order.
     pub(crate) fn unexpected(
         &self,
         expected: Expected<'_>,

@@ -23,6 +23,7 @@ pub(crate) struct VariableTypes {
 }
 
 impl VariableTypes {
+    /// The types of the variables in this request environment.
     #[tactic(auto, using(crate::proofs::TypeTests::VariableTypes::kept, crate::proofs::TypeTests::VariableTypes::kept_if_any, crate::proofs::TypeTests::VariableTypes::kept_principal, crate::proofs::TypeTests::VariableTypes::kept_resource))]
     pub(crate) fn of_environment(
         alloc: Global,

@@ -1,4 +1,4 @@
-// The rules of `!` and of `is`; the other unary forms always have one type.
+// The rules of `!` and of `is`. Negation, `isEmpty` and `like` always have one type.
 ghost use Rattle.std.specs.Prelude.{◌≡◌, option_map};
 ghost use Rattle.cedar_types.specs.Names.{type_of};
 ghost use Rattle.cedar_types.specs.Types.{ty_of, lub_of};
