@@ -91,7 +91,7 @@ pub data Operand (env : TypeEnv) (ts : List Ty) (l : Option Loc) (J : Judgment) 
       → PartResult J succeeded c e es → annotation e ≡ None
       → Operand env ts l J false no_caps e es
 
--- the errors of a part that is visited whatever another part results in, whether it is cut or not
+-- the errors of a part that is visited whatever the result of another part, whether it is cut or not
 pub data PartOrCut (J : Judgment) : List Finding → Type 0 where
   the_part : {succeeded : Bool} {c : Caps} {e : TypedTree} {es : List Finding}
       → PartResult J succeeded c e es → PartOrCut J es

@@ -102,9 +102,9 @@ same_values (more_values v vs) (more_values w ws) = same_value v w && same_value
 pub record EqualityIsAnEquivalence : Type 0 where
   -- each value equals itself
   pub reflexive : (v : Value) → same_value v v ≡ true
-  -- if one value equals another, the other equals the first
+  -- if v equals w, then w equals v
   pub symmetric : (v w : Value) → same_value v w ≡ true → same_value w v ≡ true
-  -- if two values equal one after another, the first equals the last
+  -- if u equals v, and v equals w, then u equals w
   pub transitive : (u v w : Value) → same_value u v ≡ true → same_value v w ≡ true
       → same_value u w ≡ true
 

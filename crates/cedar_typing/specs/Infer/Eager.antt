@@ -24,7 +24,7 @@ OperandsAndErrors = Operands × List Finding
 abbrev pub infer_none : List Finding → OperandsAndErrors
 infer_none es = (all_typed true [], es)
 
--- the part of an operand with an expectation, which may be anything
+-- the part of an operand, by its expectation. Without one the operand may be anything
 abbrev pub expect_operand : TypeEnv → Expectation → Option Loc → AnswerAndErrors → PartAndErrors
 expect_operand env None l o = any_part o
 expect_operand env (Some ts) l o = expect env ts l o
