@@ -155,6 +155,7 @@ impl<'a> TypecheckAnswer<'a> {
                 expr_capability,
             } => f(expr_type, expr_capability),
             TypecheckAnswer::TypecheckFail { expr_recovery_type } => {
+                // a failure hands on no capabilities, because nothing follows from it
                 let answer = f(expr_recovery_type, CapabilitySet::new(alloc))?;
                 Ok(answer.into_fail())
             }
@@ -176,6 +177,7 @@ impl<'a> TypecheckAnswer<'a> {
                 capabilities: expr_capability,
                 succeeded: true,
             }),
+            // nothing follows from a failure, so it hands on no capabilities
             TypecheckAnswer::TypecheckFail { expr_recovery_type } => Some(Part {
                 typed: expr_recovery_type,
                 capabilities: CapabilitySet::new(alloc),

@@ -110,6 +110,7 @@ impl<C: ArgumentCheck> SingleEnvTypechecker<'_, '_, '_, '_, C> {
         let known = Prior::of(&nothing);
         match rest {
             None => {
+                // without a rest, the scope is the whole condition
                 let part = self.type_part(&known, 1, Expected::Bool, scope, &mut errors)?;
                 Ok(check_of(part, errors))
             }
@@ -141,6 +142,7 @@ fn check_of(part: Option<Part<'_>>, errors: Vec<ValidationError>) -> ConditionCh
         ≡ part_verdict (option_map part_of part.entry) (map finding_of errors.items) }
     ensures tree { tree_seen result ≡ option_map part_tree (option_map part_of part.entry) }
 {
+    // a part was too deep, so the condition may be anything
     let Some(part) = part else {
         return ConditionCheck::Fail(errors, None);
     };

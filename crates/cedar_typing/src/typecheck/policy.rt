@@ -69,7 +69,7 @@ impl<'a, C: ArgumentCheck> Typechecker<'a, C> {
         ensures warnings_kept { OnErr result (warnings.new.keys ≡ warnings.old.keys) }
     {
         let tally = self.tally(alloc, t)?;
-        // after this there is room for all errors, so no later step fails, and either both sets change or neither does
+        // with room for all errors beforehand, nothing fails after the first change, so both sets change or neither does
         type_errors.reserve(tally.errors.len())?;
         if tally.all_irrelevant {
             let warning = impossible_policy(t)?;

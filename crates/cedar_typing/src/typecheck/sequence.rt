@@ -73,6 +73,7 @@ where
     let mut succeeded = true;
     let mut is_limit = false;
     for answer in answers {
+        // answers after a limit are not asked for, because the whole is the limit already
         let Some(part) = answer?.into_part(alloc) else {
             is_limit = true;
             break;

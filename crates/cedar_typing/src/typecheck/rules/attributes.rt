@@ -51,10 +51,12 @@ impl TypeEnv<'_, '_, '_, '_> {
         };
         match self.required(owner, attr)? {
             None => {
+                // no capability is produced, because no access of an undeclared attribute asks for one
                 let ty = self.undeclared_type(owner, attr);
                 Ok(Decision::Gives(ty, no_capabilities(self.alloc)))
             }
             Some(is_required) => {
+                // where `has` is true the attribute is there, so the rest of the condition may access it
                 let there = attribute_of(base, attr)?;
                 let ty = declared_type(owner, is_required, prior.contains(&there));
                 Ok(Decision::Gives(ty, one_capability(self.alloc, there)?))
@@ -217,6 +219,7 @@ impl TypeEnv<'_, '_, '_, '_> {
 pub(crate) fn declared_type(owner: &CedarType, is_required: bool, is_known: bool) -> CedarType
     ensures { ty_of result ≡ declared_has (ty_of owner.now) is_required is_known }
 {
+    // an earlier test on the way here has decided this one
     if is_known {
         return CedarType::Bool(BoolType::True);
     }

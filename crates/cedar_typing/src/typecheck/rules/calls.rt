@@ -63,6 +63,8 @@ impl<C: ArgumentCheck> SingleEnvTypechecker<'_, '_, '_, '_, C> {
     {
         let call = self.call_of(loc, name, arguments)?;
         let types = call.argument_types;
+        // the arguments after one that is too deep are not typed, in contrast to the elements of a
+        // set
         let typed = self.type_operands(prior, depth, false, types, arguments, errors)?;
         let answer = self.env.call_answer(loc, name, call, typed, errors)?;
         Ok(answer)
@@ -81,6 +83,7 @@ impl<C: ArgumentCheck> SingleEnvTypechecker<'_, '_, '_, '_, C> {
             (map written arguments.now) c) }
     {
         let Some(function) = self.extensions.func_type(name) else {
+            // without a function nothing is expected of the arguments, but their own errors count
             let errors = self.env.unknown_function(loc, name)?;
             return Ok(Call {
                 return_type: None,
@@ -129,6 +132,7 @@ impl TypeEnv<'_, '_, '_, '_> {
             (map written arguments.now)) }
     {
         let mut errors = Vec::new(self.alloc);
+        // the errors do not depend on one another, so each that applies is told
         self.add_number_error(loc, function, arguments.len(), &mut errors)?;
         self.add_refusal(loc, &function.check_arguments, arguments, &mut errors)?;
         self.add_literal_error(
@@ -191,6 +195,7 @@ impl TypeEnv<'_, '_, '_, '_> {
         let Some(check) = check else {
             return Ok(());
         };
+        // the check sees the arguments as they stand in the policy, before they are typed
         if let Err(refused) = check.check(arguments)? {
             let policy_id = self.policy_id.clone()?;
             let error = ValidationError::function_argument_validation(loc, policy_id, refused.msg);

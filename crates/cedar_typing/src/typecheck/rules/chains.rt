@@ -171,6 +171,7 @@ impl TypeEnv<'_, '_, '_, '_> {
         match self.step(prior, place, at, ty, progress)? {
             Step::Ends(decision) => Ok(decision),
             Step::GoesOn(progress, _is_known) => {
+                // the last attribute is only tested, so no access follows
                 let decision = progress.end(self.alloc)?;
                 Ok(decision)
             }
@@ -194,6 +195,7 @@ impl TypeEnv<'_, '_, '_, '_> {
         match self.step(prior, place, at, ty, progress)? {
             Step::Ends(decision) => Ok(Link::Ends(decision)),
             Step::GoesOn(progress, is_known) => {
+                // the access may use the capability that its own step has earned
                 let link = self.access(place, at.attr(), ty, is_known, progress)?;
                 Ok(link)
             }

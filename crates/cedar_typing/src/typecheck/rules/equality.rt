@@ -40,6 +40,7 @@ impl TypeEnv<'_, '_, '_, '_> {
         if !is_any_bool_type(&ty) {
             return Ok(gives(self.alloc, ty));
         }
+        // Strict takes a comparison of types without a bound for a mistake
         let errors = self.strict_errors(loc, LubContext::Equality, left_type, right_type)?;
         Ok(gives_unless(self.alloc, errors, ty))
     }

@@ -90,6 +90,7 @@ impl TypeEnv<'_, '_, '_, '_> {
             SlotId::Principal => self.request_env.principal_slot(),
             SlotId::Resource => self.request_env.resource_slot(),
         };
+        // a slot that is linked to no type may be bound to any entity
         let linked = type_of_entities(self.alloc, self.schema, linked)?;
         let answer = self.leaf_answer(loc, Some(linked), ExprKind::Slot(slot))?;
         Ok(answer)

@@ -64,6 +64,8 @@ impl TypeEnv<'_, '_, '_, '_> {
             let errors = self.beside_never(left_loc, left)?;
             return Ok(gives_unless(self.alloc, errors, any_bool()));
         }
+        // a comparable type is compared only with itself, so a Long is not compared with an
+        // extension type
         if self.is_comparable(left) && is_same_type(left, right) {
             return Ok(gives(self.alloc, any_bool()));
         }
@@ -111,6 +113,7 @@ impl TypeEnv<'_, '_, '_, '_> {
         } else if self.is_comparable(right) {
             errors.push(self.unexpected(Expected::Exactly(right), left_loc, left)?)?;
         } else {
+            // neither side tells the type that the other should have had
             errors.push(self.expected_comparable(left_loc, left)?)?;
             errors.push(self.expected_comparable(right_loc, right)?)?;
         }

@@ -151,6 +151,7 @@ impl<C: ArgumentCheck> SingleEnvTypechecker<'_, '_, '_, '_, C> {
         ensures base { IfOk result (λ r. expr_in r.1 ≡ e.now) }
     {
         match &e.kind {
+            // a base that is too deep is left to `type_part`, which answers the limit
             ExprKind::GetAttr(owner, attr) if depth <= MAX_TYPED_DEPTH => {
                 let form = OneOperand::Get(attr);
                 let asked = form.expected();

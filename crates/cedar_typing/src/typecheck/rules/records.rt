@@ -170,11 +170,13 @@ fn record_type(
         };
         let attribute = AttributeType {
             attr_type: ty.clone()?,
+            // a record that is written out has each of its attributes
             is_required: true,
         };
         drop(attrs.insert(key.clone()?, attribute)?);
     }
     let attributes = Attributes::with_attributes(alloc, attrs)?;
+    // a record that is written out has no other attributes, so its type is closed
     let ty = CedarType::record_with_attributes(attributes, OpenTag::ClosedAttributes);
     Ok(Some(ty))
 }

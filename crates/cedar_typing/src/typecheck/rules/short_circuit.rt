@@ -133,8 +133,8 @@ impl Connective {
         ensures { IfOk result (λ c. caps c
             ≡ (connective_of self).side_caps (side_seen side) (caps left.entry) (caps right.entry)) }
     {
-        // a True side's capabilities hold even where the side is not evaluated; without a True side, either side may be
-        // the reason that `||` is true, so only the capabilities of both hold
+        // a True side's capabilities hold even where the side is not evaluated; beside a False side, `||` is true
+        // because of the other side; else either side may be the reason, so only the capabilities of both hold
         match (self, side) {
             (Connective::And, Side::RightEnds) => Ok(no_capabilities(alloc)),
             (Connective::And, Side::LeftAlone) => union_of(left, right),
@@ -217,6 +217,7 @@ impl TypeEnv<'_, '_, '_, '_> {
             ((connective_of connective).ended_caps (caps left.entry.capabilities)) }
     {
         let succeeded = left.succeeded;
+        // the right side is dropped, because it is never evaluated, and the left one takes the place of the whole
         let typed = at_place(left.typed, loc);
         let capabilities = connective.ended_capabilities(self.alloc, left.capabilities);
         with_capabilities(succeeded, typed, capabilities)
@@ -247,6 +248,7 @@ impl TypeEnv<'_, '_, '_, '_> {
                     left.capabilities,
                     right.capabilities,
                 )?;
+                // failed sides still give the whole a type, so that one run shows all errors
                 let succeeded = left.succeeded & right.succeeded;
                 let kind = connective.kind(left.typed, right.typed);
                 let typed = node(self.alloc, loc, Some(ty), kind)?;

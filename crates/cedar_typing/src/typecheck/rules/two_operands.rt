@@ -148,6 +148,7 @@ impl TwoOperands {
             TwoOperands::Equality => ty,
             TwoOperands::Comparison(_) => ty,
             TwoOperands::Arithmetic(_) => ty,
+            // the original asks the schema only if both operands succeeded
             TwoOperands::Membership => bool_unless(succeeded, ty),
             TwoOperands::Contains => ty,
             TwoOperands::ContainsSeveral(_) => ty,
@@ -250,6 +251,7 @@ impl TypeEnv<'_, '_, '_, '_> {
         let found = &one.typed.annotation;
         match self.decide_two(prior, loc, form, operands, found, &other.typed.annotation)? {
             Decision::Gives(ty, capabilities) => {
+                // the table is asked about failed operands too, so that one run shows all errors
                 let ty = form.type_given(succeeded, ty);
                 let typed = binary_node(
                     self.alloc,
