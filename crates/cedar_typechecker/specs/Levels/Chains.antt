@@ -39,7 +39,7 @@ field_at p (field k t fs) = if text_eq p k then Some t else field_at p fs
 pub data Leaf : Type 0 where
   -- a variable, or the literal of the environment's action
   good_leaf : Leaf
-  -- another entity literal, or a slot, because its entity need not be in a slice
+  -- another entity literal, or a slot, whose entity need not be in a slice
   literal_leaf : Leaf
   -- any other expression
   bad_leaf : Leaf
