@@ -1,4 +1,5 @@
 pub mod Basics
+pub mod Modes
 pub mod TypeTests
 pub mod Agreement
 pub mod Cuts

@@ -1,5 +1,4 @@
 -- In Strict and in Permissive, what fails without being cut has at least one error, where nothing is unknown.
-pub mod Settled
 pub mod Parts
 pub mod Eager
 pub mod Branches

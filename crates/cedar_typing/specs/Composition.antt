@@ -5,14 +5,12 @@ use Rattle.cedar_types.specs.declared.base.expressions.operators.Var.{Var}
 use Rattle.cedar_types.specs.declared.base.names.slots.SlotId.{SlotId}
 use Rattle.cedar_types.specs.declared.base.types.BoolType.TheVariants.{AnyBool}
 use Rattle.cedar_types.specs.declared.base.types.ValidationMode.{ValidationMode}
-use Rattle.cedar_types.specs.declared.base.types.ValidationMode.TheVariants.{Strict, Permissive}
 use Rattle.cedar_types.specs.Names.{Path, is_action_path}
 use Rattle.cedar_types.specs.Types.{Ty, TBool}
 use Rattle.cedar_types.specs.Expressions.Tree.{var, slot, binary}
 use Rattle.cedar_types.specs.Expressions.View.{Written}
 use Rattle.cedar_types.specs.Errors.{Finding}
 use Rattle.cedar_types.specs.Extensions.Functions.{table_fault}
-use Rattle.cedar_types.specs.Schemas.Formed.{has_formed_types}
 use Rattle.cedar_types.specs.Schemas.{Schema, has_fault}
 use Rattle.cedar_types.specs.Environments.{DeclaredEnv, environments_of}
 use Rattle.cedar_types.specs.Environments.RequestEnvs.{Env, Declared}
@@ -26,6 +24,7 @@ use Rattle.cedar_typing.specs.Evaluation.Conformance.{IsOneOf, FitsRequest, Fits
 use Rattle.cedar_typing.specs.Evaluation.Eval.{eval}
 use Rattle.cedar_typing.specs.Evaluation.World.{World, Gives}
 use Rattle.cedar_typing.specs.Judgments.{max_nesting}
+use Rattle.cedar_typing.specs.Modes.{IsSoundMode, IsFormedFor}
 use Rattle.cedar_typing.specs.PolicyCheck.{Verdict, succeeds, irrelevant, PolicyChecks}
 use Rattle.cedar_typing.specs.Rules.{Derives, Recovers, Cuts}
 use Rattle.cedar_typing.specs.Setting.{Setting, table}
@@ -141,15 +140,14 @@ Coverage =
 
 -- ---- a condition that is warned to be impossible
 
--- the setting of which the theorems below speak: in the given mode, a schema and a table without faults, nothing external
-pub record IsFaultlessIn (m : ValidationMode) (s : Setting) : Type 0 where
-  pub mode : s.env.mode ≡ m
+-- the setting of which the theorems below speak: in Strict or in Permissive, a schema and a table without faults, nothing
+-- external
+pub record IsFaultless (s : Setting) : Type 0 where
+  pub mode : IsSoundMode s.env.mode
   pub schema : has_fault s.env.schema ≡ false
+  pub formed : IsFormedFor s.env.mode s.env.schema
   pub functions : table_fault s.functions ≡ None
   pub closed : has_external s.env.schema ≡ false
-
-abbrev pub IsFaultless : Setting → Type 0
-IsFaultless = IsFaultlessIn Strict
 
 -- the check says that the condition is never true
 abbrev pub IsIrrelevant : Verdict → Type 0
@@ -175,13 +173,6 @@ NeverTrue =
     (s : Setting) (t : PlainTemplate) → IsFaultless s → SlotsInScopeAlone t → IsIrrelevantInAll s t
     → IsTrueOfNone s t
 
--- the same in Permissive, by a schema in whose types names ascend, as they do in every schema of the program
-abbrev pub NeverTrueInPermissive : Type 0
-NeverTrueInPermissive =
-    (s : Setting) (t : PlainTemplate)
-    → IsFaultlessIn Permissive s → has_formed_types s.env.schema ≡ true
-    → SlotsInScopeAlone t → IsIrrelevantInAll s t → IsTrueOfNone s t
-
 -- a check that succeeds in the own environment alone keeps its promise in each world of the request, whatever the slots
 -- are bound to, if they are
 abbrev pub IsKeptFromOwn : Setting → PlainTemplate → Type 0
@@ -195,10 +186,3 @@ IsKeptFromOwn s t =
 abbrev pub OwnSuccessIsKept : Type 0
 OwnSuccessIsKept =
     (s : Setting) (t : PlainTemplate) → IsFaultless s → SlotsInScopeAlone t → IsKeptFromOwn s t
-
--- the same in Permissive
-abbrev pub OwnSuccessIsKeptInPermissive : Type 0
-OwnSuccessIsKeptInPermissive =
-    (s : Setting) (t : PlainTemplate)
-    → IsFaultlessIn Permissive s → has_formed_types s.env.schema ≡ true
-    → SlotsInScopeAlone t → IsKeptFromOwn s t

@@ -1,6 +1,5 @@
 -- The check of an expression where it stands, and its promises about evaluation.
 use Rattle.std.specs.Prelude.{List, [], Option, Some, None, IsPermutation}
-use Rattle.cedar_types.specs.declared.base.types.ValidationMode.{ValidationMode}
 use Rattle.cedar_types.specs.Types.{Ty}
 use Rattle.cedar_types.specs.Errors.{Finding}
 use Rattle.cedar_typing.specs.Capabilities.{Caps}
@@ -10,7 +9,7 @@ use Rattle.cedar_typing.specs.Evaluation.World.{World}
 use Rattle.cedar_typing.specs.Infer.Parts.{Answer, success, failure, limit}
 use Rattle.cedar_typing.specs.Rules.{Derives, Recovers, Cuts}
 use Rattle.cedar_typing.specs.Setting.{Setting}
-use Rattle.cedar_typing.specs.Soundness.{HasFound, IsSafe, IsTrueOutcome, IsReliableIn, IsWorldOf}
+use Rattle.cedar_typing.specs.Soundness.{HasFound, IsSafe, IsTrueOutcome, IsReliable, IsWorldOf}
 use Rattle.cedar_typing.specs.TypedCopies.{EvaluatesAs}
 use Rattle.cedar_typing.specs.TypedExpr.{Source, TypedTree, annotation}
 
@@ -56,10 +55,10 @@ AnswerPromises world e (success x c) = SuccessPromises world e x c
 AnswerPromises world e (failure x) = FailurePromises world e x
 AnswerPromises world e limit = Unit {0}
 
--- the promise is kept in each world of a setting that is reliable in the mode, if the slots of the expression are bound and
--- the prior capabilities hold
-abbrev pub IsSoundAnswerIn : ValidationMode → Setting → Source → Caps → Answer → Type 0
-IsSoundAnswerIn m s e prior a =
-    IsReliableIn m s
+-- the promise is kept in each world of a reliable setting in which the slots of the expression are bound and the prior
+-- capabilities hold
+abbrev pub IsSoundAnswer : Setting → Source → Caps → Answer → Type 0
+IsSoundAnswer s e prior a =
+    IsReliable s
     → (world : World) → IsWorldOf s world → SlotsBound world.slots e → AllHold world prior
     → AnswerPromises world e a

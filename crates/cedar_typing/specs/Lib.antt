@@ -5,6 +5,7 @@ pub mod TypeTests
 pub mod TypedExpr
 pub mod Answer
 pub mod Judgments
+pub mod Modes
 pub mod Eager
 pub mod Rules
 pub mod Infer

@@ -3,8 +3,6 @@
 use Rattle.std.specs.Prelude.{◌≡◌, ℕ, Bool, true, false, List, [], None}
 use Rattle.std.specs.List.{list_any, flat_map}
 use Rattle.cedar_types.specs.declared.base.types.BoolType.TheVariants.{False}
-use Rattle.cedar_types.specs.declared.base.types.ValidationMode.{ValidationMode}
-use Rattle.cedar_types.specs.declared.base.types.ValidationMode.TheVariants.{Strict, Permissive}
 use Rattle.cedar_types.specs.Errors.{Finding, Warning}
 use Rattle.cedar_types.specs.Extensions.Functions.{table_fault}
 use Rattle.cedar_types.specs.Templates.Findings.{uids_named, types_named, is_unknown_type, is_unknown_action, unknown_types}
@@ -18,8 +16,8 @@ use Rattle.cedar_types.specs.Expressions.Tree.{Tree, unknown}
 use Rattle.cedar_types.specs.Types.{Ty, TBool}
 use Rattle.cedar_typing.specs.Capabilities.{Caps, no_caps}
 use Rattle.cedar_typing.specs.Composition.{in_env}
-use Rattle.cedar_types.specs.Schemas.Formed.{has_formed_types}
 use Rattle.cedar_typing.specs.Evaluation.Conformance.{IsOneOf, IsEnvironmentOf}
+use Rattle.cedar_typing.specs.Modes.{IsSoundMode, IsFormedFor}
 use Rattle.cedar_typing.specs.PolicyCheck.{Verdict, succeeds, irrelevant, fails, PolicyChecks}
 use Rattle.cedar_typing.specs.PolicyCheck.Outcome.{is_silent, passes, PolicyOutcome}
 use Rattle.cedar_typing.specs.Rules.Laws.{IsCut}
@@ -69,22 +67,17 @@ ConditionIsWellNamed =
 
 -- ---- what fails has an error
 
--- in the given mode, by a schema and a table without faults
-pub record IsWithoutFaultsIn (m : ValidationMode) (s : Setting) : Type 0 where
-  pub mode : s.env.mode ≡ m
+-- in Strict or in Permissive, by a schema and a table without faults
+pub record IsWithoutFaults (s : Setting) : Type 0 where
+  pub mode : IsSoundMode s.env.mode
   pub schema : has_fault s.env.schema ≡ false
+  pub formed : IsFormedFor s.env.mode s.env.schema
   pub functions : table_fault s.functions ≡ None
 
-abbrev pub IsStrictWithoutFaults : Setting → Type 0
-IsStrictWithoutFaults = IsWithoutFaultsIn Strict
-
 -- there, in an environment of the schema, linked in any way
-pub record IsSettledIn (m : ValidationMode) (s : Setting) : Type 0 where
-  pub faultless : IsWithoutFaultsIn m s
+pub record IsSettled (s : Setting) : Type 0 where
+  pub faultless : IsWithoutFaults s
   pub environment : IsEnvironmentOf s.env.schema s.env.request_env
-
-abbrev pub IsSettled : Setting → Type 0
-IsSettled = IsSettledIn Strict
 
 -- an expression that fails has an error, whatever is known and at any depth. One that is cut need have
 -- none: `Cuts` is no failure of this kind
@@ -94,30 +87,11 @@ FailuresHaveErrors =
     → (prior : Caps) (d : ℕ) (x : TypedTree) (es : List Finding)
     → Recovers s e prior d x es → is_silent es ≡ false
 
--- the same in Permissive, by a schema in whose types names ascend, as they do in every schema of the
--- program
-abbrev pub FailuresHaveErrorsInPermissive : Type 0
-FailuresHaveErrorsInPermissive =
-    (s : Setting) → IsSettledIn Permissive s → has_formed_types s.env.schema ≡ true
-    → (e : Source) → IsWellNamed s.env.schema e
-    → (prior : Caps) (d : ℕ) (x : TypedTree) (es : List Finding)
-    → Recovers s e prior d x es → is_silent es ≡ false
-
 -- a check that fails without an error is a cut
-abbrev pub SilentFailuresAreCuts : Setting → Type 0
-SilentFailuresAreCuts s =
-    (e : Source) → IsWellNamed s.env.schema e
-    → (es : List Finding) → PolicyChecks s e (fails es) → is_silent es ≡ true → IsCut s e no_caps 1
-
--- so it is in Strict
 abbrev pub SilentFailureIsCut : Type 0
-SilentFailureIsCut = (s : Setting) → IsSettled s → SilentFailuresAreCuts s
-
--- and in Permissive
-abbrev pub SilentFailureIsCutInPermissive : Type 0
-SilentFailureIsCutInPermissive =
-    (s : Setting) → IsSettledIn Permissive s → has_formed_types s.env.schema ≡ true
-    → SilentFailuresAreCuts s
+SilentFailureIsCut =
+    (s : Setting) → IsSettled s → (e : Source) → IsWellNamed s.env.schema e
+    → (es : List Finding) → PolicyChecks s e (fails es) → is_silent es ≡ true → IsCut s e no_caps 1
 
 -- ---- what passes is derived
 
@@ -132,18 +106,10 @@ IsDerivedAs s e (fails es) = ⊥
 
 -- a verdict that passes, a success or irrelevant without errors, is of a condition that is derived. So
 -- no part of it that is visited is too deep
-abbrev pub PassingVerdictsAreDerived : Setting → Type 0
-PassingVerdictsAreDerived s =
-    (e : Source) → IsWellNamed s.env.schema e
-    → (v : Verdict) → PolicyChecks s e v → passes v ≡ true → IsDerivedAs s e v
-
 abbrev pub PassingIsDerived : Type 0
-PassingIsDerived = (s : Setting) → IsSettled s → PassingVerdictsAreDerived s
-
-abbrev pub PassingIsDerivedInPermissive : Type 0
-PassingIsDerivedInPermissive =
-    (s : Setting) → IsSettledIn Permissive s → has_formed_types s.env.schema ≡ true
-    → PassingVerdictsAreDerived s
+PassingIsDerived =
+    (s : Setting) → IsSettled s → (e : Source) → IsWellNamed s.env.schema e
+    → (v : Verdict) → PolicyChecks s e v → passes v ≡ true → IsDerivedAs s e v
 
 -- the verdicts of a template's condition in an environment
 abbrev pub ChecksOf : Setting → PlainTemplate → Env → Verdict → Type 0
@@ -155,20 +121,10 @@ IsDerivedIn s t env =
     (v : Verdict) × ChecksOf s t env v × IsDerivedAs (in_env s env) (condition_of t) v
 
 -- a policy that passes is derived in each of the environments that it is checked in
-abbrev pub IsDerivedWherePassing : Setting → PlainTemplate → Type 0
-IsDerivedWherePassing s t =
-    (errors errors' : List Finding) (warnings warnings' : List Warning)
+abbrev pub PassingPolicyIsDerived : Type 0
+PassingPolicyIsDerived =
+    (s : Setting) (t : PlainTemplate) → IsWithoutFaults s → IsWellNamedTemplate s.env.schema t
+    → (errors errors' : List Finding) (warnings warnings' : List Warning)
     → PolicyOutcome (ChecksOf s t) (checked_envs s.env.schema s.env.mode t) t true errors errors'
     warnings warnings'
     → (env : Env) → IsOneOf env (checked_envs s.env.schema s.env.mode t) → IsDerivedIn s t env
-
-abbrev pub PassingPolicyIsDerived : Type 0
-PassingPolicyIsDerived =
-    (s : Setting) (t : PlainTemplate) → IsStrictWithoutFaults s → IsWellNamedTemplate s.env.schema t
-    → IsDerivedWherePassing s t
-
-abbrev pub PassingPolicyIsDerivedInPermissive : Type 0
-PassingPolicyIsDerivedInPermissive =
-    (s : Setting) (t : PlainTemplate)
-    → IsWithoutFaultsIn Permissive s → has_formed_types s.env.schema ≡ true
-    → IsWellNamedTemplate s.env.schema t → IsDerivedWherePassing s t

@@ -1,8 +1,6 @@
 -- What typing promises of evaluation.
-use Rattle.std.specs.Prelude.{◌≡◌, ℕ, true, false, List, Option, Some, None, IsTrue}
+use Rattle.std.specs.Prelude.{◌≡◌, ℕ, false, List, Option, Some, None, IsTrue}
 use Rattle.cedar_types.specs.declared.base.types.BoolType.TheVariants.{True}
-use Rattle.cedar_types.specs.declared.base.types.ValidationMode.{ValidationMode}
-use Rattle.cedar_types.specs.declared.base.types.ValidationMode.TheVariants.{Strict, Permissive}
 use Rattle.cedar_types.specs.Types.{Ty, TBool}
 use Rattle.cedar_types.specs.Errors.{Finding}
 use Rattle.cedar_types.specs.Extensions.Functions.{table_fault}
@@ -10,11 +8,11 @@ use Rattle.cedar_types.specs.Schemas.{has_fault}
 use Rattle.cedar_types.specs.Values.{Value, OnBool, HasType}
 use Rattle.cedar_types.specs.Values.Stores.{ConformingStore}
 use Rattle.cedar_typing.specs.Capabilities.{Caps}
-use Rattle.cedar_types.specs.Schemas.Formed.{has_formed_types}
 use Rattle.cedar_typing.specs.Evaluation.Conformance.{Fits, IsEnvironmentOf, SlotsBound, has_external, KeepsTable, AllHold}
 use Rattle.cedar_typing.specs.Evaluation.Eval.{eval}
 use Rattle.cedar_typing.specs.Evaluation.World.{World, Failure, TypeFailure, AbsentAttribute, AbsentTag, MissingEntity, Overflow}
 use Rattle.cedar_typing.specs.Evaluation.World.{ExtensionFailure, UnlinkedSlot, UnknownValue, Outcome, Gives, Fails}
+use Rattle.cedar_typing.specs.Modes.{IsSoundMode, IsFormedFor}
 use Rattle.cedar_typing.specs.Rules.{Derives, Recovers}
 use Rattle.cedar_typing.specs.Setting.{Setting, table}
 use Rattle.cedar_typing.specs.TypedExpr.{Source, TypedTree, annotation}
@@ -78,35 +76,21 @@ pub record IsWorldOf (s : Setting) (world : World) : Type 0 where
   pub store : ConformingStore s.env.schema world.store
   pub functions : KeepsTable (table s) world.functions
 
--- typing by this setting promises something of evaluation: in the given mode, by a schema without external declarations,
--- in one of its environments
-pub record IsReliableIn (m : ValidationMode) (s : Setting) : Type 0 where
-  pub mode : s.env.mode ≡ m
+-- typing by this setting promises something of evaluation: in Strict or in Permissive, by a schema without external
+-- declarations, in one of its environments
+pub record IsReliable (s : Setting) : Type 0 where
+  pub mode : IsSoundMode s.env.mode
   pub closed : has_external s.env.schema ≡ false
   pub environment : IsEnvironmentOf s.env.schema s.env.request_env
 
-abbrev pub IsReliable : Setting → Type 0
-IsReliable = IsReliableIn Strict
-
--- by a schema and a table without faults, in a setting that is reliable in Strict and one of its worlds: what holds of each
--- expression whose slots are bound, where some capabilities are known
+-- by a schema and a table without faults, in a reliable setting and one of its worlds: what holds of each expression whose
+-- slots are bound, where some capabilities are known
 abbrev pub InReliableWorlds : (Setting → World → Source → Caps → ℕ → Type 0) → Type 0
 InReliableWorlds Holds =
     (s : Setting) (world : World)
-    → has_fault s.env.schema ≡ false → table_fault s.functions ≡ None
-    → IsReliable s → IsWorldOf s world
-    → (e : Source) → SlotsBound world.slots e
-    → (prior : Caps) (d : ℕ) → AllHold world prior
-    → Holds s world e prior d
-
--- the same in Permissive, which joins records by width: by a schema in whose types names ascend, as they do in every schema
--- of the program
-abbrev pub InReliablePermissiveWorlds : (Setting → World → Source → Caps → ℕ → Type 0) → Type 0
-InReliablePermissiveWorlds Holds =
-    (s : Setting) (world : World)
-    → has_fault s.env.schema ≡ false → has_formed_types s.env.schema ≡ true
+    → has_fault s.env.schema ≡ false → IsFormedFor s.env.mode s.env.schema
     → table_fault s.functions ≡ None
-    → IsReliableIn Permissive s → IsWorldOf s world
+    → IsReliable s → IsWorldOf s world
     → (e : Source) → SlotsBound world.slots e
     → (prior : Caps) (d : ℕ) → AllHold world prior
     → Holds s world e prior d
@@ -114,6 +98,3 @@ InReliablePermissiveWorlds Holds =
 -- what has a type does not go wrong
 abbrev pub TypeSoundness : Type 0
 TypeSoundness = InReliableWorlds IsSoundAt
-
-abbrev pub TypeSoundnessInPermissive : Type 0
-TypeSoundnessInPermissive = InReliablePermissiveWorlds IsSoundAt

@@ -1,20 +1,18 @@
 -- A typed copy means what the expression means: it evaluates to the very same outcome.
-use Rattle.std.specs.Prelude.{◌≡◌, ℕ, true, false, List, None}
-use Rattle.cedar_types.specs.declared.base.types.ValidationMode.{ValidationMode}
-use Rattle.cedar_types.specs.declared.base.types.ValidationMode.TheVariants.{Strict, Permissive}
+use Rattle.std.specs.Prelude.{◌≡◌, ℕ, false, List, None}
 use Rattle.cedar_types.specs.Errors.{Finding}
 use Rattle.cedar_types.specs.Extensions.Functions.{table_fault}
 use Rattle.cedar_types.specs.Schemas.{has_fault}
-use Rattle.cedar_types.specs.Schemas.Formed.{has_formed_types}
 use Rattle.cedar_types.specs.Expressions.Tree.{map_tree}
 use Rattle.cedar_types.specs.Types.{Ty}
 use Rattle.cedar_typing.specs.Capabilities.{Caps}
 use Rattle.cedar_typing.specs.Evaluation.Eval.{eval}
 use Rattle.cedar_typing.specs.Evaluation.World.{World}
+use Rattle.cedar_typing.specs.Modes.{IsFormedFor}
 use Rattle.cedar_typing.specs.PolicyCheck.{Verdict, succeeds, irrelevant, fails, PolicyChecks}
 use Rattle.cedar_typing.specs.Rules.{Derives, Recovers}
 use Rattle.cedar_typing.specs.Setting.{Setting}
-use Rattle.cedar_typing.specs.Soundness.{IsReliableIn, IsWorldOf, InReliableWorlds, InReliablePermissiveWorlds}
+use Rattle.cedar_typing.specs.Soundness.{IsReliable, IsWorldOf, InReliableWorlds}
 use Rattle.cedar_typing.specs.TypedExpr.{Source, TypedTree, Mark}
 pub mod Policies
 
@@ -39,13 +37,9 @@ pub record MeansTheSame (s : Setting) (world : World) (e : Source) (prior : Caps
   -- and that of a refused one
   pub recovered : (x : TypedTree) (es : List Finding) → Recovers s e prior d x es → EvaluatesAs world x e
 
--- in Strict, in each world of a reliable setting
+-- in each world of a reliable setting
 abbrev pub CopiesMeanTheSame : Type 0
 CopiesMeanTheSame = InReliableWorlds MeansTheSame
-
--- in Permissive, by a schema in whose types names ascend
-abbrev pub CopiesMeanTheSameInPermissive : Type 0
-CopiesMeanTheSameInPermissive = InReliablePermissiveWorlds MeansTheSame
 
 -- ---- the check of a condition in one environment
 
@@ -56,10 +50,10 @@ VerdictMeansTheSame world e (succeeds x) = EvaluatesAs world x e
 VerdictMeansTheSame world e (irrelevant es x) = EvaluatesAs world x e
 VerdictMeansTheSame world e (fails es) = Unit {0}
 
--- it is so in each world of a setting that is reliable in the mode: slots that are linked to no type need not be bound
-abbrev pub CheckMeansTheSameIn : ValidationMode → Setting → Source → Verdict → Type 0
-CheckMeansTheSameIn m s e v =
-    IsReliableIn m s
+-- it is so in each world of a reliable setting: slots that are linked to no type need not be bound
+abbrev pub CheckMeansTheSame : Setting → Source → Verdict → Type 0
+CheckMeansTheSame s e v =
+    IsReliable s
     → (world : World) → IsWorldOf s world
     → VerdictMeansTheSame world e v
 
@@ -67,12 +61,6 @@ CheckMeansTheSameIn m s e v =
 abbrev pub ChecksMeanTheSame : Type 0
 ChecksMeanTheSame =
     (s : Setting) (e : Source) (v : Verdict)
-    → has_fault s.env.schema ≡ false → table_fault s.functions ≡ None
-    → PolicyChecks s e v → CheckMeansTheSameIn Strict s e v
-
-abbrev pub ChecksMeanTheSameInPermissive : Type 0
-ChecksMeanTheSameInPermissive =
-    (s : Setting) (e : Source) (v : Verdict)
-    → has_fault s.env.schema ≡ false → has_formed_types s.env.schema ≡ true
+    → has_fault s.env.schema ≡ false → IsFormedFor s.env.mode s.env.schema
     → table_fault s.functions ≡ None
-    → PolicyChecks s e v → CheckMeansTheSameIn Permissive s e v
+    → PolicyChecks s e v → CheckMeansTheSame s e v

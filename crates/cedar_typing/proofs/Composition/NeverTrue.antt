@@ -1,27 +1,20 @@
 -- What the check in the own environment says of each world of the request.
-use Rattle.std.proofs.Common.{◌≡◌, Bool, true, false, true≢false, ◌||◌, Some, None, refl, ap, sym, ◌∙◌}
+use Rattle.std.proofs.Common.{◌≡◌, Bool, true, false, true≢false, Some, refl, sym}
 use Rattle.cedar_types.specs.declared.base.names.slots.SlotId.{SlotId}
 use Rattle.cedar_types.specs.declared.base.types.BoolType.TheVariants.{False}
-use Rattle.cedar_types.specs.declared.base.types.ValidationMode.{ValidationMode}
-use Rattle.cedar_types.specs.declared.base.types.ValidationMode.TheVariants.{Strict, Permissive}
 use Rattle.cedar_types.specs.Types.{TBool}
 use Rattle.cedar_types.specs.Types.Bounds.{is_strict}
-use Rattle.cedar_types.specs.Extensions.Functions.{table_fault}
-use Rattle.cedar_types.specs.Environments.RequestEnvs.{is_partial}
-use Rattle.cedar_types.specs.Schemas.{has_fault}
 use Rattle.cedar_types.specs.Names.{Path, Uid}
 use Rattle.cedar_typing.specs.Capabilities.{no_caps}
-use Rattle.cedar_types.specs.Schemas.Formed.{has_formed_types}
 use Rattle.cedar_typing.specs.Rules.{rules}
 use Rattle.cedar_types.specs.Environments.{DeclaredEnv, environments_of}
 use Rattle.cedar_types.specs.Templates.{PlainTemplate, condition_of}
 use Rattle.cedar_types.specs.Values.{VBool}
 use Rattle.cedar_types.specs.Values.Stores.{ConformingStore}
 use Rattle.cedar_types.specs.Environments.Linking.{has_slot}
-use Rattle.cedar_typing.specs.Composition.{in_env, SlotsInScopeAlone, own_link, own_env, IsFaultlessIn, IsFaultless, IsIrrelevant}
-use Rattle.cedar_typing.specs.Composition.{IsIrrelevantInAll, IsKeptFromOwn, NeverTrue, NeverTrueInPermissive, OwnSuccessIsKept}
-use Rattle.cedar_typing.specs.Composition.{OwnSuccessIsKeptInPermissive}
-use Rattle.cedar_typing.specs.Evaluation.Conformance.{IsOneOf, FitsRequest, ConformingRequest, FitsSlot, has_external, KeepsTable}
+use Rattle.cedar_typing.specs.Composition.{in_env, SlotsInScopeAlone, own_link, own_env, IsFaultless, IsIrrelevant}
+use Rattle.cedar_typing.specs.Composition.{NeverTrue, OwnSuccessIsKept}
+use Rattle.cedar_typing.specs.Evaluation.Conformance.{IsOneOf, FitsRequest, FitsSlot, KeepsTable}
 use Rattle.cedar_typing.specs.Evaluation.Conformance.{SlotsBound}
 use Rattle.cedar_typing.specs.Evaluation.Eval.{eval}
 use Rattle.cedar_typing.specs.Evaluation.World.{World, Outcome, Gives, Fails}
@@ -75,33 +68,7 @@ pub own_fits : (b : Bool) (own : Path) (u : Uid) → u.entity_type ≡ own → F
 own_fits true own u e = e
 own_fits false own u e = tt
 
--- what is asked of a setting: not Partial, without faults, nothing external, and in Permissive the types of the schema are formed
-pub record Sure (strictly : Bool) (s : Setting) : Type 0 where
-  pub strict : is_strict s.env.mode ≡ strictly
-  pub total : is_partial s.env.mode ≡ false
-  pub formed : (strictly || has_formed_types s.env.schema) ≡ true
-  pub schema : has_fault s.env.schema ≡ false
-  pub functions : table_fault s.functions ≡ None
-  pub closed : has_external s.env.schema ≡ false
-
-sure_in : (m : ValidationMode) (s : Setting) → IsFaultlessIn m s → is_partial m ≡ false → (is_strict m || has_formed_types s.env.schema) ≡ true
-    → Sure (is_strict m) s
-sure_in m s f total formed = record {
-  strict = ap is_strict f.mode;
-  total = ap is_partial f.mode ∙ total;
-  formed = formed;
-  schema = f.schema;
-  functions = f.functions;
-  closed = f.closed;
-}
-
-pub sure_in_strict : (s : Setting) → IsFaultless s → Sure true s
-sure_in_strict s f = sure_in Strict s f refl refl
-
-pub sure_in_permissive : (s : Setting) → IsFaultlessIn Permissive s → has_formed_types s.env.schema ≡ true → Sure false s
-sure_in_permissive s f formed = sure_in Permissive s f refl formed
-
-module _ (strictly : Bool) (s : Setting) (t : PlainTemplate) (f : Sure strictly s) (d : DeclaredEnv)
+module _ (s : Setting) (t : PlainTemplate) (f : IsFaultless s) (d : DeclaredEnv)
     (one : IsOneOf d (environments_of s.env.schema.actions))
     (world : World) (fits : FitsRequest d world.request) (store : ConformingStore s.env.schema world.store)
     (keeps : KeepsTable (table s) world.functions) where
@@ -123,7 +90,7 @@ module _ (strictly : Bool) (s : Setting) (t : PlainTemplate) (f : Sure strictly 
   pub own_sounds : Sounds (own_world world) (eval (own_world world) (condition_of t))
       (rules (in_env s (own_env t d)) (condition_of t) no_caps 1)
   own_sounds =
-      sounds strictly (in_env s (own_env t d)) (own_world world) f.strict f.total f.formed f.schema f.functions
+      sounds (is_strict s.env.mode) (in_env s (own_env t d)) (own_world world) refl f.mode f.formed f.schema f.functions
       f.closed one own_is_world.environment store keeps (condition_of t) own_bound no_caps 1
       (hold_none (own_world world))
 
@@ -147,32 +114,14 @@ module _ (strictly : Bool) (s : Setting) (t : PlainTemplate) (f : Sure strictly 
   own_kept h b =
       kept_most (eval world (condition_of t)) (eval (own_world world) (condition_of t)) (condition_most ⊥ world t h (λ n. n b))
 
-pub never_true_in : (strictly : Bool) (s : Setting) (t : PlainTemplate) → Sure strictly s → SlotsInScopeAlone t → IsIrrelevantInAll s t
-    → (world : World) → ConformingRequest s.env.schema world.request → ConformingStore s.env.schema world.store
-    → KeepsTable (table s) world.functions
-    → IsTrueOutcome (eval world (condition_of t)) → ⊥
-never_true_in strictly s t f h all world (d, one, fits) store keeps k =
+pub never_true : NeverTrue
+never_true s t f h all world (d, one, fits) store keeps k =
     let own : Setting = in_env s (own_env t d) in
     let c : PolicyChecks own (condition_of t) (policy_check own (condition_of t)) = checked own (condition_of t) in
     let v : Verdict = policy_check own (condition_of t) in
-    own_never strictly s t f d one world fits store keeps h v
+    own_never s t f d one world fits store keeps h v
     (all (own_env t d) (own_env_is_checked s.env.schema s.env.mode t h d one) v c) c k
-
-pub never_true : NeverTrue
-never_true s t f h all world r store keeps k = never_true_in true s t (sure_in_strict s f) h all world r store keeps k
-
-pub never_true_in_permissive : NeverTrueInPermissive
-never_true_in_permissive s t f formed h all world r store keeps k =
-    never_true_in false s t (sure_in_permissive s f formed) h all world r store keeps k
-
-success_kept : (strictly : Bool) (s : Setting) (t : PlainTemplate) → Sure strictly s → SlotsInScopeAlone t → IsKeptFromOwn s t
-success_kept strictly s t f h d one x c world fits store keeps b =
-    own_kept strictly s t f d one world fits store keeps h b (own_promise strictly s t f d one world fits store keeps (succeeds x) c)
 
 pub own_success_is_kept : OwnSuccessIsKept
 own_success_is_kept s t f h d one x c world fits store keeps b =
-    success_kept true s t (sure_in_strict s f) h d one x c world fits store keeps b
-
-pub own_success_is_kept_in_permissive : OwnSuccessIsKeptInPermissive
-own_success_is_kept_in_permissive s t f formed h d one x c world fits store keeps b =
-    success_kept false s t (sure_in_permissive s f formed) h d one x c world fits store keeps b
+    own_kept s t f d one world fits store keeps h b (own_promise s t f d one world fits store keeps (succeeds x) c)

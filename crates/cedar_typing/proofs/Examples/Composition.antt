@@ -52,7 +52,7 @@ robots_irrelevant e (inr h) = absurd h
 
 pub slots_in_the_rest : SlotsInTheRestAreNot
 slots_in_the_rest = record {
-  faultless = record { mode = refl; schema = refl; functions = refl; closed = refl };
+  faultless = record { mode = refl; schema = refl; formed = refl; functions = refl; closed = refl };
   environments = refl;
   irrelevant = robots_irrelevant;
   request = (_, inl refl, greets_fit);

@@ -12,6 +12,7 @@ use Rattle.cedar_typing.specs.Evaluation.Conformance.{IsBound, ConformingRequest
 use Rattle.cedar_typing.specs.Examples.Conforming.{document, attic, review, edit, review_schema, review_basis, review_store, reviewing}
 use Rattle.cedar_typing.specs.Examples.Conforming.{reviewed_policy, linked_policy, ConformityAllowsIn, ConformityAllows}
 use Rattle.cedar_typing.specs.Examples.PolicySoundness.{Passes}
+use Rattle.cedar_typing.specs.Modes.{IsSoundMode}
 use Rattle.cedar_typing.proofs.Composition.Slots.{slots_bound}
 use Rattle.cedar_typing.proofs.Examples.PolicySoundness.{passing, meeting_conforms}
 use Rattle.cedar_typing.proofs.Examples.World.{AllEntities, none_among, Fitting, IsStored, stored_as, all_fit, in_one, left_out, counted}
@@ -66,12 +67,12 @@ all_bound x = tt
 
 -- ---- all premises hold
 
-module _ (m : ValidationMode) where
+module _ (m : ValidationMode) (sound : IsSoundMode m) where
   allows : Passes (review_basis m) reviewed_policy → Passes (review_basis m) linked_policy → ConformityAllowsIn m
   allows p q = record {
     faultless = refl;
     formed = refl;
-    basis = record { mode = refl; closed = refl };
+    basis = record { mode = sound; closed = refl };
     conforming = record { request = request_conforms; store = store_conforms; functions = meeting_conforms.functions };
     ancestor = (_, refl, refl);
     not_stored = refl;
@@ -100,6 +101,6 @@ module _ (m : ValidationMode) where
 
 pub conformity_allows : ConformityAllows
 conformity_allows = record {
-  strict = allows Strict (passing _ _ _ refl refl refl) (passing _ _ _ refl refl refl);
-  permissive = allows Permissive (passing _ _ _ refl refl refl) (passing _ _ _ refl refl refl);
+  strict = allows Strict refl (passing _ _ _ refl refl refl) (passing _ _ _ refl refl refl);
+  permissive = allows Permissive refl (passing _ _ _ refl refl refl) (passing _ _ _ refl refl refl);
 }

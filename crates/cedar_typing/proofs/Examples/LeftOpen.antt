@@ -18,6 +18,7 @@ use Rattle.cedar_typing.specs.Examples.PolicySoundness.{Passes}
 use Rattle.cedar_typing.specs.Examples.World.{user, alice, bob}
 use Rattle.cedar_typing.specs.Silence.{HasNoUnknowns}
 use Rattle.cedar_typing.specs.Soundness.Policies.{IsNamedBySchema, IsWellFormed}
+use Rattle.cedar_typing.specs.Modes.{IsSoundMode}
 use Rattle.cedar_typing.proofs.Examples.PolicySoundness.{passing, meeting_conforms}
 use Rattle.cedar_typing.proofs.Examples.World.{AllEntities, all_found, none_among, only_one, Fitting, stored_as, in_one, left_out}
 
@@ -90,7 +91,7 @@ without_slots : (t : PlainTemplate) → HasNoUnknowns (condition_of t) → Slots
     → SlotsBound visiting.slots (condition_of t) → IsWellFormed t visiting.slots
 without_slots t u a b = record { no_unknowns = u; slots_in_scope = a; bound = b }
 
-module _ (m : ValidationMode) where
+module _ (m : ValidationMode) (sound : IsSoundMode m) where
   -- all premises hold for a policy and a request
   all_hold : (t : PlainTemplate) (r : Request) → Passes (visit_basis m) t → IsNamedBySchema visit_schema t
       → IsWellFormed t visiting.slots → ConformingRequest visit_schema r
@@ -100,7 +101,8 @@ module _ (m : ValidationMode) where
     formed = refl;
     faultless_functions = refl;
     passes = p;
-    basis = record { mode = refl; closed = refl };
+    mode = refl;
+    basis = record { mode = sound; closed = refl };
     named = n;
     well_formed = w;
     conforming = record { request = c; store = store_conforms; functions = meeting_conforms.functions };
@@ -127,8 +129,8 @@ module _ (m : ValidationMode) where
 
 pub premises_leave_open : PremisesLeaveOpen
 premises_leave_open = record {
-  strict = leave_open Strict (passing _ _ _ refl refl refl) (passing _ _ _ refl refl refl);
-  permissive = leave_open Permissive (passing _ _ _ refl refl refl) (passing _ _ _ refl refl refl);
+  strict = leave_open Strict refl (passing _ _ _ refl refl refl) (passing _ _ _ refl refl refl);
+  permissive = leave_open Permissive refl (passing _ _ _ refl refl refl) (passing _ _ _ refl refl refl);
 }
 
 pub strict_herself : AllHoldIn Strict (visit_basis Strict) users_visit visiting

@@ -22,35 +22,36 @@ use Rattle.cedar_typing.specs.Examples.NeededPremises.{RequestsMustConformIn, St
 use Rattle.cedar_typing.specs.Examples.NeededPremises.{ExternalTypesGoWrongIn, PartialGoesWrong, PremisesAreNeededIn, PremisesAreNeeded}
 use Rattle.cedar_typing.specs.Examples.PolicySoundness.{sample_basis, Passes, PassesWarned, policy_when, meeting_slots, meeting}
 use Rattle.cedar_typing.specs.Examples.World.{greet, sample_schema}
+use Rattle.cedar_typing.specs.Modes.{IsSoundMode}
 use Rattle.cedar_typing.specs.PolicyCheck.Outcome.{impossible}
-use Rattle.cedar_typing.specs.Soundness.Policies.{Basis, IsClosedIn, IsNamedBySchema, IsWellFormed, IsConforming}
+use Rattle.cedar_typing.specs.Soundness.Policies.{Basis, IsSoundAndClosed, IsNamedBySchema, IsWellFormed, IsConforming}
 use Rattle.cedar_typing.proofs.Composition.Slots.{slots_bound}
 use Rattle.cedar_typing.proofs.Examples.PolicySoundness.{passing, AllPass, all_passing, formed, both_bound, meeting_conforms}
 use Rattle.cedar_typing.proofs.Examples.World.{left_out, conforms, greets}
 
-closed : (m : ValidationMode) → IsClosedIn m (sample_basis m)
-closed m = record { mode = refl; closed = refl }
+closed : (m : ValidationMode) → IsSoundMode m → IsSoundAndClosed (sample_basis m)
+closed m sound = record { mode = sound; closed = refl }
 
 -- conformity depends neither on the mode nor on the slots
 conforming : (m : ValidationMode) (slots : Slots) → IsConforming (sample_basis m) (record meeting { slots = slots })
 conforming m slots =
     record { request = meeting_conforms.request; store = meeting_conforms.store; functions = meeting_conforms.functions }
 
-as_asked : (m : ValidationMode) (slots : Slots) → IsAsAskedIn m (record meeting { slots = slots })
-as_asked m slots = record { basis = closed m; conforming = conforming m slots }
+as_asked : (m : ValidationMode) → IsSoundMode m → (slots : Slots) → IsAsAskedIn m (record meeting { slots = slots })
+as_asked m sound slots = record { basis = closed m sound; conforming = conforming m slots }
 
 goes_wrong : {m : ValidationMode} {Passing : Basis → PlainTemplate → Type 0} {t : PlainTemplate} {world : World} {f : Failure}
     → Passing (sample_basis m) t → IsNamedBySchema sample_schema t → IsWellFormed t world.slots
     → eval world (condition_of t) ≡ Fails f → BreaksPromise world t → GoesWrongIn m Passing t world f
 goes_wrong {m} {Passing} {t} {world} {f} p n w e b =
-    record { basis = closed m; passes = p; named = n; well_formed = w; wrong = e; broken = b }
+    record { mode = refl; closed = refl; passes = p; named = n; well_formed = w; wrong = e; broken = b }
 
-module _ (m : ValidationMode) where
+module _ (m : ValidationMode) (sound : IsSoundMode m) where
   -- ---- names, unknowns and slots
 
   names : PassesWarned (sample_basis m) of_unknown_type → PassesWarned (sample_basis m) of_unknown_action → NamesMustBeKnownIn m
   names p q = record {
-    others = as_asked m meeting_slots;
+    others = as_asked m sound meeting_slots;
     type_passes = p;
     type_formed = formed of_unknown_type refl (λ x. refl);
     type_actions = refl;
@@ -65,7 +66,7 @@ module _ (m : ValidationMode) where
 
   unknowns : PassesWarned (sample_basis m) of_unknown → UnknownsGoWrongIn m
   unknowns p = record {
-    others = as_asked m meeting_slots;
+    others = as_asked m sound meeting_slots;
     passes = p;
     named = record { types = refl; actions = refl };
     slots_in_scope = λ x. refl;
@@ -80,7 +81,7 @@ module _ (m : ValidationMode) where
 
   slots_in_rest : PassesWarned (sample_basis m) slot_in_rest → PassesWarned (sample_basis m) robots_template → SlotsInTheRestGoWrongIn m
   slots_in_rest p q = record {
-    others = as_asked m robot_slots;
+    others = as_asked m sound robot_slots;
     passes = p;
     named = record { types = refl; actions = refl };
     no_unknowns = refl;
@@ -93,7 +94,7 @@ module _ (m : ValidationMode) where
 
   unbound : Passes (sample_basis m) equal_to_slot → UnboundSlotsGoWrongIn m
   unbound p = record {
-    others = as_asked m greeting.slots;
+    others = as_asked m sound greeting.slots;
     passes = p;
     named = record { types = refl; actions = refl };
     no_unknowns = refl;
@@ -170,27 +171,27 @@ no_warning t = []
 abbrev is_impossible : PlainTemplate → List Warning
 is_impossible t = impossible t ∷ []
 
-in_mode : (m : ValidationMode) → AllPass (sample_basis m) no_warning plain → AllPass (sample_basis m) is_impossible warned
+in_mode : (m : ValidationMode) → IsSoundMode m → AllPass (sample_basis m) no_warning plain → AllPass (sample_basis m) is_impossible warned
     → AllPass (guest_basis m) is_impossible of_guests → PremisesAreNeededIn m
-in_mode m p w g = record {
-  names = names m w.0 w.1.0;
-  unknowns = unknowns m w.1.1.0;
-  slots_in_scope = slots_in_rest m w.1.1.1.0 w.1.1.1.1.0;
-  bound = unbound m p.0;
-  request = requests m w.1.1.1.1.1.0;
-  store = stores m p.1.0;
-  functions = functions m p.1.1.0;
+in_mode m sound p w g = record {
+  names = names m sound w.0 w.1.0;
+  unknowns = unknowns m sound w.1.1.0;
+  slots_in_scope = slots_in_rest m sound w.1.1.1.0 w.1.1.1.1.0;
+  bound = unbound m sound p.0;
+  request = requests m sound w.1.1.1.1.1.0;
+  store = stores m sound p.1.0;
+  functions = functions m sound p.1.1.0;
   closed = external m g.0 g.1.0;
 }
 
 strict : PremisesAreNeededIn Strict
 strict =
-    in_mode Strict (all_passing (sample_basis Strict) no_warning plain refl)
+    in_mode Strict refl (all_passing (sample_basis Strict) no_warning plain refl)
     (all_passing (sample_basis Strict) is_impossible warned refl) (all_passing (guest_basis Strict) is_impossible of_guests refl)
 
 permissive : PremisesAreNeededIn Permissive
 permissive =
-    in_mode Permissive (all_passing (sample_basis Permissive) no_warning plain refl)
+    in_mode Permissive refl (all_passing (sample_basis Permissive) no_warning plain refl)
     (all_passing (sample_basis Permissive) is_impossible warned refl)
     (all_passing (guest_basis Permissive) is_impossible of_guests refl)
 

@@ -13,7 +13,7 @@ use Rattle.cedar_typing.specs.Evaluation.Conformance.{IsBound}
 use Rattle.cedar_typing.specs.Examples.PolicySoundness.{sample_basis, meeting_template, meeting_slots, meeting, PolicyPremisesAreMet}
 use Rattle.cedar_typing.specs.PolicyCheck.{Verdict, PolicyChecks, policy_check}
 use Rattle.cedar_typing.specs.PolicyCheck.Outcome.{Adds, VerdictsOf, all_pass, all_errors, warnings_of}
-use Rattle.cedar_typing.specs.Soundness.Policies.{Basis, IsStrictAndClosed, IsWellFormed, IsConforming, setting_on, CheckedOn}
+use Rattle.cedar_typing.specs.Soundness.Policies.{Basis, IsSoundAndClosed, IsWellFormed, IsConforming, setting_on, CheckedOn}
 use Rattle.cedar_typing.specs.Silence.{HasNoUnknowns}
 use Rattle.cedar_typing.proofs.Basics.{first_is, rest_is}
 use Rattle.cedar_typing.proofs.Composition.Slots.{slots_bound}
@@ -75,7 +75,7 @@ pub formed : (t : PlainTemplate) → HasNoUnknowns (condition_of t) → SlotsInS
 formed t u a =
     record { no_unknowns = u; slots_in_scope = a; bound = slots_bound meeting_slots both_bound (condition_of t) }
 
-pub strict_sample : IsStrictAndClosed (sample_basis Strict)
+pub strict_sample : IsSoundAndClosed (sample_basis Strict)
 strict_sample = record { mode = refl; closed = refl }
 
 pub meeting_conforms : IsConforming (sample_basis Strict) meeting

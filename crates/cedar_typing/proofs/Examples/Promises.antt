@@ -7,8 +7,9 @@ use Rattle.cedar_typing.specs.Examples.Greeting.{greeting}
 use Rattle.cedar_typing.specs.Examples.PolicySoundness.{sample_basis, meeting}
 use Rattle.cedar_typing.specs.Examples.Promises.{wrong_policy, PromiseExamples, PromisesCanBreakIn, PromisesCanBreak}
 use Rattle.cedar_typing.specs.Examples.World.{sample}
-use Rattle.cedar_typing.specs.Soundness.Policies.{IsClosedIn, IsConforming}
-use Rattle.cedar_typing.specs.Soundness.{IsReliableIn, IsWorldOf}
+use Rattle.cedar_typing.specs.Modes.{IsSoundMode}
+use Rattle.cedar_typing.specs.Soundness.Policies.{IsSoundAndClosed, IsConforming}
+use Rattle.cedar_typing.specs.Soundness.{IsReliable, IsWorldOf}
 use Rattle.cedar_typing.proofs.Examples.PolicySoundness.{formed, meeting_conforms}
 use Rattle.cedar_typing.proofs.Examples.World.{greeting_conforms}
 
@@ -50,9 +51,9 @@ promise_examples = record {
   failure_is_true = λ f h. h;
 }
 
-module _ (m : ValidationMode) where
-  reliable : IsReliableIn m (sample m)
-  reliable = record { mode = refl; closed = refl; environment = inl refl }
+module _ (m : ValidationMode) (sound : IsSoundMode m) where
+  reliable : IsReliable (sample m)
+  reliable = record { mode = sound; closed = refl; environment = inl refl }
 
   world_fits : IsWorldOf (sample m) greeting
   world_fits = record {
@@ -61,8 +62,8 @@ module _ (m : ValidationMode) where
     functions = greeting_conforms.functions;
   }
 
-  closed : IsClosedIn m (sample_basis m)
-  closed = record { mode = refl; closed = refl }
+  closed : IsSoundAndClosed (sample_basis m)
+  closed = record { mode = sound; closed = refl }
 
   conforming : IsConforming (sample_basis m) meeting
   conforming = record {
@@ -84,4 +85,4 @@ module _ (m : ValidationMode) where
   }
 
 pub promises_can_break : PromisesCanBreak
-promises_can_break = record { strict = can_break Strict; permissive = can_break Permissive }
+promises_can_break = record { strict = can_break Strict refl; permissive = can_break Permissive refl }

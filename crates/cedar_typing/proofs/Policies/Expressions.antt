@@ -1,17 +1,16 @@
 -- The check of an expression follows the rules, and keeps its promises.
-use Rattle.std.proofs.Common.{◌≡◌, true, false, List, [], None, sym, subst}
+use Rattle.std.proofs.Common.{◌≡◌, false, List, [], None, sym, subst}
 use Rattle.std.proofs.lemmas.List.Sorted.{IsPermutation-refl}
-use Rattle.cedar_types.specs.declared.base.types.ValidationMode.TheVariants.{Permissive, Strict}
 use Rattle.cedar_types.specs.Errors.{Finding}
 use Rattle.cedar_types.specs.Extensions.Functions.{table_fault}
 use Rattle.cedar_types.specs.Schemas.{has_fault}
-use Rattle.cedar_types.specs.Schemas.Formed.{has_formed_types}
 use Rattle.cedar_typing.specs.Capabilities.{Caps}
 use Rattle.cedar_typing.specs.Evaluation.World.{World}
 use Rattle.cedar_typing.specs.ExpressionCheck.{ExpressionChecks, expression_typed, expression_refused, expression_cut}
-use Rattle.cedar_typing.specs.ExpressionCheck.{AnswerPromises, IsSoundAnswerIn}
+use Rattle.cedar_typing.specs.ExpressionCheck.{AnswerPromises, IsSoundAnswer}
 use Rattle.cedar_typing.specs.Infer.{infer}
 use Rattle.cedar_typing.specs.Infer.Parts.{Answer, AnswerAndErrors}
+use Rattle.cedar_typing.specs.Modes.{IsFormedFor}
 use Rattle.cedar_typing.specs.Rules.{rules}
 use Rattle.cedar_typing.specs.Setting.{Setting}
 use Rattle.cedar_typing.specs.Soundness.{IsSoundAt}
@@ -19,8 +18,8 @@ use Rattle.cedar_typing.specs.TypedCopies.{MeansTheSame}
 use Rattle.cedar_typing.specs.TypedExpr.{Source}
 use Rattle.cedar_typing.proofs.Agreement.Induction.{agrees}
 use Rattle.cedar_typing.proofs.Agreement.Parts.{Answers, a_derived, a_recovered, a_cut}
-use Rattle.cedar_typing.proofs.Soundness.Induction.{type_soundness, type_soundness_in_permissive}
-use Rattle.cedar_typing.proofs.TypedCopies.Laws.{copies_mean_the_same, copies_mean_the_same_in_permissive}
+use Rattle.cedar_typing.proofs.Soundness.Induction.{type_soundness}
+use Rattle.cedar_typing.proofs.TypedCopies.Laws.{copies_mean_the_same}
 
 module _ (s : Setting) (e : Source) (prior : Caps) where
   by_rules : (a : Answer) (es : List Finding) → Answers (rules s e prior 1) a es → ExpressionChecks s e prior a es
@@ -47,14 +46,9 @@ module _ (s : Setting) (e : Source) (prior : Caps) where
         record { typed = holds.recovered x es h; same = copies.recovered x es h }
     promised a es (expression_cut h p) = tt
 
-  module _ (faults : has_fault s.env.schema ≡ false) (table : table_fault s.functions ≡ None) (a : Answer)
-      (es : List Finding) (checks : ExpressionChecks s e prior a es) where
-    pub answer_sound : IsSoundAnswerIn Strict s e prior a
+  module _ (faults : has_fault s.env.schema ≡ false) (formed : IsFormedFor s.env.mode s.env.schema)
+      (table : table_fault s.functions ≡ None) (a : Answer) (es : List Finding) (checks : ExpressionChecks s e prior a es) where
+    pub answer_sound : IsSoundAnswer s e prior a
     answer_sound r world i b h =
-        promised world (type_soundness s world faults table r i e b prior 1 h)
-        (copies_mean_the_same s world faults table r i e b prior 1 h) a es checks
-
-    pub answer_sound_in_permissive : has_formed_types s.env.schema ≡ true → IsSoundAnswerIn Permissive s e prior a
-    answer_sound_in_permissive w r world i b h =
-        promised world (type_soundness_in_permissive s world faults w table r i e b prior 1 h)
-        (copies_mean_the_same_in_permissive s world faults w table r i e b prior 1 h) a es checks
+        promised world (type_soundness s world faults formed table r i e b prior 1 h)
+        (copies_mean_the_same s world faults formed table r i e b prior 1 h) a es checks

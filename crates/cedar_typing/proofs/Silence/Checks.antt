@@ -1,5 +1,5 @@
 -- A check that fails without an error is a cut, and one that passes is derived.
-use Rattle.std.proofs.Common.{◌≡◌, Bool, true, false, true≢false, List, [], ◌∷◌, refl, sym, ◌∙◌, subst}
+use Rattle.std.proofs.Common.{◌≡◌, true, false, true≢false, List, [], ◌∷◌, refl, sym, ◌∙◌, subst}
 use Rattle.std.specs.Prelude.{IsPermutation}
 use Rattle.std.proofs.lemmas.List.Sorted.{IsPermutation-sym}
 use Rattle.cedar_types.specs.Errors.{Finding}
@@ -10,14 +10,12 @@ use Rattle.cedar_typing.specs.PolicyCheck.Outcome.{is_silent, passes}
 use Rattle.cedar_typing.specs.Rules.Laws.{IsCut}
 use Rattle.cedar_typing.specs.Rules.{rules}
 use Rattle.cedar_typing.specs.Setting.{Setting}
-use Rattle.cedar_typing.specs.Silence.{IsWellNamed, SilentFailureIsCut, SilentFailureIsCutInPermissive, IsDerivedAs, PassingIsDerived}
-use Rattle.cedar_typing.specs.Silence.{PassingIsDerivedInPermissive}
+use Rattle.cedar_typing.specs.Silence.{IsWellNamed, IsSettled, SilentFailureIsCut, IsDerivedAs, PassingIsDerived}
 use Rattle.cedar_typing.specs.TypeTests.{bool_types}
 use Rattle.cedar_typing.specs.TypedExpr.{Source, TypedTree, place_of}
 use Rattle.cedar_typing.proofs.Silence.Induction.{loud}
 use Rattle.cedar_typing.proofs.Silence.Names.{clean}
 use Rattle.cedar_typing.proofs.Silence.Parts.{IsLoud, operand_loud}
-use Rattle.cedar_typing.proofs.Silence.Settled.{Settled, in_strict, in_permissive}
 use Rattle.cedar_typing.proofs.Policies.Verdicts.{none}
 
 -- there is an error in every order
@@ -25,11 +23,11 @@ reordered_loud : (es fs : List Finding) → IsPermutation es fs → IsLoud es �
 reordered_loud es [] p h = absurd (true≢false (subst IsLoud (none es (IsPermutation-sym es [] p)) h))
 reordered_loud es (f ∷ fs) p h = refl
 
-module _ (strictly : Bool) (s : Setting) (ok : Settled strictly s) (e : Source) (named : IsWellNamed s.env.schema e) where
+module _ (s : Setting) (ok : IsSettled s) (e : Source) (named : IsWellNamed s.env.schema e) where
   -- a refused condition has an error
   refused_loud : (x : TypedTree) (es fs : List Finding) → RefusedCondition s e x es → IsPermutation es fs → is_silent fs ≡ true → ⊥
   refused_loud x es fs (c, o) p q =
-      let h = operand_loud (rules s e no_caps 1) (loud strictly s ok e (clean s.env.schema e named) no_caps 1)
+      let h = operand_loud (rules s e no_caps 1) (loud s ok e (clean s.env.schema e named) no_caps 1)
       s.env bool_types (place_of e) false c x es o refl in
       true≢false (sym q ∙ reordered_loud es fs p h)
 
@@ -45,13 +43,7 @@ module _ (strictly : Bool) (s : Setting) (ok : Settled strictly s) (e : Source) 
   passing_derived v (check_cut c p) q = cc
 
 pub silent_failure_is_cut : SilentFailureIsCut
-silent_failure_is_cut s ok e h fs c q = silent_cut true s (in_strict s ok) e h fs c q
+silent_failure_is_cut s ok e h fs c q = silent_cut s ok e h fs c q
 
 pub passing_is_derived : PassingIsDerived
-passing_is_derived s ok e h v c q = passing_derived true s (in_strict s ok) e h v c q
-
-pub silent_failure_is_cut_in_permissive : SilentFailureIsCutInPermissive
-silent_failure_is_cut_in_permissive s ok formed e h fs c q = silent_cut false s (in_permissive s ok formed) e h fs c q
-
-pub passing_is_derived_in_permissive : PassingIsDerivedInPermissive
-passing_is_derived_in_permissive s ok formed e h v c q = passing_derived false s (in_permissive s ok formed) e h v c q
+passing_is_derived s ok e h v c q = passing_derived s ok e h v c q

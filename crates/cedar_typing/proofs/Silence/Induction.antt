@@ -1,5 +1,5 @@
 -- What fails has an error: all expressions.
-use Rattle.std.proofs.Common.{◌≡◌, ℕ, zero, ◌+◌, Bool, true, false, List, [], ◌∷◌, ◌++◌, Option, Some, None, if◌then◌else◌, true≢false}
+use Rattle.std.proofs.Common.{◌≡◌, ℕ, zero, ◌+◌, Bool, true, false, List, [], ◌∷◌, ◌++◌, Option, Some, None, if◌then◌else◌, true≢false, refl}
 use Rattle.cedar_types.specs.declared.base.expressions.operators.Var.{Var}
 use Rattle.cedar_types.specs.Errors.{Finding}
 use Rattle.cedar_types.specs.Types.Lookups.{declares_entity}
@@ -7,6 +7,7 @@ use Rattle.cedar_types.specs.Expressions.Parts.{subexpressions, subexpressions_o
 use Rattle.cedar_types.specs.Expressions.Tree.{Lit, bool, long, string, entity, lit, var, slot, unknown, if_then_else, and, or, unary}
 use Rattle.cedar_types.specs.Expressions.Tree.{binary, call, get_attr, has_attr, ext_has_attr, like, is_type, set_of, record_of, Trees}
 use Rattle.cedar_types.specs.Expressions.Tree.{no_trees, tree, Fields, no_fields, field}
+use Rattle.cedar_types.specs.Types.Bounds.{is_strict}
 use Rattle.cedar_types.specs.Types.{Ty, TEntity}
 use Rattle.cedar_types.specs.Expressions.View.{Written}
 use Rattle.cedar_typing.specs.Capabilities.{Caps}
@@ -24,7 +25,7 @@ use Rattle.cedar_typing.specs.Rules.Leaves.{unknown_entity_type}
 use Rattle.cedar_typing.specs.Rules.ShortCircuit.{conjunction, disjunction}
 use Rattle.cedar_typing.specs.Rules.Unary.{unary_form, like_form, is_form}
 use Rattle.cedar_typing.specs.Setting.{Setting}
-use Rattle.cedar_typing.specs.Silence.{FailuresHaveErrors, FailuresHaveErrorsInPermissive}
+use Rattle.cedar_typing.specs.Silence.{FailuresHaveErrors, IsSettled}
 use Rattle.cedar_typing.specs.TypedExpr.{Source, TypedTree, Mark, place_of}
 use Rattle.cedar_typing.proofs.KeptTypes.Induction.{kept_within}
 use Rattle.cedar_typing.proofs.KeptTypes.Modes.{keeps_in_mode}
@@ -35,7 +36,6 @@ use Rattle.cedar_typing.proofs.Silence.Eager.{LoudAll, none_loud, more_loud, for
 use Rattle.cedar_typing.proofs.Silence.Names.{AreClean, clean, clean_left, clean_right, literal_declared, action_typed}
 use Rattle.cedar_typing.proofs.Silence.Operators.{binary_loud}
 use Rattle.cedar_typing.proofs.Silence.Parts.{IsLoud, Knows, knows_of, Loud}
-use Rattle.cedar_typing.proofs.Silence.Settled.{Settled, in_strict, in_permissive}
 use Rattle.cedar_typing.proofs.Silence.Tables.{unary_loud, like_loud, is_loud, set_loud, record_loud, call_loud}
 
 -- ---- leaves
@@ -55,15 +55,15 @@ within_loud d J h = record {
 
 -- ---- all expressions
 
-module _ (strictly : Bool) (s : Setting) (ok : Settled strictly s) where
+module _ (s : Setting) (ok : IsSettled s) where
   clean_of : Source → Type 0
   clean_of e = AreClean s.env.schema (subexpressions e)
 
   single : (e : Source) (prior : Caps) (d : ℕ) → Knows (rules_within s e prior d)
   single e prior d =
-      knows_of strictly _ (kept_within (KeptIn strictly) s
-      (keeps_in_mode strictly s.env ok.strict ok.total ok.settled.faultless.schema ok.formed)
-      ok.settled.faultless.functions ok.settled.environment e prior d)
+      knows_of (is_strict s.env.mode) _ (kept_within (KeptIn (is_strict s.env.mode)) s
+      (keeps_in_mode (is_strict s.env.mode) s.env refl ok.faultless.mode ok.faultless.schema ok.faultless.formed)
+      ok.faultless.functions ok.environment e prior d)
 
   entity_typed : (b : Bool) (t : Ty) (other : Option Ty) → b ≡ true → known_entity_type (if b then Some t else None) other ≡ None → ⊥
   entity_typed true t other h e = cc
@@ -79,7 +79,7 @@ module _ (strictly : Bool) (s : Setting) (ok : Settled strictly s) where
 
   variable_typed : (x : Var) → variable_type s.env x ≡ None → ⊥
   variable_typed Var.Principal e = cc
-  variable_typed Var.Action e = action_typed s.env.schema ok.settled.faultless.schema s.env.request_env ok.settled.environment e
+  variable_typed Var.Action e = action_typed s.env.schema ok.faultless.schema s.env.request_env ok.environment e
   variable_typed Var.Resource e = cc
   variable_typed Var.Context e = cc
 
@@ -120,7 +120,7 @@ module _ (strictly : Bool) (s : Setting) (ok : Settled strictly s) where
         _ (within_loud (d + 1) _ (loud_within a h.1 prior (d + 1))) (single (unary m o a) prior d)
     loud_within (binary m o a b) h prior d =
         two_operands_loud s.env (binary_form s.env m prior a b o)
-        (binary_loud s.env ok.settled.faultless.schema ok.settled.environment m prior a b o (right_of a b h.1))
+        (binary_loud s.env ok.faultless.schema ok.environment m prior a b o (right_of a b h.1))
         (place_of a) (place_of b) _ _
         (within_loud (d + 1) _ (loud_within a (left_of a b h.1) prior (d + 1)))
         (within_loud (d + 1) _ (loud_within b (right_of a b h.1) prior (d + 1)))
@@ -175,8 +175,4 @@ module _ (strictly : Bool) (s : Setting) (ok : Settled strictly s) where
   loud e h prior d = within_loud d _ (loud_within e h prior d)
 
 pub failures_have_errors : FailuresHaveErrors
-failures_have_errors s ok e h prior d x es r = (loud true s (in_strict s ok) e (clean s.env.schema e h) prior d).failures x es r
-
-pub failures_have_errors_in_permissive : FailuresHaveErrorsInPermissive
-failures_have_errors_in_permissive s ok w e h prior d x es r =
-    (loud false s (in_permissive s ok w) e (clean s.env.schema e h) prior d).failures x es r
+failures_have_errors s ok e h prior d x es r = (loud s ok e (clean s.env.schema e h) prior d).failures x es r

@@ -1,27 +1,21 @@
 -- A policy that passes is derived in each of the environments that it is checked in.
-use Rattle.std.proofs.Common.{◌≡◌, Bool, true, false, ◌||◌, None, ap, List, [], ◌++◌, map, Option, refl, sym}
+use Rattle.std.proofs.Common.{◌≡◌, false, List, [], ◌++◌, map, Option, sym}
 use Rattle.cedar_types.specs.declared.base.names.slots.SlotId.{SlotId}
 use Rattle.cedar_types.specs.declared.base.types.ValidationMode.{ValidationMode}
-use Rattle.cedar_types.specs.Types.Bounds.{is_strict}
-use Rattle.cedar_types.specs.Errors.{Finding, Warning}
-use Rattle.cedar_types.specs.Extensions.Functions.{table_fault}
 use Rattle.cedar_types.specs.Environments.{DeclaredEnv, environments_of}
 use Rattle.cedar_types.specs.Environments.Linking.{has_slot, slot_links, in_all_ways, linked_envs, checked_envs}
 use Rattle.cedar_types.specs.Names.{Path}
 use Rattle.cedar_types.specs.Environments.RequestEnvs.{Env, Declared, Undeclared, is_partial, unlinked, unlinked_envs}
-use Rattle.cedar_types.specs.Schemas.{Schema, has_fault}
+use Rattle.cedar_types.specs.Schemas.{Schema}
 use Rattle.cedar_types.specs.Templates.{PlainTemplate, condition_of}
 use Rattle.cedar_typing.specs.Composition.{in_env}
 use Rattle.cedar_typing.specs.Evaluation.Conformance.{IsOneOf, IsEnvironmentOf}
-use Rattle.cedar_typing.specs.PolicyCheck.Outcome.{passes, PolicyOutcome}
-use Rattle.cedar_typing.specs.Silence.{IsWellNamedTemplate, ChecksOf, IsDerivedIn, PassingPolicyIsDerived, PassingPolicyIsDerivedInPermissive}
+use Rattle.cedar_typing.specs.PolicyCheck.Outcome.{passes}
+use Rattle.cedar_typing.specs.Silence.{IsSettled, ChecksOf, PassingPolicyIsDerived}
 use Rattle.cedar_typing.proofs.Policies.EachEnvironment.{each_has_passing}
 use Rattle.cedar_typing.proofs.Basics.Members.{all_flat, all_joined, all_mapped}
 use Rattle.cedar_typing.proofs.Silence.Checks.{passing_derived}
 use Rattle.cedar_typing.proofs.Silence.Names.{condition_is_well_named}
-use Rattle.cedar_typing.proofs.Silence.Settled.{Settled}
-use Rattle.cedar_types.specs.Schemas.Formed.{has_formed_types}
-use Rattle.cedar_typing.specs.Setting.{Setting}
 
 -- ---- the environments of a template
 
@@ -57,37 +51,15 @@ module _ (s : Schema) where
 
 -- ---- the verdicts
 
-module _ (strictly : Bool) (s : Setting) (t : PlainTemplate) (strict : is_strict s.env.mode ≡ strictly)
-    (total : is_partial s.env.mode ≡ false)
-    (formed : (strictly || has_formed_types s.env.schema) ≡ true) (schema : has_fault s.env.schema ≡ false)
-    (functions : table_fault s.functions ≡ None) where
-  pub passing_derived_in : IsWellNamedTemplate s.env.schema t → (errors errors' : List Finding) (warnings warnings' : List Warning)
-      → PolicyOutcome (ChecksOf s t) (checked_envs s.env.schema s.env.mode t) t true errors errors' warnings warnings'
-      → (env : Env) → IsOneOf env (checked_envs s.env.schema s.env.mode t) → IsDerivedIn s t env
-  passing_derived_in named errors errors' warnings warnings' o e i =
-      let envs : List Env = checked_envs s.env.schema s.env.mode t in
-      let p = each_has_passing (ChecksOf s t) passes o.listed envs o.verdicts o.in_some_order o.checked (sym o.answered) e i in
-      let there : IsEnvironmentOf s.env.schema e = checked_of_schema s.env.schema s.env.mode total t e i in
-      let settled : Settled strictly (in_env s e) = record {
-        strict = strict;
-        total = total;
-        formed = formed;
-        settled = record {
-          faultless = record { mode = refl; schema = schema; functions = functions };
-          environment = there;
-        };
-      } in (
-        p.0,
-        p.1,
-        passing_derived strictly (in_env s e) settled (condition_of t) (condition_is_well_named s.env.schema t named) p.0 p.1 p.2,
-      )
-
 pub passing_policy_is_derived : PassingPolicyIsDerived
 passing_policy_is_derived s t ok named errors errors' warnings warnings' o e i =
-    passing_derived_in true s t (ap is_strict ok.mode) (ap is_partial ok.mode) refl ok.schema ok.functions named
-    errors errors' warnings warnings' o e i
-
-pub passing_policy_is_derived_in_permissive : PassingPolicyIsDerivedInPermissive
-passing_policy_is_derived_in_permissive s t ok formed named errors errors' warnings warnings' o e i =
-    passing_derived_in false s t (ap is_strict ok.mode) (ap is_partial ok.mode) formed ok.schema ok.functions named
-    errors errors' warnings warnings' o e i
+    let envs : List Env = checked_envs s.env.schema s.env.mode t in
+    let p = each_has_passing (ChecksOf s t) passes o.listed envs o.verdicts o.in_some_order o.checked (sym o.answered) e i in
+    let settled : IsSettled (in_env s e) = record {
+      faultless = record { mode = ok.mode; schema = ok.schema; formed = ok.formed; functions = ok.functions };
+      environment = checked_of_schema s.env.schema s.env.mode ok.mode t e i;
+    } in (
+      p.0,
+      p.1,
+      passing_derived (in_env s e) settled (condition_of t) (condition_is_well_named s.env.schema t named) p.0 p.1 p.2,
+    )

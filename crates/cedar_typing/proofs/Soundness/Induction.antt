@@ -1,5 +1,5 @@
 -- What has a type does not go wrong: the induction over expressions.
-use Rattle.std.proofs.Common.{◌≡◌, ℕ, ◌+◌, Bool, true, false, true≢false, ◌||◌, List, [], ◌∷◌, None, refl, ap, subst, sym, ◌∙◌}
+use Rattle.std.proofs.Common.{◌≡◌, ℕ, ◌+◌, Bool, true, false, true≢false, ◌||◌, List, [], ◌∷◌, None, refl, subst, sym}
 use Rattle.std.specs.Prelude.{◌+ℤ◌, ◌-ℤ◌, ◌*ℤ◌, int_lt, int_le}
 use Rattle.cedar_types.specs.declared.base.expressions.operators.BinaryOp.{BinaryOp}
 use Rattle.cedar_types.specs.declared.base.expressions.operators.UnaryOp.{UnaryOp}
@@ -10,8 +10,6 @@ use Rattle.cedar_types.specs.Expressions.Tree.{lit, var, slot, unknown, if_then_
 use Rattle.cedar_types.specs.Expressions.Tree.{ext_has_attr, like, is_type, set_of, record_of, Trees, no_trees, tree, Fields, no_fields}
 use Rattle.cedar_types.specs.Expressions.Tree.{field}
 use Rattle.cedar_types.specs.Expressions.View.{Written}
-use Rattle.cedar_types.specs.declared.base.types.ValidationMode.{ValidationMode}
-use Rattle.cedar_types.specs.declared.base.types.ValidationMode.TheVariants.{Strict, Permissive}
 use Rattle.cedar_types.specs.Types.Bounds.{is_strict}
 use Rattle.cedar_types.specs.Schemas.{Schema, has_fault}
 use Rattle.cedar_types.specs.Environments.RequestEnvs.{is_partial}
@@ -26,6 +24,7 @@ use Rattle.cedar_typing.specs.Evaluation.Conformance.{KeepsTable, AllHold}
 use Rattle.cedar_typing.specs.Evaluation.Eval.{unary_outcome, eval}
 use Rattle.cedar_typing.specs.Evaluation.World.{World, Outcome}
 use Rattle.cedar_typing.specs.Judgments.{Judgment, visited}
+use Rattle.cedar_typing.specs.Modes.{IsFormedFor}
 use Rattle.cedar_typing.specs.Rules.{rules, rules_within, rules_all, rules_fields}
 use Rattle.cedar_typing.specs.Rules.Attributes.{has_form, get_form}
 use Rattle.cedar_typing.specs.Rules.Binary.{binary_form}
@@ -34,7 +33,7 @@ use Rattle.cedar_typing.specs.Rules.Chains.{chain_form}
 use Rattle.cedar_typing.specs.Rules.Leaves.{UnknownRecovery, unknown_fails, unknown_rules}
 use Rattle.cedar_typing.specs.Rules.Unary.{unary_form, like_form, is_form}
 use Rattle.cedar_typing.specs.Setting.{Setting, table}
-use Rattle.cedar_typing.specs.Soundness.{HasFound, IsSoundAt, IsReliableIn, IsWorldOf, TypeSoundness, TypeSoundnessInPermissive}
+use Rattle.cedar_typing.specs.Soundness.{HasFound, IsSoundAt, IsReliable, IsWorldOf, TypeSoundness}
 use Rattle.cedar_typing.specs.TypedExpr.{Source, TypedTree, annotation, place_of}
 use Rattle.cedar_typing.proofs.Agreement.Operators.{unary_marked, binary_marked}
 use Rattle.cedar_typing.proofs.Bounds.Attributes.{AttributesFormed, Joins}
@@ -255,14 +254,14 @@ module _ (strictly : Bool) (s : Setting) (world : World) (strict : is_strict s.e
       → Sounds world (eval world e) (rules s e prior d)
   sounds e b prior d h = within_sounds world _ d _ (sounds_within e b prior d h)
 
--- the same of a setting that is reliable in Strict or in Permissive, and one of its worlds
-module _ (m : ValidationMode) (s : Setting) (world : World) (faults : has_fault s.env.schema ≡ false)
-    (table_faults : table_fault s.functions ≡ None) (total : is_partial m ≡ false)
-    (formed : (is_strict m || has_formed_types s.env.schema) ≡ true) (r : IsReliableIn m s) (i : IsWorldOf s world) where
+-- the same of a reliable setting and one of its worlds
+module _ (s : Setting) (world : World) (faults : has_fault s.env.schema ≡ false)
+    (formed : IsFormedFor s.env.mode s.env.schema) (table_faults : table_fault s.functions ≡ None) (r : IsReliable s)
+    (i : IsWorldOf s world) where
   pub sounds_in : (e : Source) → SlotsBound world.slots e → (prior : Caps) (d : ℕ) → AllHold world prior
       → Sounds world (eval world e) (rules s e prior d)
   sounds_in =
-      sounds (is_strict m) s world (ap is_strict r.mode) (ap is_partial r.mode ∙ total) formed faults table_faults r.closed
+      sounds (is_strict s.env.mode) s world refl r.mode formed faults table_faults r.closed
       r.environment i.environment i.store i.functions
 
   sound_at : (e : Source) → SlotsBound world.slots e → (prior : Caps) (d : ℕ) → AllHold world prior → IsSoundAt s world e prior d
@@ -277,7 +276,4 @@ module _ (m : ValidationMode) (s : Setting) (world : World) (faults : has_fault 
       }
 
 pub type_soundness : TypeSoundness
-type_soundness s world f t r i = sound_at Strict s world f t refl refl r i
-
-pub type_soundness_in_permissive : TypeSoundnessInPermissive
-type_soundness_in_permissive s world f w t r i = sound_at Permissive s world f t refl w r i
+type_soundness s world f w t r i = sound_at s world f w t r i

@@ -1,29 +1,26 @@
 -- A policy that passes does not go wrong, and one that is warned to be impossible is never true: from what the check of a
 -- policy comes to.
-use Rattle.std.proofs.Common.{◌≡◌, ◌⊎◌, inl, inr, Bool, true, false, cond, ◌||◌, List, [], ◌∷◌, None, refl, ◌∙◌, ap, subst}
+use Rattle.std.proofs.Common.{◌≡◌, ◌⊎◌, inl, inr, Bool, true, false, cond, List, [], ◌∷◌, None, refl, subst}
 use Rattle.std.specs.Prelude.{IsPermutation}
 use Rattle.cedar_types.specs.Errors.{Finding, Warning}
 use Rattle.cedar_types.specs.Extensions.Functions.{table_fault}
 use Rattle.cedar_types.specs.Environments.Linking.{checked_envs}
-use Rattle.cedar_types.specs.Types.Bounds.{is_strict}
-use Rattle.cedar_types.specs.Environments.RequestEnvs.{Env, Undeclared, is_partial}
+use Rattle.cedar_types.specs.Environments.RequestEnvs.{Env, Undeclared}
 use Rattle.cedar_types.specs.Schemas.{has_fault}
 use Rattle.cedar_types.specs.Templates.{PlainTemplate, condition_of}
 use Rattle.cedar_types.specs.declared.base.types.BoolType.TheVariants.{False}
-use Rattle.cedar_types.specs.declared.base.types.ValidationMode.{ValidationMode}
-use Rattle.cedar_types.specs.declared.base.types.ValidationMode.TheVariants.{Strict, Permissive}
 use Rattle.cedar_types.specs.Types.{Ty, TBool}
 use Rattle.cedar_typing.specs.Capabilities.{Caps, no_caps}
-use Rattle.cedar_typing.specs.Composition.{SlotsInScopeAlone, in_env, own_env, IsIrrelevant, IsIrrelevantInAll}
-use Rattle.cedar_types.specs.Schemas.Formed.{has_formed_types}
+use Rattle.cedar_typing.specs.Composition.{SlotsInScopeAlone, in_env, own_env, IsFaultless, IsIrrelevant, IsIrrelevantInAll}
 use Rattle.cedar_typing.specs.Evaluation.Conformance.{IsOneOf, ConformingRequest, has_external}
 use Rattle.cedar_typing.specs.Evaluation.Eval.{eval}
 use Rattle.cedar_typing.specs.Evaluation.World.{World}
+use Rattle.cedar_typing.specs.Modes.{IsSoundMode, IsFormedFor}
 use Rattle.cedar_typing.specs.PolicyCheck.{Verdict, succeeds, irrelevant, fails, PolicyChecks, SameVerdict, same_success, same_irrelevant}
 use Rattle.cedar_typing.specs.PolicyCheck.{same_failure}
 use Rattle.cedar_typing.specs.PolicyCheck.Outcome.{Adds, VerdictsOf, is_irrelevant, all_irrelevant, impossible, warnings_of, PolicyOutcome}
 use Rattle.cedar_typing.specs.Soundness.Policies.{Basis, IsNamedBySchema, IsWellFormed, IsConforming, setting_on, CheckedOn}
-use Rattle.cedar_typing.specs.Soundness.Policies.{AreBothKeptIn, PromisesAreKept, PromisesAreKeptInPermissive}
+use Rattle.cedar_typing.specs.Soundness.Policies.{PromisesAreKept}
 use Rattle.cedar_typing.specs.Rules.{rules, Derives}
 use Rattle.cedar_typing.specs.Setting.{Setting}
 use Rattle.cedar_typing.specs.Silence.{IsWellNamedTemplate, IsDerivedAs, IsDerivedIn}
@@ -32,11 +29,11 @@ use Rattle.cedar_typing.specs.Soundness.{IsTrueOutcome}
 use Rattle.cedar_typing.specs.TypeTests.{accepts, bool_types}
 use Rattle.cedar_typing.specs.TypedExpr.{Source, TypedTree}
 use Rattle.cedar_typing.proofs.Composition.Links.{own_env_is_checked}
-use Rattle.cedar_typing.proofs.Composition.NeverTrue.{Sure, never_true_in, own_sounds, own_kept}
+use Rattle.cedar_typing.proofs.Composition.NeverTrue.{never_true, own_sounds, own_kept}
 use Rattle.cedar_typing.proofs.Composition.OwnBinding.{own_world}
 use Rattle.cedar_typing.proofs.Policies.EachEnvironment.{each_has_passing}
 use Rattle.cedar_typing.proofs.Basics.Gains.{in_either}
-use Rattle.cedar_typing.proofs.Silence.Policies.{passing_derived_in}
+use Rattle.cedar_typing.proofs.Silence.Policies.{passing_policy_is_derived}
 use Rattle.cedar_typing.proofs.Soundness.Parts.{Sounds}
 use Rattle.cedar_typing.proofs.Soundness.PolicyCheck.{boolean}
 use Rattle.cedar_typing.proofs.Policies.Verdicts.{verdict_at_most}
@@ -90,9 +87,9 @@ irrelevant_too u v (same_failure p) h = cc
 
 -- ---- the promises
 
-module _ (strictly : Bool) (b : Basis) (t : PlainTemplate) (schema : has_fault b.schema ≡ false)
-    (formed : (strictly || has_formed_types b.schema) ≡ true) (functions : table_fault b.table.functions ≡ None)
-    (strict : is_strict b.mode ≡ strictly) (total : is_partial b.mode ≡ false) (closed : has_external b.schema ≡ false) where
+module _ (b : Basis) (t : PlainTemplate) (schema : has_fault b.schema ≡ false)
+    (formed : IsFormedFor b.mode b.schema) (functions : table_fault b.table.functions ≡ None)
+    (mode : IsSoundMode b.mode) (closed : has_external b.schema ≡ false) where
   -- the setting, whose environment does not matter
   abbrev s : Setting
   s = setting_on b t.id Undeclared
@@ -100,8 +97,8 @@ module _ (strictly : Bool) (b : Basis) (t : PlainTemplate) (schema : has_fault b
   abbrev Checks : Env → Verdict → Type 0
   Checks env = PolicyChecks (in_env s env) (condition_of t)
 
-  sure : Sure strictly s
-  sure = record { strict = strict; total = total; formed = formed; schema = schema; functions = functions; closed = closed }
+  faultless : IsFaultless s
+  faultless = record { mode = mode; schema = schema; formed = formed; functions = functions; closed = closed }
 
   -- what passes in the own environment is kept in any world of the request
   safe_if_derived : (world : World) → IsWellFormed t world.slots → IsConforming b world
@@ -113,9 +110,9 @@ module _ (strictly : Bool) (b : Basis) (t : PlainTemplate) (schema : has_fault b
       by (d, one, fits) =
           let own : Setting = in_env s (own_env t d) in
           let known = derived (own_env t d) (own_env_is_checked b.schema b.mode t w.slots_in_scope d one) in
-          own_kept strictly s t sure d one world fits i.store i.functions w.slots_in_scope w.bound
+          own_kept s t faultless d one world fits i.store i.functions w.slots_in_scope w.bound
           (derived_outcome own (condition_of t) (own_world world)
-          (own_sounds strictly s t sure d one world fits i.store i.functions) known.0 known.2)
+          (own_sounds s t faultless d one world fits i.store i.functions) known.0 known.2)
 
   irrelevant_in_all : (listed : List Env) (vs : List Verdict)
       → IsPermutation listed (checked_envs b.schema b.mode t) → VerdictsOf Checks listed vs
@@ -131,31 +128,18 @@ module _ (strictly : Bool) (b : Basis) (t : PlainTemplate) (schema : has_fault b
         let P : Bool → Type 0 = λ x. CheckedOn b t x errors errors' old new in
         let names : IsWellNamedTemplate b.schema t = record { unknowns = w.no_unknowns; types = n.types; actions = n.actions } in
         safe_if_derived world w i
-        (passing_derived_in strictly s t strict total formed schema functions names errors
-        errors' old new (subst P h o))
+        (passing_policy_is_derived s t (record { mode = mode; schema = schema; formed = formed; functions = functions })
+        names errors errors' old new (subst P h o))
 
     never_in : (IsOneOf (impossible t) old → ⊥) → IsOneOf (impossible t) new → SlotsInScopeAlone t → (world : World)
         → IsConforming b world → IsTrueOutcome (eval world (condition_of t)) → ⊥
     never_in absent there alone world i =
-        never_true_in strictly s t sure alone
+        never_true s t faultless alone
         (irrelevant_in_all o.listed o.verdicts o.in_some_order o.checked (due t o.verdicts old new o.warnings_added absent there))
         world i.request i.store i.functions
 
-kept_in : (m : ValidationMode) (b : Basis) (t : PlainTemplate) → has_fault b.schema ≡ false
-    → (is_strict m || has_formed_types b.schema) ≡ true → table_fault b.table.functions ≡ None → is_partial m ≡ false
-    → (passes : Bool) (errors errors' : List Finding) (old new : List Warning)
-    → CheckedOn b t passes errors errors' old new → AreBothKeptIn m b t passes old new
-kept_in m b t schema formed functions total passes errors errors' old new o = record {
-  safe =
-      λ h k. safe_in (is_strict m) b t schema formed functions (ap is_strict k.mode) (ap is_partial k.mode ∙ total)
-      k.closed passes errors errors' old new o h;
-  never_true =
-      λ absent there k. never_in (is_strict m) b t schema formed functions (ap is_strict k.mode) (ap is_partial k.mode ∙ total)
-      k.closed passes errors errors' old new o absent there;
-}
-
 pub promises_are_kept : PromisesAreKept
-promises_are_kept b t schema functions = kept_in Strict b t schema refl functions refl
-
-pub promises_are_kept_in_permissive : PromisesAreKeptInPermissive
-promises_are_kept_in_permissive b t schema formed functions = kept_in Permissive b t schema formed functions refl
+promises_are_kept b t schema formed functions passes errors errors' old new o = record {
+  safe = λ h k. safe_in b t schema formed functions k.mode k.closed passes errors errors' old new o h;
+  never_true = λ absent there k. never_in b t schema formed functions k.mode k.closed passes errors errors' old new o absent there;
+}

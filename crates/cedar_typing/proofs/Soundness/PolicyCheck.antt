@@ -1,26 +1,23 @@
 -- What a check promises of evaluation, from type soundness.
-use Rattle.std.proofs.Common.{◌≡◌, true, false, Option, Some, None, refl, ap, subst}
+use Rattle.std.proofs.Common.{◌≡◌, true, false, Option, Some, None, refl, subst}
 use Rattle.cedar_types.specs.declared.base.types.BoolType.TheVariants.{False}
-use Rattle.cedar_types.specs.declared.base.types.ValidationMode.TheVariants.{Permissive}
-use Rattle.cedar_types.specs.Types.Bounds.{is_strict}
-use Rattle.cedar_types.specs.Environments.RequestEnvs.{is_partial}
 use Rattle.cedar_types.specs.Types.{Ty, TBool}
 use Rattle.cedar_types.specs.Extensions.Functions.{table_fault}
 use Rattle.cedar_types.specs.Schemas.{has_fault}
 use Rattle.cedar_types.specs.Values.{Value, VBool, HasType}
 use Rattle.cedar_typing.specs.Capabilities.{no_caps}
-use Rattle.cedar_types.specs.Schemas.Formed.{has_formed_types}
 use Rattle.cedar_typing.specs.Evaluation.Eval.{eval}
 use Rattle.cedar_typing.specs.Evaluation.World.{World, Outcome, Gives, Fails}
+use Rattle.cedar_typing.specs.Modes.{IsFormedFor}
 use Rattle.cedar_typing.specs.PolicyCheck.{Verdict, PolicyChecks, check_true, check_false, check_refused_false, check_refused, check_cut}
 use Rattle.cedar_typing.specs.Rules.{rules}
 use Rattle.cedar_typing.specs.Setting.{Setting}
-use Rattle.cedar_typing.specs.Soundness.PolicyCheck.{IsBoolean, IsFalse, Promises, IsSoundPolicyCheck, IsSoundPolicyCheckIn}
+use Rattle.cedar_typing.specs.Soundness.PolicyCheck.{IsBoolean, IsFalse, Promises, IsSoundPolicyCheck}
 use Rattle.cedar_typing.specs.Soundness.{OnValue, HasFound}
 use Rattle.cedar_typing.specs.TypeTests.{accepts, bool_types, is_false, annotation_passes}
 use Rattle.cedar_typing.specs.TypedExpr.{Source, annotation, place_of}
 use Rattle.cedar_typing.proofs.Soundness.Capabilities.{hold_none}
-use Rattle.cedar_typing.proofs.Soundness.Induction.{sounds}
+use Rattle.cedar_typing.proofs.Soundness.Induction.{sounds_in}
 use Rattle.cedar_typing.proofs.Soundness.Parts.{Sounds, operand_sound}
 use Rattle.cedar_typing.proofs.Soundness.Tests.{BoolSort, NoValue, AnyValue, OnlyTrue, OnlyFalse, sort_ty, accepted_sort}
 use Rattle.cedar_typing.proofs.TypeTests.{false_type}
@@ -71,15 +68,7 @@ module _ (s : Setting) (e : Source) (world : World) (sound : Sounds world (eval 
   promised v (check_cut c p) = tt
 
 pub check_sound : (s : Setting) (e : Source) (v : Verdict) → has_fault s.env.schema ≡ false
-    → table_fault s.functions ≡ None → PolicyChecks s e v → IsSoundPolicyCheck s e v
-check_sound s e v f t c r world i b =
-    promised s e world (sounds true s world (ap is_strict r.mode) (ap is_partial r.mode)
-    refl f t r.closed r.environment i.environment i.store i.functions e b no_caps 1 (hold_none world)) v c
-
--- the same in Permissive, where the types of the schema are formed
-pub check_sound_in_permissive : (s : Setting) (e : Source) (v : Verdict) → has_fault s.env.schema ≡ false
-    → has_formed_types s.env.schema ≡ true → table_fault s.functions ≡ None → PolicyChecks s e v
-    → IsSoundPolicyCheckIn Permissive s e v
-check_sound_in_permissive s e v f w t c r world i b =
-    promised s e world (sounds false s world (ap is_strict r.mode) (ap is_partial r.mode)
-    w f t r.closed r.environment i.environment i.store i.functions e b no_caps 1 (hold_none world)) v c
+    → IsFormedFor s.env.mode s.env.schema → table_fault s.functions ≡ None → PolicyChecks s e v
+    → IsSoundPolicyCheck s e v
+check_sound s e v f w t c r world i b =
+    promised s e world (sounds_in s world f w t r i e b no_caps 1 (hold_none world)) v c

@@ -1,31 +1,27 @@
--- The laws of typed copies, in Strict and in Permissive.
-use Rattle.std.proofs.Common.{◌≡◌, ℕ, true, false, ◌||◌, None, refl, sym}
+-- The laws of typed copies.
+use Rattle.std.proofs.Common.{◌≡◌, ℕ, false, None, sym}
 use Rattle.cedar_types.specs.declared.base.types.BoolType.TheVariants.{False}
-use Rattle.cedar_types.specs.declared.base.types.ValidationMode.{ValidationMode}
-use Rattle.cedar_types.specs.declared.base.types.ValidationMode.TheVariants.{Strict, Permissive}
-use Rattle.cedar_types.specs.Environments.RequestEnvs.{is_partial}
 use Rattle.cedar_types.specs.Expressions.Tree.{Trees, no_trees, tree, Fields, no_fields, field}
 use Rattle.cedar_types.specs.Extensions.Functions.{table_fault}
 use Rattle.cedar_types.specs.Schemas.{has_fault}
-use Rattle.cedar_types.specs.Schemas.Formed.{has_formed_types}
 use Rattle.cedar_types.specs.Types.{TBool}
-use Rattle.cedar_types.specs.Types.Bounds.{is_strict}
 use Rattle.cedar_typing.specs.Capabilities.{Caps, no_caps}
 use Rattle.cedar_typing.specs.Evaluation.Conformance.{SlotsBound, AllHold}
 use Rattle.cedar_typing.specs.Evaluation.Eval.{eval}
 use Rattle.cedar_typing.specs.Evaluation.World.{World, Outcome}
 use Rattle.cedar_typing.specs.Judgments.{Judgment}
+use Rattle.cedar_typing.specs.Modes.{IsFormedFor}
 use Rattle.cedar_typing.specs.PolicyCheck.{Verdict, PolicyChecks, check_true, check_false, check_refused_false, check_refused, check_cut}
 use Rattle.cedar_typing.specs.Rules.{rules}
 use Rattle.cedar_typing.specs.Setting.{Setting}
-use Rattle.cedar_typing.specs.Soundness.{IsReliableIn, IsWorldOf}
+use Rattle.cedar_typing.specs.Soundness.{IsReliable, IsWorldOf}
 use Rattle.cedar_typing.specs.TypeTests.{bool_types}
 use Rattle.cedar_typing.specs.TypedExpr.{Source, TypedTree, Mark, place_of}
 use Rattle.cedar_typing.proofs.Soundness.Capabilities.{eval_mapped, hold_none, hold_either}
 use Rattle.cedar_typing.proofs.Soundness.Induction.{sounds_in}
 use Rattle.cedar_typing.proofs.Soundness.Parts.{Sounds, operand_sound}
-use Rattle.cedar_typing.specs.TypedCopies.{MeansTheSame, CopiesMeanTheSame, CopiesMeanTheSameInPermissive, VerdictMeansTheSame}
-use Rattle.cedar_typing.specs.TypedCopies.{TypesDoNotMatter, ChecksMeanTheSame, ChecksMeanTheSameInPermissive}
+use Rattle.cedar_typing.specs.TypedCopies.{MeansTheSame, CopiesMeanTheSame, VerdictMeansTheSame}
+use Rattle.cedar_typing.specs.TypedCopies.{TypesDoNotMatter, ChecksMeanTheSame}
 use Rattle.cedar_typing.proofs.TypedCopies.Induction.{copies}
 use Rattle.cedar_typing.proofs.Composition.Slots.{slots_bound}
 use Rattle.cedar_typing.proofs.TypedCopies.Filled.{filled_world, all_filled, filled_fits, eval_below, told_below}
@@ -72,15 +68,15 @@ told_by_soundness world o J i = record {
       record { typed = r.typed; known_if_true = r.caps_hold_if_true; known_at_true = r.caps_hold_at_true };
 }
 
-module _ (m : ValidationMode) (s : Setting) (world : World) (faults : has_fault s.env.schema ≡ false)
-    (table_faults : table_fault s.functions ≡ None) (total : is_partial m ≡ false)
-    (formed : (is_strict m || has_formed_types s.env.schema) ≡ true) (r : IsReliableIn m s) (i : IsWorldOf s world) where
+module _ (s : Setting) (world : World) (faults : has_fault s.env.schema ≡ false)
+    (formed : IsFormedFor s.env.mode s.env.schema) (table_faults : table_fault s.functions ≡ None) (r : IsReliable s)
+    (i : IsWorldOf s world) where
   means_the_same : (e : Source) → SlotsBound world.slots e → (prior : Caps) (d : ℕ) → AllHold world prior
       → MeansTheSame s world e prior d
   means_the_same e b prior d h =
       let q = copies Any (AllHold world) (Unit {0}) s world world.slots any_closed (λ c c' h k. hold_either world c c' h k)
       (λ e b prior d h.
-      told_by_soundness world (eval world e) (rules s e prior d) (sounds_in m s world faults table_faults total formed r i e b prior d h))
+      told_by_soundness world (eval world e) (rules s e prior d) (sounds_in s world faults formed table_faults r i e b prior d h))
       e b prior d h in
       record { derived = λ t c x k. q.derivations t c x k tt; recovered = λ x es k. q.recoveries tt x es k tt }
 
@@ -102,7 +98,7 @@ module _ (m : ValidationMode) (s : Setting) (world : World) (faults : has_fault 
   told_unbound e prior d h =
       told_below Any (AllHold filled) (Unit {0}) (eval world e) (eval filled e) (rules s e prior d) (eval_below world e)
       (told_by_soundness filled (eval filled e) (rules s e prior d)
-      (sounds_in m s filled faults table_faults total formed r filled_is_world e (slots_bound filled.slots (all_filled world) e) prior d h))
+      (sounds_in s filled faults formed table_faults r filled_is_world e (slots_bound filled.slots (all_filled world) e) prior d h))
 
   any_copies : (e : Source) (prior : Caps) (d : ℕ) → AllHold filled prior
       → Copies Any (Unit {0}) world (eval world e) (rules s e prior d)
@@ -128,15 +124,8 @@ pub types_do_not_matter : TypesDoNotMatter
 types_do_not_matter world x = sym (eval_mapped world (λ (m : Mark). m.at) x)
 
 pub copies_mean_the_same : CopiesMeanTheSame
-copies_mean_the_same s world f t r i = means_the_same Strict s world f t refl refl r i
-
-pub copies_mean_the_same_in_permissive : CopiesMeanTheSameInPermissive
-copies_mean_the_same_in_permissive s world f w t r i = means_the_same Permissive s world f t refl w r i
+copies_mean_the_same s world f w t r i = means_the_same s world f w t r i
 
 pub checks_mean_the_same : ChecksMeanTheSame
-checks_mean_the_same s e v f t c r world i =
-    verdict_means_the_same s e world (any_copies Strict s world f t refl refl r i e no_caps 1 (hold_none (filled_world world))) v c
-
-pub checks_mean_the_same_in_permissive : ChecksMeanTheSameInPermissive
-checks_mean_the_same_in_permissive s e v f w t c r world i =
-    verdict_means_the_same s e world (any_copies Permissive s world f t refl w r i e no_caps 1 (hold_none (filled_world world))) v c
+checks_mean_the_same s e v f w t c r world i =
+    verdict_means_the_same s e world (any_copies s world f w t r i e no_caps 1 (hold_none (filled_world world))) v c

@@ -23,7 +23,7 @@ use Rattle.cedar_typing.specs.Examples.Expressions.{the, principal, dot, equal, 
 use Rattle.cedar_typing.specs.Examples.Greeting.{stored_action, sample_functions, asks}
 use Rattle.cedar_typing.specs.Examples.PolicySoundness.{sample_basis, Passes, policy_when}
 use Rattle.cedar_typing.specs.Examples.World.{named, an_action_named, standard_type, requested, no_context, declared_group}
-use Rattle.cedar_typing.specs.Soundness.Policies.{Basis, IsClosedIn, IsNamedBySchema, IsWellFormed, IsConforming}
+use Rattle.cedar_typing.specs.Soundness.Policies.{Basis, IsSoundAndClosed, IsNamedBySchema, IsWellFormed, IsConforming}
 
 -- ---- names
 
@@ -150,7 +150,7 @@ linked_policy = template any (within to_slot) None
 pub record ConformityAllowsIn (m : ValidationMode) : Type 0 where
   pub faultless : has_fault review_schema ≡ false
   pub formed : has_formed_types review_schema ≡ true
-  pub basis : IsClosedIn m (review_basis m)
+  pub basis : IsSoundAndClosed (review_basis m)
   pub conforming : IsConforming (review_basis m) reviewing
   -- the ancestor that is not stored
   pub ancestor : IsStoredAncestor reviewing.store report attic

@@ -24,7 +24,7 @@ use Rattle.cedar_typing.specs.Examples.Greeting.{words, one_value, two_values, s
 use Rattle.cedar_typing.specs.Examples.Permissive.{team, staff}
 use Rattle.cedar_typing.specs.Examples.PolicySoundness.{sample_basis, Passes}
 use Rattle.cedar_typing.specs.Examples.World.{user, alice, bob, gone, an_action_named, a_user, standard_type, requested, with_action}
-use Rattle.cedar_typing.specs.Soundness.Policies.{Basis, IsClosedIn, IsNamedBySchema, IsWellFormed, IsConforming}
+use Rattle.cedar_typing.specs.Soundness.Policies.{Basis, IsSoundAndClosed, IsNamedBySchema, IsWellFormed, IsConforming}
 
 -- every premise of the promises on a policy that passes, in a mode
 pub record AllHoldIn (m : ValidationMode) (b : Basis) (t : PlainTemplate) (world : World) : Type 0 where
@@ -32,7 +32,8 @@ pub record AllHoldIn (m : ValidationMode) (b : Basis) (t : PlainTemplate) (world
   pub formed : has_formed_types b.schema ≡ true
   pub faultless_functions : table_fault b.table.functions ≡ None
   pub passes : Passes b t
-  pub basis : IsClosedIn m b
+  pub mode : b.mode ≡ m
+  pub basis : IsSoundAndClosed b
   pub named : IsNamedBySchema b.schema t
   pub well_formed : IsWellFormed t world.slots
   pub conforming : IsConforming b world

@@ -15,7 +15,7 @@ use Rattle.cedar_types.specs.Templates.{to_entity, to_slot, any, equal, PlainTem
 use Rattle.cedar_types.specs.Expressions.Tree.{Shape, var, unknown, if_then_else, and, is_type}
 use Rattle.cedar_types.specs.Values.{no_entries, more_entries}
 use Rattle.cedar_typing.specs.Composition.{SlotsInScopeAlone}
-use Rattle.cedar_typing.specs.Evaluation.Conformance.{ConformingRequest, SlotsBound, KeepsTable}
+use Rattle.cedar_typing.specs.Evaluation.Conformance.{ConformingRequest, SlotsBound, has_external, KeepsTable}
 use Rattle.cedar_typing.specs.Evaluation.Eval.{eval}
 use Rattle.cedar_typing.specs.Evaluation.World.{World, Failure, TypeFailure, AbsentAttribute, UnlinkedSlot, UnknownValue, Fails}
 use Rattle.cedar_typing.specs.Examples.Composition.{template, the_entity, slot_is_robot, robots_template, robot_greeting}
@@ -26,14 +26,14 @@ use Rattle.cedar_typing.specs.Examples.Greeting.{greeting}
 use Rattle.cedar_typing.specs.Examples.PolicySoundness.{sample_basis, Passes, PassesWarned, policy_when, meeting}
 use Rattle.cedar_typing.specs.Examples.World.{named, robot, group, decimal, alice, bob, greet, wave, declared_user, declared_greet}
 use Rattle.cedar_typing.specs.Examples.World.{with_action, sample_schema}
-use Rattle.cedar_typing.specs.Soundness.Policies.{Basis, IsClosedIn, IsNamedBySchema, IsWellFormed, IsConforming}
+use Rattle.cedar_typing.specs.Soundness.Policies.{Basis, IsSoundAndClosed, IsNamedBySchema, IsWellFormed, IsConforming}
 use Rattle.cedar_typing.specs.Silence.{HasNoUnknowns}
 use Rattle.cedar_typing.specs.Soundness.PolicyCheck.{IsBooleanOrAllowed}
 use Rattle.cedar_typing.specs.Soundness.{IsTrueOutcome}
 
 -- the premises on the checker and on the world, in a mode
 pub record IsAsAskedIn (m : ValidationMode) (world : World) : Type 0 where
-  pub basis : IsClosedIn m (sample_basis m)
+  pub basis : IsSoundAndClosed (sample_basis m)
   pub conforming : IsConforming (sample_basis m) world
 
 -- the condition's outcome is one that no policy that passes may have
@@ -44,7 +44,8 @@ BreaksPromise world t = IsBooleanOrAllowed (eval world (condition_of t)) → ⊥
 -- asked of it, of the mode and of the schema holds
 pub record GoesWrongIn (m : ValidationMode) (Passing : Basis → PlainTemplate → Type 0)
     (t : PlainTemplate) (world : World) (f : Failure) : Type 0 where
-  pub basis : IsClosedIn m (sample_basis m)
+  pub mode : (sample_basis m).mode ≡ m
+  pub closed : has_external sample_schema ≡ false
   pub passes : Passing (sample_basis m) t
   pub named : IsNamedBySchema sample_schema t
   pub well_formed : IsWellFormed t world.slots

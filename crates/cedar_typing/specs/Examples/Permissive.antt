@@ -28,8 +28,8 @@ use Rattle.cedar_typing.specs.Examples.World.{named, user, alice, bob, greet, an
 use Rattle.cedar_typing.specs.Examples.World.{requested, no_context, with_action}
 use Rattle.cedar_typing.specs.PolicyCheck.{Verdict, policy_check}
 use Rattle.cedar_typing.specs.PolicyCheck.Outcome.{all_pass}
-use Rattle.cedar_typing.specs.Soundness.Policies.{Basis, IsClosedIn, IsNamedBySchema, IsWellFormed, IsConforming, setting_on}
-use Rattle.cedar_typing.specs.Soundness.{IsReliableIn, IsWorldOf}
+use Rattle.cedar_typing.specs.Soundness.Policies.{Basis, IsSoundAndClosed, IsNamedBySchema, IsWellFormed, IsConforming, setting_on}
+use Rattle.cedar_typing.specs.Soundness.{IsReliable, IsWorldOf}
 
 -- ---- users join teams
 
@@ -141,11 +141,11 @@ joins_check m =
 pub record PermissivePremisesAreMet : Type 0 where
   pub faultless : has_fault team_schema ≡ false
   pub formed : has_formed_types team_schema ≡ true
-  pub reliable : IsReliableIn Permissive (setting_on (team_basis Permissive) owners.id joins)
+  pub reliable : IsReliable (setting_on (team_basis Permissive) owners.id joins)
   pub world : IsWorldOf (setting_on (team_basis Permissive) owners.id joins) joining
   pub bound : SlotsBound joining.slots (condition_of owners)
   pub passes : Passes (team_basis Permissive) owners
-  pub basis : IsClosedIn Permissive (team_basis Permissive)
+  pub basis : IsSoundAndClosed (team_basis Permissive)
   pub named : IsNamedBySchema team_schema owners
   pub well_formed : IsWellFormed owners joining.slots
   pub conforming : IsConforming (team_basis Permissive) joining
@@ -232,7 +232,7 @@ has_b_goes_wrong = policy_when (and tt either_has_b mistyped)
 pub record FormIsNeeded : Type 0 where
   pub faultless : has_fault twice_schema ≡ false
   pub unformed : has_formed_types twice_schema ≡ false
-  pub basis : IsClosedIn Permissive twice_basis
+  pub basis : IsSoundAndClosed twice_basis
   pub conforming : IsConforming twice_basis twice_greeting
   pub passes : PassesWarned twice_basis has_b_goes_wrong
   pub named : IsNamedBySchema twice_schema has_b_goes_wrong

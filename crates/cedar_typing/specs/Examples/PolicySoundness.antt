@@ -12,7 +12,7 @@ use Rattle.cedar_typing.specs.Examples.Greeting.{greeting}
 use Rattle.cedar_typing.specs.Examples.Premises.{in_order}
 use Rattle.cedar_typing.specs.Examples.World.{bob, meet, sample_schema, sample}
 use Rattle.cedar_typing.specs.PolicyCheck.Outcome.{impossible}
-use Rattle.cedar_typing.specs.Soundness.Policies.{Basis, IsStrictAndClosed, IsNamedBySchema, IsWellFormed, IsConforming, CheckedOn}
+use Rattle.cedar_typing.specs.Soundness.Policies.{Basis, IsSoundAndClosed, IsNamedBySchema, IsWellFormed, IsConforming, CheckedOn}
 use Rattle.cedar_typing.specs.Setting.{table}
 
 -- the sample schema and the sample functions, in a mode
@@ -49,7 +49,7 @@ meeting = record greeting { slots = meeting_slots }
 -- all premises hold together, and evaluation gives true
 pub record PolicyPremisesAreMet : Type 0 where
   pub passes : Passes (sample_basis Strict) meeting_template
-  pub basis : IsStrictAndClosed (sample_basis Strict)
+  pub basis : IsSoundAndClosed (sample_basis Strict)
   pub named : IsNamedBySchema sample_schema meeting_template
   pub well_formed : IsWellFormed meeting_template meeting.slots
   pub conforming : IsConforming (sample_basis Strict) meeting

@@ -14,8 +14,8 @@ use Rattle.cedar_typing.specs.Examples.PolicySoundness.{sample_basis, policy_whe
 use Rattle.cedar_typing.specs.Examples.World.{decimal, alice, sample}
 use Rattle.cedar_typing.specs.PolicyCheck.{succeeds, irrelevant, fails}
 use Rattle.cedar_typing.specs.PolicyCheck.Outcome.{impossible}
-use Rattle.cedar_typing.specs.Soundness.Policies.{PolicyIsSafeIn, ImpossibleIsNeverTrueIn}
-use Rattle.cedar_typing.specs.Soundness.PolicyCheck.{IsBooleanOrAllowed, Promises, IsSoundPolicyCheckIn}
+use Rattle.cedar_typing.specs.Soundness.Policies.{PolicyIsSafe, ImpossibleIsNeverTrue}
+use Rattle.cedar_typing.specs.Soundness.PolicyCheck.{IsBooleanOrAllowed, Promises, IsSoundPolicyCheck}
 use Rattle.cedar_typing.specs.Soundness.{HasFound, IsTrueOutcome}
 use Rattle.cedar_typing.specs.TypedExpr.{Source, TypedTree}
 
@@ -81,19 +81,19 @@ pub record PromisesCanBreakIn (m : ValidationMode) : Type 0 where
   -- for a condition that goes wrong, the promise of a success is false. If the condition has
   -- failed, nothing is promised
   pub condition : (x : TypedTree)
-      → IsSoundPolicyCheckIn m (sample m) wrong_condition (succeeds x) → ⊥
+      → IsSoundPolicyCheck (sample m) wrong_condition (succeeds x) → ⊥
   pub condition_refused : (es : List Finding)
-      → IsSoundPolicyCheckIn m (sample m) wrong_condition (fails es)
+      → IsSoundPolicyCheck (sample m) wrong_condition (fails es)
   -- for a policy that goes wrong, the promise of passing is false. If it does not pass, nothing is
   -- promised
-  pub policy : PolicyIsSafeIn m (sample_basis m) wrong_policy true → ⊥
-  pub policy_refused : PolicyIsSafeIn m (sample_basis m) wrong_policy false
+  pub policy : PolicyIsSafe (sample_basis m) wrong_policy true → ⊥
+  pub policy_refused : PolicyIsSafe (sample_basis m) wrong_policy false
   -- for a policy that is true, the promise of a new warning is false. If the warning is not there,
   -- or was there before, nothing is promised
-  pub warned : ImpossibleIsNeverTrueIn m (sample_basis m) true_policy []
+  pub warned : ImpossibleIsNeverTrue (sample_basis m) true_policy []
       (impossible true_policy ∷ []) → ⊥
-  pub not_warned : ImpossibleIsNeverTrueIn m (sample_basis m) true_policy [] []
-  pub warned_before : ImpossibleIsNeverTrueIn m (sample_basis m) true_policy
+  pub not_warned : ImpossibleIsNeverTrue (sample_basis m) true_policy [] []
+  pub warned_before : ImpossibleIsNeverTrue (sample_basis m) true_policy
       (impossible true_policy ∷ []) (impossible true_policy ∷ [])
 
 pub record PromisesCanBreak : Type 0 where

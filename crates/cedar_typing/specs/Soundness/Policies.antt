@@ -1,7 +1,6 @@
 -- What is promised of a policy that passes, and of one that is warned to be impossible.
 use Rattle.std.specs.Prelude.{◌≡◌, Bool, true, false, List, [], None}
 use Rattle.cedar_types.specs.declared.base.types.ValidationMode.{ValidationMode}
-use Rattle.cedar_types.specs.declared.base.types.ValidationMode.TheVariants.{Strict, Permissive}
 use Rattle.cedar_types.specs.Errors.{Finding, Warning}
 use Rattle.cedar_types.specs.Extensions.Functions.{table_fault}
 use Rattle.cedar_types.specs.Extensions.{ExtensionTable}
@@ -13,10 +12,10 @@ use Rattle.cedar_types.specs.Schemas.{Schema, has_fault}
 use Rattle.cedar_types.specs.Values.Stores.{ConformingStore}
 use Rattle.cedar_types.specs.Templates.{PlainTemplate, condition_of}
 use Rattle.cedar_typing.specs.Composition.{SlotsInScopeAlone}
-use Rattle.cedar_types.specs.Schemas.Formed.{has_formed_types}
 use Rattle.cedar_typing.specs.Evaluation.Conformance.{IsOneOf, ConformingRequest, SlotsBound, has_external, KeepsTable}
 use Rattle.cedar_typing.specs.Evaluation.Eval.{eval}
 use Rattle.cedar_typing.specs.Evaluation.World.{Slots, World}
+use Rattle.cedar_typing.specs.Modes.{IsSoundMode, IsFormedFor}
 use Rattle.cedar_typing.specs.PolicyCheck.{PolicyChecks}
 use Rattle.cedar_typing.specs.PolicyCheck.Outcome.{impossible, PolicyOutcome}
 use Rattle.cedar_typing.specs.Setting.{Setting}
@@ -32,13 +31,10 @@ pub record Basis : Type 0 where
 
 -- ---- the premises
 
--- of the checker: it is in the given mode, and nothing of its schema is external
-pub record IsClosedIn (m : ValidationMode) (b : Basis) : Type 0 where
-  pub mode : b.mode ≡ m
+-- of the checker: it is in Strict or in Permissive, and nothing of its schema is external
+pub record IsSoundAndClosed (b : Basis) : Type 0 where
+  pub mode : IsSoundMode b.mode
   pub closed : has_external b.schema ≡ false
-
-abbrev pub IsStrictAndClosed : Basis → Type 0
-IsStrictAndClosed = IsClosedIn Strict
 
 -- of the names in the policy: the passes over types and over actions find none that the schema does
 -- not have
@@ -60,33 +56,24 @@ pub record IsConforming (b : Basis) (world : World) : Type 0 where
   pub store : ConformingStore b.schema world.store
   pub functions : KeepsTable b.table world.functions
 
--- ---- the promises, in a mode
+-- ---- the promises
 
 -- where the policy passes, its condition evaluates to a boolean, or fails only for a missing entity, an
 -- overflow or an extension call
-abbrev pub PolicyIsSafeIn : ValidationMode → Basis → PlainTemplate → Bool → Type 0
-PolicyIsSafeIn m b t passes =
-    passes ≡ true → IsClosedIn m b → IsNamedBySchema b.schema t
+abbrev pub PolicyIsSafe : Basis → PlainTemplate → Bool → Type 0
+PolicyIsSafe b t passes =
+    passes ≡ true → IsSoundAndClosed b → IsNamedBySchema b.schema t
     → (world : World) → IsWellFormed t world.slots → IsConforming b world
     → IsBooleanOrAllowed (eval world (condition_of t))
 
 -- where the warning that it is impossible is new among the warnings, its condition is never true,
 -- whether or not its slots are bound
-abbrev pub ImpossibleIsNeverTrueIn : ValidationMode → Basis → PlainTemplate
-    → List Warning → List Warning → Type 0
-ImpossibleIsNeverTrueIn m b t old new =
+abbrev pub ImpossibleIsNeverTrue : Basis → PlainTemplate → List Warning → List Warning → Type 0
+ImpossibleIsNeverTrue b t old new =
     (IsOneOf (impossible t) old → ⊥) → IsOneOf (impossible t) new
-    → IsClosedIn m b → SlotsInScopeAlone t
+    → IsSoundAndClosed b → SlotsInScopeAlone t
     → (world : World) → IsConforming b world
     → IsTrueOutcome (eval world (condition_of t)) → ⊥
-
--- ---- in Strict
-
-abbrev pub PolicyIsSafe : Basis → PlainTemplate → Bool → Type 0
-PolicyIsSafe = PolicyIsSafeIn Strict
-
-abbrev pub ImpossibleIsNeverTrue : Basis → PlainTemplate → List Warning → List Warning → Type 0
-ImpossibleIsNeverTrue = ImpossibleIsNeverTrueIn Strict
 
 -- ---- where they come from
 
@@ -111,28 +98,17 @@ CheckedOn b t =
     (checked_envs b.schema b.mode t) t
 
 -- both promises
-pub record AreBothKeptIn (m : ValidationMode) (b : Basis) (t : PlainTemplate) (passes : Bool)
-    (old new : List Warning) : Type 0 where
-  pub safe : PolicyIsSafeIn m b t passes
-  pub never_true : ImpossibleIsNeverTrueIn m b t old new
-
-abbrev pub AreBothKept : Basis → PlainTemplate → Bool → List Warning → List Warning → Type 0
-AreBothKept = AreBothKeptIn Strict
+pub record AreBothKept (b : Basis) (t : PlainTemplate) (passes : Bool) (old new : List Warning) :
+    Type 0 where
+  pub safe : PolicyIsSafe b t passes
+  pub never_true : ImpossibleIsNeverTrue b t old new
 
 -- by a schema and a table without faults, as all are that the program makes, both follow from that
 -- alone
 abbrev pub PromisesAreKept : Type 0
 PromisesAreKept =
     (b : Basis) (t : PlainTemplate)
-    → has_fault b.schema ≡ false → table_fault b.table.functions ≡ None
-    → (passes : Bool) (errors errors' : List Finding) (old new : List Warning)
-    → CheckedOn b t passes errors errors' old new → AreBothKept b t passes old new
-
--- in Permissive, where names also ascend in the types of the schema, as in every schema of the program
-abbrev pub PromisesAreKeptInPermissive : Type 0
-PromisesAreKeptInPermissive =
-    (b : Basis) (t : PlainTemplate)
-    → has_fault b.schema ≡ false → has_formed_types b.schema ≡ true
+    → has_fault b.schema ≡ false → IsFormedFor b.mode b.schema
     → table_fault b.table.functions ≡ None
     → (passes : Bool) (errors errors' : List Finding) (old new : List Warning)
-    → CheckedOn b t passes errors errors' old new → AreBothKeptIn Permissive b t passes old new
+    → CheckedOn b t passes errors errors' old new → AreBothKept b t passes old new

@@ -1,14 +1,12 @@
 -- What the check of a policy promises of its evaluation.
 use Rattle.std.specs.Prelude.{not, IsTrue}
-use Rattle.cedar_types.specs.declared.base.types.ValidationMode.{ValidationMode}
-use Rattle.cedar_types.specs.declared.base.types.ValidationMode.TheVariants.{Strict}
 use Rattle.cedar_types.specs.Values.{Value, OnBool}
 use Rattle.cedar_typing.specs.Evaluation.Conformance.{SlotsBound}
 use Rattle.cedar_typing.specs.Evaluation.Eval.{eval}
 use Rattle.cedar_typing.specs.Evaluation.World.{World, Outcome}
 use Rattle.cedar_typing.specs.PolicyCheck.{Verdict, succeeds, irrelevant, fails}
 use Rattle.cedar_typing.specs.Setting.{Setting}
-use Rattle.cedar_typing.specs.Soundness.{OnValue, IsSafe, IsReliableIn, IsWorldOf}
+use Rattle.cedar_typing.specs.Soundness.{OnValue, IsSafe, IsReliable, IsWorldOf}
 use Rattle.cedar_typing.specs.TypedExpr.{Source}
 
 abbrev pub IsBoolean : Value → Type 0
@@ -30,12 +28,9 @@ Promises (irrelevant es e) o = OnValue IsFalse o
 -- a refused condition: nothing
 Promises (fails es) o = Unit {0}
 
--- the promise is kept in each world of a setting that is reliable in the mode, in which the slots of the condition are bound
-abbrev pub IsSoundPolicyCheckIn : ValidationMode → Setting → Source → Verdict → Type 0
-IsSoundPolicyCheckIn m s e v =
-    IsReliableIn m s
+-- the promise is kept in each world of a reliable setting in which the slots of the condition are bound
+abbrev pub IsSoundPolicyCheck : Setting → Source → Verdict → Type 0
+IsSoundPolicyCheck s e v =
+    IsReliable s
     → (world : World) → IsWorldOf s world → SlotsBound world.slots e
     → Promises v (eval world e)
-
-abbrev pub IsSoundPolicyCheck : Setting → Source → Verdict → Type 0
-IsSoundPolicyCheck = IsSoundPolicyCheckIn Strict

@@ -1,20 +1,18 @@
 -- What a host that goes on with typed conditions may rely on, of a policy.
-use Rattle.std.specs.Prelude.{◌≡◌, true, false, None}
-use Rattle.cedar_types.specs.declared.base.types.ValidationMode.{ValidationMode}
-use Rattle.cedar_types.specs.declared.base.types.ValidationMode.TheVariants.{Strict, Permissive}
+use Rattle.std.specs.Prelude.{◌≡◌, false, None}
 use Rattle.cedar_types.specs.Environments.{DeclaredEnv, environments_of}
 use Rattle.cedar_types.specs.Environments.Linking.{checked_envs}
 use Rattle.cedar_types.specs.Environments.RequestEnvs.{Env}
 use Rattle.cedar_types.specs.Extensions.Functions.{table_fault}
 use Rattle.cedar_types.specs.Schemas.{has_fault}
-use Rattle.cedar_types.specs.Schemas.Formed.{has_formed_types}
 use Rattle.cedar_types.specs.Templates.{PlainTemplate, condition_of}
 use Rattle.cedar_typing.specs.Composition.{SlotsInScopeAlone, own_env}
 use Rattle.cedar_typing.specs.Evaluation.Conformance.{IsOneOf, FitsRequest, IsEnvironmentOf}
 use Rattle.cedar_typing.specs.Evaluation.World.{World}
+use Rattle.cedar_typing.specs.Modes.{IsFormedFor}
 use Rattle.cedar_typing.specs.PolicyCheck.{Verdict, PolicyChecks}
 use Rattle.cedar_typing.specs.Soundness.{IsWorldOf}
-use Rattle.cedar_typing.specs.Soundness.Policies.{Basis, IsClosedIn, IsConforming, setting_on}
+use Rattle.cedar_typing.specs.Soundness.Policies.{Basis, IsSoundAndClosed, IsConforming, setting_on}
 use Rattle.cedar_typing.specs.TypedCopies.{VerdictMeansTheSame}
 
 -- the typed condition of each verdict of a policy in an environment evaluates as the policy's condition does in the world
@@ -26,9 +24,9 @@ MeansTheSameOn b t env world =
 -- ---- in an environment that fits, whatever its slots are linked to
 
 -- in each world of an environment of the schema
-abbrev pub FittingCopiesMeanTheSame : ValidationMode → Basis → PlainTemplate → Type 0
-FittingCopiesMeanTheSame m b t =
-    IsClosedIn m b
+abbrev pub FittingCopiesMeanTheSame : Basis → PlainTemplate → Type 0
+FittingCopiesMeanTheSame b t =
+    IsSoundAndClosed b
     → (env : Env) → IsEnvironmentOf b.schema env
     → (world : World) → IsWorldOf (setting_on b t.id env) world
     → MeansTheSameOn b t env world
@@ -37,39 +35,32 @@ FittingCopiesMeanTheSame m b t =
 
 -- of the environment of a request of the schema that links each slot to its variable's own type: in each world that conforms,
 -- where the slots stand in the scope alone, bound to any entities or to none
-abbrev pub OwnCopiesMeanTheSame : ValidationMode → Basis → PlainTemplate → Type 0
-OwnCopiesMeanTheSame m b t =
-    IsClosedIn m b → SlotsInScopeAlone t
+abbrev pub OwnCopiesMeanTheSame : Basis → PlainTemplate → Type 0
+OwnCopiesMeanTheSame b t =
+    IsSoundAndClosed b → SlotsInScopeAlone t
     → (world : World) → IsConforming b world
     → (d : DeclaredEnv) → IsOneOf d (environments_of b.schema.actions) → FitsRequest d world.request
     → MeansTheSameOn b t (own_env t d) world
 
 -- that environment is one of those that are checked: so in each world that conforms, one of the typed conditions that the checks
 -- of the policy have evaluates as the template's condition does
-abbrev pub SomeCopyMeansTheSame : ValidationMode → Basis → PlainTemplate → Type 0
-SomeCopyMeansTheSame m b t =
-    IsClosedIn m b → SlotsInScopeAlone t
+abbrev pub SomeCopyMeansTheSame : Basis → PlainTemplate → Type 0
+SomeCopyMeansTheSame b t =
+    IsSoundAndClosed b → SlotsInScopeAlone t
     → (world : World) → IsConforming b world
     → (env : Env) × IsOneOf env (checked_envs b.schema b.mode t) × MeansTheSameOn b t env world
 
 -- ---- of every policy
 
-pub record PolicyCopiesMeanTheSame (m : ValidationMode) (b : Basis) (t : PlainTemplate) : Type 0 where
-  pub fitting : FittingCopiesMeanTheSame m b t
-  pub own : OwnCopiesMeanTheSame m b t
-  pub some : SomeCopyMeansTheSame m b t
+pub record PolicyCopiesMeanTheSame (b : Basis) (t : PlainTemplate) : Type 0 where
+  pub fitting : FittingCopiesMeanTheSame b t
+  pub own : OwnCopiesMeanTheSame b t
+  pub some : SomeCopyMeansTheSame b t
 
--- in Strict, by a schema and a table without faults, as all are that the program makes
+-- by a schema and a table without faults, as all are that the program makes
 abbrev pub ConditionsMeanTheSame : Type 0
 ConditionsMeanTheSame =
     (b : Basis) (t : PlainTemplate)
-    → has_fault b.schema ≡ false → table_fault b.table.functions ≡ None
-    → PolicyCopiesMeanTheSame Strict b t
-
--- in Permissive, where names also ascend in the types of the schema
-abbrev pub ConditionsMeanTheSameInPermissive : Type 0
-ConditionsMeanTheSameInPermissive =
-    (b : Basis) (t : PlainTemplate)
-    → has_fault b.schema ≡ false → has_formed_types b.schema ≡ true
+    → has_fault b.schema ≡ false → IsFormedFor b.mode b.schema
     → table_fault b.table.functions ≡ None
-    → PolicyCopiesMeanTheSame Permissive b t
+    → PolicyCopiesMeanTheSame b t

@@ -1,12 +1,12 @@
 //! What the checks of a template in its environments say together: laws, each on a function that does nothing.
-ghost use Rattle.cedar_typing.specs.Composition.{OwnEnvIsChecked, OwnEnvIsCheckedOfTypes, OwnTestsAreBool, LinksDoNotMatter, ScopeIsBoolean, Coverage, NeverTrue, NeverTrueInPermissive, OwnSuccessIsKept, OwnSuccessIsKeptInPermissive};
+ghost use Rattle.cedar_typing.specs.Composition.{OwnEnvIsChecked, OwnEnvIsCheckedOfTypes, OwnTestsAreBool, LinksDoNotMatter, ScopeIsBoolean, Coverage, NeverTrue, OwnSuccessIsKept};
 ghost use Rattle.cedar_typing.specs.Examples.Composition.{EnvironmentsAre, SlotsInTheRestAreNot, OwnEnvMayBeMissing};
 ghost use Rattle.cedar_typing.specs.Examples.Conforming.{ConformityAllows};
 ghost use Rattle.cedar_typing.specs.Examples.LeftOpen.{PremisesLeaveOpen};
 ghost use Rattle.cedar_typing.specs.Examples.NeededPremises.{PremisesAreNeeded};
 ghost use Rattle.cedar_typing.specs.Examples.PolicySoundness.{PolicyPremisesAreMet};
-ghost use Rattle.cedar_typing.specs.Soundness.Policies.{PromisesAreKept, PromisesAreKeptInPermissive};
-ghost use Rattle.cedar_typing.specs.Silence.{ConditionIsWellNamed, FailuresHaveErrors, FailuresHaveErrorsInPermissive, SilentFailureIsCut, SilentFailureIsCutInPermissive, PassingIsDerived, PassingIsDerivedInPermissive, PassingPolicyIsDerived, PassingPolicyIsDerivedInPermissive};
+ghost use Rattle.cedar_typing.specs.Soundness.Policies.{PromisesAreKept};
+ghost use Rattle.cedar_typing.specs.Silence.{ConditionIsWellNamed, FailuresHaveErrors, SilentFailureIsCut, PassingIsDerived, PassingPolicyIsDerived};
 
 /// One of the environments that are checked links each slot to its variable's own type, and there the scope's tests of slots
 /// may be true.
@@ -32,11 +32,9 @@ pub fn environments_cover()
 pub fn impossible_is_never_true()
     ensures never { NeverTrue }
     ensures kept { OwnSuccessIsKept }
-    ensures never_in_permissive { NeverTrueInPermissive }
-    ensures kept_in_permissive { OwnSuccessIsKeptInPermissive }
 {}
 
-/// In Strict, what fails without being cut has at least one error, where nothing is unknown: no name of a type or of an action,
+/// In Strict and in Permissive, what fails without being cut has at least one error, where nothing is unknown: no name of a type or of an action,
 /// and no part. So a check that fails without one is a cut, and what passes is derived, in each environment of a policy.
 pub fn failures_have_errors()
     ensures well_named { ConditionIsWellNamed }
@@ -46,22 +44,9 @@ pub fn failures_have_errors()
     ensures policy { PassingPolicyIsDerived }
 {}
 
-/// The same in Permissive.
-pub fn failures_have_errors_in_permissive()
-    ensures failures { FailuresHaveErrorsInPermissive }
-    ensures cut { SilentFailureIsCutInPermissive }
-    ensures passing { PassingIsDerivedInPermissive }
-    ensures policy { PassingPolicyIsDerivedInPermissive }
-{}
-
 /// What is promised of a policy that passes, and of one that is warned to be impossible, follows from what its check comes to.
 pub fn passing_is_safe()
     ensures { PromisesAreKept }
-{}
-
-/// The same in Permissive.
-pub fn passing_is_safe_in_permissive()
-    ensures { PromisesAreKeptInPermissive }
 {}
 
 /// Which environments some templates are checked in, and that what is warned to be impossible may be true where a slot stands

@@ -3,8 +3,7 @@ ghost use Rattle.std.specs.Prelude.{◌≡◌, IfOk, map, option_map};
 ghost use Rattle.cedar_types.specs.Capability.{caps};
 ghost use Rattle.cedar_types.specs.Errors.{finding_of};
 ghost use Rattle.cedar_types.specs.Expressions.View.{written};
-ghost use Rattle.cedar_types.specs.declared.base.types.ValidationMode.TheVariants.{Permissive, Strict};
-ghost use Rattle.cedar_typing.specs.ExpressionCheck.{ExpressionChecks, IsSoundAnswerIn, tree_of_answer};
+ghost use Rattle.cedar_typing.specs.ExpressionCheck.{ExpressionChecks, IsSoundAnswer, tree_of_answer};
 ghost use Rattle.cedar_typing.specs.TypedExpr.{typed_tree};
 ghost use Rattle.cedar_typing.specs.Views.ExpressionChecks.{setting_by};
 ghost use Rattle.cedar_typing.specs.Views.{answer_of};
@@ -35,7 +34,7 @@ impl<'a, C: ArgumentCheck> Typechecker<'a, C> {
     /// policy of this id. No part that lies deeper than `MAX_TYPED_DEPTH` is visited: if there is one, the answer is
     /// `RecursionLimit`.
     ///
-    /// In Strict and in Permissive (clauses `sound` and `sound_in_permissive`), on the premises of
+    /// In Strict and in Permissive (clause `sound`), on the premises of
     /// `typecheck_by_single_request_env`, and where the prior capabilities hold: evaluation of a success gives a value of the
     /// type that was found, or fails only for a missing entity, an overflow or an extension function; where it is true, the
     /// capabilities of the success hold. Evaluation of a failure with a type at its root gives a value of that type, or fails.
@@ -56,10 +55,7 @@ impl<'a, C: ArgumentCheck> Typechecker<'a, C> {
             (written e.now) (caps prior.now)
             (answer_of r.answer) (map finding_of r.errors.items)) }
         ensures sound { IfOk result (λ r.
-            IsSoundAnswerIn Strict (setting_by C.refusal self.now policy_id.now env.now)
-            (written e.now) (caps prior.now) (answer_of r.answer)) }
-        ensures sound_in_permissive { IfOk result (λ r.
-            IsSoundAnswerIn Permissive (setting_by C.refusal self.now policy_id.now env.now)
+            IsSoundAnswer (setting_by C.refusal self.now policy_id.now env.now)
             (written e.now) (caps prior.now) (answer_of r.answer)) }
     {
         let checker = self.in_environment(alloc, policy_id, env)?;

@@ -25,7 +25,7 @@ ghost use Rattle.cedar_typing.specs.Examples.Rules.Tags.{HasTagTyping, GetTagTyp
 ghost use Rattle.cedar_typing.specs.Examples.Rules.Unary.{UnaryTyping};
 ghost use Rattle.cedar_typing.specs.Examples.Values.{RecordsOfType, SetsOfType, EntitiesOfType, LeavesOfType};
 ghost use Rattle.cedar_typing.specs.Rules.Laws.{TypingIsAFunction, RecoveryIsAFunction, CutIsAFunction, OneOfThreeAtMost, OneOfThreeAtLeast, CutIsByDepth, OneVerdictAtMost, OneVerdictAtLeast, ErrorsInAnyOrder};
-ghost use Rattle.cedar_typing.specs.Soundness.{TypeSoundness, TypeSoundnessInPermissive};
+ghost use Rattle.cedar_typing.specs.Soundness.{TypeSoundness};
 
 /// An expression is derived, recovered and cut in one way at most: with one type, one set of capabilities, one typed expression
 /// and one list of errors.
@@ -50,18 +50,14 @@ pub fn one_verdict()
     ensures any_order { ErrorsInAnyOrder }
 {}
 
-/// What has a type does not go wrong: type soundness with capabilities, in Strict.
+/// What has a type does not go wrong: type soundness with capabilities, in Strict and in Permissive.
 pub fn type_soundness()
     ensures { TypeSoundness }
 {}
 
-/// The same in Permissive, where sets of entity types are united and records joined by width.
-pub fn type_soundness_in_permissive()
-    ensures { TypeSoundnessInPermissive }
-{}
-
-/// Its premises hold of some schema, policy, request and store; and a bound of two records that keeps an attribute of one side
-/// alone as required is no bound, nor is one of records in which a name comes twice, which no schema of the program has.
+/// In Permissive, where sets of entity types are united and records joined by width, the premises of type soundness hold of some
+/// schema, policy, request and store; and a bound of two records that keeps an attribute of one side alone as required is no
+/// bound, nor is one of records in which a name comes twice, which no schema of the program has.
 pub fn permissive_premises_are_met()
     ensures met { PermissivePremisesAreMet }
     ensures wrong_bound { WrongBoundIsRefuted }

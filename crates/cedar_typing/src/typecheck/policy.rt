@@ -1,6 +1,5 @@
 // The check of a policy in all of its environments.
 ghost use Rattle.std.specs.Prelude.{◌≡◌, ◌∷◌, List, IfOk, OnOk, OnErr, IsPermutation, map};
-ghost use Rattle.cedar_types.specs.declared.base.types.ValidationMode.TheVariants.{Permissive};
 ghost use Rattle.cedar_types.specs.Errors.{finding_of, warning_of};
 ghost use Rattle.cedar_types.specs.Environments.Linking.{checked_envs};
 ghost use Rattle.cedar_types.specs.Schemas.Contents.{schema_of};
@@ -9,7 +8,7 @@ ghost use Rattle.cedar_typing.specs.Views.Checks.{schema_by, mode_by, basis_of, 
 ghost use Rattle.cedar_typing.specs.Views.EnvironmentChecks.{ChecksIn};
 ghost use Rattle.cedar_typing.specs.PolicyCheck.{Verdict};
 ghost use Rattle.cedar_typing.specs.PolicyCheck.Outcome.{impossible, PolicyOutcome};
-ghost use Rattle.cedar_typing.specs.Soundness.Policies.{PolicyIsSafe, ImpossibleIsNeverTrue, PolicyIsSafeIn, ImpossibleIsNeverTrueIn};
+ghost use Rattle.cedar_typing.specs.Soundness.Policies.{PolicyIsSafe, ImpossibleIsNeverTrue};
 ghost use Rattle.cedar_typing.specs.Views.Policies.{IsTally, TalliesEnvs};
 
 use crate::typecheck::sets::{insert_all, put_all};
@@ -34,10 +33,9 @@ impl<'a, C: ArgumentCheck> Typechecker<'a, C> {
     /// `type_errors` gains each error that some check found. `warnings` gains `ImpossiblePolicy`, at the template's place,
     /// exactly if each check is irrelevant, so also if there is no environment. One typed condition is held at a time.
     ///
-    /// In Strict and in Permissive a policy that passes does not go wrong (clauses `safe` and `safe_in_permissive`): evaluating
+    /// In Strict and in Permissive a policy that passes does not go wrong (clause `safe`): evaluating
     /// it gives a boolean, or fails only for a missing entity, an overflow or an extension function. A policy that this call
-    /// newly warns to be impossible is never true, whether or not it passes (clauses `never_true` and
-    /// `never_true_in_permissive`). The premises of both are in docs/THEOREMS.md, "The premises".
+    /// newly warns to be impossible is never true, whether or not it passes (clause `never_true`). The premises of both are in docs/THEOREMS.md, "The premises".
     ///
     /// Where memory is refused, the answer is an `AllocError`, and both sets stay as they were.
     pub fn typecheck_policy(
@@ -58,11 +56,6 @@ impl<'a, C: ArgumentCheck> Typechecker<'a, C> {
             PolicyIsSafe (basis_of C.refusal self.now) (template_of t.now) answer) }
         ensures never_true { IfOk result (λ answer.
             ImpossibleIsNeverTrue (basis_of C.refusal self.now) (template_of t.now)
-            (map warning_of warnings.old.keys) (map warning_of warnings.new.keys)) }
-        ensures safe_in_permissive { IfOk result (λ answer.
-            PolicyIsSafeIn Permissive (basis_of C.refusal self.now) (template_of t.now) answer) }
-        ensures never_true_in_permissive { IfOk result (λ answer.
-            ImpossibleIsNeverTrueIn Permissive (basis_of C.refusal self.now) (template_of t.now)
             (map warning_of warnings.old.keys) (map warning_of warnings.new.keys)) }
         ensures errors_kept { OnErr result (
             IsPermutation type_errors.old.keys type_errors.new.keys) }

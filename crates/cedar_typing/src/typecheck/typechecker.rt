@@ -1,12 +1,11 @@
 // The check of a policy in one environment.
 ghost use Rattle.std.specs.Prelude.{◌≡◌, IfOk, option_map};
 ghost use Rattle.cedar_types.specs.Expressions.View.{written};
-ghost use Rattle.cedar_types.specs.declared.base.types.ValidationMode.TheVariants.{Permissive, Strict};
 ghost use Rattle.cedar_types.specs.Templates.{template_of, condition_of, with_rest};
 ghost use Rattle.cedar_typing.specs.Views.Checks.{verdict_of, schema_by, extensions_by, mode_by, setting_for};
 ghost use Rattle.cedar_typing.specs.PolicyCheck.{PolicyChecks, policy_check};
-ghost use Rattle.cedar_typing.specs.Soundness.PolicyCheck.{IsSoundPolicyCheck, IsSoundPolicyCheckIn};
-ghost use Rattle.cedar_typing.specs.TypedCopies.{CheckMeansTheSameIn};
+ghost use Rattle.cedar_typing.specs.Soundness.PolicyCheck.{IsSoundPolicyCheck};
+ghost use Rattle.cedar_typing.specs.TypedCopies.{CheckMeansTheSame};
 
 use cedar_types::base::{
     ArgumentCheck, CedarType, Expr, ExtensionSchemas, Template, ValidationError, ValidationMode,
@@ -64,13 +63,13 @@ impl<'a, C: ArgumentCheck> Typechecker<'a, C> {
     /// The check of a template's condition in this environment: a success, irrelevant, or failed, perhaps without an error
     /// (`PolicyCheck::Fail`).
     ///
-    /// In Strict and in Permissive (clauses `sound` and `sound_in_permissive`), by a schema without external declarations, in
+    /// In Strict and in Permissive (clause `sound`), by a schema without external declarations, in
     /// one of its own environments, whose slots are linked in any way: if a request and slots fit the environment, the store
     /// conforms, the extension functions keep to their table and each slot of the condition is bound, then a success promises
     /// that evaluation gives a boolean or fails only for a missing entity, an overflow or an extension function, and an
     /// irrelevant condition is never true. Nothing is promised of another environment, nor in Partial.
     ///
-    /// On these premises, and even if slots that are linked to no type are not bound (clauses `same` and `same_in_permissive`),
+    /// On these premises, and even if slots that are linked to no type are not bound (clause `same`),
     /// the typed condition of a success and of an irrelevant check evaluates exactly as the condition does, to its value or its
     /// failure. So a host may go on with the typed condition, from which typing dropped the parts that are never evaluated.
     ///
@@ -93,14 +92,8 @@ impl<'a, C: ArgumentCheck> Typechecker<'a, C> {
         ensures sound { IfOk result (λ r.
             IsSoundPolicyCheck (setting_for C.refusal self.now t.now env.now)
             (condition_of (template_of t.now)) (verdict_of r)) }
-        ensures sound_in_permissive { IfOk result (λ r.
-            IsSoundPolicyCheckIn Permissive (setting_for C.refusal self.now t.now env.now)
-            (condition_of (template_of t.now)) (verdict_of r)) }
         ensures same { IfOk result (λ r.
-            CheckMeansTheSameIn Strict (setting_for C.refusal self.now t.now env.now)
-            (condition_of (template_of t.now)) (verdict_of r)) }
-        ensures same_in_permissive { IfOk result (λ r.
-            CheckMeansTheSameIn Permissive (setting_for C.refusal self.now t.now env.now)
+            CheckMeansTheSame (setting_for C.refusal self.now t.now env.now)
             (condition_of (template_of t.now)) (verdict_of r)) }
     {
         let scope = t.scope_condition(alloc)?;

@@ -1,9 +1,5 @@
-use Rattle.cedar_typing.proofs.TypedCopies.Laws.{types_do_not_matter, copies_mean_the_same, copies_mean_the_same_in_permissive}
+use Rattle.cedar_typing.proofs.TypedCopies.Laws.{types_do_not_matter, copies_mean_the_same}
 use Rattle.cedar_typing.proofs.typecheck.typed_copies.copies_mean_the_same.Goals as goal
 
 pub returns : goal.returns
-returns c = record {
-  types = types_do_not_matter;
-  strict = copies_mean_the_same;
-  permissive = copies_mean_the_same_in_permissive;
-}
+returns c = record { types = types_do_not_matter; same = copies_mean_the_same }

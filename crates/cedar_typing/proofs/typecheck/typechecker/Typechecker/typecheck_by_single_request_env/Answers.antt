@@ -8,9 +8,10 @@ use Rattle.cedar_typing.specs.Views.Checks.{verdict_of, schema_by, extensions_by
 use Rattle.cedar_typing.specs.PolicyCheck.{Verdict, PolicyChecks}
 use Rattle.cedar_typing.specs.Setting.{Setting}
 use Rattle.cedar_typing.specs.TypedExpr.{Source}
+use Rattle.cedar_typing.proofs.Modes.{formed_for}
 use Rattle.cedar_typing.proofs.Policies.Check.{checked}
-use Rattle.cedar_typing.proofs.Soundness.PolicyCheck.{check_sound, check_sound_in_permissive}
-use Rattle.cedar_typing.proofs.TypedCopies.Laws.{checks_mean_the_same, checks_mean_the_same_in_permissive}
+use Rattle.cedar_typing.proofs.Soundness.PolicyCheck.{check_sound}
+use Rattle.cedar_typing.proofs.TypedCopies.Laws.{checks_mean_the_same}
 use Rattle.cedar_typing.proofs.typecheck.typechecker.Typechecker.typecheck_by_single_request_env.Goals as goal
 
 pub returns : goal.returns
@@ -24,12 +25,11 @@ returns g c =
     let checks = subst Q c.in_ok-scope.ensures (subst P (sym c.in_ok-check.ensures) (checked x e)) in
     let v = verdict_of c.in_ok-check.check in
     let schema = c.args.self.now.schema.now in
+    let formed = formed_for x.env.mode x.env.schema schema.formed in
     let table = no_fault g.C.ArgumentCheck.refusal c.args.self.now.extensions.now.functions.items
     c.args.self.now.extensions.now.faultless in
     record {
       exact = checks;
-      sound = check_sound x (condition_of t) v schema.faultless table checks;
-      sound_in_permissive = check_sound_in_permissive x (condition_of t) v schema.faultless schema.formed table checks;
-      same = checks_mean_the_same x (condition_of t) v schema.faultless table checks;
-      same_in_permissive = checks_mean_the_same_in_permissive x (condition_of t) v schema.faultless schema.formed table checks;
+      sound = check_sound x (condition_of t) v schema.faultless formed table checks;
+      same = checks_mean_the_same x (condition_of t) v schema.faultless formed table checks;
     }

@@ -9,7 +9,8 @@ use Rattle.cedar_typing.specs.Setting.{Setting}
 use Rattle.cedar_typing.specs.Views.Checks.{schema_by, extensions_by}
 use Rattle.cedar_typing.specs.Views.ExpressionChecks.{setting_by}
 use Rattle.cedar_typing.specs.Views.{answer_of, findings}
-use Rattle.cedar_typing.proofs.Policies.Expressions.{expression_checked, answer_sound, answer_sound_in_permissive}
+use Rattle.cedar_typing.proofs.Modes.{formed_for}
+use Rattle.cedar_typing.proofs.Policies.Expressions.{expression_checked, answer_sound}
 use Rattle.cedar_typing.proofs.typecheck.typechecker.Typechecker.typecheck_expr.Goals as goal
 
 pub returns : goal.returns
@@ -29,6 +30,6 @@ returns g c =
     c.args.self.now.extensions.now.faultless in
     record {
       exact = checks;
-      sound = answer_sound s e prior schema.faultless table a es checks;
-      sound_in_permissive = answer_sound_in_permissive s e prior schema.faultless table a es checks schema.formed;
+      sound =
+          answer_sound s e prior schema.faultless (formed_for s.env.mode s.env.schema schema.formed) table a es checks;
     }

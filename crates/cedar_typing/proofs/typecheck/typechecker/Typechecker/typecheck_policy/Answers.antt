@@ -10,7 +10,8 @@ use Rattle.cedar_types.specs.Schemas.Contents.{schema_of}
 use Rattle.cedar_typing.specs.Views.Checks.{schema_by, extensions_by, basis_of}
 use Rattle.cedar_typing.specs.PolicyCheck.Outcome.{Adds, all_errors, warnings_of}
 use Rattle.cedar_typing.proofs.Basics.Gains.{union_adds, put_adds}
-use Rattle.cedar_typing.proofs.Soundness.Policies.{promises_are_kept, promises_are_kept_in_permissive}
+use Rattle.cedar_typing.proofs.Modes.{formed_for}
+use Rattle.cedar_typing.proofs.Soundness.Policies.{promises_are_kept}
 use Rattle.cedar_typing.proofs.Policies.Tallies.{error_decides, warning_decides, adds_same, warned, not_warned}
 use Rattle.cedar_typing.proofs.typecheck.typechecker.Typechecker.typecheck_policy.Goals as goal
 use Rattle.cedar_typing.proofs.typecheck.typechecker.Typechecker.typecheck_policy.Goals.{then-tally+in_ok-warning+in_ok-insert, else-tally}
@@ -59,7 +60,9 @@ returns-clause-safe g c =
     let b = basis_of g.C.ArgumentCheck.refusal c.args.self.now in
     let table = no_fault g.C.ArgumentCheck.refusal c.args.self.now.extensions.now.functions.items
     c.args.self.now.extensions.now.faultless in
-    (promises_are_kept b (template_of c.args.t.now) c.args.self.now.schema.now.faultless table _ _ _ _ _ o).safe
+    let schema = c.args.self.now.schema.now in
+    (promises_are_kept b (template_of c.args.t.now) schema.faultless (formed_for b.mode b.schema schema.formed) table
+    _ _ _ _ _ o).safe
 
 pub returns-clause-never_true : goal.returns-clause-never_true
 unfolding schema_of functions_of schema_by extensions_by
@@ -68,24 +71,6 @@ returns-clause-never_true g c =
     let b = basis_of g.C.ArgumentCheck.refusal c.args.self.now in
     let table = no_fault g.C.ArgumentCheck.refusal c.args.self.now.extensions.now.functions.items
     c.args.self.now.extensions.now.faultless in
-    (promises_are_kept b (template_of c.args.t.now) c.args.self.now.schema.now.faultless table _ _ _ _ _ o).never_true
-
-pub returns-clause-safe_in_permissive : goal.returns-clause-safe_in_permissive
-unfolding schema_of functions_of schema_by extensions_by
-returns-clause-safe_in_permissive g c =
-    let o = returns-clause-exact g c in
-    let b = basis_of g.C.ArgumentCheck.refusal c.args.self.now in
-    let table = no_fault g.C.ArgumentCheck.refusal c.args.self.now.extensions.now.functions.items
-    c.args.self.now.extensions.now.faultless in
-    (promises_are_kept_in_permissive b (template_of c.args.t.now) c.args.self.now.schema.now.faultless
-    c.args.self.now.schema.now.formed table _ _ _ _ _ o).safe
-
-pub returns-clause-never_true_in_permissive : goal.returns-clause-never_true_in_permissive
-unfolding schema_of functions_of schema_by extensions_by
-returns-clause-never_true_in_permissive g c =
-    let o = returns-clause-exact g c in
-    let b = basis_of g.C.ArgumentCheck.refusal c.args.self.now in
-    let table = no_fault g.C.ArgumentCheck.refusal c.args.self.now.extensions.now.functions.items
-    c.args.self.now.extensions.now.faultless in
-    (promises_are_kept_in_permissive b (template_of c.args.t.now) c.args.self.now.schema.now.faultless
-    c.args.self.now.schema.now.formed table _ _ _ _ _ o).never_true
+    let schema = c.args.self.now.schema.now in
+    (promises_are_kept b (template_of c.args.t.now) schema.faultless (formed_for b.mode b.schema schema.formed) table
+    _ _ _ _ _ o).never_true
