@@ -1,15 +1,13 @@
 -- Validation that finds no error, or none but wrong members: what it says of the check of the policy, and what that promises.
-use Rattle.std.proofs.Common.{◌≡◌, ◌≤◌, inl, inr, ℕ, Bool, true, false, ◌||◌, List, [], ◌∷◌, ◌++◌, length, None, refl, sym, ap, subst, arith}
+use Rattle.std.proofs.Common.{◌≡◌, ◌≤◌, inl, inr, ℕ, Bool, true, false, List, [], ◌∷◌, ◌++◌, length, None, refl, sym, ap, subst, arith}
 use Rattle.std.proofs.Common.{append_assoc}
 use Rattle.std.specs.Prelude.{IsPermutation, cond, ◌↔◌}
 use Rattle.std.proofs.lemmas.List.Sorted.{IsPermutation-sym, length_permutation}
 use Rattle.cedar_types.specs.declared.base.types.ValidationMode.{ValidationMode}
 use Rattle.cedar_types.specs.declared.base.types.ValidationMode.TheVariants.{Strict, Permissive, Partial}
-use Rattle.cedar_types.specs.Types.Bounds.{is_strict}
 use Rattle.cedar_types.specs.Errors.{Finding, Warning, impossible_policy, invalid_action_application}
 use Rattle.cedar_types.specs.Extensions.Functions.{table_fault}
 use Rattle.cedar_types.specs.Templates.Findings.{unknown_types, unknown_actions, wrong_members}
-use Rattle.cedar_types.specs.Schemas.Formed.{has_formed_types}
 use Rattle.cedar_types.specs.Lemmas.Comparisons.{and_both}
 use Rattle.cedar_types.specs.Environments.Linking.{checked_envs}
 use Rattle.cedar_types.specs.Environments.RequestEnvs.{Env, is_partial}
@@ -17,24 +15,24 @@ use Rattle.cedar_types.specs.Schemas.{Schema, has_fault}
 use Rattle.cedar_types.specs.Templates.{PlainTemplate, condition_of}
 use Rattle.cedar_typing.specs.Capabilities.{no_caps}
 use Rattle.cedar_typing.specs.Evaluation.Conformance.{IsOneOf}
+use Rattle.cedar_typing.specs.Modes.{IsSoundMode, IsFormedFor}
 use Rattle.cedar_typing.specs.PolicyCheck.{Verdict, succeeds, irrelevant, fails, PolicyChecks}
 use Rattle.cedar_typing.specs.PolicyCheck.Outcome.{is_silent, passes, errors_in, VerdictsOf, all_pass, all_errors, impossible, warnings_of}
-use Rattle.cedar_typing.specs.Soundness.Policies.{Basis, IsNamedBySchema, setting_on, CheckedOn, AreBothKeptIn}
+use Rattle.cedar_typing.specs.Soundness.Policies.{Basis, IsNamedBySchema, setting_on, CheckedOn, AreBothKept}
 use Rattle.cedar_typing.specs.Rules.Laws.{IsCut}
 use Rattle.cedar_typing.specs.Setting.{Setting}
-use Rattle.cedar_typing.specs.Silence.{HasNoUnknowns, IsWellNamed}
+use Rattle.cedar_typing.specs.Silence.{HasNoUnknowns, IsWellNamed, IsSettled}
 use Rattle.cedar_typing.specs.TypedExpr.{Source}
 use Rattle.cedar_typing.proofs.Basics.Members.{reordered}
 use Rattle.cedar_typing.proofs.Refinement.Parts.{nil_left, nil_right}
-use Rattle.cedar_typing.proofs.Soundness.Policies.{promises_are_kept, promises_are_kept_in_permissive}
+use Rattle.cedar_typing.proofs.Soundness.Policies.{promises_are_kept}
 use Rattle.cedar_typing.proofs.Silence.Checks.{silent_cut}
 use Rattle.cedar_typing.proofs.Silence.Names.{condition_is_well_named}
 use Rattle.cedar_typing.proofs.Silence.Policies.{checked_of_schema}
-use Rattle.cedar_typing.proofs.Silence.Settled.{Settled}
 use Rattle.cedar_typechecker.specs.Applications.{has_fitting_action, application_warning}
 use Rattle.cedar_typechecker.specs.Levels.Outcome.{ChecksOn, name_findings, application_warnings, ValidationOutcome}
-use Rattle.cedar_typechecker.specs.Slices.Validation.{IsCutNowhere, WarnedIsNeverTrueIn}
-use Rattle.cedar_typechecker.specs.Validations.{HasWrongMembersAlone, ValidationsAreKept, ValidationsAreKeptInPermissive}
+use Rattle.cedar_typechecker.specs.Slices.Validation.{IsCutNowhere, WarnedIsNeverTrue}
+use Rattle.cedar_typechecker.specs.Validations.{HasWrongMembersAlone, ValidationsAreKept}
 
 -- ---- lists
 
@@ -169,16 +167,14 @@ module _ (b : Basis) (t : PlainTemplate) (listed : List Env) (verdicts : List Ve
   alone = checked_alone (all_pass verdicts) refl
 
   -- so what the check promises of the warning is so of all warnings
-  pub warned_is_never_true : (m : ValidationMode)
-      → AreBothKeptIn m b t (all_pass verdicts) [] (warnings_of t verdicts)
+  pub warned_is_never_true : AreBothKept b t (all_pass verdicts) [] (warnings_of t verdicts)
       → (warnings : List Warning)
       → warnings ≡ application_warnings b.mode b.schema t ++ warnings_of t verdicts
-      → WarnedIsNeverTrueIn m b t warnings
-  warned_is_never_true m both warnings warned absent there k alone_in_scope world i =
+      → WarnedIsNeverTrue b t warnings
+  warned_is_never_true both warnings warned absent there k alone_in_scope world i =
       both.never_true absent (due warnings warned there) k alone_in_scope world i
 
-  module _ (strictly : Bool) (strict : is_strict b.mode ≡ strictly) (total : is_partial b.mode ≡ false)
-      (formed : (strictly || has_formed_types b.schema) ≡ true) (schema : has_fault b.schema ≡ false)
+  module _ (sound : IsSoundMode b.mode) (formed : IsFormedFor b.mode b.schema) (schema : has_fault b.schema ≡ false)
       (functions : table_fault b.table.functions ≡ None) (no_errors : all_errors verdicts ≡ [])
       (names : IsNamedBySchema b.schema t) (uncut : IsCutNowhere b t) (unknowns : HasNoUnknowns (condition_of t)) where
     well_named : IsWellNamed b.schema (condition_of t)
@@ -187,22 +183,17 @@ module _ (b : Basis) (t : PlainTemplate) (listed : List Env) (verdicts : List Ve
         (record { unknowns = unknowns; types = names.types; actions = names.actions })
 
     -- there nothing fails without an error
-    settled : (env : Env) → IsOneOf env (checked_envs b.schema b.mode t) → Settled strictly (setting_on b t.id env)
+    settled : (env : Env) → IsOneOf env (checked_envs b.schema b.mode t) → IsSettled (setting_on b t.id env)
     settled env k = record {
-      strict = strict;
-      total = total;
-      formed = formed;
-      settled = record {
-        faultless = record { mode = refl; schema = schema; functions = functions };
-        environment = checked_of_schema b.schema b.mode total t env k;
-      };
+      faultless = record { mode = sound; schema = schema; formed = formed; functions = functions };
+      environment = checked_of_schema b.schema b.mode sound t env k;
     }
 
     passes_there : (env : Env) → IsOneOf env (checked_envs b.schema b.mode t) → (v : Verdict)
         → ChecksOn b t env v → errors_in v ≡ [] → passes v ≡ true
     passes_there env k =
         silent_passes (setting_on b t.id env) (condition_of t) (uncut env k)
-        (silent_cut strictly (setting_on b t.id env) (settled env k) (condition_of t) well_named)
+        (silent_cut (setting_on b t.id env) (settled env k) (condition_of t) well_named)
 
     passing : all_pass verdicts ≡ true
     passing =
@@ -215,47 +206,30 @@ module _ (b : Basis) (t : PlainTemplate) (listed : List Env) (verdicts : List Ve
     pub passed : CheckedOn b t true [] (all_errors verdicts) [] (warnings_of t verdicts)
     passed = checked_alone true passing
 
--- ---- in both modes
+-- ---- the promises
 
 -- where no error is another one, all names are known and the check passes
 passes_alone : (b : Basis) (t : PlainTemplate) (errors : List Finding) (warnings : List Warning)
     (o : ValidationOutcome b t errors warnings)
-    → has_fault b.schema ≡ false → table_fault b.table.functions ≡ None
-    → (strictly : Bool) → is_strict b.mode ≡ strictly → is_partial b.mode ≡ false
-    → (strictly || has_formed_types b.schema) ≡ true → HasWrongMembersAlone b.schema t errors
+    → has_fault b.schema ≡ false → IsFormedFor b.mode b.schema → table_fault b.table.functions ≡ None
+    → IsSoundMode b.mode → HasWrongMembersAlone b.schema t errors
     → IsCutNowhere b t → HasNoUnknowns (condition_of t)
     → IsNamedBySchema b.schema t
     × CheckedOn b t true [] (all_errors o.verdicts) [] (warnings_of t o.verdicts)
-passes_alone b t errors warnings o schema functions strictly strict total formed few uncut unknowns =
-    let known = wrong_members_alone b.schema t b.mode total errors o.type_errors o.given few in
+passes_alone b t errors warnings o schema formed functions sound few uncut unknowns =
+    let known = wrong_members_alone b.schema t b.mode sound errors o.type_errors o.given few in
     let none = none_of_checks o.type_errors (all_errors o.verdicts) o.types known.1 in (
       known.0,
-      passed b t o.listed o.verdicts o.in_some_order o.checked strictly strict total formed schema
-          functions none known.0 uncut unknowns,
+      passed b t o.listed o.verdicts o.in_some_order o.checked sound formed schema functions none known.0 uncut unknowns,
     )
 
 pub validations_are_kept : ValidationsAreKept
-validations_are_kept b t schema functions errors warnings o = record {
+validations_are_kept b t schema formed functions errors warnings o = record {
   silent = λ few uncut k world w i.
-      let p = passes_alone b t errors warnings o schema functions true (ap is_strict k.mode)
-      (ap is_partial k.mode) refl few uncut w.no_unknowns in
-      (promises_are_kept b t schema functions true [] _ [] _ p.1).safe refl k p.0 world w i;
+      let p = passes_alone b t errors warnings o schema formed functions k.mode few uncut w.no_unknowns in
+      (promises_are_kept b t schema formed functions true [] _ [] _ p.1).safe refl k p.0 world w i;
   never_true =
-      warned_is_never_true b t o.listed o.verdicts o.in_some_order o.checked Strict
-      (promises_are_kept b t schema functions (all_pass o.verdicts) [] _ [] _
+      warned_is_never_true b t o.listed o.verdicts o.in_some_order o.checked
+      (promises_are_kept b t schema formed functions (all_pass o.verdicts) [] _ [] _
       (alone b t o.listed o.verdicts o.in_some_order o.checked)) warnings o.warned;
 }
-
-pub validations_are_kept_in_permissive : ValidationsAreKeptInPermissive
-validations_are_kept_in_permissive b t schema formed functions errors warnings o =
-    let promises = promises_are_kept_in_permissive b t schema formed functions in
-    record {
-      silent = λ few uncut k world w i.
-          let p = passes_alone b t errors warnings o schema functions false (ap is_strict k.mode)
-          (ap is_partial k.mode) formed few uncut w.no_unknowns in
-          (promises true [] _ [] _ p.1).safe refl k p.0 world w i;
-      never_true =
-          warned_is_never_true b t o.listed o.verdicts o.in_some_order o.checked Permissive
-          (promises (all_pass o.verdicts) [] _ [] _
-          (alone b t o.listed o.verdicts o.in_some_order o.checked)) warnings o.warned;
-    }

@@ -1,7 +1,6 @@
 // The validation of a policy: the names in it, its scope, and its checks.
 ghost use Rattle.std.specs.Prelude.{◌≡◌, ◌++◌, IfOk, OnOk, IsPermutation, map, cond, [], ◌∷◌};
 ghost use Rattle.std.specs.BTreeMap.{keys};
-ghost use Rattle.cedar_types.specs.declared.base.types.ValidationMode.TheVariants.{Strict, Permissive};
 ghost use Rattle.cedar_types.specs.Errors.{warning_of};
 ghost use Rattle.cedar_types.specs.Schemas.Contents.{schema_of};
 ghost use Rattle.cedar_types.specs.Templates.{template_of};
@@ -9,8 +8,8 @@ ghost use Rattle.cedar_typing.specs.PolicyCheck.Outcome.{impossible};
 ghost use Rattle.cedar_typechecker.specs.Levels.Outcome.{name_findings, application_warnings, AreApart, ValidationOutcome};
 ghost use Rattle.cedar_typechecker.specs.Levels.Views.{findings};
 ghost use Rattle.cedar_typechecker.specs.Passes.{errors_left};
-ghost use Rattle.cedar_typechecker.specs.Slices.Validation.{WarnedIsNeverTrueIn};
-ghost use Rattle.cedar_typechecker.specs.Validations.{ValidIsSafeIn};
+ghost use Rattle.cedar_typechecker.specs.Slices.Validation.{WarnedIsNeverTrue};
+ghost use Rattle.cedar_typechecker.specs.Validations.{ValidIsSafe};
 ghost use Rattle.cedar_typechecker.specs.ValidatorViews.{schema_in, basis_in};
 
 use crate::rbac::{LiteralErrors, Validator};
@@ -29,12 +28,11 @@ impl<C: ArgumentCheck> Validator<'_, C> {
     /// that no action fits the scope; and in each mode that the policy is impossible: irrelevant in each environment. Each
     /// environment is typed at most once, and one typed condition is held at a time.
     ///
-    /// In Strict and in Permissive a policy without errors, and without a part that is nested too deep, does not go wrong (clauses
-    /// `silent` and `silent_in_permissive`): evaluating it gives a boolean, or fails only for a missing entity, an overflow or an
-    /// extension function. This is promised too if each error is an id that its enumerated type does not list, so that there are no
+    /// In Strict and in Permissive a policy without errors, and without a part that is nested too deep, does not go wrong (clause
+    /// `silent`): evaluating it gives a boolean, or fails only for a missing entity, an overflow or an extension function. This is promised too if each error is an id that its enumerated type does not list, so that there are no
     /// more than `validate_enum_entity` finds, because typing does not ask which ids a type lists. A policy that is warned to be
-    /// impossible is never true, with errors or without (clauses `never_true` and `never_true_in_permissive`). The premises of all
-    /// this are in docs/THEOREMS.md, "The premises".
+    /// impossible is never true, with errors or without (clause `never_true`). The premises of all this
+    /// are in docs/THEOREMS.md, "The premises".
     ///
     /// If a part is nested too deep the check fails, perhaps without an error, so you must not take a policy without errors for one
     /// that passes: `typecheck_policy` answers `true` of no such policy. Where memory is refused, the answer is an `AllocError`.
@@ -48,16 +46,10 @@ impl<C: ArgumentCheck> Validator<'_, C> {
             ValidationOutcome (basis_in C.refusal self.now mode) (template_of p.now)
             (findings r.0.items) (map warning_of r.1.items)) }
         ensures silent { IfOk result (λ r.
-            ValidIsSafeIn Strict (basis_in C.refusal self.now mode) (template_of p.now)
+            ValidIsSafe (basis_in C.refusal self.now mode) (template_of p.now)
             (findings r.0.items)) }
         ensures never_true { IfOk result (λ r.
-            WarnedIsNeverTrueIn Strict (basis_in C.refusal self.now mode) (template_of p.now)
-            (map warning_of r.1.items)) }
-        ensures silent_in_permissive { IfOk result (λ r.
-            ValidIsSafeIn Permissive (basis_in C.refusal self.now mode) (template_of p.now)
-            (findings r.0.items)) }
-        ensures never_true_in_permissive { IfOk result (λ r.
-            WarnedIsNeverTrueIn Permissive (basis_in C.refusal self.now mode) (template_of p.now)
+            WarnedIsNeverTrue (basis_in C.refusal self.now mode) (template_of p.now)
             (map warning_of r.1.items)) }
     {
         let survey = self.survey(alloc, p, mode)?;

@@ -1,9 +1,6 @@
--- Slice soundness of expressions, where both slots are linked: in Strict, and in Permissive by a
--- schema whose types are formed.
-use Rattle.std.proofs.Common.{◌≡◌, ℕ, ◌≤◌, Bool, ◌||◌, true, false, None, refl, sym, ◌∙◌, ap, subst, arith}
+-- Slice soundness of expressions, where both slots are linked.
+use Rattle.std.proofs.Common.{◌≡◌, ℕ, ◌≤◌, Bool, ◌||◌, true, false, None, refl, sym, subst, arith}
 use Rattle.cedar_types.specs.declared.base.types.BoolType.TheVariants.{True}
-use Rattle.cedar_types.specs.declared.base.types.ValidationMode.{ValidationMode}
-use Rattle.cedar_types.specs.declared.base.types.ValidationMode.TheVariants.{Strict, Permissive}
 use Rattle.cedar_types.specs.Types.Bounds.{is_strict}
 use Rattle.cedar_types.specs.Extensions.Functions.{table_fault}
 use Rattle.cedar_types.specs.Schemas.Formed.{has_formed_types}
@@ -31,9 +28,8 @@ use Rattle.cedar_typing.proofs.Soundness.Induction.{kept_joins, sounds}
 use Rattle.cedar_typing.proofs.Values.Attributes.{get_typed, has_not}
 use Rattle.cedar_typechecker.specs.Levels.Chains.{level}
 use Rattle.cedar_typechecker.specs.Slices.Reach.{HoldsSlice}
-use Rattle.cedar_typechecker.specs.Slices.Soundness.{with_store, levels_in, IsSlicedIn, IsReachedIn, EvaluatesAlike, TargetsReach}
-use Rattle.cedar_typechecker.specs.Slices.Soundness.{SliceSoundness, TargetsAreReached, SliceSoundnessInPermissive}
-use Rattle.cedar_typechecker.specs.Slices.Soundness.{TargetsAreReachedInPermissive}
+use Rattle.cedar_typechecker.specs.Slices.Soundness.{with_store, levels_in, IsSliced, IsReachedIn, EvaluatesAlike, TargetsReach}
+use Rattle.cedar_typechecker.specs.Slices.Soundness.{SliceSoundness, TargetsAreReached}
 use Rattle.cedar_typechecker.proofs.Levels.Monotone.{silent_of}
 use Rattle.cedar_typechecker.proofs.Slices.Chains.{IsKeptType, chain_same}
 use Rattle.cedar_typechecker.proofs.Slices.ChainValues.{AreKept}
@@ -153,25 +149,13 @@ targets_reach s world n part same e b prior d h t c x k root w path g =
     let z = targeted_of (levels_in s n) root w g (level a x path) (omega arith) in
     ((same e b prior d h).target t c x k path (level a x path) le z).ids
 
-same_in : (m : ValidationMode) → is_partial m ≡ false → (s : Setting) (world : World) (n : ℕ)
-    (part : Store) → (is_strict m || has_formed_types s.env.schema) ≡ true
-    → IsSlicedIn m s world n part → AllSame s world n part
-same_in m total s world n part formed i =
-    same_at (is_strict m) s world n part (ap is_strict i.setting.mode)
-    (ap is_partial i.setting.mode ∙ total) formed i.schema i.functions i.setting.closed
-    i.setting.environment i.links i.reliable.environment i.reliable.store i.reliable.functions
-    i.slice
+same_in : (s : Setting) (world : World) (n : ℕ) (part : Store) → IsSliced s world n part → AllSame s world n part
+same_in s world n part i =
+    same_at (is_strict s.env.mode) s world n part refl i.setting.mode i.formed i.schema i.functions i.setting.closed
+    i.setting.environment i.links i.reliable.environment i.reliable.store i.reliable.functions i.slice
 
 pub slice_soundness : SliceSoundness
-slice_soundness s world n part i = evaluates_alike s world n part (same_in Strict refl s world n part refl i)
-
-pub slice_soundness_in_permissive : SliceSoundnessInPermissive
-slice_soundness_in_permissive s world n part formed i =
-    evaluates_alike s world n part (same_in Permissive refl s world n part formed i)
+slice_soundness s world n part i = evaluates_alike s world n part (same_in s world n part i)
 
 pub targets_are_reached : TargetsAreReached
-targets_are_reached s world n part i = targets_reach s world n part (same_in Strict refl s world n part refl i)
-
-pub targets_are_reached_in_permissive : TargetsAreReachedInPermissive
-targets_are_reached_in_permissive s world n part formed i =
-    targets_reach s world n part (same_in Permissive refl s world n part formed i)
+targets_are_reached s world n part i = targets_reach s world n part (same_in s world n part i)

@@ -11,17 +11,17 @@ use Rattle.cedar_types.specs.Expressions.Tree.{binary, get_attr, has_attr}
 use Rattle.cedar_types.specs.Expressions.Tree.{ext_has_attr}
 use Rattle.cedar_types.specs.Extensions.Functions.{table_fault}
 use Rattle.cedar_types.specs.Names.{Text}
-use Rattle.cedar_types.specs.Schemas.Formed.{has_formed_types}
 use Rattle.cedar_types.specs.Schemas.{Schema, has_fault}
 use Rattle.cedar_types.specs.Templates.Findings.{unknown_types, unknown_actions, wrong_members}
 use Rattle.cedar_types.specs.Templates.{PlainTemplate}
 use Rattle.cedar_typing.specs.Evaluation.Conformance.{IsOneOf}
 use Rattle.cedar_typing.specs.Evaluation.World.{World}
+use Rattle.cedar_typing.specs.Modes.{IsFormedFor}
 use Rattle.cedar_typing.specs.PolicyCheck.{Verdict, succeeds, irrelevant, fails}
-use Rattle.cedar_typing.specs.Soundness.Policies.{Basis, IsClosedIn, IsNamedBySchema, IsWellFormed, IsConforming, CheckedOn}
+use Rattle.cedar_typing.specs.Soundness.Policies.{Basis, IsSoundAndClosed, IsNamedBySchema, IsWellFormed, IsConforming, CheckedOn}
 use Rattle.cedar_typing.specs.TypedExpr.{TypedTree, annotation}
 use Rattle.cedar_typing.proofs.Basics.Members.{moved, in_left, in_right, reordered}
-use Rattle.cedar_typing.proofs.Soundness.Policies.{promises_are_kept, promises_are_kept_in_permissive}
+use Rattle.cedar_typing.proofs.Soundness.Policies.{promises_are_kept}
 use Rattle.cedar_typechecker.specs.Levels.Chains.{Base, an_entity, a_record, neither, base_of, Leaf, good_leaf, literal_leaf, bad_leaf, leaf_of}
 use Rattle.cedar_typechecker.specs.Levels.Chains.{level}
 use Rattle.cedar_typechecker.specs.Levels.Costs.{cost_of, keys_of}
@@ -31,11 +31,11 @@ use Rattle.cedar_typechecker.specs.Levels.Errors.{faults_at_leaf, faults_at_end,
 use Rattle.cedar_typechecker.specs.Levels.Outcome.{levels_on, IsErrorOfVerdict, IsErrorInSome, name_findings, LevelOutcome}
 use Rattle.cedar_typechecker.specs.Levels.Required.{IsRequiredLevel}
 use Rattle.cedar_typechecker.specs.Levels.Setting.{LevelSetting}
-use Rattle.cedar_typechecker.specs.Slices.Passing.{is_of_names_or_levels, NoneOfNamesOrLevels, PassingIsKept, PassingIsKeptInPermissive}
-use Rattle.cedar_typechecker.specs.Slices.Passing.{RequiredLevelSuffices, RequiredLevelSufficesInPermissive}
+use Rattle.cedar_typechecker.specs.Slices.Passing.{is_of_names_or_levels, NoneOfNamesOrLevels, PassingIsKept}
+use Rattle.cedar_typechecker.specs.Slices.Passing.{RequiredLevelSuffices}
 use Rattle.cedar_typechecker.specs.Slices.Policies.{PolicyIsWithinLevel}
 use Rattle.cedar_typechecker.specs.Slices.Validation.{IsKeptInSlices}
-use Rattle.cedar_typechecker.proofs.Slices.Policies.{passing_needs_slice_alone, passing_needs_slice_alone_in_permissive}
+use Rattle.cedar_typechecker.proofs.Slices.Policies.{passing_needs_slice_alone}
 use Rattle.cedar_typechecker.proofs.Slices.Validation.{listed_within, IsWithin}
 use Rattle.cedar_typechecker.proofs.Validations.{nothing_in}
 
@@ -182,51 +182,27 @@ module _ (found : List Finding) (quiet : NoneOfNamesOrLevels found) where
 -- ---- the laws
 
 module _ (b : Basis) (t : PlainTemplate) (schema : has_fault b.schema ≡ false)
-    (functions : table_fault b.table.functions ≡ None) (errors errors' : List Finding)
+    (formed : IsFormedFor b.mode b.schema) (functions : table_fault b.table.functions ≡ None) (errors errors' : List Finding)
     (old new : List Warning) (passed : CheckedOn b t true errors errors' old new) where
   -- both halves of the promise, where the policy is within the level and its names are known
-  kept : (n : ℕ) → PolicyIsWithinLevel b t n → IsClosedIn Strict b → IsNamedBySchema b.schema t
+  kept : (n : ℕ) → PolicyIsWithinLevel b t n → IsSoundAndClosed b → IsNamedBySchema b.schema t
       → (world : World) → IsWellFormed t world.slots → IsConforming b world
       → IsKeptInSlices t n world
   kept n enough k names world w i = record {
-    safe = (promises_are_kept b t schema functions true errors errors' old new passed).safe refl k names world w i;
+    safe = (promises_are_kept b t schema formed functions true errors errors' old new passed).safe refl k names world w i;
     same =
-        passing_needs_slice_alone b t schema functions errors errors' old new passed n k names enough
+        passing_needs_slice_alone b t schema formed functions errors errors' old new passed n k names enough
         world w i;
   }
 
-  kept_in_permissive : has_formed_types b.schema ≡ true → (n : ℕ) → PolicyIsWithinLevel b t n
-      → IsClosedIn Permissive b → IsNamedBySchema b.schema t
-      → (world : World) → IsWellFormed t world.slots → IsConforming b world
-      → IsKeptInSlices t n world
-  kept_in_permissive formed n enough k names world w i =
-      let promises = promises_are_kept_in_permissive b t schema formed functions true errors errors' old
-      new passed in
-      record {
-        safe = promises.safe refl k names world w i;
-        same =
-            passing_needs_slice_alone_in_permissive b t schema formed functions errors errors' old new
-            passed n k names enough world w i;
-      }
-
 pub passing_is_kept : PassingIsKept
-passing_is_kept b t schema functions errors errors' old new passed n found warnings o quiet k =
-    kept b t schema functions errors errors' old new passed n (within found quiet b t n warnings o) k
-    (named found quiet b t n warnings o (ap is_partial k.mode))
-
-pub passing_is_kept_in_permissive : PassingIsKeptInPermissive
-passing_is_kept_in_permissive b t schema formed functions errors errors' old new passed n found warnings o quiet k =
-    kept_in_permissive b t schema functions errors errors' old new passed formed n
-    (within found quiet b t n warnings o) k (named found quiet b t n warnings o (ap is_partial k.mode))
+passing_is_kept b t schema formed functions errors errors' old new passed n found warnings o quiet k =
+    kept b t schema formed functions errors errors' old new passed n (within found quiet b t n warnings o) k
+    (named found quiet b t n warnings o k.mode)
 
 within_required : (b : Basis) (t : PlainTemplate) (n : ℕ) → IsRequiredLevel b t (Some n) → PolicyIsWithinLevel b t n
 within_required b t n (bounded, enough, least) = enough
 
 pub required_level_suffices : RequiredLevelSuffices
-required_level_suffices b t schema functions errors errors' old new passed n r k names world w i =
-    kept b t schema functions errors errors' old new passed n (within_required b t n r) k names world w i
-
-pub required_level_suffices_in_permissive : RequiredLevelSufficesInPermissive
-required_level_suffices_in_permissive b t schema formed functions errors errors' old new passed n r k names world w i =
-    kept_in_permissive b t schema functions errors errors' old new passed formed n
-    (within_required b t n r) k names world w i
+required_level_suffices b t schema formed functions errors errors' old new passed n r k names world w i =
+    kept b t schema formed functions errors errors' old new passed n (within_required b t n r) k names world w i

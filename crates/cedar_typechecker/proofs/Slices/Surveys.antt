@@ -1,22 +1,20 @@
 -- What a survey promises follows from what it says.
 use Rattle.std.proofs.Common.{◌≡◌, ℕ, ◌≤◌, Bool, true, false, List, [], ◌∷◌, cond, None, inl, refl, sym, subst, ◌∙◌}
-use Rattle.cedar_types.specs.declared.base.types.ValidationMode.{ValidationMode}
-use Rattle.cedar_types.specs.declared.base.types.ValidationMode.TheVariants.{Strict, Permissive}
 use Rattle.cedar_types.specs.Errors.{Finding}
 use Rattle.cedar_types.specs.Extensions.Functions.{table_fault}
-use Rattle.cedar_types.specs.Schemas.Formed.{has_formed_types}
 use Rattle.cedar_types.specs.Schemas.{has_fault}
 use Rattle.cedar_types.specs.Templates.{PlainTemplate}
 use Rattle.cedar_typing.specs.Evaluation.Conformance.{IsOneOf}
+use Rattle.cedar_typing.specs.Modes.{IsFormedFor}
 use Rattle.cedar_typing.specs.PolicyCheck.Outcome.{all_errors, warnings_of, impossible}
-use Rattle.cedar_typing.specs.Soundness.Policies.{Basis, CheckedOn, AreBothKeptIn}
-use Rattle.cedar_typing.proofs.Soundness.Policies.{promises_are_kept, promises_are_kept_in_permissive}
+use Rattle.cedar_typing.specs.Soundness.Policies.{Basis, CheckedOn, AreBothKept}
+use Rattle.cedar_typing.proofs.Soundness.Policies.{promises_are_kept}
 use Rattle.cedar_typechecker.specs.declared.survey.Survey.{Survey}
-use Rattle.cedar_typechecker.specs.Slices.Policies.{PolicyIsWithinLevel, SliceSufficesIn}
-use Rattle.cedar_typechecker.specs.Slices.Surveys.{SurveyIsKeptIn}
+use Rattle.cedar_typechecker.specs.Slices.Policies.{PolicyIsWithinLevel, SliceSuffices}
+use Rattle.cedar_typechecker.specs.Slices.Surveys.{SurveyIsKept}
 use Rattle.cedar_typechecker.specs.Surveys.{passes_of, impossible_of, level_errors_of, IsSurveyOf}
 use Rattle.cedar_typechecker.proofs.Levels.RequiredLevels.{within_if_none_listed}
-use Rattle.cedar_typechecker.proofs.Slices.Policies.{passing_needs_slice_alone, passing_needs_slice_alone_in_permissive}
+use Rattle.cedar_typechecker.proofs.Slices.Policies.{passing_needs_slice_alone}
 
 module _ (b : Basis) (t : PlainTemplate) (s : Survey) (h : IsSurveyOf b t s) where
   -- a survey is what a check of the policy results in
@@ -49,10 +47,9 @@ module _ (b : Basis) (t : PlainTemplate) (s : Survey) (h : IsSurveyOf b t s) whe
       within_if_none_listed b t n h.listed h.verdicts h.in_some_order h.checked
       (λ f i. let P : List Finding → Type 0 = λ es. IsOneOf f es in subst P e ((h.levels n le f).1 i))
 
-  pub kept_in : (m : ValidationMode)
-      → AreBothKeptIn m b t (passes_of s) [] (warnings_of t h.verdicts)
-      → (passes_of s ≡ true → SliceSufficesIn m b t) → SurveyIsKeptIn m b t s
-  kept_in m both suffices = record {
+  kept_by : AreBothKept b t (passes_of s) [] (warnings_of t h.verdicts)
+      → (passes_of s ≡ true → SliceSuffices b t) → SurveyIsKept b t s
+  kept_by both suffices = record {
     safe = both.safe;
     never_true = λ e closed slots world conforming.
         both.never_true (λ i. i) (warned e) closed slots world conforming;
@@ -61,20 +58,9 @@ module _ (b : Basis) (t : PlainTemplate) (s : Survey) (h : IsSurveyOf b t s) whe
   }
 
 pub survey_is_kept : (b : Basis) (t : PlainTemplate) (s : Survey) → IsSurveyOf b t s
-    → has_fault b.schema ≡ false → table_fault b.table.functions ≡ None
-    → SurveyIsKeptIn Strict b t s
-survey_is_kept b t s h faultless table =
-    kept_in b t s h Strict
-    (promises_are_kept b t faultless table (passes_of s) [] _ [] _ (checked b t s h))
-    (λ e. passing_needs_slice_alone b t faultless table [] _ [] _ (passed b t s h e))
-
-pub survey_is_kept_in_permissive : (b : Basis) (t : PlainTemplate) (s : Survey) → IsSurveyOf b t s
-    → has_fault b.schema ≡ false → has_formed_types b.schema ≡ true
-    → table_fault b.table.functions ≡ None
-    → SurveyIsKeptIn Permissive b t s
-survey_is_kept_in_permissive b t s h faultless formed table =
-    kept_in b t s h Permissive
-    (promises_are_kept_in_permissive b t faultless formed table (passes_of s) [] _ [] _
-    (checked b t s h))
-    (λ e. passing_needs_slice_alone_in_permissive b t faultless formed table [] _ [] _
-    (passed b t s h e))
+    → has_fault b.schema ≡ false → IsFormedFor b.mode b.schema → table_fault b.table.functions ≡ None
+    → SurveyIsKept b t s
+survey_is_kept b t s h faultless formed table =
+    kept_by b t s h
+    (promises_are_kept b t faultless formed table (passes_of s) [] _ [] _ (checked b t s h))
+    (λ e. passing_needs_slice_alone b t faultless formed table [] _ [] _ (passed b t s h e))

@@ -1,10 +1,6 @@
 -- A typed copy without level errors evaluates in a part of the store that holds the slice as the expression does in the whole.
-use Rattle.std.proofs.Common.{◌≡◌, inl, inr, ℕ, Bool, true, false, ◌||◌, Some, refl, sym, ◌∙◌, ap, subst}
-use Rattle.cedar_types.specs.declared.base.types.ValidationMode.{ValidationMode}
-use Rattle.cedar_types.specs.declared.base.types.ValidationMode.TheVariants.{Strict, Permissive}
-use Rattle.cedar_types.specs.Environments.RequestEnvs.{is_partial}
+use Rattle.std.proofs.Common.{◌≡◌, inl, inr, ℕ, Some, refl, sym, ◌∙◌, subst}
 use Rattle.cedar_types.specs.Names.{Uid}
-use Rattle.cedar_types.specs.Schemas.Formed.{has_formed_types}
 use Rattle.cedar_types.specs.Types.{Ty}
 use Rattle.cedar_types.specs.Types.Bounds.{is_strict}
 use Rattle.cedar_types.specs.Values.Stores.{Store}
@@ -20,11 +16,11 @@ use Rattle.cedar_typing.proofs.Soundness.Capabilities.{hold_either}
 use Rattle.cedar_typing.proofs.Soundness.Induction.{sounds}
 use Rattle.cedar_typing.proofs.Soundness.Parts.{Sounds}
 use Rattle.cedar_typechecker.specs.Levels.Setting.{LevelSetting}
-use Rattle.cedar_typechecker.specs.Slices.Soundness.{with_store, levels_in, IsSlicedIn}
+use Rattle.cedar_typechecker.specs.Slices.Soundness.{with_store, levels_in, IsSliced}
 use Rattle.cedar_typechecker.proofs.Levels.Monotone.{silent_of}
 use Rattle.cedar_typechecker.proofs.Slices.Expressions.{same_at}
 use Rattle.cedar_typechecker.proofs.Slices.Same.{IsSame}
-use Rattle.cedar_typechecker.specs.Slices.TypedCopies.{CopiesMeanTheSameInPart, CopiesNeedSliceAlone, CopiesNeedSliceAloneInPermissive}
+use Rattle.cedar_typechecker.specs.Slices.TypedCopies.{CopiesMeanTheSameInPart, CopiesNeedSliceAlone}
 use Rattle.cedar_typing.proofs.TypedCopies.Induction.{copies}
 use Rattle.cedar_typechecker.proofs.Slices.Loaded.{Loaded, loaded_closed}
 use Rattle.cedar_typing.proofs.TypedCopies.Same.{Told, ToldPart}
@@ -47,9 +43,7 @@ module _ (levels : LevelSetting) (P : ℕ → Uid → Type 0) (o o' : Outcome) (
 
 -- ---- all expressions
 
-module _ (m : ValidationMode) (strictly : Bool) (s : Setting) (world : World) (n : ℕ) (part : Store) (i : IsSlicedIn m s world n part)
-    (strict : is_strict s.env.mode ≡ strictly) (total : is_partial s.env.mode ≡ false)
-    (formed : (strictly || has_formed_types s.env.schema) ≡ true) where
+module _ (s : Setting) (world : World) (n : ℕ) (part : Store) (i : IsSliced s world n part) where
   abbrev other : World
   other = with_store world part
 
@@ -60,20 +54,15 @@ module _ (m : ValidationMode) (strictly : Bool) (s : Setting) (world : World) (n
   in_part e b prior d h t c x k w =
       let r = i.reliable in
       let same = λ (e : Source) (b : SlotsBound world.slots e) (prior : Caps) (d : ℕ) (h : AllHold world prior).
-      same_at strictly s world n part strict total formed i.schema i.functions i.setting.closed i.setting.environment i.links
-      r.environment r.store r.functions i.slice e b prior d h in
+      same_at (is_strict s.env.mode) s world n part refl i.setting.mode i.formed i.schema i.functions i.setting.closed
+      i.setting.environment i.links r.environment r.store r.functions i.slice e b prior d h in
       let told = λ (e : Source) (b : SlotsBound world.slots e) (prior : Caps) (d : ℕ) (h : AllHold world prior).
       told_in_part levels _ (eval world e) (eval other e) (rules s e prior d) (same e b prior d h) world
-      (sounds strictly s world strict total formed i.schema i.functions i.setting.closed i.setting.environment
-      r.environment r.store r.functions e b prior d h) in
+      (sounds (is_strict s.env.mode) s world refl i.setting.mode i.formed i.schema i.functions i.setting.closed
+      i.setting.environment r.environment r.store r.functions e b prior d h) in
       let q = copies (Loaded levels) (AllHold world) ⊥ s other world.slots (loaded_closed levels)
       (λ c c' h k. hold_either world c c' h k) told e b prior d h in
       q.derivations t c x k (inl (silent_of levels x w)) ∙ (same e b prior d h).checked t c x k (silent_of levels x w)
 
 pub copies_need_slice_alone : CopiesNeedSliceAlone
-copies_need_slice_alone s world n part i =
-    in_part Strict true s world n part i (ap is_strict i.setting.mode) (ap is_partial i.setting.mode) refl
-
-pub copies_need_slice_alone_in_permissive : CopiesNeedSliceAloneInPermissive
-copies_need_slice_alone_in_permissive s world n part formed i =
-    in_part Permissive false s world n part i (ap is_strict i.setting.mode) (ap is_partial i.setting.mode) formed
+copies_need_slice_alone s world n part i = in_part s world n part i

@@ -1,18 +1,16 @@
 -- Validation with levels that finds no error: what it says of the check of the policy, and what that promises.
-use Rattle.std.proofs.Common.{◌≡◌, inl, inr, ℕ, Bool, true, false, ◌||◌, true≢false, None, List, [], ◌∷◌, ◌++◌, refl, sym, ap, subst}
+use Rattle.std.proofs.Common.{◌≡◌, inl, inr, ℕ, true, false, true≢false, None, List, [], ◌∷◌, ◌++◌, refl, sym, subst}
 use Rattle.std.specs.Prelude.{IsPermutation}
 use Rattle.std.proofs.lemmas.List.Sorted.{IsPermutation-refl}
-use Rattle.cedar_types.specs.declared.base.types.ValidationMode.TheVariants.{Strict, Permissive}
-use Rattle.cedar_types.specs.Types.Bounds.{is_strict}
 use Rattle.cedar_types.specs.Errors.{Finding, Warning}
 use Rattle.cedar_types.specs.Extensions.Functions.{table_fault}
-use Rattle.cedar_types.specs.Schemas.Formed.{has_formed_types}
 use Rattle.cedar_types.specs.Schemas.{has_fault}
 use Rattle.cedar_types.specs.Environments.Linking.{checked_envs}
-use Rattle.cedar_types.specs.Environments.RequestEnvs.{Env, is_partial}
+use Rattle.cedar_types.specs.Environments.RequestEnvs.{Env}
 use Rattle.cedar_types.specs.Templates.{PlainTemplate, condition_of}
 use Rattle.cedar_typing.specs.Capabilities.{no_caps}
 use Rattle.cedar_typing.specs.Evaluation.Conformance.{IsOneOf}
+use Rattle.cedar_typing.specs.Modes.{IsSoundMode, IsFormedFor}
 use Rattle.cedar_typing.specs.PolicyCheck.{Verdict, fails, PolicyChecks, SameVerdict, same_success, same_irrelevant}
 use Rattle.cedar_typing.specs.PolicyCheck.{same_failure, check_cut}
 use Rattle.cedar_typing.specs.PolicyCheck.Outcome.{passes, VerdictsOf, all_pass, all_errors, warnings_of}
@@ -24,13 +22,13 @@ use Rattle.cedar_typing.specs.TypedExpr.{Source}
 use Rattle.cedar_typing.proofs.Basics.Members.{reordered}
 use Rattle.cedar_typing.proofs.Policies.EachEnvironment.{each_has_passing}
 use Rattle.cedar_typing.proofs.Refinement.Parts.{nil_left, nil_right}
-use Rattle.cedar_typing.proofs.Soundness.Policies.{promises_are_kept, promises_are_kept_in_permissive}
+use Rattle.cedar_typing.proofs.Soundness.Policies.{promises_are_kept}
 use Rattle.cedar_typing.proofs.Policies.Verdicts.{none, verdict_at_most}
 use Rattle.cedar_typechecker.specs.Levels.Outcome.{ChecksOn, levels_on, IsErrorInSome, name_findings, LevelOutcome}
 use Rattle.cedar_typechecker.specs.Levels.Setting.{LevelSetting}
 use Rattle.cedar_typechecker.specs.Slices.Policies.{VerdictIsWithin, PolicyIsWithinLevel}
-use Rattle.cedar_typechecker.specs.Slices.Validation.{IsCutNowhere, PassingIsCutNowhere, OutcomesAreKept, OutcomesAreKeptInPermissive}
-use Rattle.cedar_typechecker.proofs.Slices.Policies.{passing_needs_slice_alone, passing_needs_slice_alone_in_permissive}
+use Rattle.cedar_typechecker.specs.Slices.Validation.{IsCutNowhere, PassingIsCutNowhere, OutcomesAreKept}
+use Rattle.cedar_typechecker.proofs.Slices.Policies.{passing_needs_slice_alone}
 use Rattle.cedar_typechecker.proofs.Validations.{names_known, none_of_checks, alone, warned_is_never_true, passed}
 
 -- ---- verdicts
@@ -70,9 +68,9 @@ module _ (b : Basis) (t : PlainTemplate) (n : ℕ) (errors : List Finding) (warn
   both_empty : o.type_errors ++ o.level_errors ≡ []
   both_empty = nil_right (name_findings b.mode b.schema t) (o.type_errors ++ o.level_errors) nothing_found
 
-  named : is_partial b.mode ≡ false → IsNamedBySchema b.schema t
-  named total =
-      names_known b.schema t b.mode total
+  named : IsSoundMode b.mode → IsNamedBySchema b.schema t
+  named sound =
+      names_known b.schema t b.mode sound
       (nil_left (name_findings b.mode b.schema t) (o.type_errors ++ o.level_errors) nothing_found)
 
   no_errors : all_errors o.verdicts ≡ []
@@ -85,58 +83,38 @@ module _ (b : Basis) (t : PlainTemplate) (n : ℕ) (errors : List Finding) (warn
       (listed_within b t n o.listed o.verdicts o.checked
       (λ e h. subst (IsOneOf e) (nil_right o.type_errors o.level_errors both_empty) ((o.levels e).1 h)))
 
--- ---- in both modes
+-- ---- the promises
 
 -- where there is no error, all names are known, the check passes and it is within the level
 passes_silently : (b : Basis) (t : PlainTemplate) (n : ℕ) (errors : List Finding)
     (warnings : List Warning) (o : LevelOutcome b t n errors warnings)
-    → has_fault b.schema ≡ false → table_fault b.table.functions ≡ None
-    → (strictly : Bool) → is_strict b.mode ≡ strictly → is_partial b.mode ≡ false
-    → (strictly || has_formed_types b.schema) ≡ true → errors ≡ [] → IsCutNowhere b t
+    → has_fault b.schema ≡ false → IsFormedFor b.mode b.schema → table_fault b.table.functions ≡ None
+    → IsSoundMode b.mode → errors ≡ [] → IsCutNowhere b t
     → HasNoUnknowns (condition_of t)
     → IsNamedBySchema b.schema t
     × CheckedOn b t true [] (all_errors o.verdicts) [] (warnings_of t o.verdicts)
     × PolicyIsWithinLevel b t n
-passes_silently b t n errors warnings o schema functions strictly strict total formed silent uncut unknowns =
-    let names = named b t n errors warnings o silent total in (
+passes_silently b t n errors warnings o schema formed functions sound silent uncut unknowns =
+    let names = named b t n errors warnings o silent sound in (
       names,
-      passed b t o.listed o.verdicts o.in_some_order o.checked strictly strict total formed schema
-          functions (no_errors b t n errors warnings o silent) names uncut unknowns,
+      passed b t o.listed o.verdicts o.in_some_order o.checked sound formed schema functions
+          (no_errors b t n errors warnings o silent) names uncut unknowns,
       within b t n errors warnings o silent,
     )
 
 pub outcomes_are_kept : OutcomesAreKept
-outcomes_are_kept b t schema functions n errors warnings o = record {
+outcomes_are_kept b t schema formed functions n errors warnings o = record {
   silent = λ silent uncut k world w i.
-      let p = passes_silently b t n errors warnings o schema functions true (ap is_strict k.mode)
-      (ap is_partial k.mode) refl silent uncut w.no_unknowns in
+      let p = passes_silently b t n errors warnings o schema formed functions k.mode silent uncut w.no_unknowns in
       record {
-        safe = (promises_are_kept b t schema functions true [] _ [] _ p.1).safe refl k p.0 world w i;
-        same = passing_needs_slice_alone b t schema functions [] _ [] _ p.1 n k p.0 p.2 world w i;
+        safe = (promises_are_kept b t schema formed functions true [] _ [] _ p.1).safe refl k p.0 world w i;
+        same = passing_needs_slice_alone b t schema formed functions [] _ [] _ p.1 n k p.0 p.2 world w i;
       };
   never_true =
-      warned_is_never_true b t o.listed o.verdicts o.in_some_order o.checked Strict
-      (promises_are_kept b t schema functions (all_pass o.verdicts) [] _ [] _
+      warned_is_never_true b t o.listed o.verdicts o.in_some_order o.checked
+      (promises_are_kept b t schema formed functions (all_pass o.verdicts) [] _ [] _
       (alone b t o.listed o.verdicts o.in_some_order o.checked)) warnings o.warned;
 }
-
-pub outcomes_are_kept_in_permissive : OutcomesAreKeptInPermissive
-outcomes_are_kept_in_permissive b t schema formed functions n errors warnings o =
-    let promises = promises_are_kept_in_permissive b t schema formed functions in
-    let needs = passing_needs_slice_alone_in_permissive b t schema formed functions in
-    record {
-      silent = λ silent uncut k world w i.
-          let p = passes_silently b t n errors warnings o schema functions false (ap is_strict k.mode)
-          (ap is_partial k.mode) formed silent uncut w.no_unknowns in
-          record {
-            safe = (promises true [] _ [] _ p.1).safe refl k p.0 world w i;
-            same = needs [] _ [] _ p.1 n k p.0 p.2 world w i;
-          };
-      never_true =
-          warned_is_never_true b t o.listed o.verdicts o.in_some_order o.checked Permissive
-          (promises (all_pass o.verdicts) [] _ [] _
-          (alone b t o.listed o.verdicts o.in_some_order o.checked)) warnings o.warned;
-    }
 
 -- ---- nothing is nested too deep
 

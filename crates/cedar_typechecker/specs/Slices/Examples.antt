@@ -24,7 +24,7 @@ use Rattle.cedar_typing.specs.Examples.PolicySoundness.{Passes}
 use Rattle.cedar_typing.specs.Examples.World.{decimal, alice, bob}
 use Rattle.cedar_typing.specs.PolicyCheck.{Verdict, policy_check}
 use Rattle.cedar_typing.specs.PolicyCheck.Outcome.{all_pass}
-use Rattle.cedar_typing.specs.Soundness.Policies.{Basis, IsClosedIn, IsNamedBySchema, IsWellFormed, IsConforming, setting_on}
+use Rattle.cedar_typing.specs.Soundness.Policies.{Basis, IsSoundAndClosed, IsNamedBySchema, IsWellFormed, IsConforming, setting_on}
 use Rattle.cedar_typechecker.specs.Levels.Errors.{exceeds}
 use Rattle.cedar_typechecker.specs.Levels.Outcome.{ChecksOn, levels_on, IsErrorOfVerdict}
 use Rattle.cedar_typechecker.specs.Slices.Policies.{PolicyIsWithinLevel}
@@ -101,7 +101,7 @@ pub record AllPremisesHold (m : ValidationMode) (t : PlainTemplate) : Type 0 whe
   pub formed : has_formed_types wiki_schema ≡ true
   pub faultless_functions : table_fault (wiki_basis m).table.functions ≡ None
   pub passes : Passes (wiki_basis m) t
-  pub basis : IsClosedIn m (wiki_basis m)
+  pub basis : IsSoundAndClosed (wiki_basis m)
   pub named : IsNamedBySchema wiki_schema t
   pub within_three : PolicyIsWithinLevel (wiki_basis m) t 3
   pub beyond_two : HasLevelError (wiki_basis m) t 2 (exceeds 2 3)

@@ -1,17 +1,15 @@
 -- What a policy that passes is promised where validation with levels finds some error, but none that
 -- the promise is about; and where it requires so many levels.
 use Rattle.std.specs.Prelude.{◌≡◌, ℕ, Bool, true, false, List, Some}
-use Rattle.cedar_types.specs.declared.base.types.ValidationMode.{ValidationMode}
-use Rattle.cedar_types.specs.declared.base.types.ValidationMode.TheVariants.{Strict, Permissive}
 use Rattle.cedar_types.specs.Errors.{Fault, Finding, Warning, unrecognized_entity_type, unrecognized_action_id, internal_invariant_violation}
 use Rattle.cedar_types.specs.Errors.{maximum_level_exceeded, literal_dereference_target}
 use Rattle.cedar_types.specs.Templates.{PlainTemplate}
 use Rattle.cedar_typing.specs.Evaluation.Conformance.{IsOneOf}
 use Rattle.cedar_typing.specs.Evaluation.World.{World}
-use Rattle.cedar_typing.specs.Soundness.Policies.{Basis, IsClosedIn, IsNamedBySchema, IsWellFormed, IsConforming}
+use Rattle.cedar_typing.specs.Soundness.Policies.{Basis, IsSoundAndClosed, IsNamedBySchema, IsWellFormed, IsConforming}
 use Rattle.cedar_typechecker.specs.Levels.Outcome.{LevelOutcome}
 use Rattle.cedar_typechecker.specs.Levels.Required.{IsRequiredLevel}
-use Rattle.cedar_typechecker.specs.Slices.Policies.{OfEachPassing, OfEachPassingFormed}
+use Rattle.cedar_typechecker.specs.Slices.Policies.{OfEachPassing}
 use Rattle.cedar_typechecker.specs.Slices.Validation.{IsKeptInSlices}
 
 -- ---- by the errors of the call
@@ -32,9 +30,9 @@ NoneOfNamesOrLevels errors =
 
 -- in each world that conforms, of a policy without unknowns, whose slots stand in its scope alone and
 -- are bound, where no error is one of these: both halves of the promise
-abbrev pub PassingIsKeptIn : ValidationMode → Basis → PlainTemplate → ℕ → List Finding → Type 0
-PassingIsKeptIn m b t n errors =
-    NoneOfNamesOrLevels errors → IsClosedIn m b
+abbrev pub IsKeptBesideErrors : Basis → PlainTemplate → ℕ → List Finding → Type 0
+IsKeptBesideErrors b t n errors =
+    NoneOfNamesOrLevels errors → IsSoundAndClosed b
     → (world : World) → IsWellFormed t world.slots → IsConforming b world
     → IsKeptInSlices t n world
 
@@ -44,28 +42,18 @@ abbrev pub PassingIsKept : Type 0
 PassingIsKept =
     OfEachPassing
     (λ b t. (n : ℕ) (found : List Finding) (warnings : List Warning)
-    → LevelOutcome b t n found warnings → PassingIsKeptIn Strict b t n found)
-
--- in Permissive, where names also ascend in the types of the schema
-abbrev pub PassingIsKeptInPermissive : Type 0
-PassingIsKeptInPermissive =
-    OfEachPassingFormed
-    (λ b t. (n : ℕ) (found : List Finding) (warnings : List Warning)
-    → LevelOutcome b t n found warnings → PassingIsKeptIn Permissive b t n found)
+    → LevelOutcome b t n found warnings → IsKeptBesideErrors b t n found)
 
 -- ---- by the required level
 
 -- in each world that conforms, of a policy without unknown names, where it requires n levels: both
 -- halves of the promise, for the slice of n steps
-abbrev pub RequiredLevelSufficesIn : ValidationMode → Basis → PlainTemplate → Type 0
-RequiredLevelSufficesIn m b t =
-    (n : ℕ) → IsRequiredLevel b t (Some n) → IsClosedIn m b → IsNamedBySchema b.schema t
+abbrev pub IsKeptAtItsLevel : Basis → PlainTemplate → Type 0
+IsKeptAtItsLevel b t =
+    (n : ℕ) → IsRequiredLevel b t (Some n) → IsSoundAndClosed b → IsNamedBySchema b.schema t
     → (world : World) → IsWellFormed t world.slots → IsConforming b world
     → IsKeptInSlices t n world
 
 -- it follows where the check of the policy passes
 abbrev pub RequiredLevelSuffices : Type 0
-RequiredLevelSuffices = OfEachPassing (RequiredLevelSufficesIn Strict)
-
-abbrev pub RequiredLevelSufficesInPermissive : Type 0
-RequiredLevelSufficesInPermissive = OfEachPassingFormed (RequiredLevelSufficesIn Permissive)
+RequiredLevelSuffices = OfEachPassing IsKeptAtItsLevel

@@ -1,10 +1,7 @@
 -- What silence of the level rules promises of a policy that passes, in a part of a store.
 use Rattle.std.specs.Prelude.{◌≡◌, ℕ, true, false, List, None}
-use Rattle.cedar_types.specs.declared.base.types.ValidationMode.{ValidationMode}
-use Rattle.cedar_types.specs.declared.base.types.ValidationMode.TheVariants.{Strict, Permissive}
 use Rattle.cedar_types.specs.Errors.{Finding, Warning}
 use Rattle.cedar_types.specs.Extensions.Functions.{table_fault}
-use Rattle.cedar_types.specs.Schemas.Formed.{has_formed_types}
 use Rattle.cedar_types.specs.Environments.Linking.{checked_envs}
 use Rattle.cedar_types.specs.Environments.RequestEnvs.{Env}
 use Rattle.cedar_types.specs.Schemas.{has_fault}
@@ -13,8 +10,9 @@ use Rattle.cedar_types.specs.Templates.{PlainTemplate, condition_of}
 use Rattle.cedar_typing.specs.Evaluation.Conformance.{IsOneOf}
 use Rattle.cedar_typing.specs.Evaluation.Eval.{eval}
 use Rattle.cedar_typing.specs.Evaluation.World.{World}
+use Rattle.cedar_typing.specs.Modes.{IsFormedFor}
 use Rattle.cedar_typing.specs.PolicyCheck.{Verdict}
-use Rattle.cedar_typing.specs.Soundness.Policies.{Basis, IsClosedIn, IsNamedBySchema, IsWellFormed, IsConforming, CheckedOn}
+use Rattle.cedar_typing.specs.Soundness.Policies.{Basis, IsSoundAndClosed, IsNamedBySchema, IsWellFormed, IsConforming, CheckedOn}
 use Rattle.cedar_typechecker.specs.Levels.Outcome.{ChecksOn, levels_on, IsErrorOfVerdict}
 use Rattle.cedar_typechecker.specs.Levels.Setting.{LevelSetting}
 use Rattle.cedar_typechecker.specs.Slices.Reach.{HoldsSlice}
@@ -45,9 +43,9 @@ IsSameInSlices t world n =
     (part : Store) → HoldsSlice world.request world.store n part → IsSameIn t world part
 
 -- in each world that conforms, at each n at which the level pass is silent
-abbrev pub SliceSufficesIn : ValidationMode → Basis → PlainTemplate → Type 0
-SliceSufficesIn m b t =
-    (n : ℕ) → IsClosedIn m b → IsNamedBySchema b.schema t → PolicyIsWithinLevel b t n
+abbrev pub SliceSuffices : Basis → PlainTemplate → Type 0
+SliceSuffices b t =
+    (n : ℕ) → IsSoundAndClosed b → IsNamedBySchema b.schema t → PolicyIsWithinLevel b t n
     → (world : World) → IsWellFormed t world.slots → IsConforming b world
     → IsSameInSlices t world n
 
@@ -57,21 +55,10 @@ SliceSufficesIn m b t =
 abbrev pub OfEachPassing : (Basis → PlainTemplate → Type 0) → Type 0
 OfEachPassing P =
     (b : Basis) (t : PlainTemplate)
-    → has_fault b.schema ≡ false → table_fault b.table.functions ≡ None
-    → (errors errors' : List Finding) (old new : List Warning)
-    → CheckedOn b t true errors errors' old new → P b t
-
--- where names also ascend in the types of the schema
-abbrev pub OfEachPassingFormed : (Basis → PlainTemplate → Type 0) → Type 0
-OfEachPassingFormed P =
-    (b : Basis) (t : PlainTemplate)
-    → has_fault b.schema ≡ false → has_formed_types b.schema ≡ true
+    → has_fault b.schema ≡ false → IsFormedFor b.mode b.schema
     → table_fault b.table.functions ≡ None
     → (errors errors' : List Finding) (old new : List Warning)
     → CheckedOn b t true errors errors' old new → P b t
 
 abbrev pub PassingNeedsSliceAlone : Type 0
-PassingNeedsSliceAlone = OfEachPassing (SliceSufficesIn Strict)
-
-abbrev pub PassingNeedsSliceAloneInPermissive : Type 0
-PassingNeedsSliceAloneInPermissive = OfEachPassingFormed (SliceSufficesIn Permissive)
+PassingNeedsSliceAlone = OfEachPassing SliceSuffices

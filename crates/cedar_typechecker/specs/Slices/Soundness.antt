@@ -1,9 +1,6 @@
 -- What silence of the level rules promises of an expression that is evaluated in a part of a store.
-use Rattle.std.specs.Prelude.{◌≡◌, ℕ, ◌≤◌, true, false, List, [], ◌∷◌, Option, Some, None}
-use Rattle.cedar_types.specs.declared.base.types.ValidationMode.{ValidationMode}
-use Rattle.cedar_types.specs.declared.base.types.ValidationMode.TheVariants.{Strict, Permissive}
+use Rattle.std.specs.Prelude.{◌≡◌, ℕ, ◌≤◌, false, List, [], ◌∷◌, Option, Some, None}
 use Rattle.cedar_types.specs.Extensions.Functions.{table_fault}
-use Rattle.cedar_types.specs.Schemas.Formed.{has_formed_types}
 use Rattle.cedar_types.specs.Names.{Text, Uid}
 use Rattle.cedar_types.specs.Schemas.{has_fault}
 use Rattle.cedar_types.specs.Values.Stores.{Store}
@@ -13,10 +10,11 @@ use Rattle.cedar_typing.specs.Capabilities.{Caps}
 use Rattle.cedar_typing.specs.Evaluation.Conformance.{IsOneOf, SlotsBound, AllHold}
 use Rattle.cedar_typing.specs.Evaluation.Eval.{eval}
 use Rattle.cedar_typing.specs.Evaluation.World.{World}
+use Rattle.cedar_typing.specs.Modes.{IsFormedFor}
 use Rattle.cedar_typing.specs.Setting.LinkedSlots.{LinksBothSlots}
 use Rattle.cedar_typing.specs.Rules.{Derives}
 use Rattle.cedar_typing.specs.Setting.{Setting}
-use Rattle.cedar_typing.specs.Soundness.{OnValue, IsReliableIn, IsWorldOf}
+use Rattle.cedar_typing.specs.Soundness.{OnValue, IsReliable, IsWorldOf}
 use Rattle.cedar_typing.specs.TypedExpr.{Source, TypedTree}
 use Rattle.cedar_typechecker.specs.Levels.Chains.{level}
 use Rattle.cedar_typechecker.specs.Levels.Dereferences.{IsTarget}
@@ -40,11 +38,11 @@ levels_in s n = record {
 -- ---- the premises
 
 -- typing can be relied on in the world, and a part of its store holds the slice of n steps
-pub record IsSlicedIn (m : ValidationMode) (s : Setting) (world : World) (n : ℕ) (part : Store) :
-    Type 0 where
+pub record IsSliced (s : Setting) (world : World) (n : ℕ) (part : Store) : Type 0 where
   pub schema : has_fault s.env.schema ≡ false
+  pub formed : IsFormedFor s.env.mode s.env.schema
   pub functions : table_fault s.functions ≡ None
-  pub setting : IsReliableIn m s
+  pub setting : IsReliable s
   pub links : LinksBothSlots s.env.request_env
   pub reliable : IsWorldOf s world
   pub slice : HoldsSlice world.request world.store n part
@@ -92,26 +90,13 @@ TargetsReach s world n =
 
 -- ---- where they hold
 
--- in Strict
 abbrev pub OfEachSlice : (Setting → World → ℕ → Store → Type 0) → Type 0
 OfEachSlice P =
-    (s : Setting) (world : World) (n : ℕ) (part : Store) → IsSlicedIn Strict s world n part
+    (s : Setting) (world : World) (n : ℕ) (part : Store) → IsSliced s world n part
     → P s world n part
-
--- in Permissive, by a schema in whose types names ascend, as they do in every schema of the program
-abbrev pub OfEachFormedSlice : (Setting → World → ℕ → Store → Type 0) → Type 0
-OfEachFormedSlice P =
-    (s : Setting) (world : World) (n : ℕ) (part : Store) → has_formed_types s.env.schema ≡ true
-    → IsSlicedIn Permissive s world n part → P s world n part
 
 abbrev pub SliceSoundness : Type 0
 SliceSoundness = OfEachSlice EvaluatesAlike
 
 abbrev pub TargetsAreReached : Type 0
 TargetsAreReached = OfEachSlice (λ s world n part. TargetsReach s world n)
-
-abbrev pub SliceSoundnessInPermissive : Type 0
-SliceSoundnessInPermissive = OfEachFormedSlice EvaluatesAlike
-
-abbrev pub TargetsAreReachedInPermissive : Type 0
-TargetsAreReachedInPermissive = OfEachFormedSlice (λ s world n part. TargetsReach s world n)

@@ -1,7 +1,5 @@
 -- What a host that goes on with typed conditions over parts of a store may rely on.
 use Rattle.std.specs.Prelude.{◌≡◌, ℕ}
-use Rattle.cedar_types.specs.declared.base.types.ValidationMode.{ValidationMode}
-use Rattle.cedar_types.specs.declared.base.types.ValidationMode.TheVariants.{Strict, Permissive}
 use Rattle.cedar_types.specs.Environments.{DeclaredEnv, environments_of}
 use Rattle.cedar_types.specs.Templates.{PlainTemplate, condition_of}
 use Rattle.cedar_types.specs.Types.{Ty}
@@ -14,13 +12,13 @@ use Rattle.cedar_typing.specs.Evaluation.World.{World}
 use Rattle.cedar_typing.specs.PolicyCheck.{Verdict, succeeds, irrelevant, fails}
 use Rattle.cedar_typing.specs.Rules.{Derives}
 use Rattle.cedar_typing.specs.Setting.{Setting}
-use Rattle.cedar_typing.specs.Soundness.Policies.{Basis, IsClosedIn, IsNamedBySchema, IsWellFormed, IsConforming}
+use Rattle.cedar_typing.specs.Soundness.Policies.{Basis, IsSoundAndClosed, IsNamedBySchema, IsWellFormed, IsConforming}
 use Rattle.cedar_typing.specs.TypedExpr.{Source, TypedTree}
 use Rattle.cedar_typechecker.specs.Levels.Errors.{IsWithinLevel}
 use Rattle.cedar_typechecker.specs.Levels.Outcome.{ChecksOn}
-use Rattle.cedar_typechecker.specs.Slices.Policies.{PolicyIsWithinLevel, OfEachPassing, OfEachPassingFormed}
+use Rattle.cedar_typechecker.specs.Slices.Policies.{PolicyIsWithinLevel, OfEachPassing}
 use Rattle.cedar_typechecker.specs.Slices.Reach.{HoldsSlice}
-use Rattle.cedar_typechecker.specs.Slices.Soundness.{with_store, levels_in, OfEachSlice, OfEachFormedSlice}
+use Rattle.cedar_typechecker.specs.Slices.Soundness.{with_store, levels_in, OfEachSlice}
 
 -- ---- an expression
 
@@ -40,9 +38,6 @@ CopiesMeanTheSameInPart s world n part =
 abbrev pub CopiesNeedSliceAlone : Type 0
 CopiesNeedSliceAlone = OfEachSlice CopiesMeanTheSameInPart
 
-abbrev pub CopiesNeedSliceAloneInPermissive : Type 0
-CopiesNeedSliceAloneInPermissive = OfEachFormedSlice CopiesMeanTheSameInPart
-
 -- ---- a policy
 
 abbrev pub VerdictMeansTheSameInPart : World → Store → Source → Verdict → Type 0
@@ -52,9 +47,9 @@ VerdictMeansTheSameInPart world part e (fails es) = Unit {0}
 
 -- in each world that conforms, at each n at which the level pass is silent: the typed condition of the own environment of the
 -- request evaluates in each part that has the slice of n steps as the template's condition does in the whole store
-abbrev pub OwnCopySufficesIn : ValidationMode → Basis → PlainTemplate → Type 0
-OwnCopySufficesIn m b t =
-    (n : ℕ) → IsClosedIn m b → IsNamedBySchema b.schema t → PolicyIsWithinLevel b t n
+abbrev pub OwnCopySuffices : Basis → PlainTemplate → Type 0
+OwnCopySuffices b t =
+    (n : ℕ) → IsSoundAndClosed b → IsNamedBySchema b.schema t → PolicyIsWithinLevel b t n
     → (world : World) → IsWellFormed t world.slots → IsConforming b world
     → (d : DeclaredEnv) → IsOneOf d (environments_of b.schema.actions) → FitsRequest d world.request
     → (part : Store) → HoldsSlice world.request world.store n part
@@ -63,8 +58,4 @@ OwnCopySufficesIn m b t =
 
 -- of each policy that passes, by a schema and a table without faults
 abbrev pub PassingCopyNeedsSliceAlone : Type 0
-PassingCopyNeedsSliceAlone = OfEachPassing (OwnCopySufficesIn Strict)
-
--- in Permissive, where names also ascend in the types of the schema
-abbrev pub PassingCopyNeedsSliceAloneInPermissive : Type 0
-PassingCopyNeedsSliceAloneInPermissive = OfEachPassingFormed (OwnCopySufficesIn Permissive)
+PassingCopyNeedsSliceAlone = OfEachPassing OwnCopySuffices

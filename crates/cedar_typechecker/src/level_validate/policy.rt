@@ -1,11 +1,10 @@
 // The validation of a policy with levels.
 ghost use Rattle.std.specs.Prelude.{◌≡◌, ◌++◌, IfOk, OnOk};
-ghost use Rattle.cedar_types.specs.declared.base.types.ValidationMode.TheVariants.{Strict, Permissive};
 ghost use Rattle.cedar_types.specs.Templates.{template_of};
 ghost use Rattle.cedar_typechecker.specs.Levels.Answers.{level_errors_left, level_warnings_left};
 ghost use Rattle.cedar_typechecker.specs.Levels.Outcome.{AreApart, LevelOutcome};
 ghost use Rattle.cedar_typechecker.specs.Levels.Views.{findings};
-ghost use Rattle.cedar_typechecker.specs.Slices.Validation.{SilenceIsKeptIn, WarnedIsNeverTrueIn};
+ghost use Rattle.cedar_typechecker.specs.Slices.Validation.{SilenceIsKept, WarnedIsNeverTrue};
 ghost use Rattle.cedar_typechecker.specs.Surveys.{AddsFound};
 ghost use Rattle.cedar_typechecker.specs.ValidatorViews.{basis_in};
 
@@ -28,10 +27,10 @@ impl<C: ArgumentCheck> Validator<'_, C> {
     /// time.
     ///
     /// In Strict and in Permissive, if no part is nested too deep, no error means that the policy passes and needs no more
-    /// of a store than `max_deref_level` steps reach (clauses `silent` and `silent_in_permissive`): evaluating it gives a
+    /// of a store than `max_deref_level` steps reach (clause `silent`): evaluating it gives a
     /// boolean, or fails only for a missing entity, an overflow or an extension function; and over each part of the store
     /// that has at least the slice of `max_deref_level` steps, it evaluates exactly as over the whole. A policy that is
-    /// warned to be impossible is never true, with errors or without (clauses `never_true` and `never_true_in_permissive`).
+    /// warned to be impossible is never true, with errors or without (clause `never_true`).
     /// The premises of all this are in docs/THEOREMS.md, "The premises".
     ///
     /// If a part is nested too deep the check fails, perhaps without an error, so you must not take a policy without errors
@@ -48,16 +47,10 @@ impl<C: ArgumentCheck> Validator<'_, C> {
             LevelOutcome (basis_in C.refusal self.now mode) (template_of p.now) max_deref_level
             (level_errors_left r.0) (level_warnings_left r.1)) }
         ensures silent { IfOk result (λ r.
-            SilenceIsKeptIn Strict (basis_in C.refusal self.now mode) (template_of p.now)
+            SilenceIsKept (basis_in C.refusal self.now mode) (template_of p.now)
             max_deref_level (level_errors_left r.0)) }
         ensures never_true { IfOk result (λ r.
-            WarnedIsNeverTrueIn Strict (basis_in C.refusal self.now mode) (template_of p.now)
-            (level_warnings_left r.1)) }
-        ensures silent_in_permissive { IfOk result (λ r.
-            SilenceIsKeptIn Permissive (basis_in C.refusal self.now mode) (template_of p.now)
-            max_deref_level (level_errors_left r.0)) }
-        ensures never_true_in_permissive { IfOk result (λ r.
-            WarnedIsNeverTrueIn Permissive (basis_in C.refusal self.now mode) (template_of p.now)
+            WarnedIsNeverTrue (basis_in C.refusal self.now mode) (template_of p.now)
             (level_warnings_left r.1)) }
     {
         let survey = self.survey(alloc, p, mode)?;

@@ -1,7 +1,7 @@
 //! Laws of slices, the parts of a store within some steps of a request, each on a function that does nothing.
 ghost use Rattle.cedar_typechecker.specs.Slices.Reach.{SlicesHold};
-ghost use Rattle.cedar_typechecker.specs.Slices.Soundness.{SliceSoundness, SliceSoundnessInPermissive, TargetsAreReached, TargetsAreReachedInPermissive};
-ghost use Rattle.cedar_typechecker.specs.Slices.TypedCopies.{CopiesNeedSliceAlone, CopiesNeedSliceAloneInPermissive};
+ghost use Rattle.cedar_typechecker.specs.Slices.Soundness.{SliceSoundness, TargetsAreReached};
+ghost use Rattle.cedar_typechecker.specs.Slices.TypedCopies.{CopiesNeedSliceAlone};
 
 /// The slice of some steps is a part of the store that holds itself, and so does the whole store.
 pub fn slices_hold()
@@ -11,19 +11,16 @@ pub fn slices_hold()
 /// What has a type and no level error at a maximum evaluates to the same in each part of the store that holds the slice of that
 /// many steps: the same value, or the same failure.
 pub fn slice_soundness()
-    ensures strict { SliceSoundness }
-    ensures permissive { SliceSoundnessInPermissive }
+    ensures { SliceSoundness }
 {}
 
 /// A typed copy without level errors at a maximum evaluates in each part of the store that holds the slice of that many steps to
 /// what the expression evaluates to in the whole store.
 pub fn copies_need_slice_alone()
-    ensures strict { CopiesNeedSliceAlone }
-    ensures permissive { CopiesNeedSliceAloneInPermissive }
+    ensures { CopiesNeedSliceAlone }
 {}
 
 /// Each entity that the value of a target holds along its path is reached in no more steps than the target's level.
 pub fn targets_are_reached()
-    ensures strict { TargetsAreReached }
-    ensures permissive { TargetsAreReachedInPermissive }
+    ensures { TargetsAreReached }
 {}

@@ -1,6 +1,5 @@
 // The survey of a policy: one check in each environment, taken in one after the other.
 ghost use Rattle.std.specs.Prelude.{◌≡◌, [], ◌∷◌, List, IfOk, OnOk};
-ghost use Rattle.cedar_types.specs.declared.base.types.ValidationMode.TheVariants.{Strict, Permissive};
 ghost use Rattle.cedar_types.specs.Environments.RequestEnvs.{Env, env_of};
 ghost use Rattle.cedar_types.specs.Names.{text_of};
 ghost use Rattle.cedar_types.specs.Schemas.{Schema};
@@ -13,7 +12,7 @@ ghost use Rattle.cedar_typing.specs.Views.Checks.{verdict_of};
 ghost use Rattle.cedar_typechecker.specs.Levels.Demands.{add_demands};
 ghost use Rattle.cedar_typechecker.specs.Levels.Views.{surroundings_of, demands_of};
 ghost use Rattle.cedar_typechecker.specs.Representatives.{AreChecksBy, IsOfDeclared, IsKnown, SurveysOneMore};
-ghost use Rattle.cedar_typechecker.specs.Slices.Surveys.{SurveyIsKeptIn};
+ghost use Rattle.cedar_typechecker.specs.Slices.Surveys.{SurveyIsKept};
 ghost use Rattle.cedar_typechecker.specs.Surveys.{Surveys, IsSurveyOf};
 ghost use Rattle.cedar_typechecker.specs.ValidatorViews.{basis_in};
 
@@ -46,9 +45,7 @@ impl<C: ArgumentCheck> Validator<'_, C> {
         ensures exact { IfOk result (
             IsSurveyOf (basis_in C.refusal self.now mode) (template_of p.now)) }
         ensures kept { IfOk result (
-            SurveyIsKeptIn Strict (basis_in C.refusal self.now mode) (template_of p.now)) }
-        ensures kept_in_permissive { IfOk result (
-            SurveyIsKeptIn Permissive (basis_in C.refusal self.now mode) (template_of p.now)) }
+            SurveyIsKept (basis_in C.refusal self.now mode) (template_of p.now)) }
     {
         let checker = Typechecker::new(&self.schema, self.extensions, mode);
         let mut survey = Survey::of_nothing(alloc, p.id.clone()?);

@@ -1,8 +1,9 @@
 -- What is computed in Strict and in Permissive, in either of them.
-use Rattle.std.proofs.Common.{◌≡◌, ℕ, [], inl, inr, ◌⊎◌, sym, subst}
+use Rattle.std.proofs.Common.{◌≡◌, ℕ, [], inl, inr, ◌⊎◌, refl, sym, subst}
 use Rattle.cedar_types.specs.declared.base.types.ValidationMode.{ValidationMode}
 use Rattle.cedar_types.specs.declared.base.types.ValidationMode.TheVariants.{Strict, Permissive}
 use Rattle.cedar_types.specs.Templates.{PlainTemplate}
+use Rattle.cedar_typing.specs.Modes.{IsSoundMode}
 use Rattle.cedar_typing.specs.Soundness.Policies.{Basis}
 use Rattle.cedar_typechecker.specs.Slices.Policies.{PolicyIsWithinLevel}
 use Rattle.cedar_typechecker.proofs.Slices.Examples.Levels.{level_findings, within}
@@ -18,6 +19,9 @@ module _ (m : ValidationMode) where
   pub in_either : (P : ValidationMode → Type 0) → P Strict → P Permissive → IsEither m → P m
   in_either P strict permissive (inl q) = subst P (sym q) strict
   in_either P strict permissive (inr q) = subst P (sym q) permissive
+
+  pub sound : IsEither m → IsSoundMode m
+  sound = in_either IsSoundMode refl refl
 
   -- in both modes the check comes to this, and no level error is found
   pub fine : IsEither m → (Passed : Basis → PlainTemplate → Type 0) (b : ValidationMode → Basis)

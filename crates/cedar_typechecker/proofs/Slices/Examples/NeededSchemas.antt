@@ -29,7 +29,7 @@ use Rattle.cedar_typechecker.specs.Slices.NeededPremises.Schemas.{guided_guest, 
 use Rattle.cedar_typechecker.specs.Slices.NeededPremises.Schemas.{FaultsGoWrongIn, TableFaultsGoWrongIn, ExternalTypesGoWrongIn}
 use Rattle.cedar_typechecker.specs.Slices.NeededPremises.Schemas.{SchemasAreNeededIn, FormIsNeeded}
 use Rattle.cedar_typechecker.proofs.Slices.Examples.Levels.{within}
-use Rattle.cedar_typechecker.proofs.Slices.Examples.Modes.{IsEither, fine}
+use Rattle.cedar_typechecker.proofs.Slices.Examples.Modes.{IsEither, sound, fine}
 use Rattle.cedar_typechecker.proofs.Slices.Examples.World.{Fitting, IsStored, among_stored, wiki_fits, guests_fit, read_fits, conforms}
 use Rattle.cedar_typechecker.proofs.Slices.Examples.World.{wiki_conforms, sample_kept, reads, policy_asked, fails_or_gives, false_or_true}
 use Rattle.cedar_typechecker.proofs.Slices.Examples.World.{differs_in_slice}
@@ -132,7 +132,7 @@ module _ (m : ValidationMode) (either : IsEither m) where
     premises =
         premises _ true true None meeting_to_read refl refl refl
         (record { request = (_, inl refl, reads); store = meeting_conforms; functions = sample_kept m });
-    closed = record { mode = refl; closed = refl };
+    closed = record { mode = sound m either; closed = refl };
     goes_wrong =
         differs_in_slice PassesWarned _ read_is_meeting 1 meeting_to_read _ _
         (policy_asked _ _ _ refl refl refl refl (λ x. refl)) (refl, (refl, (refl, (refl, tt))))
@@ -151,7 +151,7 @@ module _ (m : ValidationMode) (either : IsEither m) where
           store = wiki_conforms page read_context;
           functions = owner_kept m;
         });
-    closed = record { mode = refl; closed = refl };
+    closed = record { mode = sound m either; closed = refl };
     goes_wrong =
         differs_in_slice Passes _ owner_has_profile 0 owned _ _
         (policy_asked _ _ _ refl refl refl refl (λ x. refl)) tt refl refl false_or_true

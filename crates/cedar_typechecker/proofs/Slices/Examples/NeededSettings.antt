@@ -15,7 +15,7 @@ use Rattle.cedar_typechecker.specs.Slices.NeededPremises.Settings.{UnlinkedSlots
 use Rattle.cedar_typechecker.specs.Slices.Soundness.{levels_in}
 use Rattle.cedar_typechecker.proofs.Levels.Walk.{silent_walk_is_within}
 use Rattle.cedar_typechecker.proofs.Slices.Examples.Levels.{within}
-use Rattle.cedar_typechecker.proofs.Slices.Examples.Modes.{IsEither, in_either}
+use Rattle.cedar_typechecker.proofs.Slices.Examples.Modes.{IsEither, in_either, sound}
 use Rattle.cedar_typechecker.proofs.Slices.Examples.World.{wiki_conforms, sample_kept, reads, reading_asked, policy_asked, false_or_true}
 use Rattle.cedar_typechecker.proofs.Slices.Examples.World.{differs_in_slice, held}
 
@@ -48,7 +48,7 @@ module _ (m : ValidationMode) (either : IsEither m) where
   links_needed = record {
     schema = refl;
     functions = refl;
-    setting = record { mode = refl; closed = refl; environment = inl refl };
+    setting = record { mode = sound m either; closed = refl; environment = inl refl };
     reliable = record {
       environment = (reads, tt, tt);
       store = wiki_conforms page read_context;

@@ -5,7 +5,8 @@ use Rattle.cedar_types.specs.declared.base.types.ValidationMode.TheVariants.{Str
 use Rattle.cedar_types.specs.Templates.{PlainTemplate}
 use Rattle.cedar_typing.specs.Examples.PolicySoundness.{Passes}
 use Rattle.cedar_typing.specs.Examples.Promises.{wrong_policy}
-use Rattle.cedar_typing.specs.Soundness.Policies.{IsClosedIn}
+use Rattle.cedar_typing.specs.Modes.{IsSoundMode}
+use Rattle.cedar_typing.specs.Soundness.Policies.{IsSoundAndClosed}
 use Rattle.cedar_typechecker.specs.Slices.Examples.Promises.{AllMeanTheSame, SlicePromisesCanBreakIn, SlicePromisesCanBreak}
 use Rattle.cedar_typechecker.specs.Slices.Examples.World.{wiki_basis, reading, slice_of}
 use Rattle.cedar_typechecker.specs.Slices.Examples.{guided_page, checks_of}
@@ -18,9 +19,9 @@ use Rattle.cedar_typechecker.proofs.Slices.Examples.World.{wiki_checker, reading
 use Rattle.cedar_typechecker.proofs.Slices.Nesting.{shallow_is_cut_nowhere}
 use Rattle.cedar_typechecker.proofs.Slices.Validation.{passing_is_cut_nowhere}
 
-module _ (m : ValidationMode) (needed : SlicePremisesAreNeededIn m) where
-  closed : IsClosedIn m (wiki_basis m)
-  closed = (wiki_checker m).closed
+module _ (m : ValidationMode) (sound : IsSoundMode m) (needed : SlicePremisesAreNeededIn m) where
+  closed : IsSoundAndClosed (wiki_basis m)
+  closed = record { mode = sound; closed = (wiki_checker m).closed }
 
   uncut : (t : PlainTemplate) → Passes (wiki_basis m) t → IsCutNowhere (wiki_basis m) t
   uncut t p = passing_is_cut_nowhere (wiki_basis m) t [] [] [] [] p
@@ -63,6 +64,6 @@ module _ (m : ValidationMode) (needed : SlicePremisesAreNeededIn m) where
 
 pub slice_promises_can_break : SlicePromisesCanBreak
 slice_promises_can_break = record {
-  strict = can_break Strict slice_premises_needed.strict (λ h. missing_or_overflow h.0);
-  permissive = can_break Permissive slice_premises_needed.permissive (λ h. missing_or_overflow h.0);
+  strict = can_break Strict refl slice_premises_needed.strict (λ h. missing_or_overflow h.0);
+  permissive = can_break Permissive refl slice_premises_needed.permissive (λ h. missing_or_overflow h.0);
 }

@@ -180,7 +180,8 @@ wiki_checker m = record {
   faultless = refl;
   formed = refl;
   faultless_functions = refl;
-  closed = record { mode = refl; closed = refl };
+  mode = refl;
+  closed = refl;
 }
 
 pub reading_conforms : (m : ValidationMode) → IsConforming (wiki_basis m) reading

@@ -10,11 +10,11 @@ use Rattle.cedar_types.specs.Environments.RequestEnvs.{Env}
 use Rattle.cedar_types.specs.Schemas.{has_fault}
 use Rattle.cedar_types.specs.Values.Stores.{Store}
 use Rattle.cedar_types.specs.Templates.{PlainTemplate, condition_of}
-use Rattle.cedar_typing.specs.Evaluation.Conformance.{IsOneOf}
+use Rattle.cedar_typing.specs.Evaluation.Conformance.{IsOneOf, has_external}
 use Rattle.cedar_typing.specs.Evaluation.Eval.{eval}
 use Rattle.cedar_typing.specs.Evaluation.World.{World, Outcome}
 use Rattle.cedar_typing.specs.PolicyCheck.{Verdict}
-use Rattle.cedar_typing.specs.Soundness.Policies.{Basis, IsClosedIn, IsNamedBySchema, IsWellFormed, IsConforming}
+use Rattle.cedar_typing.specs.Soundness.Policies.{Basis, IsNamedBySchema, IsWellFormed, IsConforming}
 use Rattle.cedar_typechecker.specs.Levels.Outcome.{ChecksOn, levels_on, IsErrorOfVerdict}
 use Rattle.cedar_typechecker.specs.Slices.Examples.World.{slice_of}
 use Rattle.cedar_typechecker.specs.Slices.Examples.{HasLevelError}
@@ -29,7 +29,8 @@ pub record IsAskedCheckerIn (m : ValidationMode) (b : Basis) : Type 0 where
   pub faultless : has_fault b.schema ≡ false
   pub formed : has_formed_types b.schema ≡ true
   pub faultless_functions : table_fault b.table.functions ≡ None
-  pub closed : IsClosedIn m b
+  pub mode : b.mode ≡ m
+  pub closed : has_external b.schema ≡ false
 
 -- of the checker and of the world
 pub record IsAskedIn (m : ValidationMode) (b : Basis) (world : World) : Type 0 where

@@ -22,7 +22,7 @@ use Rattle.cedar_typing.specs.Examples.NeededPremises.{guest, declared_guest, a_
 use Rattle.cedar_typing.specs.Examples.Permissive.{twice_context, twice_greeting}
 use Rattle.cedar_typing.specs.Examples.PolicySoundness.{Passes, PassesWarned, policy_when}
 use Rattle.cedar_typing.specs.Examples.World.{named, alice, bob, meet, declared_group}
-use Rattle.cedar_typing.specs.Soundness.Policies.{Basis, IsClosedIn, IsConforming}
+use Rattle.cedar_typing.specs.Soundness.Policies.{Basis, IsSoundAndClosed, IsConforming}
 use Rattle.cedar_typechecker.specs.Slices.Examples.{active_of, has_guide, guide_of, resource}
 use Rattle.cedar_typechecker.specs.Slices.Examples.World.{page, read, wiki_types, read_context, declared_read, wiki_basis}
 use Rattle.cedar_typechecker.specs.Slices.Examples.World.{page_guided_by, guided_wiki, wiki_store, reading}
@@ -67,7 +67,7 @@ meeting_to_read = record reading {
 pub record FaultsGoWrongIn (m : ValidationMode) : Type 0 where
   pub fault : first_fault twice_declared ≡ Some DuplicateAction
   pub premises : ArePremises (by_schema twice_declared m) true true None meeting_to_read
-  pub closed : IsClosedIn m (by_schema twice_declared m)
+  pub closed : IsSoundAndClosed (by_schema twice_declared m)
   pub goes_wrong : DiffersInSlice PassesWarned (by_schema twice_declared m) read_is_meeting 1
       meeting_to_read (Fails MissingEntity) (Gives (VBool true))
 
@@ -103,7 +103,7 @@ owned = record reading { functions = alice_owns }
 pub record TableFaultsGoWrongIn (m : ValidationMode) : Type 0 where
   pub premises :
       ArePremises (owned_basis m) false true (Some ExtensionTableError.BadReturnType) owned
-  pub closed : IsClosedIn m (owned_basis m)
+  pub closed : IsSoundAndClosed (owned_basis m)
   pub goes_wrong : DiffersInSlice Passes (owned_basis m) owner_has_profile 0 owned
       (Gives (VBool false)) (Gives (VBool true))
 
@@ -166,6 +166,6 @@ reading_with_b = record reading {
 
 pub record FormIsNeeded : Type 0 where
   pub premises : ArePremises unformed_basis false false None reading_with_b
-  pub closed : IsClosedIn Permissive unformed_basis
+  pub closed : IsSoundAndClosed unformed_basis
   pub goes_wrong : DiffersInSlice PassesWarned unformed_basis active_with_b 0 reading_with_b
       (Fails MissingEntity) (Gives (VBool true))

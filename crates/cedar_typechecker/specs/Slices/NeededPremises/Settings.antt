@@ -21,7 +21,7 @@ use Rattle.cedar_typing.specs.Examples.World.{user, alice}
 use Rattle.cedar_typing.specs.PolicyCheck.{PolicyChecks, succeeds}
 use Rattle.cedar_typing.specs.Soundness.Policies.{setting_on}
 use Rattle.cedar_typing.specs.Setting.{Setting}
-use Rattle.cedar_typing.specs.Soundness.{IsReliableIn, IsWorldOf}
+use Rattle.cedar_typing.specs.Soundness.{IsReliable, IsWorldOf}
 use Rattle.cedar_typing.specs.TypedExpr.{Source, TypedTree}
 use Rattle.cedar_typechecker.specs.Levels.Errors.{IsWithinLevel}
 use Rattle.cedar_typechecker.specs.Slices.Examples.{resource}
@@ -79,7 +79,7 @@ alice_bound = record reading { slots = λ x. Some alice }
 pub record UnlinkedSlotsGoWrongIn (m : ValidationMode) : Type 0 where
   pub schema : has_fault (unlinked m).env.schema ≡ false
   pub functions : table_fault (unlinked m).functions ≡ None
-  pub setting : IsReliableIn m (unlinked m)
+  pub setting : IsReliable (unlinked m)
   pub reliable : IsWorldOf (unlinked m) alice_bound
   pub bound : SlotsBound alice_bound.slots slot_has_profile
   pub within : (x : TypedTree) × PolicyChecks (unlinked m) slot_has_profile (succeeds x)

@@ -32,7 +32,7 @@ use Rattle.cedar_typechecker.proofs.Levels.Typing.{typed_branches_are_shared}
 use Rattle.cedar_typechecker.proofs.Representatives.Declared.{checked_are_declared}
 use Rattle.cedar_typechecker.proofs.Representatives.OneMore.{nothing_known, known_beside}
 use Rattle.cedar_typechecker.proofs.Surveys.{told_are_level_errors}
-use Rattle.cedar_typechecker.proofs.ValidatorPromises.{survey_kept, survey_kept_in_permissive}
+use Rattle.cedar_typechecker.proofs.ValidatorPromises.{survey_kept}
 use Rattle.cedar_typechecker.proofs.rbac.validator.Validator.survey.Goals as goal
 
 given_some : {A : Type 0} (o : Option A) (x : A) → o ≡ Some x → (P : Type 0) (Q : A → Type 0) → MatchOption o P Q → Q x
@@ -157,9 +157,3 @@ pub returns-clause-kept : goal.returns-clause-kept
 returns-clause-kept g c =
     survey_kept g.C.ArgumentCheck.refusal c.args.self.now c.args.mode (template_of c.args.p.now) _
     (returns-clause-exact g c)
-
-pub returns-clause-kept_in_permissive : goal.returns-clause-kept_in_permissive
-unfolding schema_of schema_in
-returns-clause-kept_in_permissive g c =
-    survey_kept_in_permissive g.C.ArgumentCheck.refusal c.args.self.now c.args.mode
-    (template_of c.args.p.now) c.args.self.now.schema.formed _ (returns-clause-exact g c)

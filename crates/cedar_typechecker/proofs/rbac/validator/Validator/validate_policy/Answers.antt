@@ -7,7 +7,7 @@ use Rattle.cedar_typechecker.specs.Levels.Views.{findings}
 use Rattle.cedar_typechecker.specs.Surveys.{errors_of}
 use Rattle.cedar_typechecker.specs.ValidatorViews.{schema_in}
 use Rattle.cedar_typechecker.proofs.Levels.Outcomes.{all_given}
-use Rattle.cedar_typechecker.proofs.ValidatorPromises.{validation_kept, validation_kept_in_permissive}
+use Rattle.cedar_typechecker.proofs.ValidatorPromises.{validation_kept}
 use Rattle.cedar_typechecker.proofs.rbac.validator.Validator.validate_policy.Goals as goal
 
 pub returns-clause-exact : goal.returns-clause-exact
@@ -41,15 +41,3 @@ returns-clause-silent g c =
 pub returns-clause-never_true : goal.returns-clause-never_true
 returns-clause-never_true g c =
     (validation_kept g.C.ArgumentCheck.refusal c.args.self.now c.args.mode _ _ _ (returns-clause-exact g c)).never_true
-
-pub returns-clause-silent_in_permissive : goal.returns-clause-silent_in_permissive
-unfolding schema_of schema_in
-returns-clause-silent_in_permissive g c =
-    (validation_kept_in_permissive g.C.ArgumentCheck.refusal c.args.self.now c.args.mode _
-    c.args.self.now.schema.formed _ _ (returns-clause-exact g c)).silent
-
-pub returns-clause-never_true_in_permissive : goal.returns-clause-never_true_in_permissive
-unfolding schema_of schema_in
-returns-clause-never_true_in_permissive g c =
-    (validation_kept_in_permissive g.C.ArgumentCheck.refusal c.args.self.now c.args.mode _
-    c.args.self.now.schema.formed _ _ (returns-clause-exact g c)).never_true

@@ -10,7 +10,7 @@ use Rattle.cedar_typechecker.specs.Levels.Views.{findings}
 use Rattle.cedar_typechecker.specs.Surveys.{errors_of}
 use Rattle.cedar_typechecker.specs.ValidatorViews.{schema_in}
 use Rattle.cedar_typechecker.proofs.Levels.Outcomes.{all_given, both_ways}
-use Rattle.cedar_typechecker.proofs.ValidatorPromises.{outcome_kept, outcome_kept_in_permissive}
+use Rattle.cedar_typechecker.proofs.ValidatorPromises.{outcome_kept}
 use Rattle.cedar_typechecker.proofs.rbac.validator.Validator.validate_policy_with_level.Goals as goal
 
 pub returns-clause-exact : goal.returns-clause-exact
@@ -54,15 +54,3 @@ returns-clause-silent g c =
 pub returns-clause-never_true : goal.returns-clause-never_true
 returns-clause-never_true g c =
     (outcome_kept g.C.ArgumentCheck.refusal c.args.self.now c.args.mode _ _ _ _ (returns-clause-exact g c)).never_true
-
-pub returns-clause-silent_in_permissive : goal.returns-clause-silent_in_permissive
-unfolding schema_of schema_in
-returns-clause-silent_in_permissive g c =
-    (outcome_kept_in_permissive g.C.ArgumentCheck.refusal c.args.self.now c.args.mode _
-    c.args.self.now.schema.formed _ _ _ (returns-clause-exact g c)).silent
-
-pub returns-clause-never_true_in_permissive : goal.returns-clause-never_true_in_permissive
-unfolding schema_of schema_in
-returns-clause-never_true_in_permissive g c =
-    (outcome_kept_in_permissive g.C.ArgumentCheck.refusal c.args.self.now c.args.mode _
-    c.args.self.now.schema.formed _ _ _ (returns-clause-exact g c)).never_true
