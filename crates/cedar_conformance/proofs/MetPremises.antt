@@ -105,10 +105,10 @@ module _ (schema : ValidatorSchema) (request : Request) (entities : Entities) wh
 -- ---- all of them
 
 pub is_closed : (schema : ValidatorSchema) → has_external (schema_of schema) ≡ false → SchemaIsClosed schema
-is_closed schema closed m b same mode = record { mode = mode; closed = ap has_external same ∙ closed }
+is_closed schema closed b same mode = record { mode = mode; closed = ap has_external same ∙ closed }
 
 pub closed_of : (schema : ValidatorSchema) → SchemaIsClosed schema → has_external (schema_of schema) ≡ false
-closed_of schema c = (c Strict (basis_on (schema_of schema)) refl refl).closed
+closed_of schema c = (c (basis_on (schema_of schema)) refl refl).closed
 
 pub not_closed : (schema : ValidatorSchema) → has_external (schema_of schema) ≡ true → SchemaIsClosed schema → ⊥
 not_closed schema external c = true≢false (sym external ∙ closed_of schema c)

@@ -9,11 +9,11 @@ use Rattle.cedar_types.specs.declared.base.names.entities.EntityUID.{EntityUID}
 use Rattle.cedar_types.specs.declared.base.names.slots.SlotId.{SlotId}
 use Rattle.cedar_types.specs.declared.base.schema.ValidatorSchema.{ValidatorSchema}
 use Rattle.cedar_types.specs.declared.base.templates.Template.{Template}
-use Rattle.cedar_types.specs.declared.base.types.ValidationMode.{ValidationMode}
 use Rattle.cedar_types.specs.Values.Stores.{ConformingStore}
 use Rattle.cedar_typing.specs.Evaluation.Conformance.{ConformingRequest, KeepsTable, has_external}
 use Rattle.cedar_typing.specs.Evaluation.World.{World}
-use Rattle.cedar_typing.specs.Soundness.Policies.{Basis, IsClosedIn, IsWellFormed, IsConforming}
+use Rattle.cedar_typing.specs.Modes.{IsSoundMode}
+use Rattle.cedar_typing.specs.Soundness.Policies.{Basis, IsSoundAndClosed, IsWellFormed, IsConforming}
 use Rattle.cedar_conformance.specs.Answers.{lists_none}
 use Rattle.cedar_conformance.specs.Entities.{store_of}
 use Rattle.cedar_conformance.specs.EntityFaults.{all_there}
@@ -38,10 +38,10 @@ DataConforms schema request entities =
     → (world : World) → IsWorldOfData request entities world → KeepsTable b.table world.functions
     → IsConforming b world
 
--- the schema is closed, whatever the mode and the extension functions
+-- the schema is closed, in each sound mode and whatever the extension functions
 abbrev pub SchemaIsClosed : ValidatorSchema → Type 0
 SchemaIsClosed schema =
-    (m : ValidationMode) (b : Basis) → b.schema ≡ schema_of schema → b.mode ≡ m → IsClosedIn m b
+    (b : Basis) → b.schema ≡ schema_of schema → IsSoundMode b.mode → IsSoundAndClosed b
 
 -- all that the promises ask of a host, but that the extension functions keep their table
 pub record ArePremises (schema : ValidatorSchema) (template : Template)

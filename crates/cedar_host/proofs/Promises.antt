@@ -1,19 +1,19 @@
--- What a host is promised in its mode, from what the libraries promise in each.
+-- What a host is promised, from what the libraries promise in a sound mode.
 use Rattle.std.proofs.Common.{◌≡◌, ℕ, ◌≤◌, Bool, true, false, true≢false, List, [], ◌∷◌, length, refl, sym, ◌∙◌, IsTrue, arith}
 use Rattle.std.specs.Prelude.{◌↔◌}
-use Rattle.cedar_types.specs.declared.base.types.ValidationMode.{ValidationMode}
 use Rattle.cedar_types.specs.Errors.{Finding, Warning}
 use Rattle.cedar_types.specs.Environments.Linking.{checked_envs}
 use Rattle.cedar_types.specs.Environments.RequestEnvs.{Env}
 use Rattle.cedar_types.specs.Templates.{PlainTemplate, condition_of}
+use Rattle.cedar_typing.specs.Modes.{IsSoundMode}
 use Rattle.cedar_typing.specs.PolicyCheck.{succeeds, PolicyChecks}
 use Rattle.cedar_typing.specs.PolicyCheck.Outcome.{passes}
 use Rattle.cedar_typing.specs.Soundness.Policies.{Basis, IsNamedBySchema, CheckedOn, setting_on}
-use Rattle.cedar_typing.specs.Soundness.PolicyCheck.{IsSoundPolicyCheckIn}
+use Rattle.cedar_typing.specs.Soundness.PolicyCheck.{IsSoundPolicyCheck}
 use Rattle.cedar_typing.specs.TypedExpr.{TypedTree}
 use Rattle.cedar_typing.proofs.Policies.EachEnvironment.{each_has_passing}
 use Rattle.cedar_typechecker.specs.declared.survey.Survey.{Survey}
-use Rattle.cedar_typechecker.specs.Slices.Surveys.{SurveyIsKeptIn}
+use Rattle.cedar_typechecker.specs.Slices.Surveys.{SurveyIsKept}
 use Rattle.cedar_typechecker.specs.Surveys.{passes_of, impossible_of, level_errors_of}
 use Rattle.cedar_host.specs.declared.safety.SoundMode.{SoundMode}
 use Rattle.cedar_host.specs.Safety.{validation_mode, IsSafeToEvaluate, PassesEverywhere, DoesNotGoWrong, IsNeverTrue}
@@ -39,44 +39,33 @@ no_member (x ∷ xs) true d e = absurd (not_none (d.0 refl))
     not_none h = omega arith
 no_member (x ∷ xs) false d e = absurd (true≢false (sym e))
 
--- what holds in Strict and in Permissive holds in the host's mode
-in_each : (P : ValidationMode → Type 0) → P ValidationMode.Strict → P ValidationMode.Permissive
-    → (mode : SoundMode) → P (validation_mode mode)
-in_each P strict permissive SoundMode.Strict = strict
-in_each P strict permissive SoundMode.Permissive = permissive
+-- the host's mode is sound
+pub asked_is_sound : (mode : SoundMode) → IsSoundMode (validation_mode mode)
+asked_is_sound SoundMode.Strict = refl
+asked_is_sound SoundMode.Permissive = refl
 
--- in the mode that the host asked for
-module _ (asked : SoundMode) (b : Basis) (t : PlainTemplate)
-    (same : b.mode ≡ validation_mode asked) where
-  abbrev SoundIn : Env → TypedTree → ValidationMode → Type 0
-  SoundIn env e m = IsSoundPolicyCheckIn m (setting_on b t.id env) (condition_of t) (succeeds e)
-
+module _ (b : Basis) (t : PlainTemplate) (mode : IsSoundMode b.mode) where
   -- a success is safe to evaluate
   pub success_is_safe : (env : Env) (e : TypedTree)
-      → SoundIn env e ValidationMode.Strict → SoundIn env e ValidationMode.Permissive
+      → IsSoundPolicyCheck (setting_on b t.id env) (condition_of t) (succeeds e)
       → IsSafeToEvaluate b t env
-  success_is_safe env e strict permissive closed of_schema =
-      in_each (SoundIn env e) strict permissive asked
-      (record { mode = same; closed = closed; environment = of_schema })
+  success_is_safe env e sound closed of_schema =
+      sound (record { mode = mode; closed = closed; environment = of_schema })
 
   -- ---- by a survey
 
-  module _ (s : Survey) (strict : SurveyIsKeptIn ValidationMode.Strict b t s)
-      (permissive : SurveyIsKeptIn ValidationMode.Permissive b t s) where
-    kept : SurveyIsKeptIn (validation_mode asked) b t s
-    kept = in_each (λ m. SurveyIsKeptIn m b t s) strict permissive asked
-
+  module _ (s : Survey) (kept : SurveyIsKept b t s) where
     pub passing_is_safe : passes_of s ≡ true → IsNamedBySchema b.schema t → DoesNotGoWrong b t
-    passing_is_safe e named closed = kept.safe e (record { mode = same; closed = closed }) named
+    passing_is_safe e named closed = kept.safe e (record { mode = mode; closed = closed }) named
 
     pub impossible_is_never_true : impossible_of s ≡ true → IsNeverTrue b t
-    impossible_is_never_true e closed = kept.never_true e (record { mode = same; closed = closed })
+    impossible_is_never_true e closed = kept.never_true e (record { mode = mode; closed = closed })
 
     -- without a level error what passes needs the slice alone
     pub passing_needs_slice_alone : (n : ℕ) → n ≤ 4294967295 → passes_of s ≡ true
         → level_errors_of s n ≡ [] → IsNamedBySchema b.schema t → NeedsSliceAlone b t n
     passing_needs_slice_alone n le e none named closed world formed conforming = record {
       safe = passing_is_safe e named closed world formed conforming;
-      same = kept.sliced n le e none (record { mode = same; closed = closed }) named world formed
+      same = kept.sliced n le e none (record { mode = mode; closed = closed }) named world formed
           conforming;
     }

@@ -3,7 +3,6 @@ use Rattle.std.proofs.Common.{◌≡◌, inl, inr, List, [], ◌∷◌, ◌++◌
 use Rattle.std.proofs.lemmas.List.{map_push}
 use Rattle.std.specs.Prelude.{IsPermutation}
 use Rattle.std.proofs.lemmas.List.Sorted.{IsPermutation-sym}
-use Rattle.cedar_types.specs.declared.base.types.ValidationMode.{ValidationMode}
 use Rattle.cedar_types.specs.Environments.Linking.{checked_envs}
 use Rattle.cedar_types.specs.Environments.RequestEnvs.{Env}
 use Rattle.cedar_types.specs.Errors.{Finding}
@@ -23,7 +22,7 @@ use Rattle.cedar_typing.proofs.Composition.Links.{own_env_is_checked}
 use Rattle.cedar_typechecker.proofs.Levels.Gains.{nil_right}
 use Rattle.cedar_host.specs.declared.conditions.TypedCondition.{TypedCondition}
 use Rattle.cedar_host.specs.Conditions.{env_in, tree_in, typed_condition_in, IsOfCheck, AreOfAllChecks, AreConditionsOf}
-use Rattle.cedar_host.specs.Conditions.{MeansTheConditionIn, IsOwnOf, CoverRequestsIn, MeanItIfThereIn}
+use Rattle.cedar_host.specs.Conditions.{MeansTheCondition, IsOwnOf, CoverRequests, MeanItIfThere}
 
 -- what is one of a list under a function comes from one of it
 mapped_from : {A B : Type 0} (f : A → B) (b : B) (xs : List A) → IsOneOf b (map f xs)
@@ -41,15 +40,15 @@ of_verdict world e (succeeds y) x q h = subst (λ z. EvaluatesAs world z e) (som
 of_verdict world e (irrelevant es y) x q h = subst (λ z. EvaluatesAs world z e) (some_is q) h
 of_verdict world e (fails es) x q h = absurd (none_is q)
 
-module _ (m : ValidationMode) (b : Basis) (t : PlainTemplate) (means : PolicyCopiesMeanTheSame m b t)
+module _ (b : Basis) (t : PlainTemplate) (means : PolicyCopiesMeanTheSame b t)
     (cs : List TypedCondition) (all : AreOfAllChecks b t cs) where
-  each_means : (c : TypedCondition) → IsOneOf c cs → MeansTheConditionIn m b t c
+  each_means : (c : TypedCondition) → IsOneOf c cs → MeansTheCondition b t c
   each_means c one closed there world w =
       let k = each_one (IsOfCheck b t) cs all.checked c one in
       of_verdict world (condition_of t) k.0 (tree_in c) k.2
       (means.fitting closed (env_in c) there world w k.0 k.1)
 
-  covered : CoverRequestsIn m b t cs
+  covered : CoverRequests b t cs
   covered closed alone world i = by i.request
     where
       by : ConformingRequest b.schema world.request
@@ -67,11 +66,11 @@ module _ (m : ValidationMode) (b : Basis) (t : PlainTemplate) (means : PolicyCop
                 (means.own closed alone world i d one fits k.0 (subst P c.2 k.1)),
           )
 
-pub mean_it : (m : ValidationMode) (b : Basis) (t : PlainTemplate) → PolicyCopiesMeanTheSame m b t
-    → (found : Option (List TypedCondition)) → AreConditionsOf b t found → MeanItIfThereIn m b t found
-mean_it m b t means None h = tt
-mean_it m b t means (Some cs) h =
-    record { each = each_means m b t means cs h; covered = covered m b t means cs h }
+pub mean_it : (b : Basis) (t : PlainTemplate) → PolicyCopiesMeanTheSame b t
+    → (found : Option (List TypedCondition)) → AreConditionsOf b t found → MeanItIfThere b t found
+mean_it b t means None h = tt
+mean_it b t means (Some cs) h =
+    record { each = each_means b t means cs h; covered = covered b t means cs h }
 
 -- ---- while they are found
 

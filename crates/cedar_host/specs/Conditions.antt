@@ -1,7 +1,6 @@
 -- The promise to a host that goes on with the typed conditions of a policy, as a compiler of policies
 -- to queries does.
 use Rattle.std.specs.Prelude.{◌≡◌, List, map, Option, Some, None, All, IsPermutation}
-use Rattle.cedar_types.specs.declared.base.types.ValidationMode.{ValidationMode}
 use Rattle.cedar_types.specs.Environments.{DeclaredEnv}
 use Rattle.cedar_types.specs.Environments.Linking.{checked_envs}
 use Rattle.cedar_types.specs.Environments.RequestEnvs.{Env, env_of}
@@ -11,7 +10,7 @@ use Rattle.cedar_typing.specs.Composition.{SlotsInScopeAlone, own_env}
 use Rattle.cedar_typing.specs.Evaluation.Conformance.{IsOneOf, FitsRequest, IsEnvironmentOf}
 use Rattle.cedar_typing.specs.Evaluation.World.{World}
 use Rattle.cedar_typing.specs.PolicyCheck.{Verdict, succeeds, irrelevant, fails, PolicyChecks}
-use Rattle.cedar_typing.specs.Soundness.Policies.{Basis, IsClosedIn, IsConforming, setting_on}
+use Rattle.cedar_typing.specs.Soundness.Policies.{Basis, IsSoundAndClosed, IsConforming, setting_on}
 use Rattle.cedar_typing.specs.Soundness.{IsWorldOf}
 use Rattle.cedar_typing.specs.TypedCopies.{EvaluatesAs}
 use Rattle.cedar_typing.specs.TypedExpr.{TypedTree, typed_tree}
@@ -53,12 +52,12 @@ abbrev pub AreConditionsOf : Basis → PlainTemplate → Option (List TypedCondi
 AreConditionsOf b t None = FailsSomewhere b t
 AreConditionsOf b t (Some cs) = AreOfAllChecks b t cs
 
--- ---- the meaning of typed conditions, in a mode
+-- ---- the meaning of typed conditions
 
 -- in each world of its environment it evaluates as the policy's condition does
-abbrev pub MeansTheConditionIn : ValidationMode → Basis → PlainTemplate → TypedCondition → Type 0
-MeansTheConditionIn m b t c =
-    IsClosedIn m b → IsEnvironmentOf b.schema (env_in c)
+abbrev pub MeansTheCondition : Basis → PlainTemplate → TypedCondition → Type 0
+MeansTheCondition b t c =
+    IsSoundAndClosed b → IsEnvironmentOf b.schema (env_in c)
     → (world : World) → IsWorldOf (setting_on b t.id (env_in c)) world
     → EvaluatesAs world (tree_in c) (condition_of t)
 
@@ -69,19 +68,18 @@ IsOwnOf t world c = (d : DeclaredEnv) × FitsRequest d world.request × (env_in 
 
 -- in each world that conforms, one of them is the request's own, and it evaluates as the policy's
 -- condition does, whatever the slots are bound to: of a policy whose slots stand in the scope alone
-abbrev pub CoverRequestsIn : ValidationMode → Basis → PlainTemplate → List TypedCondition → Type 0
-CoverRequestsIn m b t cs =
-    IsClosedIn m b → SlotsInScopeAlone t
+abbrev pub CoverRequests : Basis → PlainTemplate → List TypedCondition → Type 0
+CoverRequests b t cs =
+    IsSoundAndClosed b → SlotsInScopeAlone t
     → (world : World) → IsConforming b world
     → (c : TypedCondition) × IsOneOf c cs × IsOwnOf t world c
     × EvaluatesAs world (tree_in c) (condition_of t)
 
-pub record MeanTheConditionIn (m : ValidationMode) (b : Basis) (t : PlainTemplate)
-    (cs : List TypedCondition) : Type 0 where
-  pub each : (c : TypedCondition) → IsOneOf c cs → MeansTheConditionIn m b t c
-  pub covered : CoverRequestsIn m b t cs
+pub record MeanTheCondition (b : Basis) (t : PlainTemplate) (cs : List TypedCondition) : Type 0 where
+  pub each : (c : TypedCondition) → IsOneOf c cs → MeansTheCondition b t c
+  pub covered : CoverRequests b t cs
 
 -- where there are any
-abbrev pub MeanItIfThereIn : ValidationMode → Basis → PlainTemplate → Option (List TypedCondition) → Type 0
-MeanItIfThereIn m b t None = Unit {0}
-MeanItIfThereIn m b t (Some cs) = MeanTheConditionIn m b t cs
+abbrev pub MeanItIfThere : Basis → PlainTemplate → Option (List TypedCondition) → Type 0
+MeanItIfThere b t None = Unit {0}
+MeanItIfThere b t (Some cs) = MeanTheCondition b t cs

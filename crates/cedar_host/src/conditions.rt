@@ -1,11 +1,10 @@
 //! The typed conditions of a policy, for a host that goes on with them: a compiler of policies to queries, or an editor that
 //! shows which part of a policy is left in an environment.
 ghost use Rattle.std.specs.Prelude.{◌≡◌, IfOk, option_map};
-ghost use Rattle.cedar_types.specs.declared.base.types.ValidationMode.TheVariants.{Permissive, Strict};
 ghost use Rattle.cedar_types.specs.Templates.{template_of};
 ghost use Rattle.cedar_typing.specs.TypedExpr.{typed_tree};
 ghost use Rattle.cedar_typing.specs.Views.Checks.{basis_of, verdict_of};
-ghost use Rattle.cedar_host.specs.Conditions.{AreConditionsOf, MeanItIfThereIn, typed_condition_in};
+ghost use Rattle.cedar_host.specs.Conditions.{AreConditionsOf, MeanItIfThere, typed_condition_in};
 
 use cedar_types::base::{ArgumentCheck, CedarType, Expr, Template};
 use cedar_types::types::request_env::RequestEnv;
@@ -25,9 +24,9 @@ pub struct TypedCondition<'a> {
 /// has errors there, has them too, though `typecheck_policy` does not pass it: a host asks that call first.
 ///
 /// In Strict and in Permissive, by a schema without external declarations, each evaluates as the policy's condition does in the
-/// worlds of its environment, and of each conforming request one is the request's own (clauses `strict` and `permissive`). So
-/// a host that has compiled all of them takes the one of the request's principal type, action and resource type, with each slot
-/// linked to its variable's own type.
+/// worlds of its environment, and of each conforming request one is the request's own (clause `meaning`). So a host that has
+/// compiled all of them takes the one of the request's principal type, action and resource type, with each slot linked to its
+/// variable's own type.
 ///
 /// Where memory is refused, the answer is an `AllocError`.
 pub fn typed_conditions<'a, C: ArgumentCheck>(
@@ -38,11 +37,8 @@ pub fn typed_conditions<'a, C: ArgumentCheck>(
     ensures exact { IfOk result (λ found.
         AreConditionsOf (basis_of C.refusal typechecker.now) (template_of policy.now)
         (option_map (λ cs. cs.items) found)) }
-    ensures strict { IfOk result (λ found.
-        MeanItIfThereIn Strict (basis_of C.refusal typechecker.now) (template_of policy.now)
-        (option_map (λ cs. cs.items) found)) }
-    ensures permissive { IfOk result (λ found.
-        MeanItIfThereIn Permissive (basis_of C.refusal typechecker.now) (template_of policy.now)
+    ensures meaning { IfOk result (λ found.
+        MeanItIfThere (basis_of C.refusal typechecker.now) (template_of policy.now)
         (option_map (λ cs. cs.items) found)) }
 {
     let mut found = Vec::new(alloc);

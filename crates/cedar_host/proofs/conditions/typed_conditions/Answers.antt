@@ -8,8 +8,9 @@ use Rattle.cedar_types.specs.Templates.{PlainTemplate, template_of, condition_of
 use Rattle.cedar_typing.specs.Soundness.Policies.{Basis, setting_on}
 use Rattle.cedar_typing.specs.Views.Checks.{basis_of, extensions_by, schema_by, verdict_of}
 use Rattle.cedar_typing.specs.Views.EnvironmentChecks.{checks_left}
+use Rattle.cedar_typing.proofs.Modes.{formed_for}
 use Rattle.cedar_typing.proofs.Policies.ChecksLeft.{of_input, of_item}
-use Rattle.cedar_typing.proofs.TypedCopies.Policies.{conditions_mean_the_same, conditions_mean_the_same_in_permissive}
+use Rattle.cedar_typing.proofs.TypedCopies.Policies.{conditions_mean_the_same}
 use Rattle.cedar_host.specs.declared.conditions.TypedCondition.{TypedCondition}
 use Rattle.cedar_host.specs.Conditions.{env_in, IsOfCheck, AreOfAllChecks}
 use Rattle.cedar_host.proofs.Reported.{one_more_right}
@@ -65,9 +66,9 @@ loop-item-preserved g c =
       one_more_right (IsOfCheck b p) old _ found pushed inv.4 of_check,
     )
 
-pub returns-clause-strict : goal.returns-clause-strict
+pub returns-clause-meaning : goal.returns-clause-meaning
 unfolding schema_of functions_of
-returns-clause-strict g c =
+returns-clause-meaning g c =
     let m = g.C.ArgumentCheck.refusal in
     let b : Basis = basis_of m c.args.typechecker.now in
     let p : PlainTemplate = template_of c.args.policy.now in
@@ -81,26 +82,6 @@ returns-clause-strict g c =
           c.in-None.ensures.steps.0.0 inv.3;
       checked = inv.4;
     } in
-    mean_it _ b p
-    (conditions_mean_the_same b p (schema_by c.args.typechecker.now).now.faultless table) (Some cs) all
-
-pub returns-clause-permissive : goal.returns-clause-permissive
-unfolding schema_of functions_of
-returns-clause-permissive g c =
-    let m = g.C.ArgumentCheck.refusal in
-    let b : Basis = basis_of m c.args.typechecker.now in
-    let p : PlainTemplate = template_of c.args.policy.now in
-    let inv = c.loop-item.invariant in
-    let cs : List TypedCondition = c.loop-item.found.items in
-    let table = no_fault m (extensions_by c.args.typechecker.now).now.functions.items
-    (extensions_by c.args.typechecker.now).now.faultless in
-    let all : AreOfAllChecks b p cs = record {
-      environments =
-          all_found cs (checks_left c.loop-item.item-iterator) (checked_envs b.schema b.mode p)
-          c.in-None.ensures.steps.0.0 inv.3;
-      checked = inv.4;
-    } in
-    mean_it _ b p
-    (conditions_mean_the_same_in_permissive b p (schema_by c.args.typechecker.now).now.faultless
-    (schema_by c.args.typechecker.now).now.formed table)
-    (Some cs) all
+    let schema = (schema_by c.args.typechecker.now).now in
+    mean_it b p
+    (conditions_mean_the_same b p schema.faultless (formed_for b.mode b.schema schema.formed) table) (Some cs) all

@@ -1,13 +1,13 @@
-use Rattle.std.proofs.Common.{◌∙◌, sym, refl, subst}
+use Rattle.std.proofs.Common.{◌∙◌, sym, subst}
 use Rattle.cedar_types.specs.declared.base.types.ValidationMode.{ValidationMode}
 use Rattle.cedar_types.specs.Templates.{template_of}
 use Rattle.cedar_typechecker.specs.Levels.Required.{IsRequiredLevel}
-use Rattle.cedar_typechecker.specs.Slices.Surveys.{SurveyIsKeptIn}
+use Rattle.cedar_typechecker.specs.Slices.Surveys.{SurveyIsKept}
 use Rattle.cedar_typechecker.specs.Surveys.{IsSurveyOf}
 use Rattle.cedar_typechecker.specs.ValidatorViews.{basis_in as basis_by}
 use Rattle.cedar_typechecker.proofs.Slices.Surveys.{checked}
 use Rattle.cedar_host.specs.Safety.{sound_basis}
-use Rattle.cedar_host.proofs.Promises.{passes_everywhere, passing_is_safe, impossible_is_never_true}
+use Rattle.cedar_host.proofs.Promises.{asked_is_sound, passes_everywhere, passing_is_safe, impossible_is_never_true}
 use Rattle.cedar_host.proofs.policy_sets.validate.Goals as goal
 
 pub returns-clause-checked : goal.returns-clause-checked
@@ -27,13 +27,10 @@ returns-clause-safe g c h =
     let validator = c.args.validator.now in
     let t = template_of c.args.policy.now in
     let s = c.in_ok-survey.survey in
-    let KeptIn : ValidationMode → ValidationMode → Type 0 = λ k m.
-    SurveyIsKeptIn k (basis_by meaning validator m) t s in
-    let kept = c.in_ok-survey.ensures in
+    let Kept : ValidationMode → Type 0 = λ m. SurveyIsKept (basis_by meaning validator m) t s in
+    let kept = subst Kept c.from.ensures c.in_ok-survey.ensures.kept in
     let found = c.in_ok-findings.ensures in
-    passing_is_safe c.args.mode (sound_basis c.args.mode meaning validator) t refl s
-    (subst (KeptIn ValidationMode.Strict) c.from.ensures kept.kept)
-    (subst (KeptIn ValidationMode.Permissive) c.from.ensures kept.kept_in_permissive)
+    passing_is_safe (sound_basis c.args.mode meaning validator) t (asked_is_sound c.args.mode) s kept
     (found.passes h) (found.named h)
 
 pub returns-clause-never_true : goal.returns-clause-never_true
@@ -42,12 +39,9 @@ returns-clause-never_true g c h =
     let validator = c.args.validator.now in
     let t = template_of c.args.policy.now in
     let s = c.in_ok-survey.survey in
-    let KeptIn : ValidationMode → ValidationMode → Type 0 = λ k m.
-    SurveyIsKeptIn k (basis_by meaning validator m) t s in
-    let kept = c.in_ok-survey.ensures in
-    impossible_is_never_true c.args.mode (sound_basis c.args.mode meaning validator) t refl s
-    (subst (KeptIn ValidationMode.Strict) c.from.ensures kept.kept)
-    (subst (KeptIn ValidationMode.Permissive) c.from.ensures kept.kept_in_permissive)
+    let Kept : ValidationMode → Type 0 = λ m. SurveyIsKept (basis_by meaning validator m) t s in
+    let kept = subst Kept c.from.ensures c.in_ok-survey.ensures.kept in
+    impossible_is_never_true (sound_basis c.args.mode meaning validator) t (asked_is_sound c.args.mode) s kept
     (sym c.in_ok-findings.ensures.impossible ∙ h)
 
 pub returns-clause-level : goal.returns-clause-level

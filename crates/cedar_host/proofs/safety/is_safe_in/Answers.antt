@@ -1,15 +1,14 @@
-use Rattle.std.proofs.Common.{refl, sym, ap, subst}
-use Rattle.cedar_types.specs.declared.base.types.ValidationMode.{ValidationMode}
+use Rattle.std.proofs.Common.{sym, ap, subst}
 use Rattle.cedar_types.specs.Environments.RequestEnvs.{env_of}
 use Rattle.cedar_types.specs.Templates.{template_of, condition_of}
 use Rattle.cedar_typing.specs.Views.Checks.{verdict_of}
 use Rattle.cedar_typing.specs.declared.typecheck.typechecker.PolicyCheck.{PolicyCheck}
 use Rattle.cedar_typing.specs.PolicyCheck.{Verdict, PolicyChecks}
 use Rattle.cedar_typing.specs.Soundness.Policies.{Basis, setting_on}
-use Rattle.cedar_typing.specs.Soundness.PolicyCheck.{IsSoundPolicyCheckIn}
+use Rattle.cedar_typing.specs.Soundness.PolicyCheck.{IsSoundPolicyCheck}
 use Rattle.cedar_typing.specs.TypedExpr.{typed_tree}
 use Rattle.cedar_host.specs.Safety.{sound_basis, is_success}
-use Rattle.cedar_host.proofs.Promises.{success_is_safe}
+use Rattle.cedar_host.proofs.Promises.{asked_is_sound, success_is_safe}
 use Rattle.cedar_host.proofs.safety.is_safe_in.Goals as goal
 
 pub returns-in-Success-clause-safe : goal.returns-in-Success-clause-safe
@@ -19,18 +18,11 @@ returns-in-Success-clause-safe g c h =
     let env = env_of c.args.env.now in
     let b = sound_basis mode g.C.ArgumentCheck.refusal c.args.validator.now in
     let e = typed_tree c.in-Success._typed in
-    let SoundIn : ValidationMode → Basis → Verdict → Type 0 =
-    λ m b v. IsSoundPolicyCheckIn m (setting_on b t.id env) (condition_of t) v in
-    let same = c.typechecker_in-typechecker.ensures in
+    let Sound : Basis → Verdict → Type 0 =
+    λ b v. IsSoundPolicyCheck (setting_on b t.id env) (condition_of t) v in
     let verdict = verdict_of c.in_ok-check.check in
-    let found = c.in_ok-check.ensures in
-    let sound = subst (λ b. SoundIn ValidationMode.Strict b verdict) same found.sound in
-    let sound_in_permissive =
-    subst (λ b. SoundIn ValidationMode.Permissive b verdict) same found.sound_in_permissive in
-    let success = ap verdict_of c.in-Success.is in
-    success_is_safe mode b t refl env e
-    (subst (SoundIn ValidationMode.Strict b) success sound)
-    (subst (SoundIn ValidationMode.Permissive b) success sound_in_permissive)
+    let sound = subst (λ b. Sound b verdict) c.typechecker_in-typechecker.ensures c.in_ok-check.ensures.sound in
+    success_is_safe b t (asked_is_sound mode) env e (subst (Sound b) (ap verdict_of c.in-Success.is) sound)
 
 pub returns-in-Success-clause-exact : goal.returns-in-Success-clause-exact
 returns-in-Success-clause-exact g c =

@@ -1,4 +1,4 @@
-use Rattle.std.proofs.Common.{◌≡◌, ◌∙◌, ◌≤◌, [], sym, refl, ap, subst, arith}
+use Rattle.std.proofs.Common.{◌≡◌, ◌∙◌, ◌≤◌, [], sym, ap, subst, arith}
 use Rattle.cedar_types.specs.declared.base.types.ValidationMode.{ValidationMode}
 use Rattle.cedar_types.specs.Lemmas.Comparisons.{and_left, and_right}
 use Rattle.cedar_types.specs.Templates.{template_of}
@@ -6,7 +6,7 @@ use Rattle.cedar_typing.specs.PolicyCheck.Outcome.{is_silent}
 use Rattle.cedar_typing.proofs.Policies.Tallies.{in_other_order}
 use Rattle.cedar_typechecker.specs.Levels.Required.{IsRequiredLevel}
 use Rattle.cedar_typechecker.specs.Levels.Views.{findings}
-use Rattle.cedar_typechecker.specs.Slices.Surveys.{SurveyIsKeptIn}
+use Rattle.cedar_typechecker.specs.Slices.Surveys.{SurveyIsKept}
 use Rattle.cedar_typechecker.specs.Surveys.{IsSurveyOf, level_errors_of}
 use Rattle.cedar_typechecker.specs.ValidatorViews.{basis_in as basis_by}
 use Rattle.cedar_typechecker.proofs.Levels.DemandParts.{nil_by_members}
@@ -14,7 +14,7 @@ use Rattle.cedar_typechecker.proofs.Slices.Surveys.{checked}
 use Rattle.cedar_host.specs.Found.{listed}
 use Rattle.cedar_host.specs.Safety.{sound_basis}
 use Rattle.cedar_host.proofs.Found.{gained_before, levels_silent}
-use Rattle.cedar_host.proofs.Promises.{no_member, passes_everywhere, passing_is_safe, impossible_is_never_true, passing_needs_slice_alone}
+use Rattle.cedar_host.proofs.Promises.{asked_is_sound, no_member, passes_everywhere, passing_is_safe, impossible_is_never_true, passing_needs_slice_alone}
 use Rattle.cedar_host.proofs.slices.validate_within.Goals as goal
 
 pub returns-clause-checked : goal.returns-clause-checked
@@ -35,13 +35,10 @@ returns-clause-safe g c h =
     let validator = c.args.validator.now in
     let t = template_of c.args.policy.now in
     let s = c.in_ok-survey.survey in
-    let KeptIn : ValidationMode → ValidationMode → Type 0 = λ k m.
-    SurveyIsKeptIn k (basis_by meaning validator m) t s in
-    let kept = c.in_ok-survey.ensures in
+    let Kept : ValidationMode → Type 0 = λ m. SurveyIsKept (basis_by meaning validator m) t s in
+    let kept = subst Kept c.from.ensures c.in_ok-survey.ensures.kept in
     let found = c.in_ok-findings.ensures in
-    passing_is_safe c.args.mode (sound_basis c.args.mode meaning validator) t refl s
-    (subst (KeptIn ValidationMode.Strict) c.from.ensures kept.kept)
-    (subst (KeptIn ValidationMode.Permissive) c.from.ensures kept.kept_in_permissive)
+    passing_is_safe (sound_basis c.args.mode meaning validator) t (asked_is_sound c.args.mode) s kept
     (found.passes (and_left _ _ h)) (found.named (and_left _ _ h))
 
 pub returns-clause-sliced : goal.returns-clause-sliced
@@ -50,9 +47,8 @@ returns-clause-sliced g c h =
     let validator = c.args.validator.now in
     let t = template_of c.args.policy.now in
     let s = c.in_ok-survey.survey in
-    let KeptIn : ValidationMode → ValidationMode → Type 0 = λ k m.
-    SurveyIsKeptIn k (basis_by meaning validator m) t s in
-    let kept = c.in_ok-survey.ensures in
+    let Kept : ValidationMode → Type 0 = λ m. SurveyIsKept (basis_by meaning validator m) t s in
+    let kept = subst Kept c.from.ensures c.in_ok-survey.ensures.kept in
     let found = c.in_ok-findings.ensures in
     let small : c.args.steps ≤ 4294967295 = omega (arith, c.ranges.steps.fits) in
     let exceeding = c.in_ok-exceeding.exceeding.keys in
@@ -61,9 +57,7 @@ returns-clause-sliced g c h =
     let silent =
     nil_by_members (level_errors_of s c.args.steps) (findings exceeding)
     (λ e. (c.in_ok-exceeding.ensures e).1) (ap findings none) in
-    passing_needs_slice_alone c.args.mode (sound_basis c.args.mode meaning validator) t refl s
-    (subst (KeptIn ValidationMode.Strict) c.from.ensures kept.kept)
-    (subst (KeptIn ValidationMode.Permissive) c.from.ensures kept.kept_in_permissive)
+    passing_needs_slice_alone (sound_basis c.args.mode meaning validator) t (asked_is_sound c.args.mode) s kept
     c.args.steps small (found.passes (and_left _ _ h)) silent (found.named (and_left _ _ h))
 
 pub returns-clause-never_true : goal.returns-clause-never_true
@@ -72,12 +66,9 @@ returns-clause-never_true g c h =
     let validator = c.args.validator.now in
     let t = template_of c.args.policy.now in
     let s = c.in_ok-survey.survey in
-    let KeptIn : ValidationMode → ValidationMode → Type 0 = λ k m.
-    SurveyIsKeptIn k (basis_by meaning validator m) t s in
-    let kept = c.in_ok-survey.ensures in
-    impossible_is_never_true c.args.mode (sound_basis c.args.mode meaning validator) t refl s
-    (subst (KeptIn ValidationMode.Strict) c.from.ensures kept.kept)
-    (subst (KeptIn ValidationMode.Permissive) c.from.ensures kept.kept_in_permissive)
+    let Kept : ValidationMode → Type 0 = λ m. SurveyIsKept (basis_by meaning validator m) t s in
+    let kept = subst Kept c.from.ensures c.in_ok-survey.ensures.kept in
+    impossible_is_never_true (sound_basis c.args.mode meaning validator) t (asked_is_sound c.args.mode) s kept
     (sym c.in_ok-findings.ensures.impossible ∙ h)
 
 pub returns-clause-level : goal.returns-clause-level
