@@ -1,5 +1,5 @@
 // `if`.
-ghost use Rattle.std.specs.Prelude.{◌≡◌, ◌≤◌, ◌++◌, IfOk, option_map, if◌then◌else◌};
+ghost use Rattle.std.specs.Prelude.{◌≡◌, ◌≤◌, ◌++◌, IfOk, option_map};
 ghost use Rattle.cedar_types.specs.declared.base.errors.type_errors.LubContext.TheVariants.{Conditional};
 ghost use Rattle.cedar_types.specs.Types.{ty_of};
 ghost use Rattle.cedar_types.specs.Expressions.Tree.{if_then_else};
@@ -63,7 +63,7 @@ impl<C: ArgumentCheck> SingleEnvTypechecker<'_, '_, '_, '_, C> {
             let Some(branch) = branch.into_part(self.env.alloc) else {
                 return Ok(TypecheckAnswer::RecursionLimit);
             };
-            let answer = constant_test_answer(self.env.alloc, loc, true, test, branch)?;
+            let answer = true_test_answer(self.env.alloc, loc, test, branch)?;
             return Ok(answer);
         }
         if is_typed_false(&test.typed) {
@@ -71,7 +71,7 @@ impl<C: ArgumentCheck> SingleEnvTypechecker<'_, '_, '_, '_, C> {
             let Some(branch) = branch.into_part(self.env.alloc) else {
                 return Ok(TypecheckAnswer::RecursionLimit);
             };
-            let answer = constant_test_answer(self.env.alloc, loc, false, test, branch)?;
+            let answer = false_test_answer(self.env.alloc, loc, test, branch)?;
             return Ok(answer);
         }
         // where this branch is evaluated, the test was true
@@ -193,41 +193,41 @@ impl TypeEnv<'_, '_, '_, '_> {
     }
 }
 
-/// `if` at `loc` whose test is True or False, of the branch that stands for both.
+/// `if` at `loc` whose test is True: the first branch stands for both, and hands on what the test knows too.
 #[inline(never)]
-fn constant_test_answer<'a>(
+fn true_test_answer<'a>(
     alloc: Global,
     loc: Option<Loc>,
-    is_true: bool,
     test: Part<'a>,
     branch: Part<'a>,
 ) -> Result<TypecheckAnswer<'a>, AllocError>
     ensures { IfOk result (λ r.
         answer_of r
         ≡ infer_constant_test (at loc) (part_of test.entry) (part_of branch.entry)
-        (if is_true then union (caps test.entry.capabilities) (caps branch.entry.capabilities)
-        else caps branch.entry.capabilities)) }
+        (union (caps test.entry.capabilities) (caps branch.entry.capabilities))) }
 {
     let succeeded = test.succeeded & branch.succeeded;
-    let known = known_with_branch(is_true, test.capabilities, branch.capabilities)?;
+    let known = union_of(test.capabilities, branch.capabilities)?;
     let typed = constant_test_node(alloc, loc, test.typed, branch.typed)?;
     Ok(with_capabilities(succeeded, typed, known))
 }
 
-/// What a branch produces, and beside it what a test that is True does.
-fn known_with_branch<'a>(
-    is_true: bool,
-    test: CapabilitySet<'a>,
-    branch: CapabilitySet<'a>,
-) -> Result<CapabilitySet<'a>, AllocError>
-    ensures { IfOk result (λ c.
-        caps c ≡ if is_true then union (caps test.entry) (caps branch.entry) else caps branch.entry) }
+/// `if` at `loc` whose test is False: the second branch stands for both.
+#[inline(never)]
+fn false_test_answer<'a>(
+    alloc: Global,
+    loc: Option<Loc>,
+    test: Part<'a>,
+    branch: Part<'a>,
+) -> Result<TypecheckAnswer<'a>, AllocError>
+    ensures { IfOk result (λ r.
+        answer_of r
+        ≡ infer_constant_test (at loc) (part_of test.entry) (part_of branch.entry)
+        (caps branch.entry.capabilities)) }
 {
-    if is_true {
-        union_of(test, branch)
-    } else {
-        Ok(branch)
-    }
+    let succeeded = test.succeeded & branch.succeeded;
+    let typed = constant_test_node(alloc, loc, test.typed, branch.typed)?;
+    Ok(with_capabilities(succeeded, typed, branch.capabilities))
 }
 
 /// One branch that stands for both, which share it.

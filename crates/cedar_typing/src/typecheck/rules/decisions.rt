@@ -65,8 +65,8 @@ impl TypeEnv<'_, '_, '_, '_> {
                 let errors = self.strict_errors(loc, context, found.as_ref(), other.as_ref())?;
                 Ok(gives_unless(self.alloc, errors, any_bool()))
             }
-            TwoOperands::HasTag => self.decide_tag(prior, loc, false, operands, found),
-            TwoOperands::GetTag => self.decide_tag(prior, loc, true, operands, found),
+            TwoOperands::HasTag => self.decide_has_tag(prior, loc, operands, found),
+            TwoOperands::GetTag => self.decide_get_tag(prior, loc, operands, found),
         }
     }
 }

@@ -1,6 +1,6 @@
 // `in`.
-ghost use Rattle.std.specs.Prelude.{◌≡◌, ◌||◌, [], ◌∷◌, Some, IfOk, map, option_map};
-ghost use Rattle.std.specs.List.{list_any, list_all};
+ghost use Rattle.std.specs.Prelude.{◌≡◌, [], ◌∷◌, Some, IfOk, map, option_map};
+ghost use Rattle.std.specs.List.{list_all};
 ghost use Rattle.cedar_types.specs.Schemas.Declarations.{uids_of};
 ghost use Rattle.cedar_types.specs.Names.{uid_of, uid_eq};
 ghost use Rattle.cedar_types.specs.Schemas.{declares_action, descendants_of_action, uid_is_among};
@@ -131,13 +131,6 @@ impl TypeEnv<'_, '_, '_, '_> {
         ensures { result
             ≡ list_all (declares_action (env_at self.now).schema.actions) (map uid_of actions.now) }
     {
-        self.declares_each(actions)
-    }
-
-    fn declares_each(&self, actions: &[EntityUID]) -> bool
-        ensures { result
-            ≡ list_all (λ a. declares_action (env_at self.now).schema.actions (uid_of a)) actions.now }
-    {
         actions
             .iter()
             .all(|action| self.schema.is_known_action_id(action))
@@ -148,27 +141,8 @@ impl TypeEnv<'_, '_, '_, '_> {
         ensures { result
             ≡ is_action_in (env_at self.now).schema.actions (uid_of action.now) (map uid_of ancestors.now) }
     {
-        self.is_below_one(action, ancestors)
-    }
-
-    fn is_below_one(&self, action: &EntityUID, ancestors: &[EntityUID]) -> bool
-        ensures { result
-            ≡ list_any (λ v. uid_eq (uid_of action.now) (uid_of v)
-            || uid_is_among (descendants_of_action (env_at self.now).schema.actions (uid_of v)) (uid_of action.now))
-            ancestors.now }
-    {
-        ancestors
-            .iter()
-            .any(|ancestor| self.is_at_or_below(action, ancestor))
-    }
-
-    fn is_at_or_below(&self, action: &EntityUID, ancestor: &EntityUID) -> bool
-        ensures { result
-            ≡ (uid_eq (uid_of action.now) (uid_of ancestor.now)
-            || uid_is_among (descendants_of_action (env_at self.now).schema.actions (uid_of ancestor.now))
-            (uid_of action.now)) }
-    {
-        is_same_entity(action, ancestor) || self.is_below(action, ancestor)
+        ancestors.iter().any(|ancestor| is_same_entity(action, ancestor)
+            || self.is_below(action, ancestor))
     }
 
     fn is_below(&self, action: &EntityUID, ancestor: &EntityUID) -> bool

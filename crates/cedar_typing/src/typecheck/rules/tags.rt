@@ -36,22 +36,16 @@ fn tag_of<'a>(operands: Operands<'a>) -> Capability<'a>
 }
 
 impl TypeEnv<'_, '_, '_, '_> {
-    /// The type of `left.hasTag(right)`, or of `left.getTag(right)`, by that of the left, or an error at `loc`.
-    pub(crate) fn decide_tag<'a>(
+    /// The type of `left.hasTag(right)`, by that of the left, or an error at `loc`.
+    pub(crate) fn decide_has_tag<'a>(
         &self,
         prior: &Prior<'_, 'a>,
         loc: Option<Loc>,
-        is_get: bool,
         operands: Operands<'a>,
         found: &Option<CedarType>,
     ) -> Result<Decision<'a>, AllocError>
         ensures { IfOk result (λ d. decision_of d
-            ≡ if is_get
-            then get_tag_table (env_at self.now) loc
-            (known_in prior.now
-            (tag_of (written operands.entry.left.now) (written operands.entry.right.now)))
-            (option_map ty_of found.now)
-            else has_tag_table (env_at self.now) loc
+            ≡ has_tag_table (env_at self.now) loc
             (tag_of (written operands.entry.left.now) (written operands.entry.right.now))
             (known_in prior.now
             (tag_of (written operands.entry.left.now) (written operands.entry.right.now)))
@@ -66,16 +60,38 @@ impl TypeEnv<'_, '_, '_, '_> {
         }
         let there = tag_of(operands);
         let is_known = prior.contains(&there);
-        if is_get {
-            let decision = self.decide_get_tag(loc, is_known, ty)?;
+        let decision = self.has_tag_of(there, is_known, ty)?;
+        Ok(decision)
+    }
+
+    /// The type of `left.getTag(right)`, by that of the left, or an error at `loc`.
+    pub(crate) fn decide_get_tag<'a>(
+        &self,
+        prior: &Prior<'_, 'a>,
+        loc: Option<Loc>,
+        operands: Operands<'a>,
+        found: &Option<CedarType>,
+    ) -> Result<Decision<'a>, AllocError>
+        ensures { IfOk result (λ d. decision_of d
+            ≡ get_tag_table (env_at self.now) loc
+            (known_in prior.now
+            (tag_of (written operands.entry.left.now) (written operands.entry.right.now)))
+            (option_map ty_of found.now)) }
+    {
+        let Some(ty) = found else {
+            return Ok(Decision::Refuses(None, Vec::new(self.alloc)));
+        };
+        if is_never_type(ty) {
+            let decision = self.tag_of_never(loc)?;
             return Ok(decision);
         }
-        let decision = self.decide_has_tag(there, is_known, ty)?;
+        let is_known = prior.contains(&tag_of(operands));
+        let decision = self.get_tag_of(loc, is_known, ty)?;
         Ok(decision)
     }
 
     /// `hasTag` of a type other than Never, which earns that the tag is there.
-    fn decide_has_tag<'a>(
+    fn has_tag_of<'a>(
         &self,
         there: Capability<'a>,
         is_known: bool,
@@ -91,7 +107,7 @@ impl TypeEnv<'_, '_, '_, '_> {
     }
 
     /// `getTag` of a type other than Never, which wants that the tag is known to be there.
-    fn decide_get_tag<'a>(
+    fn get_tag_of<'a>(
         &self,
         loc: Option<Loc>,
         is_known: bool,
