@@ -92,6 +92,9 @@ pub enum Fault {
     SameName,
     #[error("a name that is not declared")]
     Undeclared,
+    /// An alias is of this type, so that nothing else has to name it.
+    #[error("a type that is not declared")]
+    UnknownType,
     #[error("a name that the language keeps for itself")]
     Reserved,
     /// More entity types or actions are in others, over any number of steps, than a schema may have.

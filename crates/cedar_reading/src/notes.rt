@@ -20,7 +20,7 @@ impl Met {
     fn at(self, start: usize) -> ReadError {
         let fault = match self {
             Met::Fault(fault) => fault,
-            Met::UnknownType => Fault::Undeclared,
+            Met::UnknownType => Fault::UnknownType,
             Met::VagueContext => Fault::Expected(Expected::Record),
         };
         ReadError::At(start, fault)

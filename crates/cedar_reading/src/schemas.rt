@@ -24,7 +24,7 @@ mod unsure;
 pub mod written;
 
 use crate::cursor::Cursor;
-use crate::faults::ReadError;
+use crate::faults::{Fault, ReadError};
 pub use all_faults::{SchemaFault, schema_faults};
 use blocks::written_declarations;
 use cedar_types::base::{SchemaError, ValidatorActionId, ValidatorEntityType, ValidatorSchema};
@@ -50,8 +50,14 @@ pub enum SchemaReadError {
 }
 
 impl From<ReadError> for SchemaReadError {
+    /// A type that is not declared refuses the schema, wherever it is named.
     fn from(error: ReadError) -> SchemaReadError {
-        SchemaReadError::Read(error)
+        match error {
+            ReadError::At(_, Fault::UnknownType) => {
+                SchemaReadError::Refused(SchemaError::UnknownType)
+            }
+            error => SchemaReadError::Read(error),
+        }
     }
 }
 
@@ -73,8 +79,8 @@ pub struct ReadSchema {
     pub hiding: Option<RefusedName>,
 }
 
-/// The schema that a text declares. It fails where the text cannot be read, where a parent in it is declared nowhere, and
-/// where `ValidatorSchema::new` refuses the declarations.
+/// The schema that a text declares. It fails where the text cannot be read, where a parent or a type of an alias in it is
+/// declared nowhere, and where `ValidatorSchema::new` refuses the declarations.
 ///
 /// Descendants are what `in` says, over any number of steps. An action without `appliesTo` applies to nothing.
 pub fn schema(alloc: Global, text: &str) -> Result<ValidatorSchema, SchemaReadError> {
@@ -109,8 +115,8 @@ pub struct SchemaDeclarations {
     pub actions: Vec<ValidatorActionId>,
 }
 
-/// What a text declares, each name on its own. It fails where the text cannot be read, and where a parent in it is declared
-/// nowhere.
+/// What a text declares, each name on its own. It fails where the text cannot be read, and where a parent or a type of an alias
+/// in it is declared nowhere.
 pub fn schema_declarations(alloc: Global, text: &str) -> Result<SchemaDeclarations, ReadError> {
     closed_declarations(alloc, &declarations_of(alloc, text, Named::Any)?)
 }

@@ -17,7 +17,7 @@ use std::alloc::{AllocError, Global};
 /// Whether an entity type that is named has to be declared.
 #[derive(Clone, Copy, PartialEq, Eq, Debug)]
 pub enum Named {
-    /// It may be any.
+    /// It may be any, but in an alias.
     Any,
     /// It has to be declared, or be one of actions. The context of an action has to be a record then.
     Declared,
@@ -151,14 +151,19 @@ fn check_mentions(
     Ok(Meant::Nothing)
 }
 
-/// Fails, or notes faults, where names in the type of an alias have them.
+/// Fails, or notes faults, where names in the type of an alias have them. They have to be declared: nothing may use the alias, so
+/// that no type of the schema would show an unknown name.
 fn check_alias(
     alias: &Alias,
     names: &Names<'_>,
     expansions: &mut Expansions,
 ) -> Result<Meant, ReadError> {
+    let own = Names {
+        have_to_be_known: true,
+        ..*names
+    };
     expansions.notes.read_alias(Some(alias.own_start));
-    let read = meant_type(&alias.written, names, MAX_GRAMMAR_STEPS, expansions);
+    let read = meant_type(&alias.written, &own, MAX_GRAMMAR_STEPS, expansions);
     expansions.notes.read_alias(None);
     read?;
     Ok(Meant::Nothing)

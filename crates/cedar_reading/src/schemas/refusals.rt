@@ -42,6 +42,9 @@ fn name_of_fault(
     text: &str,
     fault: &SchemaError,
 ) -> Result<Option<RefusedName>, ReadError> {
+    if matches!(fault, SchemaError::UnknownType | SchemaError::VagueType) {
+        return unfit(alloc, text);
+    }
     let read = declarations_of(alloc, text, Named::Any)?;
     let types = read.entity_types.as_slice();
     let found = match fault {
@@ -51,7 +54,6 @@ fn name_of_fault(
         }
         SchemaError::ActionTypeDeclared => show(alloc, of_actions(types))?,
         SchemaError::EmptyEnum => show(alloc, without_ids(types))?,
-        SchemaError::UnknownType | SchemaError::VagueType => unfit(alloc, text)?,
         _ => None,
     };
     Ok(found)

@@ -8,7 +8,7 @@ use std::alloc::Global;
 use std::test::Fail;
 
 /// Schemas, and the fault of each.
-const SCHEMAS: [(&str, &str); 22] = [
+const SCHEMAS: [(&str, &str); 24] = [
     (
         "entity A { a: Long b: Long };",
         "1:20: `,` or `}` is expected, where `b` is read",
@@ -16,6 +16,14 @@ const SCHEMAS: [(&str, &str); 22] = [
     (
         "entity A { b: Strng };",
         "1:15: a type that is not declared: `Strng`",
+    ),
+    (
+        "type T = Nope;\nentity A;",
+        "1:10: a type that is not declared: `Nope`",
+    ),
+    (
+        "namespace N { type T = { a: Set<Strng> }; type U = T; }\nentity A;",
+        "1:33: a type that is not declared: `Strng`",
     ),
     (
         "entity A in [B];",
