@@ -60,6 +60,13 @@ pub enum FormError {
     At(usize, FormFault),
 }
 
+/// A fault of a text of JSON, and the byte at which it stands.
+#[derive(Clone, Copy, PartialEq, Eq, Debug)]
+pub struct PlacedFault {
+    pub start: usize,
+    pub fault: FormFault,
+}
+
 impl From<AllocError> for FormError {
     fn from(error: AllocError) -> FormError {
         FormError::Memory(error)
@@ -135,7 +142,8 @@ impl<'a> Object<'a> {
     }
 }
 
-fn is_among(keys: &[&str], name: &str) -> bool {
+/// Whether a name is one of these.
+pub fn is_among(keys: &[&str], name: &str) -> bool {
     for key in keys {
         if *key == name {
             return true;

@@ -22,10 +22,10 @@ mod whole;
 
 pub use examples::examples_of_texts;
 pub use faults::{Fault, ReadError};
-pub use forms::{FormError, FormFault, Object, expected, items_of, text_of};
+pub use forms::{FormError, FormFault, Object, PlacedFault, expected, items_of, text_of};
 pub use parts::{Items, value_at};
 pub use policies::{Policies, ReadPolicy, entity_uid};
-pub use schemas::schema_text;
+pub use schemas::{FaultySchema, schema_text, schema_text_or_faults};
 pub use steps::MAX_LENGTH;
 pub use translations::Translation;
 pub use values::{Key, MAX_DEPTH, Value, ValueKind};

@@ -1,14 +1,18 @@
 // Texts in Cedar's own syntax that were written from texts of JSON.
-use crate::forms::{FormError, FormFault};
+use crate::forms::{FormError, FormFault, Object, PlacedFault, is_among};
 use crate::steps::MAX_LENGTH;
+use crate::values::{Key, Value};
 use cedar_types::base::Loc;
 use std::alloc::{AllocError, Global};
+use std::mem;
 
 /// A text that was written from another, and of which part of that other each of its parts is.
 #[derive(Debug, Drop)]
 pub struct Translation {
     text: String,
     marks: Vec<Mark>,
+    /// The faults of the other text that were noted.
+    faults: Vec<PlacedFault>,
 }
 
 /// From a byte on, up to the next mark, a text was written from this part of the other.
@@ -24,6 +28,7 @@ impl Translation {
         Translation {
             text: String::new(alloc),
             marks: Vec::new(alloc),
+            faults: Vec::new(alloc),
         }
     }
 
@@ -65,6 +70,58 @@ impl Translation {
             self.put_escaped(c)?;
         }
         self.put("\"")
+    }
+
+    /// What a part of the other text is read as; none where it has a fault, which is noted, so that reading goes on behind it.
+    pub fn noted<T: Drop>(&mut self, read: Result<T, FormError>) -> Result<Option<T>, AllocError> {
+        match read {
+            Ok(value) => Ok(Some(value)),
+            Err(FormError::Memory(error)) => Err(error),
+            Err(FormError::At(start, fault)) => {
+                self.faults.push(PlacedFault { start, fault })?;
+                Ok(None)
+            }
+        }
+    }
+
+    /// Notes each key of an object that is none of these.
+    pub fn allow(&mut self, object: Object<'_>, keys: &[&str]) -> Result<(), AllocError> {
+        for (own, _) in object.entries {
+            if !is_among(keys, own.name.as_str()) {
+                self.faults.push(PlacedFault {
+                    start: own.place.start,
+                    fault: FormFault::UnknownKey,
+                })?;
+            }
+        }
+        Ok(())
+    }
+
+    /// The entries of the object at this key: none where the key is missing, or where something else stands there, which is
+    /// noted.
+    pub fn entries_at<'a>(
+        &mut self,
+        object: Object<'a>,
+        key: &str,
+    ) -> Result<&'a [(Key, Value)], AllocError> {
+        let Some(value) = object.get(key) else {
+            return Ok(&[]);
+        };
+        match self.noted(Object::of(value))? {
+            Some(inner) => Ok(inner.entries),
+            None => Ok(&[]),
+        }
+    }
+
+    /// The faults that were noted, which are none then.
+    pub fn take_faults(&mut self) -> Vec<PlacedFault> {
+        let alloc = *self.faults.allocator();
+        mem::replace(&mut self.faults, Vec::new(alloc))
+    }
+
+    /// Whether a fault was noted.
+    pub fn has_faults(&self) -> bool {
+        !self.faults.is_empty()
     }
 
     /// Begins a part. It fails where the whole is too long.

@@ -2,10 +2,13 @@
 use cedar_findings::faults::{TextFault, Written, all_schema_faults, hiding_fault, schema_fault};
 use cedar_findings::json_faults::form_fault;
 use cedar_findings::schema_texts::SchemaTexts;
-use cedar_json::schema_text;
+use cedar_json::{FaultySchema, FormError, PlacedFault, Translation, schema_text_or_faults};
 use cedar_reading::{ReadSchema, schema_with_hiding};
 use cedar_types::base::{Loc, ValidatorSchema};
 use std::alloc::{AllocError, Global};
+
+/// How many faults of a text are told.
+const MAX_FAULTS: usize = 100;
 
 /// A fault of a schema, in the text of this number.
 #[derive(Drop)]
@@ -31,34 +34,65 @@ pub fn schema_or_faults(
     Ok(Err(faults))
 }
 
-/// The schema that a text of JSON declares, or each of its faults, by place, where they stand there. A fault of its form is
-/// told alone.
+/// The schema that a text of JSON declares, or its faults, by place, the first hundred, where they stand there: those of its form,
+/// and those of the declarations without a fault of form, unless names may be missing.
 pub fn json_schema_or_faults(
     alloc: Global,
     json: &str,
 ) -> Result<Result<ValidatorSchema, Vec<TextFault>>, AllocError> {
     let mut faults = Vec::new(alloc);
-    let written = match schema_text(alloc, json) {
-        Ok(written) => written,
-        Err(error) => {
-            faults.push(form_fault(alloc, Written::Schema, json, error)?)?;
-            return Ok(Err(faults));
-        }
+    match schema_text_or_faults(alloc, json)? {
+        Ok(written) => match schema_or_fault(alloc, written.text())? {
+            Ok(schema) => return Ok(Ok(schema)),
+            Err(first) => add_faults_of_text(alloc, &written, first, &mut faults)?,
+        },
+        Err(faulty) => add_faults_of_form(alloc, json, faulty, &mut faults)?,
+    }
+    faults.sort_by_key(|it| (it.place.start, it.place.end))?;
+    faults.truncate(MAX_FAULTS);
+    Ok(Err(faults))
+}
+
+/// Adds the faults of form of a text of JSON, and those of its rest.
+fn add_faults_of_form(
+    alloc: Global,
+    json: &str,
+    faulty: FaultySchema,
+    faults: &mut Vec<TextFault>,
+) -> Result<(), AllocError> {
+    let FaultySchema {
+        faults: of_form,
+        rest,
+    } = faulty;
+    for PlacedFault { start, fault } in of_form {
+        let error = FormError::At(start, fault);
+        faults.push(form_fault(alloc, Written::Schema, json, error)?)?;
+    }
+    let Some(rest) = rest else {
+        return Ok(());
     };
-    let first = match schema_or_fault(alloc, written.text())? {
-        Ok(schema) => return Ok(Ok(schema)),
-        Err(fault) => fault,
-    };
+    match schema_or_fault(alloc, rest.text())? {
+        Ok(_) => Ok(()),
+        Err(first) => add_faults_of_text(alloc, &rest, first, faults),
+    }
+}
+
+/// Adds the faults of a text that was written from JSON, of which this is one, where they stand in the JSON.
+fn add_faults_of_text(
+    alloc: Global,
+    written: &Translation,
+    first: TextFault,
+    faults: &mut Vec<TextFault>,
+) -> Result<(), AllocError> {
     for fault in all_schema_faults(alloc, written.text(), first)? {
         let TextFault { place, text } = fault;
         let place = written.origin_of(place.start);
         // a common type that stands for a shape is written at each, and its faults stand at one place
-        if !is_told(&faults, place, text.as_str()) {
+        if !is_told(faults, place, text.as_str()) {
             faults.push(TextFault { place, text })?;
         }
     }
-    faults.sort_by_key(|it| (it.place.start, it.place.end))?;
-    Ok(Err(faults))
+    Ok(())
 }
 
 /// Whether these have the fault of this text at this place.

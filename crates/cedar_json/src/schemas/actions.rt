@@ -1,11 +1,11 @@
 // Declarations of actions.
 use crate::forms::{FormError, FormFault, Object, check_annotations, items_of, text_of};
-use crate::names::is_name;
 use crate::schemas::declared::Declared;
-use crate::schemas::meanings::{Spaces, put_entity_types};
+use crate::schemas::meanings::{NamedType, Spaces, name_of, names_in, put_entity_types};
 use crate::schemas::types::put_type;
 use crate::translations::Translation;
 use crate::values::{Key, MAX_DEPTH, Value};
+use std::alloc::{AllocError, Global};
 use std::rc::RcStr;
 
 /// Writes the declaration of an action.
@@ -14,25 +14,44 @@ pub fn put_action(
     declared: &Declared<'_>,
     namespace: &RcStr,
     key: &Key,
-    body: Object<'_>,
+    body: &Value,
 ) -> Result<(), FormError> {
-    body.allow(&["memberOf", "appliesTo", "attributes", "annotations"])?;
-    check_annotations(body)?;
-    check_no_attributes(body)?;
     out.put("action ")?;
     out.put_quoted(key.place, key.name.as_str())?;
+    if let Some(body) = out.noted(Object::of(body))? {
+        put_body(out, declared, namespace, body)?;
+    }
+    out.put(";\n")
+}
+
+/// Writes what an action is in, and what it applies to.
+fn put_body(
+    out: &mut Translation,
+    declared: &Declared<'_>,
+    namespace: &RcStr,
+    body: Object<'_>,
+) -> Result<(), FormError> {
+    out.allow(
+        body,
+        &["memberOf", "appliesTo", "attributes", "annotations"],
+    )?;
+    out.noted(check_annotations(body))?;
+    out.noted(check_no_attributes(body))?;
     if let Some(parents) = body.given("memberOf") {
         out.put_from(parents.place, " in [")?;
-        for parent in items_of(parents)? {
-            put_parent(out, Object::of(parent)?)?;
-            out.put(", ")?;
+        for parent in out.noted(items_of(parents))?.unwrap_or(&[]) {
+            let written = put_parent(out, parent);
+            out.noted(written)?;
         }
         out.put("]")?;
     }
-    if let Some(applies_to) = body.given("appliesTo") {
-        put_application(out, declared, namespace, Object::of(applies_to)?)?;
+    let Some(applies_to) = body.given("appliesTo") else {
+        return Ok(());
+    };
+    match out.noted(Object::of(applies_to))? {
+        Some(applies_to) => put_application(out, declared, namespace, applies_to),
+        None => Ok(()),
     }
-    out.put(";\n")
 }
 
 /// Fails where an action has attributes.
@@ -46,42 +65,55 @@ fn check_no_attributes(body: Object<'_>) -> Result<(), FormError> {
     Err(FormError::At(attributes.place.start, FormFault::ActionAttributes))
 }
 
-/// Writes an action in which another is.
-fn put_parent(out: &mut Translation, parent: Object<'_>) -> Result<(), FormError> {
-    parent.allow(&["id", "type"])?;
+/// Writes an action in which another is. Where it has a fault it fails, and nothing is written.
+fn put_parent(out: &mut Translation, parent: &Value) -> Result<(), FormError> {
+    let parent = Object::of(parent)?;
+    out.allow(parent, &["id", "type"])?;
     let id = parent.need("id")?;
+    let eid = text_of(id)?;
     if let Some(own_type) = parent.given("type") {
-        let name = text_of(own_type)?;
-        if !is_name(name) {
-            return Err(FormError::At(own_type.place.start, FormFault::Name));
-        }
+        let name = name_of(own_type)?;
         out.put_from(own_type.place, name)?;
         out.put("::")?;
     }
-    out.put_quoted(id.place, text_of(id)?)
+    out.put_quoted(id.place, eid)?;
+    out.put(", ")
 }
 
-/// Writes what an action applies to. Without a principal type or a resource type that is nothing.
+/// Writes what an action applies to: nothing, where no principal type or no resource type is left that has no fault.
 fn put_application(
     out: &mut Translation,
     declared: &Declared<'_>,
     namespace: &RcStr,
     body: Object<'_>,
 ) -> Result<(), FormError> {
-    body.allow(&["principalTypes", "resourceTypes", "context"])?;
-    let principals = items_of(body.need("principalTypes")?)?;
-    let resources = items_of(body.need("resourceTypes")?)?;
+    out.allow(body, &["principalTypes", "resourceTypes", "context"])?;
+    let principals = names_at(declared.alloc, out, body, "principalTypes")?;
+    let resources = names_at(declared.alloc, out, body, "resourceTypes")?;
     if principals.is_empty() || resources.is_empty() {
         return Ok(());
     }
     out.put_from(body.place, " appliesTo { principal: ")?;
-    put_entity_types(out, principals)?;
+    put_entity_types(out, &principals)?;
     out.put_from(body.place, ", resource: ")?;
-    put_entity_types(out, resources)?;
+    put_entity_types(out, &resources)?;
     if let Some(context) = body.get("context") {
         put_context(out, declared, namespace, context)?;
     }
     out.put_from(body.place, " }")
+}
+
+/// The names in the list at this key. A fault is noted, and that the key is missing.
+fn names_at<'a>(
+    alloc: Global,
+    out: &mut Translation,
+    body: Object<'a>,
+    key: &'static str,
+) -> Result<Vec<NamedType<'a>>, AllocError> {
+    match out.noted(body.need(key))? {
+        Some(list) => names_in(alloc, out, list),
+        None => Ok(Vec::new(alloc)),
+    }
 }
 
 /// Writes the type of a context.

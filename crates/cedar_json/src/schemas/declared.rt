@@ -1,48 +1,88 @@
 // The names that a schema declares.
 use crate::forms::{FormError, FormFault, Object};
-use crate::names::is_word;
+use crate::names::{is_name, is_word};
+use crate::translations::Translation;
 use crate::values::{Key, Value};
 use std::alloc::{AllocError, Global};
 use std::collections::{BTreeMap, BTreeSet};
+
+/// Which of the names that a schema declares were read.
+#[derive(Clone, Copy, PartialEq, Eq, Debug)]
+pub enum Names {
+    All,
+    /// Some may be missing, because a fault stands where they are declared.
+    Some,
+}
 
 /// The names of all namespaces, each with its namespace before it.
 #[derive(Drop)]
 pub struct Declared<'a> {
     pub alloc: Global,
+    pub names: Names,
     pub common_types: BTreeMap<String, &'a Value>,
     pub entity_types: BTreeSet<String>,
 }
 
 impl<'a> Declared<'a> {
-    /// What the namespaces of a schema declare.
-    pub fn of(alloc: Global, namespaces: Object<'a>) -> Result<Declared<'a>, FormError> {
+    /// What the namespaces of a schema declare, of which no fault was noted so far. Those are that are met.
+    pub fn of(
+        alloc: Global,
+        out: &mut Translation,
+        namespaces: Object<'a>,
+    ) -> Result<Declared<'a>, AllocError> {
         let mut declared = Declared {
             alloc,
+            names: Names::All,
             common_types: BTreeMap::new(alloc),
             entity_types: BTreeSet::new(alloc),
         };
         for (name, body) in namespaces.entries {
-            declared.add(name.name.as_str(), Object::of(body)?)?;
+            out.noted(check_namespace(name))?;
+            if let Some(body) = out.noted(Object::of(body))? {
+                declared.add(out, name.name.as_str(), body)?;
+            }
+        }
+        if out.has_faults() {
+            declared.names = Names::Some;
         }
         Ok(declared)
     }
 
     /// Adds what a namespace declares.
-    fn add(&mut self, namespace: &str, body: Object<'a>) -> Result<(), FormError> {
-        if let Some(types) = body.get("commonTypes") {
-            for (key, value) in Object::of(types)?.entries {
-                let name = declared_name(self.alloc, namespace, key)?;
+    fn add(
+        &mut self,
+        out: &mut Translation,
+        namespace: &str,
+        body: Object<'a>,
+    ) -> Result<(), AllocError> {
+        out.allow(
+            body,
+            &["commonTypes", "entityTypes", "actions", "annotations"],
+        )?;
+        out.noted(body.need("entityTypes"))?;
+        out.noted(body.need("actions"))?;
+        for (key, value) in out.entries_at(body, "commonTypes")? {
+            if let Some(name) = out.noted(declared_name(self.alloc, namespace, key))? {
                 self.common_types.insert(name, value)?;
             }
         }
-        if let Some(types) = body.get("entityTypes") {
-            for (key, _) in Object::of(types)?.entries {
-                let name = declared_name(self.alloc, namespace, key)?;
+        for (key, _) in out.entries_at(body, "entityTypes")? {
+            if let Some(name) = out.noted(declared_name(self.alloc, namespace, key))? {
                 self.entity_types.insert(name)?;
             }
         }
+        out.entries_at(body, "actions")?;
         Ok(())
     }
+}
+
+/// Fails where the key of a namespace is no name. The empty one is outside of namespaces.
+fn check_namespace(key: &Key) -> Result<(), FormError> {
+    let name = key.name.as_str();
+    if name.is_empty() || is_name(name) {
+        return Ok(());
+    }
+    Err(FormError::At(key.place.start, FormFault::Name))
 }
 
 /// The whole name of what a key declares. It has to be a word.

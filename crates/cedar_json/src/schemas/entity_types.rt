@@ -1,7 +1,7 @@
 // Declarations of entity types.
 use crate::forms::{FormError, Object, check_annotations, items_of, text_of};
 use crate::schemas::declared::Declared;
-use crate::schemas::meanings::{Spaces, put_entity_types};
+use crate::schemas::meanings::{Spaces, names_in, put_entity_types};
 use crate::schemas::types::{put_shape, put_type};
 use crate::translations::Translation;
 use crate::values::{Key, MAX_DEPTH, Value};
@@ -13,26 +13,32 @@ pub fn put_entity_type(
     declared: &Declared<'_>,
     namespace: &RcStr,
     key: &Key,
-    body: Object<'_>,
+    body: &Value,
 ) -> Result<(), FormError> {
-    check_annotations(body)?;
     out.put("entity ")?;
     out.put_from(key.place, key.name.as_str())?;
-    if let Some(ids) = body.get("enum") {
-        body.allow(&["enum", "annotations"])?;
-        put_ids(out, ids)?;
-    } else {
-        body.allow(&["memberOfTypes", "shape", "tags", "annotations"])?;
-        put_standard(out, declared, namespace, body)?;
+    if let Some(body) = out.noted(Object::of(body))? {
+        out.noted(check_annotations(body))?;
+        match body.get("enum") {
+            Some(ids) => {
+                out.allow(body, &["enum", "annotations"])?;
+                put_ids(out, ids)?;
+            }
+            None => put_standard(out, declared, namespace, body)?,
+        }
     }
     out.put(";\n")
 }
 
-/// Writes the ids of an enumerated type.
+/// Writes the ids of an enumerated type: the empty text for what is none.
 fn put_ids(out: &mut Translation, ids: &Value) -> Result<(), FormError> {
+    let Some(items) = out.noted(items_of(ids))? else {
+        return Ok(());
+    };
     out.put_from(ids.place, " enum [")?;
-    for id in items_of(ids)? {
-        out.put_quoted(id.place, text_of(id)?)?;
+    for id in items {
+        let text = out.noted(text_of(id))?.unwrap_or("");
+        out.put_quoted(id.place, text)?;
         out.put(", ")?;
     }
     out.put("]")
@@ -45,9 +51,11 @@ fn put_standard(
     namespace: &RcStr,
     body: Object<'_>,
 ) -> Result<(), FormError> {
+    out.allow(body, &["memberOfTypes", "shape", "tags", "annotations"])?;
     if let Some(parents) = body.get("memberOfTypes") {
+        let names = names_in(declared.alloc, out, parents)?;
         out.put_from(parents.place, " in ")?;
-        put_entity_types(out, items_of(parents)?)?;
+        put_entity_types(out, &names)?;
     }
     if let Some(shape) = body.get("shape") {
         out.put_from(shape.place, " = ")?;

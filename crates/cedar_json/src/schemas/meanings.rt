@@ -1,10 +1,11 @@
 // What the names of types mean.
-use crate::forms::{FormError, FormFault, text_of};
+use crate::forms::{FormError, FormFault, items_of, text_of};
 use crate::names::{is_extension_type, is_name};
 use crate::schemas::declared::{Declared, qualify};
 use crate::translations::Translation;
 use crate::values::Value;
-use std::alloc::AllocError;
+use cedar_types::base::Loc;
+use std::alloc::{AllocError, Global};
 use std::rc::RcStr;
 
 /// What a name is said to be of.
@@ -79,11 +80,8 @@ pub fn put_type_name(
     value: &Value,
     of: NameOf,
 ) -> Result<(), FormError> {
-    let name = text_of(value)?;
+    let name = name_of(value)?;
     let start = value.place.start;
-    if !is_name(name) {
-        return Err(FormError::At(start, FormFault::Name));
-    }
     let meant = meaning_of(declared, spaces.declared.as_str(), name, of)?;
     let whole = match &meant {
         Meaning::EntityType(whole) | Meaning::CommonType(whole) => whole.as_str(),
@@ -119,15 +117,41 @@ fn is_of_language(name: &str) -> bool {
         )
 }
 
-/// Writes names of entity types, in brackets.
-pub fn put_entity_types(out: &mut Translation, types: &[Value]) -> Result<(), FormError> {
-    out.put("[")?;
-    for value in types {
-        let name = text_of(value)?;
-        if !is_name(name) {
-            return Err(FormError::At(value.place.start, FormFault::Name));
+/// A name of an entity type, and its place.
+pub type NamedType<'a> = (Loc, &'a str);
+
+/// The names in a list. What is none is noted and left out.
+pub fn names_in<'a>(
+    alloc: Global,
+    out: &mut Translation,
+    list: &'a Value,
+) -> Result<Vec<NamedType<'a>>, AllocError> {
+    let mut names = Vec::new(alloc);
+    for value in out.noted(items_of(list))?.unwrap_or(&[]) {
+        if let Some(name) = out.noted(name_of(value))? {
+            names.push((value.place, name))?;
         }
-        out.put_from(value.place, name)?;
+    }
+    Ok(names)
+}
+
+/// The name that a value has to be.
+pub fn name_of(value: &Value) -> Result<&str, FormError> {
+    let name = text_of(value)?;
+    if !is_name(name) {
+        return Err(FormError::At(value.place.start, FormFault::Name));
+    }
+    Ok(name)
+}
+
+/// Writes names of entity types, in brackets.
+pub fn put_entity_types(
+    out: &mut Translation,
+    names: &Vec<NamedType<'_>>,
+) -> Result<(), FormError> {
+    out.put("[")?;
+    for (place, name) in names {
+        out.put_from(*place, name)?;
         out.put(", ")?;
     }
     out.put("]")

@@ -1,6 +1,5 @@
 // Namespaces.
-use crate::forms::{FormError, FormFault, Object, check_annotations};
-use crate::names::is_name;
+use crate::forms::{FormError, Object, check_annotations};
 use crate::schemas::actions::put_action;
 use crate::schemas::declared::Declared;
 use crate::schemas::entity_types::put_entity_type;
@@ -10,21 +9,17 @@ use crate::translations::Translation;
 use crate::values::{Key, MAX_DEPTH, Value};
 use std::rc::RcStr;
 
-/// Writes a namespace. That of no name is outside of namespaces.
+/// Writes a namespace. That of no name is outside of namespaces. Faults of names that it declares were noted before.
 pub fn put_namespace(
     out: &mut Translation,
     declared: &Declared<'_>,
     key: &Key,
     body: Object<'_>,
 ) -> Result<(), FormError> {
-    body.allow(&["commonTypes", "entityTypes", "actions", "annotations"])?;
-    check_annotations(body)?;
+    out.noted(check_annotations(body))?;
     let name = key.name.as_str();
     if name.is_empty() {
         return put_declarations(out, declared, &key.name, body);
-    }
-    if !is_name(name) {
-        return Err(FormError::At(key.place.start, FormFault::Name));
     }
     out.put("namespace ")?;
     out.put_from(key.place, name)?;
@@ -40,18 +35,14 @@ fn put_declarations(
     namespace: &RcStr,
     body: Object<'_>,
 ) -> Result<(), FormError> {
-    body.need("entityTypes")?;
-    body.need("actions")?;
-    if let Some(types) = body.get("commonTypes") {
-        for (key, value) in Object::of(types)?.entries {
-            put_common_type(out, declared, namespace, key, value)?;
-        }
+    for (key, value) in out.entries_at(body, "commonTypes")? {
+        put_common_type(out, declared, namespace, key, value)?;
     }
-    for (key, value) in Object::of(body.need("entityTypes")?)?.entries {
-        put_entity_type(out, declared, namespace, key, Object::of(value)?)?;
+    for (key, value) in out.entries_at(body, "entityTypes")? {
+        put_entity_type(out, declared, namespace, key, value)?;
     }
-    for (key, value) in Object::of(body.need("actions")?)?.entries {
-        put_action(out, declared, namespace, key, Object::of(value)?)?;
+    for (key, value) in out.entries_at(body, "actions")? {
+        put_action(out, declared, namespace, key, value)?;
     }
     Ok(())
 }

@@ -1,10 +1,12 @@
-// Types. Each call goes one step deeper into the value, up to `MAX_DEPTH`.
+// Types. Each call goes one step deeper into the value, up to `MAX_DEPTH`. The faults of a type are noted, and a record without
+// attributes, which may stand anywhere, is written in its place.
 use crate::forms::{FormError, FormFault, Object, check_annotations, expected, text_of, truth_of};
 use crate::names::{is_extension_type, is_name, path_of};
 use crate::schemas::declared::Declared;
 use crate::schemas::meanings::{Meaning, NameOf, Spaces, meaning_of, put_type_name};
 use crate::translations::Translation;
 use crate::values::{Key, Value};
+use cedar_types::base::Loc;
 use std::rc::RcStr;
 
 /// Writes a type.
@@ -19,20 +21,44 @@ pub fn put_type(
     let Some(left) = left.checked_sub(1) else {
         return Err(FormError::At(value.place.start, FormFault::TooDeep));
     };
-    let object = Object::of(value)?;
-    check_annotations(object)?;
-    let named = object.need("type")?;
-    match text_of(named)? {
-        "Record" => put_record(out, declared, spaces, object, left),
-        "Set" => {
-            object.allow(&["type", "element", "annotations", "required"])?;
-            out.put_from(named.place, "Set<")?;
-            put_type(out, declared, spaces, object.need("element")?, left)?;
-            out.put(">")
-        }
-        _ => put_plain_type(out, declared, spaces, object, named),
+    let Some((object, named, kind)) = out.noted(parts_of(value))? else {
+        return put_unsure(out, value.place);
+    };
+    out.noted(check_annotations(object))?;
+    match kind {
+        "Record" => return put_record(out, declared, spaces, object, left),
+        "Set" => {}
+        _ => return put_plain_type(out, declared, spaces, object, named),
     }
+    out.allow(object, &["type", "element", "annotations", "required"])?;
+    let Some(element) = out.noted(object.need("element"))? else {
+        return put_unsure(out, value.place);
+    };
+    out.put_from(named.place, "Set<")?;
+    put_type(out, declared, spaces, element, left)?;
+    out.put(">")
 }
+
+/// The object of a type, the value that says which it is, and its text.
+fn parts_of(value: &Value) -> Result<(Object<'_>, &Value, &str), FormError> {
+    let object = Object::of(value)?;
+    let named = object.need("type")?;
+    Ok((object, named, text_of(named)?))
+}
+
+/// Writes a record without attributes.
+fn put_unsure(out: &mut Translation, place: Loc) -> Result<(), FormError> {
+    out.put_from(place, "{}")
+}
+
+/// The keys of a record.
+const KEYS_OF_RECORD: [&str; 5] = [
+    "type",
+    "attributes",
+    "additionalAttributes",
+    "annotations",
+    "required",
+];
 
 /// Writes a record: its attributes in braces.
 #[cycle(types)]
@@ -46,21 +72,13 @@ pub fn put_record(
     let Some(left) = left.checked_sub(1) else {
         return Err(FormError::At(object.place.start, FormFault::TooDeep));
     };
-    object.allow(&[
-        "type",
-        "attributes",
-        "additionalAttributes",
-        "annotations",
-        "required",
-    ])?;
-    check_closed(object)?;
+    out.allow(object, &KEYS_OF_RECORD)?;
+    out.noted(check_closed(object))?;
     out.put_from(object.place, "{")?;
-    if let Some(attributes) = object.get("attributes") {
-        for (key, value) in Object::of(attributes)?.entries {
-            put_key(out, key, value)?;
-            put_type(out, declared, spaces, value, left)?;
-            out.put(", ")?;
-        }
+    for (key, value) in out.entries_at(object, "attributes")? {
+        put_key(out, key, value)?;
+        put_type(out, declared, spaces, value, left)?;
+        out.put(", ")?;
     }
     out.put_from(object.place, "}")
 }
@@ -78,11 +96,16 @@ fn check_closed(object: Object<'_>) -> Result<(), FormError> {
 /// Writes the key of an attribute, and the mark of one that is not required.
 fn put_key(out: &mut Translation, key: &Key, value: &Value) -> Result<(), FormError> {
     out.put_quoted(key.place, key.name.as_str())?;
-    let is_required = match Object::of(value)?.get("required") {
-        Some(required) => truth_of(required)?,
-        None => true,
-    };
+    let is_required = out.noted(is_required(value))?.unwrap_or(true);
     out.put(if is_required { ": " } else { "?: " })
+}
+
+/// Whether an attribute of this type is required.
+fn is_required(value: &Value) -> Result<bool, FormError> {
+    match Object::of(value)?.get("required") {
+        Some(required) => truth_of(required),
+        None => Ok(true),
+    }
 }
 
 /// Writes a type without parts.
@@ -93,11 +116,26 @@ fn put_plain_type(
     object: Object<'_>,
     named: &Value,
 ) -> Result<(), FormError> {
+    let written = put_name_of_type(out, declared, spaces, object, named);
+    match out.noted(written)? {
+        Some(()) => Ok(()),
+        None => put_unsure(out, object.place),
+    }
+}
+
+/// Writes the name of a type without parts. Where it has a fault it fails, and nothing is written.
+fn put_name_of_type(
+    out: &mut Translation,
+    declared: &Declared<'_>,
+    spaces: &Spaces,
+    object: Object<'_>,
+    named: &Value,
+) -> Result<(), FormError> {
     let kind = text_of(named)?;
     if matches!(kind, "Entity" | "EntityOrCommon" | "Extension") {
-        object.allow(&["type", "name", "annotations", "required"])?;
+        out.allow(object, &["type", "name", "annotations", "required"])?;
     } else {
-        object.allow(&["type", "annotations", "required"])?;
+        out.allow(object, &["type", "annotations", "required"])?;
     }
     match kind {
         "Long" => out.put_from(named.place, "__cedar::Long"),
@@ -160,6 +198,22 @@ pub fn put_shape(
     shape: &Value,
     left: usize,
 ) -> Result<(), FormError> {
+    let Some((record, declared_in)) = out.noted(record_of(declared, namespace, shape))? else {
+        return put_unsure(out, shape.place);
+    };
+    let spaces = Spaces {
+        written: namespace.clone()?,
+        declared: declared_in,
+    };
+    put_record(out, declared, &spaces, record, left)
+}
+
+/// The record that a shape is, and the namespace in which it was declared.
+fn record_of<'a>(
+    declared: &Declared<'a>,
+    namespace: &RcStr,
+    shape: &'a Value,
+) -> Result<(Object<'a>, RcStr), FormError> {
     let mut space = namespace.clone()?;
     let mut current = shape;
     for _ in 0..declared.common_types.len().saturating_add(1) {
@@ -167,11 +221,7 @@ pub fn put_shape(
         check_annotations(object)?;
         let named = object.need("type")?;
         if text_of(named)? == "Record" {
-            let spaces = Spaces {
-                written: namespace.clone()?,
-                declared: space,
-            };
-            return put_record(out, declared, &spaces, object, left);
+            return Ok((object, space));
         }
         let whole = common_type(declared, space.as_str(), object, named)?;
         space = RcStr::from_str(declared.alloc, path_of(whole.as_str()))?;

@@ -2,7 +2,8 @@
 use crate::frames::Frame;
 use crate::json_tests::cases::check_faults;
 use crate::json_tests::schemas::show_schema;
-use std::alloc::Global;
+use cedar_json::{PlacedFault, schema_text_or_faults};
+use std::alloc::{AllocError, Global};
 use std::process::Abort;
 use std::test::Fail;
 
@@ -129,4 +130,47 @@ const ACTIONS: [(&str, &str); 4] = [
 fn in_actions(rt: HostRuntime) -> Result<(), Fail> {
     let before = r#"{"N": {"entityTypes": {}, "actions": {"a": "#;
     check_faults(&rt, rt.alloc(), show_schema, (before, "}}}"), &ACTIONS)
+}
+
+/// The faults of a schema, and its rest, in which a type with a fault is a record without attributes.
+fn show_rest(alloc: Global, json: &str) -> Result<String, AllocError> {
+    let mut shown = String::new(alloc);
+    let rest = match schema_text_or_faults(alloc, json)? {
+        Ok(written) => Some(written),
+        Err(faulty) => {
+            for PlacedFault { start, fault } in &faulty.faults {
+                write!(shown, "{start} {fault:?}; ")?;
+            }
+            faulty.rest
+        }
+    };
+    match &rest {
+        Some(rest) => shown.push_str(rest.text())?,
+        None => shown.push_str("no rest")?,
+    }
+    Ok(shown)
+}
+
+#[test]
+fn rests(rt: HostRuntime) -> Result<(), Fail> {
+    for (json, wanted) in [
+        (
+            r#"{"": {"entityTypes": {"A": {"tags": {"type": "Set", "element": 1}, "enm": 2}, "B": 3}, "actions": {"a": 4}}}"#,
+            "63 Expected(\"an object\"); 67 UnknownKey; 83 Expected(\"an object\"); 104 Expected(\"an object\"); \
+             entity A tags Set<{}>;\nentity B;\naction \"a\";\n",
+        ),
+        (
+            r#"{"": {"entityTypes": {"A": {"shape": {"type": "Record", "attributes": {"b": {"type": "Entity", "name": ""}}}}}, "actions": {}}}"#,
+            "103 Name; entity A = {\"b\": {}, };\n",
+        ),
+        (
+            r#"{"": {"entityTypes": {"A": {"shape": {"type": "R"}}}, "actions": 5}}"#,
+            "65 Expected(\"an object\"); no rest",
+        ),
+        ("[", "1 Json(Value); no rest"),
+    ] {
+        let got = show_rest(rt.alloc(), json)?;
+        assert_eq!(rt; got.as_str(), wanted, "{json}");
+    }
+    Ok(())
 }
