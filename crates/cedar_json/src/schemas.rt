@@ -16,7 +16,7 @@ use std::alloc::{AllocError, Global};
 /// How many faults of a text are told.
 const MAX_FAULTS: usize = 100;
 
-/// A schema in JSON that has not the form of schemas.
+/// A schema in JSON with faults of form.
 #[derive(Debug, Drop)]
 pub struct FaultySchema {
     /// The faults of form by place, the first hundred, at each place one.

@@ -73,7 +73,10 @@ impl Translation {
     }
 
     /// What a part of the other text is read as; none where it has a fault, which is noted, so that reading goes on behind it.
-    pub fn noted<T: Drop>(&mut self, read: Result<T, FormError>) -> Result<Option<T>, AllocError> {
+    pub(crate) fn noted<T: Drop>(
+        &mut self,
+        read: Result<T, FormError>,
+    ) -> Result<Option<T>, AllocError> {
         match read {
             Ok(value) => Ok(Some(value)),
             Err(FormError::Memory(error)) => Err(error),
@@ -85,7 +88,7 @@ impl Translation {
     }
 
     /// Notes each key of an object that is none of these.
-    pub fn allow(&mut self, object: Object<'_>, keys: &[&str]) -> Result<(), AllocError> {
+    pub(crate) fn allow(&mut self, object: Object<'_>, keys: &[&str]) -> Result<(), AllocError> {
         for (own, _) in object.entries {
             if !is_among(keys, own.name.as_str()) {
                 self.faults.push(PlacedFault {
@@ -99,7 +102,7 @@ impl Translation {
 
     /// The entries of the object at this key: none where the key is missing, or where something else stands there, which is
     /// noted.
-    pub fn entries_at<'a>(
+    pub(crate) fn entries_at<'a>(
         &mut self,
         object: Object<'a>,
         key: &str,
@@ -114,13 +117,13 @@ impl Translation {
     }
 
     /// The faults that were noted, which are none then.
-    pub fn take_faults(&mut self) -> Vec<PlacedFault> {
+    pub(crate) fn take_faults(&mut self) -> Vec<PlacedFault> {
         let alloc = *self.faults.allocator();
         mem::replace(&mut self.faults, Vec::new(alloc))
     }
 
     /// Whether a fault was noted.
-    pub fn has_faults(&self) -> bool {
+    pub(crate) fn has_faults(&self) -> bool {
         !self.faults.is_empty()
     }
 
