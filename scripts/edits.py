@@ -9,7 +9,7 @@ from pathlib import Path
 
 TOP = Path(__file__).resolve().parent.parent
 MUTATIONS = TOP / "mutations"
-# The most wrong bodies that share a check.
+# The most bodies that share a check, but for a right one.
 BATCH = 24
 FUNCTION = re.compile(r"^( *)(?:pub(?:\([^)]*\))? )?(?:const |unsafe )*fn (\w+)", re.M)
 IMPL = re.compile(r"^impl(?:<[^>]*>)? (?:(.*) for )?(\w+)", re.M)
@@ -95,20 +95,41 @@ def together(bodies):
     return bodies[0].crate, [path for body in bodies for path in body.only], [pair for body in bodies for pair in body.pairs]
 
 
-def is_batch(bodies):
+def is_control(body):
+    return body.name.startswith("controls/")
+
+
+def fit(bodies):
     """Whether a check can try them together: of one crate, of different functions, and each applies over the others."""
     crate, only, pairs = together(bodies)
     try:
         edited(crate, pairs)
     except (Fault, OSError):
         return False
-    return len(bodies) <= BATCH and len({*only}) == len(only) and {body.crate for body in bodies} == {crate}
+    return len({*only}) == len(only) and {body.crate for body in bodies} == {crate}
+
+
+def controls_of(crate):
+    """The right bodies of a crate."""
+    paths = sorted((MUTATIONS / "controls" / crate).glob("*.edit"))
+    return [body_of(f"controls/{crate}/{path.stem}", path) for path in paths]
+
+
+def control_of(batch):
+    """
+    A right body that takes part in the check of wrong ones, where one of their crate fits them, and else one that does not: the
+    number of a batch's bodies chooses among those that fit, so that batches have different ones.
+    """
+    controls = controls_of(batch[0].crate)
+    fitting = [it for it in controls if fit([*batch, it])] or controls
+    return fitting[len(batch) % len(fitting)] if fitting else None
 
 
 def batches(bodies):
     found = []
     for body in bodies:
-        batch = next((it for it in found if is_batch([*it, body])), None)
+        like = [it for it in found if len(it) < BATCH and is_control(it[0]) == is_control(body)]
+        batch = next((it for it in like if fit([*it, body])), None)
         if batch:
             batch.append(body)
         else:

@@ -60,7 +60,7 @@ def of_script(*words):
 
 
 # What no compiler reads: the scripts of that part, with their words.
-TEXTS = (("check_text",), ("check_text", "--self-test"), ("gate_samples.py",), ("mutations", "--read"))
+TEXTS = (("check_text",), ("check_text", "--self-test"), ("gate_samples.py",), ("mutations", "--read"), ("refusal_samples.py",))
 
 
 def texts():
