@@ -1,3 +1,4 @@
 pub mod Texts
 pub mod Functions
 pub mod Calls
+pub mod TextExamples

@@ -2,6 +2,7 @@
 #![tactic(auto)]
 
 pub mod checks;
+pub mod examples;
 pub mod functions;
 pub mod methods;
 pub mod texts;
