@@ -19,6 +19,13 @@ permits o = record { policy = named Permit (codes "p"); test = o }
 abbrev pub forbids : Test → Answer
 forbids o = record { policy = named Forbid (codes "f"); test = o }
 
+-- another permit and another forbid
+abbrev pub also_permits : Test → Answer
+also_permits o = record { policy = named Permit (codes "q"); test = o }
+
+abbrev pub also_forbids : Test → Answer
+also_forbids o = record { policy = named Forbid (codes "g"); test = o }
+
 abbrev pub answered : Decision → List Text → List PolicyError → Response
 answered d by es = record { decision = d; determining = by; erring = es }
 
@@ -43,3 +50,13 @@ pub record ResponseExamples : Type 0 where
       ≡ answered deny [] (error_of (codes "p") MissingEntity ∷ [])
   pub failing_forbid : response_to (permits (Says true) ∷ forbids (Stops Overflow) ∷ [])
       ≡ answered allow (codes "p" ∷ []) (error_of (codes "f") Overflow ∷ [])
+  -- each satisfied permit determines what is allowed, and each satisfied forbid what is denied, in their order
+  pub two_permits : response_to (permits (Says true) ∷ also_permits (Says true) ∷ [])
+      ≡ answered allow (codes "p" ∷ codes "q" ∷ []) []
+  pub second_permit : response_to (permits (Says false) ∷ also_permits (Says true) ∷ [])
+      ≡ answered allow (codes "q" ∷ []) []
+  pub two_forbids : response_to (also_forbids (Says true) ∷ permits (Says true) ∷ forbids (Says true) ∷ [])
+      ≡ answered deny (codes "g" ∷ codes "f" ∷ []) []
+  -- each policy that errs is listed, in their order, and the others count as ever
+  pub two_errors : response_to (forbids (Stops Overflow) ∷ permits (Says true) ∷ also_permits (Stops MissingEntity) ∷ [])
+      ≡ answered allow (codes "p" ∷ []) (error_of (codes "f") Overflow ∷ error_of (codes "q") MissingEntity ∷ [])

@@ -11,4 +11,8 @@ returns c = record {
   forbidden_first = refl;
   failing_permit = refl;
   failing_forbid = refl;
+  two_permits = refl;
+  second_permit = refl;
+  two_forbids = refl;
+  two_errors = refl;
 }
