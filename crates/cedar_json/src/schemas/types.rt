@@ -21,11 +21,11 @@ pub fn put_type(
     let Some(left) = left.checked_sub(1) else {
         return Err(FormError::At(value.place.start, FormFault::TooDeep));
     };
-    let Some((object, named, kind)) = out.noted(parts_of(value))? else {
+    let Some(TypeParts { object, named }) = out.noted(TypeParts::of(value))? else {
         return put_unsure(out, value.place);
     };
     out.noted(check_annotations(object))?;
-    match kind {
+    match text_of(named)? {
         "Record" => return put_record(out, declared, spaces, object, left),
         "Set" => {}
         _ => return put_plain_type(out, declared, spaces, object, named),
@@ -39,11 +39,22 @@ pub fn put_type(
     out.put(">")
 }
 
-/// The object of a type, the value that says which it is, and its text.
-fn parts_of(value: &Value) -> Result<(Object<'_>, &Value, &str), FormError> {
-    let object = Object::of(value)?;
-    let named = object.need("type")?;
-    Ok((object, named, text_of(named)?))
+/// The parts that a type has to have.
+#[derive(Clone, Copy)]
+struct TypeParts<'a> {
+    object: Object<'a>,
+    /// The text that says which type it is.
+    named: &'a Value,
+}
+
+impl<'a> TypeParts<'a> {
+    /// Those of a type.
+    fn of(value: &'a Value) -> Result<TypeParts<'a>, FormError> {
+        let object = Object::of(value)?;
+        let named = object.need("type")?;
+        text_of(named)?;
+        Ok(TypeParts { object, named })
+    }
 }
 
 /// Writes a record without attributes.
@@ -209,11 +220,11 @@ pub fn put_shape(
 }
 
 /// The record that a shape is, and the namespace in which it was declared.
-fn record_of<'a>(
-    declared: &Declared<'a>,
+fn record_of<'r>(
+    declared: &'r Declared<'_>,
     namespace: &RcStr,
-    shape: &'a Value,
-) -> Result<(Object<'a>, RcStr), FormError> {
+    shape: &'r Value,
+) -> Result<(Object<'r>, RcStr), FormError> {
     let mut space = namespace.clone()?;
     let mut current = shape;
     for _ in 0..declared.common_types.len().saturating_add(1) {
