@@ -137,7 +137,8 @@ impl<'a> Policies<'a> {
         alloc: Global,
         functions: &ExtensionSchemas<C>,
     ) -> Result<Option<Read>, AllocError>
-        ensures { IfOk result (comes_next self.old.left self.new.left) }
+        ensures next { IfOk result (comes_next self.old.left self.new.left) }
+        ensures text { self.new.text ≡ self.old.text }
     {
         if self.left == 0 {
             return Ok(None);
