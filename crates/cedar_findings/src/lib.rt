@@ -29,6 +29,7 @@ pub mod marks;
 mod misuses;
 pub mod objects;
 pub mod options;
+pub mod outputs;
 mod parts;
 pub mod places;
 pub mod reports;

@@ -12,6 +12,7 @@ mod marks;
 mod memberships;
 mod names;
 mod objects;
+mod outputs;
 mod places;
 mod reports;
 mod rules;

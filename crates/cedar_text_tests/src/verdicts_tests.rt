@@ -14,5 +14,6 @@ mod numbered;
 mod pieces;
 mod policies;
 mod said;
+mod shown;
 mod tables;
 mod texts;

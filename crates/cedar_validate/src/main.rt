@@ -1,22 +1,18 @@
 //! Validates the policies of files by a schema: `cedar-validate SCHEMA POLICY..`.
 #![tactic(auto)]
 
-mod changes;
-mod data;
+mod call;
 mod files;
-mod links;
-mod output;
-mod parses;
 mod progress;
 mod run;
-mod schemas;
 mod version;
 
+use call::Call;
 use cedar_extensions::checks::Constructor;
 use cedar_extensions::functions::{Checks, functions, overloaded_types};
 use cedar_findings::colours::Colours;
+use cedar_findings::outputs::Output;
 use cedar_types::base::ExtensionSchemas;
-use output::Output;
 use progress::Progress;
 use run::run;
 use std::env;
@@ -72,9 +68,14 @@ fn main(rt: HostRuntime) -> ExitCode {
     } else {
         Colours::None
     };
-    let mut output = Output::new(out, colours, Progress::new(terminal));
-    let words = words.as_slice();
-    ExitCode::from(run(&rt, words, &extensions, &mut output, &mut err))
+    let mut call = Call {
+        rt: &rt,
+        extensions: &extensions,
+        output: Output::new(alloc, colours),
+        progress: Progress::new(terminal),
+        out,
+    };
+    ExitCode::from(run(&mut call, words.as_slice(), &mut err))
 }
 
 /// Whether the environment has a `NO_COLOR` that is not empty.

@@ -146,7 +146,7 @@ impl<'a> Comparisons<'a> {
     pub fn new<C>(
         alloc: Global,
         functions: &ExtensionSchemas<C>,
-        text: &'a PolicyText<'a>,
+        text: &PolicyText<'a>,
     ) -> Result<Result<Comparisons<'a>, TextFault>, AllocError> {
         let old = match text.verdicts(alloc, functions)? {
             Ok(old) => old,

@@ -19,6 +19,7 @@ mod requirements;
 pub mod schemas;
 pub mod sets;
 pub mod settings;
+pub mod shown;
 pub mod texts;
 pub mod verdicts;
 mod warnings;

@@ -43,7 +43,7 @@ impl<'a> PolicyText<'a> {
         &self,
         alloc: Global,
         functions: &ExtensionSchemas<C>,
-    ) -> Result<Result<PolicyVerdicts<'_>, TextFault>, AllocError>
+    ) -> Result<Result<PolicyVerdicts<'a>, TextFault>, AllocError>
         ensures ids { IfOk result (λ said. IfOk said (λ verdicts.
             (t : Text) → has_id verdicts.judge.ids t ≡ false)) }
         ensures faults { IfOk result (λ said. IfOk said (λ verdicts. verdicts.faults ≡ 0)) }

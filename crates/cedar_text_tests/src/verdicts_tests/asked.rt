@@ -140,7 +140,7 @@ fn schema_of(
 }
 
 /// Cedar's functions.
-fn cedar_functions(alloc: Global) -> Result<ExtensionSchemas, Fail> {
+pub fn cedar_functions(alloc: Global) -> Result<ExtensionSchemas, Fail> {
     let checks = Checks {
         ip: Box::new(alloc, Constructor::Ip.check(alloc))?,
         decimal: Box::new(alloc, Constructor::Decimal.check(alloc))?,

@@ -1,0 +1,156 @@
+//! What is shown of a call in the format that is asked for, until it is written, and what was counted so far. Where memory is
+//! refused, nothing more is shown.
+use crate::arguments::Task;
+use crate::changes::{ChangeTally, push_tally};
+use crate::colours::{Colours, painted};
+use crate::faults::TextFault;
+use crate::formats::Format;
+use crate::lines::Lines;
+use crate::reports::{render_fault, render_missing};
+use crate::sources::{Content, Source};
+use crate::totals::Totals;
+use crate::writers::FindingsWriter;
+use std::alloc::{AllocError, Global};
+use std::io;
+
+/// What is shown, and the counts.
+#[derive(Drop)]
+pub struct Output {
+    pub format: Format,
+    /// Whether nothing is shown of accepted policies without a finding, nor how many policies there are.
+    pub is_quiet: bool,
+    pub totals: Totals,
+    pub changes: ChangeTally,
+    colours: Colours,
+    shown: String,
+}
+
+impl Output {
+    /// Nothing so far, in lines for people until another format is asked for.
+    pub fn new(alloc: Global, colours: Colours) -> Output {
+        Output {
+            format: Format::Lines(Lines),
+            is_quiet: false,
+            totals: Totals::default(),
+            changes: ChangeTally::default(),
+            colours,
+            shown: String::new(alloc),
+        }
+    }
+
+    /// What is shown and was not cleared.
+    pub fn shown(&self) -> &str {
+        self.shown.as_str()
+    }
+
+    /// Takes away what is shown, because it was written.
+    pub fn clear(&mut self) {
+        self.shown.clear();
+    }
+
+    /// Shows what stands before all.
+    pub fn begin(&mut self, alloc: Global, format: Format) -> Result<(), AllocError> {
+        self.format = format;
+        let mut shown = String::new(alloc);
+        self.format.begin(&mut shown)?;
+        self.shown.push_str(shown.as_str())
+    }
+
+    /// Shows what is found in the file of this name.
+    pub fn show(&mut self, alloc: Global, name: &str, found: &str) -> Result<(), AllocError> {
+        match (self.colours, self.format) {
+            (Colours::Terminal, Format::Lines(_)) => {
+                let painted = painted(alloc, name, found)?;
+                self.shown.push_str(painted.as_str())
+            }
+            _ => self.shown.push_str(found),
+        }
+    }
+
+    /// Shows a fault of a file.
+    pub fn show_fault(
+        &mut self,
+        alloc: Global,
+        source: Source<'_>,
+        fault: &TextFault,
+    ) -> Result<(), AllocError> {
+        let found = render_fault(alloc, &mut self.format, source, fault)?;
+        self.show(alloc, source.name, found.as_str())
+    }
+
+    /// Shows a fault of a file, and counts it.
+    pub fn add_fault(
+        &mut self,
+        alloc: Global,
+        source: Source<'_>,
+        fault: &TextFault,
+    ) -> Result<(), AllocError> {
+        self.totals.add_fault();
+        self.show_fault(alloc, source, fault)
+    }
+
+    /// Shows that a file, or the rest of it, cannot be had.
+    pub fn show_missing(&mut self, alloc: Global, name: &str, why: &str) -> Result<(), AllocError> {
+        let found = render_missing(alloc, &mut self.format, name, why)?;
+        self.show(alloc, name, found.as_str())
+    }
+
+    /// The text of a file, as it was read. Where it cannot be had, why is shown, and the answer is `None`.
+    pub fn text_of(
+        &mut self,
+        alloc: Global,
+        name: &str,
+        read: io::Result<Content>,
+    ) -> Result<Option<String>, AllocError> {
+        match read {
+            Ok(Content::Text(text)) => return Ok(Some(text)),
+            Ok(Content::Broken(front, fault)) => {
+                let text = front.as_str();
+                self.show_fault(alloc, Source { name, text }, &fault)?;
+            }
+            Err(error) => {
+                let why = format!(in alloc; "cannot be read: {error}")?;
+                self.show_missing(alloc, name, why.as_str())?;
+            }
+        }
+        Ok(None)
+    }
+
+    /// Shows and counts that a file has so many faults that the rest is not read.
+    pub fn add_cut(&mut self, alloc: Global, name: &str, faults: u64) -> Result<(), AllocError> {
+        self.totals.add_fault();
+        let why = format!(in alloc; "{faults} faults, so the rest of the file is not read")?;
+        self.show_missing(alloc, name, why.as_str())
+    }
+
+    /// Shows what stands behind all: lines and objects may leave it out, and one object for all may not.
+    pub fn end(&mut self, alloc: Global) -> Result<(), AllocError> {
+        if self.is_quiet && !matches!(self.format, Format::Sarif(_)) {
+            return Ok(());
+        }
+        let mut shown = String::new(alloc);
+        self.format.end(&mut shown, &self.totals)?;
+        self.shown.push_str(shown.as_str())
+    }
+
+    /// Shows what stands behind all changes.
+    pub fn end_changes(&mut self, alloc: Global) -> Result<(), AllocError> {
+        if matches!(self.format, Format::Sarif(_)) || self.totals.lacks_schema {
+            return self.end(alloc);
+        }
+        if self.is_quiet {
+            return Ok(());
+        }
+        let mut shown = String::new(alloc);
+        push_tally(&mut shown, self.format, self.changes, self.totals.faults)?;
+        self.shown.push_str(shown.as_str())
+    }
+
+    /// The exit status, the program's own: of a comparison it is 1 too where a policy is worse off.
+    pub fn status(&self, task: Task, denies_warnings: bool) -> u8 {
+        match (task, self.totals.status(denies_warnings)) {
+            (Task::Comparison, 0) => u8::from(self.changes.worse > 0),
+            (_, status) => status,
+        }
+    }
+}

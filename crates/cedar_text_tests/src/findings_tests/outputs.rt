@@ -1,0 +1,174 @@
+// What an output shows, in each format, and what it counts.
+use cedar_findings::arguments::Task;
+use cedar_findings::changes::{Change, Comparison};
+use cedar_findings::colours::Colours;
+use cedar_findings::faults::TextFault;
+use cedar_findings::formats::Format;
+use cedar_findings::outputs::Output;
+use cedar_findings::sources::{Content, Source};
+use cedar_types::base::Loc;
+use std::alloc::{AllocError, Global};
+use std::io;
+use std::io::ErrorKind;
+use std::test::Fail;
+
+/// A file with one line.
+const SOURCE: Source<'static> = Source {
+    name: "f",
+    text: "abc",
+};
+
+/// An output in the format of this name, which has begun; `None` where there is no such format.
+fn begun(alloc: Global, colours: Colours, name: &str) -> Result<Option<Output>, AllocError> {
+    let mut output = Output::new(alloc, colours);
+    let Some(format) = Format::by_name(name) else {
+        return Ok(None);
+    };
+    output.begin(alloc, format)?;
+    Ok(Some(output))
+}
+
+/// A fault at the text of the file.
+fn fault(alloc: Global) -> Result<TextFault, AllocError> {
+    Ok(TextFault {
+        place: Loc { start: 0, end: 3 },
+        text: String::from_str(alloc, "why")?,
+    })
+}
+
+#[test]
+fn faults(rt: HostRuntime) -> Result<(), Fail> {
+    let alloc = rt.alloc();
+    for (colours, wanted) in [
+        (
+            Colours::None,
+            "f:1:1: fault: why\n  1 | abc\n    | ^^^\n\
+             g: fault: gone\n\
+             f: fault: 100 faults, so the rest of the file is not read\n\
+             policies: 0, accepted: 0, refused: 0, warnings: 0, faults: 2\n",
+        ),
+        // a kind has its colour where the line is about the file that is meant
+        (
+            Colours::Terminal,
+            "f:1:1: \x1b[1;31mfault\x1b[0m: why\n  1 | abc\n    | ^^^\n\
+             g: \x1b[1;31mfault\x1b[0m: gone\n\
+             f: \x1b[1;31mfault\x1b[0m: 100 faults, so the rest of the file is not read\n\
+             policies: 0, accepted: 0, refused: 0, warnings: 0, faults: 2\n",
+        ),
+    ] {
+        let Some(mut output) = begun(alloc, colours, "lines")? else {
+            panic!(rt; "there are lines");
+        };
+        output.add_fault(alloc, SOURCE, &fault(alloc)?)?;
+        output.show_missing(alloc, "g", "gone")?;
+        output.add_cut(alloc, "f", 100)?;
+        output.end(alloc)?;
+        assert_eq!(rt; output.shown(), wanted);
+        assert_eq!(rt; output.totals.faults, 2);
+    }
+    Ok(())
+}
+
+/// What was written is not shown again.
+#[test]
+fn parts(rt: HostRuntime) -> Result<(), Fail> {
+    let alloc = rt.alloc();
+    let mut output = Output::new(alloc, Colours::None);
+    output.show(alloc, "f", "one\n")?;
+    assert_eq!(rt; output.shown(), "one\n");
+    output.clear();
+    assert_eq!(rt; output.shown(), "");
+    output.show(alloc, "f", "two\n")?;
+    assert_eq!(rt; output.shown(), "two\n");
+    Ok(())
+}
+
+/// Quiet lines and objects have no end, and SARIF is one object that has to end. Nor has a comparison.
+#[test]
+fn quiet_ends(rt: HostRuntime) -> Result<(), Fail> {
+    let alloc = rt.alloc();
+    for (name, of_changes, has_end) in [
+        ("lines", false, false),
+        ("lines", true, false),
+        ("json", false, false),
+        ("json", true, false),
+        ("sarif", false, true),
+        ("sarif", true, true),
+    ] {
+        let Some(mut output) = begun(alloc, Colours::None, name)? else {
+            panic!(rt; "there is a format {name}");
+        };
+        output.is_quiet = true;
+        output.clear();
+        if of_changes {
+            output.end_changes(alloc)?;
+        } else {
+            output.end(alloc)?;
+        }
+        assert_eq!(rt; !output.shown().is_empty(), has_end, "{name}");
+    }
+    Ok(())
+}
+
+/// Nothing that came or went, of a policy that is worse off, or is not.
+fn comparison<'a>(alloc: Global, is_worse: bool) -> Result<Comparison<'a, 'a>, AllocError> {
+    Ok(Comparison {
+        is_worse,
+        changes: vec![in alloc; Change::Level]?,
+        came: Vec::new(alloc),
+        went: Vec::new(alloc),
+    })
+}
+
+#[test]
+fn changes(rt: HostRuntime) -> Result<(), Fail> {
+    let alloc = rt.alloc();
+    for (is_worse, status, wanted) in [
+        (false, 0, "policies: 1, changed: 1, worse: 0, faults: 0\n"),
+        (true, 1, "policies: 1, changed: 1, worse: 1, faults: 0\n"),
+    ] {
+        let mut output = Output::new(alloc, Colours::None);
+        output.changes.add(&comparison(alloc, is_worse)?);
+        output.end_changes(alloc)?;
+        assert_eq!(rt; output.shown(), wanted);
+        assert_eq!(rt; output.status(Task::Comparison, false), status);
+        assert_eq!(rt; output.status(Task::Validation, false), 0);
+    }
+    Ok(())
+}
+
+/// A fault is worse than a policy that is worse off.
+#[test]
+fn statuses(rt: HostRuntime) -> Result<(), Fail> {
+    let alloc = rt.alloc();
+    let mut output = Output::new(alloc, Colours::None);
+    output.totals.warnings = 1;
+    assert_eq!(rt; output.status(Task::Comparison, false), 0);
+    assert_eq!(rt; output.status(Task::Validation, true), 1);
+    output.changes.add(&comparison(alloc, true)?);
+    output.totals.add_fault();
+    assert_eq!(rt; output.status(Task::Comparison, false), 2);
+    Ok(())
+}
+
+/// The text of a file, or why it cannot be had.
+#[test]
+fn texts(rt: HostRuntime) -> Result<(), Fail> {
+    let alloc = rt.alloc();
+    let mut output = Output::new(alloc, Colours::None);
+    let whole = Content::Text(String::from_str(alloc, "a")?);
+    let Some(text) = output.text_of(alloc, "f", Ok(whole))? else {
+        panic!(rt; "there is a text");
+    };
+    assert_eq!(rt; text.as_str(), "a");
+    assert_eq!(rt; output.shown(), "");
+    let broken = Content::Broken(String::from_str(alloc, "abc")?, fault(alloc)?);
+    assert!(rt; output.text_of(alloc, "f", Ok(broken))?.is_none());
+    let gone = io::Error::from(ErrorKind::NotFound);
+    assert!(rt; output.text_of(alloc, "g", Err(gone))?.is_none());
+    let wanted = "f:1:1: fault: why\n  1 | abc\n    | ^^^\ng: fault: cannot be read: ";
+    assert!(rt; output.shown().starts_with(wanted), "{}", output.shown());
+    // who reads the file counts
+    assert_eq!(rt; output.totals.faults, 0);
+    Ok(())
+}

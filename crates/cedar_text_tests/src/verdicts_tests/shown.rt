@@ -1,0 +1,5 @@
+// What is said of files, as an output shows it.
+mod changes;
+mod policies;
+mod schemas;
+mod texts;

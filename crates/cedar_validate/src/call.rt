@@ -1,0 +1,170 @@
+// What the program does with files, over any files and any writers.
+use crate::progress::Progress;
+use cedar_findings::arguments::{Arguments, IdScope, Task};
+use cedar_findings::outputs::Output;
+use cedar_findings::sources::Source;
+use cedar_typechecker::rbac::Validator;
+use cedar_types::base::ExtensionSchemas;
+use cedar_verdicts::call_ids::CallIds;
+use cedar_verdicts::data::DataKind;
+use cedar_verdicts::links::Links;
+use cedar_verdicts::settings::Settings;
+use cedar_verdicts::shown::changes::{BothSettings, ShownChanges};
+use cedar_verdicts::shown::policies::{Shared, ShownPolicies};
+use cedar_verdicts::shown::texts::{show_parsed, show_unmade};
+use std::io;
+use std::io::Write;
+use std::rt::Files;
+
+/// A call of the program: where its files are, what it shows, and where that is written.
+#[derive(Drop)]
+pub struct Call<'a, R, O, T> {
+    pub rt: &'a R,
+    pub extensions: &'a ExtensionSchemas,
+    pub output: Output,
+    pub progress: Progress<T>,
+    pub out: O,
+}
+
+impl<R: Files + AllocGlobal + Input, O: Write, T: Write> Call<'_, R, O, T> {
+    /// Does what is asked, and answers the exit status.
+    pub fn perform(&mut self, arguments: &Arguments) -> io::Result<u8> {
+        self.output.is_quiet = arguments.is_quiet;
+        self.output.begin(self.rt.alloc(), arguments.format)?;
+        let done = match arguments.task {
+            Task::Validation => self.validate(arguments),
+            Task::Comparison => self.compare(arguments),
+            Task::Parsing => self.parse(arguments),
+        };
+        // also where the task failed behind what is shown
+        self.write_shown()?;
+        done?;
+        let own = self
+            .output
+            .status(arguments.task, arguments.denies_warnings);
+        Ok(arguments.statuses.of(own))
+    }
+
+    /// Writes what is shown.
+    pub fn write_shown(&mut self) -> io::Result<()> {
+        self.out.write_all(self.output.shown().as_bytes())?;
+        self.output.clear();
+        Ok(())
+    }
+
+    /// Validates the policies of all files, and checks data.
+    fn validate(&mut self, arguments: &Arguments) -> io::Result<()> {
+        let alloc = self.rt.alloc();
+        let syntax = arguments.schema_syntax;
+        let Some(schema) = self.read_schema(arguments.schemas.as_slice(), syntax)? else {
+            self.output.totals.add_missing_schema();
+            return Ok(self.output.end(alloc)?);
+        };
+        let validator = Validator::new(schema, self.extensions);
+        let settings = Settings::asked(arguments, &validator);
+        let is_unique = arguments.id_scope == IdScope::Call;
+        let mut shared = Shared {
+            ids: is_unique.then_some(CallIds::new(alloc)),
+            links: self.read_links(&arguments.links)?,
+        };
+        for name in &arguments.policies {
+            self.validate_file(&settings, name.as_str(), &mut shared)?;
+        }
+        show_unmade(alloc, &arguments.links, &shared.links, &mut self.output)?;
+        self.check_data(validator.schema(), DataKind::Entities, &arguments.entities)?;
+        self.check_data(validator.schema(), DataKind::Request, &arguments.request)?;
+        Ok(self.output.end(alloc)?)
+    }
+
+    /// Validates the policies of a file, and the links of each.
+    fn validate_file(
+        &mut self,
+        settings: &Settings<'_>,
+        name: &str,
+        shared: &mut Shared,
+    ) -> io::Result<()> {
+        let alloc = self.rt.alloc();
+        let Some(text) = self.read_text(name)? else {
+            return Ok(());
+        };
+        let text = text.as_str();
+        let source = Source { name, text };
+        let begun = ShownPolicies::begin(alloc, settings, source, &mut self.output)?;
+        let Some(mut policies) = begun else {
+            return Ok(());
+        };
+        for _ in 0..policies.most() {
+            if !policies.show_next(alloc, settings, shared, &mut self.output)? {
+                break;
+            }
+            self.write_shown()?;
+            self.progress.show(self.output.totals.policies);
+        }
+        self.progress.clear();
+        Ok(policies.end(alloc, &mut self.output)?)
+    }
+
+    /// Validates the policies of all files by both schemas, and shows what changed.
+    fn compare(&mut self, arguments: &Arguments) -> io::Result<()> {
+        let syntax = arguments.schema_syntax;
+        let old = self.read_schema(arguments.old_schemas.as_slice(), syntax)?;
+        let new = self.read_schema(arguments.schemas.as_slice(), syntax)?;
+        let (Some(old), Some(new)) = (old, new) else {
+            self.output.totals.add_missing_schema();
+            return Ok(self.output.end_changes(self.rt.alloc())?);
+        };
+        let old = Validator::new(old, self.extensions);
+        let new = Validator::new(new, self.extensions);
+        let settings = BothSettings::asked(arguments, &old, &new);
+        let mut links = self.read_links(&arguments.links)?;
+        for name in &arguments.policies {
+            self.compare_file(&settings, name.as_str(), &mut links)?;
+        }
+        show_unmade(self.rt.alloc(), &arguments.links, &links, &mut self.output)?;
+        Ok(self.output.end_changes(self.rt.alloc())?)
+    }
+
+    /// Validates the policies of a file by both schemas, and shows what changed.
+    fn compare_file(
+        &mut self,
+        settings: &BothSettings<'_>,
+        name: &str,
+        links: &mut Links,
+    ) -> io::Result<()> {
+        let alloc = self.rt.alloc();
+        let Some(text) = self.read_text(name)? else {
+            return Ok(());
+        };
+        let text = text.as_str();
+        let source = Source { name, text };
+        let begun = ShownChanges::begin(alloc, settings, source, &mut self.output)?;
+        let Some(mut policies) = begun else {
+            return Ok(());
+        };
+        for _ in 0..policies.most() {
+            if !policies.show_next(alloc, settings, links, &mut self.output)? {
+                break;
+            }
+            self.write_shown()?;
+        }
+        Ok(policies.end(alloc, &mut self.output)?)
+    }
+
+    /// Reads the schema, if there is one, and all policies, and shows which faults they have.
+    fn parse(&mut self, arguments: &Arguments) -> io::Result<()> {
+        let schemas = arguments.schemas.as_slice();
+        let syntax = arguments.schema_syntax;
+        if !schemas.is_empty() && self.read_schema(schemas, syntax)?.is_none() {
+            self.output.totals.add_fault();
+        }
+        for name in &arguments.policies {
+            let name = name.as_str();
+            if let Some(text) = self.read_text(name)? {
+                let text = text.as_str();
+                let (syntax, source) = (arguments.policy_syntax, Source { name, text });
+                show_parsed(self.rt.alloc(), syntax, source, &mut self.output)?;
+            }
+        }
+        Ok(self.output.end(self.rt.alloc())?)
+    }
+}

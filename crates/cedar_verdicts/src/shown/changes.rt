@@ -1,0 +1,122 @@
+//! What changes for the policies of a file from one schema to another, as an output shows it.
+use crate::changes::{Compared, Comparisons, compare};
+use crate::links::{Links, judge_link};
+use crate::settings::Settings;
+use crate::texts::{MAX_FAULTS, PolicyText};
+use cedar_findings::arguments::Arguments;
+use cedar_findings::change_reports::ChangeReport;
+use cedar_findings::findings::Verdict;
+use cedar_findings::outputs::Output;
+use cedar_findings::sources::Source;
+use cedar_typechecker::rbac::Validator;
+use cedar_types::base::{ArgumentCheck, Template};
+use std::alloc::{AllocError, Global};
+
+/// What policies are judged by, first and then.
+#[derive(Drop)]
+pub struct BothSettings<'a, C = Box<dyn ArgumentCheck>> {
+    pub old: Settings<'a, C>,
+    pub new: Settings<'a, C>,
+}
+
+impl<'a, C> BothSettings<'a, C> {
+    /// As these arguments ask for it, by the older schema and by the other.
+    pub fn asked(
+        arguments: &Arguments,
+        old: &'a Validator<'a, C>,
+        new: &'a Validator<'a, C>,
+    ) -> BothSettings<'a, C> {
+        BothSettings {
+            old: Settings::asked(arguments, old),
+            new: Settings::asked(arguments, new),
+        }
+    }
+}
+
+/// The policies of a file of which changes are shown, one after another.
+#[derive(Drop)]
+pub struct ShownChanges<'a> {
+    compared: Comparisons<'a>,
+    report: ChangeReport<'a>,
+}
+
+impl<'a> ShownChanges<'a> {
+    /// Of a file of which nothing was shown yet. Where its text has a fault as a whole, that is shown, and the answer is `None`.
+    pub fn begin<C: ArgumentCheck>(
+        alloc: Global,
+        settings: &BothSettings<'_, C>,
+        source: Source<'a>,
+        output: &mut Output,
+    ) -> Result<Option<ShownChanges<'a>>, AllocError> {
+        let text = PolicyText::new(settings.new.syntax, source.text);
+        let functions = settings.new.validator.extensions();
+        match Comparisons::new(alloc, functions, &text)? {
+            Ok(compared) => {
+                let report = ChangeReport::new(alloc, source)?;
+                Ok(Some(ShownChanges { compared, report }))
+            }
+            Err(fault) => {
+                output.add_fault(alloc, source, &fault)?;
+                Ok(None)
+            }
+        }
+    }
+
+    /// How often something is shown at most.
+    pub fn most(&self) -> usize {
+        self.compared.most()
+    }
+
+    /// Judges the next policy with its links by both, and shows what changed, or shows why it cannot be read. Whether there was
+    /// one.
+    pub fn show_next<C: ArgumentCheck>(
+        &mut self,
+        alloc: Global,
+        settings: &BothSettings<'_, C>,
+        links: &mut Links,
+        output: &mut Output,
+    ) -> Result<bool, AllocError> {
+        let BothSettings { old, new } = settings;
+        let Some(next) = self.compared.next_compared(alloc, old, new)? else {
+            return Ok(false);
+        };
+        match next {
+            Compared::Fault(fault) => output.add_fault(alloc, self.report.source(), &fault)?,
+            Compared::Verdicts(policy, was, is) => {
+                self.show_change(alloc, &policy, (&was, &is), output)?;
+                for linked in &links.of_policy(alloc, &policy)? {
+                    let text = self.report.source().text;
+                    let was = judge_link(alloc, old, text, linked)?;
+                    let is = judge_link(alloc, new, text, linked)?;
+                    self.show_change(alloc, linked, (&was, &is), output)?;
+                }
+            }
+        }
+        Ok(true)
+    }
+
+    /// Counts a policy, and shows what changed between these verdicts, if something did.
+    fn show_change(
+        &mut self,
+        alloc: Global,
+        policy: &Template,
+        verdicts: (&Verdict, &Verdict),
+        output: &mut Output,
+    ) -> Result<(), AllocError> {
+        let comparison = compare(alloc, verdicts.0, verdicts.1)?;
+        output.changes.add(&comparison);
+        let format = &mut output.format;
+        let shown = self
+            .report
+            .change_shown(alloc, format, policy, verdicts, &comparison)?;
+        output.show(alloc, self.report.source().name, shown.as_str())
+    }
+
+    /// Shows behind the policies that the rest of the file is not read, where it is not.
+    pub fn end(self, alloc: Global, output: &mut Output) -> Result<(), AllocError> {
+        if self.compared.is_cut() {
+            output.add_cut(alloc, self.report.source().name, MAX_FAULTS)?;
+        }
+        Ok(())
+    }
+}

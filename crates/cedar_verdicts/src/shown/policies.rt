@@ -1,0 +1,118 @@
+//! The policies of a file, and what is said of each and of its links, as an output shows it.
+use crate::call_ids::CallIds;
+use crate::links::{Links, judge_link};
+use crate::settings::Settings;
+use crate::texts::{MAX_FAULTS, PolicyText, PolicyVerdicts, Said};
+use cedar_findings::findings::Verdict;
+use cedar_findings::outputs::Output;
+use cedar_findings::reports::Report;
+use cedar_findings::sources::Source;
+use cedar_types::base::{ArgumentCheck, Template};
+use std::alloc::{AllocError, Global};
+
+/// What the files of policies of a call share.
+#[derive(Drop)]
+pub struct Shared {
+    /// The ids of the policies, where these have to be unique.
+    pub ids: Option<CallIds>,
+    pub links: Links,
+}
+
+/// The policies of a file that are shown one after another.
+#[derive(Drop)]
+pub struct ShownPolicies<'a> {
+    source: Source<'a>,
+    said: PolicyVerdicts<'a>,
+    report: Report<'a>,
+}
+
+impl<'a> ShownPolicies<'a> {
+    /// Of a file of which nothing was shown yet. Where its text has a fault as a whole, that is shown, and the answer is `None`.
+    pub fn begin<C: ArgumentCheck>(
+        alloc: Global,
+        settings: &Settings<'_, C>,
+        source: Source<'a>,
+        output: &mut Output,
+    ) -> Result<Option<ShownPolicies<'a>>, AllocError> {
+        let text = PolicyText::new(settings.syntax, source.text);
+        let said = match text.verdicts(alloc, settings.validator.extensions())? {
+            Ok(said) => said,
+            Err(fault) => {
+                output.add_fault(alloc, source, &fault)?;
+                return Ok(None);
+            }
+        };
+        let mut report = Report::new(alloc, output.format, source);
+        if text.is_json() {
+            report.index_places()?;
+        }
+        Ok(Some(ShownPolicies {
+            source,
+            said,
+            report,
+        }))
+    }
+
+    /// How often something is shown at most.
+    pub fn most(&self) -> usize {
+        self.said.most()
+    }
+
+    /// Judges and shows the next policy with its links, or shows why it cannot be read. Whether there was one.
+    pub fn show_next<C: ArgumentCheck>(
+        &mut self,
+        alloc: Global,
+        settings: &Settings<'_, C>,
+        shared: &mut Shared,
+        output: &mut Output,
+    ) -> Result<bool, AllocError> {
+        let Some(said) = self.said.next_said(alloc, settings)? else {
+            return Ok(false);
+        };
+        match said {
+            Said::Fault(fault) => {
+                output.totals.add_fault();
+                let shown = self.report.fault_shown(alloc, &fault)?;
+                output.show(alloc, self.source.name, shown.as_str())?;
+            }
+            Said::Verdict(policy, verdict) => {
+                self.show_policy(alloc, &policy, verdict, shared, output)?;
+                for linked in &shared.links.of_policy(alloc, &policy)? {
+                    let verdict = judge_link(alloc, settings, self.source.text, linked)?;
+                    self.show_policy(alloc, linked, verdict, shared, output)?;
+                }
+            }
+        }
+        Ok(true)
+    }
+
+    /// Counts and shows a policy.
+    fn show_policy(
+        &mut self,
+        alloc: Global,
+        policy: &Template,
+        mut verdict: Verdict,
+        shared: &mut Shared,
+        output: &mut Output,
+    ) -> Result<(), AllocError> {
+        let name = self.source.name;
+        if let Some(ids) = &mut shared.ids {
+            ids.take(alloc, name, policy, &mut verdict)?;
+        }
+        output.totals.add(&verdict);
+        if output.is_quiet && verdict.is_accepted && verdict.warnings.is_empty() {
+            return Ok(());
+        }
+        let shown = self.report.policy_shown(alloc, policy, &verdict)?;
+        output.show(alloc, name, shown.as_str())
+    }
+
+    /// Shows behind the policies that the rest of the file is not read, where it is not.
+    pub fn end(self, alloc: Global, output: &mut Output) -> Result<(), AllocError> {
+        output.format = self.report.format();
+        if self.said.is_cut() {
+            output.add_cut(alloc, self.source.name, MAX_FAULTS)?;
+        }
+        Ok(())
+    }
+}

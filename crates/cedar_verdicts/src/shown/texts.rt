@@ -1,0 +1,80 @@
+//! What is said of texts that are read alone, of links and of data, as an output shows it.
+use crate::data::{DataKind, judge_data};
+use crate::links::Links;
+use crate::parses::parse_policies;
+use crate::texts::MAX_FAULTS;
+use cedar_findings::outputs::Output;
+use cedar_findings::reports::Report;
+use cedar_findings::sources::Source;
+use cedar_findings::syntaxes::Syntax;
+use cedar_types::base::ValidatorSchema;
+use std::alloc::{AllocError, Global};
+
+/// Reads the policies of a file, counts them, and shows the faults of the others.
+pub fn show_parsed(
+    alloc: Global,
+    syntax: Option<Syntax>,
+    source: Source<'_>,
+    output: &mut Output,
+) -> Result<(), AllocError> {
+    let parsed = parse_policies(alloc, syntax, source.text)?;
+    output.totals.add_read(parsed.policies);
+    for fault in &parsed.faults {
+        output.add_fault(alloc, source, fault)?;
+    }
+    if parsed.is_cut {
+        output.add_cut(alloc, source.name, MAX_FAULTS)?;
+    }
+    Ok(())
+}
+
+/// The links of a file: none where it has a fault, which is shown.
+pub fn links_of(
+    alloc: Global,
+    source: Source<'_>,
+    output: &mut Output,
+) -> Result<Links, AllocError> {
+    match Links::read(alloc, source.text)? {
+        Ok(links) => Ok(links),
+        Err(fault) => {
+            output.add_fault(alloc, source, &fault)?;
+            Ok(Links::none(alloc))
+        }
+    }
+}
+
+/// Shows the links of the file of this name, if there is one, that made no policy.
+pub fn show_unmade(
+    alloc: Global,
+    name: &Option<String>,
+    links: &Links,
+    output: &mut Output,
+) -> Result<(), AllocError> {
+    let Some(name) = name else {
+        return Ok(());
+    };
+    let source = Source {
+        name: name.as_str(),
+        text: links.text(),
+    };
+    for fault in &links.faults(alloc)? {
+        output.add_fault(alloc, source, fault)?;
+    }
+    Ok(())
+}
+
+/// Checks the entities or the request of a file, counts them, and shows their mistakes.
+pub fn show_data(
+    alloc: Global,
+    schema: &ValidatorSchema,
+    kind: DataKind,
+    source: Source<'_>,
+    output: &mut Output,
+) -> Result<(), AllocError> {
+    let verdict = judge_data(alloc, schema, kind, source.text)?;
+    output.totals.add_data(&verdict);
+    let mut report = Report::new(alloc, output.format, source);
+    let shown = report.data_shown(alloc, &verdict)?;
+    output.format = report.format();
+    output.show(alloc, source.name, shown.as_str())
+}
