@@ -61,7 +61,7 @@ impl<R: Files + AllocGlobal + Input, O: Write, T: Write> Call<'_, R, O, T> {
             return Ok(self.output.end(alloc)?);
         };
         let validator = Validator::new(schema, self.extensions);
-        let settings = Settings::asked(arguments, &validator);
+        let settings = settings_of(arguments, &validator);
         let is_unique = arguments.id_scope == IdScope::Call;
         let mut shared = Shared {
             ids: is_unique.then_some(CallIds::new(alloc)),
@@ -115,7 +115,10 @@ impl<R: Files + AllocGlobal + Input, O: Write, T: Write> Call<'_, R, O, T> {
         };
         let old = Validator::new(old, self.extensions);
         let new = Validator::new(new, self.extensions);
-        let settings = BothSettings::asked(arguments, &old, &new);
+        let settings = BothSettings {
+            old: settings_of(arguments, &old),
+            new: settings_of(arguments, &new),
+        };
         let mut links = self.read_links(&arguments.links)?;
         for name in &arguments.policies {
             self.compare_file(&settings, name.as_str(), &mut links)?;
@@ -166,5 +169,15 @@ impl<R: Files + AllocGlobal + Input, O: Write, T: Write> Call<'_, R, O, T> {
             }
         }
         Ok(self.output.end(self.rt.alloc())?)
+    }
+}
+
+/// What these arguments ask policies to be judged by.
+fn settings_of<'a>(arguments: &Arguments, validator: &'a Validator<'a>) -> Settings<'a> {
+    Settings {
+        validator,
+        mode: arguments.mode,
+        level: arguments.level,
+        syntax: arguments.policy_syntax,
     }
 }

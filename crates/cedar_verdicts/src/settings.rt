@@ -1,5 +1,4 @@
 //! What policies are judged by.
-use cedar_findings::arguments::Arguments;
 use cedar_findings::syntaxes::Syntax;
 use cedar_typechecker::rbac::Validator;
 use cedar_types::base::{ArgumentCheck, ValidationMode};
@@ -13,16 +12,4 @@ pub struct Settings<'a, C = Box<dyn ArgumentCheck>> {
     pub level: Option<u32>,
     /// The syntax of all texts, where their first characters do not tell it.
     pub syntax: Option<Syntax>,
-}
-
-impl<'a, C> Settings<'a, C> {
-    /// As these arguments ask for it.
-    pub fn asked(arguments: &Arguments, validator: &'a Validator<'a, C>) -> Settings<'a, C> {
-        Settings {
-            validator,
-            mode: arguments.mode,
-            level: arguments.level,
-            syntax: arguments.policy_syntax,
-        }
-    }
 }

@@ -3,12 +3,10 @@ use crate::changes::{Compared, Comparisons, compare};
 use crate::links::{Links, judge_link};
 use crate::settings::Settings;
 use crate::texts::{MAX_FAULTS, PolicyText};
-use cedar_findings::arguments::Arguments;
 use cedar_findings::change_reports::ChangeReport;
 use cedar_findings::findings::Verdict;
 use cedar_findings::outputs::Output;
 use cedar_findings::sources::Source;
-use cedar_typechecker::rbac::Validator;
 use cedar_types::base::{ArgumentCheck, Template};
 use std::alloc::{AllocError, Global};
 
@@ -17,20 +15,6 @@ use std::alloc::{AllocError, Global};
 pub struct BothSettings<'a, C = Box<dyn ArgumentCheck>> {
     pub old: Settings<'a, C>,
     pub new: Settings<'a, C>,
-}
-
-impl<'a, C> BothSettings<'a, C> {
-    /// As these arguments ask for it, by the older schema and by the other.
-    pub fn asked(
-        arguments: &Arguments,
-        old: &'a Validator<'a, C>,
-        new: &'a Validator<'a, C>,
-    ) -> BothSettings<'a, C> {
-        BothSettings {
-            old: Settings::asked(arguments, old),
-            new: Settings::asked(arguments, new),
-        }
-    }
 }
 
 /// The policies of a file of which changes are shown, one after another.
