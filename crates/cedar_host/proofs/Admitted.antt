@@ -1,5 +1,5 @@
 -- Policies that are accepted, over data that was checked.
-use Rattle.std.proofs.Common.{◌≡◌, ◌↔◌, ℕ, false, All, Result, get_or, refl, sym, subst}
+use Rattle.std.proofs.Common.{◌≡◌, ◌↔◌, ◌∙◌, ℕ, false, All, Result, ap, get_or, refl, sym, subst}
 use Rattle.std.specs.BTreeMap.{BTreeMap}
 use Rattle.cedar_types.specs.Extensions.Functions.{Refusals}
 use Rattle.cedar_types.specs.Schemas.Contents.{schema_of}
@@ -15,7 +15,7 @@ use Rattle.cedar_conformance.specs.Premises.{DataConforms, ArePremises}
 use Rattle.cedar_conformance.specs.Requests.{request_of}
 use Rattle.cedar_conformance.specs.declared.entities.Entities.{Entities}
 use Rattle.cedar_conformance.specs.declared.requests.Request.{Request}
-use Rattle.cedar_conformance.proofs.MetPremises.{data_conforms, request_of_data}
+use Rattle.cedar_conformance.proofs.MetPremises.{closed_of, data_conforms, request_of_data}
 use Rattle.cedar_host.specs.declared.admission.AdmissionFault.{AdmissionFault}
 use Rattle.cedar_host.specs.declared.admission.LinkedTemplate.{LinkedTemplate}
 use Rattle.cedar_host.specs.Accepted.{Accepted, AcceptsExactly, IsAdmissible, basis_by, policies_in, schema_by, steps_by, template_in}
@@ -44,7 +44,7 @@ pub in_slices : (b : Basis) (steps : ℕ) (schema : ValidatorSchema) (template :
     → ArePremises schema template values request entities
     → EvaluatesInSlices b steps request entities (template_of template) (slots_of values)
 in_slices b steps schema template values request entities same need met world w =
-    need (met.closed b.mode b same refl).closed world
+    need (ap has_external same ∙ closed_of schema met.closed) world
     (subst (λ s. IsWellFormed (template_of template) s) (sym w.slots_bound) met.well_formed)
     (met.conforming b same world w.of_data w.functions)
 
