@@ -187,13 +187,16 @@ pub const WORDS: [Word; 22] = [
 /// The option of this name, if there is one.
 pub fn option_by_name(name: &str) -> Option<Asks> {
     for word in WORDS {
-        for own in word.names {
-            if *own == name {
-                return Some(word.asks);
-            }
+        if is_among(word.names, name) {
+            return Some(word.asks);
         }
     }
     None
+}
+
+/// Whether one of these names is this one.
+fn is_among(names: &[&str], name: &str) -> bool {
+    names.iter().any(|own| *own == name)
 }
 
 impl ValueOption {
