@@ -1,25 +1,29 @@
 #!/usr/bin/env python3
-"""What scripts/install does, once the tools are there: scripts/install.py [DIR].
+"""What scripts/install does, once the tools are there: scripts/install.py [DIR], or scripts/install.py --library DIR.
 
 It proves cedar-validate and the libraries that it stands on, and nothing else, as scripts/validate --proved does, and copies
 the program to DIR/cedar-validate. Before it begins it says how long the proof takes, by the newest run in docs/gate.tsv that
 timed these crates. Where the program stands proved of the very texts, it is only copied. `cedar-validate --version` says of
-which commit and kit it is. The exit status is 2 where an argument is wrong, and 70 where nothing was installed.
+which commit and kit it is. With --library it proves and installs the C library in its place (scripts/library.py). The exit
+status is 2 where an argument is wrong, and 70 where nothing was installed.
 """
 import os
 import shutil
 import sys
 from pathlib import Path
 
-import gate_line
+import library
 import proved
 import stamp
 import unproved
+from gate import gate_line
 
 NAME = "cedar-validate"
 FOLDER = "~/.local/bin"
 USAGE = f"""usage: scripts/install [DIR]
+       scripts/install --library DIR
 Proves {NAME} and what it stands on, and copies it to DIR/{NAME}. DIR is {FOLDER} where it is left out.
+With --library it proves the C library, and puts it into DIR/lib, with include/cedar.h and lib/pkgconfig/cedar.pc in DIR.
 """
 WRONG = 2
 FAILED = 70
@@ -82,7 +86,22 @@ def copied(program, folder):
     return target
 
 
+def install_library(words):
+    """Proves the C library and puts it into the folder that is named. The exit status."""
+    if len(words) != 1 or words[0].startswith("-") or not words[0]:
+        say(f"one folder is wanted\n{USAGE.rstrip()}")
+        return WRONG
+    crates = [*unproved.below([library.CRATE]), library.CRATE]
+    say(f"proving {len(crates)} crates, one after another: {' '.join(crates)}")
+    say(forecast(minutes_of(crates, gate_line.rows_of(gate_line.TABLE.read_text()))))
+    library.build(Path(words[0]), library.with_proof)
+    print(f"installed the library in {words[0]}, which is proved")
+    return 0
+
+
 def main(words):
+    if words[:1] == ["--library"]:
+        return install_library(words[1:])
     if words == ["--help"]:
         print(USAGE, end="")
         return 0
@@ -116,6 +135,6 @@ if __name__ == "__main__":
     except proved.Stopped:
         say("stopped; nothing was installed")
         sys.exit(FAILED)
-    except (OSError, ValueError, stamp.NotStamped, unproved.KitDoesNotFit) as error:
+    except (OSError, ValueError, stamp.NotStamped, unproved.KitDoesNotFit, library.NotBuilt) as error:
         say(f"{error}")
         sys.exit(FAILED)

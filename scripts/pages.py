@@ -2,7 +2,7 @@
 """Writes what scripts make of the sources into the pages that show it: scripts/pages.py [--check].
 
 In a page it stands between two lines, `<!-- made: NAME -->` and `<!-- end -->`, where NAME is one of MAKERS. The pages of docs/api
-are made whole. scripts/check_text refuses a page that shows something else, a page that lacks a block of BLOCKS, and a name that
+are made whole. scripts/gate/check_text refuses a page that shows something else, a page that lacks a block of BLOCKS, and a name that
 is gone from the sources; with --check this script only says which pages those are.
 """
 import re
@@ -10,12 +10,8 @@ import subprocess
 import sys
 from pathlib import Path
 
-import api_pages
-import files as listings
-import promise
-import rows
-import trusted
-from definitions import Gone
+from docs import api_pages, files as listings, promise, rows, trusted
+from docs.definitions import Gone
 
 TOP = Path(__file__).resolve().parent.parent
 MAKERS = {

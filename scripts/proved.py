@@ -84,12 +84,12 @@ def heed():
     signal.pthread_sigmask(signal.SIG_UNBLOCK, STOPS)
 
 
-def run(words):
-    """Runs a command of the toolchain, in a group of its own that ends where this script is stopped. Its status."""
+def run(words, crate=CRATE):
+    """Runs a command of the toolchain on a crate, in a group of its own that ends where this script is stopped. Its status."""
     # (a signal that came between the child's start and the `try` would leave it running)
     signal.pthread_sigmask(signal.SIG_BLOCK, STOPS)
     try:
-        child = subprocess.Popen(words, cwd=TOP / "crates" / CRATE, stdin=subprocess.DEVNULL, stdout=sys.stderr, start_new_session=True, preexec_fn=heed)
+        child = subprocess.Popen(words, cwd=TOP / "crates" / crate, stdin=subprocess.DEVNULL, stdout=sys.stderr, start_new_session=True, preexec_fn=heed)
     except OSError:
         heed()
         raise

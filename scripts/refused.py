@@ -3,7 +3,7 @@
 
 The program of crates/cedar_refused makes each of its calls while the first growth is refused, then the second, until one
 run ends without a refusal, and says what came of it; scripts/refuse.c refuses. Each public call that may answer want of
-memory has to be among its lines: scripts/public_calls.py lists them.
+memory has to be among its lines: scripts/gate/public_calls.py lists them.
 Of the program of crates/cedar_check the first growth of each row is refused, then the second, and so on. A row whose memory
 is refused says so, and the next row runs.
 Without words they are built without a proof. The last line counts what went as it should and what did not.
@@ -17,9 +17,8 @@ import tempfile
 from concurrent.futures import ThreadPoolExecutor
 from pathlib import Path
 
-sys.dont_write_bytecode = True
-import unproved  # noqa: E402
-from public_calls import left_out, public_calls  # noqa: E402
+import unproved
+from gate.public_calls import left_out, public_calls
 
 TOP = Path(__file__).resolve().parent.parent
 CALLS = TOP / "crates" / "cedar_refused"

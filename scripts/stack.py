@@ -11,10 +11,8 @@ counts the lines that pass and those that do not. It is no part of the gate.
 import resource
 import subprocess
 import sys
-import tempfile
-from pathlib import Path
 
-import unproved
+from measure.harness import bench, when
 
 LIMIT = 2048
 STEP = 16
@@ -32,24 +30,24 @@ CONDITIONS = {
 }
 
 
-def ends_well(program, room, stack):
+def ends_well(bench, stack):
     """Whether the program ends with status 0 within so many KiB of stack."""
     def limit():
         resource.setrlimit(resource.RLIMIT_STACK, (stack * 1024, stack * 1024))
         resource.setrlimit(resource.RLIMIT_CORE, (0, 0))
 
-    done = subprocess.run([str(program), "case.tsv"], cwd=room, stdin=subprocess.DEVNULL, capture_output=True, preexec_fn=limit)
+    done = subprocess.run([bench.program, "case.tsv"], cwd=bench.room, stdin=subprocess.DEVNULL, capture_output=True, preexec_fn=limit)
     return done.returncode == 0
 
 
-def least(program, room):
+def least(bench):
     """The least stack in KiB, in steps, that is enough; none where none up to 64 MiB is."""
     low, high = 0, 65536
-    if not ends_well(program, room, high):
+    if not ends_well(bench, high):
         return None
     while high - low > STEP:
         middle = (low + high) // 2
-        if ends_well(program, room, middle):
+        if ends_well(bench, middle):
             high = middle
         else:
             low = middle
@@ -57,16 +55,12 @@ def least(program, room):
 
 
 def main(words):
-    program = unproved.named(words[:1], "cedar_cases")
     limit = int(words[1]) if words[1:] else LIMIT
     passed = failed = 0
-    with tempfile.TemporaryDirectory() as room:
-        Path(room, "schema.txt").write_text(SCHEMA, encoding="utf8")
+    with bench(words, "cedar_cases") as cases:
         for name, condition in CONDITIONS.items():
-            rows = ["schema\tschema.txt", "policy\tstrict policy"]
-            rows += [f"permit(principal, action, resource) when {{ {condition} }};\ttrue"]
-            Path(room, "case.tsv").write_text("\n".join(rows) + "\n", encoding="utf8")
-            stack = least(program, room)
+            cases.case(SCHEMA, [when(condition)])
+            stack = least(cases)
             print(f"{name} at the limit: {stack} KiB" if stack else f"{name}: it does not end well", flush=True)
             passed += stack is not None and stack <= limit
             failed += stack is None or stack > limit

@@ -3,8 +3,9 @@
 
 The parts are `texts`, what no compiler reads; `pieces`, the pieces of examples/borrows; `tests`, each #[test]; `programs`,
 each program on its data, as `rt ci` runs it, and `product`, cedar-validate likewise, and each of its words and pairs; `refused`, calls and rows while memory is
-refused; `queries`, where-clauses in SQLite; and `applications`, all that cedar-validate says of whole applications and of odd
-texts. Without words all run, side by side where processors are free.
+refused; `queries`, where-clauses in SQLite; `applications`, all that cedar-validate says of whole applications and of odd
+texts; and `callers`, the C library called from other languages, of which those that the machine has not are skipped.
+Without words all run, side by side where processors are free.
 
 The programs are built without a proof (scripts/unproved.py) and kept, so that a second run builds nothing where no text
 has changed. Nothing is proved: `scripts/prove` proves, and runs what Rattle's own compiler builds. The last line counts what
@@ -60,7 +61,7 @@ def of_script(*words):
 
 
 # What no compiler reads: the scripts of that part, with their words.
-TEXTS = (("check_text",), ("check_text", "--self-test"), ("gate_samples.py",), ("mutations", "--read"), ("refusal_samples.py",))
+TEXTS = (("gate/check_text",), ("gate/check_text", "--self-test"), ("gate/gate_samples.py",), ("mutations", "--read"), ("gate/refusal_samples.py",))
 
 
 def texts():
@@ -69,7 +70,7 @@ def texts():
 
 
 def pieces():
-    return of_script(TOP / "scripts" / "borrows.py")
+    return of_script(TOP / "scripts" / "gate" / "borrows.py")
 
 
 def counted(said):
@@ -124,7 +125,7 @@ def programs():
 def product():
     is_well = goes_well(unproved.PRODUCT)
     program = unproved.program(unproved.PRODUCT)
-    runs = [of_script(TOP / "scripts" / name, program) for name in ("word_cases.py", "against_cedar")]
+    runs = [of_script(TOP / "scripts" / name, program) for name in ("gate/word_cases.py", "against_cedar")]
     return sum(good for good, _ in runs) + is_well, sum(bad for _, bad in runs) + (not is_well)
 
 
@@ -138,7 +139,7 @@ def queries():
 
 def applications():
     program = unproved.program("cedar_validate")
-    good, bad = of_script(TOP / "scripts" / "application_cases.py", program)
+    good, bad = of_script(TOP / "scripts" / "gate" / "application_cases.py", program)
     said, _ = ran(program, "--version")
     is_stamped = bool(re.search(r"^commit .*, not proved$", said, re.M))
     if not is_stamped:
@@ -146,8 +147,17 @@ def applications():
     return good + is_stamped, bad + (not is_stamped)
 
 
+def callers():
+    said, status = ran(TOP / "scripts" / "caller_cases.py", cwd=TOP)
+    found = COUNT.search(said)
+    good, bad = map(int, found.groups()) if found else (0, 1)
+    # (a language that is skipped has to be seen)
+    show(said if bad or status else "".join(line for line in said.splitlines(True) if "skipped" in line))
+    return good, bad or int(status != 0)
+
+
 # The parts in the order in which they begin. Those that wait for one build stand in one line, one after another.
-LINES = ((programs, refused, queries), (tests,), (product, applications), (pieces, texts))
+LINES = ((programs, refused, queries), (tests,), (product, applications, callers), (pieces, texts))
 PARTS = {part.__name__: part for line in LINES for part in line}
 
 

@@ -17,8 +17,7 @@ import tempfile
 from functools import partial
 from pathlib import Path
 
-sys.dont_write_bytecode = True
-import unproved  # noqa: E402
+import unproved
 
 POLICIES, ROWS, SETS = 1000, 1000, 40
 

@@ -1,0 +1,1 @@
+"""The makers of the pages of docs/, which scripts/pages.py calls."""

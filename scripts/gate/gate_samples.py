@@ -1,0 +1,432 @@
+#!/usr/bin/env python3
+"""The self-test of the scripts that prove, build, install and run: how the times of a run are written and read, how the gate
+begins and shares processors, what counts as proved, what is installed, and how a script ends that is stopped or finds no fitting kit.
+
+It proves and builds nothing: a command `rt` of its own stands in for the toolchain's. The last line counts the samples that
+went as they should.
+"""
+import contextlib
+import io
+import os
+import shutil
+import signal
+import subprocess
+import sys
+import tempfile
+import threading
+import time
+from pathlib import Path
+from unittest import mock
+
+sys.path.insert(0, str(Path(__file__).resolve().parent.parent))
+import install  # noqa: E402
+import library  # noqa: E402
+import proved  # noqa: E402
+import stamp  # noqa: E402
+import unproved  # noqa: E402
+from gate import gate_line, lanes  # noqa: E402
+from gate.kept import Kept  # noqa: E402
+
+TOP = Path(__file__).resolve().parents[2]
+SECONDS = 60
+CRATES = "# All.\nlow: thiserror\nside: low\n\nhigh: low anyhow\ntop: low high\n"
+TIMES = """     3 s  scripts/refused.py: 4 s of processors
+    90 s  low proved
+   400 s  side NOT PROVED
+   126 s  high proved
+    96 s  high: its tests are proved
+   720 s  rt ci: 900 s of processors
+"""
+BEFORE = ["abc1234", "2026-01-02", "4", "22", "a kit"]
+WORDS = ["low=0.0-1.5", "side=1.5-?", "high=1.5-2.1-1.6", "top=?-?"]
+ROW = "\t".join(["abc1234", "2026-01-02", "4", "22", "12", "15", "a kit", "7", "1", " ".join(WORDS)])
+READ = {"low": [0.0, 1.5], "side": [1.5, None], "high": [1.5, 2.1, 1.6], "top": [None, None]}
+OLDER = ROW.replace("top=?-?", "top=10-19.6").replace("\t4\t", "\t2\t")
+
+
+def table(*rows):
+    return "".join(f"{row}\n" for row in ("\t".join(gate_line.COLUMNS), *rows))
+
+
+def is_refused(text):
+    try:
+        gate_line.rows_of(text)
+    except ValueError:
+        return True
+    return False
+
+
+def lines():
+    """What gate_line.py makes of a run: each sample, and whether it goes as it should."""
+    steps = gate_line.steps_of(TIMES)
+    yield "steps", steps == {("low", False): 90, ("side", False): None, ("high", False): 126, ("high", True): 96}
+    words = list(gate_line.words_of(unproved.crates_of(CRATES), {"low": 0, "side": 90, "high": 91}, steps))
+    yield "words", words == WORDS
+    yield "begins", gate_line.begins(unproved.crates_of(CRATES), 0) == {"low": 0, "side": None, "high": None, "top": None}
+    yield "a row", gate_line.row_of(BEFORE, "719", "905", "7", "1", words) == ROW
+    read = gate_line.rows_of(table(ROW))
+    yield "a row that is read", len(read) == 1 and read[0]["crates"] == READ and read[0]["minutes by the clock"] == "12"
+    yield "rows of another form", is_refused(ROW) and is_refused("") and is_refused(table(ROW + "\tmore"))
+    yield "docs/gate.tsv", gate_line.rows_of(gate_line.TABLE.read_text()) != []
+    yield "memory", gate_line.gigabytes("MemFree: 1 kB\nMemAvailable:   22000000 kB\n") == "22" and gate_line.gigabytes("") == "?"
+    before = gate_line.known_before()
+    yield "before a run", len(before) == len(BEFORE) and int(before[2]) > 0 and not any("\t" in it or not it for it in before)
+    with tempfile.TemporaryDirectory() as room:
+        now = int(time.time())
+        # not every file system tells the time of birth
+        yield "a folder's birth", gate_line.begun_of(room, now - 5) in (None, *range(60))
+        yield "an old folder", gate_line.begun_of(room, now + 60) is None
+        yield "no folder", gate_line.begun_of(f"{room}/out", 0) is None
+
+
+def ended(words):
+    """How an installation ends: its status, and what it says on standard output and standard error."""
+    out, error = io.StringIO(), io.StringIO()
+    with contextlib.redirect_stdout(out), contextlib.redirect_stderr(error):
+        status = install.main(words)
+    return status, out.getvalue(), error.getvalue()
+
+
+def forecasts():
+    """How long a proof is said to take."""
+    uses = unproved.crates_of(CRATES)
+    yield "what crates stand on", [unproved.below([it], uses) for it in ("top", "side")] == [["low", "high"], ["low"]]
+    needed = proved.needed()
+    yield "what the program stands on", needed[-1] == "cedar_validate" and "cedar_types" in needed and "cedar_tests" not in needed
+    rows = gate_line.rows_of(table(OLDER, ROW))
+    found = install.minutes_of(["low", "high", "top"], rows)
+    yield "the newest row that has all", found == (rows[0], 12)
+    yield "a newer row", install.minutes_of(["low", "high"], rows) == (rows[1], 2)
+    yield "no row", install.minutes_of(["low", "side"], rows) is None and install.minutes_of(["new"], rows) is None
+    yield "minutes", install.forecast(found).startswith("this takes some 12 minutes, by a run of the gate on 2 cores ")
+    yield "no minutes", "is not known" in install.forecast(None)
+
+
+def a_program(path):
+    """Writes what stands for a program that was built: the text of its build, and something else."""
+    path.parent.mkdir(parents=True, exist_ok=True)
+    path.write_bytes(b"begin " + stamp.MARK.ljust(stamp.LENGTH) + b" end")
+
+
+@contextlib.contextmanager
+def kept_in(room):
+    """Has the proved program, and the one that `rt run` builds, stand in this folder."""
+    before = proved.KEPT, proved.BUILT
+    proved.KEPT, proved.BUILT = Path(room, "proved", "it"), Path(room, "built", "it")
+    try:
+        yield
+    finally:
+        proved.KEPT, proved.BUILT = before
+
+
+def contents():
+    """Which program counts as proved."""
+    with tempfile.TemporaryDirectory() as room, kept_in(room):
+        yield "none", proved.program() is None
+        a_program(proved.BUILT)
+        proved.keep(proved.BUILT, proved.sum_of_texts())
+        yield "one that was proved", proved.program() == proved.KEPT and os.access(proved.KEPT, os.X_OK)
+        text = proved.KEPT.read_bytes()
+        yield "its build", stamp.text(is_proved=True).encode() in text and stamp.MARK not in text and len(text) == len(proved.BUILT.read_bytes())
+        now = time.time() + 3600
+        a_program(proved.KEPT)
+        os.utime(proved.KEPT, (now, now))
+        yield "another program, however new", proved.program() is None
+        proved.keep(proved.BUILT, "the sum of other texts")
+        yield "one of other texts", proved.program() is None
+        proved.BUILT.write_text("no text of a build")
+        try:
+            proved.keep(proved.BUILT, proved.sum_of_texts())
+            yield "one without the text of its build", False
+        except stamp.NotStamped:
+            yield "one without the text of its build", proved.program() is None
+
+
+def installations():
+    """What is installed, from a program that stands, that can be proved, and that cannot."""
+    with tempfile.TemporaryDirectory() as room, kept_in(room):
+        folder, file = Path(room, "a", "bin"), Path(room, "file")
+        target = folder / install.NAME
+        file.touch()
+        for words in (["--prove"], [f"{folder}", "more"], [""], [f"{file}"], [f"{file}/bin"]):
+            status, out, error = ended(words)
+            yield f"wrong: {words}", status == 2 and not out and error.startswith("scripts/install: ")
+        status, out, error = ended(["--help"])
+        yield "--help", (status, out, error) == (0, install.USAGE, "")
+        proving = proved.prove
+        proved.prove = lambda: False
+        status, out, error = ended([f"{folder}"])
+        line = f"scripts/install: proving {len(proved.needed())} crates, one after another: cedar_types "
+        yield "no proof", status == 70 and not out and line in error and not list(folder.iterdir())
+        a_program(proved.BUILT)
+        proved.prove = lambda: proved.keep(proved.BUILT, proved.sum_of_texts()) is None
+        status, out, error = ended([f"{folder}"])
+        proved.prove = proving
+        yield "a proof", (status, out) == (0, f"installed {target}, which is proved\n") and line in error
+        yield "a folder that is not on the PATH", error.endswith(f"{folder} is not on the PATH\n")
+        yield "the program", target.read_bytes() == proved.KEPT.read_bytes() and target.stat().st_mode & 0o777 == 0o755
+        yield "nothing else", list(folder.iterdir()) == [target]
+        target.unlink()
+        status, out, error = ended([f"{folder}"])
+        yield "a program that stands", status == 0 and line not in error and target.is_file()
+        os.environ["HOME"] = room
+        yield "no folder named", ended([])[0] == 0 and Path(room, ".local", "bin", install.NAME).is_file()
+        target.unlink()
+        target.mkdir()
+        yield "a folder of that name", ended([f"{folder}"])[0] == 2
+
+
+def libraries():
+    """How the C library is installed: the words, that nothing is put where nothing was proved, and what is put where it was."""
+    with tempfile.TemporaryDirectory() as room:
+        folder, proving, putting = Path(room, "a"), proved.run, library.put
+        for words in ([], [""], ["--proved"], [f"{folder}", "more"]):
+            yield f"wrong: {words}", ended(["--library", *words])[0] == 2
+        try:
+            proved.run = lambda words, crate: 1
+            yield "no proof", refuses(library.with_proof) and not folder.exists()
+            proved.run = lambda words, crate: builds_nothing()
+            library.put = lambda calls, to: to.mkdir(parents=True)
+            line = "scripts/install: proving "
+            status, out, error = ended(["--library", f"{folder}"])
+            yield "a proof", (status, out) == (0, f"installed the library in {folder}, which is proved\n") and error.startswith(line) and folder.is_dir()
+        finally:
+            proved.run, library.put = proving, putting
+            library.BUILT.unlink(missing_ok=True)
+    yield "over no gate", refuses(lambda: library.archive_by(["false"]))
+    module = [f'define internal i32 @"joined::of_cedar_c::{name}"(ptr %0) {{\n' for name in library.CALLS]
+    kept = "".join(library.exported([*module, "define i32 @main() {\n"]))
+    yield "exports", kept == "".join(f"define i32 @{name}(ptr %0) {{\n" for name in library.CALLS) + "define internal i32 @main() {\n"
+    yield "a call that is missing", refuses(lambda: list(library.exported(module[1:])))
+
+
+def builds_nothing():
+    library.BUILT.parent.mkdir(parents=True, exist_ok=True)
+    return library.BUILT.write_bytes(b"")
+
+
+def refuses(build):
+    try:
+        build()
+    except library.NotBuilt:
+        return True
+    return False
+
+
+# A command `rt` that notes its words and whether CI is set, and ends as rt ci does where all passed.
+NOTES = """#!/bin/sh
+[ "$1" = version ] && echo a kit && exit
+echo "$*${CI+ in CI}${RT_JOBS+ by so many jobs}" >>"$NOTES"
+echo "rt: cedar_types proved"
+echo "3 passed, 0 failed"
+"""
+# One that waits until it is ended.
+WAITS = """#!/bin/sh
+touch "$BEGUN"
+exec sleep 60
+"""
+
+
+@contextlib.contextmanager
+def with_rt(text):
+    """A copy of the scripts, of what they read and of a toolchain whose command `rt` this is, and the environment for it."""
+    with tempfile.TemporaryDirectory() as held:
+        room = Path(held)
+        shutil.copytree(TOP / "scripts", room / "scripts", ignore=shutil.ignore_patterns("__pycache__"))
+        for crate in unproved.USES:
+            (room / "crates" / crate / "src").mkdir(parents=True)
+        (room / "docs").mkdir()
+        for name in ("crates.txt", "HANDLES", "docs/gate.tsv"):
+            shutil.copy(TOP / name, room / name)
+        (room / "kit" / "bin").mkdir(parents=True)
+        (room / "kit" / "KIT-ID").write_text("a kit\n")
+        (room / "kit" / "bin" / "rt").write_text(text)
+        (room / "kit" / "bin" / "rt").chmod(0o755)
+        path = f"{room}/kit/bin:{os.environ['PATH']}"
+        yield room, {**os.environ, "PATH": path, "NOTES": f"{room}/notes", "BEGUN": f"{room}/begun", "HOME": held}
+
+
+GIGABYTE = 10**9
+
+
+class Proofs:
+    """Tasks as `rt` has them, which note what they were given."""
+
+    def __init__(self):
+        self.tasks, self.begun, self.at_once, self.most, self.lock = {}, {}, 0, 0, threading.Lock()
+
+    def add(self, name, waits, work, gigabytes):
+        waits = [(it, "proof") for it in waits]
+        task = waits, 1000 * work, gigabytes * GIGABYTE, lambda given, jobs: self.prove(name, waits, given, jobs)
+        self.tasks[name, "proof"] = task
+
+    def prove(self, name, waits, given, jobs):
+        with self.lock:
+            self.at_once += jobs
+            self.most = max(self.most, self.at_once)
+            self.begun[name] = jobs, all(it in given for it in waits)
+        time.sleep(0.02)
+        with self.lock:
+            self.at_once -= jobs
+        return f"{name} ended"
+
+
+def shares():
+    """How the proofs of `rt ci` share processors and memory."""
+    proofs = Proofs()
+    proofs.add("low", [], 10, 4)
+    for name in ("side", "high", "more", "last"):
+        proofs.add(name, ["low"], 5, 4)
+    proofs.add("no work", ["low"], 0, 4)
+    proofs.add("top", ["high", "no work"], 30, 4)
+    given = lanes.side_by_side(proofs.tasks, 4, lambda: 20 * GIGABYTE)
+    yield "each once", given == {key: f"{key[0]} ended" for key in proofs.tasks}
+    yield "each behind what it waits for", all(well for _, well in proofs.begun.values())
+    yield "no more jobs than processors", proofs.most == 4
+    yield "the lowest has all processors", proofs.begun["low"][0] == 4
+    yield "the longest chain first", [*proofs.begun][:3] == ["low", "no work", "high"]
+    small = Proofs()
+    for name in ("one", "two"):
+        small.add(name, [], 5, 4)
+    lanes.side_by_side(small.tasks, 4, lambda: 5 * GIGABYTE)
+    yield "as many as memory holds", small.most == 1
+    small.add("huge", ["one"], 5000, 40)
+    yield "one that no memory holds", lanes.side_by_side(small.tasks, 4, lambda: 5 * GIGABYTE).keys() == small.tasks.keys()
+    with tempfile.NamedTemporaryFile() as marker, mock.patch.dict(os.environ, {lanes.BESIDE: marker.name}):
+        memory = lanes.memory_beside(20 * GIGABYTE)
+        beside = memory()
+    yield "memory beside tests", round(memory() - beside) == lanes.TESTS
+    with mock.patch.dict(os.environ):
+        os.environ.pop(lanes.BESIDE, None)
+        yield "memory without tests", lanes.memory_beside(GIGABYTE)() == 0.92 * GIGABYTE
+    yield "jobs of a kit", [lanes.with_lanes(it * GIGABYTE)["RT_JOBS"] for it in (1, 5)] == ["1", "1"]
+    yield "a function that is not known", not lanes.is_known("def in_lanes(tasks):\n    return {}\n\n\ndef other():\n") and not lanes.is_known("")
+
+
+class Checkout:
+    """A checkout of two crates, one above the other, with a folder for proofs, and which proofs are made there."""
+
+    def __init__(self, room):
+        self.top, self.store, self.made, self.is_well = Path(room, "top"), Path(room, "store"), [], True
+        for crate in ("low", "high"):
+            self.write(crate, "a text")
+        (self.top / "crates.txt").write_text("# All.\nlow:\nhigh: low\n")
+        (self.top / "HANDLES").write_text("none\n")
+
+    def write(self, crate, text):
+        path = self.top / "crates" / crate / "src" / "lib.rt"
+        path.parent.mkdir(parents=True, exist_ok=True)
+        path.write_text(text)
+
+    def prove(self, crate, part):
+        out = self.top / "crates" / crate / "out"
+        (out / "rlib").mkdir(parents=True, exist_ok=True)
+        (out / "rlib" / "it").write_text(f"{crate} by {(self.top / 'crates' / crate / 'src' / 'lib.rt').read_text()}")
+        (out / f"{crate}_tests").write_text(part)
+        self.made.append((crate, part))
+        return self.is_well
+
+    def run(self):
+        """Makes or takes the proofs from an empty out/, as `rt ci` does, and answers those that were made."""
+        self.made = []
+        for crate in ("low", "high"):
+            shutil.rmtree(self.top / "crates" / crate / "out", ignore_errors=True)
+        tasks = {("low", "proof"): [], ("high", "proof"): [("low", "proof")], ("high", "tests"): [("low", "proof")]}
+        tasks = {key: (waits, 1, 1, lambda given, jobs, key=key: self.prove(*key)) for key, waits in tasks.items()}
+        given = {}
+        with contextlib.redirect_stdout(io.StringIO()):
+            for key, (*_, call) in Kept(self.top, self.store).over(tasks).items():
+                given[key] = call(given, 1)
+        return [f"{crate} {part}" for crate, part in self.made]
+
+    def library(self, crate):
+        return (self.top / "crates" / crate / "out" / "rlib" / "it").read_text()
+
+
+def keeping():
+    """Which proofs are taken from those that the machine keeps."""
+    every = ["low proof", "high proof", "high tests"]
+    with tempfile.TemporaryDirectory() as room:
+        its = Checkout(room)
+        yield "nothing kept", its.run() == every
+        yield "all kept", its.run() == [] and its.library("high") == "high by a text"
+        its.write("high", "another text")
+        yield "another text", its.run() == every[1:] and its.library("high") == "high by another text"
+        its.write("low", "another text")
+        yield "another text below", its.run() == every
+        its.write("low", "a text")
+        yield "the first text again", its.run() == [] and its.library("low") == "low by a text"
+        (its.top / "HANDLES").write_text("more\n")
+        yield "other handles", its.run() == every
+        for path in its.store.rglob("it"):
+            path.unlink()
+            path.write_text("other bytes")
+        yield "other bytes", its.run() == every and its.library("low") == "low by a text"
+        its.write("high", "a wrong text")
+        its.is_well = False
+        yield "a proof that fails", its.run() == its.run() == every[1:]
+        its.is_well = True
+        shutil.rmtree(its.store)
+        its.store.write_text("no folder")
+        yield "a folder that cannot be", its.run() == its.run() == every
+
+
+def beginnings():
+    """How the gate begins, in CI too: `rt ci cedar_types` first, which `rt` makes only where CI is not set, then all."""
+    with with_rt(NOTES) as (room, env):
+        for env in ({**env, "CI": "true"}, {it: value for it, value in env.items() if it != "CI"}):
+            Path(room, "notes").unlink(missing_ok=True)
+            done = subprocess.run([room / "scripts" / "prove"], env=env, stdin=subprocess.DEVNULL, capture_output=True, text=True, timeout=SECONDS)
+            notes = Path(room, "notes").read_text().splitlines()
+            in_ci = " in CI" * ("CI" in env)
+            yield f"the gate{in_ci}", notes == ["ci cedar_types", f"ci{in_ci} by so many jobs"]
+            # what stands for the kit has no `rattle`, so all parts but the first fail
+            yield f"a part that fails{in_ci}", "== failed in scripts/refused.py" in done.stdout and done.returncode == 1
+
+
+def heed_interrupts():
+    """Has a child heed SIGINT, which a shell has what it starts in the background ignore."""
+    signal.signal(signal.SIGINT, signal.SIG_DFL)
+
+
+def stopped(words, env, begun, number):
+    """How a script ends at a signal, once `rt` has begun: its status, and what it says last."""
+    begun.unlink(missing_ok=True)
+    child = subprocess.Popen(words, env=env, stdin=subprocess.DEVNULL, stdout=subprocess.PIPE, stderr=subprocess.PIPE, text=True, preexec_fn=heed_interrupts)
+    for _ in range(SECONDS * 10):
+        if begun.exists() or child.poll() is not None:
+            break
+        time.sleep(0.1)
+    child.send_signal(number)
+    out, error = child.communicate(timeout=SECONDS)
+    return child.returncode, error.splitlines()[-1:], "Traceback" in out + error
+
+
+def endings():
+    """How scripts end that are stopped while they prove, or for which the kit has not what a build without a proof takes."""
+    with with_rt(WAITS) as (room, env):
+        link = room / "link"
+        link.symlink_to(room / "scripts" / "validate")
+        for number in (signal.SIGINT, signal.SIGTERM):
+            said = stopped([link, "--proved", "s", "p"], env, room / "begun", number)
+            yield f"validate at {number.name}", said == (70, ["scripts/validate: stopped"], False)
+            said = stopped([room / "scripts" / "install", room / "bin"], env, room / "begun", number)
+            yield f"install at {number.name}", said == (70, ["scripts/install: stopped; nothing was installed"], False)
+        done = subprocess.run([link, "s", "p"], env=env, stdin=subprocess.DEVNULL, capture_output=True, text=True, timeout=SECONDS)
+        yield "a kit that does not fit", done.returncode == 70 and done.stderr.endswith("/kit has no toolchain/bin/clang\n")
+
+
+def main():
+    passed = failed = 0
+    for part in (lines, forecasts, contents, installations, libraries, shares, keeping, beginnings, endings):
+        for what, is_well in part():
+            passed += is_well
+            failed += not is_well
+            if not is_well:
+                print(f"{part.__name__}: {what}")
+    print(f"{passed} passed, {failed} failed")
+    return 1 if failed else 0
+
+
+if __name__ == "__main__":
+    sys.exit(main())

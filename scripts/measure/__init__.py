@@ -1,0 +1,1 @@
+"""The measurements, which no test runs. docs/costs.tsv has what they printed."""
